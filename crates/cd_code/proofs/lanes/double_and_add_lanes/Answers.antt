@@ -1,0 +1,31 @@
+use Rattle.std.proofs.Common.{◌≡◌, length, ap, ◌∙◌}
+use Rattle.std.specs.Simd.Lanes.{chunk}
+use Rattle.std.proofs.lemmas.List.{length-map}
+use Rattle.std.proofs.lemmas.Simd.{length-chunk, chunk-fits, below_from_Fits}
+use Rattle.cd_code.specs.Field.{double}
+use Rattle.cd_code.proofs.LaneLemmas.{lanes_added, lanes_below, lanes_above}
+use Rattle.cd_code.proofs.lanes.double_and_add_lanes.Goals as goal
+use mir.Syntax.{w8}
+
+pub doubled_lanes-requires-clause-lanes : goal.doubled_lanes-requires-clause-lanes
+doubled_lanes-requires-clause-lanes c = length-chunk c.args.at 32 c.args.sums.now c.requires.within_sums
+
+pub doubled_lanes-requires-clause-bytes : goal.doubled_lanes-requires-clause-bytes
+doubled_lanes-requires-clause-bytes c =
+    let lanes = chunk c.args.at 32 c.args.sums.now in
+    below_from_Fits w8 lanes (chunk-fits w8 c.args.at 32 c.args.sums.now c.type_inv.sums)
+
+pub returns-clause-added : goal.returns-clause-added
+returns-clause-added c =
+    lanes_added double c.args.at 32 c.args.sums.now c.args.row.now c.doubled_lanes.result
+    c.requires.within_sums c.requires.within_row c.doubled_lanes.ensures
+
+pub returns-clause-below : goal.returns-clause-below
+returns-clause-below c = lanes_below c.args.at 32 c.args.sums.now c.args.row.now c.doubled_lanes.result
+
+pub returns-clause-above : goal.returns-clause-above
+returns-clause-above c =
+    let sums = c.args.sums.now in
+    let long : length c.doubled_lanes.result ≡ 32 =
+    ap length c.doubled_lanes.ensures ∙ length-map (chunk c.args.at 32 sums) double ∙ length-chunk c.args.at 32 sums c.requires.within_sums in
+    lanes_above c.args.at 32 sums c.args.row.now c.doubled_lanes.result c.requires.within_row long

@@ -1,0 +1,5 @@
+use Rattle.cd_code.proofs.XorLemmas.{xor_by_bits}
+use Rattle.cd_code.proofs.laws.sum_goes_by_bits.Goals as goal
+
+pub returns : goal.returns
+returns c = xor_by_bits

@@ -1,0 +1,9 @@
+use Rattle.std.proofs.Common.{ap, ◌∙◌, arith}
+use Rattle.cd_code.specs.Field.{product}
+use Rattle.cd_code.proofs.SyndromeLemmas.{SameSums-change}
+use Rattle.cd_code.proofs.syndrome.pair_change.Goals as goal
+
+pub returns : goal.returns
+returns c = λ v _ long.
+    SameSums-change v c.args.len c.args.place c.args.d c.times-moved.result c.times-first.result long (omega arith) (omega arith)
+    (c.times-moved.ensures ∙ ap (λ z. product z c.args.d) c.alpha_power.ensures) c.times-first.ensures

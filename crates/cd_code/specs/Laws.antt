@@ -1,0 +1,29 @@
+-- What follows from the definitions alone; each is the contract of a function of `laws.rt`.
+use Rattle.std.specs.Prelude.{◌≡◌, ℕ, ◌==◌, ◌+◌, ◌*◌, ◌/◌, ◌%◌, ◌<◌, if◌then◌else◌, bit_xor, List, length, slice_index}
+use Rattle.cd_code.specs.Field.{AreBytes, double, product}
+use Rattle.cd_code.specs.Edc.{bits, remainder}
+use Rattle.cd_code.specs.Syndrome.{SameSums}
+
+-- a sum goes bit by bit
+abbrev pub SumByBits : Type 0
+SumByBits = (a b : ℕ) → bit_xor a b ≡ 2 * bit_xor (a / 2) (b / 2) + (a + b) % 2
+
+-- a product is the sum of as many doublings of `a` as `b` has set bits
+abbrev pub ProductByBits : Type 0
+ProductByBits =
+    (a b : ℕ) → a < 256 → b < 256 → product a b ≡ bit_xor (product (double a) (b / 2)) (if b % 2 == 1 then a else 0)
+
+-- two byte lists are of one length, and differ at most in their last n bytes
+pub record DifferAtMostInLast (n : ℕ) (v w : List ℕ) : Type 0 where
+  pub bytes_left : AreBytes v
+  pub bytes_right : AreBytes w
+  pub same_length : length v ≡ length w
+  pub front : (i : ℕ) → i + n < length v → slice_index v i ≡ slice_index w i
+
+-- the last two bytes of a list follow from the others and the syndromes
+abbrev pub PairIsUnique : Type 0
+PairIsUnique = (v w : List ℕ) → DifferAtMostInLast 2 v w → SameSums v w → v ≡ w
+
+-- the last four bytes of a list follow from the others and the remainder
+abbrev pub EdcIsUnique : Type 0
+EdcIsUnique = (v w : List ℕ) → DifferAtMostInLast 4 v w → remainder (bits v) ≡ remainder (bits w) → v ≡ w

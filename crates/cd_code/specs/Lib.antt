@@ -1,0 +1,4 @@
+pub mod Edc
+pub mod Field
+pub mod Laws
+pub mod Syndrome

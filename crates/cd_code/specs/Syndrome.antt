@@ -1,0 +1,32 @@
+-- The two syndromes of a list of bytes, and its code words (ECMA-130, Annex A).
+use Rattle.std.specs.Prelude.{◌≡◌, ℕ, ◌+◌, ◌*◌, List, [], ◌∷◌, length, map, bit_xor, slice_index, slice_set}
+use Rattle.std.specs.List.{range_with_len}
+use Rattle.cd_code.specs.Field.{product, power}
+
+-- the sum of all bytes
+unfoldable pub first_syndrome : List ℕ → ℕ
+first_syndrome [] = 0
+first_syndrome (x ∷ xs) = bit_xor x (first_syndrome xs)
+
+-- the sum of the bytes times alpha^(L-1), .., alpha, 1
+unfoldable pub second_syndrome : List ℕ → ℕ
+second_syndrome [] = 0
+second_syndrome (x ∷ xs) = bit_xor (product (power (length xs)) x) (second_syndrome xs)
+
+-- both syndromes are 0
+pub record IsCodeWord (v : List ℕ) : Type 0 where
+  pub first : first_syndrome v ≡ 0
+  pub second : second_syndrome v ≡ 0
+
+-- both syndromes of one list are those of the other
+pub record SameSums (v w : List ℕ) : Type 0 where
+  pub first : first_syndrome v ≡ first_syndrome w
+  pub second : second_syndrome v ≡ second_syndrome w
+
+-- the list with `d` added to the byte at a place
+abbrev pub added : List ℕ → ℕ → ℕ → List ℕ
+added v place d = slice_set v place (bit_xor (slice_index v place) d)
+
+-- column c of 26 rows of 86 bytes
+abbrev pub column : List ℕ → ℕ → List ℕ
+column rows c = map (λ m. slice_index rows (86 * m + c)) (range_with_len 0 26)

@@ -1,0 +1,55 @@
+//! The error detection code (ECMA-130, the clause on the digital data structure of sectors).
+
+ghost use Rattle.std.specs.Prelude.{◌≡◌, ℕ, ◌<◌, List, [], ◌∷◌, ◌++◌, replicate};
+ghost use Rattle.cd_code.specs.Edc.{IsEdc};
+
+use crate::edc_tables::WORDS;
+
+/// The EDC word of any list of bytes, 32 bits: its four bytes, least significant first, make the list
+/// followed by them divisible by the generator (ECMA-130, the EDC field of a sector).
+pub fn edc_of(bytes: &[u8]) -> u32
+    ensures word { IsEdc bytes.now result }
+    ensures alone { (w : ℕ) → IsEdc bytes.now w → w ≡ result }
+{
+    let (eights, rest) = bytes.as_chunks::<8>();
+    let mut word = 0;
+    for eight in eights {
+        word = with_eight(word, eight);
+    }
+    for byte in rest {
+        word = with_byte(word, *byte);
+    }
+    word
+}
+
+/// The EDC word of a list whose word is known, with one more byte behind it.
+fn with_byte(word: u32, byte: u8) -> u32
+    ensures { (v : List ℕ) → IsEdc v word → IsEdc (v ++ byte ∷ []) result }
+{
+    let [low, _, _, _] = word.to_le_bytes();
+    (word >> 8) ^ word_of(low ^ byte, 0)
+}
+
+/// The EDC word of a list whose word is known, with eight more bytes behind it: the first four are added to
+/// the word, and each of the eight then stands alone.
+fn with_eight(word: u32, bytes: &[u8; 8]) -> u32
+    ensures { (v : List ℕ) → IsEdc v word → IsEdc (v ++ bytes.now) result }
+{
+    let [first, second, third, fourth, fifth, sixth, seventh, eighth] = *bytes;
+    let front = u32::from_le_bytes([first, second, third, fourth]);
+    let [first, second, third, fourth] = (word ^ front).to_le_bytes();
+    word_of(first, 7)
+        ^ (word_of(second, 6)
+            ^ (word_of(third, 5)
+                ^ (word_of(fourth, 4)
+                    ^ (word_of(fifth, 3)
+                        ^ (word_of(sixth, 2) ^ (word_of(seventh, 1) ^ word_of(eighth, 0)))))))
+}
+
+/// The EDC word of a byte followed by `zeros` bytes of 00, out of the table.
+fn word_of(byte: u8, zeros: usize) -> u32
+    requires { zeros < 8 }
+    ensures { IsEdc (byte ∷ replicate zeros 0) result }
+{
+    WORDS[zeros][byte as usize]
+}

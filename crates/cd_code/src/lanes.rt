@@ -1,0 +1,63 @@
+//! Sums of many field elements side by side, 32 lanes at a time.
+
+ghost use Rattle.std.specs.Prelude.{◌≡◌, ℕ, ◌+◌, ◌<◌, ◌≤◌, bit_xor, length, map, slice_index};
+ghost use Rattle.std.specs.Simd.Lanes.{Each1};
+ghost use Rattle.cd_code.specs.Field.{double};
+
+use crate::field::doubled;
+use std::simd::prelude::*;
+
+/// Adds 32 bytes of a row, from place `at` on, to the sums at the same places.
+pub(crate) fn add_lanes(sums: &mut [u8], row: &[u8], at: usize)
+    requires within_sums { at + 32 ≤ length sums.old }
+    requires within_row { at + 32 ≤ length row.now }
+    ensures added { (c : ℕ) → at ≤ c → c < at + 32
+        → slice_index sums.new c ≡ bit_xor (slice_index sums.old c) (slice_index row.now c) }
+    ensures below { (c : ℕ) → c < at → slice_index sums.new c ≡ slice_index sums.old c }
+    ensures above { (c : ℕ) → at + 32 ≤ c → slice_index sums.new c ≡ slice_index sums.old c }
+{
+    let added = u8x32::from_slice(&sums[at..]) ^ u8x32::from_slice(&row[at..]);
+    added.copy_to_slice(&mut sums[at..]);
+}
+
+/// Doubles 32 sums, from place `at` on, and adds the row's bytes at the same places.
+pub(crate) fn double_and_add_lanes(sums: &mut [u8], row: &[u8], at: usize)
+    requires within_sums { at + 32 ≤ length sums.old }
+    requires within_row { at + 32 ≤ length row.now }
+    ensures added { (c : ℕ) → at ≤ c → c < at + 32
+        → slice_index sums.new c ≡ bit_xor (double (slice_index sums.old c)) (slice_index row.now c) }
+    ensures below { (c : ℕ) → c < at → slice_index sums.new c ≡ slice_index sums.old c }
+    ensures above { (c : ℕ) → at + 32 ≤ c → slice_index sums.new c ≡ slice_index sums.old c }
+{
+    let added = doubled_lanes(u8x32::from_slice(&sums[at..])) ^ u8x32::from_slice(&row[at..]);
+    added.copy_to_slice(&mut sums[at..]);
+}
+
+/// 32 field elements times alpha.
+fn doubled_lanes(v: u8x32) -> u8x32
+    requires lanes { length v ≡ 32 }
+    requires bytes { Each1 (λ x. x < 256) v }
+    ensures { result ≡ map double v }
+{
+    let carried = v
+        .simd_ge(u8x32::splat(128))
+        .select(u8x32::splat(0x1D), u8x32::splat(0));
+    (v + v) ^ carried
+}
+
+/// Adds a row, from place `at` on, to the plain sums and to the doubled weighted sums.
+pub(crate) fn add_rest(plain: &mut [u8], weighted: &mut [u8], row: &[u8], at: usize)
+    requires plain_length { length plain.old ≡ length row.now }
+    requires weighted_length { length weighted.old ≡ length row.now }
+    ensures plain { (c : ℕ) → at ≤ c → c < length row.now
+        → slice_index plain.new c ≡ bit_xor (slice_index plain.old c) (slice_index row.now c) }
+    ensures plain_below { (c : ℕ) → c < at → slice_index plain.new c ≡ slice_index plain.old c }
+    ensures weighted { (c : ℕ) → at ≤ c → c < length row.now
+        → slice_index weighted.new c ≡ bit_xor (double (slice_index weighted.old c)) (slice_index row.now c) }
+    ensures weighted_below { (c : ℕ) → c < at → slice_index weighted.new c ≡ slice_index weighted.old c }
+{
+    for i in at..row.len() {
+        plain[i] ^= row[i];
+        weighted[i] = doubled(weighted[i]) ^ row[i];
+    }
+}

@@ -1,0 +1,23 @@
+//! Laws of the definitions, each the contract of a function that does nothing.
+
+ghost use Rattle.cd_code.specs.Laws.{EdcIsUnique, PairIsUnique, ProductByBits, SumByBits};
+
+/// A sum of field elements goes bit by bit.
+pub fn sum_goes_by_bits()
+    ensures { SumByBits }
+{}
+
+/// A product of field elements goes by the bits of its second factor.
+pub fn product_goes_by_bits()
+    ensures { ProductByBits }
+{}
+
+/// Two lists that differ at most in their last two bytes and have equal syndromes are equal.
+pub fn pair_is_unique()
+    ensures { PairIsUnique }
+{}
+
+/// Two lists that differ at most in their last four bytes and have equal remainders are equal.
+pub fn edc_is_unique()
+    ensures { EdcIsUnique }
+{}

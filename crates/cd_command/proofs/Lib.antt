@@ -1,0 +1,4 @@
+mod AskedLemmas
+mod GetterLemmas
+mod TakenLemmas
+mod WalkLemmas

@@ -1,0 +1,83 @@
+-- The command line as `clap` defines it, and the job that it asks for.
+use Rattle.std.specs.Prelude.{◌≡◌, ⊤, ℕ, true, false, List, [], ◌∷◌, Option, Some, codes, pos}
+use Rattle.std.specs.Prelude.{IsSome, IsSomeAnd, option_map, string_bytes}
+use Rattle.std.specs.Str.Parse.{digits_value, without_leading_plus}
+use Rattle.clap.specs.Words.{App, IsSignedIn, Row, Rule, Shape, Text, first_of, new_rule, one_of}
+use Rattle.clap.specs.Words.{subcommand_of, takes, without_minus}
+use Rattle.clap.specs.Simple.{new_shape}
+use Rattle.clap.specs.declared.builder.value_parser.ValueParser.TheVariants as vp
+use Rattle.cd_command.specs.declared.job.Job.{Job}
+use Rattle.cd_command.specs.declared.job.Job.TheVariants as job
+
+-- the text IMAGE, which each command needs
+abbrev pub image_rule : Rule
+image_rule = record (new_rule (codes "image")) { value_names = 1; required = true }
+
+-- the option `--base N`, a number of 0 to 449849, and 0 where it is not used
+abbrev pub base_rule : Rule
+base_rule = record (new_rule (codes "base")) {
+  long = Some (codes "base");
+  value_names = 1;
+  defaults = codes "0" ∷ [];
+  parser = Some (vp.Signed (pos 0) (pos 449849));
+}
+
+-- a command with the text IMAGE and the option `--base N`
+abbrev pub image_shape : Text → Shape
+image_shape name = record (new_shape name) { rules = image_rule ∷ base_rule ∷ [] }
+
+-- the program, of which a command is required
+abbrev pub program_shape : Shape
+program_shape = record (new_shape (codes "cdpatch")) {
+  is_leaf = false;
+  no_binary_name = true;
+  disable_help_subcommand = true;
+  subcommand_required = true;
+}
+
+-- `list IMAGE`
+unfoldable pub command_line : App
+command_line = record { top = program_shape; subs = image_shape (codes "list") ∷ [] }
+
+-- ---- the job
+
+-- the number that a command's rows give for `--base`
+abbrev pub base_of : List Row → Option ℕ
+base_of rows = option_map (λ t. digits_value 10 (without_leading_plus t)) (one_of (codes "base") rows)
+
+-- the job has the name, the texts and the base of a command's matches
+abbrev pub HasMatches : Text × List Row → Job → Type 0
+HasMatches p (job.List image base) = (p.0 ≡ codes "list")
+    × (first_of (codes "image") p.1 ≡ Some (string_bytes image)) × (base_of p.1 ≡ Some base)
+
+-- the job is the listing of this image
+abbrev pub Lists : Text → ℕ → Job → Type 0
+Lists text first (job.List image base) = (string_bytes image ≡ text) × (base ≡ first)
+
+-- for no words the standard input is listed from block 0, else the job is what the definition of
+-- the matches gives for the words
+unfoldable pub IsJobOf : List Text → Job → Type 0
+IsJobOf [] job = Lists (codes "-") 0 job
+IsJobOf (w ∷ ws) job = IsSomeAnd (subcommand_of command_line (w ∷ ws)) (λ p. HasMatches p job)
+
+-- there are no words, or the definition takes them
+unfoldable pub IsTaken : List Text → Type 0
+IsTaken [] = ⊤
+IsTaken (w ∷ ws) = takes command_line (w ∷ ws) ≡ true
+
+abbrev pub base_in : Job → ℕ
+base_in (job.List image base) = base
+
+-- ---- what the matches of words that are taken have
+
+-- a text that was accepted for `--base`, and is read by it
+pub record HasBase (rows : List Row) : Type 0 where
+  pub text : Text
+  pub read : one_of (codes "base") rows ≡ Some (without_minus text)
+  pub accepted : IsSignedIn (pos 0) (pos 449849) text
+
+-- the matches name a command, and have an image and a base
+pub record IsComplete (p : Text × List Row) : Type 0 where
+  pub name : p.0 ≡ codes "list"
+  pub image : IsSome (first_of (codes "image") p.1)
+  pub base : HasBase p.1

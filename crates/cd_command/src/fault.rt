@@ -1,0 +1,76 @@
+//! Why the command line gives no job.
+ghost use Rattle.std.specs.Prelude.{◌≡◌, None, option_map, string_bytes};
+ghost use Rattle.cd_command.specs.Fault.{fault_from, printed, status_of};
+ghost use Rattle.cd_command.specs.declared.fault.LineFault.TheVariants.{NoMemory};
+
+use clap::error::ErrorKind;
+use std::alloc::{AllocError, Global};
+use thiserror::Error;
+
+/// What is printed for want of memory.
+pub const NO_MEMORY: &str = "cdpatch: no memory\n";
+
+/// Why the command line gives no job.
+#[derive(Debug, Drop, Error)]
+pub enum LineFault {
+    /// The parser refuses the words, or answers them by help.
+    #[error("{0}")]
+    Parser(clap::Error),
+    /// Memory ran out, in the parser or beside it.
+    #[error("cdpatch: no memory")]
+    NoMemory,
+}
+
+impl From<clap::Error> for LineFault {
+    ghost from_gives = { λ error fault. fault ≡ fault_from error };
+
+    fn from(error: clap::Error) -> LineFault {
+        if error.kind() == ErrorKind::OutOfMemory {
+            LineFault::NoMemory
+        } else {
+            LineFault::Parser(error)
+        }
+    }
+}
+
+impl From<AllocError> for LineFault {
+    ghost from_gives = { λ _ fault. fault ≡ NoMemory };
+
+    fn from(_error: AllocError) -> LineFault {
+        LineFault::NoMemory
+    }
+}
+
+impl LineFault {
+    /// The status that the program ends with: 0 where help was asked for, and else 2.
+    pub fn status(&self) -> u8
+        ensures { result ≡ status_of self.now }
+    {
+        let is_help = match self {
+            LineFault::Parser(error) => !error.use_stderr(),
+            LineFault::NoMemory => false,
+        };
+        if is_help { 0 } else { 2 }
+    }
+
+    /// The parser's own text, with its last line feed. `None` where the parser, or the text, found
+    /// no memory.
+    pub fn parser_text(&self, alloc: Global) -> Option<String>
+        ensures { self.now ≡ NoMemory → result ≡ None }
+    {
+        match self {
+            LineFault::Parser(error) => error.to_string(alloc).ok(),
+            LineFault::NoMemory => None,
+        }
+    }
+}
+
+/// What the program prints for a fault, by the parser's text where there is one.
+pub fn line_of(parser_text: &Option<String>) -> &str
+    ensures { result.now ≡ printed (option_map string_bytes parser_text.now) }
+{
+    match parser_text {
+        Some(text) => text.as_str(),
+        None => NO_MEMORY,
+    }
+}

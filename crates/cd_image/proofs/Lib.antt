@@ -1,0 +1,6 @@
+pub mod ImageLemmas
+pub mod ListLemmas
+pub mod OpenRunLemmas
+pub mod ReportLemmas
+pub mod RunLemmas
+pub mod TransferLemmas

@@ -1,0 +1,36 @@
+-- The text that `list` writes of an image.
+use Rattle.std.specs.Prelude.{ℕ, ◌+◌, ◌-◌, List, [], ◌∷◌, ◌++◌, length, codes, decimal}
+use Rattle.cd_sector.specs.declared.kinds.SectorKind.{SectorKind}
+use Rattle.cd_sector.specs.declared.kinds.SectorKind.TheVariants.{NoSync, Mode0, Mode1, Mode2, Other}
+use Rattle.cd_image.specs.Image.{kinds, sectors, tail}
+use Rattle.cd_image.specs.Runs.{Run, runs}
+use Rattle.cd_image.specs.declared.listing.ListTally.{ListTally}
+
+unfoldable pub kind_name : SectorKind → List ℕ
+kind_name NoSync = codes "nosync"
+kind_name Mode0 = codes "mode0"
+kind_name Mode1 = codes "mode1"
+kind_name Mode2 = codes "mode2"
+kind_name Other = codes "other"
+
+-- FIRST-LAST KIND, by block numbers
+unfoldable pub run_line : ℕ → Run → List ℕ
+run_line first run =
+    decimal first ++ codes "-" ++ decimal (first + run.count - 1) ++ codes " " ++ kind_name run.kind ++ codes "\n"
+
+-- a line for each run, the first of which begins at block `first`
+abbrev pub run_lines : ℕ → List Run → List ℕ
+run_lines first [] = []
+run_lines first (run ∷ others) = run_line first run ++ run_lines (first + run.count) others
+
+-- the last line
+unfoldable pub list_end : ListTally → List ℕ
+list_end tally = codes "sectors " ++ decimal tally.sectors ++ codes " tail " ++ decimal tally.tail ++ codes "\n"
+
+-- the number of whole sectors, and the length of the tail
+abbrev pub list_tally : List ℕ → ListTally
+list_tally image = record { sectors = length (sectors image); tail = length (tail image) }
+
+-- the whole text, where the image's first block is `base`
+abbrev pub list_text : ℕ → List ℕ → List ℕ
+list_text base image = run_lines base (runs (kinds image)) ++ list_end (list_tally image)

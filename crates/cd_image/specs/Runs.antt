@@ -1,0 +1,47 @@
+-- The maximal runs of neighbours of equal kind.
+use Rattle.std.specs.Prelude.{◌≡◌, ◌≢◌, ℕ, ◌==◌, ◌+◌, ◌<◌, Bool, if◌then◌else◌, List, [], ◌∷◌, replicate}
+use Rattle.std.specs.List.{flat_map}
+use Rattle.cd_sector.specs.declared.kinds.SectorKind.{SectorKind}
+use Rattle.cd_sector.specs.declared.kinds.SectorKind.TheVariants.{NoSync, Mode0, Mode1, Mode2, Other}
+
+-- `count` sectors of one kind
+pub record Run : Type 0 where
+  pub kind : SectorKind
+  pub count : ℕ
+
+-- a number for each kind, by which kinds are compared
+abbrev pub number_of : SectorKind → ℕ
+number_of NoSync = 0
+number_of Mode0 = 1
+number_of Mode1 = 2
+number_of Mode2 = 3
+number_of Other = 4
+
+abbrev pub same_kind : SectorKind → SectorKind → Bool
+same_kind a b = number_of a == number_of b
+
+-- one more sector before runs: it joins the first where that is of its kind
+abbrev pub put_before : SectorKind → List Run → List Run
+put_before kind [] = record { kind = kind; count = 1 } ∷ []
+put_before kind (run ∷ others) =
+    if same_kind kind run.kind then record { kind = kind; count = run.count + 1 } ∷ others
+    else record { kind = kind; count = 1 } ∷ run ∷ others
+
+-- the runs of a list of kinds
+abbrev pub runs : List SectorKind → List Run
+runs [] = []
+runs (kind ∷ others) = put_before kind (runs others)
+
+-- the kinds that runs stand for
+abbrev pub spelled : List Run → List SectorKind
+spelled rs = flat_map (λ run. replicate run.count run.kind) rs
+
+-- no run is empty, and none could be joined with its neighbour
+abbrev pub AreMaximal : List Run → Type 0
+AreMaximal [] = Unit {0}
+AreMaximal (run ∷ []) = 0 < run.count
+AreMaximal (run ∷ next ∷ others) = (0 < run.count) × (run.kind ≢ next.kind) × AreMaximal (next ∷ others)
+
+-- the runs spelled out are the kinds, and they are maximal
+abbrev pub RunsSpellKinds : Type 0
+RunsSpellKinds = (kinds : List SectorKind) → (spelled (runs kinds) ≡ kinds) × AreMaximal (runs kinds)

@@ -1,0 +1,40 @@
+//! What a sector is: told by its sync field and its mode byte.
+
+ghost use Rattle.std.specs.Prelude.{◌≡◌};
+ghost use Rattle.cd_sector.specs.Kind.{kind_of};
+
+use crate::sector::Sector;
+
+/// The kinds of sector that ECMA-130 knows, and the two that it does not: without a sync field, and with
+/// a mode byte above 2.
+#[derive(Clone, Copy, Debug, PartialEq, Eq)]
+pub enum SectorKind {
+    NoSync,
+    Mode0,
+    Mode1,
+    Mode2,
+    Other,
+}
+
+/// The synchronisation field: `00`, ten times `FF`, `00`.
+const SYNC: [u8; 12] = [0, 255, 255, 255, 255, 255, 255, 255, 255, 255, 255, 0];
+
+/// The place of the mode byte, the last of the header.
+const MODE: usize = 15;
+
+/// The kind of a sector, from its sync field and its mode byte (ECMA-130, the clause on the digital data
+/// structure of sectors).
+#[tactic(auto, unfolding(crate::specs::Kind::kind_of))]
+pub fn kind(s: &Sector) -> SectorKind
+    ensures { result ≡ kind_of s.now }
+{
+    if !s.bytes().starts_with(&SYNC) {
+        return SectorKind::NoSync;
+    }
+    match s.byte(MODE) {
+        0 => SectorKind::Mode0,
+        1 => SectorKind::Mode1,
+        2 => SectorKind::Mode2,
+        _ => SectorKind::Other,
+    }
+}

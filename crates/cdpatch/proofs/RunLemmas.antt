@@ -1,0 +1,34 @@
+-- How a line of the program's own goes out, and how a command ends.
+use Rattle.std.proofs.Common.{◌≡◌, ℕ, ◌+◌, ◌<◌, List, [], length, take, drop, Result, Ok, Err, is_ok, refl, sym, ap, ◌∙◌, inl, inr, append-nil, take-append-drop}
+use Rattle.std.specs.Io.KnownBytes.{Appends, Keeps}
+use Rattle.std.proofs.KnownBytes.{Appends-kept}
+use Rattle.cd_image.specs.Report.{Outgoing}
+use Rattle.cd_image.specs.Transfer.{Counts}
+use Rattle.cd_image.specs.declared.sink.SinkFailed.{SinkFailed}
+use Rattle.cdpatch.specs.Run.{SaysLine}
+
+module _ (line : List ℕ) (before after : Outgoing) where
+  -- a write of the line failed
+  pub SaysLine-cut : (n : ℕ) × (n < length line) × Appends before.written after.written (take n line) → after.failures ≡ before.failures + 1 → SaysLine line before after
+  SaysLine-cut went failed = record {
+    sent = take went.0 line;
+    appends = went.2;
+    begins = (drop went.0 line, sym (take-append-drop went.0 line));
+    outcome = inr failed;
+  }
+
+  -- the line went out, and the flush answered
+  pub SaysLine-whole : (middle : Outgoing) (flushed : Result (Unit {0}) SinkFailed) → Appends before.written middle.written line → middle.failures ≡ before.failures
+      → Keeps middle.written after.written → Counts middle.failures after.failures flushed → after.finished ≡ is_ok flushed → SaysLine line before after
+  SaysLine-whole middle (Ok x) went kept keeps count finished = record {
+    sent = line;
+    appends = Appends-kept _ _ _ line went keeps;
+    begins = ([], sym (append-nil line));
+    outcome = inl (count ∙ kept, refl, finished);
+  }
+  SaysLine-whole middle (Err e) went kept keeps count finished = record {
+    sent = line;
+    appends = Appends-kept _ _ _ line went keeps;
+    begins = ([], sym (append-nil line));
+    outcome = inr (count ∙ ap (λ n. n + 1) kept);
+  }

@@ -1,0 +1,11 @@
+//! cdpatch lists raw CD images.
+#![tactic(auto)]
+
+mod program;
+mod run;
+
+use std::process::ExitCode;
+
+fn main(rt: HostRuntime) -> ExitCode {
+    ExitCode::from(program::run(&rt))
+}
