@@ -1,5 +1,5 @@
 //! Why the command line gives no job.
-ghost use Rattle.std.specs.Prelude.{◌≡◌, None, option_map, string_bytes};
+ghost use Rattle.std.specs.Prelude.{◌≡◌, None, if◌then◌else◌, is_some, option_map, string_bytes};
 ghost use Rattle.cd_command.specs.Fault.{fault_from, printed, status_of};
 ghost use Rattle.cd_command.specs.declared.fault.LineFault.TheVariants.{NoMemory};
 
@@ -51,6 +51,17 @@ impl LineFault {
             LineFault::NoMemory => false,
         };
         if is_help { 0 } else { 2 }
+    }
+
+    /// The status that the program ends with where it printed `line_of` this text: 2 where the text
+    /// found no memory, and else that of the fault.
+    pub fn status_with(&self, parser_text: &Option<String>) -> u8
+        ensures { result ≡ (if is_some parser_text.now then status_of self.now else 2) }
+    {
+        match parser_text {
+            Some(_) => self.status(),
+            None => 2,
+        }
     }
 
     /// The parser's own text, with its last line feed. `None` where the parser, or the text, found

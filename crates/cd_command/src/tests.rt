@@ -62,7 +62,8 @@ fn is_help(alloc: Global, words: &[&str]) -> Result<bool, AllocError> {
         Err(fault) => {
             let text = fault.parser_text(alloc);
             let line = line_of(&text);
-            Ok(fault.status() == 0 && line.contains("Usage: cdpatch"))
+            let ends_well = fault.status() == 0 && fault.status_with(&text) == 0;
+            Ok(ends_well && line.contains("Usage: cdpatch"))
         }
         Ok(_) => Ok(false),
     }
@@ -82,7 +83,7 @@ fn answers_by_help(rt: HostRuntime) -> Result<(), Fail> {
 fn prints_want_of_memory(rt: HostRuntime) {
     let fault = LineFault::NoMemory;
     let text = fault.parser_text(rt.alloc());
-    assert!(rt; fault.status() == 2);
+    assert!(rt; fault.status() == 2 && fault.status_with(&text) == 2);
     assert!(rt; line_of(&text) == "cdpatch: no memory\n");
     assert!(rt; NO_MEMORY == "cdpatch: no memory\n");
 }

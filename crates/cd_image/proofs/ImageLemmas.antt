@@ -1,15 +1,10 @@
 -- An image's sectors and its tail.
-use Rattle.std.proofs.Common.{◌≡◌, ℕ, zero, suc, ◌+◌, ◌-◌, ◌*◌, ◌/◌, ◌<◌, ◌≤◌, List, [], ◌∷◌, ◌++◌, length, take, drop, map, refl, sym, ap, ◌∙◌, subst, arith, append_assoc, length-append, take_at, drop_at, take-append-drop}
+use Rattle.std.proofs.Common.{◌≡◌, ℕ, zero, suc, ◌+◌, ◌*◌, ◌/◌, ◌<◌, ◌≤◌, List, [], ◌∷◌, ◌++◌, length, take, drop, sym, ap, ◌∙◌, subst, arith, append_assoc, length-append, take_at, drop_at, take-append-drop}
 use Rattle.std.specs.List.{All, flat_map}
 use Rattle.std.specs.Simd.{first_chunks}
 use Rattle.std.proofs.lemmas.List.{drop-drop, length-drop, length-take-le}
 use Rattle.std.proofs.lemmas.List.Elements.{All-cons, All-head, All-tail}
-use Rattle.cd_sector.specs.Kind.{kind_of}
-use Rattle.cd_image.specs.Image.{IsCut, kinds, sectors, tail}
-
-length-first_chunks : (n k : ℕ) (xs : List ℕ) → length (first_chunks n k xs) ≡ k
-length-first_chunks n zero xs = refl
-length-first_chunks n (suc k) xs = ap suc (length-first_chunks n k (drop n xs))
+use Rattle.cd_image.specs.Image.{IsCut, sectors, tail}
 
 -- a sector in front of more
 pub sectors-sector : (sector more : List ℕ) → length sector ≡ 2352 → sectors (sector ++ more) ≡ sector ∷ sectors more
@@ -28,22 +23,7 @@ sectors-short more short =
     let none : length more / 2352 ≡ 0 = omega arith in
     ap (λ k. first_chunks 2352 k more) none
 
-pub kinds-sector : (sector more : List ℕ) → length sector ≡ 2352 → kinds (sector ++ more) ≡ kind_of sector ∷ kinds more
-unfolding kinds
-kinds-sector sector more size = ap (map kind_of) (sectors-sector sector more size)
-
-pub kinds-short : (more : List ℕ) → length more < 2352 → kinds more ≡ []
-unfolding kinds
-kinds-short more short = ap (map kind_of) (sectors-short more short)
-
--- n sectors' bytes and a tail
-pub length-sectors : (read rest : List ℕ) (n : ℕ) → length read ≡ 2352 * n → length rest < 2352 → length (sectors (read ++ rest)) ≡ n
-unfolding sectors
-length-sectors read rest n whole short =
-    let all = length-append read rest in
-    let quotient : length (read ++ rest) / 2352 ≡ n = omega arith in
-    length-first_chunks 2352 _ (read ++ rest) ∙ quotient
-
+-- behind n sectors
 pub length-tail : (read rest : List ℕ) (n : ℕ) → length read ≡ 2352 * n → length rest < 2352 → length (tail (read ++ rest)) ≡ length rest
 unfolding tail
 length-tail read rest n whole short =

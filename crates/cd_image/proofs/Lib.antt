@@ -1,6 +1,7 @@
 pub mod ImageLemmas
 pub mod ListLemmas
 pub mod OpenRunLemmas
+pub mod PassLemmas
 pub mod ReportLemmas
 pub mod RunLemmas
 pub mod TransferLemmas

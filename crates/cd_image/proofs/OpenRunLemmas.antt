@@ -1,20 +1,16 @@
 -- What an open run and the kinds behind it make of the text.
-use Rattle.std.proofs.Common.{◌≡◌, ℕ, zero, suc, ◌+◌, ◌-◌, ◌≤◌, List, [], ◌∷◌, ◌++◌, replicate, refl, sym, ap, ◌∙◌, subst, arith, take, drop, append_assoc, take-append-drop, Option, Some, Ok, Err, append-nil, Bool, true, ◌<◌, length}
-use Rattle.std.specs.Io.KnownBytes.{Appends, Keeps}
-use Rattle.std.proofs.KnownBytes.{Appends-kept, Appends-nil, Appends-trans}
+use Rattle.std.proofs.Common.{◌≡◌, ℕ, zero, suc, ◌+◌, ◌-◌, ◌≤◌, List, [], ◌∷◌, ◌++◌, replicate, refl, sym, ap, ◌∙◌, subst, arith, take, Option, Some, Ok, Err, append-nil, ◌<◌, length}
+use Rattle.std.specs.Io.KnownBytes.{Appends}
+use Rattle.std.proofs.KnownBytes.{Appends-nil}
 use Rattle.cd_sector.specs.declared.kinds.SectorKind.{SectorKind}
-use Rattle.cd_image.specs.ListText.{list_end, run_line, run_lines}
-use Rattle.cd_image.specs.OpenRun.{Closes, EndsBefore, TakesKind, open_text}
+use Rattle.cd_image.specs.ListText.{run_line, run_lines}
+use Rattle.cd_image.specs.OpenRun.{EndsBefore, TakesKind, open_text}
 use Rattle.cd_image.specs.Report.{IsBeginning}
 use Rattle.cd_image.specs.Runs.{runs}
 use Rattle.cd_image.specs.declared.sink.SinkFailed.{SinkFailed}
-use Rattle.cd_image.specs.declared.listing.ListTally.{ListTally}
 use Rattle.cd_image.specs.declared.listing.OpenRun.{OpenRun}
+use Rattle.cd_image.proofs.PassLemmas.{IsBeginning-take}
 use Rattle.cd_image.proofs.RunLemmas.{IsOther, runs-run}
-
-pub IsBeginning-take : (n : ℕ) (line more : List ℕ) → IsBeginning (take n line) (line ++ more)
-IsBeginning-take n line more =
-    (drop n line ++ more, ap (λ l. l ++ more) (sym (take-append-drop n line)) ∙ append_assoc (take n line) (drop n line) more)
 
 replicate-behind : (n : ℕ) (kind : SectorKind) (others : List SectorKind) → replicate n kind ++ kind ∷ others ≡ replicate (suc n) kind ++ others
 replicate-behind zero kind others = refl
@@ -84,30 +80,3 @@ module _ (given : Option OpenRun) (run : OpenRun) (block : ℕ) (kind : SectorKi
 pub open_text-given : (given : Option OpenRun) (run : OpenRun) → given ≡ Some run → run.first ≤ run.last → open_text given 0 [] ≡ line_of run
 open_text-given given run is ordered =
     ap (λ r. open_text r 0 []) is ∙ open_text-other run.first run.last (run.last + 1) ordered refl run.kind [] tt ∙ append-nil (line_of run)
-
-module _ (run : Option OpenRun) (tally : ListTally) where
-  -- the write of the run's line failed
-  pub Closes-at_run : (old new : Option (List ℕ)) (finished : Bool) (e : SinkFailed)
-      → (n : ℕ) × (n < length (open_text run 0 [])) × Appends old new (take n (open_text run 0 [])) → Closes run tally old new finished (Err e)
-  Closes-at_run old new finished e went = (take went.0 (open_text run 0 []), went.2, IsBeginning-take went.0 (open_text run 0 []) (list_end tally))
-
-  -- the write of the last line failed
-  pub Closes-at_end : (old middle new : Option (List ℕ)) (finished : Bool) (e : SinkFailed) → Appends old middle (open_text run 0 [])
-      → (n : ℕ) × (n < length (list_end tally)) × Appends middle new (take n (list_end tally)) → Closes run tally old new finished (Err e)
-  Closes-at_end old middle new finished e line went =
-      let front = take went.0 (list_end tally) in
-      let left = drop went.0 (list_end tally) in (
-        open_text run 0 [] ++ front,
-        Appends-trans old middle new _ _ line went.2,
-        (left, ap (λ l. open_text run 0 [] ++ l) (sym (take-append-drop went.0 (list_end tally))) ∙ sym (append_assoc (open_text run 0 []) front left)),
-      )
-
-  module _ (old middle late new : Option (List ℕ)) (line : Appends old middle (open_text run 0 [])) (last : Appends middle late (list_end tally)) (kept : Keeps late new) where
-    whole : Appends old new (open_text run 0 [] ++ list_end tally)
-    whole = Appends-kept old late new _ (Appends-trans old middle late _ _ line last) kept
-
-    pub Closes-at_finish : (finished : Bool) (e : SinkFailed) → Closes run tally old new finished (Err e)
-    Closes-at_finish finished e = (open_text run 0 [] ++ list_end tally, whole, ([], sym (append-nil _)))
-
-    pub Closes-whole : (finished : Bool) → finished ≡ true → Closes {E = SinkFailed} run tally old new finished (Ok tally)
-    Closes-whole finished done = (refl, done, whole)

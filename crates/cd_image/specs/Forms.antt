@@ -56,5 +56,9 @@ still_passes f = f.left
 abbrev pub failures_with : {S : Type 0} → (S → ℕ) → FailAfter S → ℕ
 failures_with within f = min (within f.inner + f.own) 4294967295
 
+-- the failures behind the limit
+abbrev pub own_failures : {S : Type 0} → FailAfter S → ℕ
+own_failures f = f.own
+
 abbrev pub fail_after_finished : {S : Type 0} → FailAfter S → Bool
 fail_after_finished f = f.finished

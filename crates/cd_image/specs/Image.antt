@@ -1,9 +1,7 @@
 -- An image: a list of bytes, cut into whole sectors from its front and a tail shorter than a sector.
-use Rattle.std.specs.Prelude.{◌≡◌, ℕ, ◌*◌, ◌/◌, ◌<◌, ◌++◌, All, List, length, map, drop}
+use Rattle.std.specs.Prelude.{◌≡◌, ℕ, ◌*◌, ◌/◌, ◌<◌, ◌++◌, All, List, length, drop}
 use Rattle.std.specs.List.{flat_map}
 use Rattle.std.specs.Simd.{first_chunks}
-use Rattle.cd_sector.specs.Kind.{kind_of}
-use Rattle.cd_sector.specs.declared.kinds.SectorKind.{SectorKind}
 use Rattle.cd_sector.specs.declared.sector.TheConstants.{SECTOR_SIZE}
 
 -- the whole sectors, in order
@@ -13,10 +11,6 @@ sectors image = first_chunks SECTOR_SIZE (length image / SECTOR_SIZE) image
 -- what is left behind them
 unfoldable pub tail : List ℕ → List ℕ
 tail image = drop (SECTOR_SIZE * (length image / SECTOR_SIZE)) image
-
--- the kind of each whole sector
-unfoldable pub kinds : List ℕ → List SectorKind
-kinds image = map kind_of (sectors image)
 
 -- the largest number of bytes in an image: a million sectors, the tail included
 abbrev pub image_limit : ℕ

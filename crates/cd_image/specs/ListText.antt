@@ -1,8 +1,9 @@
 -- The text that `list` writes of an image.
-use Rattle.std.specs.Prelude.{ℕ, ◌+◌, ◌-◌, List, [], ◌∷◌, ◌++◌, length, codes, decimal}
+use Rattle.std.specs.Prelude.{ℕ, ◌+◌, ◌-◌, List, [], ◌∷◌, ◌++◌, length, map, codes, decimal}
+use Rattle.cd_sector.specs.Kind.{kind_of}
 use Rattle.cd_sector.specs.declared.kinds.SectorKind.{SectorKind}
 use Rattle.cd_sector.specs.declared.kinds.SectorKind.TheVariants.{NoSync, Mode0, Mode1, Mode2, Other}
-use Rattle.cd_image.specs.Image.{kinds, sectors, tail}
+use Rattle.cd_image.specs.Image.{sectors, tail}
 use Rattle.cd_image.specs.Runs.{Run, runs}
 use Rattle.cd_image.specs.declared.listing.ListTally.{ListTally}
 
@@ -33,4 +34,4 @@ list_tally image = record { sectors = length (sectors image); tail = length (tai
 
 -- the whole text, where the image's first block is `base`
 abbrev pub list_text : ℕ → List ℕ → List ℕ
-list_text base image = run_lines base (runs (kinds image)) ++ list_end (list_tally image)
+list_text base image = run_lines base (runs (map kind_of (sectors image))) ++ list_end (list_tally image)

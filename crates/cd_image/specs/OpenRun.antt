@@ -1,11 +1,10 @@
 -- A run that is still open: what its sectors and those that follow will make of the text.
-use Rattle.std.specs.Prelude.{◌≡◌, ℕ, ◌+◌, ◌-◌, ◌≤◌, List, [], ◌∷◌, ◌++◌, replicate, Option, None, Some, Result, Ok, Err, true, Bool}
+use Rattle.std.specs.Prelude.{◌≡◌, ℕ, ◌+◌, ◌-◌, ◌≤◌, List, ◌∷◌, ◌++◌, replicate, Option, None, Some, Result, Ok, Err}
 use Rattle.std.specs.Io.KnownBytes.{Appends}
 use Rattle.cd_sector.specs.declared.kinds.SectorKind.{SectorKind}
-use Rattle.cd_image.specs.ListText.{list_end, run_lines}
+use Rattle.cd_image.specs.ListText.{run_lines}
 use Rattle.cd_image.specs.Report.{IsBeginning}
 use Rattle.cd_image.specs.Runs.{runs}
-use Rattle.cd_image.specs.declared.listing.ListTally.{ListTally}
 use Rattle.cd_image.specs.declared.listing.OpenRun.{OpenRun}
 
 -- the lines of an open run and of the kinds that follow it, the first of which is that of `block`
@@ -25,10 +24,3 @@ TakesKind run block kind old new (Ok next) =
     × ((others : List SectorKind) → open_text run block (kind ∷ others) ≡ line ++ open_text (Some next) (block + 1) others)
 TakesKind run block kind old new (Err e) =
     (sent : List ℕ) × Appends old new sent × ((others : List SectorKind) → IsBeginning sent (open_text run block (kind ∷ others)))
-
--- the end: the open run's line, and the last line; with no kind to follow, the block plays no part
-abbrev pub Closes : {E : Type 0} → Option OpenRun → ListTally → Option (List ℕ) → Option (List ℕ) → Bool → Result ListTally E → Type 0
-Closes run tally old new finished (Ok told) =
-    (told ≡ tally) × (finished ≡ true) × Appends old new (open_text run 0 [] ++ list_end tally)
-Closes run tally old new finished (Err e) =
-    (sent : List ℕ) × Appends old new sent × IsBeginning sent (open_text run 0 [] ++ list_end tally)

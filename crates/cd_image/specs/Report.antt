@@ -4,6 +4,7 @@ use Rattle.std.specs.Io.KnownBytes.{Appends, Consumes, IsAtEnd}
 use Rattle.cd_image.specs.Image.{image_limit}
 use Rattle.cd_image.specs.declared.fault.Fault.{Fault}
 use Rattle.cd_image.specs.declared.fault.Fault.TheVariants.{Read, TooLong, Write}
+use Rattle.cd_image.specs.declared.sink.SinkFailed.{SinkFailed}
 
 -- what a contract sees of a source
 pub record Incoming : Type 0 where
@@ -46,6 +47,11 @@ pub record Completes {T : Type 0} (text : List ℕ → List ℕ) (tally : List �
   pub within : length read ≤ image_limit
   pub text_sent : sent ≡ text read
   pub tally_told : told ≡ tally read
+
+-- the end of a text: what is left of it and its last line go out, and the sink is finished
+abbrev pub Finishes : {X : Type 0} → List ℕ → List ℕ → Outgoing → Outgoing → Result X SinkFailed → Type 0
+Finishes rest last out out' (Ok x) = (out'.finished ≡ true) × Appends out.written out'.written (rest ++ last)
+Finishes rest last out out' (Err e) = (sent : List ℕ) × Appends out.written out'.written sent × IsBeginning sent (rest ++ last)
 
 -- a read failed: what went out begins the text of each image that begins with what was read
 pub record StopsReading (text : List ℕ → List ℕ) (read sent : List ℕ) (image image' : Incoming) (out out' : Outgoing) : Type 0 where

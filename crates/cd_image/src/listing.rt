@@ -2,8 +2,8 @@
 
 ghost use Rattle.std.specs.Prelude.{◌≡◌, ◌+◌, ◌-◌, ◌<◌, ◌≤◌, ◌↔◌, [], IfOk, IfSome, OnOk, length};
 ghost use Rattle.cd_image.specs.ListText.{kind_name, list_end, list_tally, list_text, run_line};
-ghost use Rattle.cd_image.specs.OpenRun.{Closes, EndsBefore, TakesKind, open_text};
-ghost use Rattle.cd_image.specs.Report.{EndsWell, Reports, WritesText, incoming, outgoing};
+ghost use Rattle.cd_image.specs.OpenRun.{EndsBefore, TakesKind, open_text};
+ghost use Rattle.cd_image.specs.Report.{EndsWell, Finishes, Reports, WritesText, incoming, outgoing};
 ghost use Rattle.cd_image.specs.Transfer.{Counts, Sends};
 
 use crate::fault::Fault;
@@ -122,7 +122,9 @@ fn close<O: Sink>(
 ) -> Result<ListTally, SinkFailed>
     requires countable { O.failures out.old < 4294967295 }
     requires ordered { IfSome run (λ run. run.first ≤ run.last) }
-    ensures text { Closes run tally (O.written out.old) (O.written out.new) (O.finished out.new) result }
+    ensures text { Finishes (open_text run 0 []) (list_end tally)
+        (outgoing O.written O.failures O.finished out.old) (outgoing O.written O.failures O.finished out.new) result }
+    ensures tally { IfOk result (λ told. told ≡ tally) }
     ensures count { Counts (O.failures out.old) (O.failures out.new) result }
 {
     send_last(run, out)?;

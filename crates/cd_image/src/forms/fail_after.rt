@@ -13,13 +13,15 @@ pub struct FailAfter<S> {
 }
 
 impl<S> FailAfter<S> {
-    ghost use Rattle.std.specs.Prelude.{◌≡◌};
-    ghost use Rattle.cd_image.specs.Forms.{fails_over, still_passes};
+    ghost use Rattle.std.specs.Prelude.{◌≡◌, false};
+    ghost use Rattle.cd_image.specs.Forms.{fail_after_finished, fails_over, own_failures, still_passes};
 
     /// Stands over `inner`, and passes `count` bytes.
     pub fn new(inner: S, count: u64) -> Self
         ensures over { fails_over result ≡ inner }
         ensures limit { still_passes result ≡ count }
+        ensures failures { own_failures result ≡ 0 }
+        ensures unfinished { fail_after_finished result ≡ false }
     {
         FailAfter {
             inner,

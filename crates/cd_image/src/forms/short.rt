@@ -15,13 +15,14 @@ pub struct Short<S> {
 }
 
 impl<S> Short<S> {
-    ghost use Rattle.std.specs.Prelude.{◌≡◌, max};
-    ghost use Rattle.cd_image.specs.Forms.{passes_at_most, shortens};
+    ghost use Rattle.std.specs.Prelude.{◌≡◌, false, max};
+    ghost use Rattle.cd_image.specs.Forms.{passes_at_most, short_finished, shortens};
 
     /// Stands over `inner`, and passes at most `most` bytes a call: 1 where that is 0.
     pub fn new(inner: S, most: usize) -> Self
         ensures over { shortens result ≡ inner }
         ensures most { passes_at_most result ≡ max most 1 }
+        ensures unfinished { short_finished result ≡ false }
     {
         Short {
             inner,

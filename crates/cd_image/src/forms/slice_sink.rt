@@ -5,7 +5,7 @@ ghost use Rattle.std.specs.Prelude.{◌≡◌, ◌≤◌, [], Some, false, lengt
 use crate::sink::{Sink, SinkFailed};
 
 /// Writes to the front of a slice, and fails where that is full.
-#[derive(Debug)]
+#[derive(Debug, Drop)]
 pub struct SliceSink<'a> {
     space: &'a mut [u8],
     used: usize,

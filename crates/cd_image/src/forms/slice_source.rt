@@ -5,7 +5,7 @@ ghost use Rattle.std.specs.Prelude.{◌≡◌, IsOk, Some};
 use crate::source::{Source, SourceFailed};
 
 /// Gives the bytes of a slice, and never fails.
-#[derive(Debug)]
+#[derive(Debug, Drop)]
 pub struct SliceSource<'a> {
     rest: &'a [u8],
 }

@@ -1,24 +1,29 @@
+use Rattle.std.proofs.Common.{[]}
 use Rattle.std.proofs.lemmas.Result.{err_from_is_err_and}
-use Rattle.cd_image.proofs.OpenRunLemmas.{Closes-at_end, Closes-at_finish, Closes-at_run, Closes-whole}
+use Rattle.cd_image.specs.ListText.{list_end}
+use Rattle.cd_image.specs.OpenRun.{open_text}
+use Rattle.cd_image.specs.Report.{outgoing}
+use Rattle.cd_image.specs.declared.listing.ListTally.{ListTally}
+use Rattle.cd_image.proofs.PassLemmas.{Finishes-at_flush, Finishes-at_last, Finishes-at_rest, Finishes-whole}
 use Rattle.cd_image.proofs.listing.close.Goals as goal
 
 pub returns-in_err-send_last-clause-text : goal.returns-in_err-send_last-clause-text
 returns-in_err-send_last-clause-text g c =
     let failed = err_from_is_err_and c.from_residual.result c.from_residual.ensures.1 in
-    rw failed.1 (Closes-at_run c.args.run c.args.tally _ _ (g.O.Sink.finished c.send_last.new.out) _ c.in_err-send_last.ensures.bytes)
+    rw failed.1 (Finishes-at_rest ListTally (open_text c.args.run 0 []) (list_end c.args.tally) (outgoing g.O.Sink.written g.O.Sink.failures g.O.Sink.finished c.args.out.now) (outgoing g.O.Sink.written g.O.Sink.failures g.O.Sink.finished c.send_last.new.out) _ c.in_err-send_last.ensures.bytes)
 
 pub returns-in_err-send_end-clause-text : goal.returns-in_err-send_end-clause-text
 returns-in_err-send_end-clause-text g c =
     let failed = err_from_is_err_and c.from_residual-in_err-send_end.result c.from_residual-in_err-send_end.ensures.1 in
     rw failed.1
-    (Closes-at_end c.args.run c.args.tally _ _ _ (g.O.Sink.finished c.send_end.new.out) _ c.in_ok-send_last.ensures.bytes c.in_err-send_end.ensures.bytes)
+    (Finishes-at_last ListTally (open_text c.args.run 0 []) (list_end c.args.tally) (outgoing g.O.Sink.written g.O.Sink.failures g.O.Sink.finished c.args.out.now) _ (outgoing g.O.Sink.written g.O.Sink.failures g.O.Sink.finished c.send_end.new.out) _ c.in_ok-send_last.ensures.bytes c.in_err-send_end.ensures.bytes)
 
 pub returns-in_err-finish-clause-text : goal.returns-in_err-finish-clause-text
 returns-in_err-finish-clause-text g c =
     let failed = err_from_is_err_and c.from_residual-in_err-finish.result c.from_residual-in_err-finish.ensures.1 in
     rw failed.1
-    (Closes-at_finish c.args.run c.args.tally _ _ _ _ c.in_ok-send_last.ensures.bytes c.in_ok-send_end.ensures.bytes c.in_err-finish.ensures.bytes (g.O.Sink.finished c.finish.new.self) _)
+    (Finishes-at_flush ListTally (open_text c.args.run 0 []) (list_end c.args.tally) (outgoing g.O.Sink.written g.O.Sink.failures g.O.Sink.finished c.args.out.now) _ _ (outgoing g.O.Sink.written g.O.Sink.failures g.O.Sink.finished c.finish.new.self) c.in_ok-send_last.ensures.bytes c.in_ok-send_end.ensures.bytes c.in_err-finish.ensures.bytes _)
 
 pub returns-clause-text : goal.returns-clause-text
 returns-clause-text g c =
-    Closes-whole c.args.run c.args.tally _ _ _ _ c.in_ok-send_last.ensures.bytes c.in_ok-send_end.ensures.bytes c.in_ok-finish.ensures.bytes _ c.in_ok-finish.ensures.finished
+    Finishes-whole ListTally (open_text c.args.run 0 []) (list_end c.args.tally) (outgoing g.O.Sink.written g.O.Sink.failures g.O.Sink.finished c.args.out.now) _ _ (outgoing g.O.Sink.written g.O.Sink.failures g.O.Sink.finished c.finish.new.self) c.in_ok-send_last.ensures.bytes c.in_ok-send_end.ensures.bytes c.in_ok-finish.ensures.bytes c.args.tally c.in_ok-finish.ensures.finished

@@ -4,7 +4,8 @@ use Rattle.std.proofs.lemmas.List.{length-take-le}
 use Rattle.std.proofs.lemmas.Result.{err_from_is_err_and}
 use Rattle.cd_sector.specs.Kind.{kind_of}
 use Rattle.cd_image.specs.Report.{incoming, outgoing}
-use Rattle.cd_image.proofs.ListLemmas.{Consumes-none, Listed-next, Listed-start, Reports-end, Reports-end_failed, Reports-read, Reports-too_long, Reports-write}
+use Rattle.cd_image.proofs.ListLemmas.{List-end, List-end_failed, List-read, List-too_long, List-write, Listed-next, Listed-start}
+use Rattle.cd_image.proofs.PassLemmas.{Consumes-none}
 use Rattle.cd_image.proofs.listing.list_whole.Goals as goal
 
 pub loop-sectors-init : goal.loop-sectors-init
@@ -16,7 +17,7 @@ returns-in_err-length g c =
     let came = c.in_err-length.ensures.bytes in
     let size : length (take came.0 c.fill.new.into) ≡ came.0 = length-take-le came.0 c.fill.new.into (omega (arith, came.1)) in
     rw (failed.1, failed.2) (
-    Reports-read c.args.base _ _ (incoming g.I.Source.rest g.I.Source.failures c.fill.new.image) _ _ _ _ c.loop-sectors.invariant _ came.2 (omega (arith, size, came.1)) c.in_err-length.ensures.count
+    List-read c.args.base _ _ (incoming g.I.Source.rest g.I.Source.failures c.fill.new.image) _ _ _ _ c.loop-sectors.invariant _ came.2 (omega (arith, size, came.1)) c.in_err-length.ensures.count
     )
 
 pub returns-in_err-close : goal.returns-in_err-close
@@ -25,7 +26,7 @@ returns-in_err-close g c =
     let came = c.in_ok-length.ensures.bytes in
     let size : length (take c.in_ok-length.length c.fill.new.into) ≡ c.in_ok-length.length = length-take-le c.in_ok-length.length c.fill.new.into came.0 in
     rw (failed.1, failed.2) (
-    Reports-end_failed c.args.base _ _ (incoming g.I.Source.rest g.I.Source.failures c.fill.new.image) _ _ _ _ c.loop-sectors.invariant _ came.1
+    List-end_failed c.args.base _ _ (incoming g.I.Source.rest g.I.Source.failures c.fill.new.image) _ _ _ _ c.loop-sectors.invariant _ came.1
     (outgoing g.O.Sink.written g.O.Sink.failures g.O.Sink.finished c.close.new.out) c.in_ok-length.ensures.count
     (omega (arith, size)) (omega (arith, size)) (came.2 (omega arith)) _ refl (omega (arith, size)) _ c.in_err-close.ensures.text c.in_err-close.ensures.count
     )
@@ -34,9 +35,9 @@ pub returns-then-length-lt-SECTOR_SIZE : goal.returns-then-length-lt-SECTOR_SIZE
 returns-then-length-lt-SECTOR_SIZE g c =
     let came = c.in_ok-length.ensures.bytes in
     let size : length (take c.in_ok-length.length c.fill.new.into) ≡ c.in_ok-length.length = length-take-le c.in_ok-length.length c.fill.new.into came.0 in
-    Reports-end c.args.base _ _ (incoming g.I.Source.rest g.I.Source.failures c.fill.new.image) _ _ _ _ c.loop-sectors.invariant _ came.1
+    List-end c.args.base _ _ (incoming g.I.Source.rest g.I.Source.failures c.fill.new.image) _ _ _ _ c.loop-sectors.invariant _ came.1
     (outgoing g.O.Sink.written g.O.Sink.failures g.O.Sink.finished c.close.new.out) c.in_ok-length.ensures.count
-    (omega (arith, size)) (omega (arith, size)) (came.2 (omega arith)) _ refl (omega (arith, size)) _ c.in_ok-close.ensures.text c.in_ok-close.ensures.count
+    (omega (arith, size)) (omega (arith, size)) (came.2 (omega arith)) _ refl (omega (arith, size)) _ c.in_ok-close.ensures.tally c.in_ok-close.ensures.text c.in_ok-close.ensures.count
 
 pub returns-in_err-take_kind : goal.returns-in_err-take_kind
 returns-in_err-take_kind g c =
@@ -46,7 +47,7 @@ returns-in_err-take_kind g c =
     let kind : c.kind-kind.result ≡ kind_of c.fill.new.into = c.kind-kind.ensures ∙ ap kind_of c.from_bytes.ensures in
     let taken = rw kind at c.in_err-take_kind.ensures.text in
     rw (failed.1, failed.2) (
-    Reports-write c.args.base _ _ (incoming g.I.Source.rest g.I.Source.failures c.fill.new.image) _ _ _ _ c.loop-sectors.invariant c.fill.new.into (rw whole at came.1)
+    List-write c.args.base _ _ (incoming g.I.Source.rest g.I.Source.failures c.fill.new.image) _ _ _ _ c.loop-sectors.invariant c.fill.new.into (rw whole at came.1)
     (outgoing g.O.Sink.written g.O.Sink.failures g.O.Sink.finished c.take_kind.new.out) c.in_ok-length.ensures.count
     (omega arith) _ (omega arith) taken c.in_err-take_kind.ensures.count
     )
@@ -65,7 +66,7 @@ pub returns-in_err-read : goal.returns-in_err-read
 returns-in_err-read g c =
     let failed = err_from_is_err_and c.from_residual-in_err-read.result c.from_residual-in_err-read.ensures.1 in
     rw (failed.1, failed.2) (
-    Reports-read c.args.base _ _ (incoming g.I.Source.rest g.I.Source.failures c.read.new.self) _ _ _ _ c.loop-sectors.invariant []
+    List-read c.args.base _ _ (incoming g.I.Source.rest g.I.Source.failures c.read.new.self) _ _ _ _ c.loop-sectors.invariant []
     (Consumes-none _ _ c.in_err-read.ensures.bytes) (omega arith) c.in_err-read.ensures.count
     )
 
@@ -73,7 +74,7 @@ pub returns-then-branch-gt0 : goal.returns-then-branch-gt0
 returns-then-branch-gt0 g c =
     let came = c.in_ok-read.ensures.bytes in
     let size : length (take c.in_ok-read.field-0 c.read.new.into) ≡ c.in_ok-read.field-0 = length-take-le c.in_ok-read.field-0 c.read.new.into came.0 in
-    Reports-too_long c.args.base _ _ (incoming g.I.Source.rest g.I.Source.failures c.read.new.self) _ _ _ _ c.loop-sectors.invariant _ came.1
+    List-too_long c.args.base _ _ (incoming g.I.Source.rest g.I.Source.failures c.read.new.self) _ _ _ _ c.loop-sectors.invariant _ came.1
     (omega arith) (omega (arith, size, c.read.auto.into, length-take 1 c.loop-sectors.bytes)) c.in_ok-read.ensures.count
 
 pub returns-in_err-close-2 : goal.returns-in_err-close-2
@@ -82,7 +83,7 @@ returns-in_err-close-2 g c =
     let came = c.in_ok-read.ensures.bytes in
     let size : length (take c.in_ok-read.field-0 c.read.new.into) ≡ c.in_ok-read.field-0 = length-take-le c.in_ok-read.field-0 c.read.new.into came.0 in
     rw (failed.1, failed.2) (
-    Reports-end_failed c.args.base _ _ (incoming g.I.Source.rest g.I.Source.failures c.read.new.self) _ _ _ _ c.loop-sectors.invariant _ came.1
+    List-end_failed c.args.base _ _ (incoming g.I.Source.rest g.I.Source.failures c.read.new.self) _ _ _ _ c.loop-sectors.invariant _ came.1
     (outgoing g.O.Sink.written g.O.Sink.failures g.O.Sink.finished c.close-2.new.out) c.in_ok-read.ensures.count
     (omega (arith, size)) (omega (arith, size)) (came.2 (omega arith)) _ (omega arith) (omega (arith, size)) _ c.in_err-close-2.ensures.text c.in_err-close-2.ensures.count
     )
@@ -91,6 +92,6 @@ pub returns : goal.returns
 returns g c =
     let came = c.in_ok-read.ensures.bytes in
     let size : length (take c.in_ok-read.field-0 c.read.new.into) ≡ c.in_ok-read.field-0 = length-take-le c.in_ok-read.field-0 c.read.new.into came.0 in
-    Reports-end c.args.base _ _ (incoming g.I.Source.rest g.I.Source.failures c.read.new.self) _ _ _ _ c.loop-sectors.invariant _ came.1
+    List-end c.args.base _ _ (incoming g.I.Source.rest g.I.Source.failures c.read.new.self) _ _ _ _ c.loop-sectors.invariant _ came.1
     (outgoing g.O.Sink.written g.O.Sink.failures g.O.Sink.finished c.close-2.new.out) c.in_ok-read.ensures.count
-    (omega (arith, size)) (omega (arith, size)) (came.2 (omega arith)) _ (omega arith) (omega (arith, size)) _ c.in_ok-close-2.ensures.text c.in_ok-close-2.ensures.count
+    (omega (arith, size)) (omega (arith, size)) (came.2 (omega arith)) _ (omega arith) (omega (arith, size)) _ c.in_ok-close-2.ensures.tally c.in_ok-close-2.ensures.text c.in_ok-close-2.ensures.count

@@ -1,0 +1,9 @@
+pub mod HexLemmas
+pub mod Lines
+pub mod WordLemmas
+pub mod LineLemmas
+pub mod OrderLemmas
+pub mod PatchLemmas
+pub mod ParseLemmas
+pub mod SpellingLemmas
+pub mod HeadLemmas

@@ -1,0 +1,40 @@
+-- A script's patches, sorted.
+use Rattle.std.proofs.Common.{◌≡◌, ℕ, Bool, cond, List, [], ◌∷◌, Ok, refl, sym, ap, ◌∙◌, arith}
+use Rattle.std.specs.Prelude.{filter, not, ◌==◌, ◌&&◌}
+use Rattle.std.specs.List.Sorted.{IsSortedByKey, IsStableByKey}
+use Rattle.std.specs.Ordering.{nat_cmp, is_lt}
+use Rattle.std.proofs.lemmas.Bool.Decides.{nat_tests}
+use Rattle.std.proofs.lemmas.List.Sorted.{IsNonDecreasingBy-from_sort, All-permutation, length_permutation}
+use Rattle.cd_script.specs.declared.patch.Patch.{Patch}
+use Rattle.cd_script.specs.declared.patch.Edit.TheVariants.{Rebuild}
+use Rattle.cd_script.specs.Order.{order, stands_in}
+use Rattle.cd_script.specs.Patch.{IsPatch, IsPatchList}
+use Rattle.cd_script.specs.Script.{script_from}
+use Rattle.cd_script.proofs.OrderLemmas.{order-rises, order-permutes, order-only}
+use Rattle.cd_script.proofs.PatchLemmas.{script-each, script-count}
+
+-- some patch of the block
+patch_in : ℕ → Patch
+patch_in k = record { line = 0; block = k; offset = 0; edit = Rebuild }
+
+tie : (k b : ℕ) → (not (is_lt (nat_cmp k b)) && not (is_lt (nat_cmp b k))) ≡ (b == k)
+tie k b = grind (arith, nat_tests)
+
+filter-same : (p q : Patch → Bool) → ((x : Patch) → p x ≡ q x) → (ps : List Patch) → filter p ps ≡ filter q ps
+filter-same p q same [] = refl
+filter-same p q same (x ∷ ps) = ap (λ (b : Bool). cond b (x ∷ filter p ps) (filter p ps)) (same x) ∙ ap (λ (l : List Patch). cond (q x) (x ∷ l) l) (filter-same p q same ps)
+
+-- what a stable sort by the block gives
+pub sorted-order : (ps qs : List Patch) → IsSortedByKey (λ p. p.block) nat_cmp qs → IsStableByKey (λ p. p.block) nat_cmp ps qs → qs ≡ order ps
+sorted-order ps qs sorted stable =
+    order-only ps qs (IsNonDecreasingBy-from_sort (λ p. p.block) qs sorted) (λ k.
+    let test : Patch → Bool = λ p. not (is_lt (nat_cmp k p.block)) && not (is_lt (nat_cmp p.block k)) in
+    let same : (x : Patch) → test x ≡ stands_in k x = λ x. tie k x.block in
+    sym (filter-same test (stands_in k) same qs) ∙ stable (record { line = 0; block = k; offset = 0; edit = Rebuild }) ∙ filter-same test (stands_in k) same ps)
+
+pub order-list : (ls : List (List ℕ)) (ps : List Patch) → script_from 1 ls ≡ Ok ps → IsPatchList (order ps)
+order-list ls ps e = record {
+  each = All-permutation IsPatch ps (order ps) (order-permutes ps) (script-each 1 ls ps e);
+  count = omega (arith, length_permutation ps (order ps) (order-permutes ps), script-count 1 ls ps e);
+  rising = order-rises ps;
+}

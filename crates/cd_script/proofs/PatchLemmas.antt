@@ -1,0 +1,297 @@
+-- What is read keeps to what a patch keeps to.
+use Rattle.std.proofs.Common.{◌≡◌, ℕ, suc, ◌+◌, ◌-◌, ◌*◌, ◌^◌, ◌<◌, ◌≤◌, Bool, true, false, cond, List, [], ◌∷◌, length, Option, Some, None, Result, Ok, Err, refl, subst, ◌∙◌, arith, inl, inr, ◌⊎◌}
+use Rattle.std.specs.Prelude.{All, fold, ok_or, nat_le, ◌==◌, ◌&&◌, codes, IfSome}
+use Rattle.std.specs.Char.{is_ascii_digit}
+use Rattle.std.specs.List.{list_all, cons_option}
+use Rattle.std.specs.Option.{option_to_list}
+use Rattle.std.specs.Result.{result_ok}
+use Rattle.std.specs.Str.{bytes_eq}
+use Rattle.std.proofs.lemmas.Bool.{and_parts, leb-true, eqb-true}
+use Rattle.std.proofs.lemmas.Bool.Decides.{nat_tests}
+use Rattle.std.proofs.lemmas.List.Elements.{All-nil, All-cons}
+use Rattle.std.proofs.lemmas.List.{get_or_default}
+use Rattle.std.proofs.Math.Nat.{pow-le-pow_right, mul-le-mul_right}
+use Rattle.hex.specs.Hex.{decode_of}
+use Rattle.hex.specs.declared.error.FromHexError.{FromHexError}
+use Rattle.hex.proofs.HexLemmas.{decode_of-ok}
+use Rattle.cd_script.specs.declared.fault.ScriptFault.{ScriptFault}
+use Rattle.cd_script.specs.declared.fault.ScriptFault.TheVariants.{Head, Verb, Number, Hex, Length, Offset, Words, TooMany}
+use Rattle.cd_script.specs.declared.patch.Patch.{Patch}
+use Rattle.cd_script.specs.declared.patch.Edit.TheVariants.{Put, Fill, Rebuild}
+use Rattle.cd_script.specs.Hex.{hex_bytes}
+use Rattle.cd_script.specs.Line.{number_at, hex_at, offset_at, count_at, new_at, old_at, byte_at, only_byte, put_at, put_where_at, fill_at, rebuild_at, set_line, fill_line, rebuild_line, patch_at}
+use Rattle.cd_script.specs.Number.{number, digits_value}
+use Rattle.cd_script.specs.Patch.{IsBytes, IsPatch}
+use Rattle.cd_script.specs.Reading.{◌>>=◌}
+use Rattle.cd_script.specs.Script.{is_passed_over, is_head, line_at, patches_from, script_from}
+use Rattle.cd_script.specs.Words.{words}
+use Rattle.cd_script.proofs.HexLemmas.{result_ok-decode_of}
+
+-- the value of a step that did not fail
+pub bind_ok : {A B : Type 0} (r : Result A ScriptFault) (f : A → Result B ScriptFault) (y : B) → (r >>= f) ≡ Ok y → (x : A) × (r ≡ Ok x) × (f x ≡ Ok y)
+bind_ok (Ok x) f y e = (x, refl, e)
+bind_ok (Err d) f y e = absurd cc
+
+-- a test that was passed
+guard_ok : {A : Type 0} (b : Bool) (d : ScriptFault) (x y : A) → cond b (Ok x) (Err d) ≡ Ok y → (b ≡ true) × (x ≡ y)
+guard_ok true d x y e = (refl, cc)
+guard_ok false d x y e = absurd cc
+
+present : {A : Type 0} (o : Option A) (d : ScriptFault) (x : A) → ok_or o d ≡ Ok x → o ≡ Some x
+present (Some y) d x e = cc
+present None d x e = absurd cc
+
+-- which way a test went
+chosen : {A : Type 0} (b : Bool) (x y : Result A ScriptFault) (z : A) → cond b x y ≡ Ok z → (x ≡ Ok z) ⊎ (y ≡ Ok z)
+chosen true x y z e = inl e
+chosen false x y z e = inr e
+
+-- a test that was passed, before a reading
+taken : {A : Type 0} (b : Bool) (x : Result A ScriptFault) (d : ScriptFault) (z : A) → cond b x (Err d) ≡ Ok z → (b ≡ true) × (x ≡ Ok z)
+taken true x d z e = (refl, e)
+taken false x d z e = absurd cc
+
+not_taken : {A : Type 0} (b : Bool) (d : ScriptFault) (x z : A) → cond b (Err d) (Ok x) ≡ Ok z → (b ≡ false) × (x ≡ z)
+not_taken true d x z e = absurd cc
+not_taken false d x z e = (refl, cc)
+
+-- ---- numbers
+
+is_digit-most : (b : ℕ) → is_ascii_digit b ≡ true → b ≤ 57
+is_digit-most b e = grind (arith, nat_tests)
+
+-- the value of digits behind the value a
+digits-below : (a : ℕ) (w : List ℕ) → list_all is_ascii_digit w ≡ true → fold (λ n b. 10 * n + (b - 48)) a w < (a + 1) * 10 ^ length w
+digits-below a [] digits = omega arith
+digits-below a (b ∷ w) digits =
+    let parts = and_parts (is_ascii_digit b) (list_all is_ascii_digit w) digits in
+    let digit : b ≤ 57 = is_digit-most b parts.0 in
+    let ih = digits-below (10 * a + (b - 48)) w parts.1 in
+    let top : (10 * a + (b - 48) + 1) * 10 ^ length w ≤ (10 * (a + 1)) * 10 ^ length w = mul-le-mul_right (10 ^ length w) (omega arith) in
+    let wide : 10 ^ suc (length w) ≡ 10 * 10 ^ length w = omega arith in
+    rw wide (omega arith)
+
+-- a value where a test was passed
+some_where : {A : Type 0} (b : Bool) (x y : A) → cond b (Some x) None ≡ Some y → (b ≡ true) × (x ≡ y)
+some_where true x y e = (refl, cc)
+some_where false x y e = absurd cc
+
+number-below : (w : List ℕ) (n : ℕ) → number w ≡ Some n → n ≤ 999999999
+unfolding number
+number-below w n e =
+    let test = some_where (nat_le 1 (length w) && nat_le (length w) 9 && list_all is_ascii_digit w) (digits_value w) n e in
+    let outer = and_parts (nat_le 1 (length w) && nat_le (length w) 9) (list_all is_ascii_digit w) test.0 in
+    let inner = and_parts (nat_le 1 (length w)) (nat_le (length w) 9) outer.0 in
+    let short : length w ≤ 9 = leb-true (length w) 9 inner.1 in
+    let below : digits_value w < 1 * 10 ^ length w = digits-below 0 w outer.1 in
+    let most : 10 ^ length w ≤ 10 ^ 9 = pow-le-pow_right {n = 10} (omega arith) {i = length w} {j = 9} short in
+    omega (arith, test.1)
+
+number_at-below : (line : ℕ) (w : List ℕ) (n : ℕ) → number_at line w ≡ Ok n → n ≤ 999999999
+unfolding number_at
+number_at-below line w n e = number-below w n (present (number w) (Number line) n e)
+
+offset_at-most : (line : ℕ) (w : List ℕ) (n : ℕ) → offset_at line w ≡ Ok n → n ≤ 2047
+unfolding offset_at
+offset_at-most line w n e =
+    let b = bind_ok (number_at line w) (λ o. cond (nat_le o 2047) (Ok o) (Err (Offset line))) n e in
+    let g = guard_ok (nat_le b.0 2047) (Offset line) b.0 n b.2 in
+    omega (arith, leb-true b.0 2047 g.0, g.1)
+
+count_at-within : (line : ℕ) (w : List ℕ) (n : ℕ) → count_at line w ≡ Ok n → (1 ≤ n) × (n ≤ 4096)
+unfolding count_at
+count_at-within line w n e =
+    let b = bind_ok (number_at line w) (λ k. cond (nat_le 1 k && nat_le k 4096) (Ok k) (Err (Length line))) n e in
+    let g = guard_ok (nat_le 1 b.0 && nat_le b.0 4096) (Length line) b.0 n b.2 in
+    let parts = and_parts (nat_le 1 b.0) (nat_le b.0 4096) g.0 in
+    (omega (arith, leb-true 1 b.0 parts.0, g.1), omega (arith, leb-true b.0 4096 parts.1, g.1))
+
+-- ---- bytes
+
+decoded : (read : Result (List ℕ) FromHexError) (bytes : List ℕ) → result_ok read ≡ Some bytes → read ≡ Ok bytes
+decoded (Ok x) bytes e = cc
+decoded (Err f) bytes e = absurd cc
+
+hex_at-bytes : (line : ℕ) (w bytes : List ℕ) → hex_at line w ≡ Ok bytes → All (λ b. b < 256) bytes
+unfolding hex_at
+hex_at-bytes line w bytes e =
+    let found = present (hex_bytes w) (Hex line) bytes e in
+    let fit = (decode_of-ok w bytes (decoded (decode_of w) bytes (result_ok-decode_of w ∙ found))).3 in
+    λ k d lt. subst (λ (b : ℕ). b < 256) (get_or_default bytes k 0 d lt) (fit k)
+
+new_at-bytes : (line : ℕ) (w bytes : List ℕ) → new_at line w ≡ Ok bytes → IsBytes bytes
+unfolding new_at
+new_at-bytes line w bytes e =
+    let b = bind_ok (hex_at line w) (λ bs. cond (nat_le 1 (length bs) && nat_le (length bs) 4096) (Ok bs) (Err (Length line))) bytes e in
+    let g = guard_ok (nat_le 1 (length b.0) && nat_le (length b.0) 4096) (Length line) b.0 bytes b.2 in
+    let parts = and_parts (nat_le 1 (length b.0)) (nat_le (length b.0) 4096) g.0 in
+    subst IsBytes g.1 (record { some = leb-true 1 (length b.0) parts.0; most = leb-true (length b.0) 4096 parts.1; each = hex_at-bytes line w b.0 b.1 })
+
+old_at-bytes : (line : ℕ) (new w bytes : List ℕ) → IsBytes new → old_at line new w ≡ Ok bytes → IsBytes bytes × (length bytes ≡ length new)
+unfolding old_at
+old_at-bytes line new w bytes fits e =
+    let b = bind_ok (hex_at line w) (λ bs. cond (length bs == length new) (Ok bs) (Err (Length line))) bytes e in
+    let g = guard_ok (length b.0 == length new) (Length line) b.0 bytes b.2 in
+    let same : length b.0 ≡ length new = eqb-true _ _ g.0 in
+    subst (λ (bs : List ℕ). IsBytes bs × (length bs ≡ length new)) g.1
+    (record { some = omega (arith, fits.some); most = omega (arith, fits.most); each = hex_at-bytes line w b.0 b.1 }, same)
+
+only_byte-is : (line : ℕ) (bytes : List ℕ) (v : ℕ) → only_byte line bytes ≡ Ok v → bytes ≡ v ∷ []
+only_byte-is line [] v e = absurd cc
+only_byte-is line (b ∷ []) v e = cc
+only_byte-is line (b ∷ c ∷ bytes) v e = absurd cc
+
+byte_at-below : (line : ℕ) (w : List ℕ) (v : ℕ) → byte_at line w ≡ Ok v → v < 256
+unfolding byte_at
+byte_at-below line w v e =
+    let b = bind_ok (hex_at line w) (only_byte line) v e in
+    let one = only_byte-is line b.0 v b.2 in
+    (subst (All (λ b. b < 256)) one (hex_at-bytes line w b.0 b.1)) 0 0 (omega arith)
+
+-- ---- the forms
+
+abbrev done : Patch → Result Patch ScriptFault
+done p = Ok p
+
+patch_is : (p q : Patch) → done p ≡ done q → p ≡ q
+patch_is p q e = cc
+
+put_at-patch : (line : ℕ) (block offset new : List ℕ) (p : Patch) → put_at line block offset new ≡ Ok p → IsPatch p
+unfolding put_at
+put_at-patch line block offset new p e =
+    let b = bind_ok (number_at line block) (λ b. offset_at line offset >>= λ o. new_at line new >>= λ bytes. Ok (record { line = line; block = b; offset = o; edit = Put bytes None })) p e in
+    let o = bind_ok (offset_at line offset) (λ o. new_at line new >>= λ bytes. Ok (record { line = line; block = b.0; offset = o; edit = Put bytes None })) p b.2 in
+    let n = bind_ok (new_at line new) (λ bytes. Ok (record { line = line; block = b.0; offset = o.0; edit = Put bytes None })) p o.2 in
+    let made : Patch = record { line = line; block = b.0; offset = o.0; edit = Put n.0 None } in
+    subst IsPatch (patch_is made p n.2)
+    (record { block = number_at-below line block b.0 b.1; offset = offset_at-most line offset o.0 o.1; edit = (new_at-bytes line new n.0 n.1, tt) })
+
+put_where_at-patch : (line : ℕ) (block offset new old : List ℕ) (p : Patch) → put_where_at line block offset new old ≡ Ok p → IsPatch p
+unfolding put_where_at
+put_where_at-patch line block offset new old p e =
+    let b = bind_ok (number_at line block) (λ b. offset_at line offset >>= λ o. new_at line new >>= λ bytes. old_at line bytes old >>= λ was. Ok (record { line = line; block = b; offset = o; edit = Put bytes (Some was) })) p e in
+    let o = bind_ok (offset_at line offset) (λ o. new_at line new >>= λ bytes. old_at line bytes old >>= λ was. Ok (record { line = line; block = b.0; offset = o; edit = Put bytes (Some was) })) p b.2 in
+    let n = bind_ok (new_at line new) (λ bytes. old_at line bytes old >>= λ was. Ok (record { line = line; block = b.0; offset = o.0; edit = Put bytes (Some was) })) p o.2 in
+    let w = bind_ok (old_at line n.0 old) (λ was. Ok (record { line = line; block = b.0; offset = o.0; edit = Put n.0 (Some was) })) p n.2 in
+    let made : Patch = record { line = line; block = b.0; offset = o.0; edit = Put n.0 (Some w.0) } in
+    let fits = new_at-bytes line new n.0 n.1 in
+    subst IsPatch (patch_is made p w.2)
+    (record { block = number_at-below line block b.0 b.1; offset = offset_at-most line offset o.0 o.1; edit = (fits, old_at-bytes line n.0 old w.0 fits w.1) })
+
+fill_at-patch : (line : ℕ) (block offset count byte : List ℕ) (p : Patch) → fill_at line block offset count byte ≡ Ok p → IsPatch p
+unfolding fill_at
+fill_at-patch line block offset count byte p e =
+    let b = bind_ok (number_at line block) (λ b. offset_at line offset >>= λ o. count_at line count >>= λ n. byte_at line byte >>= λ v. Ok (record { line = line; block = b; offset = o; edit = Fill n v })) p e in
+    let o = bind_ok (offset_at line offset) (λ o. count_at line count >>= λ n. byte_at line byte >>= λ v. Ok (record { line = line; block = b.0; offset = o; edit = Fill n v })) p b.2 in
+    let n = bind_ok (count_at line count) (λ n. byte_at line byte >>= λ v. Ok (record { line = line; block = b.0; offset = o.0; edit = Fill n v })) p o.2 in
+    let v = bind_ok (byte_at line byte) (λ v. Ok (record { line = line; block = b.0; offset = o.0; edit = Fill n.0 v })) p n.2 in
+    let made : Patch = record { line = line; block = b.0; offset = o.0; edit = Fill n.0 v.0 } in
+    let within = count_at-within line count n.0 n.1 in
+    subst IsPatch (patch_is made p v.2)
+    (record { block = number_at-below line block b.0 b.1; offset = offset_at-most line offset o.0 o.1; edit = (within.0, within.1, byte_at-below line byte v.0 v.1) })
+
+rebuild_at-patch : (line : ℕ) (block : List ℕ) (p : Patch) → rebuild_at line block ≡ Ok p → IsPatch p
+unfolding rebuild_at
+rebuild_at-patch line block p e =
+    let b = bind_ok (number_at line block) (λ b. Ok (record { line = line; block = b; offset = 0; edit = Rebuild })) p e in
+    let made : Patch = record { line = line; block = b.0; offset = 0; edit = Rebuild } in
+    subst IsPatch (patch_is made p b.2) (record { block = number_at-below line block b.0 b.1; offset = omega arith; edit = refl })
+
+set_line-patch : (line : ℕ) (ws : List (List ℕ)) (p : Patch) → set_line line ws ≡ Ok p → IsPatch p
+set_line-patch line [] p e = absurd cc
+set_line-patch line (a ∷ []) p e = absurd cc
+set_line-patch line (a ∷ b ∷ []) p e = absurd cc
+set_line-patch line (a ∷ b ∷ c ∷ []) p e = put_at-patch line a b c p e
+set_line-patch line (a ∷ b ∷ c ∷ d ∷ []) p e = absurd cc
+set_line-patch line (a ∷ b ∷ c ∷ was ∷ old ∷ []) p e = put_where_at-patch line a b c old p (taken (bytes_eq was (codes "was")) (put_where_at line a b c old) (Words line) p e).1
+set_line-patch line (a ∷ b ∷ c ∷ d ∷ f ∷ g ∷ ws) p e = absurd cc
+
+fill_line-patch : (line : ℕ) (ws : List (List ℕ)) (p : Patch) → fill_line line ws ≡ Ok p → IsPatch p
+fill_line-patch line [] p e = absurd cc
+fill_line-patch line (a ∷ []) p e = absurd cc
+fill_line-patch line (a ∷ b ∷ []) p e = absurd cc
+fill_line-patch line (a ∷ b ∷ c ∷ []) p e = absurd cc
+fill_line-patch line (a ∷ b ∷ c ∷ d ∷ []) p e = fill_at-patch line a b c d p e
+fill_line-patch line (a ∷ b ∷ c ∷ d ∷ f ∷ ws) p e = absurd cc
+
+rebuild_line-patch : (line : ℕ) (ws : List (List ℕ)) (p : Patch) → rebuild_line line ws ≡ Ok p → IsPatch p
+rebuild_line-patch line [] p e = absurd cc
+rebuild_line-patch line (a ∷ []) p e = rebuild_at-patch line a p e
+rebuild_line-patch line (a ∷ b ∷ ws) p e = absurd cc
+
+patch_at-patch : (line : ℕ) (ws : List (List ℕ)) (p : Patch) → patch_at line ws ≡ Ok p → IsPatch p
+unfolding patch_at
+patch_at-patch line [] p e = absurd cc
+patch_at-patch line (verb ∷ ws) p e =
+    elim (chosen (bytes_eq verb (codes "set")) (set_line line ws) _ p e) [
+      | inl is_set ↦ set_line-patch line ws p is_set
+      | inr other ↦
+          elim (chosen (bytes_eq verb (codes "fill")) (fill_line line ws) _ p other) [
+            | inl is_fill ↦ fill_line-patch line ws p is_fill
+            | inr third ↦ rebuild_line-patch line ws p (taken (bytes_eq verb (codes "rebuild")) (rebuild_line line ws) (Verb line) p third).1
+          ]
+    ]
+
+-- ---- the lines
+
+abbrev found_done : Option Patch → Result (Option Patch) ScriptFault
+found_done o = Ok o
+
+found_is : (a b : Option Patch) → found_done a ≡ found_done b → a ≡ b
+found_is a b e = cc
+
+line_at-patch : (line earlier : ℕ) (text : List ℕ) (found : Option Patch) → line_at line earlier text ≡ Ok found → IfSome found (λ p. IsPatch p × (earlier < 65535))
+unfolding line_at
+line_at-patch line earlier text found e =
+    elim (chosen (is_passed_over (words text)) (Ok None) _ found e) [
+      | inl none ↦ subst (λ (o : Option Patch). IfSome o (λ p. IsPatch p × (earlier < 65535))) (found_is None found none) tt
+      | inr some ↦
+          let b = bind_ok (patch_at line (words text)) (λ p. cond (nat_le 65535 earlier) (Err (TooMany line)) (Ok (Some p))) found some in
+          let few = not_taken (nat_le 65535 earlier) (TooMany line) (Some b.0) found b.2 in
+          let below : earlier < 65535 = grind (arith, nat_tests, few.0) in
+          subst (λ (o : Option Patch). IfSome o (λ p. IsPatch p × (earlier < 65535))) few.1 (patch_at-patch line (words text) b.0 b.1, below)
+    ]
+
+abbrev all_done : List Patch → Result (List Patch) ScriptFault
+all_done ps = Ok ps
+
+patches_are : (ps qs : List Patch) → all_done ps ≡ all_done qs → ps ≡ qs
+patches_are ps qs e = cc
+
+room : (earlier : ℕ) (found : Option Patch) → earlier ≤ 65535 → IfSome found (λ p. IsPatch p × (earlier < 65535)) → earlier + length (option_to_list found) ≤ 65535
+room earlier None le h = omega arith
+room earlier (Some p) le h = omega (arith, h.1)
+
+-- patches of lines behind so many others
+record AreBehind (earlier : ℕ) (ps : List Patch) : Type 0 where
+  pub each : All IsPatch ps
+  pub count : earlier + length ps ≤ 65535
+
+put_on : (earlier : ℕ) (found : Option Patch) (ps : List Patch) → IfSome found (λ p. IsPatch p × (earlier < 65535)) → AreBehind (earlier + length (option_to_list found)) ps → AreBehind earlier (cons_option found ps)
+put_on earlier None ps h rest = record { each = rest.each; count = omega (arith, rest.count) }
+put_on earlier (Some p) ps h rest = record { each = All-cons IsPatch p ps h.0 rest.each; count = omega (arith, rest.count) }
+
+patches_from-patches : (line earlier : ℕ) (ls : List (List ℕ)) (ps : List Patch) → earlier ≤ 65535 → patches_from line earlier ls ≡ Ok ps → AreBehind earlier ps
+unfolding patches_from
+patches_from-patches line earlier [] ps le e = subst (AreBehind earlier) (patches_are [] ps e) (record { each = All-nil IsPatch; count = omega arith })
+patches_from-patches line earlier (text ∷ rest) ps le e =
+    let f = bind_ok (line_at line earlier text) (λ found. patches_from (line + 1) (earlier + length (option_to_list found)) rest >>= λ others. Ok (cons_option found others)) ps e in
+    let o = bind_ok (patches_from (line + 1) (earlier + length (option_to_list f.0)) rest) (λ others. Ok (cons_option f.0 others)) ps f.2 in
+    let one = line_at-patch line earlier text f.0 f.1 in
+    let behind = patches_from-patches (line + 1) (earlier + length (option_to_list f.0)) rest o.0 (room earlier f.0 le one) o.1 in
+    subst (AreBehind earlier) (patches_are (cons_option f.0 o.0) ps o.2) (put_on earlier f.0 o.0 one behind)
+
+script_from-patches : (line : ℕ) (ls : List (List ℕ)) (ps : List Patch) → script_from line ls ≡ Ok ps → AreBehind 0 ps
+unfolding script_from
+script_from-patches line [] ps e = absurd cc
+script_from-patches line (text ∷ rest) ps e =
+    elim (chosen (is_passed_over (words text)) (script_from (line + 1) rest) _ ps e) [
+      | inl on ↦ script_from-patches (line + 1) rest ps on
+      | inr here ↦ patches_from-patches (line + 1) 0 rest ps (omega arith) (taken (is_head (words text)) (patches_from (line + 1) 0 rest) (Head line) ps here).1
+    ]
+
+pub script-each : (line : ℕ) (ls : List (List ℕ)) (ps : List Patch) → script_from line ls ≡ Ok ps → All IsPatch ps
+script-each line ls ps e = (script_from-patches line ls ps e).each
+
+pub script-count : (line : ℕ) (ls : List (List ℕ)) (ps : List Patch) → script_from line ls ≡ Ok ps → length ps ≤ 65535
+script-count line ls ps e = omega (arith, (script_from-patches line ls ps e).count)

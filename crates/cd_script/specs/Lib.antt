@@ -1,0 +1,9 @@
+pub mod Patch
+pub mod Number
+pub mod Hex
+pub mod Words
+pub mod Reading
+pub mod Line
+pub mod Order
+pub mod Script
+pub mod Spelling

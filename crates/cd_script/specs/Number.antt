@@ -1,0 +1,12 @@
+-- Numbers, as words spell them.
+use Rattle.std.specs.Prelude.{ℕ, ◌+◌, ◌-◌, ◌*◌, ◌&&◌, nat_le, List, length, fold, Option, Some, None, if◌then◌else◌}
+use Rattle.std.specs.Char.{is_ascii_digit}
+use Rattle.std.specs.List.{list_all}
+
+-- the number that decimal digits spell
+abbrev pub digits_value : List ℕ → ℕ
+digits_value = fold (λ n b. 10 * n + (b - 48)) 0
+
+-- 1 to 9 decimal digits
+unfoldable pub number : List ℕ → Option ℕ
+number w = if nat_le 1 (length w) && nat_le (length w) 9 && list_all is_ascii_digit w then Some (digits_value w) else None

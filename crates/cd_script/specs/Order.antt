@@ -1,0 +1,29 @@
+-- The order in which patches are taken.
+use Rattle.std.specs.Prelude.{◌≡◌, ℕ, ◌==◌, nat_le, Bool, List, [], ◌∷◌, filter, if◌then◌else◌}
+use Rattle.std.specs.List.Sorted.{IsNonDecreasingBy, IsPermutation}
+use Rattle.cd_script.specs.declared.patch.Patch.{Patch}
+
+-- p before the first patch whose block is not below its own, at the end where there is none
+unfoldable pub put_before : Patch → List Patch → List Patch
+put_before p [] = p ∷ []
+put_before p (q ∷ qs) = if nat_le p.block q.block then p ∷ q ∷ qs else q ∷ put_before p qs
+
+-- the lowest block first, patches of one block as in the script
+unfoldable pub order : List Patch → List Patch
+order [] = []
+order (p ∷ ps) = put_before p (order ps)
+
+abbrev pub stands_in : ℕ → Patch → Bool
+stands_in block p = p.block == block
+
+-- the blocks rise along the order
+abbrev pub OrderRises : Type 0
+OrderRises = (ps : List Patch) → IsNonDecreasingBy (λ p. p.block) (order ps)
+
+-- the patches of any one block are those of the script, in the script's order
+abbrev pub OrderKeepsTies : Type 0
+OrderKeepsTies = (ps : List Patch) (block : ℕ) → filter (stands_in block) (order ps) ≡ filter (stands_in block) ps
+
+-- the order has the patches of the script, each as often
+abbrev pub OrderPermutes : Type 0
+OrderPermutes = (ps : List Patch) → IsPermutation ps (order ps)

@@ -1,0 +1,57 @@
+//! Why a script is refused.
+
+ghost use Rattle.std.specs.Prelude.{◌≡◌};
+ghost use Rattle.cd_script.specs.declared.fault.ScriptFault.TheVariants.{NoMemory};
+
+use std::alloc::{AllocError, AllocFailed};
+use thiserror::Error;
+
+/// The fault of the first faulty line, with that line's number, counted from 1.
+#[derive(Clone, Copy, Debug, PartialEq, Eq, Error)]
+pub enum ScriptFault {
+    /// The first line that is neither blank nor a comment is not the head line, or there is none:
+    /// then the number of lines and one more.
+    #[error("no cdpatch 1 line")]
+    Head(u32),
+    /// The first word is no verb.
+    #[error("unknown verb")]
+    Verb(u32),
+    /// The verb does not take this number of words, or the fifth of six is not `was`.
+    #[error("wrong number of words")]
+    Words(u32),
+    /// A number is not written with 1 to 9 decimal digits.
+    #[error("bad number")]
+    Number(u32),
+    /// A hex word has an odd number of digits, or a byte that is no hex digit.
+    #[error("bad hex")]
+    Hex(u32),
+    /// A count of 0 or over 4096, over 4096 new bytes, old bytes that are not as many as the new
+    /// ones, or a fill byte that is not one byte.
+    #[error("bad length")]
+    Length(u32),
+    /// An offset over 2047.
+    #[error("offset over 2047")]
+    Offset(u32),
+    /// A well-formed patch behind 65,535 others.
+    #[error("more than 65535 patches")]
+    TooMany(u32),
+    /// Memory was refused.
+    #[error("no memory")]
+    NoMemory,
+}
+
+impl From<AllocError> for ScriptFault {
+    ghost from_gives = { λ _ e. e ≡ NoMemory };
+
+    fn from(_error: AllocError) -> ScriptFault {
+        ScriptFault::NoMemory
+    }
+}
+
+impl<T: Drop> From<AllocFailed<T>> for ScriptFault {
+    ghost from_gives = { λ _ e. e ≡ NoMemory };
+
+    fn from(_error: AllocFailed<T>) -> ScriptFault {
+        ScriptFault::NoMemory
+    }
+}

@@ -1,0 +1,28 @@
+//! One patch of a script.
+
+use crate::bytes::Bytes;
+
+/// A patch: where it stands in the script, where it begins, and what it does there.
+#[derive(Debug, Drop)]
+pub struct Patch {
+    /// The number of its line in the script, counted from 1.
+    pub line: u32,
+    /// The block in which it begins, 0 to 999,999,999.
+    pub block: u32,
+    /// The user byte of that block at which it begins, 0 to 2047; 0 for a rebuild.
+    pub offset: u16,
+    /// What it does.
+    pub edit: Edit,
+}
+
+/// What a patch does to the user bytes from its offset on, or to its block.
+#[derive(Debug, Drop)]
+pub enum Edit {
+    /// The user bytes become these 1 to 4096 bytes; where `was` is given, if they are its bytes,
+    /// as many, before.
+    Put { bytes: Bytes, was: Option<Bytes> },
+    /// `count` user bytes, 1 to 4096, become `value`.
+    Fill { count: u16, value: u8 },
+    /// EDC, Intermediate and parity of the block are made anew from its header and user data.
+    Rebuild,
+}
