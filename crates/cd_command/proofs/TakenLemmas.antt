@@ -1,6 +1,6 @@
 -- Where the definition gives no kind of error for the words, the matches name a command, and have
 -- an image and a base in its range.
-use Rattle.std.proofs.Common.{ap, length, slice_index_or, ◌≡◌, ◌&&◌, ◌||◌, Bool, true, false, cond, List, [], ◌∷◌, ◌++◌, Option, Some, None, arith, codes, refl}
+use Rattle.std.proofs.Common.{inl, inr, ap, length, slice_index_or, ◌≡◌, ◌&&◌, ◌||◌, Bool, true, false, cond, List, [], ◌∷◌, ◌++◌, Option, Some, None, arith, codes, refl}
 use Rattle.std.specs.Prelude.{IsSome, find, if◌then◌else◌, is_some, not, option_and_then, option_map, pos, slice_get, slice_index}
 use Rattle.std.specs.List.{list_any}
 use Rattle.std.specs.Option.{option_map_or}
@@ -210,7 +210,12 @@ IsSound s = (words : List Text) → level_fault s [] nothing_held words false []
 list_sound : IsSound (leaf (image_shape (codes "list")))
 list_sound words e =
     let has = image_level (codes "list") words e in
-    record { name = refl; image = has.image; base = has.base }
+    record { name = inl refl; image = has.image; base = has.base }
+
+audit_sound : IsSound (leaf (image_shape (codes "audit")))
+audit_sound words e =
+    let has = image_level (codes "audit") words e in
+    record { name = inr refl; image = has.image; base = has.base }
 
 -- the command that the words name, with what its matches have
 pub record Named (words : List Text) : Type 0 where
@@ -237,5 +242,5 @@ no_fault-named words e =
     let end = (walk program.top.rules (names_of program) nothing_held words).held in
     let checked = check_parts program.top (finished program.top.rules end) (is_some (entered program stop)) parts.checks in
     let there = subcommand_met (is_some (entered program stop)) checked.0 in
-    let named = named_at program stop (list_sound, tt) parts.enters there in
+    let named = named_at program stop (list_sound, (audit_sound, tt)) parts.enters there in
     record { matches = named.0; is = named.1; complete = named.2 }

@@ -1,5 +1,5 @@
 -- The command line as `clap` defines it, and the job that it asks for.
-use Rattle.std.specs.Prelude.{◌≡◌, ⊤, ℕ, true, false, List, [], ◌∷◌, Option, Some, codes, pos}
+use Rattle.std.specs.Prelude.{◌≡◌, ◌⊎◌, ⊤, ℕ, true, false, List, [], ◌∷◌, Option, Some, codes, pos}
 use Rattle.std.specs.Prelude.{IsSome, IsSomeAnd, option_map, string_bytes}
 use Rattle.std.specs.Str.Parse.{digits_value, without_leading_plus}
 use Rattle.clap.specs.Words.{App, IsSignedIn, Row, Rule, Shape, Text, first_of, new_rule, one_of}
@@ -35,9 +35,12 @@ program_shape = record (new_shape (codes "cdpatch")) {
   subcommand_required = true;
 }
 
--- `list IMAGE`
+-- `list IMAGE` and `audit IMAGE`
 unfoldable pub command_line : App
-command_line = record { top = program_shape; subs = image_shape (codes "list") ∷ [] }
+command_line = record {
+  top = program_shape;
+  subs = image_shape (codes "list") ∷ image_shape (codes "audit") ∷ [];
+}
 
 -- ---- the job
 
@@ -45,14 +48,20 @@ command_line = record { top = program_shape; subs = image_shape (codes "list") �
 abbrev pub base_of : List Row → Option ℕ
 base_of rows = option_map (λ t. digits_value 10 (without_leading_plus t)) (one_of (codes "base") rows)
 
+-- the image and the base of a command's rows
+abbrev pub HasTexts : List Row → Text → ℕ → Type 0
+HasTexts rows image base = (first_of (codes "image") rows ≡ Some image) × (base_of rows ≡ Some base)
+
 -- the job has the name, the texts and the base of a command's matches
 abbrev pub HasMatches : Text × List Row → Job → Type 0
-HasMatches p (job.List image base) = (p.0 ≡ codes "list")
-    × (first_of (codes "image") p.1 ≡ Some (string_bytes image)) × (base_of p.1 ≡ Some base)
+HasMatches p (job.List image base) = (p.0 ≡ codes "list") × HasTexts p.1 (string_bytes image) base
+HasMatches p (job.Audit image base) =
+    (p.0 ≡ codes "audit") × HasTexts p.1 (string_bytes image) base
 
 -- the job is the listing of this image
 abbrev pub Lists : Text → ℕ → Job → Type 0
 Lists text first (job.List image base) = (string_bytes image ≡ text) × (base ≡ first)
+Lists text first _ = ⊥
 
 -- for no words the standard input is listed from block 0, else the job is what the definition of
 -- the matches gives for the words
@@ -67,6 +76,7 @@ IsTaken (w ∷ ws) = takes command_line (w ∷ ws) ≡ true
 
 abbrev pub base_in : Job → ℕ
 base_in (job.List image base) = base
+base_in (job.Audit image base) = base
 
 -- ---- what the matches of words that are taken have
 
@@ -78,6 +88,6 @@ pub record HasBase (rows : List Row) : Type 0 where
 
 -- the matches name a command, and have an image and a base
 pub record IsComplete (p : Text × List Row) : Type 0 where
-  pub name : p.0 ≡ codes "list"
+  pub name : (p.0 ≡ codes "list") ⊎ (p.0 ≡ codes "audit")
   pub image : IsSome (first_of (codes "image") p.1)
   pub base : HasBase p.1

@@ -38,7 +38,10 @@ fn entered_job(alloc: Global, name: &str, matches: &ArgMatches<'_>) -> Result<Jo
 {
     let image = image_of(alloc, matches)?;
     let base = base_of(matches);
-    Ok(Job::List { image, base })
+    match name {
+        "audit" => Ok(Job::Audit { image, base }),
+        _ => Ok(Job::List { image, base }),
+    }
 }
 
 // The job of no words.

@@ -41,6 +41,16 @@ fn list_command<'a>(alloc: Global) -> Result<Command<'a>, AllocError>
         .arg(base_argument(alloc))
 }
 
+fn audit_command<'a>(alloc: Global) -> Result<Command<'a>, AllocError>
+    ensures shape { IfOk result (λ c. shape_of c ≡ image_shape (codes "audit")) }
+    ensures local { IfOk result (λ c. (out-Command c).has_globals ≡ false) }
+{
+    Command::new(alloc, "audit")
+        .about("Report what is wrong with an image's sectors")
+        .arg(image_argument(alloc))?
+        .arg(base_argument(alloc))
+}
+
 /// The parser of the command line.
 pub fn command_line<'a>(alloc: Global) -> Result<Command<'a>, AllocError>
     ensures { IfOk result (λ c. app_of c ≡ command_line) }
@@ -50,5 +60,6 @@ pub fn command_line<'a>(alloc: Global) -> Result<Command<'a>, AllocError>
         .no_binary_name(true)
         .disable_help_subcommand(true)
         .subcommand_required(true)
-        .subcommand(list_command(alloc)?)
+        .subcommand(list_command(alloc)?)?
+        .subcommand(audit_command(alloc)?)
 }

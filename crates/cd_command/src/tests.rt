@@ -10,12 +10,21 @@ fn words_of(alloc: Global, words: &[&str]) -> Result<Vec<String>, AllocError> {
     Ok(all)
 }
 
+// Whether the words give the audit of this image from this base.
+fn audits(alloc: Global, words: &[&str], wanted: &str, first: u32) -> Result<bool, AllocError> {
+    let words = words_of(alloc, words)?;
+    match job_of(alloc, words) {
+        Ok(Job::Audit { image, base }) => Ok(image.as_str() == wanted && base == first),
+        _ => Ok(false),
+    }
+}
+
 // Whether the words give the listing of this image from this base.
 fn lists(alloc: Global, words: &[&str], wanted: &str, first: u32) -> Result<bool, AllocError> {
     let words = words_of(alloc, words)?;
     match job_of(alloc, words) {
         Ok(Job::List { image, base }) => Ok(image.as_str() == wanted && base == first),
-        Err(_) => Ok(false),
+        _ => Ok(false),
     }
 }
 
@@ -37,6 +46,9 @@ fn gives_jobs(rt: HostRuntime) -> Result<(), Fail> {
     assert!(rt; lists(alloc, &["list", "--base", "16", "a.img"], "a.img", 16)?);
     assert!(rt; lists(alloc, &["list", "a.img", "--base=16"], "a.img", 16)?);
     assert!(rt; lists(alloc, &["list", "--", "--base"], "--base", 0)?);
+    assert!(rt; audits(alloc, &["audit", "x"], "x", 0)?);
+    assert!(rt; audits(alloc, &["audit", "-", "--base", "449849"], "-", 449_849)?);
+    assert!(rt; audits(alloc, &["audit", "--base", "16", "a.img"], "a.img", 16)?);
     Ok(())
 }
 
@@ -52,6 +64,10 @@ fn refuses_words(rt: HostRuntime) -> Result<(), Fail> {
     assert!(rt; refusal(alloc, &["frobnicate", "x"])? == 2);
     assert!(rt; refusal(alloc, &["apply", "a", "b"])? == 2);
     assert!(rt; refusal(alloc, &["audit"])? == 2);
+    assert!(rt; refusal(alloc, &["audit", "a", "b"])? == 2);
+    assert!(rt; refusal(alloc, &["audit", "-", "--base", "449850"])? == 2);
+    assert!(rt; refusal(alloc, &["list", "-", "--carry"])? == 2);
+    assert!(rt; refusal(alloc, &["help"])? == 2);
     Ok(())
 }
 
@@ -74,6 +90,7 @@ fn answers_by_help(rt: HostRuntime) -> Result<(), Fail> {
     let alloc = rt.alloc();
     assert!(rt; is_help(alloc, &["--help"])?);
     assert!(rt; is_help(alloc, &["list", "--help"])?);
+    assert!(rt; is_help(alloc, &["audit", "--help"])?);
     assert!(rt; is_help(alloc, &["-h"])?);
     assert!(rt; !is_help(alloc, &["list"])?);
     Ok(())

@@ -1,3 +1,4 @@
+pub mod AuditLemmas
 pub mod ImageLemmas
 pub mod ListLemmas
 pub mod OpenRunLemmas

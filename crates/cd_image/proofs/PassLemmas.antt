@@ -27,7 +27,7 @@ abbrev pub Takes : {X : Type 0} → (List (List ℕ) → List ℕ) → (List (Li
 Takes rest rest' sector old new (Ok x) = (line : List ℕ) × Appends old new line × ((others : List (List ℕ)) → rest (sector ∷ others) ≡ line ++ rest' others)
 Takes rest rest' sector old new (Err e) = (sent : List ℕ) × Appends old new sent × ((others : List (List ℕ)) → IsBeginning sent (rest (sector ∷ others)))
 
-pub Passed-start : (lines rest : List (List ℕ) → List ℕ) (image : Incoming) (out : Outgoing) → ((others : List (List ℕ)) → lines others ≡ rest others) → Passed lines rest image image out out 0
+unfoldable pub Passed-start : (lines rest : List (List ℕ) → List ℕ) (image : Incoming) (out : Outgoing) → ((others : List (List ℕ)) → lines others ≡ rest others) → Passed lines rest image image out out 0
 Passed-start lines rest image out same = record {
   read = [];
   sent = [];
@@ -113,10 +113,10 @@ module _ {T : Type 0} (lines : List (List ℕ) → List ℕ) (last : List ℕ �
     sent_begins more = (rest (sectors more) ++ last (passed.read ++ more), known more ∙ append_assoc passed.sent _ _)
 
     module _ (came : List ℕ) (consumed : Consumes before.rest after.rest came) where
-      consumes : Consumes image.rest after.rest (passed.read ++ came)
+      pub consumes : Consumes image.rest after.rest (passed.read ++ came)
       consumes = Consumes-trans image.rest before.rest after.rest passed.read came passed.consumes consumed
 
-      length_read : length (passed.read ++ came) ≡ 2352 * count + length came
+      pub length_read : length (passed.read ++ came) ≡ 2352 * count + length came
       length_read = length-append passed.read came ∙ ap (λ n. n + length came) passed.size
 
       begins_further : (whole : List ℕ) → IsBeginning (passed.read ++ came) whole → IsBeginning passed.sent (lines (sectors whole) ++ last whole)
@@ -155,7 +155,7 @@ module _ {T : Type 0} (lines : List (List ℕ) → List ℕ) (last : List ℕ �
 
       module _ (sunk' : Outgoing) (kept : after.failures ≡ before.failures) where
         module _ (size : length came ≡ 2352) where
-          pub Passed-next : (X : Type 0) (x : X) (rest' : List (List ℕ) → List ℕ) → Takes {X = X} rest rest' came sunk.written sunk'.written (Ok x) → sunk'.failures ≡ sunk.failures
+          unfoldable pub Passed-next : (X : Type 0) (x : X) (rest' : List (List ℕ) → List ℕ) → Takes {X = X} rest rest' came sunk.written sunk'.written (Ok x) → sunk'.failures ≡ sunk.failures
               → Passed lines rest' image after out sunk' (count + 1)
           Passed-next X x rest' taken wrote = record {
             read = passed.read ++ came;

@@ -1,3 +1,4 @@
+pub mod AuditText
 pub mod Forms
 pub mod Image
 pub mod ListText

@@ -1,7 +1,9 @@
 //! Images of raw CD sectors as they come from a source, and what is told of them to a sink.
 #![tactic(auto)]
 
+mod auditing;
 mod fault;
+mod findings;
 mod forms;
 mod laws;
 mod line;
@@ -10,7 +12,9 @@ mod sink;
 mod source;
 mod transfer;
 
+pub use auditing::{AuditTally, audit};
 pub use fault::Fault;
+pub use findings::Findings;
 pub use forms::fail_after::FailAfter;
 pub use forms::from_read::FromRead;
 pub use forms::short::Short;

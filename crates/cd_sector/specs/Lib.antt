@@ -1,1 +1,6 @@
+pub mod Address
+pub mod CodeWords
+pub mod Consistent
+pub mod Defect
 pub mod Kind
+pub mod Laws

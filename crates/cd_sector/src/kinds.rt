@@ -17,10 +17,10 @@ pub enum SectorKind {
 }
 
 /// The synchronisation field: `00`, ten times `FF`, `00`.
-const SYNC: [u8; 12] = [0, 255, 255, 255, 255, 255, 255, 255, 255, 255, 255, 0];
+pub(crate) const SYNC: [u8; 12] = [0, 255, 255, 255, 255, 255, 255, 255, 255, 255, 255, 0];
 
 /// The place of the mode byte, the last of the header.
-const MODE: usize = 15;
+pub(crate) const MODE: usize = 15;
 
 /// The kind of a sector, from its sync field and its mode byte (ECMA-130, the clause on the digital data
 /// structure of sectors).

@@ -1,11 +1,17 @@
 //! The 2352 bytes of one sector.
 
-ghost use Rattle.std.specs.Prelude.{◌≡◌, ◌<◌, List, ℕ, length, replicate, slice_index};
+ghost use Rattle.std.specs.Prelude.{◌≡◌, ◌<◌, List, ℕ, length, replicate, slice_index, slice_set};
+ghost use Rattle.cd_code.specs.Field.{AreBytes};
+ghost use Rattle.cd_sector.specs.Consistent.{header_of, user_of};
 
 use std::marker::Model;
 
 /// The number of bytes in a sector (ECMA-130, the clause on the digital data structure of sectors).
 pub const SECTOR_SIZE: usize = 2352;
+
+/// The number of bytes of user data in a Mode 1 sector (ECMA-130, the clause on the digital data structure
+/// of sectors).
+pub const USER_SIZE: usize = 2048;
 
 /// A sector: 2352 bytes of any content. A contract sees the list of its bytes.
 #[derive(Clone, Copy, Debug, PartialEq, Eq)]
@@ -15,13 +21,14 @@ pub struct Sector {
 
 impl Model for Sector {
     ghost use Rattle.std.specs.Prelude.{◌≡◌, List, ℕ, length};
+    ghost use Rattle.cd_code.specs.Field.{AreBytes};
     ghost use Rattle.cd_sector.specs.declared.sector.TheConstants.{SECTOR_SIZE};
 
     ghost Value = { List ℕ };
 
     ghost view = { λ sector. sector.bytes };
 
-    ghost invariant = { λ sector. length sector.bytes ≡ SECTOR_SIZE };
+    ghost invariant = { λ sector. (length sector.bytes ≡ SECTOR_SIZE) × AreBytes sector.bytes };
 
     ghost inverse = { λ bytes. record { bytes = bytes } };
 }
@@ -29,7 +36,9 @@ impl Model for Sector {
 impl Sector {
     /// The sector of these 2352 bytes.
     pub fn from_bytes(bytes: [u8; SECTOR_SIZE]) -> Self
-        ensures { result ≡ bytes }
+        ensures bytes { result ≡ bytes }
+        ensures size { length result ≡ SECTOR_SIZE }
+        ensures each { AreBytes result }
     {
         Sector { bytes }
     }
@@ -38,6 +47,7 @@ impl Sector {
     pub fn bytes(&self) -> &[u8; SECTOR_SIZE]
         ensures bytes { result.now ≡ self.now }
         ensures size { length result.now ≡ SECTOR_SIZE }
+        ensures each { AreBytes result.now }
     {
         &self.bytes
     }
@@ -48,6 +58,37 @@ impl Sector {
         ensures { result ≡ slice_index self.now place }
     {
         self.bytes[place]
+    }
+
+    /// Makes `b` the byte at `place`, which counts from 0.
+    pub fn put(&mut self, place: usize, b: u8)
+        requires { place < SECTOR_SIZE }
+        ensures { self.new ≡ slice_set self.old place b }
+    {
+        self.bytes[place] = b;
+    }
+
+    /// The 4 bytes of the header, bytes 12 to 15: minute, second and fraction in BCD, and the mode (ECMA-130, the
+    /// clause on the digital data structure of sectors).
+    pub fn header(&self) -> [u8; 4]
+        ensures { result ≡ header_of self.now }
+    {
+        [
+            self.bytes[12],
+            self.bytes[13],
+            self.bytes[14],
+            self.bytes[15],
+        ]
+    }
+
+    /// The 2048 bytes of user data, bytes 16 to 2063 (ECMA-130, the clause on the digital data structure of
+    /// sectors).
+    #[tactic(auto, unfolding(crate::specs::Consistent::user_of))]
+    pub fn user(&self) -> &[u8]
+        ensures user { result.now ≡ user_of self.now }
+        ensures size { length result.now ≡ USER_SIZE }
+    {
+        &self.bytes[16..2064]
     }
 }
 

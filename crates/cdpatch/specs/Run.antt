@@ -1,7 +1,8 @@
 -- What the program does with the answer of a call on an image: the fault's line, and the status.
-use Rattle.std.specs.Prelude.{◌≡◌, ℕ, ◌+◌, ◌⊎◌, List, [], true, codes, Result, Ok, Err}
+use Rattle.std.specs.Prelude.{◌≡◌, ℕ, ◌==◌, ◌+◌, ◌⊎◌, if◌then◌else◌, List, [], true, codes, Result, Ok, Err}
 use Rattle.std.specs.Io.KnownBytes.{Appends}
 use Rattle.cd_image.specs.Report.{Incoming, IsBeginning, Outgoing, Reports}
+use Rattle.cd_image.specs.declared.auditing.AuditTally.{AuditTally}
 use Rattle.cd_image.specs.declared.fault.Fault.{Fault}
 use Rattle.cd_image.specs.declared.fault.Fault.TheVariants.{Read, TooLong, Write}
 
@@ -22,6 +23,10 @@ pub record SaysLine (line : List ℕ) (before after : Outgoing) : Type 0 where
 abbrev pub SaysFault : Fault → Outgoing → Outgoing → Type 0
 SaysFault Write before after = after ≡ before
 SaysFault fault before after = SaysLine (fault_line fault) before after
+
+-- an audit that told of any sector has status 1
+abbrev pub audit_status : AuditTally → ℕ
+audit_status tally = if tally.findings == 0 then 0 else 1
 
 -- behind a call's answer: its status, or the fault's line and status 2
 abbrev pub Ends : {T : Type 0} → (T → ℕ) → Result T Fault → Outgoing → Outgoing → ℕ → Type 0

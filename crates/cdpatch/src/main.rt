@@ -1,4 +1,4 @@
-//! cdpatch lists raw CD images.
+//! cdpatch lists and audits raw CD images.
 #![tactic(auto)]
 
 mod program;

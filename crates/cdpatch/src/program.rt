@@ -2,7 +2,7 @@
 
 ghost use Rattle.std.specs.Prelude.{◌<◌, ◌≤◌};
 
-use crate::run::{FAILED, run_list, say};
+use crate::run::{FAILED, run_audit, run_list, say};
 use cd_command::{Job, LineFault, NO_MEMORY, job_of, line_of};
 use cd_image::{FromRead, MAX_BASE, Sink, Source, ToWrite};
 use std::alloc::Global;
@@ -37,7 +37,12 @@ fn do_job<O: Sink>(rt: &HostRuntime, out: &mut O) -> u8
         Err(_) => return fail("cdpatch: the words are not text\n", out),
     };
     match job_of(rt.alloc(), words) {
-        Ok(Job::List { image, base }) => list_image(rt, image.as_str(), base, out),
+        Ok(Job::List { image, base }) => {
+            do_on_image(rt, Command::List, image.as_str(), base, out)
+        }
+        Ok(Job::Audit { image, base }) => {
+            do_on_image(rt, Command::Audit, image.as_str(), base, out)
+        }
         Err(fault) => refuse(rt.alloc(), &fault, out),
     }
 }
@@ -51,26 +56,49 @@ fn words_of(rt: &HostRuntime) -> io::Result<Vec<String>> {
     Ok(words)
 }
 
-fn list_image<O: Sink>(rt: &HostRuntime, image: &str, base: u32, out: &mut O) -> u8
+/// What is done with an image.
+#[derive(Clone, Copy)]
+enum Command {
+    List,
+    Audit,
+}
+
+fn do_on_image<O: Sink>(
+    rt: &HostRuntime,
+    command: Command,
+    image: &str,
+    base: u32,
+    out: &mut O,
+) -> u8
     requires base { base ≤ MAX_BASE }
     requires countable { O.failures out.old < 4294967295 }
 {
     if image == STANDARD_INPUT {
-        return list_reader(rt.alloc(), rt.stdin(), base, out);
+        return do_on_reader(rt.alloc(), command, rt.stdin(), base, out);
     }
     match fs::open(rt, image) {
-        Ok(file) => list_reader(rt.alloc(), file, base, out),
+        Ok(file) => do_on_reader(rt.alloc(), command, file, base, out),
         Err(_) => fail("cdpatch: cannot open the image\n", out),
     }
 }
 
-fn list_reader<R: Read + Drop, O: Sink>(alloc: Global, reader: R, base: u32, out: &mut O) -> u8
+fn do_on_reader<R: Read + Drop, O: Sink>(
+    alloc: Global,
+    command: Command,
+    reader: R,
+    base: u32,
+    out: &mut O,
+) -> u8
     requires base { base ≤ MAX_BASE }
     requires countable { O.failures out.old < 4294967295 }
 {
-    match BufReader::with_capacity(alloc, BUFFER_SIZE, reader) {
-        Ok(reader) => run_list(&mut FromRead::new(reader), base, out),
-        Err(_) => fail(NO_MEMORY, out),
+    let mut image = match BufReader::with_capacity(alloc, BUFFER_SIZE, reader) {
+        Ok(reader) => FromRead::new(reader),
+        Err(_) => return fail(NO_MEMORY, out),
+    };
+    match command {
+        Command::List => run_list(&mut image, base, out),
+        Command::Audit => run_audit(&mut image, base, out),
     }
 }
 
@@ -80,7 +108,7 @@ fn refuse<O: Sink>(alloc: Global, fault: &LineFault, out: &mut O) -> u8
 {
     let text = fault.parser_text(alloc);
     if say(line_of(&text).as_bytes(), out).is_ok() {
-        fault.status()
+        fault.status_with(&text)
     } else {
         FAILED
     }

@@ -1,15 +1,19 @@
 //! The commands: a call on an image, then the line of its fault, and the status.
 
 ghost use Rattle.std.specs.Prelude.{◌≡◌, ◌≢◌, ◌<◌, ◌≤◌};
+ghost use Rattle.cd_image.specs.AuditText.{audit_tally, audit_text};
 ghost use Rattle.cd_image.specs.ListText.{list_tally, list_text};
 ghost use Rattle.cd_image.specs.Report.{incoming, outgoing};
 ghost use Rattle.cd_image.specs.Transfer.{Counts};
-ghost use Rattle.cdpatch.specs.Run.{Runs, SaysFault, SaysLine, fault_line};
+ghost use Rattle.cdpatch.specs.Run.{Runs, SaysFault, SaysLine, audit_status, fault_line};
 
-use cd_image::{Fault, MAX_BASE, Sink, SinkFailed, Source, list, write_all};
+use cd_image::{Fault, MAX_BASE, Sink, SinkFailed, Source, audit, list, write_all};
 
 /// The status of a job that is done.
 pub const DONE: u8 = 0;
+
+/// The status of an audit that told of a sector.
+pub const FOUND: u8 = 1;
 
 /// The status of a fault or of words that are refused.
 pub const FAILED: u8 = 2;
@@ -58,6 +62,25 @@ pub fn run_list<I: Source, O: Sink>(image: &mut I, base: u32, out: &mut O) -> u8
 {
     match list(image, base, out) {
         Ok(_) => DONE,
+        Err(fault) => {
+            say_fault(fault, out);
+            FAILED
+        }
+    }
+}
+
+/// Audits an image to `out`, of which the first block has the number `base`, and answers the status: 0, 1 where
+/// it told of a sector, or 2 behind the line of a fault.
+pub fn run_audit<I: Source, O: Sink>(image: &mut I, base: u32, out: &mut O) -> u8
+    requires base { base ≤ MAX_BASE }
+    requires image_countable { I.failures image.old < 4294967295 }
+    requires out_countable { O.failures out.old < 4294967295 }
+    ensures { Runs (audit_text base) (audit_tally base) audit_status
+        (incoming I.rest I.failures image.old) (incoming I.rest I.failures image.new)
+        (outgoing O.written O.failures O.finished out.old) (outgoing O.written O.failures O.finished out.new) result }
+{
+    match audit(image, base, out) {
+        Ok(tally) => { if tally.findings == 0 { DONE } else { FOUND } }
         Err(fault) => {
             say_fault(fault, out);
             FAILED

@@ -1,7 +1,7 @@
 //! The largest images, endless ones, and std's readers and writers.
 
 use crate::{
-    Fault, FromRead, ListTally, Sink, SinkFailed, SliceSink, Source, ToWrite, ZeroSource,
+    Fault, FromRead, ListTally, Sink, SinkFailed, SliceSink, Source, ToWrite, ZeroSource, audit,
     images_are_cut, list, runs_spell_kinds,
 };
 use std::io::{self, Write};
@@ -26,6 +26,15 @@ fn a_byte_behind_them(rt: HostRuntime) {
     let mut space = [0; 64];
     let mut source = ZeroSource::new(2_352_000_001);
     let answer = list(&mut source, 0, &mut SliceSink::new(&mut space));
+    assert_eq!(rt; answer, Err(Fault::TooLong));
+    assert!(rt; space.as_slice().iter().all(|byte| *byte == 0));
+}
+
+#[test]
+fn an_audit_of_too_many(rt: HostRuntime) {
+    let mut space = [0; 64];
+    let mut source = ZeroSource::new(2_352_000_001);
+    let answer = audit(&mut source, 0, &mut SliceSink::new(&mut space));
     assert_eq!(rt; answer, Err(Fault::TooLong));
     assert!(rt; space.as_slice().iter().all(|byte| *byte == 0));
 }

@@ -44,7 +44,7 @@ returns-in_err-take_kind g c =
     let failed = err_from_is_err_and c.from_residual-in_err-take_kind.result c.from_residual-in_err-take_kind.ensures.1 in
     let came = c.in_ok-length.ensures.bytes in
     let whole : take c.in_ok-length.length c.fill.new.into ≡ c.fill.new.into = take_all c.in_ok-length.length c.fill.new.into (omega arith) in
-    let kind : c.kind-kind.result ≡ kind_of c.fill.new.into = c.kind-kind.ensures ∙ ap kind_of c.from_bytes.ensures in
+    let kind : c.kind-kind.result ≡ kind_of c.fill.new.into = c.kind-kind.ensures ∙ ap kind_of c.from_bytes.ensures.bytes in
     let taken = rw kind at c.in_err-take_kind.ensures.text in
     rw (failed.1, failed.2) (
     List-write c.args.base _ _ (incoming g.I.Source.rest g.I.Source.failures c.fill.new.image) _ _ _ _ c.loop-sectors.invariant c.fill.new.into (rw whole at came.1)
@@ -56,7 +56,7 @@ pub loop-sectors-preserved : goal.loop-sectors-preserved
 loop-sectors-preserved g c =
     let came = c.in_ok-length.ensures.bytes in
     let whole : take c.in_ok-length.length c.fill.new.into ≡ c.fill.new.into = take_all c.in_ok-length.length c.fill.new.into (omega arith) in
-    let kind : c.kind-kind.result ≡ kind_of c.fill.new.into = c.kind-kind.ensures ∙ ap kind_of c.from_bytes.ensures in
+    let kind : c.kind-kind.result ≡ kind_of c.fill.new.into = c.kind-kind.ensures ∙ ap kind_of c.from_bytes.ensures.bytes in
     let taken = rw kind at c.in_ok-take_kind.ensures.text in
     Listed-next c.args.base _ _ (incoming g.I.Source.rest g.I.Source.failures c.fill.new.image) _ _ _ _ c.loop-sectors.invariant c.fill.new.into (rw whole at came.1)
     (outgoing g.O.Sink.written g.O.Sink.failures g.O.Sink.finished c.take_kind.new.out) c.in_ok-length.ensures.count

@@ -1,0 +1,270 @@
+-- Counting words that are no code words, and the test of a whole sector.
+use Rattle.std.proofs.Common.{◌≡◌, ℕ, zero, suc, ◌+◌, ◌-◌, ◌*◌, ◌/◌, ◌%◌, ◌<◌, ◌≤◌, inl, inr, Bool, true, false, not, ◌&&◌, ◌||◌, cond, Decides, List, [], ◌∷◌, ◌++◌, length, map, get_or, take, drop, refl, sym, ap, ◌∙◌, arith, lit<, lit≤}
+use Rattle.std.specs.Bool.{◌==◌, nat_lt}
+use Rattle.std.specs.List.{count_by, list_all, list_any, range_with_len, All, slice_range}
+use Rattle.std.proofs.lemmas.Bool.{cases_lt, and_parts}
+use Rattle.std.proofs.lemmas.Bool.Decides.{Decides-eqb, Decides-ltb, Decides-and, Decides-at, Decides-like, Decides-by_and}
+use Rattle.std.proofs.lemmas.List.{get_or_past, get_or_default, get_or-take, get_or-drop, length-take-le, length-drop}
+use Rattle.std.proofs.lemmas.List.Folds.{sum_by-zero}
+use Rattle.std.proofs.lemmas.List.FromFn.{sum_by-map-range_with_len_more, get_or-map-range_with_len, length-map-range_with_len}
+use Rattle.cd_code.specs.Edc.{bits, remainder}
+use Rattle.cd_code.specs.Field.{AreBytes}
+use Rattle.cd_code.specs.Syndrome.{IsCodeWord, first_syndrome, second_syndrome}
+use Rattle.cd_sector.specs.CodeWords.{AllCodeWords, SumsOf, column_of, diagonal_of}
+use Rattle.cd_sector.specs.Consistent.{IsConsistent, consistent, is_mode1}
+use Rattle.cd_sector.specs.Defect.{Defect, all_syndromes, defect_of, is_broken, is_nonzero, is_sound}
+use Rattle.cd_sector.specs.Kind.{kind_of}
+use Rattle.cd_sector.specs.declared.kinds.SectorKind.{SectorKind}
+use Rattle.cd_sector.specs.declared.kinds.SectorKind.TheVariants.{NoSync, Mode0, Mode1, Mode2, Other}
+use Rattle.cd_sector.proofs.ParityLemmas.{AllCodeWords-by_number}
+
+-- ---- counting
+
+pub broken_none : (word : ℕ → List ℕ) → 0 ≡ count_by is_broken (all_syndromes word 0)
+unfolding all_syndromes
+broken_none word = refl
+
+pub one-le : (b : Bool) (one : ℕ) → one ≡ cond {A = ℕ} b 1 0 → one ≤ 1
+one-le true one e = omega (arith, e)
+one-le false one e = omega (arith, e)
+
+pub broken_more : (word : ℕ → List ℕ) (count i number one : ℕ) (plain weighted : List ℕ) → SumsOf word count plain weighted → i < count
+    → number ≡ count_by is_broken (all_syndromes word i)
+    → one ≡ cond {A = ℕ} (is_broken (get_or plain i 0, get_or weighted i 0)) 1 0
+    → number + one ≡ count_by is_broken (all_syndromes word (i + 1))
+unfolding all_syndromes
+broken_more word count i number one plain weighted sums h before e =
+    ap (λ n. n + one) before
+    ∙ ap (λ n. count_by is_broken (all_syndromes word i) + n)
+    (e
+    ∙ ap (λ a. cond {A = ℕ} (is_broken (a, get_or weighted i 0)) 1 0) (sums.first i h)
+    ∙ ap (λ b. cond {A = ℕ} (is_broken (first_syndrome (word i), b)) 1 0) (sums.second i h))
+    ∙ sym (sum_by-map-range_with_len_more (λ w. cond {A = ℕ} (is_broken w) 1 0) (λ k. (first_syndrome (word k), second_syndrome (word k))) 0 i i (omega arith))
+
+same_all : {X : Type 0} (p q : X → Bool) → ((x : X) → p x ≡ q x) → (xs : List X) → list_all p xs ≡ list_all q xs
+same_all p q h [] = refl
+same_all p q h (x ∷ xs) = ap (λ b. b && list_all p xs) (h x) ∙ ap (λ b. q x && b) (same_all p q h xs)
+
+one_or_none : (b : Bool) → (cond {A = ℕ} b 1 0 == 0) ≡ not b
+one_or_none true = refl
+one_or_none false = refl
+
+-- none is broken
+pub none_broken : (ws : List (ℕ × ℕ)) → (count_by is_broken ws == 0) ≡ list_all (λ w. not (is_broken w)) ws
+none_broken ws =
+    sum_by-zero (λ w. cond {A = ℕ} (is_broken w) 1 0) ws
+    ∙ same_all (λ w. cond {A = ℕ} (is_broken w) 1 0 == 0) (λ w. not (is_broken w)) (λ w. one_or_none (is_broken w)) ws
+
+not-and : (x y : Bool) → not (x && y) ≡ (not x || not y)
+not-and true y = refl
+not-and false y = refl
+
+-- not all are 0
+pub some_nonzero : (xs : List ℕ) → not (list_all (λ b. b == 0) xs) ≡ list_any is_nonzero xs
+some_nonzero [] = refl
+some_nonzero (x ∷ xs) = not-and (x == 0) (list_all (λ b. b == 0) xs) ∙ ap (λ r. not (x == 0) || r) (some_nonzero xs)
+
+-- ---- the members of the defect
+
+pub defect-zeros : (s : List ℕ) → (defect_of s).zeros ≡ slice_range s 2068 2076
+unfolding defect_of
+defect-zeros s = refl
+
+pub defect-rest : (s : List ℕ) → (defect_of s).rest ≡ remainder (bits (take 2068 s))
+unfolding defect_of
+defect-rest s = refl
+
+pub defect-columns : (s : List ℕ) → (defect_of s).columns ≡ all_syndromes (column_of s) 86
+unfolding defect_of
+defect-columns s = refl
+
+pub defect-diagonals : (s : List ℕ) → (defect_of s).diagonals ≡ all_syndromes (diagonal_of s) 52
+unfolding defect_of
+defect-diagonals s = refl
+
+-- ---- consistent
+
+both_zero : (x y : Bool) → not (not x || not y) ≡ (x && y)
+both_zero true true = refl
+both_zero true false = refl
+both_zero false y = refl
+
+whole_word : (w : ℕ × ℕ) → Decides (not (is_broken w)) ((w.0 ≡ 0) × (w.1 ≡ 0))
+whole_word w =
+    Decides-at (not (is_broken w)) ((w.0 == 0) && (w.1 == 0)) (both_zero (w.0 == 0) (w.1 == 0))
+    (Decides-and (w.0 == 0) (w.1 == 0) (Decides-eqb w.0 0) (Decides-eqb w.1 0))
+
+whole_words : (word : ℕ → List ℕ) (n : ℕ) → Decides (list_all (λ w. not (is_broken w)) (all_syndromes word n)) ((i : ℕ) → i < n → IsCodeWord (word i))
+unfolding all_syndromes
+whole_words word n =
+    let f : ℕ → ℕ × ℕ = λ i. (first_syndrome (word i), second_syndrome (word i)) in
+    let P : ℕ × ℕ → Type 0 = λ w. (w.0 ≡ 0) × (w.1 ≡ 0) in
+    let ws = map f (range_with_len 0 n) in
+    let long : length ws ≡ n = length-map-range_with_len f 0 n in
+    let at : (i : ℕ) (d : ℕ × ℕ) → i < n → get_or ws i d ≡ f i = λ i d h. get_or-map-range_with_len f 0 n i i d h (omega arith) in
+    let each = Decides-by_and (λ w. not (is_broken w)) P (list_all (λ w. not (is_broken w))) whole_word refl (λ x xs. refl) ws in
+    Decides-like (list_all (λ w. not (is_broken w)) ws)
+    (λ all i h.
+    let k : i < length ws = omega (arith, long) in
+    let both = rw (at i (0, 0) h) at (all i (0, 0) k) in
+    record { first = both.0; second = both.1 })
+    (λ words i d h.
+    let k : i < n = omega (arith, long) in
+    rw (at i d k) ((words i k).first, (words i k).second))
+    each
+
+all_bytes : (s : List ℕ) → Decides (list_all (λ b. nat_lt b 256) s) (AreBytes s)
+all_bytes s =
+    Decides-like (list_all (λ b. nat_lt b 256) s)
+    (λ all i. elim (cases_lt i (length s)) [
+      | inl inside ↦ all i 0 inside
+      | inr past ↦ let none : get_or s i 0 ≡ 0 = get_or_past s i 0 past in rw none (lit< tt)
+    ])
+    (λ bytes i d h. let same : get_or s i d ≡ get_or s i 0 = get_or_default s i d 0 h in rw same (bytes i))
+    (Decides-by_and (λ b. nat_lt b 256) (λ b. b < 256) (list_all (λ b. nat_lt b 256)) (λ b. Decides-ltb b 256) refl (λ x xs. refl) s)
+
+pub mode1_told : (k : SectorKind) → Decides (is_mode1 k) (k ≡ Mode1)
+mode1_told NoSync = (λ e. absurd cc, λ e. absurd cc)
+mode1_told Mode0 = (λ e. absurd cc, λ e. absurd cc)
+mode1_told Mode1 = (λ e. refl, λ e. refl)
+mode1_told Mode2 = (λ e. absurd cc, λ e. absurd cc)
+mode1_told Other = (λ e. absurd cc, λ e. absurd cc)
+
+pub range-byte : (s : List ℕ) (a b i : ℕ) → a + i < b → get_or (slice_range s a b) i 0 ≡ get_or s (a + i) 0
+range-byte s a b i h = get_or-take (b - a) (drop a s) i 0 (omega arith) ∙ get_or-drop a s i 0
+
+pub length-range : (s : List ℕ) (a b : ℕ) → a ≤ b → b ≤ length s → length (slice_range s a b) ≡ b - a
+length-range s a b h k = length-take-le (b - a) (drop a s) (omega (arith, length-drop a s))
+
+all_zeros : (s : List ℕ) → length s ≡ 2352
+    → Decides (list_all (λ b. b == 0) (slice_range s 2068 2076)) ((i : ℕ) → 2068 ≤ i → i < 2076 → get_or s i 0 ≡ 0)
+all_zeros s size =
+    let zs = slice_range s 2068 2076 in
+    let long : length zs ≡ 8 = length-range s 2068 2076 (lit≤ tt) (omega (arith, size)) in
+    Decides-like (list_all (λ b. b == 0) zs)
+    (λ all i low high.
+    let k : i - 2068 < length zs = omega (arith, long) in
+    let e : 2068 + (i - 2068) ≡ i = omega arith in
+    sym (range-byte s 2068 2076 (i - 2068) (omega arith) ∙ ap (λ n. get_or s n 0) e) ∙ all (i - 2068) 0 k)
+    (λ zero_at i d h.
+    let k : i < 8 = omega (arith, long) in
+    get_or_default zs i d 0 h ∙ range-byte s 2068 2076 i (omega arith) ∙ zero_at (2068 + i) (omega arith) (omega arith))
+    (Decides-by_and (λ b. b == 0) (λ b. b ≡ 0) (list_all (λ b. b == 0)) (λ b. Decides-eqb b 0) refl (λ x xs. refl) zs)
+
+-- the test by its parts
+abbrev pub parts_of : List ℕ → Bool
+parts_of s =
+    ((list_all (λ b. b == 0) (slice_range s 2068 2076) && (remainder (bits (take 2068 s)) == 0))
+    && list_all (λ w. not (is_broken w)) (all_syndromes (column_of s) 86))
+    && list_all (λ w. not (is_broken w)) (all_syndromes (diagonal_of s) 52)
+
+sound-parts : (s : List ℕ) → is_sound (defect_of s) ≡ parts_of s
+unfolding defect_of
+sound-parts s = refl
+
+pub consistent-parts : (s : List ℕ)
+    → consistent s ≡ ((((length s == 2352) && list_all (λ b. nat_lt b 256) s) && is_mode1 (kind_of s)) && parts_of s)
+unfolding consistent
+consistent-parts s =
+    ap (λ b. (((length s == 2352) && list_all (λ b. nat_lt b 256) s) && is_mode1 (kind_of s)) && b) (sound-parts s)
+
+abbrev IsWhole : List ℕ → Type 0
+IsWhole s =
+    (((((i : ℕ) → 2068 ≤ i → i < 2076 → get_or s i 0 ≡ 0) × (remainder (bits (take 2068 s)) ≡ 0))
+    × ((i : ℕ) → i < 86 → IsCodeWord (column_of s i)))
+    × ((i : ℕ) → i < 52 → IsCodeWord (diagonal_of s i)))
+
+parts_told : (s : List ℕ) → length s ≡ 2352 → Decides (parts_of s) (IsWhole s)
+parts_told s size =
+    let a = list_all (λ b. b == 0) (slice_range s 2068 2076) in
+    let b = remainder (bits (take 2068 s)) == 0 in
+    let c = list_all (λ w. not (is_broken w)) (all_syndromes (column_of s) 86) in
+    let d = list_all (λ w. not (is_broken w)) (all_syndromes (diagonal_of s) 52) in
+    Decides-and ((a && b) && c) d
+    (Decides-and (a && b) c (Decides-and a b (all_zeros s size) (Decides-eqb (remainder (bits (take 2068 s))) 0)) (whole_words (column_of s) 86))
+    (whole_words (diagonal_of s) 52)
+
+by_plane : (s : List ℕ) → IsConsistent s → IsWhole s
+by_plane s h = (
+  ((h.zeros, h.edc), λ i k. h.words.columns (i % 2) (i / 2) (omega arith) (omega arith)),
+  λ i k. h.words.diagonals (i % 2) (i / 2) (omega arith) (omega arith),
+)
+
+-- the test of a sector is the record of its parts
+pub consistent-told : (s : List ℕ) → Decides (consistent s) (IsConsistent s)
+consistent-told s =
+    let size = length s == 2352 in
+    let bytes = list_all (λ b. nat_lt b 256) s in
+    let mode = is_mode1 (kind_of s) in (
+      λ e.
+          let outer = and_parts ((size && bytes) && mode) (parts_of s) (sym (consistent-parts s) ∙ e) in
+          let inner = and_parts (size && bytes) mode outer.0 in
+          let first = and_parts size bytes inner.0 in
+          let long : length s ≡ 2352 = (Decides-eqb (length s) 2352).0 first.0 in
+          let whole = (parts_told s long).0 outer.1 in
+          record {
+            size = long;
+            bytes = (all_bytes s).0 first.1;
+            mode = (mode1_told (kind_of s)).0 inner.1;
+            zeros = whole.0.0.0;
+            edc = whole.0.0.1;
+            words = AllCodeWords-by_number s whole.0.1 whole.1;
+          },
+      λ h.
+          let one : size ≡ true = (Decides-eqb (length s) 2352).1 h.size in
+          let two : bytes ≡ true = (all_bytes s).1 h.bytes in
+          let three : mode ≡ true = (mode1_told (kind_of s)).1 h.mode in
+          let four : parts_of s ≡ true = (parts_told s h.size).1 (by_plane s h) in
+          consistent-parts s
+          ∙ ap (λ b. ((b && bytes) && mode) && parts_of s) one
+          ∙ ap (λ b. ((true && b) && mode) && parts_of s) two
+          ∙ ap (λ b. ((true && true) && b) && parts_of s) three
+          ∙ ap (λ b. ((true && true) && true) && b) four,
+    )
+
+and_grouped : (x y z : Bool) → ((x && y) && z) ≡ (x && (y && z))
+and_grouped true y z = refl
+and_grouped false y z = refl
+
+-- the test of a list that is a sector, as it is made: part by part
+pub consistent-chain : (s : List ℕ) → length s ≡ 2352 → AreBytes s
+    → consistent s
+    ≡ (is_mode1 (kind_of s)
+    && ((list_all (λ b. b == 0) (slice_range s 2068 2076) && (remainder (bits (take 2068 s)) == 0))
+    && ((count_by is_broken (all_syndromes (column_of s) 86) == 0)
+    && (count_by is_broken (all_syndromes (diagonal_of s) 52) == 0))))
+consistent-chain s long bytes =
+    let a = list_all (λ b. b == 0) (slice_range s 2068 2076) in
+    let b = remainder (bits (take 2068 s)) == 0 in
+    let ws = all_syndromes (column_of s) 86 in
+    let us = all_syndromes (diagonal_of s) 52 in
+    let mode = is_mode1 (kind_of s) in
+    consistent-parts s
+    ∙ ap (λ t. ((t && list_all (λ b. nat_lt b 256) s) && mode) && parts_of s) ((Decides-eqb (length s) 2352).1 long)
+    ∙ ap (λ t. ((true && t) && mode) && parts_of s) ((all_bytes s).1 bytes)
+    ∙ ap (λ t. mode && (((a && b) && t) && list_all (λ w. not (is_broken w)) us)) (sym (none_broken ws))
+    ∙ ap (λ t. mode && (((a && b) && (count_by is_broken ws == 0)) && t)) (sym (none_broken us))
+    ∙ ap (λ t. mode && t) (and_grouped (a && b) (count_by is_broken ws == 0) (count_by is_broken us == 0))
+
+-- the way of the code, where the kind is right, and where it is not
+pub consistent-true : (s bytes : List ℕ) (mode whole : Bool) → length s ≡ 2352 → AreBytes s → bytes ≡ s
+    → mode ≡ is_mode1 (kind_of s) → mode ≡ true
+    → whole
+    ≡ ((list_all (λ b. b == 0) (slice_range bytes 2068 2076) && (remainder (bits (take 2068 bytes)) == 0))
+    && ((count_by is_broken (all_syndromes (column_of bytes) 86) == 0)
+    && (count_by is_broken (all_syndromes (diagonal_of bytes) 52) == 0)))
+    → whole ≡ consistent s
+consistent-true s bytes mode whole size each same e held f =
+    let right : List ℕ → Bool =
+    (λ v. (list_all (λ b. b == 0) (slice_range v 2068 2076) && (remainder (bits (take 2068 v)) == 0))
+    && ((count_by is_broken (all_syndromes (column_of v) 86) == 0) && (count_by is_broken (all_syndromes (diagonal_of v) 52) == 0))) in
+    sym (consistent-chain s size each ∙ ap (λ t. t && right s) (sym e ∙ held) ∙ ap right (sym same) ∙ sym f)
+
+pub consistent-false : (s : List ℕ) (mode : Bool) → mode ≡ is_mode1 (kind_of s) → mode ≡ false → false ≡ consistent s
+consistent-false s mode e fails =
+    let sized = (length s == 2352) && list_all (λ b. nat_lt b 256) s in
+    sym (consistent-parts s ∙ ap (λ t. (sized && t) && parts_of s) (sym e ∙ fails) ∙ ap (λ t. t && parts_of s) (and_false sized))
+  where
+    and_false : (x : Bool) → (x && false) ≡ false
+    and_false true = refl
+    and_false false = refl

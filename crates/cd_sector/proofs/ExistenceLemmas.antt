@@ -1,0 +1,246 @@
+-- For any header and user data there is a consistent sector.
+use Rattle.std.proofs.Common.{◌≡◌, ℕ, zero, suc, ◌+◌, ◌*◌, ◌/◌, ◌%◌, ◌<◌, ◌≤◌, ◌⊎◌, inl, inr, true, nat_lt, List, [], ◌∷◌, ◌++◌, length, map, get_or, set, take, drop, replicate, bit_xor, refl, sym, ap, ◌∙◌, arith, lit<, lit≤}
+use Rattle.std.specs.Int.{to_le_bytes, w32}
+use Rattle.std.specs.List.{range_with_len}
+use Rattle.std.proofs.lemmas.Bool.{cases_lt, agree_below_at, ltb-true}
+use Rattle.std.proofs.lemmas.Bool.Decides.{eqb_tells}
+use Rattle.std.proofs.lemmas.Grind.{get_or-set_at}
+use Rattle.std.proofs.lemmas.List.{get_or-set_other, get_or_past, get_or-replicate, length-set, take_more, length-take-le, length-drop, length-append, length-replicate, get_or-drop}
+use Rattle.std.proofs.lemmas.List.FromFn.{get_or-map-range_with_len}
+use Rattle.std.proofs.lemmas.Nat.{xor_lt}
+use Rattle.cd_code.specs.Edc.{IsEdc, bits, remainder}
+use Rattle.cd_code.specs.Field.{AreBytes, double, product}
+use Rattle.cd_code.specs.Syndrome.{IsCodeWord, first_syndrome, second_syndrome}
+use Rattle.cd_code.proofs.EdcLemmas.{IsEdc-nil, IsEdc-push}
+use Rattle.cd_code.proofs.EdcTableLemmas.{word_at-IsEdc}
+use Rattle.cd_code.proofs.FieldLemmas.{product-lt}
+use Rattle.cd_code.proofs.SyndromeLemmas.{IsCodeWord-pair, first_syndrome-lt}
+use Rattle.cd_sector.specs.CodeWords.{AllCodeWords, IsPair, SumsOf, bytes_at, column_input, column_of, diagonal_input, diagonal_of}
+use Rattle.cd_sector.specs.Kind.{sync_field}
+use Rattle.cd_sector.specs.Laws.{IsEncoded}
+use Rattle.cd_sector.proofs.PlaceLemmas.{AreBytes-bytes_at}
+use Rattle.cd_sector.proofs.ParityLemmas.{Filled, Filled-none, Filled-more, columns_made, diagonals_made, column_of-same, AllCodeWords-by_number}
+use Rattle.cd_sector.proofs.SectorLemmas.{AreBytes-take, AreBytes-append, AreBytes-word, content_of, edc_written, encoded}
+
+-- ---- an EDC word
+
+one_byte : (y : ℕ) → y < 256 → (t : ℕ) × IsEdc (y ∷ []) t
+one_byte y h = (_, word_at-IsEdc 0 y (lit< tt) h)
+
+edc_of_front : (v : List ℕ) → AreBytes v → (n : ℕ) → n ≤ length v → (w : ℕ) × IsEdc (take n v) w
+edc_of_front v h zero k = (0, IsEdc-nil)
+edc_of_front v h (suc n) k =
+    let before = edc_of_front v h n (omega arith) in
+    let x = get_or v n 0 in
+    let low : before.0 % 256 < 256 = omega arith in
+    let t = one_byte (bit_xor (before.0 % 256) x) (xor_lt 8 (before.0 % 256) x low (h n)) in
+    let longer : take n v ++ x ∷ [] ≡ take (suc n) v =
+    sym (take_more v n 0 (omega arith)) ∙ (let e : n + 1 ≡ suc n = omega arith in ap (λ m. take m v) e) in
+    (bit_xor (before.0 / 256) t.0, rw longer at (IsEdc-push (take n v) before.0 x t.0 before.1 t.1))
+
+-- ---- pairs
+
+AreBytes-set : (s : List ℕ) (i b : ℕ) → AreBytes s → b < 256 → AreBytes (set s i b)
+AreBytes-set s i b h k = λ j. elim (cases_lt j (length s)) [
+  | inl inside ↦ elim (eqb_tells j i) [
+    | inl same ↦ let e = get_or-set_at s i j b 0 same.1 (omega (arith, same.1)) in rw e k
+    | inr other ↦ let e = get_or-set_other s i j b 0 other.1 in rw e (h j)
+  ]
+  | inr past ↦
+      let none : get_or (set s i b) j 0 ≡ 0 = get_or_past (set s i b) j 0 (omega (arith, length-set s i b)) in
+      rw none (lit< tt)
+]
+
+-- what stands behind the other words, with n pairs filled in
+record Made (plain weighted : List ℕ) (start count n : ℕ) (old : List ℕ) : Type 0 where
+  sector : List ℕ
+  size : length sector ≡ length old
+  bytes : AreBytes sector
+  filled : Filled (λ i. IsPair (get_or plain i 0) (get_or weighted i 0)) start count n old sector
+
+made : (plain weighted : List ℕ) (start count : ℕ) (old : List ℕ) → ((i : ℕ) → i < count → get_or plain i 0 < 256)
+    → AreBytes old → start + 2 * count ≤ length old → (n : ℕ) → n ≤ count → Made plain weighted start count n old
+made plain weighted start count old low h room zero k = record {
+  sector = old;
+  size = refl;
+  bytes = h;
+  filled = Filled-none (λ i. IsPair (get_or plain i 0) (get_or weighted i 0)) start count old;
+}
+made plain weighted start count old low h room (suc n) k =
+    let before = made plain weighted start count old low h room n (omega arith) in
+    let p = get_or plain n 0 in
+    let q = get_or weighted n 0 in
+    let a = product 244 (bit_xor p (double (double q))) in
+    let b = bit_xor p a in
+    let p_lt : p < 256 = low n (omega arith) in
+    let a_lt : a < 256 = product-lt 244 (bit_xor p (double (double q))) (lit< tt) in
+    let b_lt : b < 256 = xor_lt 8 p a p_lt a_lt in
+    let pair : IsPair p q a b = (λ v _ firsts seconds. IsCodeWord-pair v p q a p_lt firsts seconds refl) in
+    let one = set before.sector (start + n) a in
+    let two = set one (start + count + n) b in
+    let e : n + 1 ≡ suc n = omega arith in
+    record {
+      sector = two;
+      size = length-set one (start + count + n) b ∙ length-set before.sector (start + n) a ∙ before.size;
+      bytes = AreBytes-set one (start + count + n) b (AreBytes-set before.sector (start + n) a before.bytes a_lt) b_lt;
+      filled =
+          rw e at
+          (Filled-more (λ i. IsPair (get_or plain i 0) (get_or weighted i 0)) start count n old before.sector a b
+          (omega arith) (omega (arith, before.size)) pair before.filled);
+    }
+
+sums_of : (ℕ → List ℕ) → ℕ → List ℕ
+sums_of word n = map (λ i. first_syndrome (word i)) (range_with_len 0 n)
+
+weighted_sums_of : (ℕ → List ℕ) → ℕ → List ℕ
+weighted_sums_of word n = map (λ i. second_syndrome (word i)) (range_with_len 0 n)
+
+SumsOf-word : (word : ℕ → List ℕ) (n : ℕ) → SumsOf word n (sums_of word n) (weighted_sums_of word n)
+unfolding sums_of weighted_sums_of
+SumsOf-word word n = record {
+  first = λ i h. get_or-map-range_with_len (λ k. first_syndrome (word k)) 0 n i i 0 h (omega arith);
+  second = λ i h. get_or-map-range_with_len (λ k. second_syndrome (word k)) 0 n i i 0 h (omega arith);
+}
+
+sums-lt : (s : List ℕ) (places : ℕ → List ℕ) (n : ℕ) (plain weighted : List ℕ) → AreBytes s → SumsOf (λ i. bytes_at s (places i)) n plain weighted
+    → (i : ℕ) → i < n → get_or plain i 0 < 256
+sums-lt s places n plain weighted h sums i k =
+    let e = sums.first i k in
+    rw e (first_syndrome-lt (bytes_at s (places i)) (AreBytes-bytes_at s (places i) h))
+
+-- ---- a sector
+
+AreBytes-replicate : (n : ℕ) → AreBytes (replicate n 0)
+AreBytes-replicate n = λ i. elim (cases_lt i n) [
+  | inl inside ↦ let e : get_or (replicate {A = ℕ} n 0) i 0 ≡ 0 = get_or-replicate n i 0 0 inside in rw e (lit< tt)
+  | inr past ↦
+      let e : get_or (replicate {A = ℕ} n 0) i 0 ≡ 0 = get_or_past (replicate n 0) i 0 (omega (arith, length-replicate {A = ℕ} n 0)) in
+      rw e (lit< tt)
+]
+
+AreBytes-sync : AreBytes sync_field
+AreBytes-sync = λ i. elim (cases_lt i 12) [
+  | inl inside ↦ sync_byte i inside
+  | inr past ↦ let e : get_or sync_field i 0 ≡ 0 = get_or_past sync_field i 0 past in rw e (lit< tt)
+]
+  where
+    sync_byte : (i : ℕ) → i < 12 → get_or sync_field i 0 < 256
+    sync_byte i h = ltb-true (get_or sync_field i 0) 256 (agree_below_at (λ k. nat_lt (get_or sync_field k 0) 256) (λ _. true) 12 i refl h)
+
+AreBytes-content : (header user : List ℕ) → AreBytes header → AreBytes user → AreBytes (content_of header user)
+AreBytes-content header user h k =
+    AreBytes-append sync_field (header ++ 1 ∷ (user ++ replicate 288 0)) AreBytes-sync
+    (AreBytes-append header (1 ∷ (user ++ replicate 288 0)) h
+    (AreBytes-append (1 ∷ []) (user ++ replicate 288 0) (one (lit< tt))
+    (AreBytes-append user (replicate 288 0) k (AreBytes-replicate 288))))
+  where
+    one : 1 < 256 → AreBytes (1 ∷ [])
+    one e zero = e
+    one e (suc i) = lit< tt
+
+length-content : (header user : List ℕ) → length header ≡ 3 → length user ≡ 2048 → length (content_of header user) ≡ 2352
+length-content header user h k =
+    let rest = user ++ replicate 288 0 in
+    let a : length rest ≡ 2336 = length-append user (replicate 288 0) ∙ ap (λ n. n + length (replicate {A = ℕ} 288 0)) k ∙ ap (λ n. 2048 + n) (length-replicate {A = ℕ} 288 0) in
+    let b : length (header ++ 1 ∷ rest) ≡ 2340 = length-append header (1 ∷ rest) ∙ ap (λ n. n + length (1 ∷ rest)) h ∙ ap (λ n. 3 + suc n) a in
+    length-append sync_field (header ++ 1 ∷ rest) ∙ ap (λ n. 12 + n) b
+
+AreBytes-drop : (s : List ℕ) (n : ℕ) → AreBytes s → AreBytes (drop n s)
+AreBytes-drop s n h = λ i. rw (get_or-drop n s i 0) (h (n + i))
+
+-- the same front with an EDC behind it
+record Checked (old : List ℕ) : Type 0 where
+  sector : List ℕ
+  size : length sector ≡ 2352
+  bytes : AreBytes sector
+  divides : remainder (bits (take 2068 sector)) ≡ 0
+  stays : (k : ℕ) → (k < 2064) ⊎ (2068 ≤ k) → get_or sector k 0 ≡ get_or old k 0
+
+checked : (old : List ℕ) → length old ≡ 2352 → AreBytes old → Checked old
+checked old size h =
+    let word = edc_of_front old h 2064 (omega (arith, size)) in
+    let four = to_le_bytes w32 word.0 in
+    let front_len : length (take 2064 old) ≡ 2064 = length-take-le 2064 old (omega (arith, size)) in
+    let back_len : length (drop 2068 old) ≡ 284 = length-drop 2068 old ∙ omega (arith, size) in
+    let new = take 2064 old ++ (four ++ drop 2068 old) in
+    let parts = edc_written old new four size refl refl in
+    record {
+      sector = new;
+      size =
+          length-append (take 2064 old) (four ++ drop 2068 old)
+          ∙ ap (λ n. n + length (four ++ drop 2068 old)) front_len
+          ∙ ap (λ n. 2064 + n) (length-append four (drop 2068 old) ∙ ap (λ n. 4 + n) back_len);
+      bytes =
+          AreBytes-append (take 2064 old) (four ++ drop 2068 old) (AreBytes-take old 2064 h)
+          (AreBytes-append four (drop 2068 old) (AreBytes-word word.0) (AreBytes-drop old 2068 h));
+      divides = ap (λ v. remainder (bits v)) parts.0 ∙ word.1.divides;
+      stays = parts.1;
+    }
+
+-- the same front with code words behind it: the columns, then all
+record WithColumns (old : List ℕ) : Type 0 where
+  sector : List ℕ
+  size : length sector ≡ 2352
+  bytes : AreBytes sector
+  words : (i : ℕ) → i < 86 → IsCodeWord (column_of sector i)
+  stays : (k : ℕ) → k < 2076 → get_or sector k 0 ≡ get_or old k 0
+
+with_columns : (old : List ℕ) → length old ≡ 2352 → AreBytes old → WithColumns old
+with_columns old size h =
+    let word : ℕ → List ℕ = λ i. bytes_at old (column_input (i % 2) (i / 2)) in
+    let plain = sums_of word 86 in
+    let weighted = weighted_sums_of word 86 in
+    let sums = SumsOf-word word 86 in
+    let p = made plain weighted 2076 86 old (sums-lt old (λ i. column_input (i % 2) (i / 2)) 86 plain weighted h sums) h
+    (omega (arith, size)) 86 (lit≤ tt) in
+    record {
+      sector = p.sector;
+      size = p.size ∙ size;
+      bytes = p.bytes;
+      words = columns_made old p.sector plain weighted h sums p.filled;
+      stays = λ k low. p.filled.stays k (inl low);
+    }
+
+record WithWords (old : List ℕ) : Type 0 where
+  sector : List ℕ
+  size : length sector ≡ 2352
+  bytes : AreBytes sector
+  words : AllCodeWords sector
+  stays : (k : ℕ) → k < 2076 → get_or sector k 0 ≡ get_or old k 0
+
+with_diagonals : (old : List ℕ) → WithColumns old → WithWords old
+with_diagonals old p =
+    let word : ℕ → List ℕ = λ i. bytes_at p.sector (diagonal_input (i % 2) (i / 2)) in
+    let plain = sums_of word 52 in
+    let weighted = weighted_sums_of word 52 in
+    let sums = SumsOf-word word 52 in
+    let q = made plain weighted 2248 52 p.sector (sums-lt p.sector (λ i. diagonal_input (i % 2) (i / 2)) 52 plain weighted p.bytes sums) p.bytes
+    (omega (arith, p.size)) 52 (lit≤ tt) in
+    record {
+      sector = q.sector;
+      size = q.size ∙ p.size;
+      bytes = q.bytes;
+      words =
+          AllCodeWords-by_number q.sector
+          (λ i h. rw (column_of-same p.sector q.sector i h (λ k low. sym (q.filled.stays k (inl low)))) at (p.words i h))
+          (diagonals_made p.sector q.sector plain weighted p.bytes sums q.filled);
+      stays = λ k low. q.filled.stays k (inl (below_q k low)) ∙ p.stays k low;
+    }
+  where
+    below_q : (k : ℕ) → k < 2076 → k < 2248
+    below_q k h = omega arith
+
+found_from : (header user : List ℕ) → length header ≡ 3 → length user ≡ 2048
+    → (edc : Checked (content_of header user)) → WithWords edc.sector → (s : List ℕ) × IsEncoded header user s
+found_from header user header_size user_size edc made = (
+  made.sector,
+  encoded header user edc.sector made.sector header_size user_size edc.size made.size made.bytes edc.divides
+      (λ k _ side. edc.stays k side) made.stays made.words,
+)
+
+pub sector_found : (header user : List ℕ) → AreBytes header → length header ≡ 3 → AreBytes user → length user ≡ 2048
+    → (s : List ℕ) × IsEncoded header user s
+sector_found header user header_bytes header_size user_bytes user_size =
+    let edc = checked (content_of header user) (length-content header user header_size user_size)
+    (AreBytes-content header user header_bytes user_bytes) in
+    found_from header user header_size user_size edc (with_diagonals edc.sector (with_columns edc.sector edc.size edc.bytes))

@@ -1,0 +1,145 @@
+//! What is wrong with a sector, and whether it is consistent.
+
+ghost use Rattle.std.specs.Prelude.{◌≡◌, ℕ, ◌==◌, ◌<◌, ◌≤◌, ◌&&◌, cond, count_by, List, slice_index, slice_range, take};
+ghost use Rattle.std.specs.List.{list_all, list_any};
+ghost use Rattle.cd_code.specs.Edc.{bits, remainder};
+ghost use Rattle.cd_sector.specs.CodeWords.{SumsOf, column_of, diagonal_of};
+ghost use Rattle.cd_sector.specs.Consistent.{consistent, is_mode1};
+ghost use Rattle.cd_sector.specs.Kind.{kind_of};
+ghost use Rattle.cd_sector.specs.Defect.{all_syndromes, defect_of, is_broken, is_nonzero};
+
+use crate::diagonals::diagonal_sums;
+use crate::kinds::{SectorKind, kind};
+use crate::parity::{COLUMNS, DIAGONALS};
+use crate::sector::{SECTOR_SIZE, Sector};
+use cd_code::{ColumnSums, column_sums, edc_of};
+
+/// Which parts of a sector are wrong (ECMA-130, Annex A and the clause on the digital data structure of sectors).
+#[derive(Clone, Copy, Debug, PartialEq, Eq)]
+pub struct DefectReport {
+    /// A byte of the Intermediate field, 2068 to 2075, is not `00`.
+    pub zeros: bool,
+    /// The EDC is not that of bytes 0 to 2063.
+    pub edc: bool,
+    /// The number of P columns, of 86, that are no code words.
+    pub p: u8,
+    /// The number of Q diagonals, of 52, that are no code words.
+    pub q: u8,
+}
+
+/// What is wrong with a sector of any kind, taken as one of Mode 1 (ECMA-130, Annex A and the clause on the
+/// digital data structure of sectors).
+pub fn defect(s: &Sector) -> DefectReport
+    ensures zeros { result.zeros ≡ list_any is_nonzero (defect_of s.now).zeros }
+    ensures edc { result.edc ≡ is_nonzero (defect_of s.now).rest }
+    ensures p { result.p ≡ count_by is_broken (defect_of s.now).columns }
+    ensures q { result.q ≡ count_by is_broken (defect_of s.now).diagonals }
+{
+    let bytes = s.bytes();
+    DefectReport {
+        zeros: !has_zeros(bytes),
+        edc: !has_edc(bytes),
+        p: broken_columns(bytes),
+        q: broken_diagonals(bytes),
+    }
+}
+
+/// Whether a sector is of Mode 1, without any defect (ECMA-130, Annex A and the clause on the digital data
+/// structure of sectors).
+pub fn is_consistent(s: &Sector) -> bool
+    ensures { result ≡ consistent s.now }
+{
+    has_mode1(s) && is_whole(s.bytes())
+}
+
+/// Whether a sector has the sync field, and mode byte 01.
+fn has_mode1(s: &Sector) -> bool
+    ensures { result ≡ is_mode1 (kind_of s.now) }
+{
+    match kind(s) {
+        SectorKind::Mode1 => true,
+        SectorKind::NoSync | SectorKind::Mode0 | SectorKind::Mode2 | SectorKind::Other => false,
+    }
+}
+
+/// Whether the Intermediate field, the EDC and the code words are right, in this order.
+fn is_whole(bytes: &[u8; SECTOR_SIZE]) -> bool
+    ensures { result ≡ ((list_all (λ b. b == 0) (slice_range bytes.now 2068 2076)
+        && (remainder (bits (take 2068 bytes.now)) == 0))
+        && ((count_by is_broken (all_syndromes (column_of bytes.now) 86) == 0)
+        && (count_by is_broken (all_syndromes (diagonal_of bytes.now) 52) == 0))) }
+{
+    has_sound_front(bytes) && has_code_words(bytes)
+}
+
+/// Whether the Intermediate field and the EDC are right.
+fn has_sound_front(bytes: &[u8; SECTOR_SIZE]) -> bool
+    ensures { result ≡ (list_all (λ b. b == 0) (slice_range bytes.now 2068 2076)
+        && (remainder (bits (take 2068 bytes.now)) == 0)) }
+{
+    has_zeros(bytes) && has_edc(bytes)
+}
+
+/// Whether all columns and all diagonals are code words.
+fn has_code_words(bytes: &[u8; SECTOR_SIZE]) -> bool
+    ensures { result ≡ ((count_by is_broken (all_syndromes (column_of bytes.now) 86) == 0)
+        && (count_by is_broken (all_syndromes (diagonal_of bytes.now) 52) == 0)) }
+{
+    broken_columns(bytes) == 0 && broken_diagonals(bytes) == 0
+}
+
+/// Whether the Intermediate field is all 00.
+fn has_zeros(bytes: &[u8; SECTOR_SIZE]) -> bool
+    ensures { result ≡ list_all (λ b. b == 0) (slice_range bytes.now 2068 2076) }
+{
+    bytes[2068..2076].iter().all(|b| *b == 0)
+}
+
+/// Whether the EDC is that of the bytes before it.
+fn has_edc(bytes: &[u8; SECTOR_SIZE]) -> bool
+    ensures { result ≡ (remainder (bits (take 2068 bytes.now)) == 0) }
+{
+    let word = edc_of(&bytes[..2064]).to_le_bytes();
+    bytes[2064..2068] == word[..]
+}
+
+/// How many columns are no code words.
+fn broken_columns(bytes: &[u8; SECTOR_SIZE]) -> u8
+    ensures { result ≡ count_by is_broken (all_syndromes (column_of bytes.now) 86) }
+{
+    broken(&all_column_sums(bytes), COLUMNS)
+}
+
+/// How many diagonals are no code words.
+fn broken_diagonals(bytes: &[u8; SECTOR_SIZE]) -> u8
+    ensures { result ≡ count_by is_broken (all_syndromes (diagonal_of bytes.now) 52) }
+{
+    broken(&diagonal_sums(bytes), DIAGONALS)
+}
+
+/// The syndromes of each column with its parity.
+fn all_column_sums(bytes: &[u8; SECTOR_SIZE]) -> ColumnSums
+    ensures { SumsOf (column_of bytes.now) 86 result.plain result.weighted }
+{
+    column_sums(bytes[12..2248].first_chunk().unwrap())
+}
+
+/// How many of the first `count` words have sums that are not both 0.
+fn broken(sums: &ColumnSums, count: usize) -> u8
+    requires { count ≤ 86 }
+    ensures { (word : ℕ → List ℕ) → SumsOf word count sums.now.plain sums.now.weighted
+        → result ≡ count_by is_broken (all_syndromes word count) }
+{
+    let mut number = 0;
+    for i in 0..count {
+        number += one_if_broken(sums.plain[i], sums.weighted[i]);
+    }
+    number
+}
+
+/// 1 for a word with these syndromes that is no code word, else 0.
+fn one_if_broken(plain: u8, weighted: u8) -> u8
+    ensures { result ≡ cond (is_broken (plain, weighted)) 1 0 }
+{
+    if plain != 0 || weighted != 0 { 1 } else { 0 }
+}
