@@ -1,7 +1,7 @@
 -- Counting words that are no code words, and the test of a whole sector.
-use Rattle.std.proofs.Common.{◌≡◌, ℕ, zero, suc, ◌+◌, ◌-◌, ◌*◌, ◌/◌, ◌%◌, ◌<◌, ◌≤◌, inl, inr, Bool, true, false, not, ◌&&◌, ◌||◌, cond, Decides, List, [], ◌∷◌, ◌++◌, length, map, get_or, take, drop, refl, sym, ap, ◌∙◌, arith, lit<, lit≤}
+use Rattle.std.proofs.Common.{◌≡◌, ℕ, ◌+◌, ◌-◌, ◌/◌, ◌%◌, ◌<◌, ◌≤◌, inl, inr, Bool, true, false, not, ◌&&◌, ◌||◌, cond, Decides, List, [], ◌∷◌, length, map, get_or, take, drop, refl, sym, ap, ◌∙◌, arith, lit<, lit≤}
 use Rattle.std.specs.Bool.{◌==◌, nat_lt}
-use Rattle.std.specs.List.{count_by, list_all, list_any, range_with_len, All, slice_range}
+use Rattle.std.specs.List.{count_by, list_all, list_any, range_with_len, slice_range}
 use Rattle.std.proofs.lemmas.Bool.{cases_lt, and_parts}
 use Rattle.std.proofs.lemmas.Bool.Decides.{Decides-eqb, Decides-ltb, Decides-and, Decides-at, Decides-like, Decides-by_and}
 use Rattle.std.proofs.lemmas.List.{get_or_past, get_or_default, get_or-take, get_or-drop, length-take-le, length-drop}
@@ -10,9 +10,9 @@ use Rattle.std.proofs.lemmas.List.FromFn.{sum_by-map-range_with_len_more, get_or
 use Rattle.cd_code.specs.Edc.{bits, remainder}
 use Rattle.cd_code.specs.Field.{AreBytes}
 use Rattle.cd_code.specs.Syndrome.{IsCodeWord, first_syndrome, second_syndrome}
-use Rattle.cd_sector.specs.CodeWords.{AllCodeWords, SumsOf, column_of, diagonal_of}
+use Rattle.cd_sector.specs.CodeWords.{SumsOf, column_of, diagonal_of}
 use Rattle.cd_sector.specs.Consistent.{IsConsistent, consistent, is_mode1}
-use Rattle.cd_sector.specs.Defect.{Defect, all_syndromes, defect_of, is_broken, is_nonzero, is_sound}
+use Rattle.cd_sector.specs.Defect.{all_syndromes, defect_of, is_broken, is_nonzero, is_sound}
 use Rattle.cd_sector.specs.Kind.{kind_of}
 use Rattle.cd_sector.specs.declared.kinds.SectorKind.{SectorKind}
 use Rattle.cd_sector.specs.declared.kinds.SectorKind.TheVariants.{NoSync, Mode0, Mode1, Mode2, Other}

@@ -15,7 +15,7 @@ use Rattle.cd_code.proofs.EdcLemmas.{IsEdc-nil, IsEdc-push}
 use Rattle.cd_code.proofs.EdcTableLemmas.{word_at-IsEdc}
 use Rattle.cd_code.proofs.FieldLemmas.{product-lt}
 use Rattle.cd_code.proofs.SyndromeLemmas.{IsCodeWord-pair, first_syndrome-lt}
-use Rattle.cd_sector.specs.CodeWords.{AllCodeWords, IsPair, SumsOf, bytes_at, column_input, column_of, diagonal_input, diagonal_of}
+use Rattle.cd_sector.specs.CodeWords.{AllCodeWords, IsPair, SumsOf, bytes_at, column_input, column_of, diagonal_input}
 use Rattle.cd_sector.specs.Kind.{sync_field}
 use Rattle.cd_sector.specs.Laws.{IsEncoded}
 use Rattle.cd_sector.proofs.PlaceLemmas.{AreBytes-bytes_at}

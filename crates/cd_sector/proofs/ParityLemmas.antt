@@ -1,6 +1,5 @@
 -- Sums of words of bytes, a row of bytes at a time, and pairs that are filled in one after the other.
-use Rattle.std.proofs.Common.{◌≡◌, ◌≢◌, ℕ, zero, suc, ◌+◌, ◌*◌, ◌/◌, ◌%◌, ◌<◌, ◌≤◌, ◌⊎◌, inl, inr, List, [], ◌∷◌, ◌++◌, length, get_or, set, replicate, take, drop, map, bit_xor, refl, sym, ap, ◌∙◌, arith, append_assoc}
-use Rattle.std.specs.List.{range_with_len}
+use Rattle.std.proofs.Common.{◌≡◌, ◌≢◌, ℕ, ◌+◌, ◌*◌, ◌/◌, ◌%◌, ◌<◌, ◌≤◌, ◌⊎◌, inl, inr, List, [], ◌∷◌, ◌++◌, length, get_or, set, replicate, take, drop, bit_xor, refl, sym, ap, ◌∙◌, arith, append_assoc}
 use Rattle.std.proofs.lemmas.Bool.{cases_lt}
 use Rattle.std.proofs.lemmas.List.{ext_get_or, get_or-set_same, get_or-set_other, length-set, take_more, take_all, get_or-take, get_or-drop, length-take-le, length-drop}
 use Rattle.std.proofs.lemmas.Grind.{get_or-set_at}
@@ -11,8 +10,8 @@ use Rattle.std.proofs.lemmas.Simd.{get_or-replicate}
 use Rattle.cd_code.specs.Field.{AreBytes, double}
 use Rattle.cd_code.specs.Syndrome.{IsCodeWord, column, first_syndrome, second_syndrome}
 use Rattle.cd_code.proofs.SyndromeLemmas.{first_syndrome-nil, second_syndrome-nil, first_syndrome-push, second_syndrome-push}
-use Rattle.cd_sector.specs.CodeWords.{AllCodeWords, IsPair, SumsOf, place_of, bytes_at, column_input, column_of, column_places, diagonal_input, diagonal_of, diagonal_places}
-use Rattle.cd_sector.proofs.PlaceLemmas.{length-bytes_at, bytes_at-byte, bytes_at-same, AreBytes-bytes_at, length-column_input, column_input_place, length-column_places, column_place, length-diagonal_input, diagonal_input_place, length-diagonal_places, diagonal_place, diagonal_place-first, diagonal_place-second, column_bytes-parts, diagonal_bytes-parts}
+use Rattle.cd_sector.specs.CodeWords.{AllCodeWords, IsPair, SumsOf, place_of, bytes_at, column_input, column_of, column_places, diagonal_input, diagonal_of}
+use Rattle.cd_sector.proofs.PlaceLemmas.{length-bytes_at, bytes_at-byte, bytes_at-same, AreBytes-bytes_at, length-column_input, column_input_place, length-column_places, column_place, length-diagonal_input, diagonal_input_place, column_bytes-parts, diagonal_bytes-parts}
 
 -- ---- sums
 

@@ -1,18 +1,17 @@
 -- A sector's layout by place, and why its content leaves only one consistent sector.
-use Rattle.std.proofs.Common.{◌≡◌, ℕ, zero, suc, ◌+◌, ◌-◌, ◌*◌, ◌/◌, ◌%◌, ◌<◌, ◌≤◌, ◌⊎◌, inl, inr, min, Bool, true, false, cond, Decides, append_assoc, List, [], ◌∷◌, ◌++◌, length, get_or, take, drop, replicate, refl, sym, ap, subst, ◌∙◌, arith, lit<, lit≤}
+use Rattle.std.proofs.Common.{◌≡◌, ℕ, zero, suc, ◌+◌, ◌-◌, ◌*◌, ◌/◌, ◌%◌, ◌<◌, ◌≤◌, ◌⊎◌, inl, inr, Bool, true, false, cond, Decides, append_assoc, List, [], ◌∷◌, ◌++◌, length, get_or, take, drop, replicate, refl, sym, ap, subst, ◌∙◌, arith, lit<, lit≤}
 use Rattle.std.specs.Bool.{◌==◌, nat_eq, if◌then◌else◌}
 use Rattle.std.specs.Int.{to_le_bytes, w32}
 use Rattle.std.specs.List.{slice_range, starts_with}
 use Rattle.std.proofs.lemmas.Bool.{cases_lt}
 use Rattle.std.proofs.lemmas.Bool.Decides.{Decides-eqb, Decides-like, eqb_tells}
-use Rattle.std.proofs.lemmas.List.{ext_get_or, get_or-take, get_or-drop, get_or_past, get_or_append_left, get_or-append-add, get_or-append_right, get_or-replicate, length-take, length-take-le, length-drop, length-append, take-append-drop, append_cancel_left, drop-drop}
+use Rattle.std.proofs.lemmas.List.{ext_get_or, get_or-take, get_or-drop, get_or_past, get_or_append_left, get_or-append-add, get_or-append_right, get_or-replicate, length-take, length-take-le, length-append, take-append-drop, append_cancel_left, drop-drop}
 use Rattle.std.proofs.Math.Seq.{take-add, take-append_seam}
 use Rattle.std.proofs.Math.ListN.{drop_of_length-le}
 use Rattle.std.specs.Bool.{one_answer}
-use Rattle.std.proofs.lemmas.Slice.Eq.{starts_is, slice_eq-Decides}
+use Rattle.std.proofs.lemmas.Slice.Eq.{starts_is}
 use Rattle.cd_code.specs.Edc.{IsEdc, bits, remainder}
 use Rattle.cd_code.specs.Field.{AreBytes}
-use Rattle.cd_code.specs.Laws.{DifferAtMostInLast}
 use Rattle.cd_code.specs.Syndrome.{IsCodeWord, SameSums}
 use Rattle.cd_code.proofs.EdcLemmas.{edc_unique}
 use Rattle.cd_code.proofs.SyndromeLemmas.{pair_unique}

@@ -1,5 +1,5 @@
 -- What follows from the definitions alone; each is the contract of a function of `laws.rt`.
-use Rattle.std.specs.Prelude.{◌≡◌, ℕ, Bool, true, Decides, List, [], ◌∷◌, ◌++◌, length}
+use Rattle.std.specs.Prelude.{◌≡◌, ℕ, Decides, List, [], ◌∷◌, ◌++◌, length}
 use Rattle.cd_code.specs.Field.{AreBytes}
 use Rattle.cd_sector.specs.Consistent.{IsConsistent, consistent, header_of, user_of}
 

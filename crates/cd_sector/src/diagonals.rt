@@ -8,6 +8,12 @@ use crate::parity::{DIAGONALS, Q_PARITY};
 use crate::sector::SECTOR_SIZE;
 use cd_code::{ColumnSums, row_sums};
 
+/// The number of places of a plane that are input of the diagonals: 26 rows of 43.
+const PLACES: usize = 1118;
+
+/// The place at which the last of these rows begins.
+const LAST_ROW: usize = 1075;
+
 /// The syndromes of the 43 bytes of each diagonal in front of its parity.
 pub(crate) fn diagonal_input_sums(bytes: &[u8; SECTOR_SIZE]) -> ColumnSums
     ensures { SumsOf (λ i. bytes_at bytes.now (diagonal_input (i % 2) (i / 2))) 52 result.plain result.weighted }
@@ -40,14 +46,14 @@ fn input_row(bytes: &[u8; SECTOR_SIZE], m: usize) -> [u8; 86]
         → slice_index result i ≡ slice_index bytes.now (place_of (i % 2) ((44 * m + 43 * (i / 2)) % 1118)) }
 {
     let mut row = [0; 86];
-    let mut place = 44 * m % 1118;
+    let mut place = 44 * m % PLACES;
     for n in 0..26usize {
         row[2 * n] = bytes[12 + 2 * place];
         row[2 * n + 1] = bytes[13 + 2 * place];
-        place = if place < 1075 {
+        place = if place < LAST_ROW {
             place + 43
         } else {
-            place - 1075
+            place - LAST_ROW
         };
     }
     row

@@ -3,9 +3,13 @@
 
 mod program;
 mod run;
+mod script;
 
 use std::process::ExitCode;
 
 fn main(rt: HostRuntime) -> ExitCode {
     ExitCode::from(program::run(&rt))
 }
+
+#[cfg(test)]
+mod tests;

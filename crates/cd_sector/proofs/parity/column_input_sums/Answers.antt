@@ -1,4 +1,4 @@
-use Rattle.std.proofs.Common.{◌≡◌, ◌<◌, ◌/◌, ◌%◌, length, take, drop, refl, arith, lit≤}
+use Rattle.std.proofs.Common.{◌≡◌, ◌<◌, ◌/◌, ◌%◌, length, take, drop, refl, arith}
 use Rattle.cd_sector.specs.CodeWords.{bytes_at, column_input}
 use Rattle.cd_sector.proofs.ParityLemmas.{SumsOf-none, SumsOf-column_row, SumsOf-column_input, row_of_columns, rows_of_columns}
 use Rattle.cd_sector.proofs.parity.column_input_sums.Goals as goal

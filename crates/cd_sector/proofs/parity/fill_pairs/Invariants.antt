@@ -1,4 +1,4 @@
-use Rattle.std.proofs.Common.{◌+◌, ◌*◌, get_or}
+use Rattle.std.proofs.Common.{get_or}
 use Rattle.cd_sector.specs.CodeWords.{IsPair}
 use Rattle.cd_sector.proofs.ParityLemmas.{Filled}
 use Rattle.cd_sector.proofs.parity.fill_pairs.Given as goal

@@ -1,0 +1,6 @@
+mod AddLemmas
+mod KeepLemmas
+mod PlaceFacts
+mod UserLemmas
+mod WordLemmas
+mod WritingLemmas

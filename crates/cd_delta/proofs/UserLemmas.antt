@@ -1,0 +1,239 @@
+-- A sector into whose user data bytes were written, and then the EDC.
+use Rattle.std.proofs.Common.{◌≡◌, ◌⊎◌, ℕ, ◌+◌, ◌-◌, ◌<◌, ◌≤◌, inl, inr, List, ◌++◌, length, get_or, take, drop, refl, sym, ap, ◌∙◌, arith}
+use lib.Pointwise.{pointwise}
+use Rattle.std.specs.Prelude.{nat_eq, if◌then◌else◌, slice_range}
+use Rattle.std.specs.Int.{from_le_bytes, to_le_bytes, w32}
+use Rattle.std.proofs.Math.Seq.{take-add}
+use Rattle.std.proofs.lemmas.Bool.{cases_lt}
+use Rattle.std.proofs.lemmas.List.{ext_get_or, get_or-append_right, get_or_append_left, get_or-drop, get_or-take, length-append, length-drop, length-take-le}
+use Rattle.std.proofs.lemmas.Nat.{from_le_bytes-to_le_bytes_4}
+use Rattle.cd_code.specs.Edc.{IsEdc, bits, remainder}
+use Rattle.cd_code.specs.Field.{AreBytes}
+use Rattle.cd_sector.specs.CodeWords.{SameSyndromes}
+use Rattle.cd_sector.specs.Consistent.{IsConsistent, header_of, user_of}
+use Rattle.cd_sector.specs.Kind.{kind_of, kind_of_mode, sync_field}
+use Rattle.cd_sector.specs.declared.kinds.SectorKind.{SectorKind}
+use Rattle.cd_sector.specs.declared.kinds.SectorKind.TheVariants.{NoSync}
+use Rattle.cd_delta.specs.Writing.{IsWritten, WithEdc, written}
+use Rattle.cd_delta.proofs.WritingLemmas.{AllCodeWords-same, SameSyndromes-trans}
+
+-- ---- parts of equal bytes
+
+length-part : (s : List ℕ) (a n : ℕ) → a + n ≤ length s → length (take n (drop a s)) ≡ n
+length-part s a n h = length-take-le n (drop a s) (omega (arith, length-drop a s))
+
+get_or-part : (s : List ℕ) (a n k : ℕ) → k < n → get_or (take n (drop a s)) k 0 ≡ get_or s (a + k) 0
+get_or-part s a n k h = get_or-take n (drop a s) k 0 h ∙ get_or-drop a s k 0
+
+-- n bytes from a on
+pub part-same : (s t : List ℕ) (a n : ℕ) → a + n ≤ length s → length s ≡ length t
+    → ((i : ℕ) → a ≤ i → i < a + n → get_or s i 0 ≡ get_or t i 0) → take n (drop a s) ≡ take n (drop a t)
+part-same s t a n inside same_size h =
+    let one = length-part s a n inside in
+    let two = length-part t a n (omega arith) in
+    ext_get_or 0 (take n (drop a s)) (take n (drop a t)) (one ∙ sym two)
+    (λ k within.
+    let below : k < n = omega arith in
+    get_or-part s a n k below ∙ h (a + k) (omega arith) (omega arith) ∙ sym (get_or-part t a n k below))
+
+pub front-same : (s t : List ℕ) (n : ℕ) → n ≤ length s → length s ≡ length t
+    → ((i : ℕ) → i < n → get_or s i 0 ≡ get_or t i 0) → take n s ≡ take n t
+front-same s t n inside same_size h =
+    part-same s t 0 n (omega arith) same_size (λ i _ below. h i (omega arith))
+
+-- n bytes from a on that are those of a list
+pub part-list : (s v : List ℕ) (a : ℕ) → a + length v ≤ length s → ((i : ℕ) → i < length v → get_or s (a + i) 0 ≡ get_or v i 0)
+    → take (length v) (drop a s) ≡ v
+part-list s v a inside h =
+    let one = length-part s a (length v) inside in
+    ext_get_or 0 (take (length v) (drop a s)) v one
+    (λ k within.
+    let below : k < length v = omega arith in
+    get_or-part s a (length v) k below ∙ h k below)
+
+-- ---- kind and header
+
+kind_from : List ℕ → ℕ → SectorKind
+kind_from front mode = if pointwise nat_eq sync_field front then kind_of_mode mode else NoSync
+
+pub kind_of-same : (s t : List ℕ) → 16 ≤ length s → length s ≡ length t → ((i : ℕ) → i < 16 → get_or s i 0 ≡ get_or t i 0)
+    → kind_of s ≡ kind_of t
+unfolding kind_of kind_from
+kind_of-same s t inside same_size h =
+    let front : take 12 s ≡ take 12 t = front-same s t 12 (omega arith) same_size (λ i below. h i (omega arith)) in
+    ap (λ v. kind_from v (get_or s 15 0)) front ∙ ap (kind_from (take 12 t)) (h 15 (omega arith))
+
+pub header_of-same : (s t : List ℕ) → 16 ≤ length s → length s ≡ length t → ((i : ℕ) → i < 16 → get_or s i 0 ≡ get_or t i 0)
+    → header_of s ≡ header_of t
+unfolding header_of
+header_of-same s t inside same_size h = part-same s t 12 4 inside same_size (λ i _ below. h i below)
+
+-- ---- the user data
+
+length-written : (user : List ℕ) (offset : ℕ) (bytes : List ℕ) → offset + length bytes ≤ length user
+    → length (written user offset bytes) ≡ length user
+unfolding written
+length-written user offset bytes h =
+    let back = drop (offset + length bytes) user in
+    let one = length-append (take offset user) (bytes ++ back) in
+    let two = length-append bytes back in
+    let three = length-take-le offset user (omega arith) in
+    let four = length-drop (offset + length bytes) user in
+    omega arith
+
+written-range : (user : List ℕ) (offset : ℕ) (bytes : List ℕ) (k : ℕ) → offset + length bytes ≤ length user
+    → k < length bytes → get_or (written user offset bytes) (offset + k) 0 ≡ get_or bytes k 0
+unfolding written
+written-range user offset bytes k h below =
+    let back = drop (offset + length bytes) user in
+    let front = length-take-le offset user (omega arith) in
+    let index : offset + k - offset ≡ k = omega arith in
+    get_or-append_right (take offset user) (bytes ++ back) offset (offset + k) 0 front (omega arith)
+    ∙ ap (λ n. get_or (bytes ++ back) n 0) index
+    ∙ get_or_append_left bytes back 0 k below
+
+written-other : (user : List ℕ) (offset : ℕ) (bytes : List ℕ) (k : ℕ) → offset + length bytes ≤ length user
+    → (k < offset) ⊎ (offset + length bytes ≤ k) → get_or (written user offset bytes) k 0 ≡ get_or user k 0
+unfolding written
+written-other user offset bytes k h out =
+    let back = drop (offset + length bytes) user in
+    let front = length-take-le offset user (omega arith) in
+    elim out [
+      | inl before ↦
+          get_or_append_left (take offset user) (bytes ++ back) 0 k (omega arith) ∙ get_or-take offset user k 0 before
+      | inr behind ↦
+          let index : offset + length bytes + (k - offset - length bytes) ≡ k = omega arith in
+          get_or-append_right (take offset user) (bytes ++ back) offset k 0 front (omega arith)
+          ∙ get_or-append_right bytes back (length bytes) (k - offset) 0 refl (omega arith)
+          ∙ get_or-drop (offset + length bytes) user (k - offset - length bytes) 0
+          ∙ ap (λ n. get_or user n 0) index
+    ]
+
+pub user_of-written : (old new : List ℕ) (offset : ℕ) (bytes : List ℕ) → offset + length bytes ≤ 2048
+    → length old ≡ 2352 → length new ≡ length old
+    → ((i : ℕ) → i < length bytes → get_or new (16 + offset + i) 0 ≡ get_or bytes i 0)
+    → ((i : ℕ) → i < 2064 → (i < 16 + offset) ⊎ (16 + offset + length bytes ≤ i) → get_or new i 0 ≡ get_or old i 0)
+    → user_of new ≡ written (user_of old) offset bytes
+unfolding user_of
+user_of-written old new offset bytes inside size same_size range others =
+    let user = take 2048 (drop 16 old) in
+    let long = length-part old 16 2048 (omega arith) in
+    let new_long = length-part new 16 2048 (omega arith) in
+    let fits : offset + length bytes ≤ length user = omega arith in
+    let whole = length-written user offset bytes fits in
+    let other : (k : ℕ) → k < 2048 → (k < offset) ⊎ (offset + length bytes ≤ k)
+    → get_or (take 2048 (drop 16 new)) k 0 ≡ get_or (written user offset bytes) k 0 =
+    λ k below out.
+    let there : (16 + k < 16 + offset) ⊎ (16 + offset + length bytes ≤ 16 + k) =
+    elim out [ inl before ↦ inl (omega arith) | inr behind ↦ inr (omega arith) ] in
+    get_or-part new 16 2048 k below ∙ others (16 + k) (omega arith) there
+    ∙ sym (get_or-part old 16 2048 k below) ∙ sym (written-other user offset bytes k fits out) in
+    ext_get_or 0 (take 2048 (drop 16 new)) (written user offset bytes) (omega arith)
+    (λ k within.
+    let below : k < 2048 = omega arith in
+    elim (cases_lt k offset) [
+      | inl before ↦ other k below (inl before)
+      | inr from ↦ elim (cases_lt k (offset + length bytes)) [
+        | inl here ↦
+            let j : k ≡ offset + (k - offset) = omega arith in
+            let at : 16 + k ≡ 16 + offset + (k - offset) = omega arith in
+            get_or-part new 16 2048 k below
+            ∙ ap (λ n. get_or new n 0) at
+            ∙ range (k - offset) (omega arith)
+            ∙ sym (written-range user offset bytes (k - offset) fits (omega arith))
+            ∙ ap (λ n. get_or (written user offset bytes) n 0) (sym j)
+        | inr behind ↦ other k below (inr behind)
+      ]
+    ])
+
+-- ---- the EDC
+
+divides-with : (s : List ℕ) (m w : ℕ) → IsEdc (take m s) w → take 4 (drop m s) ≡ to_le_bytes w32 w → remainder (bits (take (m + 4) s)) ≡ 0
+divides-with s m w word at =
+    ap (λ v. remainder (bits v)) (take-add m 4 s ∙ ap (λ v. take m s ++ v) at) ∙ word.divides
+
+-- the word of the first bytes, written behind them
+pub WithEdc-written : (old new four : List ℕ) (w : ℕ) → length old ≡ 2352 → AreBytes old → IsEdc (take 2064 old) w
+    → four ≡ to_le_bytes w32 w → IsWritten old new 2064 (length four) four → WithEdc old new
+WithEdc-written old new four w size each word at h =
+    let same_size = h.size in
+    let front : take 2064 new ≡ take 2064 old = front-same new old 2064 (omega arith) same_size (λ i below. h.front i (omega arith) (inl below)) in
+    let long : length four ≡ 4 = ap length at in
+    let four_at : take (length four) (drop 2064 new) ≡ four =
+    part-list new four 2064 (omega arith) (λ i below. h.range i (omega arith)) in
+    record {
+      word = w;
+      size = h.size ∙ size;
+      each = h.each each;
+      same_size = h.size;
+      is_word = rw front word;
+      at_end = ap (λ n. take n (drop 2064 new)) (sym long) ∙ four_at ∙ at;
+      front = λ i below out. elim out [ inl before ↦ h.front i below (inl before) | inr behind ↦ h.front i below (inr (omega arith)) ];
+      syndromes = h.syndromes;
+    }
+
+-- ---- both
+
+-- bytes in the user data, and then the EDC
+pub record IsChanged (old t new : List ℕ) (offset : ℕ) (bytes : List ℕ) : Type 0 where
+  pub fits : offset + length bytes ≤ 2048
+  pub user : IsWritten old t (16 + offset) (length bytes) bytes
+  pub edc : WithEdc t new
+
+size-of : {old t new : List ℕ} {offset : ℕ} {bytes : List ℕ} → IsChanged old t new offset bytes → length new ≡ length old
+size-of h = h.edc.same_size ∙ h.user.size
+
+long-of : {old t new : List ℕ} {offset : ℕ} {bytes : List ℕ} → IsChanged old t new offset bytes → length old ≡ 2352
+long-of h = sym (size-of h) ∙ h.edc.size
+
+pub stays-of : {old t new : List ℕ} {offset : ℕ} {bytes : List ℕ} → IsChanged old t new offset bytes
+    → (i : ℕ) → (i < 16) ⊎ ((2068 ≤ i) × (i < 2076)) → get_or new i 0 ≡ get_or old i 0
+stays-of h i out =
+    let fits = h.fits in
+    elim out [
+      | inl before ↦ h.edc.front i (omega arith) (inl (omega arith)) ∙ h.user.front i (omega arith) (inl (omega arith))
+      | inr behind ↦ h.edc.front i behind.1 (inr behind.0) ∙ h.user.front i behind.1 (inr (omega arith))
+    ]
+
+pub user-of : {old t new : List ℕ} {offset : ℕ} {bytes : List ℕ} → IsChanged old t new offset bytes
+    → user_of new ≡ written (user_of old) offset bytes
+user-of {old} {t} {new} {offset} {bytes} h =
+    let fits = h.fits in
+    user_of-written old new offset bytes fits (long-of h) (size-of h)
+    (λ i below. h.edc.front (16 + offset + i) (omega arith) (inl (omega arith)) ∙ h.user.range i below)
+    (λ i below out. h.edc.front i (omega arith) (inl below) ∙ h.user.front i (omega arith) out)
+
+pub edc-of : {old t new : List ℕ} {offset : ℕ} {bytes : List ℕ} → IsChanged old t new offset bytes
+    → IsEdc (take 2064 new) (from_le_bytes w32 (slice_range new 2064 2068))
+edc-of {old} {t} {new} h =
+    let w = h.edc.word in
+    let e : from_le_bytes w32 (slice_range new 2064 2068) ≡ w =
+    ap (from_le_bytes w32) h.edc.at_end ∙ from_le_bytes-to_le_bytes_4 w h.edc.is_word.fits in
+    rw e h.edc.is_word
+
+pub divides-of : {old t new : List ℕ} {offset : ℕ} {bytes : List ℕ} → IsChanged old t new offset bytes
+    → remainder (bits (take 2068 new)) ≡ 0
+divides-of {old} {t} {new} h = divides-with new 2064 h.edc.word h.edc.is_word h.edc.at_end
+
+pub kind-of : {old t new : List ℕ} {offset : ℕ} {bytes : List ℕ} → IsChanged old t new offset bytes → kind_of new ≡ kind_of old
+kind-of {old} {t} {new} h =
+    let size = h.edc.size in
+    kind_of-same new old (omega arith) (size-of h) (λ i below. stays-of h i (inl below))
+
+pub header-of : {old t new : List ℕ} {offset : ℕ} {bytes : List ℕ} → IsChanged old t new offset bytes → header_of new ≡ header_of old
+header-of {old} {t} {new} h =
+    let size = h.edc.size in
+    header_of-same new old (omega arith) (size-of h) (λ i below. stays-of h i (inl below))
+
+pub syndromes-of : {old t new : List ℕ} {offset : ℕ} {bytes : List ℕ} → IsChanged old t new offset bytes → SameSyndromes new old
+syndromes-of h = SameSyndromes-trans h.edc.syndromes h.user.syndromes
+
+pub IsConsistent-of : {old t new : List ℕ} {offset : ℕ} {bytes : List ℕ} → IsChanged old t new offset bytes → IsConsistent old → IsConsistent new
+IsConsistent-of h sound = record {
+  size = h.edc.size;
+  bytes = h.edc.each;
+  mode = kind-of h ∙ sound.mode;
+  zeros = λ i from below. stays-of h i (inr (from, below)) ∙ sound.zeros i from below;
+  edc = divides-of h;
+  words = AllCodeWords-same (syndromes-of h) sound.words;
+}

@@ -1,0 +1,193 @@
+-- Bytes written into a sector and carried into its parity, one after another or by a difference sector.
+use Rattle.std.proofs.Common.{◌≡◌, ◌≢◌, ◌⊎◌, ℕ, ◌+◌, ◌<◌, ◌≤◌, inl, inr, List, length, get_or, bit_xor, refl, sym, ap, ◌∙◌, arith}
+use Rattle.std.specs.Prelude.{replicate, slice_set}
+use Rattle.std.specs.Int.Bits.{xor_zero_r}
+use Rattle.std.proofs.lemmas.Bool.{cases_eq, cases_lt}
+use Rattle.std.proofs.lemmas.List.{get_or-replicate, get_or-set_other, get_or-set_same, get_or_past, length-replicate, length-set}
+use Rattle.cd_code.specs.Field.{AreBytes}
+use Rattle.cd_code.specs.Syndrome.{SameSums, IsCodeWord, first_syndrome, second_syndrome}
+use Rattle.cd_code.proofs.SyndromeLemmas.{first_syndrome-sum, second_syndrome-sum}
+use Rattle.cd_code.proofs.XorLemmas.{xor_twice_left}
+use Rattle.cd_sector.specs.CodeWords.{AllCodeWords, SameSyndromes, bytes_at, column_places, diagonal_places}
+use Rattle.cd_sector.proofs.PlaceLemmas.{bytes_at-byte, length-bytes_at}
+use Rattle.cd_delta.specs.Writing.{IsWritten}
+
+pub SameSyndromes-refl : (s : List ℕ) → SameSyndromes s s
+SameSyndromes-refl s = record {
+  columns = λ plane n hp hn. record { first = refl; second = refl };
+  diagonals = λ plane n hp hn. record { first = refl; second = refl };
+}
+
+SameSums-trans : {u v w : List ℕ} → SameSums u v → SameSums v w → SameSums u w
+SameSums-trans h k = record { first = h.first ∙ k.first; second = h.second ∙ k.second }
+
+pub SameSyndromes-trans : {s t u : List ℕ} → SameSyndromes s t → SameSyndromes t u → SameSyndromes s u
+SameSyndromes-trans h k = record {
+  columns = λ plane n hp hn. SameSums-trans (h.columns plane n hp hn) (k.columns plane n hp hn);
+  diagonals = λ plane n hp hn. SameSums-trans (h.diagonals plane n hp hn) (k.diagonals plane n hp hn);
+}
+
+-- where all syndromes of one are 0, so are those of the other
+pub AllCodeWords-same : {s t : List ℕ} → SameSyndromes s t → AllCodeWords t → AllCodeWords s
+AllCodeWords-same h k = record {
+  columns = λ plane n hp hn.
+      let same = h.columns plane n hp hn in
+      let word = k.columns plane n hp hn in
+      record { first = same.first ∙ word.first; second = same.second ∙ word.second };
+  diagonals = λ plane n hp hn.
+      let same = h.diagonals plane n hp hn in
+      let word = k.diagonals plane n hp hn in
+      record { first = same.first ∙ word.first; second = same.second ∙ word.second };
+}
+
+-- ---- one byte after another
+
+pub IsWritten-none : (s : List ℕ) (place : ℕ) (bytes : List ℕ) → IsWritten s s place 0 bytes
+IsWritten-none s place bytes = record {
+  size = refl;
+  each = λ h. h;
+  range = λ i h. absurd (omega arith);
+  front = λ i below out. refl;
+  syndromes = SameSyndromes-refl s;
+}
+
+pub IsWritten-more : {old t : List ℕ} {place i : ℕ} {bytes : List ℕ} (new : List ℕ) → IsWritten old t place i bytes
+    → length new ≡ length t → AreBytes new → get_or new (place + i) 0 ≡ get_or bytes i 0
+    → ((k : ℕ) → k < 2076 → k ≢ place + i → get_or new k 0 ≡ get_or t k 0) → SameSyndromes new t → place + i < 2076
+    → IsWritten old new place (i + 1) bytes
+IsWritten-more {old} {t} {place} {i} {bytes} new w size each here others same inside = record {
+  size = size ∙ w.size;
+  each = λ _. each;
+  range = λ k h. elim (cases_eq k i) [
+    | inl e ↦ ap (λ n. get_or new (place + n) 0) e ∙ here ∙ ap (λ n. get_or bytes n 0) (sym e)
+    | inr not ↦ others (place + k) (omega arith) (λ e. not (omega arith)) ∙ w.range k (omega arith)
+  ];
+  front = λ k below out. elim out [
+    | inl before ↦ others k below (λ e. omega arith) ∙ w.front k below (inl before)
+    | inr behind ↦ others k below (λ e. omega arith) ∙ w.front k below (inr (omega arith))
+  ];
+  syndromes = SameSyndromes-trans same w.syndromes;
+}
+
+-- ---- by a difference sector
+
+-- u is the sum, byte by byte, of s and t
+pub record IsSum (u s t : List ℕ) : Type 0 where
+  pub byte : (i : ℕ) → get_or u i 0 ≡ bit_xor (get_or s i 0) (get_or t i 0)
+
+bytes_at-sum : (u s t ps : List ℕ) → IsSum u s t → (i : ℕ) → i < length (bytes_at u ps)
+    → get_or (bytes_at u ps) i 0 ≡ bit_xor (get_or (bytes_at s ps) i 0) (get_or (bytes_at t ps) i 0)
+bytes_at-sum u s t ps h i inside =
+    let within : i < length ps = (let long = length-bytes_at u ps in omega arith) in
+    bytes_at-byte u ps i within
+    ∙ h.byte (get_or ps i 0)
+    ∙ ap (λ z. bit_xor z (get_or t (get_or ps i 0) 0)) (sym (bytes_at-byte s ps i within))
+    ∙ ap (bit_xor (get_or (bytes_at s ps) i 0)) (sym (bytes_at-byte t ps i within))
+
+-- a code word added to the bytes of a word leaves its syndromes
+SameSums-sum : (u s t ps : List ℕ) → IsSum u s t → IsCodeWord (bytes_at t ps) → SameSums (bytes_at u ps) (bytes_at s ps)
+SameSums-sum u s t ps h word =
+    let left = length-bytes_at u ps ∙ sym (length-bytes_at s ps) in
+    let right = length-bytes_at u ps ∙ sym (length-bytes_at t ps) in
+    record {
+      first =
+          first_syndrome-sum (bytes_at u ps) (bytes_at s ps) (bytes_at t ps) left right (bytes_at-sum u s t ps h)
+          ∙ ap (bit_xor (first_syndrome (bytes_at s ps))) word.first ∙ xor_zero_r (first_syndrome (bytes_at s ps));
+      second =
+          second_syndrome-sum (bytes_at u ps) (bytes_at s ps) (bytes_at t ps) left right (bytes_at-sum u s t ps h)
+          ∙ ap (bit_xor (second_syndrome (bytes_at s ps))) word.second ∙ xor_zero_r (second_syndrome (bytes_at s ps));
+    }
+
+pub SameSyndromes-sum : (u s t : List ℕ) → IsSum u s t → AllCodeWords t → SameSyndromes u s
+SameSyndromes-sum u s t h words = record {
+  columns = λ plane n hp hn. SameSums-sum u s t (column_places plane n) h (words.columns plane n hp hn);
+  diagonals = λ plane n hp hn. SameSums-sum u s t (diagonal_places plane n) h (words.diagonals plane n hp hn);
+}
+
+pub IsWritten-sum : (old new t : List ℕ) (place : ℕ) (bytes : List ℕ) → length new ≡ length old → AreBytes new
+    → IsSum new old t → AllCodeWords t
+    → ((i : ℕ) → i < length bytes → get_or t (place + i) 0 ≡ bit_xor (get_or old (place + i) 0) (get_or bytes i 0))
+    → ((i : ℕ) → i < 2076 → (i < place) ⊎ (place + length bytes ≤ i) → get_or t i 0 ≡ 0)
+    → IsWritten old new place (length bytes) bytes
+IsWritten-sum old new t place bytes size each sum words inside outside = record {
+  size = size;
+  each = λ _. each;
+  range = λ i h.
+      sum.byte (place + i)
+      ∙ ap (bit_xor (get_or old (place + i) 0)) (inside i h)
+      ∙ xor_twice_left (get_or old (place + i) 0) (get_or bytes i 0);
+  front = λ i below out.
+      sum.byte i ∙ ap (bit_xor (get_or old i 0)) (outside i below out) ∙ xor_zero_r (get_or old i 0);
+  syndromes = SameSyndromes-sum new old t sum words;
+}
+
+-- ---- the loops of it
+
+pub size-zeros : (v : List ℕ) (n : ℕ) → v ≡ replicate n 0 → length v ≡ n
+size-zeros v n e = ap length e ∙ length-replicate n 0
+
+pub byte-zeros : (v : List ℕ) (n k : ℕ) → v ≡ replicate n 0 → get_or v k 0 ≡ 0
+byte-zeros v n k e = elim (cases_lt k n) [
+  | inl inside ↦ ap (λ u. get_or u k 0) e ∙ get_or-replicate n k 0 0 inside
+  | inr past ↦ get_or_past v k 0 (omega (arith, size-zeros v n e))
+]
+
+-- one more byte of a sector's differences from a list, which stand from `place` on
+pub record AreDifferences (old bytes : List ℕ) (place count : ℕ) (v : List ℕ) : Type 0 where
+  pub size : length v ≡ 2352
+  pub range : (k : ℕ) → k < count → get_or v (place + k) 0 ≡ bit_xor (get_or old (place + k) 0) (get_or bytes k 0)
+  pub elsewhere : (k : ℕ) → (k < place) ⊎ (place + count ≤ k) → get_or v k 0 ≡ 0
+
+pub AreDifferences-none : (old bytes : List ℕ) (place : ℕ) (v : List ℕ) → v ≡ replicate 2352 0 → AreDifferences old bytes place 0 v
+AreDifferences-none old bytes place v e = record {
+  size = size-zeros v 2352 e;
+  range = λ k h. absurd (omega arith);
+  elsewhere = λ k out. byte-zeros v 2352 k e;
+}
+
+pub AreDifferences-more : {old bytes : List ℕ} {place i : ℕ} {v : List ℕ} → place + i < 2352 → AreDifferences old bytes place i v
+    → AreDifferences old bytes place (i + 1) (slice_set v (place + i) (bit_xor (get_or old (place + i) 0) (get_or bytes i 0)))
+AreDifferences-more {old} {bytes} {place} {i} {v} inside h =
+    let x = bit_xor (get_or old (place + i) 0) (get_or bytes i 0) in
+    let long = h.size in
+    record {
+      size = length-set v (place + i) x ∙ h.size;
+      range = λ k below. elim (cases_eq k i) [
+        | inl e ↦
+            ap (λ n. get_or (slice_set v (place + i) x) (place + n) 0) e
+            ∙ get_or-set_same v (place + i) x 0 (omega arith)
+            ∙ ap (λ n. bit_xor (get_or old (place + n) 0) (get_or bytes n 0)) (sym e)
+        | inr not ↦ get_or-set_other v (place + i) (place + k) x 0 (λ e. not (omega arith)) ∙ h.range k (omega arith)
+      ];
+      elsewhere = λ k out. elim out [
+        | inl before ↦ get_or-set_other v (place + i) k x 0 (λ e. omega arith) ∙ h.elsewhere k (inl before)
+        | inr behind ↦ get_or-set_other v (place + i) k x 0 (λ e. omega arith) ∙ h.elsewhere k (inr (omega arith))
+      ];
+    }
+
+-- the first `count` bytes of u are those of the sum of s and t, and the others those of s
+pub record AreSums (s t : List ℕ) (count : ℕ) (u : List ℕ) : Type 0 where
+  pub size : length u ≡ 2352
+  pub below : (k : ℕ) → k < count → get_or u k 0 ≡ bit_xor (get_or s k 0) (get_or t k 0)
+  pub from : (k : ℕ) → count ≤ k → get_or u k 0 ≡ get_or s k 0
+
+pub AreSums-none : (s t : List ℕ) → length s ≡ 2352 → AreSums s t 0 s
+AreSums-none s t size = record { size = size; below = λ k h. absurd (omega arith); from = λ k h. refl }
+
+pub AreSums-more : {s t : List ℕ} {i : ℕ} {u : List ℕ} → i < 2352 → AreSums s t i u
+    → AreSums s t (i + 1) (slice_set u i (bit_xor (get_or u i 0) (get_or t i 0)))
+AreSums-more {s} {t} {i} {u} inside h =
+    let x = bit_xor (get_or u i 0) (get_or t i 0) in
+    let long = h.size in
+    record {
+      size = length-set u i x ∙ h.size;
+      below = λ k lower. elim (cases_eq k i) [
+        | inl e ↦
+            ap (λ n. get_or (slice_set u i x) n 0) e
+            ∙ get_or-set_same u i x 0 (omega arith)
+            ∙ ap (λ z. bit_xor z (get_or t i 0)) (h.from i (omega arith))
+            ∙ ap (λ n. bit_xor (get_or s n 0) (get_or t n 0)) (sym e)
+        | inr not ↦ get_or-set_other u i k x 0 not ∙ h.below k (omega arith)
+      ];
+      from = λ k higher. get_or-set_other u i k x 0 (λ e. omega arith) ∙ h.from k (omega arith);
+    }

@@ -1,0 +1,2 @@
+pub mod ParityChanges
+pub mod Writing

@@ -1,0 +1,37 @@
+-- What a change of one byte changes in the parity of its sector (ECMA-130, Annex A). Place n of a plane is in row n / 43
+-- and column n % 43; the P parity makes rows 24 and 25.
+use Rattle.std.specs.Prelude.{ℕ, ◌+◌, ◌-◌, ◌/◌, ◌%◌, ◌≡◌, List, [], ◌∷◌, ◌++◌, length, fold}
+use Rattle.cd_code.specs.Field.{AreBytes}
+use Rattle.cd_code.specs.Syndrome.{SameSums, added}
+use Rattle.cd_sector.specs.CodeWords.{place_of}
+use Rattle.cd_delta.specs.declared.changes.Change.{Change}
+
+-- the sector with each change's `d` added to the byte at its place
+abbrev pub changed : List ℕ → List Change → List ℕ
+changed s changes = fold (λ t c. added t c.place c.d) s changes
+
+-- the one diagonal through a row and a column
+abbrev pub diagonal_at : ℕ → ℕ → ℕ
+diagonal_at row column = (row + 52 - column) % 26
+
+-- the two parity bytes of a column
+abbrev pub column_pair : ℕ → ℕ → List ℕ
+column_pair plane n = place_of plane (1032 + n) ∷ place_of plane (1075 + n) ∷ []
+
+-- the two parity bytes of a diagonal
+abbrev pub diagonal_pair : ℕ → ℕ → List ℕ
+diagonal_pair plane n = place_of plane (1118 + n) ∷ place_of plane (1144 + n) ∷ []
+
+-- the parity bytes of a byte's column, and of the diagonals through the byte and through these two
+abbrev pub parity_places_at : ℕ → ℕ → ℕ → List ℕ
+parity_places_at plane row column =
+    column_pair plane column ++ (diagonal_pair plane (diagonal_at row column)
+    ++ (diagonal_pair plane (diagonal_at 24 column) ++ diagonal_pair plane (diagonal_at 25 column)))
+
+-- the same of the byte at a place of the sector, 12 to 2075
+unfoldable pub parity_places : ℕ → List ℕ
+parity_places place = parity_places_at (place % 2) ((place - 12) / 2 / 43) ((place - 12) / 2 % 43)
+
+-- in a word of `len` bytes to which `d` is added at `index`, `a` and `b` added to the last two keep the syndromes
+pub record Balances (len index d a b : ℕ) : Type 0 where
+  pub keeps : (v : List ℕ) → AreBytes v → length v ≡ len → SameSums (added (added (added v index d) (len - 2) a) (len - 1) b) v

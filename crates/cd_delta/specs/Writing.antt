@@ -1,0 +1,30 @@
+-- Bytes written into a sector in front of its parity, and carried into it (ECMA-130, Annex A).
+use Rattle.std.specs.Prelude.{◌≡◌, ℕ, ◌+◌, ◌<◌, ◌≤◌, ◌⊎◌, List, ◌++◌, length, take, drop, slice_index, slice_range}
+use Rattle.std.specs.Int.{to_le_bytes, w32}
+use Rattle.cd_code.specs.Edc.{IsEdc}
+use Rattle.cd_code.specs.Field.{AreBytes}
+use Rattle.cd_sector.specs.CodeWords.{SameSyndromes}
+
+-- the user data with `bytes` from `offset` on in the place of as many others
+unfoldable pub written : List ℕ → ℕ → List ℕ → List ℕ
+written user offset bytes = take offset user ++ (bytes ++ drop (offset + length bytes) user)
+
+-- the first `count` bytes of a list stand in a sector from `place` on; in front of the parity nothing else has changed,
+-- and no syndrome has
+pub record IsWritten (old new : List ℕ) (place count : ℕ) (bytes : List ℕ) : Type 0 where
+  pub size : length new ≡ length old
+  pub each : AreBytes old → AreBytes new
+  pub range : (i : ℕ) → i < count → slice_index new (place + i) ≡ slice_index bytes i
+  pub front : (i : ℕ) → i < 2076 → (i < place) ⊎ (place + count ≤ i) → slice_index new i ≡ slice_index old i
+  pub syndromes : SameSyndromes new old
+
+-- the EDC of the first 2064 bytes stands behind them, and is carried into the parity
+pub record WithEdc (old new : List ℕ) : Type 0 where
+  pub word : ℕ
+  pub size : length new ≡ 2352
+  pub each : AreBytes new
+  pub same_size : length new ≡ length old
+  pub is_word : IsEdc (take 2064 new) word
+  pub at_end : slice_range new 2064 2068 ≡ to_le_bytes w32 word
+  pub front : (i : ℕ) → i < 2076 → (i < 2064) ⊎ (2068 ≤ i) → slice_index new i ≡ slice_index old i
+  pub syndromes : SameSyndromes new old

@@ -1,0 +1,69 @@
+//! Changing bytes of a sector one by one, each with the parity that follows from it (ECMA-130, Annex A).
+
+ghost use Rattle.std.specs.Prelude.{◌≡◌, ◌≢◌, ℕ, ◌+◌, ◌<◌, ◌≤◌, Contains, length, slice_index};
+ghost use Rattle.cd_code.specs.Field.{AreBytes};
+ghost use Rattle.cd_code.specs.Syndrome.{added};
+ghost use Rattle.cd_sector.specs.CodeWords.{SameSyndromes};
+ghost use Rattle.cd_delta.specs.ParityChanges.{parity_places};
+ghost use Rattle.cd_delta.specs.Writing.{IsWritten};
+
+use crate::changes::{Change, parity_changes};
+use cd_sector::Sector;
+
+/// Makes `value` the byte at `place`, 12 to 2075, and carries the change into the eight parity bytes that follow
+/// from it, so that all 276 syndromes stay as they were (ECMA-130, Annex A). The sector may be of any kind, and
+/// need not be consistent.
+pub fn change_byte(s: &mut Sector, place: u16, value: u8)
+    requires from { 12 ≤ place }
+    requires below { place < 2076 }
+    ensures byte { slice_index s.new place ≡ value }
+    ensures syndromes { SameSyndromes s.new s.old }
+    ensures others { (i : ℕ) → i ≢ place → ¬ Contains (parity_places place) i
+        → slice_index s.new i ≡ slice_index s.old i }
+    ensures front { (i : ℕ) → i < 2076 → i ≢ place → slice_index s.new i ≡ slice_index s.old i }
+{
+    carry_byte(s, place, value);
+}
+
+/// As [`change_byte`], with the size and the bytes of the sector, which a caller's loop keeps.
+fn carry_byte(s: &mut Sector, place: u16, value: u8)
+    requires from { 12 ≤ place }
+    requires below { place < 2076 }
+    ensures byte { slice_index s.new place ≡ value }
+    ensures syndromes { SameSyndromes s.new s.old }
+    ensures others { (i : ℕ) → i ≢ place → ¬ Contains (parity_places place) i
+        → slice_index s.new i ≡ slice_index s.old i }
+    ensures front { (i : ℕ) → i < 2076 → i ≢ place → slice_index s.new i ≡ slice_index s.old i }
+    ensures size { length s.new ≡ length s.old }
+    ensures each { AreBytes s.new }
+{
+    let d = s.bytes()[place as usize] ^ value;
+    let changes = parity_changes(place, d);
+    add_at(s, Change { place, d });
+    for change in &changes {
+        add_at(s, *change);
+    }
+}
+
+/// Adds one change to its byte.
+fn add_at(s: &mut Sector, change: Change)
+    requires { change.place < 2352 }
+    ensures sum { s.new ≡ added s.old change.place change.d }
+    ensures size { length s.new ≡ 2352 }
+    ensures each { AreBytes s.new }
+{
+    let place = change.place as usize;
+    let byte = s.bytes()[place] ^ change.d;
+    s.put(place, byte);
+}
+
+/// Writes bytes in front of the parity, one after another, and carries each into the parity.
+pub(crate) fn write_few(s: &mut Sector, place: usize, bytes: &[u8])
+    requires from { 12 ≤ place }
+    requires below { place + length bytes.now ≤ 2076 }
+    ensures { IsWritten s.old s.new place (length bytes.now) bytes.now }
+{
+    for (i, byte) in bytes.iter().enumerate() {
+        carry_byte(s, (place + i) as u16, *byte);
+    }
+}

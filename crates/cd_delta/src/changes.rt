@@ -1,0 +1,142 @@
+//! What the change of one byte changes in the parity (ECMA-130, Annex A).
+
+ghost use Rattle.std.specs.Prelude.{◌≡◌, ℕ, ◌+◌, ◌*◌, ◌-◌, ◌/◌, ◌%◌, ◌<◌, ◌≤◌, All, List, length, map, nat_eq};
+ghost use Rattle.std.specs.List.{IsDistinct};
+ghost use Rattle.cd_code.specs.Field.{AreBytes};
+ghost use Rattle.cd_code.specs.Syndrome.{added};
+ghost use Rattle.cd_sector.specs.CodeWords.{SameSyndromes, place_of};
+ghost use Rattle.cd_delta.specs.ParityChanges.{Balances, changed, diagonal_at, parity_places};
+
+use cd_code::pair_change;
+
+/// The number in its plane of the first byte of P parity, that of column 0 in row 24.
+const FIRST_P: u16 = 1032;
+
+/// The same in row 25.
+const SECOND_P: u16 = 1075;
+
+/// The number in its plane of the first byte of Q parity, that of diagonal 0.
+const FIRST_Q: u16 = 1118;
+
+/// The number of that diagonal's second parity byte.
+const SECOND_Q: u16 = 1144;
+
+/// The byte at `place` is to be added (by xor) with `d` (ECMA-130, Annex A).
+#[derive(Clone, Copy, Debug, PartialEq, Eq)]
+pub struct Change {
+    /// The place of the byte in the sector, from 0 on.
+    pub place: u16,
+    /// The amount, a field element; `00` changes nothing.
+    pub d: u8,
+}
+
+/// Where a byte stands in the product code: its plane, its row of 43 and its column.
+#[derive(Clone, Copy)]
+struct Cell {
+    plane: u16,
+    row: u16,
+    column: u16,
+    ghost in_plane: { plane < 2 },
+    ghost in_rows: { row < 26 },
+    ghost in_columns: { column < 43 },
+}
+
+/// The eight changes of parity bytes that carry the change of the byte at `place`, 12 to 2075, by `d`, in any
+/// sector, consistent or not: all 276 syndromes stay. First the two parity bytes of the P column, then those of
+/// the Q diagonals of the byte itself, of the first and of the second P byte (ECMA-130, Annex A).
+pub fn parity_changes(place: u16, d: u8) -> [Change; 8]
+    requires from { 12 ≤ place }
+    requires below { place < 2076 }
+    ensures places { map (λ c. c.place) result ≡ parity_places place }
+    ensures inside { All (λ c. (2076 ≤ c.place) × (c.place < 2352)) result }
+    ensures distinct { IsDistinct nat_eq (map (λ c. c.place) result) }
+    ensures keeps { (s : List ℕ) → AreBytes s → length s ≡ 2352
+        → SameSyndromes (changed (added s place d) result) s }
+{
+    let cell = cell_of(place);
+    let (first, second) = column_changes(cell, d);
+    let (own_first, own_second) = diagonal_changes(cell, d);
+    let (first_first, first_second) = diagonal_changes(in_row(24, cell), first.d);
+    let (second_first, second_second) = diagonal_changes(in_row(25, cell), second.d);
+    [
+        first,
+        second,
+        own_first,
+        own_second,
+        first_first,
+        first_second,
+        second_first,
+        second_second,
+    ]
+}
+
+/// Where the byte at a place in front of the parity stands.
+fn cell_of(place: u16) -> Cell
+    requires from { 12 ≤ place }
+    requires below { place < 2076 }
+    ensures plane { result.plane ≡ place % 2 }
+    ensures row { result.row ≡ (place - 12) / 2 / 43 }
+    ensures column { result.column ≡ (place - 12) / 2 % 43 }
+{
+    let number = (place - 12) / 2;
+    Cell {
+        plane: place % 2,
+        row: number / 43,
+        column: number % 43,
+    }
+}
+
+/// The same column in another row.
+fn in_row(row: u16, cell: Cell) -> Cell
+    requires { row < 26 }
+    ensures plane { result.plane ≡ cell.plane }
+    ensures row { result.row ≡ row }
+    ensures column { result.column ≡ cell.column }
+{
+    Cell {
+        plane: cell.plane,
+        row,
+        column: cell.column,
+    }
+}
+
+/// The changes of a column's two parity bytes where `d` is added to a byte in front of them.
+fn column_changes(cell: Cell, d: u8) -> (Change, Change)
+    requires { cell.row < 24 }
+    ensures first { result.0.place ≡ place_of cell.plane (1032 + cell.column) }
+    ensures second { result.1.place ≡ place_of cell.plane (1075 + cell.column) }
+    ensures balances { Balances 26 cell.row d result.0.d result.1.d }
+{
+    let (first, second) = pair_change(26, cell.row as usize, d);
+    (
+        change_at(cell.plane, FIRST_P + cell.column, first),
+        change_at(cell.plane, SECOND_P + cell.column, second),
+    )
+}
+
+/// The changes of the two parity bytes of the diagonal through a byte to which `d` is added.
+fn diagonal_changes(cell: Cell, d: u8) -> (Change, Change)
+    ensures first { result.0.place ≡ place_of cell.plane (1118 + diagonal_at cell.row cell.column) }
+    ensures second { result.1.place ≡ place_of cell.plane (1144 + diagonal_at cell.row cell.column) }
+    ensures balances { Balances 45 cell.column d result.0.d result.1.d }
+{
+    let diagonal = (cell.row + 52 - cell.column) % 26;
+    let (first, second) = pair_change(45, cell.column as usize, d);
+    (
+        change_at(cell.plane, FIRST_Q + diagonal, first),
+        change_at(cell.plane, SECOND_Q + diagonal, second),
+    )
+}
+
+/// A change of byte `number` of a plane.
+fn change_at(plane: u16, number: u16, d: u8) -> Change
+    requires plane { plane < 2 }
+    requires number { number < 1170 }
+    ensures place { result.place ≡ place_of plane number }
+    ensures d { result.d ≡ d }
+{
+    Change {
+        place: 12 + 2 * number + plane,
+        d,
+    }
+}

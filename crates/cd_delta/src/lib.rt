@@ -1,0 +1,15 @@
+//! Changes of a sector by differences: what the change of a byte changes in the P and Q parity, without
+//! seeing the sector (ECMA-130, Annex A).
+#![tactic(auto)]
+
+mod byte_by_byte;
+mod changes;
+mod difference;
+mod user_data;
+
+pub use byte_by_byte::change_byte;
+pub use changes::{Change, parity_changes};
+pub use user_data::change_user;
+
+#[cfg(test)]
+mod tests;

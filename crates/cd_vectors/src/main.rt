@@ -1,0 +1,30 @@
+//! Encodes the sectors of `cdrkit-8.bin` anew from their headers and user data, and tells of each whether it is
+//! byte for byte the sector that independent encoders wrote.
+#![tactic(auto)]
+
+use cd_sector::{SECTOR_SIZE, Sector, encode};
+use std::{fs, io};
+
+fn main(rt: HostRuntime) -> io::Result<()> {
+    let image = fs::read(&rt, "cdrkit-8.bin")?;
+    let (sectors, tail) = image.as_slice().as_chunks::<SECTOR_SIZE>();
+    for (number, bytes) in sectors.iter().enumerate() {
+        let told = if is_encoded_alike(bytes) {
+            "as"
+        } else {
+            "NOT as"
+        };
+        println!(rt; "sector {number}: byte for byte {told} cdrkit and libburn encoded it")?;
+    }
+    let (count, left) = (sectors.len(), tail.len());
+    println!(rt; "sectors {count} tail {left}")
+}
+
+/// Whether a sector is what its header and user data are encoded to.
+fn is_encoded_alike(bytes: &[u8; SECTOR_SIZE]) -> bool {
+    let sector = Sector::from_bytes(*bytes);
+    let [minute, second, fraction, _] = sector.header();
+    let mut user = [0; 2048];
+    user.copy_from_slice(sector.user());
+    encode([minute, second, fraction], &user) == sector
+}

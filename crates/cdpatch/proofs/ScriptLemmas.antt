@@ -1,0 +1,31 @@
+-- What came of a script's file before a fault.
+use Rattle.std.proofs.Common.{◌≡◌, ℕ, ◌+◌, ◌≤◌, List, ◌++◌, length, take, Result, Ok, Err, sym, subst, arith, length-append}
+use Rattle.std.proofs.lemmas.List.{length-take-le}
+use Rattle.std.specs.Io.KnownBytes.{Consumes}
+use Rattle.std.specs.Result.{IsErrAnd}
+use Rattle.std.proofs.KnownBytes.{Consumes-trans}
+use Rattle.cd_image.specs.Report.{Incoming}
+use Rattle.cdpatch.specs.ScriptLines.{Gathers, Stops}
+use Rattle.cdpatch.specs.declared.script.LoadFault.{LoadFault}
+use Rattle.cdpatch.specs.declared.script.LoadFault.TheVariants.{NoMemory}
+
+-- the bytes that had come, and those of the last read
+pub length-with_last : (earlier into : List ℕ) (n : ℕ) → n ≤ length into → length (earlier ++ take n into) ≡ length earlier + n
+length-with_last earlier into n h = omega (arith, length-append earlier (take n into), length-take-le n into h)
+
+-- a fault behind a read
+pub Gathers-stopped : {T : Type 0} (bytes_of : T → List ℕ) (file middle file' : Incoming) (fault : LoadFault) (earlier came : List ℕ)
+    → Consumes file.rest middle.rest earlier → Consumes middle.rest file'.rest came → Stops fault (earlier ++ came) file file' → Gathers bytes_of file file' (Err fault)
+Gathers-stopped bytes_of file middle file' fault earlier came first last stops = record {
+  read = earlier ++ came;
+  consumes = Consumes-trans _ _ _ earlier came first last;
+  answers = stops;
+}
+
+-- the fault was want of memory
+pub Gathers-refused : {T : Type 0} (bytes_of : T → List ℕ) (file middle file' : Incoming) (result : Result T LoadFault) (earlier came : List ℕ)
+    → IsErrAnd result (λ fault. fault ≡ NoMemory)
+    → Consumes file.rest middle.rest earlier → Consumes middle.rest file'.rest came → Stops NoMemory (earlier ++ came) file file' → Gathers bytes_of file file' result
+Gathers-refused bytes_of file middle file' (Ok text) earlier came refused first last stops = absurd refused
+Gathers-refused bytes_of file middle file' (Err fault) earlier came refused first last stops =
+    Gathers-stopped bytes_of file middle file' fault earlier came first last (subst (λ f. Stops f (earlier ++ came) file file') (sym refused) stops)

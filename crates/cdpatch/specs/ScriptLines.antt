@@ -1,0 +1,77 @@
+-- What reading a script does: the line of each fault, and what came of the file.
+use Rattle.std.specs.Prelude.{◌≡◌, ◌≢◌, ℕ, ◌+◌, ◌≤◌, ◌⊎◌, List, ◌++◌, length, codes, decimal, Result, Ok, Err, OnErr}
+use Rattle.std.specs.Io.KnownBytes.{Consumes, IsAtEnd}
+use Rattle.cd_image.specs.Report.{Incoming, Outgoing}
+use Rattle.cd_script.specs.declared.fault.ScriptFault.{ScriptFault}
+use Rattle.cd_script.specs.declared.fault.ScriptFault.TheVariants as script_fault
+use Rattle.cd_script.specs.declared.line.TheConstants.{MAX_TEXT}
+use Rattle.cdpatch.specs.Run.{SaysLine}
+use Rattle.cdpatch.specs.declared.script.LoadFault.{LoadFault}
+use Rattle.cdpatch.specs.declared.script.LoadFault.TheVariants.{Read, TooLong, NoMemory}
+
+-- ---- the text of a script
+
+-- `script line`, the number, and what is wrong there
+unfoldable pub numbered_line : ℕ → List ℕ → List ℕ
+numbered_line number text = codes "script line " ++ decimal number ++ codes ": " ++ text ++ codes "\n"
+
+-- the line of a script's fault
+unfoldable pub script_line : ScriptFault → List ℕ
+script_line (script_fault.Head line) = numbered_line line (codes "no cdpatch 1 line")
+script_line (script_fault.Verb line) = numbered_line line (codes "unknown verb")
+script_line (script_fault.Words line) = numbered_line line (codes "wrong number of words")
+script_line (script_fault.Number line) = numbered_line line (codes "bad number")
+script_line (script_fault.Hex line) = numbered_line line (codes "bad hex")
+script_line (script_fault.Length line) = numbered_line line (codes "bad length")
+script_line (script_fault.Offset line) = numbered_line line (codes "offset over 2047")
+script_line (script_fault.TooMany line) = numbered_line line (codes "more than 65535 patches")
+script_line script_fault.NoMemory = codes "script: no memory\n"
+
+-- ---- the file of a script
+
+-- the line of a file's fault
+unfoldable pub load_line : LoadFault → List ℕ
+load_line Read = codes "cdpatch: cannot read the script\n"
+load_line TooLong = codes "cdpatch: the script is longer than 67108864 bytes\n"
+load_line NoMemory = codes "cdpatch: no memory\n"
+
+-- the file was read to its end, is no longer than a script may be, and no read of it failed
+pub record ReadsWhole (read : List ℕ) (file file' : Incoming) : Type 0 where
+  pub reads : file'.failures ≡ file.failures
+  pub at_end : IsAtEnd file'.rest
+  pub within : length read ≤ MAX_TEXT
+
+-- where the reading stopped: a read failed, a byte too many came, or memory was refused
+abbrev pub Stops : LoadFault → List ℕ → Incoming → Incoming → Type 0
+Stops Read read file file' = (file'.failures ≡ file.failures + 1) × (length read ≤ MAX_TEXT)
+Stops TooLong read file file' = (file'.failures ≡ file.failures) × (length read ≡ MAX_TEXT + 1)
+Stops NoMemory read file file' = (file'.failures ≡ file.failures) × (length read ≤ MAX_TEXT)
+
+abbrev pub GatherAnswers : {T : Type 0} → (T → List ℕ) → List ℕ → Incoming → Incoming → Result T LoadFault → Type 0
+GatherAnswers bytes_of read file file' (Ok text) = (bytes_of text ≡ read) × ReadsWhole read file file'
+GatherAnswers bytes_of read file file' (Err fault) = Stops fault read file file'
+
+-- some bytes of the file were read: all, or those before a fault
+pub record Gathers {T : Type 0} (bytes_of : T → List ℕ) (file file' : Incoming) (result : Result T LoadFault) : Type 0 where
+  pub read : List ℕ
+  pub consumes : Consumes file.rest file'.rest read
+  pub answers : GatherAnswers bytes_of read file file' result
+
+abbrev pub LoadAnswers : {T : Type 0} → (T → List ℕ) → List ℕ → Incoming → Incoming → Outgoing → Outgoing → Result T ℕ → Type 0
+LoadAnswers bytes_of read file file' log log' (Ok text) = (bytes_of text ≡ read) × ReadsWhole read file file' × (log' ≡ log)
+LoadAnswers bytes_of read file file' log log' (Err status) = (status ≡ 2) × ((fault : LoadFault) × Stops fault read file file' × SaysLine (load_line fault) log log')
+
+-- some bytes of the file were read: all, and then nothing was said, or those before a fault, and then its line was
+pub record Loads {T : Type 0} (bytes_of : T → List ℕ) (file file' : Incoming) (log log' : Outgoing) (result : Result T ℕ) : Type 0 where
+  pub read : List ℕ
+  pub consumes : Consumes file.rest file'.rest read
+  pub answers : LoadAnswers bytes_of read file file' log log' result
+
+-- the fault's line was said, and the status is 2
+abbrev pub Refuses : {T : Type 0} → LoadFault → Outgoing → Outgoing → Result T ℕ → Type 0
+Refuses fault log log' result = (result ≡ Err 2) × SaysLine (load_line fault) log log'
+
+-- a read failed exactly where it is said that the script cannot be read
+pub record TellsFailedReads {T : Type 0} (file file' : Incoming) (log log' : Outgoing) (result : Result T ℕ) : Type 0 where
+  pub failed : file'.failures ≢ file.failures → Refuses Read log log' result
+  pub others : file'.failures ≡ file.failures → OnErr result (Refuses TooLong log log' result ⊎ Refuses NoMemory log log' result)

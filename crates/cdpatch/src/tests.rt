@@ -1,0 +1,4 @@
+//! Whole calls, at concrete sources and sinks.
+
+mod run;
+mod script;
