@@ -19,7 +19,7 @@ fn register_word(bytes: &[u8]) -> u32 {
     register
 }
 
-pub fn register_rounds(rounds: u32) -> u32 {
+pub(crate) fn register_rounds(rounds: u32) -> u32 {
     let mut bytes = [0x5A; EDC_BYTES];
     let mut word = 0u32;
     for _ in 0..rounds {
@@ -38,7 +38,7 @@ fn plain_row_sums(row: &[u8; 86], sums: &mut ColumnSums) {
     }
 }
 
-pub fn column_rounds(rounds: u32) -> u32 {
+pub(crate) fn column_rounds(rounds: u32) -> u32 {
     let mut rows = [0x5A; ROW_BYTES];
     for _ in 0..rounds {
         let mut sums = ColumnSums::zero();

@@ -6,7 +6,7 @@ use cd_delta::change_user;
 use cd_sector::{Sector, SectorKind, defect, encode, is_consistent, kind};
 
 /// The sector of user data that begins with a parity byte of the sector before.
-pub fn encode_rounds(rounds: u32) -> u32 {
+pub(crate) fn encode_rounds(rounds: u32) -> u32 {
     let mut user = [0x5A; 2048];
     for _ in 0..rounds {
         user[0] = encode([0, 2, 0], &user).byte(2351);
@@ -15,7 +15,7 @@ pub fn encode_rounds(rounds: u32) -> u32 {
 }
 
 /// The defect of a sector of which a byte is the number of wrong diagonals before.
-pub fn defect_rounds(rounds: u32) -> u32 {
+pub(crate) fn defect_rounds(rounds: u32) -> u32 {
     let mut sector = encode([0, 2, 0], &[0x5A; 2048]);
     let mut last = 0;
     for _ in 0..rounds {
@@ -26,7 +26,7 @@ pub fn defect_rounds(rounds: u32) -> u32 {
 }
 
 /// Whether a sector is consistent, of which all parts have to be asked.
-pub fn consistent_rounds(rounds: u32) -> u32 {
+pub(crate) fn consistent_rounds(rounds: u32) -> u32 {
     let sector = encode([0, 2, 0], &[0x5A; 2048]);
     let mut last = 0u32;
     for _ in 0..rounds {
@@ -36,17 +36,17 @@ pub fn consistent_rounds(rounds: u32) -> u32 {
 }
 
 /// A byte of user data.
-pub fn change_one_rounds(rounds: u32) -> u32 {
+pub(crate) fn change_one_rounds(rounds: u32) -> u32 {
     change_rounds(rounds, &[0x41; 1], &[0x42; 1])
 }
 
 /// 64 bytes of user data.
-pub fn change_some_rounds(rounds: u32) -> u32 {
+pub(crate) fn change_some_rounds(rounds: u32) -> u32 {
     change_rounds(rounds, &[0x41; 64], &[0x42; 64])
 }
 
 /// All user data.
-pub fn change_all_rounds(rounds: u32) -> u32 {
+pub(crate) fn change_all_rounds(rounds: u32) -> u32 {
     change_rounds(rounds, &[0x41; 2048], &[0x42; 2048])
 }
 

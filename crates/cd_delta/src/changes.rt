@@ -9,10 +9,10 @@ ghost use Rattle.cd_delta.specs.ParityChanges.{Balances, changed, diagonal_at, p
 
 use cd_code::pair_change;
 
-/// The number in its plane of the first byte of P parity, that of column 0 in row 24.
+/// The number in its plane of the first byte of P parity, that of column 0.
 const FIRST_P: u16 = 1032;
 
-/// The same in row 25.
+/// The same of the second byte of P parity.
 const SECOND_P: u16 = 1075;
 
 /// The number in its plane of the first byte of Q parity, that of diagonal 0.

@@ -3,7 +3,7 @@
 ghost use Rattle.std.specs.Prelude.{◌≤◌};
 
 use super::images::sector;
-use crate::{AuditTally, FailAfter, Fault, MAX_BASE, Short, SliceSink, SliceSource, audit};
+use crate::{AuditTally, FailAfter, Fault, MAX_BASE, Short, SliceSink, SliceSource, audit, list};
 use cd_sector::{Sector, address_of, encode};
 use std::alloc::{AllocError, Global};
 use std::process::Abort;
@@ -115,6 +115,18 @@ fn addresses(rt: HostRuntime) -> Result<(), Fail> {
         0,
         "0 address\nsectors 1 mode1 1 damaged 0 tail 0\n",
     );
+    Ok(())
+}
+
+#[test]
+fn a_listing_of_encoded_sectors(rt: HostRuntime) -> Result<(), Fail> {
+    let mode2 = Sector::from_bytes(sector(2));
+    let bytes = joined(rt.alloc(), &[zeros_at(0), mode2, mode2, Sector::default()])?;
+    let mut space = [0; 64];
+    let text = "0-0 mode1\n1-2 mode2\n3-3 nosync\nsectors 4 tail 0\n";
+    let mut source = SliceSource::new(bytes.as_slice());
+    assert!(rt; list(&mut source, 0, &mut SliceSink::new(&mut space)).is_ok());
+    assert!(rt; space.as_slice().starts_with(text.as_bytes()));
     Ok(())
 }
 
