@@ -19,7 +19,7 @@ use std::alloc::{AllocError, Global};
 const CHUNK_SIZE: usize = 16_384;
 
 /// Why the file of a script was not read whole.
-#[derive(Clone, Copy, PartialEq, Eq)]
+#[derive(Clone, Copy)]
 enum LoadFault {
     /// A read of the file failed.
     Read,
@@ -51,7 +51,7 @@ impl From<AllocError> for LoadFault {
     }
 }
 
-/// The line of a fault that stands on a line of a script.
+/// The line of a fault that stands on a line of a script, with a text of at most 40 bytes.
 #[tactic(auto, unfolding(crate::specs::ScriptLines::numbered_line))]
 fn numbered(number: u32, text: &[u8]) -> Line
     requires { length text.now ≤ 40 }
@@ -98,7 +98,8 @@ fn refused<L: Sink>(line: &[u8], log: &mut L) -> u8
     FAILED
 }
 
-/// The script of a text. For a fault of it the fault's line goes to `log`, and the answer is the status 2.
+/// The script of a text of at most 67,108,864 bytes. For a fault of it the fault's line goes to `log`, and the
+/// answer is the status 2.
 pub fn read_script<L: Sink>(alloc: Global, text: &[u8], log: &mut L) -> Result<Script, u8>
     requires size { length text.now ≤ MAX_TEXT }
     requires countable { L.failures log.old < 4294967295 }
@@ -114,7 +115,7 @@ pub fn read_script<L: Sink>(alloc: Global, text: &[u8], log: &mut L) -> Result<S
     }
 }
 
-/// The bytes of a file to its end, of which a script may have so many.
+/// The bytes of a script's file, to its end.
 fn read_all<I: Source>(alloc: Global, file: &mut I) -> Result<Vec<u8>, LoadFault>
     requires { I.failures file.old < 4294967295 }
     ensures { Gathers (λ bytes. bytes.items) (incoming I.rest I.failures file.old) (incoming I.rest I.failures file.new) result }
@@ -147,8 +148,8 @@ fn load_line(fault: LoadFault) -> &'static [u8]
     }
 }
 
-/// The bytes of a script's file, all that it has. Where a read fails, or the file is longer than a script may
-/// be, or memory is refused, a line says so in `log`, and the answer is the status 2.
+/// The bytes of a script's file, all that it has, at most 67,108,864. Where a read fails, or a byte comes behind
+/// them, or memory is refused, whichever is first, a line says so in `log`, and the answer is the status 2.
 pub fn load_script<I: Source, L: Sink>(
     alloc: Global,
     file: &mut I,
