@@ -1,97 +1,70 @@
-//! How many megabytes a second the codes and sectors take in. It is run by hand, with a word that says what is
-//! measured; with no word it names them.
+//! How long the codes, sectors and changes take. It is run by hand, with the word `all` or the name of one work, and
+//! how often it is done; with no word it names them.
 #![tactic(auto)]
 
 mod codes;
+mod images;
 mod plain;
 mod sectors;
+mod work;
 
 use std::rt::Clock;
 use std::time::Instant;
 use std::{env, io};
+use work::Work;
 
 /// The bytes of a sector that its EDC is over.
 const EDC_BYTES: usize = 2064;
 /// 26 rows of 86 bytes.
 const ROW_BYTES: usize = 2236;
-/// A sector.
-const SECTOR_BYTES: usize = 2352;
+/// How often a work is done where the command line does not say it.
+const ROUNDS: u32 = 100_000;
 
 fn main(rt: HostRuntime) -> io::Result<()> {
-    let word = env::args(&rt)?.nth(1);
-    match word.as_ref().map(|word| word.as_str()) {
-        Some("edc") => {
-            print_speed(&rt, "edc_of", EDC_BYTES, 1_000_000, codes::edc_rounds)?;
-            print_speed(&rt, "bit by bit", EDC_BYTES, 20_000, plain::register_rounds)
-        }
-        Some("columns") => {
-            print_speed(
-                &rt,
-                "column_sums",
-                ROW_BYTES,
-                1_000_000,
-                codes::column_rounds,
-            )?;
-            print_speed(
-                &rt,
-                "column by column",
-                ROW_BYTES,
-                50_000,
-                plain::column_rounds,
-            )
-        }
-        Some("sectors") => {
-            print_speed(&rt, "encode", SECTOR_BYTES, 300_000, sectors::encode_rounds)?;
-            print_speed(&rt, "defect", SECTOR_BYTES, 300_000, sectors::defect_rounds)?;
-            print_speed(
-                &rt,
-                "is_consistent",
-                SECTOR_BYTES,
-                300_000,
-                sectors::consistent_rounds,
-            )
-        }
-        Some("changes") => {
-            print_speed(
-                &rt,
-                "change_user of 1",
-                1,
-                300_000,
-                sectors::change_one_rounds,
-            )?;
-            print_speed(
-                &rt,
-                "change_user of 64",
-                64,
-                300_000,
-                sectors::change_some_rounds,
-            )?;
-            print_speed(
-                &rt,
-                "change_user of 2048",
-                2048,
-                300_000,
-                sectors::change_all_rounds,
-            )
-        }
-        _ => println!(rt; "usage: cd_bench edc | columns | sectors | changes"),
+    let mut words = env::args(&rt)?.skip(1);
+    let name = words.next();
+    let count = words.next();
+    let rounds = rounds_of(count.as_ref().map(|count| count.as_str()));
+    match name.as_ref().map(|name| name.as_str()) {
+        Some(name) => measure(&rt, name, rounds),
+        None => print_names(&rt),
     }
 }
 
-/// Prints how long a round takes, and how many bytes go through in a second.
-fn print_speed<F: FnOnce(u32) -> u32>(
-    rt: &(impl Print + Clock),
-    what: &str,
-    bytes: usize,
-    rounds: u32,
-    run: F,
-) -> io::Result<()>
-    requires { F.IsAlwaysCallable run }
-{
+/// The number that a word spells, or the usual one.
+fn rounds_of(word: Option<&str>) -> u32 {
+    match word {
+        Some(word) => word.parse::<u32>().unwrap_or(ROUNDS),
+        None => ROUNDS,
+    }
+}
+
+/// Prints how the program is called.
+fn print_names(rt: &impl Print) -> io::Result<()> {
+    println!(rt; "usage: cd_bench all|WORK [ROUNDS], where WORK is one of")?;
+    for work in &Work::ALL {
+        let name = work.name();
+        println!(rt; "    {name}")?;
+    }
+    Ok(())
+}
+
+/// Prints the times of the works with this name, or of all.
+fn measure(rt: &(impl Print + Clock + AllocGlobal), name: &str, rounds: u32) -> io::Result<()> {
+    for work in &Work::ALL {
+        if name == "all" || name == work.name() {
+            print_time(rt, *work, rounds)?;
+        }
+    }
+    Ok(())
+}
+
+/// Prints how long a round takes.
+fn print_time(rt: &(impl Print + Clock + AllocGlobal), work: Work, rounds: u32) -> io::Result<()> {
     let start = Instant::now(rt)?;
-    let last = run(rounds);
-    let micros = start.elapsed(rt)?.as_micros().max(1);
-    let speed = (bytes as u128).saturating_mul(u128::from(rounds)) / micros;
+    let last = work.run(rt.alloc(), rounds)?;
+    let micros = start.elapsed(rt)?.as_micros();
     let nanos = micros.saturating_mul(1000) / u128::from(rounds.max(1));
-    println!(rt; "{what}: {speed} MB/s, {nanos} ns a round (last {last:08X})")
+    let name = work.name();
+    println!(rt; "{name}: {nanos} ns a round (last {last:08X})")
 }

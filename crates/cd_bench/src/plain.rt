@@ -1,5 +1,6 @@
 //! The same codes by plain programs, to compare with.
 
+use crate::codes::put_sums;
 use crate::{EDC_BYTES, ROW_BYTES};
 use cd_code::{ColumnSums, times};
 
@@ -46,7 +47,7 @@ pub(crate) fn column_rounds(rounds: u32) -> u32 {
         for row in each_row {
             plain_row_sums(row, &mut sums);
         }
-        rows[0] = sums.weighted[0];
+        put_sums(&mut rows, &sums);
     }
     u32::from(rows[0])
 }

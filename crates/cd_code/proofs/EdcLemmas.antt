@@ -46,7 +46,7 @@ step-carry r b hr hb = elim (cases_lt (r * 2 + b) (2 ^ 32)) [
       step-high r b h ∙ sym (ap (λ z. bit_xor (r * 2 + b) (carry z)) e)
 ]
 
-step-lt : (r b : ℕ) → r < 2 ^ 32 → b < 2 → divide_step r b < 2 ^ 32
+pub step-lt : (r b : ℕ) → r < 2 ^ 32 → b < 2 → divide_step r b < 2 ^ 32
 step-lt r b hr hb = elim (cases_lt (r * 2 + b) (2 ^ 32)) [
   | inl h ↦ rw (step-low r b h) h
   | inr h ↦
@@ -64,7 +64,7 @@ step-lt r b hr hb = elim (cases_lt (r * 2 + b) (2 ^ 32)) [
 bits_joined : (r s b c : ℕ) → b < 2 → c < 2 → bit_xor r s * 2 + bit_xor b c ≡ bit_xor (r * 2 + b) (s * 2 + c)
 bits_joined r s b c hb hc = sym (xor_block 1 r s b c hb hc)
 
-step-xor : (r s b c : ℕ) → r < 2 ^ 32 → s < 2 ^ 32 → b < 2 → c < 2 → divide_step (bit_xor r s) (bit_xor b c) ≡ bit_xor (divide_step r b) (divide_step s c)
+pub step-xor : (r s b c : ℕ) → r < 2 ^ 32 → s < 2 ^ 32 → b < 2 → c < 2 → divide_step (bit_xor r s) (bit_xor b c) ≡ bit_xor (divide_step r b) (divide_step s c)
 step-xor r s b c hr hs hb hc =
     step-carry (bit_xor r s) (bit_xor b c) (xor_lt 32 r s hr hs) (xor_lt 1 b c hb hc)
     ∙ ap (λ z. bit_xor z (carry (bit_xor r s / 2 ^ 31))) (bits_joined r s b c hb hc)
@@ -300,6 +300,12 @@ IsEdc-nil = IsEdc-from [] 0 (record { left = lit< tt; fits = lit< tt; ends = aft
 pub IsEdc-same : (v w : List ℕ) (t : ℕ) → after 0 v ≡ after 0 w → IsEdc v t → IsEdc w t
 IsEdc-same v w t e h = IsEdc-from w t (rw e at (Ends-from v t h))
 
+pub IsEdc-same_front : (u v rest b : List ℕ) (t : ℕ) → remainder (bits u) ≡ remainder (bits v) → u ++ rest ≡ b → IsEdc (v ++ rest) t → IsEdc b t
+IsEdc-same_front u v rest b t same whole h =
+    let front : after 0 u ≡ after 0 v = sym (remainder-after u) ∙ same ∙ remainder-after v in
+    IsEdc-same (v ++ rest) b t
+    (after-append 0 v rest ∙ ap (λ z. after z rest) (sym front) ∙ sym (after-append 0 u rest) ∙ ap (after 0) whole) h
+
 -- one more byte behind a list
 pub IsEdc-push : (v : List ℕ) (w x t : ℕ) → IsEdc v w → IsEdc (bit_xor (w % 256) x ∷ []) t → IsEdc (v ++ x ∷ []) (bit_xor (w / 256) t)
 IsEdc-push v w x t h k =
@@ -314,7 +320,7 @@ IsEdc-push v w x t h k =
     (rw e at (Ends-xor (after_bits 8 r (w % 256)) (after_bits 8 0 y) (w / 256) t (Ends-shift r w (Ends-from v w h)) (Ends-from (y ∷ []) t k)))
 
 -- bytes after a sum are bytes after one term, and zeros after the other
-after-xor_zeros : (r s : ℕ) (v : List ℕ) → r < 2 ^ 32 → s < 2 ^ 32 → after (bit_xor r s) v ≡ bit_xor (after r (replicate (length v) 0)) (after s v)
+pub after-xor_zeros : (r s : ℕ) (v : List ℕ) → r < 2 ^ 32 → s < 2 ^ 32 → after (bit_xor r s) v ≡ bit_xor (after r (replicate (length v) 0)) (after s v)
 after-xor_zeros r s [] hr hs = refl
 after-xor_zeros r s (x ∷ v) hr hs =
     ap (λ z. after (after_bits 8 (bit_xor r s) z) v) (sym (xor_zero_l x))
@@ -416,7 +422,7 @@ IsEdc-eight v b ys w n t₇ t₆ t₅ t₄ t₃ t₂ t₁ t₀ h bytes long num 
     (IsEdc-cons (get_or b 6 0) _ t₁ _ h₁ h₀)))))))
 
 -- what a sum, byte by byte, of two lists leaves
-after-sum : (r s : ℕ) (u v w : List ℕ) → r < 2 ^ 32 → s < 2 ^ 32 → length u ≡ length v → length u ≡ length w
+pub after-sum : (r s : ℕ) (u v w : List ℕ) → r < 2 ^ 32 → s < 2 ^ 32 → length u ≡ length v → length u ≡ length w
     → ((i : ℕ) → i < length u → get_or u i 0 ≡ bit_xor (get_or v i 0) (get_or w i 0))
     → after (bit_xor r s) u ≡ bit_xor (after r v) (after s w)
 after-sum r s [] [] [] hr hs e f h = refl

@@ -1,12 +1,18 @@
 -- Lanes of field elements: a vector that is doubled, and one that is added to the sums at a place.
-use Rattle.std.proofs.Common.{◌≡◌, ℕ, ◌+◌, ◌-◌, ◌%◌, ◌<◌, ◌≤◌, Bool, true, cond, List, [], ◌∷◌, length, map, replicate, get_or, bit_xor, refl, sym, ap, ◌∙◌, arith}
+use Rattle.std.proofs.Common.{◌≡◌, ℕ, zero, suc, ◌+◌, ◌-◌, ◌%◌, ◌<◌, ◌≤◌, Bool, true, cond, List, [], ◌∷◌, length, map, replicate, get_or, bit_and, bit_xor, refl, sym, ap, ◌∙◌, arith}
 use Rattle.std.specs.Bool.{◌==◌}
 use Rattle.std.specs.Simd.Lanes.{Each1, zip2, sel_l, top, chunk, put_chunk}
 use Rattle.std.proofs.lemmas.Bool.{agree_below, agree_below_at, eqb-true}
 use Rattle.std.proofs.lemmas.List.{length-map, get_or-map}
-use Rattle.std.proofs.lemmas.Simd.{length-chunk, length-zip2, get_or-chunk, get_or-zip2, get_or-put_chunk_at, get_or-put_chunk_below, get_or-put_chunk_above}
+use Rattle.std.specs.Int.Bits.{xor_zero_r}
+use Rattle.std.proofs.lemmas.Nat.{and_mask, xor_lt}
+use Rattle.std.proofs.lemmas.Simd.{below_from_Fits, Each1-get_or, length-chunk, length-zip2, get_or-chunk, get_or-zip2, get_or-put_chunk_at, get_or-put_chunk_below, get_or-put_chunk_above}
 use lib.Dec.{leb}
-use Rattle.cd_code.specs.Field.{double}
+use Rattle.cd_code.specs.Field.{double, product}
+use Rattle.cd_code.proofs.FieldLemmas.{double-zero}
+use Rattle.cd_code.proofs.XorLemmas.{xor_twice_left}
+use mir.Syntax.{w8}
+use mir.Val.{Fits}
 
 -- one lane: the sum with itself, and 1D where the top bit was set
 abbrev lane_doubled : ℕ → ℕ
@@ -64,3 +70,72 @@ lanes_above at n sums row lanes hr long c h =
     let both : length (zip2 bit_xor lanes (chunk at n row)) ≡ n =
     length-zip2 bit_xor lanes (chunk at n row) (omega arith) ∙ long in
     get_or-put_chunk_above at sums (zip2 bit_xor lanes (chunk at n row)) c 0 (omega arith)
+
+-- ---- 32 lanes in registers
+
+-- a doubled vector, lane by lane; past the end both are 0
+pub get_or-doubled : (v : List ℕ) (i : ℕ) → get_or (map double v) i 0 ≡ double (get_or v i 0)
+get_or-doubled [] i = sym double-zero
+get_or-doubled (x ∷ v) zero = refl
+get_or-doubled (x ∷ v) (suc i) = get_or-doubled v i
+
+pub lanes_doubled_added : (weighted lanes doubled : List ℕ) → length weighted ≡ 32 → length lanes ≡ 32 → doubled ≡ map double weighted
+    → (i : ℕ) → i < 32 → get_or (zip2 bit_xor doubled lanes) i 0 ≡ bit_xor (double (get_or weighted i 0)) (get_or lanes i 0)
+lanes_doubled_added weighted lanes doubled hw hl e i h =
+    let long : length doubled ≡ 32 = ap length e ∙ length-map weighted double ∙ hw in
+    get_or-zip2 bit_xor doubled lanes i 0 0 0 (omega arith) (omega arith)
+    ∙ ap (λ z. bit_xor z (get_or lanes i 0)) (ap (λ v. get_or v i 0) e ∙ get_or-map double weighted i 0 0 (omega arith))
+
+-- F4 is alpha to the 7, 6, 5, 4 and 2
+abbrev times_f4 : ℕ → ℕ
+times_f4 x = double (double (bit_xor (double (double (bit_xor (double (bit_xor (double (bit_xor (double x) x)) x)) x))) x))
+
+abbrev is_times_f4 : ℕ → Bool
+is_times_f4 x = times_f4 x == product 244 x
+
+is_times_f4-all : agree_below is_times_f4 (λ _. true) 256 ≡ true
+unfolding double product
+is_times_f4-all = refl
+
+pub times_inverse : (x : ℕ) → x < 256 → times_f4 x ≡ product 244 x
+times_inverse x h = eqb-true (times_f4 x) (product 244 x) (agree_below_at is_times_f4 (λ _. true) 256 x is_times_f4-all h)
+
+-- a lane of the two that a mask chooses from
+chosen_lane : (old new taking : List ℕ) → length old ≡ 32 → length new ≡ 32 → length taking ≡ 32 → (i : ℕ) → i < 32
+    → get_or (zip2 bit_xor old (zip2 bit_and (zip2 bit_xor old new) taking)) i 0
+    ≡ bit_xor (get_or old i 0) (bit_and (bit_xor (get_or old i 0) (get_or new i 0)) (get_or taking i 0))
+chosen_lane old new taking ho hn ht i h =
+    let both_len : length (zip2 bit_xor old new) ≡ 32 = length-zip2 bit_xor old new (ho ∙ sym hn) ∙ ho in
+    let masked_len : length (zip2 bit_and (zip2 bit_xor old new) taking) ≡ 32 =
+    length-zip2 bit_and (zip2 bit_xor old new) taking (both_len ∙ sym ht) ∙ both_len in
+    get_or-zip2 bit_xor old (zip2 bit_and (zip2 bit_xor old new) taking) i 0 0 0 (omega arith) (omega arith)
+    ∙ ap (bit_xor (get_or old i 0))
+    (get_or-zip2 bit_and (zip2 bit_xor old new) taking i 0 0 0 (omega arith) (omega arith)
+    ∙ ap (λ z. bit_and z (get_or taking i 0)) (get_or-zip2 bit_xor old new i 0 0 0 (omega arith) (omega arith)))
+
+pub lanes_chosen_new : (old new taking : List ℕ) → length old ≡ 32 → length new ≡ 32 → length taking ≡ 32
+    → Each1 (Fits w8) old → Each1 (Fits w8) new → (i : ℕ) → i < 32 → get_or taking i 0 ≡ 255
+    → get_or (zip2 bit_xor old (zip2 bit_and (zip2 bit_xor old new) taking)) i 0 ≡ get_or new i 0
+lanes_chosen_new old new taking ho hn ht fo fn i h e =
+    let a = get_or old i 0 in
+    let b = get_or new i 0 in
+    let a_lt : a < 256 = Each1-get_or (λ x. x < 256) old i 0 (omega arith) (below_from_Fits w8 old fo) in
+    let b_lt : b < 256 = Each1-get_or (λ x. x < 256) new i 0 (omega arith) (below_from_Fits w8 new fn) in
+    let sum_lt : bit_xor a b < 256 = xor_lt 8 a b a_lt b_lt in
+    let whole : bit_xor a b % 256 ≡ bit_xor a b = omega arith in
+    chosen_lane old new taking ho hn ht i h
+    ∙ ap (λ z. bit_xor a (bit_and (bit_xor a b) z)) e
+    ∙ ap (bit_xor a) (and_mask (bit_xor a b) 8 ∙ whole)
+    ∙ xor_twice_left a b
+
+pub lanes_chosen_old : (old new taking : List ℕ) → length old ≡ 32 → length new ≡ 32 → length taking ≡ 32
+    → (i : ℕ) → i < 32 → get_or taking i 0 ≡ 0
+    → get_or (zip2 bit_xor old (zip2 bit_and (zip2 bit_xor old new) taking)) i 0 ≡ get_or old i 0
+lanes_chosen_old old new taking ho hn ht i h e =
+    let a = get_or old i 0 in
+    let b = get_or new i 0 in
+    let none : bit_xor a b % 1 ≡ 0 = omega arith in
+    chosen_lane old new taking ho hn ht i h
+    ∙ ap (λ z. bit_xor a (bit_and (bit_xor a b) z)) e
+    ∙ ap (bit_xor a) (and_mask (bit_xor a b) 0 ∙ none)
+    ∙ xor_zero_r a

@@ -1,7 +1,9 @@
+pub mod ColumnLemmas
 pub mod EdcLemmas
 pub mod EdcTableLemmas
 pub mod FieldLemmas
 pub mod FieldTableLemmas
+pub mod FoldingLemmas
 pub mod LaneLemmas
 pub mod ListLemmas
 pub mod SyndromeLemmas

@@ -13,6 +13,10 @@ abbrev pub ProductByBits : Type 0
 ProductByBits =
     (a b : ℕ) → a < 256 → b < 256 → product a b ≡ bit_xor (product (double a) (b / 2)) (if b % 2 == 1 then a else 0)
 
+-- and it is 0 where `b` has none
+abbrev pub ProductOfNone : Type 0
+ProductOfNone = (a : ℕ) → product a 0 ≡ 0
+
 -- two byte lists are of one length, and differ at most in their last n bytes
 pub record DifferAtMostInLast (n : ℕ) (v w : List ℕ) : Type 0 where
   pub bytes_left : AreBytes v

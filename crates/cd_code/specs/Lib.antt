@@ -1,4 +1,6 @@
 pub mod Edc
 pub mod Field
+pub mod Folding
+pub mod LaneWords
 pub mod Laws
 pub mod Syndrome

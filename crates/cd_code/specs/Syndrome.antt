@@ -1,7 +1,7 @@
 -- The two syndromes of a list of bytes, and its code words (ECMA-130, Annex A).
-use Rattle.std.specs.Prelude.{◌≡◌, ℕ, ◌+◌, ◌*◌, List, [], ◌∷◌, length, map, bit_xor, slice_index, slice_set}
+use Rattle.std.specs.Prelude.{◌≡◌, ℕ, ◌+◌, ◌*◌, List, [], ◌∷◌, ◌++◌, length, map, bit_xor, slice_index, slice_set}
 use Rattle.std.specs.List.{range_with_len}
-use Rattle.cd_code.specs.Field.{product, power}
+use Rattle.cd_code.specs.Field.{AreBytes, product, power}
 
 -- the sum of all bytes
 unfoldable pub first_syndrome : List ℕ → ℕ
@@ -17,6 +17,11 @@ second_syndrome (x ∷ xs) = bit_xor (product (power (length xs)) x) (second_syn
 pub record IsCodeWord (v : List ℕ) : Type 0 where
   pub first : first_syndrome v ≡ 0
   pub second : second_syndrome v ≡ 0
+
+-- two bytes behind any list with these syndromes make it a code word
+abbrev pub IsPair : ℕ → ℕ → ℕ → ℕ → Type 0
+IsPair plain weighted a b =
+    (v : List ℕ) → AreBytes v → first_syndrome v ≡ plain → second_syndrome v ≡ weighted → IsCodeWord (v ++ a ∷ b ∷ [])
 
 -- both syndromes of one list are those of the other
 pub record SameSums (v w : List ℕ) : Type 0 where

@@ -1,11 +1,13 @@
 //! The syndromes of the 86 columns of rows that lie one behind the other, all columns of a row side by
 //! side (ECMA-130, Annex A).
 
-ghost use Rattle.std.specs.Prelude.{◌≡◌, ℕ, ◌<◌, bit_xor, replicate, slice_index};
+ghost use Rattle.std.specs.Prelude.{◌≡◌, ℕ, ◌<◌, List, [], ◌∷◌, ◌++◌, bit_xor, replicate, slice_index};
 ghost use Rattle.cd_code.specs.Field.{double};
+ghost use Rattle.cd_code.specs.LaneWords.{AreColumns, column_of_rows};
 ghost use Rattle.cd_code.specs.Syndrome.{column, first_syndrome, second_syndrome};
 
-use crate::lanes::{add_lanes, add_rest, double_and_add_lanes};
+use crate::lane_sums::LaneSums;
+use crate::lanes::{add_lanes, add_rest, double_and_add_lanes, lanes_at, put_lanes};
 
 /// Both syndromes of 86 columns of bytes, by column: entry `2N + plane` is of column N of that plane
 /// (ECMA-130, Annex A).
@@ -45,15 +47,76 @@ pub fn row_sums(row: &[u8; 86], sums: &mut ColumnSums)
     add_rest(&mut sums.plain, &mut sums.weighted, row, 64);
 }
 
+/// Both syndromes of 86 columns of rows, in registers (ECMA-130, Annex A).
+#[derive(Clone, Copy)]
+pub struct ColumnLanes {
+    /// Those of columns 0 to 31.
+    pub front: LaneSums,
+    /// Those of columns 32 to 63.
+    pub middle: LaneSums,
+    /// Those of columns 54 to 85.
+    pub back: LaneSums,
+}
+
+impl ColumnLanes {
+    /// The sums of 86 columns that have no row yet, all `00`.
+    #[inline(always)]
+    fn zero() -> Self
+        ensures { AreColumns (λ _. []) result }
+    {
+        ColumnLanes {
+            front: LaneSums::zero(),
+            middle: LaneSums::zero(),
+            back: LaneSums::zero(),
+        }
+    }
+
+    /// Puts one more row under the columns.
+    #[inline(always)]
+    fn with_row(self, row: &[u8; 86]) -> Self
+        ensures { (word longer : ℕ → List ℕ) → AreColumns word self
+            → ((c : ℕ) → c < 86 → longer c ≡ word c ++ slice_index row.now c ∷ []) → AreColumns longer result }
+    {
+        ColumnLanes {
+            front: self.front.with_lanes(lanes_at(row, 0)),
+            middle: self.middle.with_lanes(lanes_at(row, 32)),
+            back: self.back.with_lanes(lanes_at(row, 54)),
+        }
+    }
+
+    /// All 86 sums in their order.
+    fn sums(self) -> ColumnSums
+        ensures { (word : ℕ → List ℕ) → AreColumns word self → (c : ℕ) → c < 86
+            → (slice_index result.plain c ≡ first_syndrome (word c)) × (slice_index result.weighted c ≡ second_syndrome (word c)) }
+    {
+        let mut sums = ColumnSums::zero();
+        put_lanes(&mut sums.plain, 0, self.front.plain);
+        put_lanes(&mut sums.plain, 32, self.middle.plain);
+        put_lanes(&mut sums.plain, 54, self.back.plain);
+        put_lanes(&mut sums.weighted, 0, self.front.weighted);
+        put_lanes(&mut sums.weighted, 32, self.middle.weighted);
+        put_lanes(&mut sums.weighted, 54, self.back.weighted);
+        sums
+    }
+}
+
+/// Both syndromes of the 86 columns of any number of rows (ECMA-130, Annex A).
+#[inline(always)]
+pub fn column_lanes(rows: &[[u8; 86]]) -> ColumnLanes
+    ensures { AreColumns (column_of_rows rows.now) result }
+{
+    let mut lanes = ColumnLanes::zero();
+    for row in rows {
+        lanes = lanes.with_row(row);
+    }
+    lanes
+}
+
 /// Both syndromes of each of the 86 columns of 26 rows of 86 bytes (ECMA-130, Annex A).
 pub fn column_sums(rows: &[u8; 2236]) -> ColumnSums
     ensures plain { (c : ℕ) → c < 86 → slice_index result.plain c ≡ first_syndrome (column rows.now c) }
     ensures weighted { (c : ℕ) → c < 86 → slice_index result.weighted c ≡ second_syndrome (column rows.now c) }
 {
     let (each_row, _) = rows.as_chunks::<86>();
-    let mut sums = ColumnSums::zero();
-    for row in each_row {
-        row_sums(row, &mut sums);
-    }
-    sums
+    column_lanes(each_row).sums()
 }

@@ -4,6 +4,7 @@ ghost use Rattle.std.specs.Prelude.{◌≡◌, ℕ, ◌<◌, List, [], ◌∷◌
 ghost use Rattle.cd_code.specs.Edc.{IsEdc};
 
 use crate::edc_tables::WORDS;
+use crate::folding::Folded;
 
 /// The EDC word of any list of bytes, 32 bits: its four bytes, least significant first, make the list
 /// followed by them divisible by the generator (ECMA-130, the EDC field of a sector).
@@ -11,8 +12,21 @@ pub fn edc_of(bytes: &[u8]) -> u32
     ensures word { IsEdc bytes.now result }
     ensures alone { (w : ℕ) → IsEdc bytes.now w → w ≡ result }
 {
+    let (blocks, rest) = bytes.as_chunks::<64>();
+    let mut folded = Folded::zero();
+    for block in blocks {
+        folded = folded.with_block(block);
+    }
+    let (older, newer) = folded.halves();
+    with_bytes(with_bytes(with_bytes(0, &older), &newer), rest)
+}
+
+/// The EDC word of a list whose word is known, with more bytes behind it.
+fn with_bytes(word: u32, bytes: &[u8]) -> u32
+    ensures { (v : List ℕ) → IsEdc v word → IsEdc (v ++ bytes.now) result }
+{
     let (eights, rest) = bytes.as_chunks::<8>();
-    let mut word = 0;
+    let mut word = word;
     for eight in eights {
         word = with_eight(word, eight);
     }

@@ -1,11 +1,29 @@
 //! Sums of many field elements side by side, 32 lanes at a time.
 
-ghost use Rattle.std.specs.Prelude.{◌≡◌, ℕ, ◌+◌, ◌<◌, ◌≤◌, bit_xor, length, map, slice_index};
-ghost use Rattle.std.specs.Simd.Lanes.{Each1};
+ghost use Rattle.std.specs.Prelude.{◌≡◌, ℕ, ◌+◌, ◌<◌, ◌≤◌, ◌⊎◌, bit_xor, length, map, slice_index};
 ghost use Rattle.cd_code.specs.Field.{double};
 
 use crate::field::doubled;
 use std::simd::prelude::*;
+
+/// 32 bytes from place `at` on.
+#[inline(always)]
+pub fn lanes_at(bytes: &[u8], at: usize) -> u8x32
+    requires { at + 32 ≤ length bytes.now }
+    ensures { (i : ℕ) → i < 32 → slice_index result i ≡ slice_index bytes.now (at + i) }
+{
+    u8x32::from_slice(&bytes[at..])
+}
+
+/// Writes 32 lanes from place `at` on.
+#[inline(always)]
+pub fn put_lanes(bytes: &mut [u8], at: usize, lanes: u8x32)
+    requires { at + 32 ≤ length bytes.old }
+    ensures inside { (i : ℕ) → i < 32 → slice_index bytes.new (at + i) ≡ slice_index lanes i }
+    ensures outside { (k : ℕ) → (k < at) ⊎ (at + 32 ≤ k) → slice_index bytes.new k ≡ slice_index bytes.old k }
+{
+    lanes.copy_to_slice(&mut bytes[at..]);
+}
 
 /// Adds 32 bytes of a row, from place `at` on, to the sums at the same places.
 pub(crate) fn add_lanes(sums: &mut [u8], row: &[u8], at: usize)
@@ -34,9 +52,8 @@ pub(crate) fn double_and_add_lanes(sums: &mut [u8], row: &[u8], at: usize)
 }
 
 /// 32 field elements times alpha.
-fn doubled_lanes(v: u8x32) -> u8x32
-    requires lanes { length v ≡ 32 }
-    requires bytes { Each1 (λ x. x < 256) v }
+#[inline(always)]
+pub(crate) fn doubled_lanes(v: u8x32) -> u8x32
     ensures { result ≡ map double v }
 {
     let carried = v

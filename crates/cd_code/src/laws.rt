@@ -1,6 +1,6 @@
 //! Laws of the definitions, each the contract of a function that does nothing.
 
-ghost use Rattle.cd_code.specs.Laws.{EdcIsUnique, PairIsUnique, ProductByBits, SumByBits};
+ghost use Rattle.cd_code.specs.Laws.{EdcIsUnique, PairIsUnique, ProductByBits, ProductOfNone, SumByBits};
 
 /// A sum of field elements goes bit by bit.
 pub fn sum_goes_by_bits()
@@ -9,7 +9,8 @@ pub fn sum_goes_by_bits()
 
 /// A product of field elements goes by the bits of its second factor.
 pub fn product_goes_by_bits()
-    ensures { ProductByBits }
+    ensures by_bits { ProductByBits }
+    ensures none { ProductOfNone }
 {}
 
 /// Two lists that differ at most in their last two bytes and have equal syndromes are equal.

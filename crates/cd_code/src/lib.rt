@@ -7,13 +7,17 @@ mod edc;
 mod edc_tables;
 mod field;
 mod field_tables;
+mod folding;
+mod lane_sums;
 mod lanes;
 mod laws;
 mod syndrome;
 
-pub use columns::{ColumnSums, column_sums, row_sums};
+pub use columns::{ColumnLanes, ColumnSums, column_lanes, column_sums, row_sums};
 pub use edc::edc_of;
 pub use field::{alpha_power, times};
+pub use lane_sums::LaneSums;
+pub use lanes::{lanes_at, put_lanes};
 pub use laws::{edc_is_unique, pair_is_unique, product_goes_by_bits, sum_goes_by_bits};
 pub use syndrome::{pair_change, pair_from, parity_pair, syndromes};
 

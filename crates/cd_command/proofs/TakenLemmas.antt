@@ -1,6 +1,6 @@
 -- Where the definition gives no kind of error for the words, the matches name a command, and have
--- an image and a base in its range.
-use Rattle.std.proofs.Common.{inl, inr, ap, length, slice_index_or, ◌≡◌, ◌&&◌, ◌||◌, Bool, true, false, cond, List, [], ◌∷◌, ◌++◌, Option, Some, None, arith, codes, refl}
+-- its texts and a base in its range.
+use Rattle.std.proofs.Common.{inl, inr, ap, length, ℕ, slice_index_or, ◌≡◌, ◌&&◌, ◌||◌, Bool, true, false, cond, List, [], ◌∷◌, ◌++◌, Option, Some, None, arith, codes, refl}
 use Rattle.std.specs.Prelude.{IsSome, find, if◌then◌else◌, is_some, not, option_and_then, option_map, pos, slice_get, slice_index}
 use Rattle.std.specs.List.{list_any}
 use Rattle.std.specs.Option.{option_map_or}
@@ -22,7 +22,7 @@ use Rattle.clap.specs.declared.error.kind.ErrorKind.TheVariants.{DisplayHelp, Va
 use Rattle.clap.specs.declared.parser.matches.ValueSource.{ValueSource}
 use Rattle.clap.specs.declared.parser.matches.ValueSource.TheVariants.{DefaultValue}
 use Rattle.clap.proofs.ValueTestLemmas.{accepts-Accepts}
-use Rattle.cd_command.specs.CommandLine.{HasBase, IsComplete, base_rule, command_line, image_rule, image_shape, program_shape}
+use Rattle.cd_command.specs.CommandLine.{HasBase, IsComplete, apply_shape, base_rule, check_shape, command_line, image_shape, max_base, program_shape, text_rule}
 use Rattle.cd_command.proofs.WalkLemmas.{AllStart, Each, Each-find, IsUsedBy, Starts, Uses, level_parts, level_starts, neither}
 
 -- ---- the row of an argument with a default
@@ -83,7 +83,7 @@ has_row-found id (r ∷ rs) there = go (bytes_eq r.id id) refl (has_row-found id
 
 -- a text of `--base` is a number in the range, and is read without a minus
 abbrev IsBaseText : Text → Reading → Text → Type 0
-IsBaseText id how text = id ≡ codes "base" → (how ≡ WithoutMinus) × IsSignedIn (pos 0) (pos 449849) text
+IsBaseText id how text = id ≡ codes "base" → (how ≡ WithoutMinus) × IsSignedIn (pos 0) (pos max_base) text
 
 first_given : (id : Text) (rows : List Row) → AllStart IsBaseText rows → is_given id rows ≡ true → IsSome (first_of id rows)
 first_given id rows starts given = go (find (λ r. bytes_eq r.id id) rows) (Each-find (Starts IsBaseText) (λ r. bytes_eq r.id id) rows starts) given
@@ -107,16 +107,16 @@ base_read rows starts there =
 abbrev leaf : Shape → Shape
 leaf s = built_leaf (inherited (with_leaf_noted (marked_built program_shape)) s)
 
-accepted_value : (v : Text) (vs : List Text) → values_kinds false (vp.Signed (pos 0) (pos 449849)) (v ∷ vs) ≡ [] → IsSignedIn (pos 0) (pos 449849) v
-accepted_value v vs e = go (accepts false (vp.Signed (pos 0) (pos 449849)) v) refl e
+accepted_value : (v : Text) (vs : List Text) → values_kinds false (vp.Signed (pos 0) (pos max_base)) (v ∷ vs) ≡ [] → IsSignedIn (pos 0) (pos max_base) v
+accepted_value v vs e = go (accepts false (vp.Signed (pos 0) (pos max_base)) v) refl e
   where
-    go : (b : Bool) → accepts false (vp.Signed (pos 0) (pos 449849)) v ≡ b
-        → or_else (if b then [] else ValueValidation ∷ []) (values_kinds false (vp.Signed (pos 0) (pos 449849)) vs) ≡ [] → IsSignedIn (pos 0) (pos 449849) v
-    go true is none = accepts-Accepts false (vp.Signed (pos 0) (pos 449849)) v is
+    go : (b : Bool) → accepts false (vp.Signed (pos 0) (pos max_base)) v ≡ b
+        → or_else (if b then [] else ValueValidation ∷ []) (values_kinds false (vp.Signed (pos 0) (pos max_base)) vs) ≡ [] → IsSignedIn (pos 0) (pos max_base) v
+    go true is none = accepts-Accepts false (vp.Signed (pos 0) (pos max_base)) v is
     go false is none = cc
 
-abbrev image_built : Rule
-image_built = with_index 1 (filled image_rule)
+abbrev text_built : ℕ → Text → Rule
+text_built index id = with_index index (filled (text_rule id))
 
 abbrev base_built : Rule
 base_built = filled base_rule
@@ -124,14 +124,10 @@ base_built = filled base_rule
 abbrev help_built : Rule
 help_built = filled help_rule
 
-image_use : (again : Bool) (values : List Text) (rows : List Row) → use_fault again image_built values rows ≡ [] → Uses IsBaseText image_built values
-image_use again [] rows e = cc
-image_use again (v ∷ vs) rows e = record {
-  replacing = refl;
-  first = v;
-  is_first = refl;
-  holds = λ is. let bad : 105 ≡ 98 = ap (λ t. slice_index t 0) is in absurd (omega arith);
-}
+text_use : (index : ℕ) (id : Text) → (id ≡ codes "base" → ⊥) → (again : Bool) (values : List Text) (rows : List Row)
+    → use_fault again (text_built index id) values rows ≡ [] → Uses IsBaseText (text_built index id) values
+text_use index id other again [] rows e = cc
+text_use index id other again (v ∷ vs) rows e = record { replacing = refl; first = v; is_first = refl; holds = λ is. absurd (other is) }
 
 base_use : (again : Bool) (values : List Text) (rows : List Row) → use_fault again base_built values rows ≡ [] → Uses IsBaseText base_built values
 base_use again [] rows e = cc
@@ -148,20 +144,43 @@ help_use again values rows e =
 base_default : (v : Text) (vs : List Text) → base_built.defaults ≡ v ∷ vs → IsBaseText (codes "base") WithoutMinus v
 base_default v vs e is =
     let same : codes "0" ≡ v = ap (λ (ts : List Text). slice_index_or ts 0 v) e in
-    (refl, rw (← same) (accepts-Accepts false (vp.Signed (pos 0) (pos 449849)) (codes "0") refl))
+    (refl, rw (← same) (accepts-Accepts false (vp.Signed (pos 0) (pos max_base)) (codes "0") refl))
+
+text_used : (index : ℕ) (id : Text) → (id ≡ codes "base" → ⊥) → IsUsedBy IsBaseText (text_built index id)
+text_used index id other = record { use_of = text_use index id other; default_of = λ v vs e. cc }
+
+-- texts that begin with other bytes
+differ : (a b : ℕ) (s t : Text) → (a ≡ b → ⊥) → a ∷ s ≡ b ∷ t → ⊥
+differ a b s t other e = other (ap (λ (l : List ℕ). slice_index l 0) e)
+
+image_used : IsUsedBy IsBaseText (text_built 1 (codes "image"))
+image_used = text_used 1 (codes "image") (differ _ _ _ _ (λ e. omega arith))
+
+script_used : IsUsedBy IsBaseText (text_built 2 (codes "script"))
+script_used = text_used 2 (codes "script") (differ _ _ _ _ (λ e. omega arith))
+
+out_used : IsUsedBy IsBaseText (text_built 3 (codes "out"))
+out_used = text_used 3 (codes "out") (differ _ _ _ _ (λ e. omega arith))
+
+base_used : IsUsedBy IsBaseText base_built
+base_used = record { use_of = base_use; default_of = base_default }
+
+help_used : IsUsedBy IsBaseText help_built
+help_used = record { use_of = help_use; default_of = λ v vs e. cc }
 
 image_rules : (name : Text) → Each (IsUsedBy IsBaseText) (leaf (image_shape name)).rules
-image_rules name = (
-  record { use_of = image_use; default_of = λ v vs e. cc },
-  (
-    record { use_of = base_use; default_of = base_default },
-    (record { use_of = help_use; default_of = λ v vs e. cc }, tt),
-  ),
-)
+image_rules name = (image_used, (base_used, (help_used, tt)))
 
-required_given : (b : Bool) → (not b || false) ≡ false → b ≡ true
-required_given true e = refl
-required_given false e = cc
+check_rules : Each (IsUsedBy IsBaseText) (leaf check_shape).rules
+check_rules = (image_used, (script_used, (base_used, (help_used, tt))))
+
+apply_rules : Each (IsUsedBy IsBaseText) (leaf apply_shape).rules
+apply_rules = (image_used, (script_used, (out_used, (base_used, (help_used, tt)))))
+
+-- one that is required, and the others
+required_given : (b rest : Bool) → (not b || rest) ≡ false → (b ≡ true) × (rest ≡ false)
+required_given true rest e = (refl, e)
+required_given false rest e = cc
 
 no_check : (help subcommand argument : Bool) → check_kinds help subcommand argument ≡ [] → (subcommand ≡ false) × (argument ≡ false)
 no_check true subcommand argument e = cc
@@ -181,6 +200,24 @@ check_parts : (s : Shape) (rows : List Row) (met : Bool) → check_fault s rows 
 check_parts s rows met e = no_check (not met && (s.arg_required_else_help && not (list_any (λ (r : Row). explicit_source r.source) rows))) (not met && s.subcommand_required)
     (not (s.subcommand_negates_reqs && met) && list_any (λ (a : Rule). a.required && not (is_given a.id rows)) s.rules) e
 
+-- what the rows of a command have where its words give no kind
+module _ (s : Shape) (by : Each (IsUsedBy IsBaseText) s.rules) (words : List Text) (e : level_fault s [] nothing_held words false [] ≡ []) where
+  abbrev held_rows : List Row
+  held_rows = (settled s.rules (walk s.rules [] nothing_held words).held).rows
+
+  abbrev level_rows : List Row
+  level_rows = finished s.rules (walk s.rules [] nothing_held words).held
+
+  level_start : AllStart IsBaseText level_rows
+  level_start = level_starts IsBaseText s by [] words false [] e
+
+  level_checked : (not (s.subcommand_negates_reqs && false) && list_any (λ (a : Rule). a.required && not (is_given a.id level_rows)) s.rules) ≡ false
+  level_checked = (check_parts s level_rows false (level_parts s [] words false [] e).checks).1
+
+-- the option `--base` has a row behind its default
+based : (rows : List Row) → has_row (codes "base") (with_default (with_default rows base_built) help_built) ≡ true
+based rows = default_stays (codes "base") help_built (with_default rows base_built) (default_there base_built (codes "0") [] rows refl refl)
+
 -- the image and the base of a command's matches
 pub record HasImage (rows : List Row) : Type 0 where
   pub image : IsSome (first_of (codes "image") rows)
@@ -189,16 +226,12 @@ pub record HasImage (rows : List Row) : Type 0 where
 image_level : (name : Text) (words : List Text) → level_fault (leaf (image_shape name)) [] nothing_held words false [] ≡ [] → HasImage (rows_at (leaf (image_shape name)) words).1
 image_level name words e =
     let s = leaf (image_shape name) in
-    let rows = finished s.rules (walk s.rules [] nothing_held words).held in
-    let starts = level_starts IsBaseText s (image_rules name) [] words false [] e in
-    let parts = level_parts s [] words false [] e in
-    let checked = check_parts s rows false parts.checks in
-    let held = (settled s.rules (walk s.rules [] nothing_held words).held).rows in
-    let imaged = with_default held image_built in
-    let based : has_row (codes "base") (with_default imaged base_built) ≡ true = default_there base_built (codes "0") [] imaged refl refl in
+    let rows = level_rows s (image_rules name) words e in
+    let starts = level_start s (image_rules name) words e in
+    let image = required_given (is_given (codes "image") rows) false (level_checked s (image_rules name) words e) in
     record {
-      image = first_given (codes "image") rows starts (required_given (is_given (codes "image") rows) checked.1);
-      base = base_read rows starts (default_stays (codes "base") help_built (with_default imaged base_built) based);
+      image = first_given (codes "image") rows starts image.0;
+      base = base_read rows starts (based (with_default (held_rows s (image_rules name) words e) (text_built 1 (codes "image"))));
     }
 
 -- ---- the program
@@ -210,12 +243,67 @@ IsSound s = (words : List Text) → level_fault s [] nothing_held words false []
 list_sound : IsSound (leaf (image_shape (codes "list")))
 list_sound words e =
     let has = image_level (codes "list") words e in
-    record { name = inl refl; image = has.image; base = has.base }
+    record {
+      name = inl refl;
+      image = has.image;
+      script = λ is. elim is [
+        | inl e ↦ absurd (differ 108 99 _ _ (λ e. omega arith) e)
+        | inr e ↦ absurd (differ 108 97 _ _ (λ e. omega arith) e)
+      ];
+      out = λ e. absurd (differ 108 97 _ _ (λ e. omega arith) e);
+      base = has.base;
+    }
+
+-- texts that differ in their second bytes
+differ_next : (x a b : ℕ) (s t : Text) → (a ≡ b → ⊥) → x ∷ a ∷ s ≡ x ∷ b ∷ t → ⊥
+differ_next x a b s t other e = other (ap (λ (l : List ℕ). slice_index l 1) e)
 
 audit_sound : IsSound (leaf (image_shape (codes "audit")))
 audit_sound words e =
     let has = image_level (codes "audit") words e in
-    record { name = inr refl; image = has.image; base = has.base }
+    record {
+      name = inr (inl refl);
+      image = has.image;
+      script = λ is. elim is [
+        | inl e ↦ absurd (differ 97 99 _ _ (λ e. omega arith) e)
+        | inr e ↦ absurd (differ_next 97 117 112 _ _ (λ e. omega arith) e)
+      ];
+      out = λ e. absurd (differ_next 97 117 112 _ _ (λ e. omega arith) e);
+      base = has.base;
+    }
+
+check_sound : IsSound (leaf check_shape)
+check_sound words e =
+    let s = leaf check_shape in
+    let rows = level_rows s check_rules words e in
+    let starts = level_start s check_rules words e in
+    let image = required_given (is_given (codes "image") rows) _ (level_checked s check_rules words e) in
+    let script = required_given (is_given (codes "script") rows) false image.1 in
+    let text = with_default (held_rows s check_rules words e) (text_built 1 (codes "image")) in
+    record {
+      name = inr (inr (inl refl));
+      image = first_given (codes "image") rows starts image.0;
+      script = λ is. first_given (codes "script") rows starts script.0;
+      out = λ e. absurd (differ 99 97 _ _ (λ e. omega arith) e);
+      base = base_read rows starts (based (with_default text (text_built 2 (codes "script"))));
+    }
+
+apply_sound : IsSound (leaf apply_shape)
+apply_sound words e =
+    let s = leaf apply_shape in
+    let rows = level_rows s apply_rules words e in
+    let starts = level_start s apply_rules words e in
+    let image = required_given (is_given (codes "image") rows) _ (level_checked s apply_rules words e) in
+    let script = required_given (is_given (codes "script") rows) _ image.1 in
+    let out = required_given (is_given (codes "out") rows) false script.1 in
+    let text = with_default (with_default (held_rows s apply_rules words e) (text_built 1 (codes "image"))) (text_built 2 (codes "script")) in
+    record {
+      name = inr (inr (inr refl));
+      image = first_given (codes "image") rows starts image.0;
+      script = λ is. first_given (codes "script") rows starts script.0;
+      out = λ is. first_given (codes "out") rows starts out.0;
+      base = base_read rows starts (based (with_default text (text_built 3 (codes "out"))));
+    }
 
 -- the command that the words name, with what its matches have
 pub record Named (words : List Text) : Type 0 where
@@ -242,5 +330,5 @@ no_fault-named words e =
     let end = (walk program.top.rules (names_of program) nothing_held words).held in
     let checked = check_parts program.top (finished program.top.rules end) (is_some (entered program stop)) parts.checks in
     let there = subcommand_met (is_some (entered program stop)) checked.0 in
-    let named = named_at program stop (list_sound, (audit_sound, tt)) parts.enters there in
+    let named = named_at program stop (list_sound, (audit_sound, (check_sound, (apply_sound, tt)))) parts.enters there in
     record { matches = named.0; is = named.1; complete = named.2 }

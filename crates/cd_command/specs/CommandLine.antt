@@ -9,9 +9,13 @@ use Rattle.clap.specs.declared.builder.value_parser.ValueParser.TheVariants as v
 use Rattle.cd_command.specs.declared.job.Job.{Job}
 use Rattle.cd_command.specs.declared.job.Job.TheVariants as job
 
--- the text IMAGE, which each command needs
-abbrev pub image_rule : Rule
-image_rule = record (new_rule (codes "image")) { value_names = 1; required = true }
+-- the largest block number that has an address
+abbrev pub max_base : ℕ
+max_base = 449849
+
+-- a text that a command needs
+abbrev pub text_rule : Text → Rule
+text_rule id = record (new_rule id) { value_names = 1; required = true }
 
 -- the option `--base N`, a number of 0 to 449849, and 0 where it is not used
 abbrev pub base_rule : Rule
@@ -19,12 +23,24 @@ base_rule = record (new_rule (codes "base")) {
   long = Some (codes "base");
   value_names = 1;
   defaults = codes "0" ∷ [];
-  parser = Some (vp.Signed (pos 0) (pos 449849));
+  parser = Some (vp.Signed (pos 0) (pos max_base));
 }
 
 -- a command with the text IMAGE and the option `--base N`
 abbrev pub image_shape : Text → Shape
-image_shape name = record (new_shape name) { rules = image_rule ∷ base_rule ∷ [] }
+image_shape name = record (new_shape name) { rules = text_rule (codes "image") ∷ base_rule ∷ [] }
+
+-- `check`, with the texts IMAGE and SCRIPT
+abbrev pub check_shape : Shape
+check_shape = record (new_shape (codes "check")) {
+  rules = text_rule (codes "image") ∷ text_rule (codes "script") ∷ base_rule ∷ [];
+}
+
+-- `apply`, with the texts IMAGE, SCRIPT and OUT
+abbrev pub apply_shape : Shape
+apply_shape = record (new_shape (codes "apply")) {
+  rules = text_rule (codes "image") ∷ text_rule (codes "script") ∷ text_rule (codes "out") ∷ base_rule ∷ [];
+}
 
 -- the program, of which a command is required
 abbrev pub program_shape : Shape
@@ -35,11 +51,11 @@ program_shape = record (new_shape (codes "cdpatch")) {
   subcommand_required = true;
 }
 
--- `list IMAGE` and `audit IMAGE`
+-- `list IMAGE`, `audit IMAGE`, `check IMAGE SCRIPT` and `apply IMAGE SCRIPT OUT`
 unfoldable pub command_line : App
 command_line = record {
   top = program_shape;
-  subs = image_shape (codes "list") ∷ image_shape (codes "audit") ∷ [];
+  subs = image_shape (codes "list") ∷ image_shape (codes "audit") ∷ check_shape ∷ apply_shape ∷ [];
 }
 
 -- ---- the job
@@ -48,15 +64,23 @@ command_line = record {
 abbrev pub base_of : List Row → Option ℕ
 base_of rows = option_map (λ t. digits_value 10 (without_leading_plus t)) (one_of (codes "base") rows)
 
--- the image and the base of a command's rows
-abbrev pub HasTexts : List Row → Text → ℕ → Type 0
-HasTexts rows image base = (first_of (codes "image") rows ≡ Some image) × (base_of rows ≡ Some base)
+-- a command's rows have this text
+abbrev pub HasText : Text → List Row → Text → Type 0
+HasText id rows text = first_of id rows ≡ Some text
 
 -- the job has the name, the texts and the base of a command's matches
 abbrev pub HasMatches : Text × List Row → Job → Type 0
-HasMatches p (job.List image base) = (p.0 ≡ codes "list") × HasTexts p.1 (string_bytes image) base
+HasMatches p (job.List image base) =
+    (p.0 ≡ codes "list") × HasText (codes "image") p.1 (string_bytes image) × (base_of p.1 ≡ Some base)
 HasMatches p (job.Audit image base) =
-    (p.0 ≡ codes "audit") × HasTexts p.1 (string_bytes image) base
+    (p.0 ≡ codes "audit") × HasText (codes "image") p.1 (string_bytes image) × (base_of p.1 ≡ Some base)
+HasMatches p (job.Check image script base) =
+    (p.0 ≡ codes "check") × HasText (codes "image") p.1 (string_bytes image)
+    × HasText (codes "script") p.1 (string_bytes script) × (base_of p.1 ≡ Some base)
+HasMatches p (job.Apply image script out base) =
+    (p.0 ≡ codes "apply") × HasText (codes "image") p.1 (string_bytes image)
+    × HasText (codes "script") p.1 (string_bytes script) × HasText (codes "out") p.1 (string_bytes out)
+    × (base_of p.1 ≡ Some base)
 
 -- the job is the listing of this image
 abbrev pub Lists : Text → ℕ → Job → Type 0
@@ -77,6 +101,8 @@ IsTaken (w ∷ ws) = takes command_line (w ∷ ws) ≡ true
 abbrev pub base_in : Job → ℕ
 base_in (job.List image base) = base
 base_in (job.Audit image base) = base
+base_in (job.Check image script base) = base
+base_in (job.Apply image script out base) = base
 
 -- ---- what the matches of words that are taken have
 
@@ -84,10 +110,12 @@ base_in (job.Audit image base) = base
 pub record HasBase (rows : List Row) : Type 0 where
   pub text : Text
   pub read : one_of (codes "base") rows ≡ Some (without_minus text)
-  pub accepted : IsSignedIn (pos 0) (pos 449849) text
+  pub accepted : IsSignedIn (pos 0) (pos max_base) text
 
--- the matches name a command, and have an image and a base
+-- the matches name a command, and have its texts and a base
 pub record IsComplete (p : Text × List Row) : Type 0 where
-  pub name : (p.0 ≡ codes "list") ⊎ (p.0 ≡ codes "audit")
+  pub name : (p.0 ≡ codes "list") ⊎ (p.0 ≡ codes "audit") ⊎ (p.0 ≡ codes "check") ⊎ (p.0 ≡ codes "apply")
   pub image : IsSome (first_of (codes "image") p.1)
+  pub script : (p.0 ≡ codes "check") ⊎ (p.0 ≡ codes "apply") → IsSome (first_of (codes "script") p.1)
+  pub out : p.0 ≡ codes "apply" → IsSome (first_of (codes "out") p.1)
   pub base : HasBase p.1

@@ -6,41 +6,100 @@ ghost use Rattle.cd_command.specs.CommandLine.{Lists, base_in, base_of};
 ghost use Rattle.cd_command.specs.Fault.{HasKindOf};
 ghost use Rattle.cd_command.specs.declared.fault.LineFault.TheVariants.{NoMemory};
 
-use crate::definition::command_line;
+use crate::definition::{MAX_BASE, command_line};
 use crate::{Job, LineFault};
 use clap::ArgMatches;
 use std::alloc::{AllocError, Global};
 
-// The image of a command's matches.
-fn image_of(alloc: Global, matches: &ArgMatches<'_>) -> Result<String, AllocError>
-    requires { IsSome (first_of (codes "image") (rows_of (found_of matches.now))) }
-    ensures { IfOk result (λ image. first_of (codes "image") (rows_of (found_of matches.now))
-        ≡ Some (string_bytes image)) }
+// A text of a command's matches.
+fn text_of(alloc: Global, matches: &ArgMatches<'_>, id: &str) -> Result<String, AllocError>
+    requires { IsSome (first_of id.now (rows_of (found_of matches.now))) }
+    ensures { IfOk result (λ text. first_of id.now (rows_of (found_of matches.now))
+        ≡ Some (string_bytes text)) }
 {
-    let image = matches.get_str("image").unwrap();
-    String::from_str(alloc, image)
+    let text = matches.get_str(id).unwrap();
+    String::from_str(alloc, text)
 }
 
 // The base of a command's matches.
 fn base_of(matches: &ArgMatches<'_>) -> u32
     requires { HasBase (rows_of (found_of matches.now)) }
     ensures value { base_of (rows_of (found_of matches.now)) ≡ Some result }
-    ensures most { result ≤ 449849 }
+    ensures most { result ≤ MAX_BASE }
 {
     matches.get_one::<u32>("base").unwrap()
+}
+
+fn list_job(alloc: Global, matches: &ArgMatches<'_>) -> Result<Job, AllocError>
+    requires image { IsSome (first_of (codes "image") (rows_of (found_of matches.now))) }
+    requires base { HasBase (rows_of (found_of matches.now)) }
+    ensures job { IfOk result (HasMatches (codes "list", rows_of (found_of matches.now))) }
+    ensures base { IfOk result (λ job. base_in job ≤ MAX_BASE) }
+{
+    let image = text_of(alloc, matches, "image")?;
+    let base = base_of(matches);
+    Ok(Job::List { image, base })
+}
+
+fn audit_job(alloc: Global, matches: &ArgMatches<'_>) -> Result<Job, AllocError>
+    requires image { IsSome (first_of (codes "image") (rows_of (found_of matches.now))) }
+    requires base { HasBase (rows_of (found_of matches.now)) }
+    ensures job { IfOk result (HasMatches (codes "audit", rows_of (found_of matches.now))) }
+    ensures base { IfOk result (λ job. base_in job ≤ MAX_BASE) }
+{
+    let image = text_of(alloc, matches, "image")?;
+    let base = base_of(matches);
+    Ok(Job::Audit { image, base })
+}
+
+fn check_job(alloc: Global, matches: &ArgMatches<'_>) -> Result<Job, AllocError>
+    requires image { IsSome (first_of (codes "image") (rows_of (found_of matches.now))) }
+    requires script { IsSome (first_of (codes "script") (rows_of (found_of matches.now))) }
+    requires base { HasBase (rows_of (found_of matches.now)) }
+    ensures job { IfOk result (HasMatches (codes "check", rows_of (found_of matches.now))) }
+    ensures base { IfOk result (λ job. base_in job ≤ MAX_BASE) }
+{
+    let image = text_of(alloc, matches, "image")?;
+    let script = text_of(alloc, matches, "script")?;
+    let base = base_of(matches);
+    Ok(Job::Check {
+        image,
+        script,
+        base,
+    })
+}
+
+fn apply_job(alloc: Global, matches: &ArgMatches<'_>) -> Result<Job, AllocError>
+    requires image { IsSome (first_of (codes "image") (rows_of (found_of matches.now))) }
+    requires script { IsSome (first_of (codes "script") (rows_of (found_of matches.now))) }
+    requires out { IsSome (first_of (codes "out") (rows_of (found_of matches.now))) }
+    requires base { HasBase (rows_of (found_of matches.now)) }
+    ensures job { IfOk result (HasMatches (codes "apply", rows_of (found_of matches.now))) }
+    ensures base { IfOk result (λ job. base_in job ≤ MAX_BASE) }
+{
+    let image = text_of(alloc, matches, "image")?;
+    let script = text_of(alloc, matches, "script")?;
+    let out = text_of(alloc, matches, "out")?;
+    let base = base_of(matches);
+    Ok(Job::Apply {
+        image,
+        script,
+        out,
+        base,
+    })
 }
 
 // The job of a command's matches.
 fn entered_job(alloc: Global, name: &str, matches: &ArgMatches<'_>) -> Result<Job, AllocError>
     requires { IsComplete (name.now, rows_of (found_of matches.now)) }
     ensures job { IfOk result (HasMatches (name.now, rows_of (found_of matches.now))) }
-    ensures base { IfOk result (λ job. base_in job ≤ 449849) }
+    ensures base { IfOk result (λ job. base_in job ≤ MAX_BASE) }
 {
-    let image = image_of(alloc, matches)?;
-    let base = base_of(matches);
     match name {
-        "audit" => Ok(Job::Audit { image, base }),
-        _ => Ok(Job::List { image, base }),
+        "list" => list_job(alloc, matches),
+        "audit" => audit_job(alloc, matches),
+        "check" => check_job(alloc, matches),
+        _ => apply_job(alloc, matches),
     }
 }
 
@@ -56,7 +115,7 @@ fn standard_input_job(alloc: Global) -> Result<Job, AllocError>
 /// standard input from block 0, and else the command that the words name, which is required.
 pub fn job_of(alloc: Global, words: Vec<String>) -> Result<Job, LineFault>
     ensures ok { IfOk result (IsJobOf (map string_bytes words.items)) }
-    ensures base { IfOk result (λ job. base_in job ≤ 449849) }
+    ensures base { IfOk result (λ job. base_in job ≤ MAX_BASE) }
 
     // No words, and words that the definition takes, are refused for want of memory alone.
     ensures refused { IfErr result (λ fault. IsTaken (map string_bytes words.items)

@@ -2,20 +2,57 @@
 ghost use Rattle.std.specs.Prelude.{◌≡◌, IfOk, codes, false};
 ghost use Rattle.clap.specs.Words.{app_of, rule_of, shape_of};
 ghost use Rattle.clap.specs.declared.builder.command.Command.TheViews.{out-Command};
-ghost use Rattle.cd_command.specs.CommandLine.{base_rule, command_line, image_rule, image_shape};
+ghost use Rattle.cd_command.specs.CommandLine.{apply_shape, base_rule, check_shape, command_line, image_shape, text_rule};
 
 use clap::{Arg, Command, value_parser};
 use std::alloc::{AllocError, Global};
 
-// The image that a command reads.
-fn image_argument<'a>(alloc: Global) -> Arg<'a>
-    ensures rule { rule_of result ≡ image_rule }
+/// The largest block number that has an address, 99:59:74.
+pub const MAX_BASE: u32 = 449_849;
+
+// A text that a command needs.
+fn text_argument<'a>(alloc: Global, id: &'a str, name: &'a str, help: &'a str) -> Arg<'a>
+    ensures rule { rule_of result ≡ text_rule id.now }
     ensures local { result.global ≡ false }
 {
-    Arg::new(alloc, "image")
+    Arg::new(alloc, id)
         .required(true)
-        .value_name("IMAGE")
-        .help("The image, or - for the standard input")
+        .value_name(name)
+        .help(help)
+}
+
+// The image that a command reads.
+fn image_argument<'a>(alloc: Global) -> Arg<'a>
+    ensures rule { rule_of result ≡ text_rule (codes "image") }
+    ensures local { result.global ≡ false }
+{
+    text_argument(
+        alloc,
+        "image",
+        "IMAGE",
+        "The image, or - for the standard input",
+    )
+}
+
+// The script whose patches a command takes.
+fn script_argument<'a>(alloc: Global) -> Arg<'a>
+    ensures rule { rule_of result ≡ text_rule (codes "script") }
+    ensures local { result.global ≡ false }
+{
+    text_argument(alloc, "script", "SCRIPT", "The file of the patch script")
+}
+
+// The patched image that a command makes.
+fn out_argument<'a>(alloc: Global) -> Arg<'a>
+    ensures rule { rule_of result ≡ text_rule (codes "out") }
+    ensures local { result.global ≡ false }
+{
+    text_argument(
+        alloc,
+        "out",
+        "OUT",
+        "The file that is made, which must not exist",
+    )
 }
 
 // The block number of the first sector.
@@ -27,7 +64,7 @@ fn base_argument<'a>(alloc: Global) -> Arg<'a>
         .long("base")
         .value_name("N")
         .default_value("0")
-        .value_parser(value_parser!(u32).range(0..=449_849))
+        .value_parser(value_parser!(u32).range(0..=i64::from(MAX_BASE)))
         .help("The block number of the first sector, at most 449849")
 }
 
@@ -51,6 +88,29 @@ fn audit_command<'a>(alloc: Global) -> Result<Command<'a>, AllocError>
         .arg(base_argument(alloc))
 }
 
+fn check_command<'a>(alloc: Global) -> Result<Command<'a>, AllocError>
+    ensures shape { IfOk result (λ c. shape_of c ≡ check_shape) }
+    ensures local { IfOk result (λ c. (out-Command c).has_globals ≡ false) }
+{
+    Command::new(alloc, "check")
+        .about("Report what a script's patches would do to an image")
+        .arg(image_argument(alloc))?
+        .arg(script_argument(alloc))?
+        .arg(base_argument(alloc))
+}
+
+fn apply_command<'a>(alloc: Global) -> Result<Command<'a>, AllocError>
+    ensures shape { IfOk result (λ c. shape_of c ≡ apply_shape) }
+    ensures local { IfOk result (λ c. (out-Command c).has_globals ≡ false) }
+{
+    Command::new(alloc, "apply")
+        .about("Patch an image by a script, into a new file")
+        .arg(image_argument(alloc))?
+        .arg(script_argument(alloc))?
+        .arg(out_argument(alloc))?
+        .arg(base_argument(alloc))
+}
+
 /// The parser of the command line.
 pub fn command_line<'a>(alloc: Global) -> Result<Command<'a>, AllocError>
     ensures { IfOk result (λ c. app_of c ≡ command_line) }
@@ -61,5 +121,7 @@ pub fn command_line<'a>(alloc: Global) -> Result<Command<'a>, AllocError>
         .disable_help_subcommand(true)
         .subcommand_required(true)
         .subcommand(list_command(alloc)?)?
-        .subcommand(audit_command(alloc)?)
+        .subcommand(audit_command(alloc)?)?
+        .subcommand(check_command(alloc)?)?
+        .subcommand(apply_command(alloc)?)
 }

@@ -7,6 +7,7 @@ mod fault;
 mod job;
 
 pub use asked::job_of;
+pub use definition::MAX_BASE;
 pub use fault::{LineFault, NO_MEMORY, line_of};
 pub use job::Job;
 

@@ -10,64 +10,117 @@ fn words_of(alloc: Global, words: &[&str]) -> Result<Vec<String>, AllocError> {
     Ok(all)
 }
 
-// Whether the words give the audit of this image from this base.
-fn audits(alloc: Global, words: &[&str], wanted: &str, first: u32) -> Result<bool, AllocError> {
-    let words = words_of(alloc, words)?;
-    match job_of(alloc, words) {
-        Ok(Job::Audit { image, base }) => Ok(image.as_str() == wanted && base == first),
-        _ => Ok(false),
-    }
+// The job as a line: the command, its texts, and the base.
+fn shown(alloc: Global, job: &Job) -> Result<String, Fail> {
+    let text = match job {
+        Job::List { image, base } => format!(in alloc; "list {image} from {base}")?,
+        Job::Audit { image, base } => format!(in alloc; "audit {image} from {base}")?,
+        Job::Check {
+            image,
+            script,
+            base,
+        } => format!(in alloc; "check {image} by {script} from {base}")?,
+        Job::Apply {
+            image,
+            script,
+            out,
+            base,
+        } => format!(in alloc; "apply {image} by {script} to {out} from {base}")?,
+    };
+    Ok(text)
 }
 
-// Whether the words give the listing of this image from this base.
-fn lists(alloc: Global, words: &[&str], wanted: &str, first: u32) -> Result<bool, AllocError> {
+// What the words come to: the job, or what refuses them.
+fn answer(alloc: Global, words: &[&str]) -> Result<String, Fail> {
     let words = words_of(alloc, words)?;
     match job_of(alloc, words) {
-        Ok(Job::List { image, base }) => Ok(image.as_str() == wanted && base == first),
-        _ => Ok(false),
-    }
-}
-
-// The status of a refusal by the parser; 255 where the words are no refusal of its.
-fn refusal(alloc: Global, words: &[&str]) -> Result<u8, AllocError> {
-    let words = words_of(alloc, words)?;
-    match job_of(alloc, words) {
-        Err(LineFault::Parser(error)) => Ok(LineFault::Parser(error).status()),
-        _ => Ok(255),
+        Ok(job) => shown(alloc, &job),
+        Err(LineFault::Parser(error)) => {
+            let status = LineFault::Parser(error).status();
+            Ok(format!(in alloc; "parser, {status}")?)
+        }
+        Err(LineFault::NoMemory) => Ok(format!(in alloc; "no memory")?),
     }
 }
 
 #[test]
-fn gives_jobs(rt: HostRuntime) -> Result<(), Fail> {
-    let alloc = rt.alloc();
-    assert!(rt; lists(alloc, &[], "-", 0)?);
-    assert!(rt; lists(alloc, &["list", "x"], "x", 0)?);
-    assert!(rt; lists(alloc, &["list", "-", "--base", "449849"], "-", 449_849)?);
-    assert!(rt; lists(alloc, &["list", "--base", "16", "a.img"], "a.img", 16)?);
-    assert!(rt; lists(alloc, &["list", "a.img", "--base=16"], "a.img", 16)?);
-    assert!(rt; lists(alloc, &["list", "--", "--base"], "--base", 0)?);
-    assert!(rt; audits(alloc, &["audit", "x"], "x", 0)?);
-    assert!(rt; audits(alloc, &["audit", "-", "--base", "449849"], "-", 449_849)?);
-    assert!(rt; audits(alloc, &["audit", "--base", "16", "a.img"], "a.img", 16)?);
+fn gives_listings_and_audits(rt: HostRuntime) -> Result<(), Fail> {
+    let cases: [(&[&str], &str); 9] = [
+        (&[], "list - from 0"),
+        (&["list", "x"], "list x from 0"),
+        (&["list", "-", "--base", "449849"], "list - from 449849"),
+        (&["list", "--base", "16", "a.img"], "list a.img from 16"),
+        (&["list", "a.img", "--base=16"], "list a.img from 16"),
+        (&["list", "--", "--base"], "list --base from 0"),
+        (&["audit", "x"], "audit x from 0"),
+        (&["audit", "-", "--base", "449849"], "audit - from 449849"),
+        (&["audit", "--base", "16", "a.img"], "audit a.img from 16"),
+    ];
+    for (words, want) in cases {
+        assert_eq!(rt; answer(rt.alloc(), words)?.as_str(), want);
+    }
+    Ok(())
+}
+
+#[test]
+fn gives_patchings(rt: HostRuntime) -> Result<(), Fail> {
+    let cases: [(&[&str], &str); 7] = [
+        (&["check", "a", "b"], "check a by b from 0"),
+        (
+            &["check", "a", "b", "--base", "449849"],
+            "check a by b from 449849",
+        ),
+        (
+            &["check", "--base", "7", "-", "--", "-"],
+            "check - by - from 7",
+        ),
+        (&["apply", "a", "b", "c"], "apply a by b to c from 0"),
+        (
+            &["apply", "a", "--base=449849", "b", "c"],
+            "apply a by b to c from 449849",
+        ),
+        (
+            &["apply", "a", "b", "--base", "1", "c"],
+            "apply a by b to c from 1",
+        ),
+        (
+            &["apply", "a", "a", "a", "--base", "0"],
+            "apply a by a to a from 0",
+        ),
+    ];
+    for (words, want) in cases {
+        assert_eq!(rt; answer(rt.alloc(), words)?.as_str(), want);
+    }
     Ok(())
 }
 
 #[test]
 fn refuses_words(rt: HostRuntime) -> Result<(), Fail> {
-    let alloc = rt.alloc();
-    assert!(rt; refusal(alloc, &["list", "-", "--base", "450000"])? == 2);
-    assert!(rt; refusal(alloc, &["list", "-", "--base", "449850"])? == 2);
-    assert!(rt; refusal(alloc, &["list", "-", "--base", "-1"])? == 2);
-    assert!(rt; refusal(alloc, &["list", "-", "--base", "x"])? == 2);
-    assert!(rt; refusal(alloc, &["list"])? == 2);
-    assert!(rt; refusal(alloc, &["list", "a", "b"])? == 2);
-    assert!(rt; refusal(alloc, &["frobnicate", "x"])? == 2);
-    assert!(rt; refusal(alloc, &["apply", "a", "b"])? == 2);
-    assert!(rt; refusal(alloc, &["audit"])? == 2);
-    assert!(rt; refusal(alloc, &["audit", "a", "b"])? == 2);
-    assert!(rt; refusal(alloc, &["audit", "-", "--base", "449850"])? == 2);
-    assert!(rt; refusal(alloc, &["list", "-", "--carry"])? == 2);
-    assert!(rt; refusal(alloc, &["help"])? == 2);
+    let cases: [&[&str]; 20] = [
+        &["list", "-", "--base", "450000"],
+        &["list", "-", "--base", "449850"],
+        &["list", "-", "--base", "-1"],
+        &["list", "-", "--base", "x"],
+        &["list"],
+        &["list", "a", "b"],
+        &["frobnicate", "x"],
+        &["audit"],
+        &["audit", "a", "b"],
+        &["audit", "-", "--base", "449850"],
+        &["check", "a"],
+        &["check", "a", "b", "c"],
+        &["check", "a", "b", "--base", "449850"],
+        &["apply", "a", "b"],
+        &["apply", "a", "b", "c", "d"],
+        &["apply", "a", "b", "c", "--base", "449850"],
+        &["apply", "a", "b", "c", "--base"],
+        &["list", "-", "--carry"],
+        &["Apply", "a", "b", "c"],
+        &["help"],
+    ];
+    for words in cases {
+        assert_eq!(rt; answer(rt.alloc(), words)?.as_str(), "parser, 2");
+    }
     Ok(())
 }
 
@@ -91,6 +144,8 @@ fn answers_by_help(rt: HostRuntime) -> Result<(), Fail> {
     assert!(rt; is_help(alloc, &["--help"])?);
     assert!(rt; is_help(alloc, &["list", "--help"])?);
     assert!(rt; is_help(alloc, &["audit", "--help"])?);
+    assert!(rt; is_help(alloc, &["check", "--help"])?);
+    assert!(rt; is_help(alloc, &["apply", "-h"])?);
     assert!(rt; is_help(alloc, &["-h"])?);
     assert!(rt; !is_help(alloc, &["list"])?);
     Ok(())

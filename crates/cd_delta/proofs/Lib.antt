@@ -1,6 +1,6 @@
 mod AddLemmas
 mod KeepLemmas
 mod PlaceFacts
-mod UserLemmas
+pub mod UserLemmas
 mod WordLemmas
 mod WritingLemmas

@@ -14,7 +14,7 @@ use Rattle.cd_sector.specs.Consistent.{IsConsistent, header_of, user_of}
 use Rattle.cd_sector.specs.Kind.{kind_of, kind_of_mode, sync_field}
 use Rattle.cd_sector.specs.declared.kinds.SectorKind.{SectorKind}
 use Rattle.cd_sector.specs.declared.kinds.SectorKind.TheVariants.{NoSync}
-use Rattle.cd_delta.specs.Writing.{IsWritten, WithEdc, written}
+use Rattle.cd_delta.specs.Writing.{HasEdc, IsChanged, IsWritten, WithEdc, written}
 use Rattle.cd_delta.proofs.WritingLemmas.{AllCodeWords-same, SameSyndromes-trans}
 
 -- ---- parts of equal bytes
@@ -70,7 +70,7 @@ header_of-same s t inside same_size h = part-same s t 12 4 inside same_size (λ 
 
 -- ---- the user data
 
-length-written : (user : List ℕ) (offset : ℕ) (bytes : List ℕ) → offset + length bytes ≤ length user
+pub length-written : (user : List ℕ) (offset : ℕ) (bytes : List ℕ) → offset + length bytes ≤ length user
     → length (written user offset bytes) ≡ length user
 unfolding written
 length-written user offset bytes h =
@@ -81,7 +81,7 @@ length-written user offset bytes h =
     let four = length-drop (offset + length bytes) user in
     omega arith
 
-written-range : (user : List ℕ) (offset : ℕ) (bytes : List ℕ) (k : ℕ) → offset + length bytes ≤ length user
+pub written-range : (user : List ℕ) (offset : ℕ) (bytes : List ℕ) (k : ℕ) → offset + length bytes ≤ length user
     → k < length bytes → get_or (written user offset bytes) (offset + k) 0 ≡ get_or bytes k 0
 unfolding written
 written-range user offset bytes k h below =
@@ -92,7 +92,7 @@ written-range user offset bytes k h below =
     ∙ ap (λ n. get_or (bytes ++ back) n 0) index
     ∙ get_or_append_left bytes back 0 k below
 
-written-other : (user : List ℕ) (offset : ℕ) (bytes : List ℕ) (k : ℕ) → offset + length bytes ≤ length user
+pub written-other : (user : List ℕ) (offset : ℕ) (bytes : List ℕ) (k : ℕ) → offset + length bytes ≤ length user
     → (k < offset) ⊎ (offset + length bytes ≤ k) → get_or (written user offset bytes) k 0 ≡ get_or user k 0
 unfolding written
 written-other user offset bytes k h out =
@@ -175,65 +175,102 @@ WithEdc-written old new four w size each word at h =
 -- ---- both
 
 -- bytes in the user data, and then the EDC
-pub record IsChanged (old t new : List ℕ) (offset : ℕ) (bytes : List ℕ) : Type 0 where
-  pub fits : offset + length bytes ≤ 2048
-  pub user : IsWritten old t (16 + offset) (length bytes) bytes
-  pub edc : WithEdc t new
+pub IsChanged-carried : (old t new : List ℕ) (offset : ℕ) (bytes : List ℕ) → offset + length bytes ≤ 2048
+    → IsWritten old t (16 + offset) (length bytes) bytes → WithEdc t new → IsChanged old new offset bytes
+IsChanged-carried old t new offset bytes fits user edc = record {
+  fits = fits;
+  size = edc.size;
+  same_size = edc.same_size ∙ user.size;
+  each = edc.each;
+  range = λ i below. edc.front (16 + offset + i) (omega arith) (inl (omega arith)) ∙ user.range i below;
+  front = λ i below out. edc.front i (omega arith) (inl below) ∙ user.front i (omega arith) out;
+  zeros = λ i from below. edc.front i below (inr from) ∙ user.front i below (inr (omega arith));
+  edc = record { word = edc.word; is_word = edc.is_word; at_end = edc.at_end };
+  syndromes = SameSyndromes-trans edc.syndromes user.syndromes;
+}
 
-size-of : {old t new : List ℕ} {offset : ℕ} {bytes : List ℕ} → IsChanged old t new offset bytes → length new ≡ length old
-size-of h = h.edc.same_size ∙ h.user.size
+-- the word of the first bytes, put behind them
+pub HasEdc-put : (old new four : List ℕ) (w : ℕ) → length old ≡ 2352 → length new ≡ 2352 → IsEdc (take 2064 old) w → four ≡ to_le_bytes w32 w
+    → ((i : ℕ) → i < length four → get_or new (2064 + i) 0 ≡ get_or four i 0)
+    → ((k : ℕ) → (k < 2064) ⊎ (2064 + length four ≤ k) → get_or new k 0 ≡ get_or old k 0)
+    → HasEdc new
+HasEdc-put old new four w old_size new_size word e inside outside =
+    let front : take 2064 new ≡ take 2064 old =
+    front-same new old 2064 (omega arith) (new_size ∙ sym old_size) (λ i below. outside i (inl below)) in
+    let long : length four ≡ 4 = ap length e in
+    record {
+      word = w;
+      is_word = rw front word;
+      at_end = ap (λ n. take n (drop 2064 new)) (sym long) ∙ part-list new four 2064 (omega arith) inside ∙ e;
+    }
 
-long-of : {old t new : List ℕ} {offset : ℕ} {bytes : List ℕ} → IsChanged old t new offset bytes → length old ≡ 2352
-long-of h = sym (size-of h) ∙ h.edc.size
+-- the front of another sector, with its EDC
+pub IsChanged-front : (old front new : List ℕ) (offset : ℕ) (bytes : List ℕ) → offset + length bytes ≤ 2048
+    → length old ≡ 2352 → length front ≡ 2352 → length new ≡ length old → AreBytes new
+    → ((i : ℕ) → i < length bytes → get_or front (16 + offset + i) 0 ≡ get_or bytes i 0)
+    → ((i : ℕ) → (i < 16 + offset) ⊎ (16 + offset + length bytes ≤ i) → (i < 2064) ⊎ (2068 ≤ i) → get_or front i 0 ≡ get_or old i 0)
+    → HasEdc front → ((i : ℕ) → i < 2076 → get_or new i 0 ≡ get_or front i 0) → SameSyndromes new old
+    → IsChanged old new offset bytes
+IsChanged-front old front new offset bytes fits old_size front_size same_size each range elsewhere edc same syndromes =
+    let size : length new ≡ 2352 = same_size ∙ old_size in
+    let whole : take 2064 new ≡ take 2064 front = front-same new front 2064 (omega arith) (size ∙ sym front_size) (λ i below. same i (omega arith)) in
+    let word : slice_range new 2064 2068 ≡ slice_range front 2064 2068 =
+    part-same new front 2064 4 (omega arith) (size ∙ sym front_size) (λ i _ below. same i (omega arith)) in
+    record {
+      fits = fits;
+      size = size;
+      same_size = same_size;
+      each = each;
+      range = λ i below. same (16 + offset + i) (omega arith) ∙ range i below;
+      front = λ i below out. same i (omega arith) ∙ elsewhere i out (inl below);
+      zeros = λ i from below. same i below ∙ elsewhere i (inr (omega arith)) (inr from);
+      edc = record { word = edc.word; is_word = rw whole edc.is_word; at_end = word ∙ edc.at_end };
+      syndromes = syndromes;
+    }
 
-pub stays-of : {old t new : List ℕ} {offset : ℕ} {bytes : List ℕ} → IsChanged old t new offset bytes
+long-of : {old new : List ℕ} {offset : ℕ} {bytes : List ℕ} → IsChanged old new offset bytes → length old ≡ 2352
+long-of h = sym h.same_size ∙ h.size
+
+pub stays-of : {old new : List ℕ} {offset : ℕ} {bytes : List ℕ} → IsChanged old new offset bytes
     → (i : ℕ) → (i < 16) ⊎ ((2068 ≤ i) × (i < 2076)) → get_or new i 0 ≡ get_or old i 0
-stays-of h i out =
-    let fits = h.fits in
-    elim out [
-      | inl before ↦ h.edc.front i (omega arith) (inl (omega arith)) ∙ h.user.front i (omega arith) (inl (omega arith))
-      | inr behind ↦ h.edc.front i behind.1 (inr behind.0) ∙ h.user.front i behind.1 (inr (omega arith))
-    ]
+stays-of h i out = elim out [
+  | inl before ↦ h.front i (omega arith) (inl (omega arith))
+  | inr behind ↦ h.zeros i behind.0 behind.1
+]
 
-pub user-of : {old t new : List ℕ} {offset : ℕ} {bytes : List ℕ} → IsChanged old t new offset bytes
+pub user-of : {old new : List ℕ} {offset : ℕ} {bytes : List ℕ} → IsChanged old new offset bytes
     → user_of new ≡ written (user_of old) offset bytes
-user-of {old} {t} {new} {offset} {bytes} h =
-    let fits = h.fits in
-    user_of-written old new offset bytes fits (long-of h) (size-of h)
-    (λ i below. h.edc.front (16 + offset + i) (omega arith) (inl (omega arith)) ∙ h.user.range i below)
-    (λ i below out. h.edc.front i (omega arith) (inl below) ∙ h.user.front i (omega arith) out)
+user-of {old} {new} {offset} {bytes} h =
+    user_of-written old new offset bytes h.fits (long-of h) h.same_size h.range (λ i below out. h.front i below out)
 
-pub edc-of : {old t new : List ℕ} {offset : ℕ} {bytes : List ℕ} → IsChanged old t new offset bytes
+pub edc-of : {old new : List ℕ} {offset : ℕ} {bytes : List ℕ} → IsChanged old new offset bytes
     → IsEdc (take 2064 new) (from_le_bytes w32 (slice_range new 2064 2068))
-edc-of {old} {t} {new} h =
+edc-of {old} {new} h =
     let w = h.edc.word in
     let e : from_le_bytes w32 (slice_range new 2064 2068) ≡ w =
     ap (from_le_bytes w32) h.edc.at_end ∙ from_le_bytes-to_le_bytes_4 w h.edc.is_word.fits in
     rw e h.edc.is_word
 
-pub divides-of : {old t new : List ℕ} {offset : ℕ} {bytes : List ℕ} → IsChanged old t new offset bytes
+pub divides-of : {old new : List ℕ} {offset : ℕ} {bytes : List ℕ} → IsChanged old new offset bytes
     → remainder (bits (take 2068 new)) ≡ 0
-divides-of {old} {t} {new} h = divides-with new 2064 h.edc.word h.edc.is_word h.edc.at_end
+divides-of {old} {new} h = divides-with new 2064 h.edc.word h.edc.is_word h.edc.at_end
 
-pub kind-of : {old t new : List ℕ} {offset : ℕ} {bytes : List ℕ} → IsChanged old t new offset bytes → kind_of new ≡ kind_of old
-kind-of {old} {t} {new} h =
-    let size = h.edc.size in
-    kind_of-same new old (omega arith) (size-of h) (λ i below. stays-of h i (inl below))
+pub kind-of : {old new : List ℕ} {offset : ℕ} {bytes : List ℕ} → IsChanged old new offset bytes → kind_of new ≡ kind_of old
+kind-of {old} {new} h =
+    let size = h.size in
+    kind_of-same new old (omega arith) h.same_size (λ i below. stays-of h i (inl below))
 
-pub header-of : {old t new : List ℕ} {offset : ℕ} {bytes : List ℕ} → IsChanged old t new offset bytes → header_of new ≡ header_of old
-header-of {old} {t} {new} h =
-    let size = h.edc.size in
-    header_of-same new old (omega arith) (size-of h) (λ i below. stays-of h i (inl below))
+pub header-of : {old new : List ℕ} {offset : ℕ} {bytes : List ℕ} → IsChanged old new offset bytes → header_of new ≡ header_of old
+header-of {old} {new} h =
+    let size = h.size in
+    header_of-same new old (omega arith) h.same_size (λ i below. stays-of h i (inl below))
 
-pub syndromes-of : {old t new : List ℕ} {offset : ℕ} {bytes : List ℕ} → IsChanged old t new offset bytes → SameSyndromes new old
-syndromes-of h = SameSyndromes-trans h.edc.syndromes h.user.syndromes
-
-pub IsConsistent-of : {old t new : List ℕ} {offset : ℕ} {bytes : List ℕ} → IsChanged old t new offset bytes → IsConsistent old → IsConsistent new
+pub IsConsistent-of : {old new : List ℕ} {offset : ℕ} {bytes : List ℕ} → IsChanged old new offset bytes → IsConsistent old → IsConsistent new
 IsConsistent-of h sound = record {
-  size = h.edc.size;
-  bytes = h.edc.each;
+  size = h.size;
+  bytes = h.each;
   mode = kind-of h ∙ sound.mode;
   zeros = λ i from below. stays-of h i (inr (from, below)) ∙ sound.zeros i from below;
   edc = divides-of h;
-  words = AllCodeWords-same (syndromes-of h) sound.words;
+  words = AllCodeWords-same h.syndromes sound.words;
 }

@@ -1,9 +1,9 @@
 -- Bytes written into a sector and carried into its parity, one after another or by a difference sector.
-use Rattle.std.proofs.Common.{◌≡◌, ◌≢◌, ◌⊎◌, ℕ, ◌+◌, ◌<◌, ◌≤◌, inl, inr, List, length, get_or, bit_xor, refl, sym, ap, ◌∙◌, arith}
-use Rattle.std.specs.Prelude.{replicate, slice_set}
+use Rattle.std.proofs.Common.{◌≡◌, ◌≢◌, ℕ, ◌+◌, ◌<◌, ◌≤◌, inl, inr, List, length, get_or, bit_xor, refl, sym, ap, ◌∙◌, arith}
+use Rattle.std.specs.Prelude.{slice_set}
 use Rattle.std.specs.Int.Bits.{xor_zero_r}
-use Rattle.std.proofs.lemmas.Bool.{cases_eq, cases_lt}
-use Rattle.std.proofs.lemmas.List.{get_or-replicate, get_or-set_other, get_or-set_same, get_or_past, length-replicate, length-set}
+use Rattle.std.proofs.lemmas.Bool.{cases_eq}
+use Rattle.std.proofs.lemmas.List.{get_or-set_other, get_or-set_same, length-set}
 use Rattle.cd_code.specs.Field.{AreBytes}
 use Rattle.cd_code.specs.Syndrome.{SameSums, IsCodeWord, first_syndrome, second_syndrome}
 use Rattle.cd_code.proofs.SyndromeLemmas.{first_syndrome-sum, second_syndrome-sum}
@@ -104,66 +104,16 @@ SameSyndromes-sum u s t h words = record {
   diagonals = λ plane n hp hn. SameSums-sum u s t (diagonal_places plane n) h (words.diagonals plane n hp hn);
 }
 
-pub IsWritten-sum : (old new t : List ℕ) (place : ℕ) (bytes : List ℕ) → length new ≡ length old → AreBytes new
-    → IsSum new old t → AllCodeWords t
-    → ((i : ℕ) → i < length bytes → get_or t (place + i) 0 ≡ bit_xor (get_or old (place + i) 0) (get_or bytes i 0))
-    → ((i : ℕ) → i < 2076 → (i < place) ⊎ (place + length bytes ≤ i) → get_or t i 0 ≡ 0)
-    → IsWritten old new place (length bytes) bytes
-IsWritten-sum old new t place bytes size each sum words inside outside = record {
-  size = size;
-  each = λ _. each;
-  range = λ i h.
-      sum.byte (place + i)
-      ∙ ap (bit_xor (get_or old (place + i) 0)) (inside i h)
-      ∙ xor_twice_left (get_or old (place + i) 0) (get_or bytes i 0);
-  front = λ i below out.
-      sum.byte i ∙ ap (bit_xor (get_or old i 0)) (outside i below out) ∙ xor_zero_r (get_or old i 0);
-  syndromes = SameSyndromes-sum new old t sum words;
-}
+-- a byte of the front, by the sum with the difference
+pub front-sum : (old front difference filled new : List ℕ) (i : ℕ) → i < 2076
+    → ((k : ℕ) → get_or difference k 0 ≡ bit_xor (get_or old k 0) (get_or front k 0))
+    → ((k : ℕ) → k < 2076 → get_or filled k 0 ≡ get_or difference k 0)
+    → ((k : ℕ) → get_or new k 0 ≡ bit_xor (get_or old k 0) (get_or filled k 0))
+    → get_or new i 0 ≡ get_or front i 0
+front-sum old front difference filled new i below differs stays sum =
+    sum i ∙ ap (bit_xor (get_or old i 0)) (stays i below ∙ differs i) ∙ xor_twice_left (get_or old i 0) (get_or front i 0)
 
--- ---- the loops of it
-
-pub size-zeros : (v : List ℕ) (n : ℕ) → v ≡ replicate n 0 → length v ≡ n
-size-zeros v n e = ap length e ∙ length-replicate n 0
-
-pub byte-zeros : (v : List ℕ) (n k : ℕ) → v ≡ replicate n 0 → get_or v k 0 ≡ 0
-byte-zeros v n k e = elim (cases_lt k n) [
-  | inl inside ↦ ap (λ u. get_or u k 0) e ∙ get_or-replicate n k 0 0 inside
-  | inr past ↦ get_or_past v k 0 (omega (arith, size-zeros v n e))
-]
-
--- one more byte of a sector's differences from a list, which stand from `place` on
-pub record AreDifferences (old bytes : List ℕ) (place count : ℕ) (v : List ℕ) : Type 0 where
-  pub size : length v ≡ 2352
-  pub range : (k : ℕ) → k < count → get_or v (place + k) 0 ≡ bit_xor (get_or old (place + k) 0) (get_or bytes k 0)
-  pub elsewhere : (k : ℕ) → (k < place) ⊎ (place + count ≤ k) → get_or v k 0 ≡ 0
-
-pub AreDifferences-none : (old bytes : List ℕ) (place : ℕ) (v : List ℕ) → v ≡ replicate 2352 0 → AreDifferences old bytes place 0 v
-AreDifferences-none old bytes place v e = record {
-  size = size-zeros v 2352 e;
-  range = λ k h. absurd (omega arith);
-  elsewhere = λ k out. byte-zeros v 2352 k e;
-}
-
-pub AreDifferences-more : {old bytes : List ℕ} {place i : ℕ} {v : List ℕ} → place + i < 2352 → AreDifferences old bytes place i v
-    → AreDifferences old bytes place (i + 1) (slice_set v (place + i) (bit_xor (get_or old (place + i) 0) (get_or bytes i 0)))
-AreDifferences-more {old} {bytes} {place} {i} {v} inside h =
-    let x = bit_xor (get_or old (place + i) 0) (get_or bytes i 0) in
-    let long = h.size in
-    record {
-      size = length-set v (place + i) x ∙ h.size;
-      range = λ k below. elim (cases_eq k i) [
-        | inl e ↦
-            ap (λ n. get_or (slice_set v (place + i) x) (place + n) 0) e
-            ∙ get_or-set_same v (place + i) x 0 (omega arith)
-            ∙ ap (λ n. bit_xor (get_or old (place + n) 0) (get_or bytes n 0)) (sym e)
-        | inr not ↦ get_or-set_other v (place + i) (place + k) x 0 (λ e. not (omega arith)) ∙ h.range k (omega arith)
-      ];
-      elsewhere = λ k out. elim out [
-        | inl before ↦ get_or-set_other v (place + i) k x 0 (λ e. omega arith) ∙ h.elsewhere k (inl before)
-        | inr behind ↦ get_or-set_other v (place + i) k x 0 (λ e. omega arith) ∙ h.elsewhere k (inr (omega arith))
-      ];
-    }
+-- ---- the loop of it
 
 -- the first `count` bytes of u are those of the sum of s and t, and the others those of s
 pub record AreSums (s t : List ℕ) (count : ℕ) (u : List ℕ) : Type 0 where

@@ -4,18 +4,17 @@
 ghost use Rattle.std.specs.Prelude.{◌≡◌, ℕ, ◌+◌, ◌<◌, ◌≤◌, ◌⊎◌, length, slice_index, slice_range, take};
 ghost use Rattle.std.specs.Int.{from_le_bytes, w32};
 ghost use Rattle.cd_code.specs.Edc.{IsEdc, bits, remainder};
-ghost use Rattle.cd_code.specs.Field.{AreBytes};
 ghost use Rattle.cd_sector.specs.CodeWords.{SameSyndromes};
 ghost use Rattle.cd_sector.specs.Consistent.{IsConsistent, header_of, user_of};
 ghost use Rattle.cd_sector.specs.Kind.{kind_of};
 ghost use Rattle.cd_sector.specs.declared.kinds.SectorKind.TheVariants.{Mode1};
-ghost use Rattle.cd_delta.specs.Writing.{IsWritten, WithEdc, written};
+ghost use Rattle.cd_delta.specs.Writing.{HasEdc, IsChanged, WithEdc, written};
 
 use crate::byte_by_byte::write_few;
-use crate::difference::write_many;
+use crate::difference::carry_front;
 use byteorder::{ByteOrder, LittleEndian};
 use cd_code::edc_of;
-use cd_sector::Sector;
+use cd_sector::{SECTOR_SIZE, Sector};
 
 /// Where the user data begins.
 const USER_DATA: usize = 16;
@@ -24,7 +23,7 @@ const USER_DATA: usize = 16;
 const EDC: usize = 2064;
 
 /// The number of bytes from which on a difference sector costs less than a change of each byte.
-const MANY: usize = 112;
+const MANY: usize = 40;
 
 /// Writes `bytes` into the 2048 bytes of user data of a Mode 1 sector, from `offset` on, then the EDC of bytes 0 to
 /// 2063 behind them, and carries both into the parity, so that all 276 syndromes stay as they were (ECMA-130, the
@@ -41,21 +40,20 @@ pub fn change_user(s: &mut Sector, offset: u16, bytes: &[u8])
     ensures syndromes { SameSyndromes s.new s.old }
     ensures consistent { IsConsistent s.old → IsConsistent s.new }
 {
-    write(s, USER_DATA + offset as usize, bytes);
-    write_edc(s);
+    if bytes.len() < MANY {
+        change_few(s, offset, bytes);
+    } else {
+        change_many(s, offset, bytes);
+    }
 }
 
-/// Writes bytes in front of the parity, and carries them into it.
-fn write(s: &mut Sector, place: usize, bytes: &[u8])
-    requires from { 12 ≤ place }
-    requires below { place + length bytes.now ≤ 2076 }
-    ensures { IsWritten s.old s.new place (length bytes.now) bytes.now }
+/// Writes the bytes one by one, and then the EDC, and carries each into the parity.
+fn change_few(s: &mut Sector, offset: u16, bytes: &[u8])
+    requires { offset + length bytes.now ≤ 2048 }
+    ensures { IsChanged s.old s.new offset bytes.now }
 {
-    if bytes.len() < MANY {
-        write_few(s, place, bytes);
-    } else {
-        write_many(s, place, bytes);
-    }
+    write_few(s, USER_DATA + offset as usize, bytes);
+    write_edc(s);
 }
 
 /// Writes the EDC of bytes 0 to 2063 behind them, and carries it into the parity.
@@ -66,4 +64,47 @@ fn write_edc(s: &mut Sector)
     let mut edc = [0; 4];
     LittleEndian::write_u32(&mut edc, word);
     write_few(s, EDC, &edc);
+}
+
+/// Writes the bytes and the EDC, and carries both into the parity at once.
+fn change_many(s: &mut Sector, offset: u16, bytes: &[u8])
+    requires { offset + length bytes.now ≤ 2048 }
+    ensures { IsChanged s.old s.new offset bytes.now }
+{
+    let front = front_with(s, USER_DATA + offset as usize, bytes);
+    carry_front(s, &front);
+}
+
+/// A sector with `bytes` from `place` on and the EDC of bytes 0 to 2063 behind them; its parity is left as it was.
+fn front_with(s: &Sector, place: usize, bytes: &[u8]) -> Sector
+    requires { place + length bytes.now ≤ 2064 }
+    ensures range { (i : ℕ) → i < length bytes.now → slice_index result (place + i) ≡ slice_index bytes.now i }
+    ensures elsewhere { (i : ℕ) → (i < place) ⊎ (place + length bytes.now ≤ i) → (i < 2064) ⊎ (2068 ≤ i)
+        → slice_index result i ≡ slice_index s.now i }
+    ensures edc { HasEdc result }
+    ensures size { length result ≡ 2352 }
+    ensures whole { length s.now ≡ 2352 }
+{
+    let mut front = *s.bytes();
+    put_part(&mut front, place, bytes);
+    put_edc(&mut front);
+    Sector::from_bytes(front)
+}
+
+/// Writes the EDC of bytes 0 to 2063 behind them.
+fn put_edc(bytes: &mut [u8; SECTOR_SIZE])
+    ensures edc { HasEdc bytes.new }
+    ensures stays { (k : ℕ) → (k < 2064) ⊎ (2068 ≤ k) → slice_index bytes.new k ≡ slice_index bytes.old k }
+{
+    let word = edc_of(&bytes[..EDC]);
+    put_part(bytes, EDC, &word.to_le_bytes());
+}
+
+/// Writes bytes from place `at` on.
+fn put_part(bytes: &mut [u8; SECTOR_SIZE], at: usize, part: &[u8])
+    requires { at + length part.now ≤ 2352 }
+    ensures inside { (i : ℕ) → i < length part.now → slice_index bytes.new (at + i) ≡ slice_index part.now i }
+    ensures outside { (k : ℕ) → (k < at) ⊎ (at + length part.now ≤ k) → slice_index bytes.new k ≡ slice_index bytes.old k }
+{
+    bytes[at..at + part.len()].copy_from_slice(part);
 }

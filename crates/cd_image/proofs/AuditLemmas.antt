@@ -1,21 +1,20 @@
--- The pass of an audit: what is still to go out is the lines of the sectors that follow.
-use Rattle.std.proofs.Common.{◌≡◌, ℕ, suc, ◌+◌, ◌*◌, ◌<◌, ◌≤◌, ◌==◌, Bool, true, false, not, ◌&&◌, ◌||◌, cond, count_by, List, [], ◌∷◌, ◌++◌, length, take, Option, None, Some, Ok, Err, refl, sym, ap, ◌∙◌, subst, arith, add-zero, zero-add, add_assoc, length-append, append-nil}
+-- An audit sector by sector, and that it tells what it should of the whole image.
+use Rattle.std.proofs.Common.{◌≡◌, ℕ, ◌+◌, ◌<◌, ◌≤◌, ◌==◌, Bool, true, false, not, ◌&&◌, ◌||◌, cond, count_by, List, [], ◌∷◌, ◌++◌, length, take, Option, None, Some, Result, refl, sym, ap, ◌∙◌, subst, arith, add-zero, zero-add, add_assoc, append-nil}
 use Rattle.std.specs.List.{list_all, list_any}
+use Rattle.std.specs.Io.KnownBytes.{Appends}
 use Rattle.std.proofs.lemmas.Bool.Decides.{nat_tests}
-use Rattle.std.proofs.lemmas.List.Sums.{count_by-le-length, sum_by-append, sum_by-cons}
-use Rattle.std.specs.Io.KnownBytes.{Consumes, IsAtEnd}
+use Rattle.std.proofs.lemmas.List.Sums.{sum_by-append, sum_by-cons}
 use Rattle.cd_sector.specs.Consistent.{is_mode1}
 use Rattle.cd_sector.specs.Defect.{defect_of, is_broken, is_nonzero, is_sound}
 use Rattle.cd_sector.specs.Kind.{kind_of}
-use Rattle.cd_image.specs.AuditText.{audit_end, audit_lines, audit_tally, audit_text, counted, counts_of, finding_count, found_of, findings_of, is_any, is_damage, is_damaged, line_of, report_of}
-use Rattle.cd_image.specs.Image.{image_limit, sectors, tail}
-use Rattle.cd_image.specs.Report.{Finishes, Incoming, Outgoing, Reports}
-use Rattle.cd_image.specs.Transfer.{Sends}
+use Rattle.cd_stream.specs.Stream.{Outgoing}
+use Rattle.cd_stream.specs.declared.sink.SinkFailed.{SinkFailed}
+use Rattle.cd_image.specs.AuditText.{audit_end, audit_lines, auditing, finding_count, finding_line, found_of, findings_of, is_any, is_damage, is_damaged, line_of, report_of}
+use Rattle.cd_image.specs.Image.{sectors, tail}
+use Rattle.cd_image.specs.Lines.{text_of}
+use Rattle.cd_image.specs.Telling.{Finishes, HasFailed, HasTaken, IsTallyOf, audit_to_tell, counted, counted_all, telling_of}
 use Rattle.cd_image.specs.declared.auditing.AuditTally.{AuditTally}
-use Rattle.cd_image.specs.declared.fault.Fault.TheVariants.{Read, TooLong, Write}
-use Rattle.cd_image.specs.declared.sink.SinkFailed.{SinkFailed}
-use Rattle.cd_image.proofs.ImageLemmas.{length-tail, sectors-short}
-use Rattle.cd_image.proofs.PassLemmas.{IsBeginning-take, Passed, Passed-next, Passed-start, Reports-end, Reports-end_failed, Reports-read, Reports-too_long, Reports-write, Takes}
+use Rattle.cd_image.specs.declared.findings.Findings.{Findings}
 
 -- ---- a sector is damaged where its report tells of a defect
 
@@ -27,8 +26,12 @@ any_nonzero : (bytes : List ℕ) → list_any is_nonzero bytes ≡ not (list_all
 any_nonzero [] = refl
 any_nonzero (x ∷ xs) = ap (λ t. not (x == 0) || t) (any_nonzero xs) ∙ sym (not-and (x == 0) (list_all (λ b. b == 0) xs))
 
-count_by-first : {X : Type 0} (p : X → Bool) (x : X) (xs : List X) → count_by p (x ∷ xs) ≡ cond (p x) 1 0 + count_by p xs
+pub count_by-first : {X : Type 0} (p : X → Bool) (x : X) (xs : List X) → count_by p (x ∷ xs) ≡ cond (p x) 1 0 + count_by p xs
 count_by-first p x xs = sum_by-cons (λ y. cond (p y) 1 0) x xs
+
+-- a count with one more behind
+pub count_by-behind : {X : Type 0} (p : X → Bool) (xs : List X) (x : X) → count_by p (xs ++ x ∷ []) ≡ count_by p xs + cond (p x) 1 0
+count_by-behind p xs x = sum_by-append (λ y. cond (p y) 1 0) xs (x ∷ []) ∙ ap (λ n. count_by p xs + n) (zero-add (cond (p x) 1 0))
 
 is_nonzero-above : (n : ℕ) → is_nonzero (1 + n) ≡ true
 is_nonzero-above n = grind (arith, nat_tests)
@@ -62,18 +65,13 @@ is_damage-report sector =
 
 -- ---- counts with one more sector
 
-count_by-behind : {X : Type 0} (p : X → Bool) (xs : List X) (x : X) → count_by p (xs ++ x ∷ []) ≡ count_by p xs + cond (p x) 1 0
-count_by-behind p xs x = sum_by-append (λ y. cond (p y) 1 0) xs (x ∷ []) ∙ ap (λ n. count_by p xs + n) (zero-add (cond (p x) 1 0))
+pub findings_of-none : (block : ℕ) (s : List ℕ) → is_mode1 (kind_of s) ≡ false → findings_of block s ≡ None
+unfolding findings_of
+findings_of-none block s other = ap (λ b. cond b (Some (found_of block s)) None) other
 
-finding_count-behind : (block : ℕ) (ss : List (List ℕ)) (s : List ℕ) → finding_count block (ss ++ s ∷ []) ≡ finding_count block ss + cond (is_any (findings_of (block + length ss) s)) 1 0
-finding_count-behind block [] s =
-    ap (λ b. cond (is_any (findings_of b s)) 1 0 + 0) (sym (add-zero block)) ∙ add-zero _ ∙ sym (zero-add _)
-finding_count-behind block (t ∷ ts) s =
-    let more = finding_count-behind (block + 1) ts s in
-    let same : block + 1 + length ts ≡ block + suc (length ts) = omega arith in
-    let at : cond (is_any (findings_of (block + 1 + length ts) s)) 1 0 ≡ cond (is_any (findings_of (block + suc (length ts)) s)) 1 0 = ap (λ b. cond (is_any (findings_of b s)) 1 0) same in
-    ap (λ n. cond (is_any (findings_of block t)) 1 0 + n) (more ∙ ap (λ n. finding_count (block + 1) ts + n) at)
-    ∙ sym (add_assoc (cond (is_any (findings_of block t)) 1 0) (finding_count (block + 1) ts) (cond (is_any (findings_of (block + suc (length ts)) s)) 1 0))
+pub findings_of-some : (block : ℕ) (s : List ℕ) → is_mode1 (kind_of s) ≡ true → findings_of block s ≡ Some (found_of block s)
+unfolding findings_of
+findings_of-some block s mode1 = ap (λ b. cond b (Some (found_of block s)) None) mode1
 
 abbrev tally_of : ℕ → ℕ → ℕ → ℕ → ℕ → AuditTally
 tally_of s m d f t = record { sectors = s; mode1 = m; damaged = d; findings = f; tail = t }
@@ -82,142 +80,145 @@ tally_of-same : (s s' m m' d d' f f' t : ℕ) → s ≡ s' → m ≡ m' → d �
 tally_of-same s s' m m' d d' f f' t p q r u =
     ap (λ n. tally_of n m d f t) p ∙ ap (λ n. tally_of s' n d f t) q ∙ ap (λ n. tally_of s' m' n f t) r ∙ ap (λ n. tally_of s' m' d' n t) u
 
-findings_of-none : (block : ℕ) (s : List ℕ) → is_mode1 (kind_of s) ≡ false → findings_of block s ≡ None
-unfolding findings_of
-findings_of-none block s other = ap (λ b. cond b (Some (found_of block s)) None) other
+-- a count with one more
+one_more : (n k m : ℕ) (b c : Bool) → b ≡ c → k ≡ cond b 1 0 + m → n + k ≡ n + cond c 1 0 + m
+one_more n k m b c same is = ap (λ x. n + x) (is ∙ ap (λ t. cond t 1 0 + m) same) ∙ sym (add_assoc n (cond c 1 0) m)
 
-findings_of-some : (block : ℕ) (s : List ℕ) → is_mode1 (kind_of s) ≡ true → findings_of block s ≡ Some (found_of block s)
-unfolding findings_of
-findings_of-some block s mode1 = ap (λ b. cond b (Some (found_of block s)) None) mode1
+one_more-none : (n k m : ℕ) (b : Bool) → b ≡ false → k ≡ cond b 1 0 + m → n + k ≡ n + m
+one_more-none n k m b none is = ap (λ x. n + x) (is ∙ ap (λ t. cond t 1 0 + m) none ∙ zero-add m)
 
--- the counts, one sector further
-pub counts_of-behind : (base : ℕ) (done : List (List ℕ)) (s : List ℕ) (left : ℕ)
-    → counts_of base (done ++ s ∷ []) left ≡ counted (counts_of base done left) (findings_of (base + length done) s)
-counts_of-behind base done s left =
-    elim (is_mode1 (kind_of s)) as (λ t. is_mode1 (kind_of s) ≡ t → counts_of base (done ++ s ∷ []) left ≡ counted (counts_of base done left) (findings_of (base + length done) s)) [
+-- the counts of more sectors, one sector further
+pub counted_all-step : (tally : AuditTally) (block : ℕ) (s : List ℕ) (others : List (List ℕ)) (left : ℕ)
+    → counted_all tally block (s ∷ others) left ≡ counted_all (counted tally (findings_of block s)) (block + 1) others left
+counted_all-step tally block s others left =
+    elim (is_mode1 (kind_of s)) as (λ t. is_mode1 (kind_of s) ≡ t → counted_all tally block (s ∷ others) left ≡ counted_all (counted tally (findings_of block s)) (block + 1) others left) [
       | true ↦ λ mode1.
-          let found = findings_of-some (base + length done) s mode1 in
-          all_counts
-          ∙ tally_of-same _ _ _ _ _ _ _ _ left refl
-          (ap (λ b. count_by (λ x. is_mode1 (kind_of x)) done + cond b 1 0) mode1)
-          (ap (λ b. count_by is_damaged done + cond b 1 0) (ap (λ b. b && not (is_sound (defect_of s))) mode1 ∙ sym (is_damage-report s)))
-          (ap (λ f. finding_count base done + cond (is_any f) 1 0) found)
-          ∙ ap (counted (counts_of base done left)) (sym found)
+          let found = findings_of-some block s mode1 in
+          tally_of-same _ _ _ _ _ _ _ _ left (omega arith)
+          (one_more tally.mode1 _ _ (is_mode1 (kind_of s)) true mode1 (count_by-first (λ x. is_mode1 (kind_of x)) s others))
+          (one_more tally.damaged _ _ (is_damaged s) (is_damage (report_of s)) (ap (λ b. b && not (is_sound (defect_of s))) mode1 ∙ sym (is_damage-report s)) (count_by-first is_damaged s others))
+          (one_more tally.findings _ _ (is_any (findings_of block s)) (is_any (Some (found_of block s))) (ap is_any found) refl)
+          ∙ ap (λ f. counted_all (counted tally f) (block + 1) others left) (sym found)
       | false ↦ λ other.
-          let found = findings_of-none (base + length done) s other in
-          all_counts
-          ∙ tally_of-same _ _ _ _ _ _ _ _ left refl
-          (ap (λ b. count_by (λ x. is_mode1 (kind_of x)) done + cond b 1 0) other ∙ add-zero _)
-          (ap (λ b. count_by is_damaged done + cond b 1 0) (ap (λ b. b && not (is_sound (defect_of s))) other) ∙ add-zero _)
-          (ap (λ f. finding_count base done + cond (is_any f) 1 0) found ∙ add-zero _)
-          ∙ ap (counted (counts_of base done left)) (sym found)
+          let found = findings_of-none block s other in
+          tally_of-same _ _ _ _ _ _ _ _ left (omega arith)
+          (one_more-none tally.mode1 _ _ (is_mode1 (kind_of s)) other (count_by-first (λ x. is_mode1 (kind_of x)) s others))
+          (one_more-none tally.damaged _ _ (is_damaged s) (ap (λ b. b && not (is_sound (defect_of s))) other) (count_by-first is_damaged s others))
+          (one_more-none tally.findings _ _ (is_any (findings_of block s)) (ap is_any found) refl)
+          ∙ ap (λ f. counted_all (counted tally f) (block + 1) others left) (sym found)
     ] refl
-  where
-    all_counts : counts_of base (done ++ s ∷ []) left
-        ≡ tally_of (length done + 1) (count_by (λ x. is_mode1 (kind_of x)) done + cond (is_mode1 (kind_of s)) 1 0) (count_by is_damaged done + cond (is_damaged s) 1 0)
-        (finding_count base done + cond (is_any (findings_of (base + length done) s)) 1 0) left
-    all_counts =
-        tally_of-same _ _ _ _ _ _ _ _ left (length-append done (s ∷ [])) (count_by-behind (λ x. is_mode1 (kind_of x)) done s) (count_by-behind is_damaged done s)
-        (finding_count-behind base done s)
 
--- no count is above the number of sectors
-pub finding_count-le : (block : ℕ) (ss : List (List ℕ)) → finding_count block ss ≤ length ss
-finding_count-le block [] = omega arith
-finding_count-le block (s ∷ ss) =
-    let more = finding_count-le (block + 1) ss in
-    elim (is_any (findings_of block s)) as (λ t. cond t 1 0 + finding_count (block + 1) ss ≤ suc (length ss)) [
-      | true ↦ omega arith
-      | false ↦ omega arith
-    ]
+counted-sectors : (tally : AuditTally) (found : Option Findings) → (counted tally found).sectors ≡ tally.sectors + 1
+counted-sectors tally None = refl
+counted-sectors tally (Some found) = refl
+
+cond-le : (b : Bool) → cond b 1 0 ≤ 1
+cond-le true = omega arith
+cond-le false = omega arith
+
+pub IsTallyOf-counted : (tally : AuditTally) (found : Option Findings) (count : ℕ) → IsTallyOf tally count → IsTallyOf (counted tally found) (count + 1)
+IsTallyOf-counted tally None count is = record {
+  sectors = ap (λ n. n + 1) is.sectors;
+  mode1 = omega (arith, is.mode1);
+  damaged = omega (arith, is.damaged);
+  findings = omega (arith, is.findings);
+}
+IsTallyOf-counted tally (Some found) count is = record {
+  sectors = ap (λ n. n + 1) is.sectors;
+  mode1 = omega (arith, is.mode1);
+  damaged = omega (arith, is.damaged, cond-le (is_damage found.defect));
+  findings = omega (arith, is.findings, cond-le (is_any (Some found)));
+}
+
+-- a sector has one line at most
+one_line : (block : ℕ) (found : Option Findings) → 0 < length (text_of (line_of block found)) → (line : List ℕ) × (line_of block found ≡ line ∷ [])
+one_line block None some = absurd (omega arith)
+one_line block (Some found) some =
+    elim (is_any (Some found)) as (λ t. 0 < length (text_of (cond t (finding_line block found ∷ []) [])) → (line : List ℕ) × (cond t (finding_line block found ∷ []) [] ≡ line ∷ [])) [
+      | true ↦ λ _. (finding_line block found, refl)
+      | false ↦ λ h. absurd (omega arith)
+    ] some
 
 -- ---- the pass
 
-abbrev pub last_line : ℕ → List ℕ → List ℕ
-last_line base image = audit_end (audit_tally base image)
+module _ (base : ℕ) (tally : AuditTally) (sector : List ℕ) (out out' : Outgoing) where
+  abbrev block : ℕ
+  block = base + tally.sectors
 
--- how far an audit has come
-pub record Audited (base : ℕ) (image image' : Incoming) (out out' : Outgoing) (tally : AuditTally) (count : ℕ) : Type 0 where
-  pub passed : Passed (audit_lines base) (audit_lines (base + count)) image image' out out' count
-  pub told : tally ≡ counts_of base passed.done 0
+  line_taken : (next : AuditTally) → next ≡ counted tally (findings_of block sector) → Appends out.written out'.written (text_of (line_of block (findings_of block sector)))
+      → HasTaken (audit_to_tell base tally) (audit_to_tell base next) sector out out'
+  line_taken next is went =
+      subst (λ t. HasTaken (audit_to_tell base tally) (audit_to_tell base t) sector out out') (sym is) (record {
+        sent = line_of block (findings_of block sector);
+        appends = went;
+        lines = λ others. ap (λ b. line_of block (findings_of block sector) ++ audit_lines b others) further;
+        end = λ others left. ap audit_end (all others left);
+        tally = all;
+        nothing_due = refl;
+      })
+    where
+      further : block + 1 ≡ base + (counted tally (findings_of block sector)).sectors
+      further = let sectors_is = counted-sectors tally (findings_of block sector) in omega (arith, sectors_is)
 
-pub Audited-start : (base : ℕ) (image : Incoming) (out : Outgoing) → Audited base image image out out (tally_of 0 0 0 0 0) 0
-unfolding Passed-start
-Audited-start base image out = record {
-  passed = Passed-start (audit_lines base) (audit_lines (base + 0)) image out (λ others. ap (λ block. audit_lines block others) (sym (add-zero base)));
-  told = refl;
-}
+      all : (others : List (List ℕ)) (left : ℕ) → counted_all tally block (sector ∷ others) left
+          ≡ counted_all (counted tally (findings_of block sector)) (base + (counted tally (findings_of block sector)).sectors) others left
+      all others left = counted_all-step tally block sector others left ∙ ap (λ b. counted_all (counted tally (findings_of block sector)) b others left) further
 
--- the counts fit while a sector more may come
-pub record AreSmall (tally : AuditTally) (most : ℕ) : Type 0 where
-  pub sectors : tally.sectors ≤ most
-  pub mode1 : tally.mode1 ≤ most
-  pub damaged : tally.damaged ≤ most
-  pub findings : tally.findings ≤ most
+  line_failed : (n : ℕ) × (n < length (text_of (line_of block (findings_of block sector)))) × Appends out.written out'.written (take n (text_of (line_of block (findings_of block sector))))
+      → HasFailed (audit_to_tell base tally) sector out out'
+  line_failed went =
+      let one = one_line block (findings_of block sector) (omega (arith, went.1)) in
+      record {
+        line = one.0;
+        count = went.0;
+        behind = λ others. audit_lines (block + 1) others;
+        appends = subst (λ t. Appends out.written out'.written (take went.0 t)) (ap text_of one.1 ∙ append-nil one.0) went.2;
+        lines = λ others. ap (λ ls. ls ++ audit_lines (block + 1) others) one.1;
+        last = refl;
+      }
 
-pub AreSmall-counts : (base : ℕ) (done : List (List ℕ)) (count : ℕ) (tally : AuditTally) → length done ≡ count → tally ≡ counts_of base done 0 → AreSmall tally count
-AreSmall-counts base done count tally counted told =
-    subst (λ t. AreSmall t count) (sym told) (record {
-      sectors = omega arith;
-      mode1 = omega (arith, count_by-le-length (λ x. is_mode1 (kind_of x)) done);
-      damaged = omega (arith, count_by-le-length is_damaged done);
-      findings = omega (arith, finding_count-le base done);
-    })
+-- the same by what was found of the sector
+module _ (base : ℕ) (tally : AuditTally) (sector : List ℕ) (out out' : Outgoing) (count : ℕ) (is : IsTallyOf tally count) (found : Option Findings) (found_is : found ≡ findings_of (base + count) sector) where
+  found_there : found ≡ findings_of (base + tally.sectors) sector
+  found_there = found_is ∙ ap (λ n. findings_of (base + n) sector) (sym is.sectors)
 
-module _ (block : ℕ) (sector : List ℕ) (old new : Option (List ℕ)) where
-  pub Takes-ok : (next : AuditTally) (after : ℕ) → after ≡ block + 1 → Sends {X = Unit {0}} {E = SinkFailed} old new (line_of block (findings_of block sector)) (Ok tt)
-      → Takes (audit_lines block) (audit_lines after) sector old new (Ok next)
-  Takes-ok next after follows sent =
-      (line_of block (findings_of block sector), sent, λ others. ap (λ b. line_of block (findings_of block sector) ++ audit_lines b others) (sym follows))
+  line_there : line_of (base + count) found ≡ line_of (base + tally.sectors) (findings_of (base + tally.sectors) sector)
+  line_there = ap (λ n. line_of (base + n) found) (sym is.sectors) ∙ ap (line_of (base + tally.sectors)) found_there
 
-  pub Takes-err : (e : SinkFailed) (rest' : List (List ℕ) → List ℕ) → Sends {X = Unit {0}} old new (line_of block (findings_of block sector)) (Err e)
-      → Takes {X = AuditTally} (audit_lines block) rest' sector old new (Err e)
-  Takes-err e rest' sent =
-      (take sent.0 (line_of block (findings_of block sector)), sent.2, λ others. IsBeginning-take sent.0 (line_of block (findings_of block sector)) (audit_lines (block + 1) others))
+  pub Audit-taken : (next : AuditTally) → next ≡ counted tally found → Appends out.written out'.written (text_of (line_of (base + count) found))
+      → HasTaken (audit_to_tell base tally) (audit_to_tell base next) sector out out'
+  Audit-taken next next_is went =
+      line_taken base tally sector out out' next (next_is ∙ ap (counted tally) found_there) (subst (λ ls. Appends out.written out'.written (text_of ls)) line_there went)
 
-module _ (base : ℕ) (image before after : Incoming) (out sunk : Outgoing) (tally : AuditTally) (count : ℕ) (audited : Audited base image before out sunk tally count) (came : List ℕ) (consumed : Consumes before.rest after.rest came) where
-  pub Audit-read : 2352 * count + length came ≤ image_limit → after.failures ≡ before.failures + 1 → Reports (audit_text base) (audit_tally base) image after out sunk (Err Read)
-  Audit-read = Reports-read (audit_lines base) (last_line base) (audit_tally base) (audit_lines (base + count)) image before after out sunk count audited.passed came consumed
+  pub Audit-failed : (n : ℕ) × (n < length (text_of (line_of (base + count) found))) × Appends out.written out'.written (take n (text_of (line_of (base + count) found)))
+      → HasFailed (audit_to_tell base tally) sector out out'
+  Audit-failed went =
+      line_failed base tally sector out out' (subst (λ ls. (n : ℕ) × (n < length (text_of ls)) × Appends out.written out'.written (take n (text_of ls))) line_there went)
 
-  pub Audit-too_long : 2352 * count ≡ image_limit → length came ≡ 1 → after.failures ≡ before.failures → Reports (audit_text base) (audit_tally base) image after out sunk (Err TooLong)
-  Audit-too_long = Reports-too_long (audit_lines base) (last_line base) (audit_tally base) (audit_lines (base + count)) image before after out sunk count audited.passed came consumed
+-- what goes out at the end, with no sector to follow
+pub Audit-closes : (tally : AuditTally) (first left : ℕ) (out out' : Outgoing) (result : Result AuditTally SinkFailed) → Finishes (audit_end (record tally { tail = left })) out out' result
+    → Finishes (audit_end (counted_all tally first [] left)) out out' result
+Audit-closes tally first left out out' result finished =
+    subst (λ t. Finishes (audit_end t) out out' result)
+    (tally_of-same tally.sectors _ tally.mode1 _ tally.damaged _ tally.findings _ left (sym (add-zero _)) (sym (add-zero _)) (sym (add-zero _)) (sym (add-zero _))) finished
 
-  module _ (sunk' : Outgoing) (kept : after.failures ≡ before.failures) where
-    pub Audited-next : length came ≡ 2352 → (next : AuditTally) → next ≡ counted tally (findings_of (base + count) came)
-        → Sends {X = Unit {0}} {E = SinkFailed} sunk.written sunk'.written (line_of (base + count) (findings_of (base + count) came)) (Ok tt) → sunk'.failures ≡ sunk.failures
-        → Audited base image after out sunk' next (count + 1)
-    unfolding Passed-next
-    Audited-next size next told sent wrote = record {
-      passed = Passed-next (audit_lines base) (last_line base) (audit_tally base) (audit_lines (base + count)) image before after out sunk count audited.passed came consumed sunk' kept size AuditTally next
-          (audit_lines (base + (count + 1))) (Takes-ok (base + count) came sunk.written sunk'.written next (base + (count + 1)) (omega arith) sent) wrote;
-      told =
-          told ∙ ap (λ t. counted t (findings_of (base + count) came)) audited.told
-          ∙ ap (λ n. counted (counts_of base audited.passed.done 0) (findings_of (base + n) came)) (sym audited.passed.counted)
-          ∙ sym (counts_of-behind base audited.passed.done came 0);
-    }
+-- ---- the whole image
 
-    pub Audit-write : length came ≡ 2352 → (e : SinkFailed) → 2352 * count + 2352 ≤ image_limit
-        → Sends {X = Unit {0}} sunk.written sunk'.written (line_of (base + count) (findings_of (base + count) came)) (Err e)
-        → sunk'.failures ≡ sunk.failures + 1 → Reports (audit_text base) (audit_tally base) image after out sunk' (Err Write)
-    Audit-write size e few sent failed =
-        Reports-write (audit_lines base) (last_line base) (audit_tally base) (audit_lines (base + count)) image before after out sunk count audited.passed came consumed sunk' kept size AuditTally e
-        (audit_lines (base + count)) few (Takes-err (base + count) came sunk.written sunk'.written e (audit_lines (base + count)) sent) failed
+abbrev pub none_yet : AuditTally
+none_yet = record { sectors = 0; mode1 = 0; damaged = 0; findings = 0; tail = 0 }
 
-    module _ (short : length came < 2352) (few : 2352 * count + length came ≤ image_limit) (end : IsAtEnd after.rest) (left : ℕ) (tail_told : left ≡ length came) where
-      is : record tally { tail = left } ≡ audit_tally base (audited.passed.read ++ came)
-      is =
-          let all : sectors (audited.passed.read ++ came) ≡ audited.passed.done = audited.passed.cut came ∙ ap (λ ss. audited.passed.done ++ ss) (sectors-short came short) ∙ append-nil audited.passed.done in
-          ap (λ (t : AuditTally). record t { tail = left }) audited.told
-          ∙ ap (counts_of base audited.passed.done) (tail_told ∙ sym (length-tail audited.passed.read came count audited.passed.size short))
-          ∙ ap (λ ss. counts_of base ss (length (tail (audited.passed.read ++ came)))) (sym all)
+module _ (base : ℕ) where
+  all_counted : (ss : List (List ℕ)) (left : ℕ) → counted_all none_yet base ss left ≡ tally_of (length ss) (count_by (λ sector. is_mode1 (kind_of sector)) ss) (count_by is_damaged ss) (finding_count base ss) left
+  all_counted ss left = tally_of-same _ _ _ _ _ _ _ _ left (zero-add _) (zero-add _) (zero-add _) (zero-add _)
 
-      pub Audit-end : (told : AuditTally) → told ≡ record tally { tail = left } → Finishes [] (audit_end (record tally { tail = left })) sunk sunk' (Ok told) → sunk'.failures ≡ sunk.failures
-          → Reports (audit_text base) (audit_tally base) image after out sunk' (Ok told)
-      Audit-end told told_is finished wrote =
-          Reports-end (audit_lines base) (last_line base) (audit_tally base) (audit_lines (base + count)) image before after out sunk count audited.passed came consumed sunk' kept short few end
-          (audit_end (record tally { tail = left })) (ap audit_end (sym is)) told (told_is ∙ is) finished wrote
+  pub Auditing-text : (image : List ℕ) → (telling_of (audit_to_tell base none_yet)).text image ≡ (auditing base).text image
+  Auditing-text image =
+      ap (λ b. text_of (audit_lines b (sectors image)) ++ audit_end (counted_all none_yet b (sectors image) (length (tail image)))) (add-zero base)
+      ∙ ap (λ t. text_of (audit_lines base (sectors image)) ++ audit_end t) (all_counted (sectors image) (length (tail image)))
 
-      pub Audit-end_failed : (e : SinkFailed) → Finishes {X = AuditTally} [] (audit_end (record tally { tail = left })) sunk sunk' (Err e) → sunk'.failures ≡ sunk.failures + 1
-          → Reports (audit_text base) (audit_tally base) image after out sunk' (Err Write)
-      Audit-end_failed e finished failed =
-          Reports-end_failed (audit_lines base) (last_line base) (audit_tally base) (audit_lines (base + count)) image before after out sunk count audited.passed came consumed sunk' kept short few end
-          (audit_end (record tally { tail = left })) (ap audit_end (sym is)) e finished failed
+  pub Auditing-due : (read : List ℕ) → (telling_of (audit_to_tell base none_yet)).due read ≡ (auditing base).due read
+  Auditing-due read = ap (λ b. audit_lines b (sectors read)) (add-zero base)
+
+  pub Auditing-tally : (image : List ℕ) → (telling_of (audit_to_tell base none_yet)).tally image ≡ (auditing base).tally image
+  Auditing-tally image =
+      ap (λ b. counted_all none_yet b (sectors image) (length (tail image))) (add-zero base) ∙ all_counted (sectors image) (length (tail image))

@@ -1,5 +1,5 @@
 -- An image's sectors and its tail.
-use Rattle.std.proofs.Common.{◌≡◌, ℕ, zero, suc, ◌+◌, ◌*◌, ◌/◌, ◌<◌, ◌≤◌, List, [], ◌∷◌, ◌++◌, length, take, drop, sym, ap, ◌∙◌, subst, arith, append_assoc, length-append, take_at, drop_at, take-append-drop}
+use Rattle.std.proofs.Common.{◌≡◌, ℕ, zero, suc, ◌+◌, ◌*◌, ◌/◌, ◌<◌, ◌≤◌, List, [], ◌∷◌, ◌++◌, length, take, drop, sym, ap, ◌∙◌, subst, arith, append_assoc, length-append, take_at, drop_at, take-append-drop, refl}
 use Rattle.std.specs.List.{All, flat_map}
 use Rattle.std.specs.Simd.{first_chunks}
 use Rattle.std.proofs.lemmas.List.{drop-drop, length-drop, length-take-le}
@@ -29,6 +29,19 @@ unfolding tail
 length-tail read rest n whole short =
     let all = length-append read rest in
     length-drop (2352 * (length (read ++ rest) / 2352)) (read ++ rest) ∙ omega arith
+
+-- there are no more sectors than bytes, nor a longer tail
+length-first_chunks : (n k : ℕ) (xs : List ℕ) → length (first_chunks n k xs) ≡ k
+length-first_chunks n zero xs = refl
+length-first_chunks n (suc k) xs = ap suc (length-first_chunks n k (drop n xs))
+
+pub length-sectors-le : (image : List ℕ) → length (sectors image) ≤ length image
+unfolding sectors
+length-sectors-le image = omega (arith, length-first_chunks 2352 (length image / 2352) image)
+
+pub length-tail-le : (image : List ℕ) → length (tail image) ≤ length image
+unfolding tail
+length-tail-le image = omega (arith, length-drop (2352 * (length image / 2352)) image)
 
 -- ---- the cut
 
@@ -73,7 +86,8 @@ tail-short : (more : List ℕ) → length more < 2352 → tail more ≡ more
 unfolding tail
 tail-short more short = let none : length more / 2352 ≡ 0 = omega arith in ap (λ k. drop (2352 * k) more) none
 
-cut_of_joined : (whole : List (List ℕ)) (rest : List ℕ) → All (λ sector. length sector ≡ 2352) whole → length rest < 2352
+-- the cut of joined sectors and a tail
+pub cut_of_joined : (whole : List (List ℕ)) (rest : List ℕ) → All (λ sector. length sector ≡ 2352) whole → length rest < 2352
     → (whole ≡ sectors (joined whole ++ rest)) × (rest ≡ tail (joined whole ++ rest))
 cut_of_joined [] rest each short = (sym (sectors-short rest short), sym (tail-short rest short))
 cut_of_joined (sector ∷ others) rest each short =
@@ -87,3 +101,11 @@ cut_of_joined (sector ∷ others) rest each short =
 pub IsCut-only : (image : List ℕ) (whole : List (List ℕ)) (rest : List ℕ) → IsCut image whole rest → (whole ≡ sectors image) × (rest ≡ tail image)
 IsCut-only image whole rest cut =
     subst (λ bytes. (whole ≡ sectors bytes) × (rest ≡ tail bytes)) cut.joined (cut_of_joined whole rest cut.each cut.short)
+
+-- sectors in front of more bytes
+pub sectors-joined : (whole : List (List ℕ)) (more : List ℕ) → All (λ sector. length sector ≡ 2352) whole → sectors (flat_map (λ sector. sector) whole ++ more) ≡ whole ++ sectors more
+sectors-joined [] more each = refl
+sectors-joined (sector ∷ others) more each =
+    ap sectors (append_assoc sector (joined others) more)
+    ∙ sectors-sector sector (joined others ++ more) (All-head (λ s. length s ≡ 2352) sector others each)
+    ∙ ap (λ ss. sector ∷ ss) (sectors-joined others more (All-tail (λ s. length s ≡ 2352) sector others each))

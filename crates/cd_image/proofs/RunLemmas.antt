@@ -1,5 +1,5 @@
 -- Runs of equal kinds.
-use Rattle.std.proofs.Common.{◌≡◌, ◌≢◌, ℕ, zero, suc, ◌+◌, true, false, List, [], ◌∷◌, ◌++◌, replicate, refl, sym, ap, ◌∙◌, subst, arith, add-one, cond}
+use Rattle.std.proofs.Common.{◌≡◌, ◌≢◌, ℕ, zero, suc, ◌+◌, true, false, List, [], ◌∷◌, ◌++◌, replicate, refl, sym, ap, ◌∙◌, subst, arith, add-one, cond, ◌<◌}
 use Rattle.std.proofs.lemmas.Bool.Decides.{nat_tests}
 use Rattle.cd_sector.specs.declared.kinds.SectorKind.{SectorKind}
 use Rattle.cd_sector.specs.declared.kinds.SectorKind.TheVariants.{NoSync, Mode0, Mode1, Mode2, Other}
@@ -41,7 +41,7 @@ same_kind-false a b differ =
     ] refl
 
 -- runs with one more kind before them begin with a run of that kind
-put_before-begins : (kind : SectorKind) (rs : List Run) → (count : ℕ) × (others : List Run) × (put_before kind rs ≡ record { kind = kind; count = count } ∷ others)
+pub put_before-begins : (kind : SectorKind) (rs : List Run) → (count : ℕ) × (others : List Run) × (put_before kind rs ≡ record { kind = kind; count = count } ∷ others)
 put_before-begins kind [] = (1, [], refl)
 put_before-begins kind (run ∷ others) =
     elim (same_kind kind run.kind) as (λ t. (count : ℕ) × (left : List Run) × (cond t (record { kind = kind; count = run.count + 1 } ∷ others) (record { kind = kind; count = 1 } ∷ run ∷ others) ≡ record { kind = kind; count = count } ∷ left)) [
@@ -103,3 +103,28 @@ spelled-runs (kind ∷ others) = spelled-put_before kind (runs others) ∙ ap (�
 pub AreMaximal-runs : (kinds : List SectorKind) → AreMaximal (runs kinds)
 AreMaximal-runs [] = tt
 AreMaximal-runs (kind ∷ others) = AreMaximal-put_before kind (runs others) (AreMaximal-runs others)
+
+-- ---- no other runs
+
+runs-one : (count : ℕ) (kind : SectorKind) (others : List SectorKind) → 0 < count → IsOther kind others → runs (replicate count kind ++ others) ≡ record { kind = kind; count = count } ∷ runs others
+runs-one zero kind others some other = absurd (omega arith)
+runs-one (suc count) kind others some other = runs-run count kind others other
+
+IsOther-replicate : (count : ℕ) (kind next : SectorKind) (others : List SectorKind) → 0 < count → kind ≢ next → IsOther kind (replicate count next ++ others)
+IsOther-replicate zero kind next others some differ = absurd (omega arith)
+IsOther-replicate (suc count) kind next others some differ = differ
+
+first_count : (run : Run) (others : List Run) → AreMaximal (run ∷ others) → 0 < run.count
+first_count run [] maximal = maximal
+first_count run (next ∷ others) maximal = maximal.0
+
+runs-spelled : (rs : List Run) → AreMaximal rs → runs (spelled rs) ≡ rs
+runs-spelled [] maximal = refl
+runs-spelled (run ∷ []) maximal = runs-one run.count run.kind [] maximal tt
+runs-spelled (run ∷ next ∷ others) maximal =
+    runs-one run.count run.kind (spelled (next ∷ others)) maximal.0
+    (IsOther-replicate next.count run.kind next.kind (spelled others) (first_count next others maximal.2) maximal.1)
+    ∙ ap (λ rs. run ∷ rs) (runs-spelled (next ∷ others) maximal.2)
+
+pub runs-only : (kinds : List SectorKind) (rs : List Run) → spelled rs ≡ kinds → AreMaximal rs → rs ≡ runs kinds
+runs-only kinds rs same maximal = sym (runs-spelled rs maximal) ∙ ap runs same

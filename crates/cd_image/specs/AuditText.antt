@@ -1,12 +1,15 @@
 -- The text that `audit` writes of an image.
-use Rattle.std.specs.Prelude.{ℕ, ◌+◌, Bool, false, not, ◌&&◌, ◌||◌, if◌then◌else◌, List, [], ◌∷◌, ◌++◌, length, count_by, codes, decimal, nat_eq, Option, None, Some}
+use Rattle.std.specs.Prelude.{◌≡◌, ℕ, ◌+◌, ◌≤◌, Bool, false, not, ◌&&◌, ◌||◌, if◌then◌else◌, List, [], ◌∷◌, ◌++◌, length, count_by, codes, decimal, nat_eq, Option, None, Some}
 use Rattle.std.specs.List.{list_any, starts_with}
 use Rattle.cd_sector.specs.Address.{address}
 use Rattle.cd_sector.specs.Consistent.{header_of, is_mode1}
 use Rattle.cd_sector.specs.Defect.{defect_of, is_broken, is_nonzero, is_sound}
 use Rattle.cd_sector.specs.Kind.{kind_of}
 use Rattle.cd_sector.specs.declared.defects.DefectReport.{DefectReport}
-use Rattle.cd_image.specs.Image.{sectors, tail}
+use Rattle.cd_image.specs.Image.{image_limit, sectors, tail}
+use Rattle.cd_image.specs.Lines.{line_count, text_of}
+use Rattle.cd_image.specs.Report.{Telling}
+use Rattle.cd_image.specs.declared.TheConstants.{MAX_BASE}
 use Rattle.cd_image.specs.declared.auditing.AuditTally.{AuditTally}
 use Rattle.cd_image.specs.declared.findings.Findings.{Findings}
 
@@ -58,12 +61,12 @@ finding_line block found =
     ++ count_if (codes " p=") found.defect.p ++ count_if (codes " q=") found.defect.q ++ codes "\n"
 
 -- the line of a sector, where there is anything to tell
-abbrev pub line_of : ℕ → Option Findings → List ℕ
+abbrev pub line_of : ℕ → Option Findings → List (List ℕ)
 line_of block None = []
-line_of block (Some found) = if is_any (Some found) then finding_line block found else []
+line_of block (Some found) = if is_any (Some found) then finding_line block found ∷ [] else []
 
 -- the lines of sectors, the first of which is `block`
-abbrev pub audit_lines : ℕ → List (List ℕ) → List ℕ
+abbrev pub audit_lines : ℕ → List (List ℕ) → List (List ℕ)
 audit_lines block [] = []
 audit_lines block (sector ∷ others) = line_of block (findings_of block sector) ++ audit_lines (block + 1) others
 
@@ -97,17 +100,17 @@ audit_end tally =
 
 -- the whole text, where the image's first block is `base`
 abbrev pub audit_text : ℕ → List ℕ → List ℕ
-audit_text base image = audit_lines base (sectors image) ++ audit_end (audit_tally base image)
+audit_text base image = text_of (audit_lines base (sectors image)) ++ audit_end (audit_tally base image)
 
--- ---- step by step
-
--- the tally with one more sector
-abbrev pub counted : AuditTally → Option Findings → AuditTally
-counted tally None = record tally { sectors = tally.sectors + 1 }
-counted tally (Some found) = record {
-  sectors = tally.sectors + 1;
-  mode1 = tally.mode1 + 1;
-  damaged = tally.damaged + (if is_damage found.defect then 1 else 0);
-  findings = tally.findings + (if is_any (Some found) then 1 else 0);
-  tail = tally.tail;
+-- what is told of an image: the line of a sector is due when it was read
+abbrev pub auditing : ℕ → Telling AuditTally
+auditing base = record {
+  text = audit_text base;
+  due = λ read. audit_lines base (sectors read);
+  tally = audit_tally base;
 }
+
+-- the findings are the lines before the last
+abbrev pub AuditCountsLines : Type 0
+AuditCountsLines =
+    (base : ℕ) (image : List ℕ) → base ≤ MAX_BASE → length image ≤ image_limit → line_count (audit_text base image) ≡ (audit_tally base image).findings + 1

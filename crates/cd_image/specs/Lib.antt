@@ -1,8 +1,12 @@
+pub mod Applying
 pub mod AuditText
-pub mod Forms
 pub mod Image
+pub mod Lines
 pub mod ListText
 pub mod OpenRun
+pub mod Passing
+pub mod PatchLog
+pub mod Patched
 pub mod Report
 pub mod Runs
-pub mod Transfer
+pub mod Telling

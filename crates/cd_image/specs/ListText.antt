@@ -4,6 +4,8 @@ use Rattle.cd_sector.specs.Kind.{kind_of}
 use Rattle.cd_sector.specs.declared.kinds.SectorKind.{SectorKind}
 use Rattle.cd_sector.specs.declared.kinds.SectorKind.TheVariants.{NoSync, Mode0, Mode1, Mode2, Other}
 use Rattle.cd_image.specs.Image.{sectors, tail}
+use Rattle.cd_image.specs.Lines.{all_but_last, text_of}
+use Rattle.cd_image.specs.Report.{Telling}
 use Rattle.cd_image.specs.Runs.{Run, runs}
 use Rattle.cd_image.specs.declared.listing.ListTally.{ListTally}
 
@@ -20,9 +22,9 @@ run_line first run =
     decimal first ++ codes "-" ++ decimal (first + run.count - 1) ++ codes " " ++ kind_name run.kind ++ codes "\n"
 
 -- a line for each run, the first of which begins at block `first`
-abbrev pub run_lines : ℕ → List Run → List ℕ
+abbrev pub run_lines : ℕ → List Run → List (List ℕ)
 run_lines first [] = []
-run_lines first (run ∷ others) = run_line first run ++ run_lines (first + run.count) others
+run_lines first (run ∷ others) = run_line first run ∷ run_lines (first + run.count) others
 
 -- the last line
 unfoldable pub list_end : ListTally → List ℕ
@@ -34,4 +36,12 @@ list_tally image = record { sectors = length (sectors image); tail = length (tai
 
 -- the whole text, where the image's first block is `base`
 abbrev pub list_text : ℕ → List ℕ → List ℕ
-list_text base image = run_lines base (runs (map kind_of (sectors image))) ++ list_end (list_tally image)
+list_text base image = text_of (run_lines base (runs (map kind_of (sectors image)))) ++ list_end (list_tally image)
+
+-- what is told of an image: the line of a run is due when a sector of another kind was read behind it
+abbrev pub listing : ℕ → Telling ListTally
+listing base = record {
+  text = list_text base;
+  due = λ read. all_but_last (run_lines base (runs (map kind_of (sectors read))));
+  tally = list_tally;
+}

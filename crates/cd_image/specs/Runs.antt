@@ -42,6 +42,8 @@ AreMaximal [] = Unit {0}
 AreMaximal (run ∷ []) = 0 < run.count
 AreMaximal (run ∷ next ∷ others) = (0 < run.count) × (run.kind ≢ next.kind) × AreMaximal (next ∷ others)
 
--- the runs spelled out are the kinds, and they are maximal
+-- the runs spelled out are the kinds, and they are maximal; no other runs are both
 abbrev pub RunsSpellKinds : Type 0
-RunsSpellKinds = (kinds : List SectorKind) → (spelled (runs kinds) ≡ kinds) × AreMaximal (runs kinds)
+RunsSpellKinds =
+    (kinds : List SectorKind) → (spelled (runs kinds) ≡ kinds) × AreMaximal (runs kinds)
+    × ((rs : List Run) → spelled rs ≡ kinds → AreMaximal rs → rs ≡ runs kinds)

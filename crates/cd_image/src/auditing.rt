@@ -1,18 +1,17 @@
 //! The audit of an image: what is wrong with its Mode 1 sectors.
 
 ghost use Rattle.std.specs.Prelude.{◌≡◌, ◌+◌, ◌<◌, ◌≤◌, ◌↔◌, [], IfOk, OnOk};
-ghost use Rattle.cd_image.specs.AuditText.{audit_end, audit_tally, audit_text, counted, findings_of, line_of};
-ghost use Rattle.cd_image.specs.Report.{EndsWell, Finishes, Reports, WritesText, incoming, outgoing};
-ghost use Rattle.cd_image.specs.Transfer.{Counts, Sends};
+ghost use Rattle.cd_image.specs.AuditText.{audit_end, auditing};
+ghost use Rattle.cd_image.specs.Report.{EndsWell, Reports, TellsTooLong, WritesText};
+ghost use Rattle.cd_image.specs.Telling.{counted};
+ghost use Rattle.cd_stream.specs.Transfer.{Sends};
 
 use crate::fault::Fault;
 use crate::findings::{Findings, findings_of, is_any, is_damage, send_findings};
-use crate::line::Line;
-use crate::sink::{Sink, SinkFailed};
-use crate::source::Source;
-use crate::transfer::{fill, write_all};
+use crate::telling::{Teller, tell};
 use crate::{MAX_BASE, MAX_SECTORS};
-use cd_sector::{SECTOR_SIZE, Sector};
+use cd_sector::Sector;
+use cd_stream::{Line, Sink, SinkFailed, Source, write_all};
 
 /// What an audit has counted.
 #[derive(Clone, Copy, Debug, PartialEq, Eq)]
@@ -53,9 +52,8 @@ fn with_sector(tally: AuditTally, found: Option<Findings>) -> AuditTally
 
 #[tactic(auto, unfolding(crate::specs::AuditText::audit_end))]
 fn send_end<O: Sink>(tally: AuditTally, out: &mut O) -> Result<(), SinkFailed>
-    requires { O.failures out.old < 4294967295 }
-    ensures bytes { Sends (O.written out.old) (O.written out.new) (audit_end tally) result }
-    ensures count { Counts (O.failures out.old) (O.failures out.new) result }
+    requires { (O.seen out.old).failures < 4294967295 }
+    ensures { Sends (O.seen out.old) (O.seen out.new) (audit_end tally) result }
 {
     let mut line = Line::new();
     line.push_text(b"sectors ");
@@ -70,38 +68,48 @@ fn send_end<O: Sink>(tally: AuditTally, out: &mut O) -> Result<(), SinkFailed>
     write_all(out, line.as_slice())
 }
 
-/// Writes the last line, and finishes.
-fn close<O: Sink>(tally: AuditTally, out: &mut O) -> Result<AuditTally, SinkFailed>
-    requires { O.failures out.old < 4294967295 }
-    ensures text { Finishes [] (audit_end tally)
-        (outgoing O.written O.failures O.finished out.old) (outgoing O.written O.failures O.finished out.new) result }
-    ensures tally { IfOk result (λ told. told ≡ tally) }
-    ensures count { Counts (O.failures out.old) (O.failures out.new) result }
-{
-    send_end(tally, out)?;
-    out.finish()?;
-    Ok(tally)
+/// Audits an image whose first block is `base`.
+#[derive(Drop)]
+struct Auditor {
+    base: u32,
+    tally: AuditTally,
 }
 
-/// Writes the line of one more sector, and counts it.
-fn take_sector<O: Sink>(
-    sector: &Sector,
-    block: u32,
-    tally: AuditTally,
-    out: &mut O,
-) -> Result<AuditTally, SinkFailed>
-    requires countable { O.failures out.old < 4294967295 }
-    requires sectors { tally.sectors < MAX_SECTORS }
-    requires mode1 { tally.mode1 < MAX_SECTORS }
-    requires damaged { tally.damaged < MAX_SECTORS }
-    requires findings { tally.findings < MAX_SECTORS }
-    ensures bytes { Sends (O.written out.old) (O.written out.new) (line_of block (findings_of block sector.now)) result }
-    ensures tally { IfOk result (λ next. next ≡ counted tally (findings_of block sector.now)) }
-    ensures count { Counts (O.failures out.old) (O.failures out.new) result }
-{
-    let found = findings_of(sector, block);
-    send_findings(block, found, out)?;
-    Ok(with_sector(tally, found))
+impl Teller for Auditor {
+    ghost use Rattle.std.specs.Prelude.{◌≤◌};
+    ghost use Rattle.cd_image.specs.Telling.{IsTallyOf, audit_to_tell};
+    ghost use Rattle.cd_image.specs.declared.TheConstants.{MAX_BASE};
+
+    type Tally = AuditTally;
+
+    ghost to_tell = { λ s count. audit_to_tell s.base s.tally };
+
+    ghost has_taken = { λ s count. (s.base ≤ MAX_BASE) × IsTallyOf s.tally count };
+
+    fn take_sector<O: Sink>(
+        &mut self,
+        count: u32,
+        sector: &Sector,
+        out: &mut O,
+    ) -> Result<(), SinkFailed> {
+        let block = self.base + count;
+        let found = findings_of(sector, block);
+        send_findings(block, found, out)?;
+        self.tally = with_sector(self.tally, found);
+        Ok(())
+    }
+
+    fn close<O: Sink>(
+        &mut self,
+        _count: u32,
+        tail: u16,
+        out: &mut O,
+    ) -> Result<AuditTally, SinkFailed> {
+        let tally = AuditTally { tail, ..self.tally };
+        send_end(tally, out)?;
+        out.finish()?;
+        Ok(tally)
+    }
 }
 
 // What `audit` does, as one fact.
@@ -111,33 +119,18 @@ fn audit_whole<I: Source, O: Sink>(
     out: &mut O,
 ) -> Result<AuditTally, Fault>
     requires base { base ≤ MAX_BASE }
-    requires image_countable { I.failures image.old < 4294967295 }
-    requires out_countable { O.failures out.old < 4294967295 }
-    ensures { Reports (audit_text base) (audit_tally base)
-        (incoming I.rest I.failures image.old) (incoming I.rest I.failures image.new)
-        (outgoing O.written O.failures O.finished out.old) (outgoing O.written O.failures O.finished out.new) result }
+    requires image_countable { (I.seen image.old).failures < 4294967295 }
+    requires out_countable { (O.seen out.old).failures < 4294967295 }
+    ensures { Reports (auditing base) (I.seen image.old) (I.seen image.new) (O.seen out.old) (O.seen out.new) result }
 {
-    let mut bytes = [0; SECTOR_SIZE];
-    let mut tally = AuditTally {
+    let tally = AuditTally {
         sectors: 0,
         mode1: 0,
         damaged: 0,
         findings: 0,
         tail: 0,
     };
-    for sectors in 0..MAX_SECTORS {
-        let length = fill(image, &mut bytes)?;
-        if length < SECTOR_SIZE {
-            tally.tail = length as u16;
-            return Ok(close(tally, out)?);
-        }
-        let sector = Sector::from_bytes(bytes);
-        tally = take_sector(&sector, base + sectors, tally, out)?;
-    }
-    if image.read(&mut bytes[..1])? > 0 {
-        return Err(Fault::TooLong);
-    }
-    Ok(close(tally, out)?)
+    tell(image, &mut Auditor { base, tally }, out)
 }
 
 /// Writes a line for each Mode 1 sector whose address or content is wrong, and a last line with the numbers of
@@ -148,23 +141,18 @@ fn audit_whole<I: Source, O: Sink>(
 /// sector.
 pub fn audit<I: Source, O: Sink>(image: &mut I, base: u32, out: &mut O) -> Result<AuditTally, Fault>
     requires base { base ≤ MAX_BASE }
-    requires image_countable { I.failures image.old < 4294967295 }
-    requires out_countable { O.failures out.old < 4294967295 }
+    requires image_countable { (I.seen image.old).failures < 4294967295 }
+    requires out_countable { (O.seen out.old).failures < 4294967295 }
 
     // The whole of it, also what stands after a fault.
-    ensures report { Reports (audit_text base) (audit_tally base)
-        (incoming I.rest I.failures image.old) (incoming I.rest I.failures image.new)
-        (outgoing O.written O.failures O.finished out.old) (outgoing O.written O.failures O.finished out.new) result }
+    ensures report { Reports (auditing base) (I.seen image.old) (I.seen image.new) (O.seen out.old) (O.seen out.new) result }
 
     // What it says where nothing failed, and when each fault comes.
-    ensures text { IfOk result (WritesText (audit_text base) (audit_tally base)
-        (incoming I.rest I.failures image.old) (incoming I.rest I.failures image.new)
-        (outgoing O.written O.failures O.finished out.old) (outgoing O.written O.failures O.finished out.new)) }
-    ensures ends_well { OnOk result (EndsWell
-        (incoming I.rest I.failures image.old) (incoming I.rest I.failures image.new)
-        (outgoing O.written O.failures O.finished out.old) (outgoing O.written O.failures O.finished out.new)) }
-    ensures read_failed { (result ≡ Err Fault.Read) ↔ (I.failures image.new ≡ I.failures image.old + 1) }
-    ensures write_failed { (result ≡ Err Fault.Write) ↔ (O.failures out.new ≡ O.failures out.old + 1) }
+    ensures text { IfOk result (WritesText (auditing base) (I.seen image.old) (I.seen image.new) (O.seen out.old) (O.seen out.new)) }
+    ensures ends_well { OnOk result (EndsWell (I.seen image.old) (I.seen image.new) (O.seen out.old) (O.seen out.new)) }
+    ensures read_failed { (result ≡ Err Fault.Read) ↔ ((I.seen image.new).failures ≡ (I.seen image.old).failures + 1) }
+    ensures write_failed { (result ≡ Err Fault.Write) ↔ ((O.seen out.new).failures ≡ (O.seen out.old).failures + 1) }
+    ensures too_long { TellsTooLong (I.seen image.old) (I.seen image.new) result }
 {
     audit_whole(image, base, out)
 }

@@ -1,10 +1,9 @@
 //! Why a call on an image ended early.
 
 ghost use Rattle.std.specs.Prelude.{◌≡◌};
-ghost use Rattle.cd_image.specs.declared.fault.Fault.TheVariants.{Read, Write};
+ghost use Rattle.cd_image.specs.declared.fault.Fault.TheVariants.{Log, Read, Write};
 
-use crate::sink::SinkFailed;
-use crate::source::SourceFailed;
+use cd_stream::{SinkFailed, SourceFailed};
 use thiserror::Error;
 
 /// Why a call on an image ended early. It ends at the first fault.
@@ -16,6 +15,9 @@ pub enum Fault {
     /// A write to the output, or its flush, failed.
     #[error("writing the output failed")]
     Write,
+    /// A write to the log failed, or its flush.
+    #[error("writing the log failed")]
+    Log,
     /// A byte was read behind the millionth sector.
     #[error("the image has more than 1000000 sectors")]
     TooLong,
@@ -34,5 +36,23 @@ impl From<SinkFailed> for Fault {
 
     fn from(_: SinkFailed) -> Self {
         Fault::Write
+    }
+}
+
+/// A write to the log failed, or its flush. The sink has counted it.
+#[derive(Clone, Copy, Debug)]
+pub(crate) struct LogFailed;
+
+impl From<SinkFailed> for LogFailed {
+    fn from(_: SinkFailed) -> Self {
+        LogFailed
+    }
+}
+
+impl From<LogFailed> for Fault {
+    ghost from_gives = { λ _ fault. fault ≡ Log };
+
+    fn from(_: LogFailed) -> Self {
+        Fault::Log
     }
 }

@@ -4,16 +4,15 @@ ghost use Rattle.std.specs.Prelude.{◌≡◌, ◌+◌, ◌<◌, ◌≤◌, ◌+
 ghost use Rattle.cd_sector.specs.Address.{address};
 ghost use Rattle.cd_sector.specs.Consistent.{header_of};
 ghost use Rattle.cd_image.specs.AuditText.{count_if, finding_line, findings_of, is_any, is_damage, is_other_address, line_of, name_if, report_of};
-ghost use Rattle.cd_image.specs.Transfer.{Counts, Sends};
+ghost use Rattle.cd_image.specs.Lines.{text_of};
+ghost use Rattle.cd_stream.specs.Transfer.{Counts, Sends};
 
-use crate::line::{LINE_SIZE, Line};
-use crate::sink::{Sink, SinkFailed};
-use crate::transfer::write_all;
 use cd_sector::{DefectReport, Sector, SectorKind, address_of, defect, kind};
+use cd_stream::{LINE_SIZE, Line, Sink, SinkFailed, write_all};
 
 /// What is found of a Mode 1 sector.
 #[derive(Clone, Copy, Debug, PartialEq, Eq)]
-pub struct Findings {
+pub(crate) struct Findings {
     /// The header's address is another than that of the block.
     pub address: bool,
     /// What is wrong with the sector.
@@ -106,9 +105,8 @@ pub(crate) fn send_findings<O: Sink>(
     found: Option<Findings>,
     out: &mut O,
 ) -> Result<(), SinkFailed>
-    requires { O.failures out.old < 4294967295 }
-    ensures bytes { Sends (O.written out.old) (O.written out.new) (line_of block found) result }
-    ensures count { Counts (O.failures out.old) (O.failures out.new) result }
+    requires { (O.seen out.old).failures < 4294967295 }
+    ensures { Sends (O.seen out.old) (O.seen out.new) (text_of (line_of block found)) result }
 {
     match found {
         Some(found) if is_any(&found) => write_all(out, finding_line(block, &found).as_slice()),

@@ -1,33 +1,30 @@
 //! Images of raw CD sectors as they come from a source, and what is told of them to a sink.
 #![tactic(auto)]
 
+mod applying;
 mod auditing;
+mod discard;
 mod fault;
 mod findings;
-mod forms;
 mod laws;
-mod line;
 mod listing;
-mod sink;
-mod source;
-mod transfer;
+mod pass;
+mod patch_log;
+mod telling;
 
+pub use applying::{apply, check};
 pub use auditing::{AuditTally, audit};
+pub use cd_patch::Outcome;
+pub use cd_stream::{
+    FailAfter, FromRead, LINE_SIZE, Line, Short, Sink, SinkFailed, SliceSink, SliceSource, Source,
+    SourceFailed, ToWrite, ZeroSource, fill, write_all,
+};
 pub use fault::Fault;
-pub use findings::Findings;
-pub use forms::fail_after::FailAfter;
-pub use forms::from_read::FromRead;
-pub use forms::short::Short;
-pub use forms::slice_sink::SliceSink;
-pub use forms::slice_source::SliceSource;
-pub use forms::to_write::ToWrite;
-pub use forms::zero_source::ZeroSource;
-pub use laws::{images_are_cut, runs_spell_kinds};
-pub use line::{LINE_SIZE, Line};
+pub use laws::{
+    audit_counts_lines, images_are_cut, patched_exists, patched_is_determined, runs_spell_kinds,
+};
 pub use listing::{ListTally, list};
-pub use sink::{Sink, SinkFailed};
-pub use source::{Source, SourceFailed};
-pub use transfer::{fill, write_all};
+pub use patch_log::Tally;
 
 /// The largest number of whole sectors in an image.
 pub const MAX_SECTORS: u32 = 1_000_000;

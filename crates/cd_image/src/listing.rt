@@ -1,18 +1,18 @@
 //! The listing of an image: its runs of sectors of equal kind.
 
 ghost use Rattle.std.specs.Prelude.{◌≡◌, ◌+◌, ◌-◌, ◌<◌, ◌≤◌, ◌↔◌, [], IfOk, IfSome, OnOk, length};
-ghost use Rattle.cd_image.specs.ListText.{kind_name, list_end, list_tally, list_text, run_line};
-ghost use Rattle.cd_image.specs.OpenRun.{EndsBefore, TakesKind, open_text};
-ghost use Rattle.cd_image.specs.Report.{EndsWell, Finishes, Reports, WritesText, incoming, outgoing};
-ghost use Rattle.cd_image.specs.Transfer.{Counts, Sends};
+ghost use Rattle.cd_image.specs.ListText.{kind_name, list_end, listing, run_line};
+ghost use Rattle.cd_image.specs.OpenRun.{EndsBefore, open_first, open_kinds};
+ghost use Rattle.cd_image.specs.Report.{EndsWell, Reports, TellsTooLong, WritesText};
+ghost use Rattle.cd_image.specs.Runs.{runs};
+ghost use Rattle.cd_image.specs.Telling.{TakesKind, last_line};
+ghost use Rattle.cd_stream.specs.Transfer.{Counts, Sends};
 
+use crate::MAX_BASE;
 use crate::fault::Fault;
-use crate::line::Line;
-use crate::sink::{Sink, SinkFailed};
-use crate::source::Source;
-use crate::transfer::{fill, write_all};
-use crate::{MAX_BASE, MAX_SECTORS};
-use cd_sector::{SECTOR_SIZE, Sector, SectorKind, kind};
+use crate::telling::{Teller, tell};
+use cd_sector::{Sector, SectorKind, kind};
+use cd_stream::{Line, Sink, SinkFailed, Source, write_all};
 
 /// What a listing has counted: whole sectors, and the bytes behind them.
 #[derive(Clone, Copy, Debug, PartialEq, Eq)]
@@ -45,11 +45,10 @@ fn name_of(kind: SectorKind) -> &'static [u8]
 
 #[tactic(auto, unfolding(crate::specs::ListText::run_line))]
 fn send_run<O: Sink>(run: OpenRun, out: &mut O) -> Result<(), SinkFailed>
-    requires countable { O.failures out.old < 4294967295 }
+    requires countable { (O.seen out.old).failures < 4294967295 }
     requires ordered { run.first ≤ run.last }
-    ensures bytes { Sends (O.written out.old) (O.written out.new)
+    ensures { Sends (O.seen out.old) (O.seen out.new)
         (run_line run.first (record { kind = run.kind; count = run.last + 1 - run.first })) result }
-    ensures count { Counts (O.failures out.old) (O.failures out.new) result }
 {
     let mut line = Line::new();
     line.push_number(run.first);
@@ -68,10 +67,10 @@ fn take_kind<O: Sink>(
     kind: SectorKind,
     out: &mut O,
 ) -> Result<OpenRun, SinkFailed>
-    requires countable { O.failures out.old < 4294967295 }
+    requires countable { (O.seen out.old).failures < 4294967295 }
     requires follows { EndsBefore run block }
-    ensures text { TakesKind run block kind (O.written out.old) (O.written out.new) result }
-    ensures count { Counts (O.failures out.old) (O.failures out.new) result }
+    ensures text { TakesKind run block kind (O.seen out.old) (O.seen out.new) result }
+    ensures count { Counts (O.seen out.old).failures (O.seen out.new).failures result }
 {
     if let Some(run) = run {
         if run.kind == kind {
@@ -88,9 +87,8 @@ fn take_kind<O: Sink>(
 
 #[tactic(auto, unfolding(crate::specs::ListText::list_end))]
 fn send_end<O: Sink>(tally: ListTally, out: &mut O) -> Result<(), SinkFailed>
-    requires { O.failures out.old < 4294967295 }
-    ensures bytes { Sends (O.written out.old) (O.written out.new) (list_end tally) result }
-    ensures count { Counts (O.failures out.old) (O.failures out.new) result }
+    requires { (O.seen out.old).failures < 4294967295 }
+    ensures { Sends (O.seen out.old) (O.seen out.new) (list_end tally) result }
 {
     let mut line = Line::new();
     line.push_text(b"sectors ");
@@ -103,10 +101,9 @@ fn send_end<O: Sink>(tally: ListTally, out: &mut O) -> Result<(), SinkFailed>
 
 /// Writes the line of the last run, where there is one.
 fn send_last<O: Sink>(run: Option<OpenRun>, out: &mut O) -> Result<(), SinkFailed>
-    requires countable { O.failures out.old < 4294967295 }
+    requires countable { (O.seen out.old).failures < 4294967295 }
     requires ordered { IfSome run (λ run. run.first ≤ run.last) }
-    ensures bytes { Sends (O.written out.old) (O.written out.new) (open_text run 0 []) result }
-    ensures count { Counts (O.failures out.old) (O.failures out.new) result }
+    ensures { Sends (O.seen out.old) (O.seen out.new) (last_line (open_first run 0) (runs (open_kinds run))) result }
 {
     match run {
         Some(run) => send_run(run, out),
@@ -114,53 +111,60 @@ fn send_last<O: Sink>(run: Option<OpenRun>, out: &mut O) -> Result<(), SinkFaile
     }
 }
 
-/// Writes the line of the last run and the last line, and finishes.
-fn close<O: Sink>(
+/// Lists an image whose first block is `base`.
+#[derive(Drop)]
+struct Lister {
+    base: u32,
     run: Option<OpenRun>,
-    tally: ListTally,
-    out: &mut O,
-) -> Result<ListTally, SinkFailed>
-    requires countable { O.failures out.old < 4294967295 }
-    requires ordered { IfSome run (λ run. run.first ≤ run.last) }
-    ensures text { Finishes (open_text run 0 []) (list_end tally)
-        (outgoing O.written O.failures O.finished out.old) (outgoing O.written O.failures O.finished out.new) result }
-    ensures tally { IfOk result (λ told. told ≡ tally) }
-    ensures count { Counts (O.failures out.old) (O.failures out.new) result }
-{
-    send_last(run, out)?;
-    send_end(tally, out)?;
-    out.finish()?;
-    Ok(tally)
+}
+
+impl Teller for Lister {
+    ghost use Rattle.std.specs.Prelude.{◌+◌, ◌≤◌};
+    ghost use Rattle.cd_image.specs.OpenRun.{EndsBefore};
+    ghost use Rattle.cd_image.specs.Telling.{list_to_tell};
+    ghost use Rattle.cd_image.specs.declared.TheConstants.{MAX_BASE};
+
+    type Tally = ListTally;
+
+    ghost to_tell = { λ s count. list_to_tell s.base s.run count };
+
+    ghost has_taken = { λ s count. (s.base ≤ MAX_BASE) × EndsBefore s.run (s.base + count) };
+
+    fn take_sector<O: Sink>(
+        &mut self,
+        count: u32,
+        sector: &Sector,
+        out: &mut O,
+    ) -> Result<(), SinkFailed> {
+        self.run = Some(take_kind(self.run, self.base + count, kind(sector), out)?);
+        Ok(())
+    }
+
+    fn close<O: Sink>(
+        &mut self,
+        count: u32,
+        tail: u16,
+        out: &mut O,
+    ) -> Result<ListTally, SinkFailed> {
+        let tally = ListTally {
+            sectors: count,
+            tail,
+        };
+        send_last(self.run, out)?;
+        send_end(tally, out)?;
+        out.finish()?;
+        Ok(tally)
+    }
 }
 
 // What `list` does, as one fact.
 fn list_whole<I: Source, O: Sink>(image: &mut I, base: u32, out: &mut O) -> Result<ListTally, Fault>
     requires base { base ≤ MAX_BASE }
-    requires image_countable { I.failures image.old < 4294967295 }
-    requires out_countable { O.failures out.old < 4294967295 }
-    ensures { Reports (list_text base) list_tally
-        (incoming I.rest I.failures image.old) (incoming I.rest I.failures image.new)
-        (outgoing O.written O.failures O.finished out.old) (outgoing O.written O.failures O.finished out.new) result }
+    requires image_countable { (I.seen image.old).failures < 4294967295 }
+    requires out_countable { (O.seen out.old).failures < 4294967295 }
+    ensures { Reports (listing base) (I.seen image.old) (I.seen image.new) (O.seen out.old) (O.seen out.new) result }
 {
-    let mut bytes = [0; SECTOR_SIZE];
-    let mut run = None;
-    for sectors in 0..MAX_SECTORS {
-        let length = fill(image, &mut bytes)?;
-        if length < SECTOR_SIZE {
-            let tail = length as u16;
-            return Ok(close(run, ListTally { sectors, tail }, out)?);
-        }
-        let kind = kind(&Sector::from_bytes(bytes));
-        run = Some(take_kind(run, base + sectors, kind, out)?);
-    }
-    if image.read(&mut bytes[..1])? > 0 {
-        return Err(Fault::TooLong);
-    }
-    let tally = ListTally {
-        sectors: MAX_SECTORS,
-        tail: 0,
-    };
-    Ok(close(run, tally, out)?)
+    tell(image, &mut Lister { base, run: None }, out)
 }
 
 /// Writes a line for each maximal run of neighbouring sectors of equal kind, and a last line with the
@@ -171,23 +175,18 @@ fn list_whole<I: Source, O: Sink>(image: &mut I, base: u32, out: &mut O) -> Resu
 /// sector.
 pub fn list<I: Source, O: Sink>(image: &mut I, base: u32, out: &mut O) -> Result<ListTally, Fault>
     requires base { base ≤ MAX_BASE }
-    requires image_countable { I.failures image.old < 4294967295 }
-    requires out_countable { O.failures out.old < 4294967295 }
+    requires image_countable { (I.seen image.old).failures < 4294967295 }
+    requires out_countable { (O.seen out.old).failures < 4294967295 }
 
     // The whole of it, also what stands after a fault.
-    ensures report { Reports (list_text base) list_tally
-        (incoming I.rest I.failures image.old) (incoming I.rest I.failures image.new)
-        (outgoing O.written O.failures O.finished out.old) (outgoing O.written O.failures O.finished out.new) result }
+    ensures report { Reports (listing base) (I.seen image.old) (I.seen image.new) (O.seen out.old) (O.seen out.new) result }
 
     // What it says where nothing failed, and when each fault comes.
-    ensures text { IfOk result (WritesText (list_text base) list_tally
-        (incoming I.rest I.failures image.old) (incoming I.rest I.failures image.new)
-        (outgoing O.written O.failures O.finished out.old) (outgoing O.written O.failures O.finished out.new)) }
-    ensures ends_well { OnOk result (EndsWell
-        (incoming I.rest I.failures image.old) (incoming I.rest I.failures image.new)
-        (outgoing O.written O.failures O.finished out.old) (outgoing O.written O.failures O.finished out.new)) }
-    ensures read_failed { (result ≡ Err Fault.Read) ↔ (I.failures image.new ≡ I.failures image.old + 1) }
-    ensures write_failed { (result ≡ Err Fault.Write) ↔ (O.failures out.new ≡ O.failures out.old + 1) }
+    ensures text { IfOk result (WritesText (listing base) (I.seen image.old) (I.seen image.new) (O.seen out.old) (O.seen out.new)) }
+    ensures ends_well { OnOk result (EndsWell (I.seen image.old) (I.seen image.new) (O.seen out.old) (O.seen out.new)) }
+    ensures read_failed { (result ≡ Err Fault.Read) ↔ ((I.seen image.new).failures ≡ (I.seen image.old).failures + 1) }
+    ensures write_failed { (result ≡ Err Fault.Write) ↔ ((O.seen out.new).failures ≡ (O.seen out.old).failures + 1) }
+    ensures too_long { TellsTooLong (I.seen image.old) (I.seen image.new) result }
 {
     list_whole(image, base, out)
 }

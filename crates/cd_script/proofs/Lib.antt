@@ -6,4 +6,4 @@ pub mod OrderLemmas
 pub mod PatchLemmas
 pub mod ParseLemmas
 pub mod SpellingLemmas
-pub mod HeadLemmas
+pub mod SplitLemmas

@@ -1,62 +1,49 @@
 -- Lines, read one after the other as a loop does.
-use Rattle.std.proofs.Common.{◌≡◌, ◌≢◌, ℕ, ◌+◌, ◌<◌, ◌≤◌, true, false, List, [], ◌∷◌, ◌++◌, length, take, Option, Some, None, Result, Ok, Err, refl, sym, ap, ◌∙◌, arith}
-use Rattle.std.specs.Prelude.{cond, nat_le}
+use Rattle.std.proofs.Common.{◌≡◌, ℕ, ◌+◌, ◌≤◌, true, false, List, [], ◌∷◌, ◌++◌, length, take, Option, Some, None, Result, Ok, Err, refl, subst, sym, ap, ◌∙◌, arith}
+use Rattle.std.specs.Prelude.{is_some, option_map, IsOk}
+use Rattle.std.specs.Int.{from_bool}
 use Rattle.std.specs.List.{cons_option}
 use Rattle.std.specs.Option.{option_to_list}
-use Rattle.std.proofs.lemmas.Bool.{cond-true, cond-false}
-use Rattle.std.proofs.lemmas.Bool.Decides.{nat_tests}
+use Rattle.std.specs.Result.{result_err}
 use Rattle.std.proofs.lemmas.List.{append-nil, append_assoc}
 use Rattle.cd_script.specs.declared.fault.ScriptFault.{ScriptFault}
-use Rattle.cd_script.specs.declared.fault.ScriptFault.TheVariants.{NoMemory, Head, TooMany}
+use Rattle.cd_script.specs.declared.fault.ScriptFault.TheVariants.{Head}
 use Rattle.cd_script.specs.declared.patch.Patch.{Patch}
 use Rattle.cd_script.specs.Line.{patch_at}
-use Rattle.cd_script.specs.Reading.{◌>>=◌, Fails}
-use Rattle.cd_script.specs.Script.{is_passed_over, is_head, line_at, patches_from, script_from}
+use Rattle.cd_script.specs.Reading.{◌>>=◌, Reads}
+use Rattle.cd_script.specs.Script.{at_limit, is_passed_over, is_head, line_at, patches_from, script_from}
 use Rattle.cd_script.specs.Words.{words}
 use Rattle.cd_script.proofs.WordLemmas.{is_passed_over-take, is_head-take, patch_at-take}
 
--- a fault that a reading passes on
-pub Fails-on : {X Y : Type 0} (e : ScriptFault) (a : Result X ScriptFault) (b : Result Y ScriptFault) → (a ≡ Err e → b ≡ Err e) → Fails e a → Fails e b
-Fails-on NoMemory a b on h = tt
-Fails-on e a b on h = on h
+-- what was answered for a reading is what was answered for the same
+pub Reads-same : {X Y : Type 0} (view : X → Y) (r : Result X ScriptFault) (read same : Result Y ScriptFault) → same ≡ read → Reads view r read → Reads view r same
+Reads-same view (Ok x) read same e h = e ∙ h
+Reads-same view (Err f) read same e h = e ∙ h
 
--- a fault that is no want of memory
-pub Fails-other : {X : Type 0} (e : ScriptFault) (a : Result X ScriptFault) → Fails e a → e ≢ NoMemory → a ≡ Err e
-Fails-other NoMemory a h other = absurd (other refl)
-Fails-other e a h other = h
+-- where a reading has no fault, neither has what was answered for it
+pub reads_ok : {X Y : Type 0} (view : X → Y) (r : Result X ScriptFault) (read : Result Y ScriptFault) → Reads view r read → ((e : ScriptFault) → read ≡ Err e → ⊥) → IsOk r
+reads_ok view (Ok x) read h sound = refl
+reads_ok view (Err e) read h sound = absurd (sound e h)
 
 -- ---- one line, of which the first seven words were found
 
-line_at-is : (line earlier : ℕ) (text : List ℕ) (found : List (List ℕ)) (r : Result Patch ScriptFault) → found ≡ take 7 (words text) → is_passed_over found ≡ false
-    → patch_at line found ≡ r → line_at line earlier text ≡ (r >>= λ p. cond (nat_le 65535 earlier) (Err (TooMany line)) (Ok (Some p)))
+pub line_at-is : (line earlier : ℕ) (text : List ℕ) (found : List (List ℕ)) (r : Result Patch ScriptFault) → found ≡ take 7 (words text) → is_passed_over found ≡ false
+    → patch_at line found ≡ r → line_at line earlier text ≡ (r >>= at_limit line earlier)
 unfolding line_at
 line_at-is line earlier text found r is patch read =
     let passes : is_passed_over (words text) ≡ false = sym (is_passed_over-take (words text)) ∙ ap is_passed_over (sym is) ∙ patch in
     let reads : patch_at line (words text) ≡ r = sym (patch_at-take line (words text)) ∙ ap (patch_at line) (sym is) ∙ read in
     rw (passes, reads) refl
 
-pub line_fails : (line earlier : ℕ) (text : List ℕ) (found : List (List ℕ)) (e : ScriptFault) → found ≡ take 7 (words text) → is_passed_over found ≡ false
-    → Fails e (patch_at line found) → Fails e (line_at line earlier text)
-line_fails line earlier text found e is patch h =
-    Fails-on e (patch_at line found) (line_at line earlier text) (λ read. line_at-is line earlier text found (Err e) is patch read) h
-
-pub line_too_many : (line earlier : ℕ) (text : List ℕ) (found : List (List ℕ)) (p : Patch) → found ≡ take 7 (words text) → is_passed_over found ≡ false
-    → patch_at line found ≡ Ok p → 65535 ≤ earlier → line_at line earlier text ≡ Err (TooMany line)
-line_too_many line earlier text found p is patch read many =
-    let test : nat_le 65535 earlier ≡ true = grind (arith, nat_tests) in
-    line_at-is line earlier text found (Ok p) is patch read ∙ cond-true _ _ _ test
-
-pub line_reads : (line earlier : ℕ) (text : List ℕ) (found : List (List ℕ)) (p : Patch) → found ≡ take 7 (words text) → is_passed_over found ≡ false
-    → patch_at line found ≡ Ok p → earlier < 65535 → line_at line earlier text ≡ Ok (Some p)
-line_reads line earlier text found p is patch read few =
-    let test : nat_le 65535 earlier ≡ false = grind (arith, nat_tests) in
-    line_at-is line earlier text found (Ok p) is patch read ∙ cond-false _ _ _ test
-
 -- ---- the lines of a loop
 
 -- what was read before, and what is still read
 abbrev pub with_front : List Patch → Result (List Patch) ScriptFault → Result (List Patch) ScriptFault
 with_front front read = read >>= λ ps. Ok (front ++ ps)
+
+same_fault : (r : Result (List Patch) ScriptFault) (f : List Patch → List Patch) → result_err (r >>= λ ps. Ok (f ps)) ≡ result_err r
+same_fault (Ok ps) f = refl
+same_fault (Err e) f = refl
 
 regroup : (front : List Patch) (found : Option Patch) (read : Result (List Patch) ScriptFault)
     → with_front front (read >>= λ ps. Ok (cons_option found ps)) ≡ with_front (front ++ option_to_list found) read
@@ -76,14 +63,16 @@ goes_on front after line count earlier later text all rest found total same more
     ∙ ap (λ (n : ℕ). with_front (front ++ option_to_list found) (patches_from (line + 1) n rest)) more
     ∙ sym step ∙ ap (λ (ls : List (List ℕ)). with_front front (patches_from line earlier ls)) (sym parts) ∙ so_far
 
-pub ends_at : (front : List Patch) (line count earlier : ℕ) (text : List ℕ) (all rest : List (List ℕ)) (e : ScriptFault) (total : Result (List Patch) ScriptFault)
-    → count ≡ earlier → all ≡ text ∷ rest → with_front front (patches_from line earlier all) ≡ total → Fails e (line_at line count text) → Fails e total
+-- where the lines have no fault, the next has none
+pub next_sound : (front : List Patch) (line count earlier : ℕ) (text : List ℕ) (all rest : List (List ℕ)) (e : ScriptFault) (total : Result (List Patch) ScriptFault)
+    → count ≡ earlier → all ≡ text ∷ rest → with_front front (patches_from line earlier all) ≡ total → IsOk total → line_at line count text ≡ Err e → ⊥
 unfolding patches_from
-ends_at front line count earlier text all rest e total same parts so_far h =
-    Fails-on e (line_at line count text) total (λ read.
+next_sound front line count earlier text all rest e total same parts so_far sound read =
     let reads : line_at line earlier text ≡ Err e = ap (λ (n : ℕ). line_at line n text) (sym same) ∙ read in
     let step : with_front front (patches_from line earlier (text ∷ rest)) ≡ Err e = rw reads refl in
-    sym so_far ∙ ap (λ (ls : List (List ℕ)). with_front front (patches_from line earlier ls)) parts ∙ step) h
+    let bad : total ≡ Err e = sym so_far ∙ ap (λ (ls : List (List ℕ)). with_front front (patches_from line earlier ls)) parts ∙ step in
+    let no : IsOk {T = List Patch} {E = ScriptFault} (Err e) = subst IsOk bad sound in
+    cc
 
 pub all_read : (front : List Patch) (line earlier : ℕ) (all : List (List ℕ)) (total : Result (List Patch) ScriptFault) → all ≡ []
     → with_front front (patches_from line earlier all) ≡ total → total ≡ Ok front
@@ -91,6 +80,34 @@ unfolding patches_from
 all_read front line earlier all total none so_far =
     let end : with_front front (patches_from line earlier []) ≡ Ok front = ap (λ (qs : List Patch). Ok qs) (append-nil front) in
     sym so_far ∙ ap (λ (ls : List (List ℕ)). with_front front (patches_from line earlier ls)) none ∙ end
+
+-- ---- the first fault of lines
+
+pub fault_later : (line earlier : ℕ) (text : List ℕ) (all rest : List (List ℕ)) (found : Option Patch) → all ≡ text ∷ rest → line_at line earlier text ≡ Ok found
+    → result_err (patches_from line earlier all) ≡ result_err (patches_from (line + 1) (earlier + length (option_to_list found)) rest)
+unfolding patches_from
+fault_later line earlier text all rest found parts read =
+    ap (λ (ls : List (List ℕ)). result_err (patches_from line earlier ls)) parts
+    ∙ rw read (same_fault (patches_from (line + 1) (earlier + length (option_to_list found)) rest) (cons_option found))
+
+pub fault_here : (line earlier : ℕ) (text : List ℕ) (all rest : List (List ℕ)) (e : ScriptFault) → all ≡ text ∷ rest → line_at line earlier text ≡ Err e
+    → result_err (patches_from line earlier all) ≡ Some e
+unfolding patches_from
+fault_here line earlier text all rest e parts read =
+    ap (λ (ls : List (List ℕ)). result_err (patches_from line earlier ls)) parts ∙ rw read refl
+
+pub fault_none : (line earlier : ℕ) (all : List (List ℕ)) → all ≡ [] → result_err (patches_from line earlier all) ≡ None
+unfolding patches_from
+fault_none line earlier all none = ap (λ (ls : List (List ℕ)). result_err (patches_from line earlier ls)) none
+
+-- one more where a line has a patch
+pub counted : {X Y : Type 0} (f : X → Y) (found : Option X) → from_bool (is_some found) ≡ length (option_to_list (option_map f found))
+counted f None = refl
+counted f (Some x) = refl
+
+pub counted-most : {X : Type 0} (found : Option X) → length (option_to_list found) ≤ 1
+counted-most None = omega arith
+counted-most (Some x) = omega arith
 
 -- ---- the lines down to the head line
 

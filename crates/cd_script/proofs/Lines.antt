@@ -1,8 +1,9 @@
 -- The lines that the crate `bstr` gives are std's lines.
-use Rattle.std.proofs.Common.{◌≡◌, ◌+◌, ◌-◌, ◌<◌, ◌≤◌, ℕ, zero, suc, Bool, true, false, ◌==◌, ◌&&◌, List, [], ◌∷◌, ◌++◌, length, length-append, length-drop, length-take, take, drop, slice_index, map, refl, sym, ap, ◌∙◌, arith, inl, inr, append_assoc}
+use Rattle.std.proofs.Common.{◌≡◌, ◌+◌, ◌-◌, ◌<◌, ◌≤◌, ℕ, zero, suc, Bool, false, ◌==◌, ◌&&◌, List, [], ◌∷◌, ◌++◌, length, length-append, length-drop, length-take, take, drop, slice_index, map, refl, sym, ap, ◌∙◌, arith, inl, inr, append_assoc}
 use Rattle.std.specs.Prelude.{All, nat_lt}
 use Rattle.std.specs.List.{slice_split, position_or_len, before_first, after_first}
 use Rattle.std.specs.Str.Lines.{lines, lines_of_parts, strip_carriage_return}
+use Rattle.std.proofs.Math.Bool.{and-false}
 use Rattle.std.proofs.Math.Seq.{get_or-append_seam}
 use Rattle.std.proofs.lemmas.List.{take_at, drop_at, take_all, drop_all, get_or_append_left, get_or-take}
 use Rattle.std.proofs.lemmas.List.Splits.{slice_split_none, slice_split_at, length-slice_split}
@@ -61,10 +62,6 @@ no_cr-is : (l : List ℕ) → no_cr l ≡ strip_carriage_return l
 no_cr-is [] = refl
 no_cr-is (b ∷ l) = grind (arith, nat_tests)
 
-and_false : (b : Bool) → (b && false) ≡ false
-and_false true = refl
-and_false false = refl
-
 at_feed : (x : List ℕ) → 0 < length x → slice_index x (length x - 1) ≡ 10 → without_terminator x ≡ no_cr (take (length x - 1) x)
 at_feed [] some feed = absurd (omega arith)
 at_feed (b ∷ x) some feed = cond-true _ _ _ (ap (λ (t : Bool). nat_lt 0 (length (b ∷ x)) && t) (eq-eqb _ _ feed) ∙ grind (arith, nat_tests))
@@ -79,7 +76,7 @@ without_terminator-cut l =
 
 without_terminator-last : (l : List ℕ) → NoFeed l → 0 < length l → without_terminator l ≡ l
 without_terminator-last l none some =
-    cond-false _ _ _ (ap (λ (b : Bool). nat_lt 0 (length l) && b) (none (length l - 1) 0 (omega arith)) ∙ and_false (nat_lt 0 (length l)))
+    cond-false _ _ _ (ap (λ (b : Bool). nat_lt 0 (length l) && b) (none (length l - 1) 0 (omega arith)) ∙ and-false (nat_lt 0 (length l)))
 
 -- where the first line feed is
 by_first : (bs : List ℕ) (n : ℕ) → length bs ≤ n → map without_terminator (lines_of bs) ≡ lines bs

@@ -1,21 +1,21 @@
 -- A script's patches, sorted.
-use Rattle.std.proofs.Common.{◌≡◌, ℕ, Bool, cond, List, [], ◌∷◌, Ok, refl, sym, ap, ◌∙◌, arith}
+use Rattle.std.proofs.Common.{◌≡◌, ℕ, ◌+◌, Bool, cond, List, [], ◌∷◌, map, Some, None, Result, Ok, Err, refl, sym, ap, ◌∙◌, arith}
 use Rattle.std.specs.Prelude.{filter, not, ◌==◌, ◌&&◌}
+use Rattle.std.specs.Result.{result_err}
 use Rattle.std.specs.List.Sorted.{IsSortedByKey, IsStableByKey}
 use Rattle.std.specs.Ordering.{nat_cmp, is_lt}
 use Rattle.std.proofs.lemmas.Bool.Decides.{nat_tests}
 use Rattle.std.proofs.lemmas.List.Sorted.{IsNonDecreasingBy-from_sort, All-permutation, length_permutation}
+use Rattle.bstr.specs.Text.{lines_of, without_terminator}
+use Rattle.cd_script.specs.declared.fault.ScriptFault.{ScriptFault}
 use Rattle.cd_script.specs.declared.patch.Patch.{Patch}
 use Rattle.cd_script.specs.declared.patch.Edit.TheVariants.{Rebuild}
 use Rattle.cd_script.specs.Order.{order, stands_in}
 use Rattle.cd_script.specs.Patch.{IsPatch, IsPatchList}
-use Rattle.cd_script.specs.Script.{script_from}
+use Rattle.cd_script.specs.Script.{patches_from, script, script_from}
+use Rattle.cd_script.proofs.Lines.{lines-is}
 use Rattle.cd_script.proofs.OrderLemmas.{order-rises, order-permutes, order-only}
 use Rattle.cd_script.proofs.PatchLemmas.{script-each, script-count}
-
--- some patch of the block
-patch_in : ℕ → Patch
-patch_in k = record { line = 0; block = k; offset = 0; edit = Rebuild }
 
 tie : (k b : ℕ) → (not (is_lt (nat_cmp k b)) && not (is_lt (nat_cmp b k))) ≡ (b == k)
 tie k b = grind (arith, nat_tests)
@@ -38,3 +38,17 @@ order-list ls ps e = record {
   count = omega (arith, length_permutation ps (order ps) (order-permutes ps), script-count 1 ls ps e);
   rising = order-rises ps;
 }
+
+-- the script of a text is what its lines behind the head line give
+pub script-rest : (text bytes : List ℕ) (all rest later : List (List ℕ)) (head : ℕ) → all ≡ map without_terminator (lines_of text) → script_from 1 all ≡ patches_from (head + 1) 0 rest
+    → map without_terminator (lines_of bytes) ≡ rest → later ≡ map without_terminator (lines_of bytes) → script text ≡ patches_from (head + 1) 0 later
+script-rest text bytes all rest later head is_all read is_rest is_later =
+    ap (script_from 1) (sym (is_all ∙ lines-is text)) ∙ read ∙ ap (patches_from (head + 1) 0) (sym (is_later ∙ is_rest))
+
+pub fault_is : (read : Result (List Patch) ScriptFault) (e : ScriptFault) → Some e ≡ result_err read → read ≡ Err e
+fault_is (Ok ps) e h = cc
+fault_is (Err f) e h = cc
+
+pub no_fault : (read : Result (List Patch) ScriptFault) (e : ScriptFault) → None ≡ result_err read → read ≡ Err e → ⊥
+no_fault (Ok ps) e h is = cc
+no_fault (Err f) e h is = cc

@@ -4,7 +4,6 @@ use Rattle.std.specs.Prelude.{All, fold, ok_or, nat_le, ◌==◌, ◌&&◌, code
 use Rattle.std.specs.Char.{is_ascii_digit}
 use Rattle.std.specs.List.{list_all, cons_option}
 use Rattle.std.specs.Option.{option_to_list}
-use Rattle.std.specs.Result.{result_ok}
 use Rattle.std.specs.Str.{bytes_eq}
 use Rattle.std.proofs.lemmas.Bool.{and_parts, leb-true, eqb-true}
 use Rattle.std.proofs.lemmas.Bool.Decides.{nat_tests}
@@ -12,20 +11,20 @@ use Rattle.std.proofs.lemmas.List.Elements.{All-nil, All-cons}
 use Rattle.std.proofs.lemmas.List.{get_or_default}
 use Rattle.std.proofs.Math.Nat.{pow-le-pow_right, mul-le-mul_right}
 use Rattle.hex.specs.Hex.{decode_of}
-use Rattle.hex.specs.declared.error.FromHexError.{FromHexError}
 use Rattle.hex.proofs.HexLemmas.{decode_of-ok}
 use Rattle.cd_script.specs.declared.fault.ScriptFault.{ScriptFault}
 use Rattle.cd_script.specs.declared.fault.ScriptFault.TheVariants.{Head, Verb, Number, Hex, Length, Offset, Words, TooMany}
 use Rattle.cd_script.specs.declared.patch.Patch.{Patch}
 use Rattle.cd_script.specs.declared.patch.Edit.TheVariants.{Put, Fill, Rebuild}
 use Rattle.cd_script.specs.Hex.{hex_bytes}
-use Rattle.cd_script.specs.Line.{number_at, hex_at, offset_at, count_at, new_at, old_at, byte_at, only_byte, put_at, put_where_at, fill_at, rebuild_at, set_line, fill_line, rebuild_line, patch_at}
+use Rattle.cd_script.specs.Value.{number_at, hex_at, offset_at, count_at, new_at, old_at, byte_at, only_byte}
+use Rattle.cd_script.specs.Line.{put_at, put_where_at, fill_at, rebuild_at, set_line, fill_line, rebuild_line, patch_at}
 use Rattle.cd_script.specs.Number.{number, digits_value}
 use Rattle.cd_script.specs.Patch.{IsBytes, IsPatch}
 use Rattle.cd_script.specs.Reading.{◌>>=◌}
 use Rattle.cd_script.specs.Script.{is_passed_over, is_head, line_at, patches_from, script_from}
 use Rattle.cd_script.specs.Words.{words}
-use Rattle.cd_script.proofs.HexLemmas.{result_ok-decode_of}
+use Rattle.cd_script.proofs.HexLemmas.{decoded, result_ok-decode_of}
 
 -- the value of a step that did not fail
 pub bind_ok : {A B : Type 0} (r : Result A ScriptFault) (f : A → Result B ScriptFault) (y : B) → (r >>= f) ≡ Ok y → (x : A) × (r ≡ Ok x) × (f x ≡ Ok y)
@@ -107,10 +106,6 @@ count_at-within line w n e =
     (omega (arith, leb-true 1 b.0 parts.0, g.1), omega (arith, leb-true b.0 4096 parts.1, g.1))
 
 -- ---- bytes
-
-decoded : (read : Result (List ℕ) FromHexError) (bytes : List ℕ) → result_ok read ≡ Some bytes → read ≡ Ok bytes
-decoded (Ok x) bytes e = cc
-decoded (Err f) bytes e = absurd cc
 
 hex_at-bytes : (line : ℕ) (w bytes : List ℕ) → hex_at line w ≡ Ok bytes → All (λ b. b < 256) bytes
 unfolding hex_at

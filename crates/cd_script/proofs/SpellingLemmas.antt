@@ -1,9 +1,10 @@
 -- What is spelled is read.
-use Rattle.std.proofs.Common.{◌≡◌, ℕ, ◌+◌, ◌-◌, ◌*◌, ◌<◌, ◌≤◌, true, false, List, [], ◌∷◌, ◌++◌, length, get_or, slice_index, Some, None, Result, Ok, refl, sym, ap, ◌∙◌, arith, inl, inr, append_assoc}
-use Rattle.std.specs.Prelude.{All, fold, filter, not, codes, nat_le, ◌==◌, ◌&&◌}
+use Rattle.std.proofs.Common.{◌≡◌, ℕ, ◌+◌, ◌-◌, ◌*◌, ◌<◌, ◌≤◌, true, false, List, [], ◌∷◌, ◌++◌, length, get_or, slice_index, Option, Some, None, Result, Ok, refl, sym, ap, ◌∙◌, arith, inl, inr, append_assoc}
+use Rattle.std.specs.Prelude.{All, ok_or, fold, filter, not, codes, nat_le, ◌==◌, ◌&&◌}
 use Rattle.std.specs.Char.{is_ascii_digit, digit_value}
 use Rattle.std.specs.Fmt.{decimal}
 use Rattle.std.specs.List.{list_all, join_with_byte, flat_map}
+use Rattle.std.specs.Result.{result_ok}
 use Rattle.std.specs.Str.Lines.{lines, strip_carriage_return}
 use Rattle.std.specs.Str.Parse.{AllDigits, digits_value_after}
 use Rattle.std.specs.Cmp.Derive.{both_true}
@@ -18,17 +19,19 @@ use Rattle.std.proofs.lemmas.List.Sums.{AllPass-from_list_all}
 use Rattle.hex.specs.Hex.{encode_lower, is_hex_digit}
 use Rattle.hex.proofs.HexLemmas.{decode_of-encode_lower, decode_of-ok}
 use Rattle.cd_script.specs.declared.fault.ScriptFault.{ScriptFault}
+use Rattle.cd_script.specs.declared.fault.ScriptFault.TheVariants.{Hex}
 use Rattle.cd_script.specs.declared.patch.Patch.{Patch}
 use Rattle.cd_script.specs.declared.patch.Edit.{Edit}
 use Rattle.cd_script.specs.declared.patch.Edit.TheVariants.{Put, Fill, Rebuild}
-use Rattle.cd_script.specs.Line.{number_at, hex_at, offset_at, count_at, new_at, old_at, byte_at, only_byte, put_at, put_where_at, fill_at, rebuild_at, patch_at}
+use Rattle.cd_script.specs.Value.{number_at, hex_at, offset_at, count_at, new_at, old_at, byte_at, only_byte}
+use Rattle.cd_script.specs.Line.{put_at, put_where_at, fill_at, rebuild_at, patch_at}
 use Rattle.cd_script.specs.Number.{number, digits_value}
 use Rattle.cd_script.specs.Patch.{IsBytes, IsEditAt, IsPatch}
 use Rattle.cd_script.specs.Reading.{◌>>=◌}
 use Rattle.cd_script.specs.Script.{is_passed_over, line_at, patches_from, script_from, script}
 use Rattle.cd_script.specs.Spelling.{edit_words, spelled_line, spelled_patch, spelling, numbered}
 use Rattle.cd_script.specs.Words.{words, is_space, is_word}
-use Rattle.cd_script.proofs.HexLemmas.{hex_read}
+use Rattle.cd_script.proofs.HexLemmas.{result_ok-decode_of}
 use Rattle.cd_script.proofs.Lines.{NoFeed, lines-cut}
 
 -- ---- numbers
@@ -97,7 +100,10 @@ bytes-fit bytes each i =
     ]
 
 hex_at-encode : (line : ℕ) (bytes : List ℕ) → All (λ b. b < 256) bytes → hex_at line (encode_lower bytes) ≡ Ok bytes
-hex_at-encode line bytes each = hex_read line (encode_lower bytes) bytes (decode_of-encode_lower bytes (bytes-fit bytes each))
+unfolding hex_at
+hex_at-encode line bytes each =
+    let read = sym (result_ok-decode_of (encode_lower bytes)) ∙ ap result_ok (decode_of-encode_lower bytes (bytes-fit bytes each)) in
+    ap (λ (o : Option (List ℕ)). ok_or o (Hex line)) read
 
 new_at-encode : (line : ℕ) (bytes : List ℕ) → IsBytes bytes → new_at line (encode_lower bytes) ≡ Ok bytes
 unfolding new_at

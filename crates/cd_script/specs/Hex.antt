@@ -1,5 +1,6 @@
 -- Bytes, as hex words spell them.
 use Rattle.std.specs.Prelude.{ℕ, ◌+◌, ◌*◌, List, [], ◌∷◌, Option, Some, None, option_and_then}
+use Rattle.std.specs.Option.{unwrap_or}
 use Rattle.hex.specs.Hex.{hex_digit_value}
 
 infixl 10 ◌>>=◌
@@ -15,3 +16,7 @@ hex_bytes (high ∷ low ∷ rest) = do
   l ← hex_digit_value low
   bytes ← hex_bytes rest
   Some ((h * 16 + l) ∷ bytes)
+
+-- the bytes of a hex word
+abbrev pub spelled_bytes : List ℕ → List ℕ
+spelled_bytes word = unwrap_or (hex_bytes word) []

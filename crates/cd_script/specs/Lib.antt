@@ -3,7 +3,9 @@ pub mod Number
 pub mod Hex
 pub mod Words
 pub mod Reading
+pub mod Value
 pub mod Line
+pub mod Spelled
 pub mod Order
 pub mod Script
 pub mod Spelling

@@ -1,52 +1,12 @@
 -- The patch of one line, or the line's fault.
-use Rattle.std.specs.Prelude.{ℕ, ◌==◌, ◌&&◌, nat_le, List, [], ◌∷◌, length, codes, Some, None, ok_or, Result, Ok, Err, if◌then◌else◌}
+use Rattle.std.specs.Prelude.{ℕ, List, [], ◌∷◌, codes, Some, None, Result, Ok, Err, if◌then◌else◌}
 use Rattle.std.specs.Str.{bytes_eq}
 use Rattle.cd_script.specs.declared.fault.ScriptFault.{ScriptFault}
-use Rattle.cd_script.specs.declared.fault.ScriptFault.TheVariants.{Verb, Words, Number, Hex, Length, Offset}
+use Rattle.cd_script.specs.declared.fault.ScriptFault.TheVariants.{Verb, Words}
 use Rattle.cd_script.specs.declared.patch.Patch.{Patch}
 use Rattle.cd_script.specs.declared.patch.Edit.TheVariants.{Put, Fill, Rebuild}
-use Rattle.cd_script.specs.Number.{number}
-use Rattle.cd_script.specs.Hex.{hex_bytes}
 use Rattle.cd_script.specs.Reading.{◌>>=◌}
-
--- ---- a word of a line
-
-unfoldable pub number_at : ℕ → List ℕ → Result ℕ ScriptFault
-number_at line word = ok_or (number word) (Number line)
-
-unfoldable pub hex_at : ℕ → List ℕ → Result (List ℕ) ScriptFault
-hex_at line word = ok_or (hex_bytes word) (Hex line)
-
-unfoldable pub offset_at : ℕ → List ℕ → Result ℕ ScriptFault
-offset_at line word = do
-  offset ← number_at line word
-  if nat_le offset 2047 then Ok offset else Err (Offset line)
-
-unfoldable pub count_at : ℕ → List ℕ → Result ℕ ScriptFault
-count_at line word = do
-  count ← number_at line word
-  if nat_le 1 count && nat_le count 4096 then Ok count else Err (Length line)
-
-unfoldable pub new_at : ℕ → List ℕ → Result (List ℕ) ScriptFault
-new_at line word = do
-  bytes ← hex_at line word
-  if nat_le 1 (length bytes) && nat_le (length bytes) 4096 then Ok bytes else Err (Length line)
-
--- as many old bytes as there are new ones
-unfoldable pub old_at : ℕ → List ℕ → List ℕ → Result (List ℕ) ScriptFault
-old_at line new word = do
-  bytes ← hex_at line word
-  if length bytes == length new then Ok bytes else Err (Length line)
-
--- one byte alone
-abbrev pub only_byte : ℕ → List ℕ → Result ℕ ScriptFault
-only_byte line (b ∷ []) = Ok b
-only_byte line other = Err (Length line)
-
-unfoldable pub byte_at : ℕ → List ℕ → Result ℕ ScriptFault
-byte_at line word = hex_at line word >>= only_byte line
-
--- ---- the forms
+use Rattle.cd_script.specs.Value.{number_at, offset_at, count_at, new_at, old_at, byte_at}
 
 unfoldable pub put_at : ℕ → List ℕ → List ℕ → List ℕ → Result Patch ScriptFault
 put_at line block offset new = do

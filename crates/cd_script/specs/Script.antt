@@ -26,12 +26,13 @@ abbrev pub is_head : List (List ℕ) → Bool
 is_head (name ∷ version ∷ []) = bytes_eq name (codes "cdpatch") && bytes_eq version (codes "1")
 is_head other = false
 
--- the patch of a line behind so many others, none where the line is blank or a comment; a
--- well-formed one behind 65,535 others is one too many
+-- a well-formed patch behind so many others: behind 65,535 it is one too many
+abbrev pub at_limit : ℕ → ℕ → Patch → Result (Option Patch) ScriptFault
+at_limit line earlier p = if nat_le 65535 earlier then Err (TooMany line) else Ok (Some p)
+
+-- the patch of a line behind so many others, none where the line is blank or a comment
 unfoldable pub line_at : ℕ → ℕ → List ℕ → Result (Option Patch) ScriptFault
-line_at line earlier text =
-    if is_passed_over (words text) then Ok None
-    else patch_at line (words text) >>= λ p. if nat_le 65535 earlier then Err (TooMany line) else Ok (Some p)
+line_at line earlier text = if is_passed_over (words text) then Ok None else patch_at line (words text) >>= at_limit line earlier
 
 -- the patches of the lines behind the head line, the first of them numbered line, behind so many patches
 unfoldable pub patches_from : ℕ → ℕ → List (List ℕ) → Result (List Patch) ScriptFault

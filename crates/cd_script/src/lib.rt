@@ -11,26 +11,30 @@
 //! - `fill BLOCK OFFSET COUNT BYTE`: COUNT user bytes become BYTE;
 //! - `rebuild BLOCK`: EDC, Intermediate and parity of the block are made anew.
 //!
-//! BLOCK, OFFSET (0 to 2047) and COUNT (1 to 4096) are 1 to 9 decimal digits. NEW (1 to 4096 bytes),
-//! OLD (as many bytes as NEW) and BYTE (one byte) are two hex digits for each byte, in either case.
-//! In a line the number of words is asked first, then the words from the left.
+//! BLOCK (0 to 999,999,999), OFFSET (0 to 2047) and COUNT (1 to 4096) are 1 to 9 decimal digits. NEW (1
+//! to 4096 bytes), OLD (as many bytes as NEW) and BYTE (one byte) are two hex digits for each byte, in
+//! either case. A text has at most 67,108,864 bytes, and a script at most 65,535 patches.
+//!
+//! The first faulty line decides. In a line the verb is asked first, then the number of words, then the
+//! words from the left, and last of all whether the patch is one too many. A script's patches are ordered
+//! by their first blocks, those of one block as in the script; offsets play no part.
 #![tactic(auto)]
 
 mod bytes;
 mod fault;
-mod form;
+mod hex_word;
 pub mod laws;
 mod line;
 mod patch;
 mod script;
-mod word;
+mod spelled;
+mod value;
 mod words;
 
 pub use bytes::Bytes;
 pub use fault::ScriptFault;
-pub use line::MAX_TEXT;
 pub use patch::{Edit, Patch};
-pub use script::{Script, parse};
+pub use script::{MAX_TEXT, Script, parse};
 
 #[cfg(test)]
 mod tests;

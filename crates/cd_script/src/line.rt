@@ -1,119 +1,136 @@
-//! The lines of a script, one after the other.
+//! The forms of a patch line.
 
-ghost use Rattle.std.specs.Prelude.{◌≡◌, ◌+◌, ◌≤◌, ◌++◌, length, map, vec_len, IfOk, IfErr, OnOk};
-ghost use Rattle.std.specs.Option.{option_to_list};
-ghost use Rattle.cd_script.specs.declared.fault.ScriptFault.TheVariants.{NoMemory};
-ghost use Rattle.cd_script.specs.Reading.{Gives};
-ghost use Rattle.cd_script.specs.Script.{is_passed_over, is_head, line_at, patches_from, script_from};
+ghost use Rattle.std.specs.Prelude.{map};
+ghost use Rattle.cd_script.specs.Reading.{Reads};
+ghost use Rattle.cd_script.specs.Spelled.{as_patch};
+ghost use Rattle.cd_script.specs.Line.{put_at, put_where_at, fill_at, rebuild_at, set_line, fill_line, rebuild_line, patch_at};
 
 use crate::fault::ScriptFault;
-use crate::form::patch_of;
-use crate::patch::Patch;
-use crate::words::words;
-use bstr::Lines;
-use std::alloc::Global;
+use crate::spelled::{SpelledEdit, SpelledPatch};
+use crate::value::{byte_of, count_of, new_of, number_of, offset_of, old_of};
 
-/// The most bytes of a script's text.
-pub const MAX_TEXT: usize = 67108864;
-
-const MAX_PATCHES: usize = 65535;
-
-/// Whether a line of these words is blank or a comment.
-fn is_passed_over(words: &[&[u8]]) -> bool
-    ensures { result ≡ is_passed_over (map (λ w. w.now) words.now) }
-{
-    match words {
-        [] => true,
-        [first, ..] => match *first {
-            [b'#', ..] => true,
-            _ => false,
-        },
-    }
-}
-
-/// Whether a line of these words is the head line.
-fn is_head(words: &[&[u8]]) -> bool
-    ensures { result ≡ is_head (map (λ w. w.now) words.now) }
-{
-    match words {
-        [name, version] => *name == b"cdpatch".as_slice() && *version == b"1".as_slice(),
-        _ => false,
-    }
-}
-
-/// Reads on past the head line, and gives its number.
-pub(crate) fn head_of(lines: &mut Lines) -> Result<u32, ScriptFault>
-    requires { length lines.old ≤ MAX_TEXT }
-    ensures ok { IfOk result (λ line.
-        script_from 1 lines.old ≡ patches_from (line + 1) 0 lines.new) }
-    ensures room { IfOk result (λ line. line + length lines.new ≤ MAX_TEXT) }
-    ensures err { IfErr result (λ e. script_from 1 lines.old ≡ Err e) }
-{
-    let mut line = 1;
-    while let Some(text) = lines.next() {
-        let (words, count) = words(text);
-        let words = &words[..count];
-        if !is_passed_over(words) {
-            if !is_head(words) {
-                return Err(ScriptFault::Head(line));
-            }
-            return Ok(line);
-        }
-        line += 1;
-    }
-    Err(ScriptFault::Head(line))
-}
-
-/// The patch of a line behind so many others, none where the line is blank or a comment.
-#[tactic(auto, unfolding(crate::specs::Script::line_at))]
-fn patch_in(
-    alloc: Global,
+#[tactic(auto, unfolding(crate::specs::Line::put_at))]
+fn put<'a>(
     line: u32,
-    earlier: usize,
-    text: &[u8],
-) -> Result<Option<Patch>, ScriptFault>
-    ensures { Gives (λ p. p) result (line_at line earlier text.now) }
+    block: &[u8],
+    offset: &[u8],
+    new: &'a [u8],
+) -> Result<SpelledPatch<'a>, ScriptFault>
+    ensures { Reads as_patch result (put_at line block.now offset.now new.now) }
 {
-    let (words, count) = words(text);
-    let words = &words[..count];
-    if is_passed_over(words) {
-        return Ok(None);
-    }
-    let patch = patch_of(alloc, line, words)?;
-    if earlier >= MAX_PATCHES {
-        return Err(ScriptFault::TooMany(line));
-    }
-    Ok(Some(patch))
+    let block = number_of(line, block)?;
+    let offset = offset_of(line, offset)?;
+    let bytes = new_of(line, new)?;
+    let edit = SpelledEdit::Put { bytes, was: None };
+    Ok(SpelledPatch {
+        line,
+        block,
+        offset,
+        edit,
+    })
 }
 
-/// Puts the patch of a line, if it has one, behind the others.
-fn put_behind(patches: &mut Vec<Patch>, found: Option<Patch>) -> Result<(), ScriptFault>
-    ensures ok { OnOk result (patches.new.items ≡ patches.old.items ++ option_to_list found) }
-    ensures count { OnOk result
-        (vec_len patches.new ≡ vec_len patches.old + length (option_to_list found)) }
-    ensures err { IfErr result (λ e. e ≡ NoMemory) }
+#[tactic(auto, unfolding(crate::specs::Line::put_where_at))]
+fn put_where<'a>(
+    line: u32,
+    block: &[u8],
+    offset: &[u8],
+    new: &'a [u8],
+    old: &'a [u8],
+) -> Result<SpelledPatch<'a>, ScriptFault>
+    ensures { Reads as_patch result (put_where_at line block.now offset.now new.now old.now) }
 {
-    if let Some(patch) = found {
-        patches.push(patch)?;
-    }
-    Ok(())
+    let block = number_of(line, block)?;
+    let offset = offset_of(line, offset)?;
+    let bytes = new_of(line, new)?;
+    let was = Some(old_of(line, &bytes, old)?);
+    let edit = SpelledEdit::Put { bytes, was };
+    Ok(SpelledPatch {
+        line,
+        block,
+        offset,
+        edit,
+    })
 }
 
-/// The patches of the lines behind the head line.
-pub(crate) fn patches_of(
-    alloc: Global,
-    head: u32,
-    lines: &mut Lines,
-) -> Result<Vec<Patch>, ScriptFault>
-    requires { head + length lines.old ≤ MAX_TEXT }
-    ensures { Gives (λ ps. ps.items) result (patches_from (head + 1) 0 lines.old) }
+#[tactic(auto, unfolding(crate::specs::Line::fill_at))]
+fn fill<'a>(
+    line: u32,
+    block: &[u8],
+    offset: &[u8],
+    count: &[u8],
+    byte: &[u8],
+) -> Result<SpelledPatch<'a>, ScriptFault>
+    ensures { Reads as_patch result (fill_at line block.now offset.now count.now byte.now) }
 {
-    let mut patches = Vec::new(alloc);
-    let mut line = head;
-    while let Some(text) = lines.next() {
-        line += 1;
-        let found = patch_in(alloc, line, patches.len(), text)?;
-        put_behind(&mut patches, found)?;
+    let block = number_of(line, block)?;
+    let offset = offset_of(line, offset)?;
+    let count = count_of(line, count)?;
+    let value = byte_of(line, byte)?;
+    let edit = SpelledEdit::Fill { count, value };
+    Ok(SpelledPatch {
+        line,
+        block,
+        offset,
+        edit,
+    })
+}
+
+#[tactic(auto, unfolding(crate::specs::Line::rebuild_at))]
+fn rebuild<'a>(line: u32, block: &[u8]) -> Result<SpelledPatch<'a>, ScriptFault>
+    ensures { Reads as_patch result (rebuild_at line block.now) }
+{
+    let block = number_of(line, block)?;
+    Ok(SpelledPatch {
+        line,
+        block,
+        offset: 0,
+        edit: SpelledEdit::Rebuild,
+    })
+}
+
+fn set_of<'a>(line: u32, words: &[&'a [u8]]) -> Result<SpelledPatch<'a>, ScriptFault>
+    ensures { Reads as_patch result (set_line line (map (λ w. w.now) words.now)) }
+{
+    match words {
+        [block, offset, new] => put(line, block, offset, new),
+        [block, offset, new, was, old] if *was == b"was".as_slice() => {
+            put_where(line, block, offset, new, old)
+        }
+        _ => Err(ScriptFault::Words(line)),
     }
-    Ok(patches)
+}
+
+fn fill_of<'a>(line: u32, words: &[&'a [u8]]) -> Result<SpelledPatch<'a>, ScriptFault>
+    ensures { Reads as_patch result (fill_line line (map (λ w. w.now) words.now)) }
+{
+    match words {
+        [block, offset, count, byte] => fill(line, block, offset, count, byte),
+        _ => Err(ScriptFault::Words(line)),
+    }
+}
+
+fn rebuild_of<'a>(line: u32, words: &[&'a [u8]]) -> Result<SpelledPatch<'a>, ScriptFault>
+    ensures { Reads as_patch result (rebuild_line line (map (λ w. w.now) words.now)) }
+{
+    match words {
+        [block] => rebuild(line, block),
+        _ => Err(ScriptFault::Words(line)),
+    }
+}
+
+/// The patch that the words of this line spell.
+#[tactic(auto, unfolding(crate::specs::Line::patch_at))]
+pub(crate) fn patch_of<'a>(line: u32, words: &[&'a [u8]]) -> Result<SpelledPatch<'a>, ScriptFault>
+    ensures { Reads as_patch result (patch_at line (map (λ w. w.now) words.now)) }
+{
+    let Some((verb, rest)) = words.split_first() else {
+        return Err(ScriptFault::Verb(line));
+    };
+    match *verb {
+        b"set" => set_of(line, rest),
+        b"fill" => fill_of(line, rest),
+        b"rebuild" => rebuild_of(line, rest),
+        _ => Err(ScriptFault::Verb(line)),
+    }
 }

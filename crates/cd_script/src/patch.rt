@@ -18,11 +18,20 @@ pub struct Patch {
 /// What a patch does to the user bytes from its offset on, or to its block.
 #[derive(Debug, Drop)]
 pub enum Edit {
-    /// The user bytes become these 1 to 4096 bytes; where `was` is given, if they are its bytes,
-    /// as many, before.
-    Put { bytes: Bytes, was: Option<Bytes> },
-    /// `count` user bytes, 1 to 4096, become `value`.
-    Fill { count: u16, value: u8 },
+    /// User bytes become others.
+    Put {
+        /// The new bytes, 1 to 4096.
+        bytes: Bytes,
+        /// The bytes, as many, that have to stand there before; `None` where any may.
+        was: Option<Bytes>,
+    },
+    /// User bytes become one value.
+    Fill {
+        /// How many, 1 to 4096.
+        count: u16,
+        /// What each becomes.
+        value: u8,
+    },
     /// EDC, Intermediate and parity of the block are made anew from its header and user data.
     Rebuild,
 }

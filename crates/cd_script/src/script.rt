@@ -1,19 +1,32 @@
 //! Scripts, and how they are read.
 
-ghost use Rattle.std.specs.Prelude.{◌≡◌, ◌≢◌, ◌≤◌, ℕ, List, length, All, IfOk, IfErr};
+ghost use Rattle.std.specs.Prelude.{◌≡◌, ◌≢◌, ◌+◌, ◌≤◌, ◌++◌, List, length, map, option_map, vec_len, All, IsOk, IfOk, IfErr, OnOk};
 ghost use Rattle.std.specs.List.Sorted.{IsNonDecreasingBy};
-ghost use Rattle.cd_script.specs.declared.fault.ScriptFault.TheVariants.{Head, NoMemory};
+ghost use Rattle.std.specs.Option.{option_to_list};
+ghost use Rattle.std.specs.Result.{result_err};
+ghost use Rattle.cd_script.specs.declared.fault.ScriptFault.{ScriptFault};
+ghost use Rattle.cd_script.specs.declared.fault.ScriptFault.TheVariants.{NoMemory};
 ghost use Rattle.cd_script.specs.declared.patch.Patch.{Patch};
 ghost use Rattle.cd_script.specs.Order.{order};
 ghost use Rattle.cd_script.specs.Patch.{IsPatch};
-ghost use Rattle.cd_script.specs.Script.{script};
+ghost use Rattle.cd_script.specs.Reading.{Reads};
+ghost use Rattle.cd_script.specs.Script.{at_limit, is_passed_over, is_head, line_at, patches_from, script, script_from};
+ghost use Rattle.cd_script.specs.Spelled.{as_patch};
 
 use crate::fault::ScriptFault;
-use crate::line::{MAX_TEXT, head_of, patches_of};
+use crate::line::patch_of;
 use crate::patch::Patch;
-use bstr::ByteSlice;
-use std::alloc::Global;
+use crate::spelled::SpelledPatch;
+use crate::words::words;
+use bstr::{ByteSlice, Lines};
+use std::alloc::{AllocError, Global};
 use std::marker::Model;
+
+/// The most bytes of a script's text, 64 MiB.
+pub const MAX_TEXT: usize = 67108864;
+
+/// The most patches of a script.
+const MAX_PATCHES: usize = 65535;
 
 /// A script's patches, by first block, those of one block as in the script.
 #[derive(Debug, Drop)]
@@ -46,19 +59,149 @@ impl Script {
     }
 }
 
+/// Whether a line of these words is blank or a comment.
+fn is_passed_over(words: &[&[u8]]) -> bool
+    ensures { result ≡ is_passed_over (map (λ w. w.now) words.now) }
+{
+    match words {
+        [] => true,
+        [first, ..] => match *first {
+            [b'#', ..] => true,
+            _ => false,
+        },
+    }
+}
+
+/// Whether a line of these words is the head line.
+fn is_head(words: &[&[u8]]) -> bool
+    ensures { result ≡ is_head (map (λ w. w.now) words.now) }
+{
+    match words {
+        [name, version] => *name == b"cdpatch".as_slice() && *version == b"1".as_slice(),
+        _ => false,
+    }
+}
+
+/// Reads on past the head line, and gives its number.
+fn head_of(lines: &mut Lines) -> Result<u32, ScriptFault>
+    requires { length lines.old ≤ MAX_TEXT }
+    ensures ok { IfOk result (λ line.
+        script_from 1 lines.old ≡ patches_from (line + 1) 0 lines.new) }
+    ensures room { IfOk result (λ line. line + length lines.new ≤ MAX_TEXT) }
+    ensures err { IfErr result (λ e. script_from 1 lines.old ≡ Err e) }
+{
+    let mut line = 1;
+    while let Some(text) = lines.next() {
+        let words = words(text);
+        let words = words.as_slice();
+        if !is_passed_over(words) {
+            if !is_head(words) {
+                return Err(ScriptFault::Head(line));
+            }
+            return Ok(line);
+        }
+        line += 1;
+    }
+    Err(ScriptFault::Head(line))
+}
+
+/// A well-formed patch behind so many others, if it is not one too many.
+fn within_limit<'a>(
+    line: u32,
+    earlier: usize,
+    patch: SpelledPatch<'a>,
+) -> Result<Option<SpelledPatch<'a>>, ScriptFault>
+    ensures { Reads (option_map as_patch) result (at_limit line earlier (as_patch patch.entry)) }
+{
+    if earlier >= MAX_PATCHES {
+        Err(ScriptFault::TooMany(line))
+    } else {
+        Ok(Some(patch))
+    }
+}
+
+/// The patch of a line behind so many others, none where the line is blank or a comment.
+#[tactic(auto, unfolding(crate::specs::Script::line_at))]
+fn line_of<'a>(
+    line: u32,
+    earlier: usize,
+    text: &'a [u8],
+) -> Result<Option<SpelledPatch<'a>>, ScriptFault>
+    ensures { Reads (option_map as_patch) result (line_at line earlier text.now) }
+{
+    let words = words(text);
+    let words = words.as_slice();
+    if is_passed_over(words) {
+        return Ok(None);
+    }
+    let patch = patch_of(line, words)?;
+    within_limit(line, earlier, patch)
+}
+
+/// Looks for the first fault of the lines behind the head line.
+fn check_lines(head: u32, mut lines: Lines<'_>) -> Result<(), ScriptFault>
+    requires { head + length lines ≤ MAX_TEXT }
+    ensures { result_err result ≡ result_err (patches_from (head + 1) 0 lines.entry) }
+{
+    let mut line = head;
+    let mut count = 0;
+    while let Some(text) = lines.next() {
+        line += 1;
+        let found = line_of(line, count, text)?;
+        count += usize::from(found.is_some());
+    }
+    Ok(())
+}
+
+/// Puts the patch of a line, if it has one, behind the others.
+fn put_behind(
+    alloc: Global,
+    patches: &mut Vec<Patch>,
+    found: Option<SpelledPatch<'_>>,
+) -> Result<(), AllocError>
+    ensures ok { OnOk result
+        (patches.new.items ≡ patches.old.items ++ option_to_list (option_map as_patch found.entry)) }
+    ensures count { OnOk result
+        (vec_len patches.new ≡ vec_len patches.old + length (option_to_list (option_map as_patch found.entry))) }
+{
+    if let Some(spelled) = found {
+        let patch = spelled.build(alloc)?;
+        patches.push(patch)?;
+    }
+    Ok(())
+}
+
+/// The patches of the lines behind the head line, which have no fault.
+fn patches_of(alloc: Global, head: u32, mut lines: Lines<'_>) -> Result<Vec<Patch>, AllocError>
+    requires room { head + length lines ≤ MAX_TEXT }
+    requires sound { IsOk (patches_from (head + 1) 0 lines) }
+    ensures { IfOk result (λ ps. patches_from (head + 1) 0 lines.entry ≡ Ok ps.items) }
+{
+    let mut patches = Vec::new(alloc);
+    let mut line = head;
+    while let Some(text) = lines.next() {
+        line += 1;
+        let found = line_of(line, patches.len(), text).unwrap();
+        put_behind(alloc, &mut patches, found)?;
+    }
+    Ok(patches)
+}
+
 /// The script of a text of at most 64 MiB: its patches by first block, or its first fault. An error
-/// other than want of memory is the fault of the first faulty line, and nothing is kept of it.
+/// other than want of memory is the fault of the first faulty line, and nothing is kept of it. That
+/// fault is found before any memory is taken.
 pub fn parse(alloc: Global, text: &[u8]) -> Result<Script, ScriptFault>
     requires { length text.now ≤ MAX_TEXT }
     ensures ok { IfOk result (λ s. (ps : List Patch) × (script text.now ≡ Ok ps) × (s ≡ order ps)) }
     ensures err { IfErr result (λ e. e ≢ NoMemory → script text.now ≡ Err e) }
-    // A text without its head line is refused as that, whatever memory there is.
-    ensures head { (line : ℕ) → script text.now ≡ Err (Head line)
-        → result ≡ Err (ScriptFault.Head line) }
+    // A text that is no script is refused by its fault, whatever memory there is.
+    ensures refused { (e : ScriptFault) → script text.now ≡ Err e → result ≡ Err e }
 {
     let mut lines = text.lines();
     let head = head_of(&mut lines)?;
-    let mut patches = patches_of(alloc, head, &mut lines)?;
+    let rest = lines.as_bytes();
+    check_lines(head, rest.lines())?;
+    let mut patches = patches_of(alloc, head, rest.lines())?;
     patches.sort_by_key(|patch| patch.block)?;
     Ok(Script { patches })
 }

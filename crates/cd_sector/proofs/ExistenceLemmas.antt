@@ -1,21 +1,19 @@
 -- For any header and user data there is a consistent sector.
-use Rattle.std.proofs.Common.{◌≡◌, ℕ, zero, suc, ◌+◌, ◌*◌, ◌/◌, ◌%◌, ◌<◌, ◌≤◌, ◌⊎◌, inl, inr, true, nat_lt, List, [], ◌∷◌, ◌++◌, length, map, get_or, set, take, drop, replicate, bit_xor, refl, sym, ap, ◌∙◌, arith, lit<, lit≤}
+use Rattle.std.proofs.Common.{◌≡◌, ℕ, zero, suc, ◌+◌, ◌*◌, ◌/◌, ◌%◌, ◌<◌, ◌≤◌, ◌⊎◌, inl, inr, true, nat_lt, List, [], ◌∷◌, ◌++◌, length, get_or, set, take, drop, replicate, bit_xor, refl, sym, ap, ◌∙◌, arith, lit<, lit≤}
 use Rattle.std.specs.Int.{to_le_bytes, w32}
-use Rattle.std.specs.List.{range_with_len}
 use Rattle.std.proofs.lemmas.Bool.{cases_lt, agree_below_at, ltb-true}
 use Rattle.std.proofs.lemmas.Bool.Decides.{eqb_tells}
 use Rattle.std.proofs.lemmas.Grind.{get_or-set_at}
 use Rattle.std.proofs.lemmas.List.{get_or-set_other, get_or_past, get_or-replicate, length-set, take_more, length-take-le, length-drop, length-append, length-replicate, get_or-drop}
-use Rattle.std.proofs.lemmas.List.FromFn.{get_or-map-range_with_len}
 use Rattle.std.proofs.lemmas.Nat.{xor_lt}
 use Rattle.cd_code.specs.Edc.{IsEdc, bits, remainder}
 use Rattle.cd_code.specs.Field.{AreBytes, double, product}
-use Rattle.cd_code.specs.Syndrome.{IsCodeWord, first_syndrome, second_syndrome}
+use Rattle.cd_code.specs.Syndrome.{IsPair, IsCodeWord, first_syndrome, second_syndrome}
 use Rattle.cd_code.proofs.EdcLemmas.{IsEdc-nil, IsEdc-push}
 use Rattle.cd_code.proofs.EdcTableLemmas.{word_at-IsEdc}
 use Rattle.cd_code.proofs.FieldLemmas.{product-lt}
 use Rattle.cd_code.proofs.SyndromeLemmas.{IsCodeWord-pair, first_syndrome-lt}
-use Rattle.cd_sector.specs.CodeWords.{AllCodeWords, IsPair, SumsOf, bytes_at, column_input, column_of, diagonal_input}
+use Rattle.cd_sector.specs.CodeWords.{AllCodeWords, bytes_at, column_input, column_of, diagonal_input}
 use Rattle.cd_sector.specs.Kind.{sync_field}
 use Rattle.cd_sector.specs.Laws.{IsEncoded}
 use Rattle.cd_sector.proofs.PlaceLemmas.{AreBytes-bytes_at}
@@ -52,24 +50,24 @@ AreBytes-set s i b h k = λ j. elim (cases_lt j (length s)) [
 ]
 
 -- what stands behind the other words, with n pairs filled in
-record Made (plain weighted : List ℕ) (start count n : ℕ) (old : List ℕ) : Type 0 where
+record Made (word : ℕ → List ℕ) (start count n : ℕ) (old : List ℕ) : Type 0 where
   sector : List ℕ
   size : length sector ≡ length old
   bytes : AreBytes sector
-  filled : Filled (λ i. IsPair (get_or plain i 0) (get_or weighted i 0)) start count n old sector
+  filled : Filled (λ i. IsPair (first_syndrome (word i)) (second_syndrome (word i))) start count n old sector
 
-made : (plain weighted : List ℕ) (start count : ℕ) (old : List ℕ) → ((i : ℕ) → i < count → get_or plain i 0 < 256)
-    → AreBytes old → start + 2 * count ≤ length old → (n : ℕ) → n ≤ count → Made plain weighted start count n old
-made plain weighted start count old low h room zero k = record {
+made : (word : ℕ → List ℕ) (start count : ℕ) (old : List ℕ) → ((i : ℕ) → i < count → first_syndrome (word i) < 256)
+    → AreBytes old → start + 2 * count ≤ length old → (n : ℕ) → n ≤ count → Made word start count n old
+made word start count old low h room zero k = record {
   sector = old;
   size = refl;
   bytes = h;
-  filled = Filled-none (λ i. IsPair (get_or plain i 0) (get_or weighted i 0)) start count old;
+  filled = Filled-none (λ i. IsPair (first_syndrome (word i)) (second_syndrome (word i))) start count old;
 }
-made plain weighted start count old low h room (suc n) k =
-    let before = made plain weighted start count old low h room n (omega arith) in
-    let p = get_or plain n 0 in
-    let q = get_or weighted n 0 in
+made word start count old low h room (suc n) k =
+    let before = made word start count old low h room n (omega arith) in
+    let p = first_syndrome (word n) in
+    let q = second_syndrome (word n) in
     let a = product 244 (bit_xor p (double (double q))) in
     let b = bit_xor p a in
     let p_lt : p < 256 = low n (omega arith) in
@@ -85,28 +83,9 @@ made plain weighted start count old low h room (suc n) k =
       bytes = AreBytes-set one (start + count + n) b (AreBytes-set before.sector (start + n) a before.bytes a_lt) b_lt;
       filled =
           rw e at
-          (Filled-more (λ i. IsPair (get_or plain i 0) (get_or weighted i 0)) start count n old before.sector a b
+          (Filled-more (λ i. IsPair (first_syndrome (word i)) (second_syndrome (word i))) start count n old before.sector a b
           (omega arith) (omega (arith, before.size)) pair before.filled);
     }
-
-sums_of : (ℕ → List ℕ) → ℕ → List ℕ
-sums_of word n = map (λ i. first_syndrome (word i)) (range_with_len 0 n)
-
-weighted_sums_of : (ℕ → List ℕ) → ℕ → List ℕ
-weighted_sums_of word n = map (λ i. second_syndrome (word i)) (range_with_len 0 n)
-
-SumsOf-word : (word : ℕ → List ℕ) (n : ℕ) → SumsOf word n (sums_of word n) (weighted_sums_of word n)
-unfolding sums_of weighted_sums_of
-SumsOf-word word n = record {
-  first = λ i h. get_or-map-range_with_len (λ k. first_syndrome (word k)) 0 n i i 0 h (omega arith);
-  second = λ i h. get_or-map-range_with_len (λ k. second_syndrome (word k)) 0 n i i 0 h (omega arith);
-}
-
-sums-lt : (s : List ℕ) (places : ℕ → List ℕ) (n : ℕ) (plain weighted : List ℕ) → AreBytes s → SumsOf (λ i. bytes_at s (places i)) n plain weighted
-    → (i : ℕ) → i < n → get_or plain i 0 < 256
-sums-lt s places n plain weighted h sums i k =
-    let e = sums.first i k in
-    rw e (first_syndrome-lt (bytes_at s (places i)) (AreBytes-bytes_at s (places i) h))
 
 -- ---- a sector
 
@@ -145,7 +124,7 @@ length-content header user h k =
     let b : length (header ++ 1 ∷ rest) ≡ 2340 = length-append header (1 ∷ rest) ∙ ap (λ n. n + length (1 ∷ rest)) h ∙ ap (λ n. 3 + suc n) a in
     length-append sync_field (header ++ 1 ∷ rest) ∙ ap (λ n. 12 + n) b
 
-AreBytes-drop : (s : List ℕ) (n : ℕ) → AreBytes s → AreBytes (drop n s)
+pub AreBytes-drop : (s : List ℕ) (n : ℕ) → AreBytes s → AreBytes (drop n s)
 AreBytes-drop s n h = λ i. rw (get_or-drop n s i 0) (h (n + i))
 
 -- the same front with an EDC behind it
@@ -188,16 +167,15 @@ record WithColumns (old : List ℕ) : Type 0 where
 with_columns : (old : List ℕ) → length old ≡ 2352 → AreBytes old → WithColumns old
 with_columns old size h =
     let word : ℕ → List ℕ = λ i. bytes_at old (column_input (i % 2) (i / 2)) in
-    let plain = sums_of word 86 in
-    let weighted = weighted_sums_of word 86 in
-    let sums = SumsOf-word word 86 in
-    let p = made plain weighted 2076 86 old (sums-lt old (λ i. column_input (i % 2) (i / 2)) 86 plain weighted h sums) h
+    let low : (i : ℕ) → i < 86 → first_syndrome (word i) < 256 =
+    λ i _. first_syndrome-lt (word i) (AreBytes-bytes_at old (column_input (i % 2) (i / 2)) h) in
+    let p = made word 2076 86 old low h
     (omega (arith, size)) 86 (lit≤ tt) in
     record {
       sector = p.sector;
       size = p.size ∙ size;
       bytes = p.bytes;
-      words = columns_made old p.sector plain weighted h sums p.filled;
+      words = columns_made old p.sector h p.filled;
       stays = λ k low. p.filled.stays k (inl low);
     }
 
@@ -211,10 +189,9 @@ record WithWords (old : List ℕ) : Type 0 where
 with_diagonals : (old : List ℕ) → WithColumns old → WithWords old
 with_diagonals old p =
     let word : ℕ → List ℕ = λ i. bytes_at p.sector (diagonal_input (i % 2) (i / 2)) in
-    let plain = sums_of word 52 in
-    let weighted = weighted_sums_of word 52 in
-    let sums = SumsOf-word word 52 in
-    let q = made plain weighted 2248 52 p.sector (sums-lt p.sector (λ i. diagonal_input (i % 2) (i / 2)) 52 plain weighted p.bytes sums) p.bytes
+    let low : (i : ℕ) → i < 52 → first_syndrome (word i) < 256 =
+    λ i _. first_syndrome-lt (word i) (AreBytes-bytes_at p.sector (diagonal_input (i % 2) (i / 2)) p.bytes) in
+    let q = made word 2248 52 p.sector low p.bytes
     (omega (arith, p.size)) 52 (lit≤ tt) in
     record {
       sector = q.sector;
@@ -223,7 +200,7 @@ with_diagonals old p =
       words =
           AllCodeWords-by_number q.sector
           (λ i h. rw (column_of-same p.sector q.sector i h (λ k low. sym (q.filled.stays k (inl low)))) at (p.words i h))
-          (diagonals_made p.sector q.sector plain weighted p.bytes sums q.filled);
+          (diagonals_made p.sector q.sector p.bytes q.filled);
       stays = λ k low. q.filled.stays k (inl (below_q k low)) ∙ p.stays k low;
     }
   where

@@ -1,4 +1,5 @@
 pub mod DefectLemmas
+pub mod DiagonalLemmas
 pub mod ExistenceLemmas
 pub mod ParityLemmas
 pub mod PlaceLemmas

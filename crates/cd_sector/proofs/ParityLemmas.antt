@@ -1,16 +1,18 @@
 -- Sums of words of bytes, a row of bytes at a time, and pairs that are filled in one after the other.
-use Rattle.std.proofs.Common.{◌≡◌, ◌≢◌, ℕ, ◌+◌, ◌*◌, ◌/◌, ◌%◌, ◌<◌, ◌≤◌, ◌⊎◌, inl, inr, List, [], ◌∷◌, ◌++◌, length, get_or, set, replicate, take, drop, bit_xor, refl, sym, ap, ◌∙◌, arith, append_assoc}
+use Rattle.std.proofs.Common.{◌≡◌, ◌≢◌, ℕ, ◌+◌, ◌-◌, ◌*◌, ◌/◌, ◌%◌, ◌<◌, ◌≤◌, ◌⊎◌, inl, inr, List, [], ◌∷◌, ◌++◌, length, get_or, set, take, drop, bit_xor, refl, sym, subst, ap, ◌∙◌, arith}
 use Rattle.std.proofs.lemmas.Bool.{cases_lt}
-use Rattle.std.proofs.lemmas.List.{ext_get_or, get_or-set_same, get_or-set_other, length-set, take_more, take_all, get_or-take, get_or-drop, length-take-le, length-drop}
-use Rattle.std.proofs.lemmas.Grind.{get_or-set_at}
+use Rattle.std.proofs.lemmas.List.{ext_get_or, get_or-map, length-map, get_or-set_same, get_or-set_other, length-set, take_more, get_or-take, get_or-drop, length-take-le, length-drop}
 use Rattle.std.specs.Simd.{first_chunks}
 use Rattle.cd_code.proofs.ListLemmas.{get_or-first_chunks}
 use Rattle.std.proofs.lemmas.List.FromFn.{get_or-map-range_with_len}
-use Rattle.std.proofs.lemmas.Simd.{get_or-replicate}
+use Rattle.cd_code.proofs.ColumnLemmas.{AreSums-to_zero}
 use Rattle.cd_code.specs.Field.{AreBytes, double}
-use Rattle.cd_code.specs.Syndrome.{IsCodeWord, column, first_syndrome, second_syndrome}
-use Rattle.cd_code.proofs.SyndromeLemmas.{first_syndrome-nil, second_syndrome-nil, first_syndrome-push, second_syndrome-push}
-use Rattle.cd_sector.specs.CodeWords.{AllCodeWords, IsPair, SumsOf, place_of, bytes_at, column_input, column_of, column_places, diagonal_input, diagonal_of}
+use Rattle.cd_code.specs.Syndrome.{IsPair, IsCodeWord, column, first_syndrome, second_syndrome}
+use Rattle.cd_code.proofs.SyndromeLemmas.{first_syndrome-push, second_syndrome-push}
+use Rattle.cd_code.specs.LaneWords.{AreColumns, column_of_rows}
+use Rattle.cd_code.specs.declared.columns.ColumnLanes.{ColumnLanes}
+use Rattle.cd_code.specs.declared.lane_sums.LaneSums.{LaneSums}
+use Rattle.cd_sector.specs.CodeWords.{PairsPut, AllCodeWords, SumsOf, place_of, bytes_at, column_input, column_of, column_places, diagonal_input, diagonal_of}
 use Rattle.cd_sector.proofs.PlaceLemmas.{length-bytes_at, bytes_at-byte, bytes_at-same, AreBytes-bytes_at, length-column_input, column_input_place, length-column_places, column_place, length-diagonal_input, diagonal_input_place, column_bytes-parts, diagonal_bytes-parts}
 
 -- ---- sums
@@ -43,96 +45,6 @@ SumsOf-same word other count plain weighted sums same = record {
 pub take-row : (v : List ℕ) (n byte : ℕ) → n < length v → get_or v n 0 ≡ byte → take (n + 1) v ≡ take n v ++ byte ∷ []
 take-row v n byte inside e = take_more v n 0 inside ∙ ap (λ b. take n v ++ b ∷ []) e
 
--- no byte yet
-pub SumsOf-none : (word : ℕ → List ℕ) (count n : ℕ) → count ≤ n → ((i : ℕ) → word i ≡ [])
-    → SumsOf word count (replicate n 0) (replicate n 0)
-SumsOf-none word count n few none = record {
-  first = λ i h. get_or-replicate n i 0 0 (omega arith) ∙ sym (ap first_syndrome (none i) ∙ first_syndrome-nil);
-  second = λ i h. get_or-replicate n i 0 0 (omega arith) ∙ sym (ap second_syndrome (none i) ∙ second_syndrome-nil);
-}
-
--- row m of the diagonals
-pub SumsOf-diagonal_row : (s : List ℕ) (m : ℕ) (plain weighted row next next_weighted : List ℕ) → m < 43 → AreBytes s
-    → ((i : ℕ) → i < 52 → get_or row i 0 ≡ get_or s (place_of (i % 2) ((44 * m + 43 * (i / 2)) % 1118)) 0)
-    → SumsOf (λ i. take m (bytes_at s (diagonal_input (i % 2) (i / 2)))) 52 plain weighted
-    → ((i : ℕ) → i < 86 → get_or next i 0 ≡ bit_xor (get_or plain i 0) (get_or row i 0))
-    → ((i : ℕ) → i < 86 → get_or next_weighted i 0 ≡ bit_xor (double (get_or weighted i 0)) (get_or row i 0))
-    → SumsOf (λ i. take (m + 1) (bytes_at s (diagonal_input (i % 2) (i / 2)))) 52 next next_weighted
-SumsOf-diagonal_row s m plain weighted row next next_weighted h bytes lanes sums firsts seconds =
-    SumsOf-more _ _ 52 plain weighted row next next_weighted sums
-    (λ i k. rw (lanes i k) (bytes (place_of (i % 2) ((44 * m + 43 * (i / 2)) % 1118))))
-    (λ i k.
-    let ps = diagonal_input (i % 2) (i / 2) in
-    take-row (bytes_at s ps) m (get_or row i 0) (omega (arith, length-bytes_at s ps, length-diagonal_input (i % 2) (i / 2)))
-    (bytes_at-byte s ps m (omega (arith, length-diagonal_input (i % 2) (i / 2)))
-    ∙ ap (λ p. get_or s p 0) (diagonal_input_place (i % 2) (i / 2) m h) ∙ sym (lanes i k)))
-    (λ i k. firsts i (omega arith)) (λ i k. seconds i (omega arith))
-
--- all rows of the diagonals' input
-pub SumsOf-diagonal_input : (s : List ℕ) (m : ℕ) (plain weighted : List ℕ) → 43 ≤ m
-    → SumsOf (λ i. take m (bytes_at s (diagonal_input (i % 2) (i / 2)))) 52 plain weighted
-    → SumsOf (λ i. bytes_at s (diagonal_input (i % 2) (i / 2))) 52 plain weighted
-SumsOf-diagonal_input s m plain weighted h sums =
-    SumsOf-same _ _ 52 plain weighted sums
-    (λ i k.
-    let ps = diagonal_input (i % 2) (i / 2) in
-    take_all m (bytes_at s ps) (omega (arith, length-bytes_at s ps, length-diagonal_input (i % 2) (i / 2))))
-
--- the two rows of the diagonals' parity
-pub SumsOf-diagonal : (s first second plain weighted one one_weighted two two_weighted : List ℕ)
-    → SumsOf (λ i. bytes_at s (diagonal_input (i % 2) (i / 2))) 52 plain weighted → AreBytes s
-    → ((i : ℕ) → i < 52 → get_or first i 0 ≡ get_or s (2248 + i) 0)
-    → ((i : ℕ) → i < 52 → get_or second i 0 ≡ get_or s (2300 + i) 0)
-    → ((i : ℕ) → i < 86 → get_or one i 0 ≡ bit_xor (get_or plain i 0) (get_or first i 0))
-    → ((i : ℕ) → i < 86 → get_or one_weighted i 0 ≡ bit_xor (double (get_or weighted i 0)) (get_or first i 0))
-    → ((i : ℕ) → i < 86 → get_or two i 0 ≡ bit_xor (get_or one i 0) (get_or second i 0))
-    → ((i : ℕ) → i < 86 → get_or two_weighted i 0 ≡ bit_xor (double (get_or one_weighted i 0)) (get_or second i 0))
-    → SumsOf (diagonal_of s) 52 two two_weighted
-SumsOf-diagonal s first second plain weighted one one_weighted two two_weighted sums bytes firsts seconds f1 s1 f2 s2 =
-    let input : ℕ → List ℕ = λ i. bytes_at s (diagonal_input (i % 2) (i / 2)) in
-    let with_first : ℕ → List ℕ = λ i. input i ++ get_or first i 0 ∷ [] in
-    let step = SumsOf-more input with_first 52 plain weighted first one one_weighted sums
-    (λ i k. rw (firsts i k) (bytes (2248 + i))) (λ i k. refl)
-    (λ i k. f1 i (omega arith)) (λ i k. s1 i (omega arith)) in
-    SumsOf-more with_first (diagonal_of s) 52 one one_weighted second two two_weighted step
-    (λ i k. rw (seconds i k) (bytes (2300 + i)))
-    (λ i k.
-    let p : place_of (i % 2) (1118 + i / 2) ≡ 2248 + i = omega arith in
-    let q : place_of (i % 2) (1144 + i / 2) ≡ 2300 + i = omega arith in
-    diagonal_bytes-parts s (i % 2) (i / 2)
-    ∙ ap (λ a. input i ++ a ∷ get_or s (place_of (i % 2) (1144 + i / 2)) 0 ∷ []) (ap (λ n. get_or s n 0) p ∙ sym (firsts i k))
-    ∙ ap (λ b. input i ++ get_or first i 0 ∷ b ∷ []) (ap (λ n. get_or s n 0) q ∙ sym (seconds i k))
-    ∙ sym (append_assoc (input i) (get_or first i 0 ∷ []) (get_or second i 0 ∷ [])))
-    (λ i k. f2 i (omega arith)) (λ i k. s2 i (omega arith))
-
--- row m of the columns
-pub SumsOf-column_row : (s : List ℕ) (m : ℕ) (plain weighted row next next_weighted : List ℕ) → m < 24 → AreBytes s
-    → ((i : ℕ) → i < 86 → get_or row i 0 ≡ get_or s (12 + (86 * m + i)) 0)
-    → SumsOf (λ i. take m (bytes_at s (column_input (i % 2) (i / 2)))) 86 plain weighted
-    → ((i : ℕ) → i < 86 → get_or next i 0 ≡ bit_xor (get_or plain i 0) (get_or row i 0))
-    → ((i : ℕ) → i < 86 → get_or next_weighted i 0 ≡ bit_xor (double (get_or weighted i 0)) (get_or row i 0))
-    → SumsOf (λ i. take (m + 1) (bytes_at s (column_input (i % 2) (i / 2)))) 86 next next_weighted
-SumsOf-column_row s m plain weighted row next next_weighted h bytes lanes sums firsts seconds =
-    SumsOf-more _ _ 86 plain weighted row next next_weighted sums
-    (λ i k. rw (lanes i k) (bytes (12 + (86 * m + i))))
-    (λ i k.
-    let ps = column_input (i % 2) (i / 2) in
-    let p : place_of (i % 2) (43 * m + i / 2) ≡ 12 + (86 * m + i) = omega arith in
-    take-row (bytes_at s ps) m (get_or row i 0) (omega (arith, length-bytes_at s ps, length-column_input (i % 2) (i / 2)))
-    (bytes_at-byte s ps m (omega (arith, length-column_input (i % 2) (i / 2)))
-    ∙ ap (λ n. get_or s n 0) (column_input_place (i % 2) (i / 2) m h ∙ p) ∙ sym (lanes i k)))
-    firsts seconds
-
--- all rows of the columns' input
-pub SumsOf-column_input : (s : List ℕ) (m : ℕ) (plain weighted : List ℕ) → 24 ≤ m
-    → SumsOf (λ i. take m (bytes_at s (column_input (i % 2) (i / 2)))) 86 plain weighted
-    → SumsOf (λ i. bytes_at s (column_input (i % 2) (i / 2))) 86 plain weighted
-SumsOf-column_input s m plain weighted h sums =
-    SumsOf-same _ _ 86 plain weighted sums
-    (λ i k.
-    let ps = column_input (i % 2) (i / 2) in
-    take_all m (bytes_at s ps) (omega (arith, length-bytes_at s ps, length-column_input (i % 2) (i / 2))))
-
 -- a column of the 26 rows behind byte 12
 pub column-rows : (s rows : List ℕ) (i : ℕ) → i < 86 → ((k : ℕ) → k < 2236 → get_or rows k 0 ≡ get_or s (12 + k) 0)
     → column rows i ≡ column_of s i
@@ -164,41 +76,34 @@ row_of_columns s chunks n i k d front below few h =
     ∙ get_or-drop 12 s (i * 86 + k) 0
     ∙ ap (λ p. get_or s p 0) e
 
+-- a column of these rows is the input of a P column
+pub column_of_input : (s : List ℕ) (chunks : List (List ℕ)) (n c : ℕ) → chunks ≡ first_chunks 86 n (take 2064 (drop 12 s)) → n ≡ 24 → length chunks ≡ n → c < 86
+    → column_of_rows chunks c ≡ bytes_at s (column_input (c % 2) (c / 2))
+column_of_input s chunks n c front number long h =
+    let ps = column_input (c % 2) (c / 2) in
+    let size : length (column_of_rows chunks c) ≡ 24 = length-map chunks (λ row. get_or row c 0) ∙ long ∙ number in
+    let other : length (bytes_at s ps) ≡ 24 = length-bytes_at s ps ∙ length-column_input (c % 2) (c / 2) in
+    ext_get_or 0 (column_of_rows chunks c) (bytes_at s ps) (size ∙ sym other)
+    (λ m inside.
+    let below : m < 24 = omega (arith, size) in
+    let p : place_of (c % 2) (43 * m + c / 2) ≡ 12 + (86 * m + c) = omega arith in
+    get_or-map (λ row. get_or row c 0) chunks m [] 0 (omega arith)
+    ∙ row_of_columns s chunks n m c [] front (omega arith) (omega arith) h
+    ∙ sym (bytes_at-byte s ps m (omega (arith, length-column_input (c % 2) (c / 2)))
+    ∙ ap (λ n. get_or s n 0) (column_input_place (c % 2) (c / 2) m below ∙ p)))
+
+pub AreColumns-same : (word other : ℕ → List ℕ) (lanes : ColumnLanes) → ((c : ℕ) → c < 86 → word c ≡ other c) → AreColumns word lanes → AreColumns other lanes
+AreColumns-same word other lanes same are = record {
+  front = record { plain = λ i h. are.front.plain i h ∙ ap first_syndrome (same i (omega arith)); weighted = λ i h. are.front.weighted i h ∙ ap second_syndrome (same i (omega arith)) };
+  middle = record { plain = λ i h. are.middle.plain i h ∙ ap first_syndrome (same (32 + i) (omega arith)); weighted = λ i h. are.middle.weighted i h ∙ ap second_syndrome (same (32 + i) (omega arith)) };
+  back = record { plain = λ i h. are.back.plain i h ∙ ap first_syndrome (same (54 + i) (omega arith)); weighted = λ i h. are.back.weighted i h ∙ ap second_syndrome (same (54 + i) (omega arith)) };
+}
+
 pub rows_of_columns : (s : List ℕ) → length s ≡ 2352 → length (take 2064 (drop 12 s)) / 86 ≡ 24
 rows_of_columns s long =
     let e : length (take 2064 (drop 12 s)) ≡ 2064 =
     length-take-le 2064 (drop 12 s) (omega (arith, length-drop 12 s)) in
     ap (λ n. n / 86) e
-
--- two bytes more of a row of the diagonals
-pub lanes_more : (row s : List ℕ) (m n place : ℕ)
-    → place ≡ (44 * m + 43 * n) % 1118 → 2 * n + 2 ≤ length row
-    → ((i : ℕ) → i < 2 * n → get_or row i 0 ≡ get_or s (place_of (i % 2) ((44 * m + 43 * (i / 2)) % 1118)) 0)
-    → (i : ℕ) → i < 2 * (n + 1)
-    → get_or (set (set row (2 * n) (get_or s (12 + 2 * place) 0)) (2 * n + 1) (get_or s (13 + 2 * place) 0)) i 0
-    ≡ get_or s (place_of (i % 2) ((44 * m + 43 * (i / 2)) % 1118)) 0
-lanes_more row s m n place here room lanes i h =
-    let one = set row (2 * n) (get_or s (12 + 2 * place) 0) in
-    let one_len : length one ≡ length row = length-set row (2 * n) (get_or s (12 + 2 * place) 0) in
-    elim (cases_lt i (2 * n)) [
-      | inl lower ↦
-          get_or-set_other one (2 * n + 1) i (get_or s (13 + 2 * place) 0) 0 (omega arith)
-          ∙ get_or-set_other row (2 * n) i (get_or s (12 + 2 * place) 0) 0 (omega arith)
-          ∙ lanes i lower
-      | inr upper ↦ elim (cases_lt i (2 * n + 1)) [
-        | inl low ↦
-            let e : i ≡ 2 * n = omega arith in
-            let p : 12 + 2 * place ≡ place_of (i % 2) ((44 * m + 43 * (i / 2)) % 1118) = omega arith in
-            get_or-set_other one (2 * n + 1) i (get_or s (13 + 2 * place) 0) 0 (omega arith)
-            ∙ get_or-set_at row (2 * n) i (get_or s (12 + 2 * place) 0) 0 e (omega arith)
-            ∙ ap (λ k. get_or s k 0) p
-        | inr high ↦
-            let e : i ≡ 2 * n + 1 = omega arith in
-            let p : 13 + 2 * place ≡ place_of (i % 2) ((44 * m + 43 * (i / 2)) % 1118) = omega arith in
-            get_or-set_at one (2 * n + 1) i (get_or s (13 + 2 * place) 0) 0 e (omega arith)
-            ∙ ap (λ k. get_or s k 0) p
-      ]
-    ]
 
 -- the sums of the columns, from the 26 rows behind byte 12
 pub SumsOf-columns : (s rows plain weighted : List ℕ) → rows ≡ take 2236 (take 2236 (drop 12 s))
@@ -257,14 +162,92 @@ Filled-more P start count n old new a b below room pair filled =
       ];
     }
 
+-- equal bytes with equal sums
+same_pair : (p q a b p' q' a' b' : ℕ) → p ≡ p' → q ≡ q' → a ≡ a' → b ≡ b' → IsPair p q a b → IsPair p' q' a' b'
+same_pair p q a b p' q' a' b' ep eq ea eb h = λ v bytes firsts seconds.
+    let F : ℕ → Type 0 = λ x. IsCodeWord (v ++ x ∷ b' ∷ []) in
+    let S : ℕ → Type 0 = λ y. IsCodeWord (v ++ a ∷ y ∷ []) in
+    subst F ea (subst S eb (h v bytes (firsts ∙ sym ep) (seconds ∙ sym eq)))
+
+-- pair k of 32 that were put `from` places further on is pair i of all, where later writes have left it
+pair_at : (word : ℕ → List ℕ) (plain weighted now new : List ℕ) (start count from k i : ℕ) → from + k ≡ i
+    → get_or plain k 0 ≡ first_syndrome (word (from + k)) → get_or weighted k 0 ≡ second_syndrome (word (from + k))
+    → get_or new (start + i) 0 ≡ get_or now (start + i) 0 → get_or new (start + count + i) 0 ≡ get_or now (start + count + i) 0
+    → IsPair (get_or plain k 0) (get_or weighted k 0) (get_or now (start + from + k) 0) (get_or now (start + from + count + k) 0)
+    → IsPair (first_syndrome (word i)) (second_syndrome (word i)) (get_or new (start + i) 0) (get_or new (start + count + i) 0)
+pair_at word plain weighted now new start count from k i e firsts seconds first_stays second_stays pair =
+    let a : start + from + k ≡ start + i = omega arith in
+    let b : start + from + count + k ≡ start + count + i = omega arith in
+    same_pair (get_or plain k 0) (get_or weighted k 0) (get_or now (start + from + k) 0) (get_or now (start + from + count + k) 0)
+    (first_syndrome (word i)) (second_syndrome (word i)) (get_or new (start + i) 0) (get_or new (start + count + i) 0)
+    (firsts ∙ ap (λ n. first_syndrome (word n)) e) (seconds ∙ ap (λ n. second_syndrome (word n)) e)
+    (ap (λ n. get_or now n 0) a ∙ sym first_stays) (ap (λ n. get_or now n 0) b ∙ sym second_stays) pair
+
+-- the pairs of 86 columns, of which those of 54 to 63 are put twice
+pub columns_put : (word : ℕ → List ℕ) (lanes : ColumnLanes) (old one two three : List ℕ) → AreColumns word lanes
+    → PairsPut 2076 86 lanes.front old one → PairsPut 2108 86 lanes.middle one two → PairsPut 2130 86 lanes.back two three
+    → Filled (λ i. IsPair (first_syndrome (word i)) (second_syndrome (word i))) 2076 86 86 old three
+columns_put word lanes old one two three are front middle back = record {
+  pairs = λ i h. elim (cases_lt i 54) [
+    | inl lower ↦
+        let first_stays = back.before (2076 + i) (omega arith) in
+        let second_stays = back.between (2076 + 86 + i) (omega arith) (omega arith) in
+        elim (cases_lt i 32) [
+          | inl first ↦
+              let sums = AreSums-to_zero word lanes.front are.front in
+              pair_at word lanes.front.plain lanes.front.weighted one three 2076 86 0 i i (omega arith)
+              (sums.plain i first) (sums.weighted i first)
+              (first_stays ∙ middle.before (2076 + i) (omega arith))
+              (second_stays ∙ middle.between (2076 + 86 + i) (omega arith) (omega arith)) (front.pairs i first)
+          | inr second ↦
+              let k = i - 32 in
+              let few : k < 32 = omega arith in
+              pair_at word lanes.middle.plain lanes.middle.weighted two three 2076 86 32 k i (omega arith)
+              (are.middle.plain k few) (are.middle.weighted k few) first_stays second_stays (middle.pairs k few)
+        ]
+    | inr upper ↦
+        let k = i - 54 in
+        let few : k < 32 = omega arith in
+        pair_at word lanes.back.plain lanes.back.weighted three three 2076 86 54 k i (omega arith)
+        (are.back.plain k few) (are.back.weighted k few) refl refl (back.pairs k few)
+  ];
+  stays = λ k h. elim h [
+    | inl below ↦ back.before k (omega arith) ∙ middle.before k (omega arith) ∙ front.before k (omega arith)
+    | inr past ↦ back.behind k (omega arith) ∙ middle.behind k (omega arith) ∙ front.behind k (omega arith)
+  ];
+}
+
+-- the pairs of 52 diagonals, of which those of 20 to 31 are put twice
+pub diagonals_put : (word : ℕ → List ℕ) (low high : LaneSums) (old one two : List ℕ)
+    → SumsOf word 20 low.plain low.weighted → SumsOf (λ i. word (20 + i)) 32 high.plain high.weighted
+    → PairsPut 2248 52 low old one → PairsPut 2268 52 high one two
+    → Filled (λ i. IsPair (first_syndrome (word i)) (second_syndrome (word i))) 2248 52 52 old two
+diagonals_put word low high old one two below above first second = record {
+  pairs = λ i h. elim (cases_lt i 20) [
+    | inl lower ↦
+        let e : i ≡ 0 + i = omega arith in
+        pair_at word low.plain low.weighted one two 2248 52 0 i i (omega arith)
+        (below.first i lower ∙ ap (λ n. first_syndrome (word n)) e) (below.second i lower ∙ ap (λ n. second_syndrome (word n)) e)
+        (second.before (2248 + i) (omega arith)) (second.between (2248 + 52 + i) (omega arith) (omega arith)) (first.pairs i (omega arith))
+    | inr upper ↦
+        let k = i - 20 in
+        let few : k < 32 = omega arith in
+        pair_at word high.plain high.weighted two two 2248 52 20 k i (omega arith)
+        (above.first k few) (above.second k few) refl refl (second.pairs k few)
+  ];
+  stays = λ k h. elim h [
+    | inl under ↦ second.before k (omega arith) ∙ first.before k (omega arith)
+    | inr past ↦ second.behind k (omega arith) ∙ first.behind k (omega arith)
+  ];
+}
+
 -- ---- what the pairs make
 
 -- the pairs behind the columns' input
-pub columns_made : (old new plain weighted : List ℕ) → AreBytes old
-    → SumsOf (λ i. bytes_at old (column_input (i % 2) (i / 2))) 86 plain weighted
-    → Filled (λ i. IsPair (get_or plain i 0) (get_or weighted i 0)) 2076 86 86 old new
+pub columns_made : (old new : List ℕ) → AreBytes old
+    → Filled (λ i. IsPair (first_syndrome (bytes_at old (column_input (i % 2) (i / 2)))) (second_syndrome (bytes_at old (column_input (i % 2) (i / 2))))) 2076 86 86 old new
     → (i : ℕ) → i < 86 → IsCodeWord (column_of new i)
-columns_made old new plain weighted bytes sums filled i h =
+columns_made old new bytes filled i h =
     let ps = column_input (i % 2) (i / 2) in
     let p : place_of (i % 2) (1032 + i / 2) ≡ 2076 + i = omega arith in
     let q : place_of (i % 2) (1075 + i / 2) ≡ 2162 + i = omega arith in
@@ -278,14 +261,13 @@ columns_made old new plain weighted bytes sums filled i h =
     ∙ ap (λ n. bytes_at new ps ++ get_or new n 0 ∷ get_or new (2162 + i) 0 ∷ []) (sym p)
     ∙ ap (λ n. bytes_at new ps ++ get_or new (place_of (i % 2) (1032 + i / 2)) 0 ∷ get_or new n 0 ∷ []) (sym q)
     ∙ sym (column_bytes-parts new (i % 2) (i / 2)) in
-    rw word at (filled.pairs i h (bytes_at old ps) (AreBytes-bytes_at old ps bytes) (sym (sums.first i h)) (sym (sums.second i h)))
+    rw word at (filled.pairs i h (bytes_at old ps) (AreBytes-bytes_at old ps bytes) refl refl)
 
 -- the pairs behind the diagonals' input
-pub diagonals_made : (old new plain weighted : List ℕ) → AreBytes old
-    → SumsOf (λ i. bytes_at old (diagonal_input (i % 2) (i / 2))) 52 plain weighted
-    → Filled (λ i. IsPair (get_or plain i 0) (get_or weighted i 0)) 2248 52 52 old new
+pub diagonals_made : (old new : List ℕ) → AreBytes old
+    → Filled (λ i. IsPair (first_syndrome (bytes_at old (diagonal_input (i % 2) (i / 2)))) (second_syndrome (bytes_at old (diagonal_input (i % 2) (i / 2))))) 2248 52 52 old new
     → (i : ℕ) → i < 52 → IsCodeWord (diagonal_of new i)
-diagonals_made old new plain weighted bytes sums filled i h =
+diagonals_made old new bytes filled i h =
     let ps = diagonal_input (i % 2) (i / 2) in
     let p : place_of (i % 2) (1118 + i / 2) ≡ 2248 + i = omega arith in
     let q : place_of (i % 2) (1144 + i / 2) ≡ 2300 + i = omega arith in
@@ -299,7 +281,7 @@ diagonals_made old new plain weighted bytes sums filled i h =
     ∙ ap (λ n. bytes_at new ps ++ get_or new n 0 ∷ get_or new (2300 + i) 0 ∷ []) (sym p)
     ∙ ap (λ n. bytes_at new ps ++ get_or new (place_of (i % 2) (1118 + i / 2)) 0 ∷ get_or new n 0 ∷ []) (sym q)
     ∙ sym (diagonal_bytes-parts new (i % 2) (i / 2)) in
-    rw word at (filled.pairs i h (bytes_at old ps) (AreBytes-bytes_at old ps bytes) (sym (sums.first i h)) (sym (sums.second i h)))
+    rw word at (filled.pairs i h (bytes_at old ps) (AreBytes-bytes_at old ps bytes) refl refl)
 
 -- words by number are words by plane
 pub AllCodeWords-by_number : (s : List ℕ)

@@ -1,9 +1,9 @@
 -- The code words of a sector, each a list of places in it (ECMA-130, Annex A). Bytes 12 to 2351 are two planes of
 -- 1170 places: the low and the high bytes of the words S(n).
-use Rattle.std.specs.Prelude.{◌≡◌, ℕ, ◌+◌, ◌*◌, ◌/◌, ◌%◌, ◌<◌, List, [], ◌∷◌, ◌++◌, map, slice_index}
+use Rattle.std.specs.Prelude.{◌≡◌, ℕ, ◌+◌, ◌*◌, ◌/◌, ◌%◌, ◌<◌, ◌≤◌, List, [], ◌∷◌, ◌++◌, map, slice_index}
 use Rattle.std.specs.List.{range_with_len}
-use Rattle.cd_code.specs.Field.{AreBytes}
-use Rattle.cd_code.specs.Syndrome.{IsCodeWord, SameSums, first_syndrome, second_syndrome}
+use Rattle.cd_code.specs.declared.lane_sums.LaneSums.{LaneSums}
+use Rattle.cd_code.specs.Syndrome.{IsCodeWord, IsPair, SameSums, first_syndrome, second_syndrome}
 
 -- the place in the sector of place n of a plane, 0 or 1
 abbrev pub place_of : ℕ → ℕ → ℕ
@@ -53,7 +53,10 @@ pub record SumsOf (word : ℕ → List ℕ) (count : ℕ) (plain weighted : List
   pub first : (i : ℕ) → i < count → slice_index plain i ≡ first_syndrome (word i)
   pub second : (i : ℕ) → i < count → slice_index weighted i ≡ second_syndrome (word i)
 
--- two bytes behind any list with these syndromes make it a code word
-abbrev pub IsPair : ℕ → ℕ → ℕ → ℕ → Type 0
-IsPair plain weighted a b =
-    (v : List ℕ) → AreBytes v → first_syndrome v ≡ plain → second_syndrome v ≡ weighted → IsCodeWord (v ++ a ∷ b ∷ [])
+-- the pairs of 32 words stand in the sector, the first bytes from `at` on and the second ones `count` places behind; all
+-- else is as it was
+pub record PairsPut (at count : ℕ) (sums : LaneSums) (old new : List ℕ) : Type 0 where
+  pub pairs : (i : ℕ) → i < 32 → IsPair (slice_index sums.plain i) (slice_index sums.weighted i) (slice_index new (at + i)) (slice_index new (at + count + i))
+  pub before : (k : ℕ) → k < at → slice_index new k ≡ slice_index old k
+  pub between : (k : ℕ) → at + 32 ≤ k → k < at + count → slice_index new k ≡ slice_index old k
+  pub behind : (k : ℕ) → at + count + 32 ≤ k → slice_index new k ≡ slice_index old k

@@ -2,5 +2,6 @@ pub mod Address
 pub mod CodeWords
 pub mod Consistent
 pub mod Defect
+pub mod DiagonalSteps
 pub mod Kind
 pub mod Laws

@@ -104,6 +104,7 @@ fn has_edc(bytes: &[u8; SECTOR_SIZE]) -> bool
 }
 
 /// How many columns are no code words.
+#[inline(never)]
 fn broken_columns(bytes: &[u8; SECTOR_SIZE]) -> u8
     ensures { result ≡ count_by is_broken (all_syndromes (column_of bytes.now) 86) }
 {
@@ -118,7 +119,7 @@ fn broken_diagonals(bytes: &[u8; SECTOR_SIZE]) -> u8
 }
 
 /// The syndromes of each column with its parity.
-fn all_column_sums(bytes: &[u8; SECTOR_SIZE]) -> ColumnSums
+pub(crate) fn all_column_sums(bytes: &[u8; SECTOR_SIZE]) -> ColumnSums
     ensures { SumsOf (column_of bytes.now) 86 result.plain result.weighted }
 {
     column_sums(bytes[12..2248].first_chunk().unwrap())

@@ -1,28 +1,201 @@
-//! The Q diagonals of a sector as the columns of 45 rows: byte m of each diagonal, side by side, is row m
-//! (ECMA-130, Annex A).
+//! The Q diagonals of a sector, sixteen neighbours of both planes side by side (ECMA-130, Annex A). At step t diagonal
+//! n takes its byte t - n. That byte stands in row t mod 26 and in column t - n, so neighbours' bytes stand side by
+//! side in the sector, those of the diagonal with the highest number first.
 
-ghost use Rattle.std.specs.Prelude.{◌≡◌, ℕ, ◌+◌, ◌*◌, ◌/◌, ◌%◌, ◌<◌, ◌≤◌, slice_index};
-ghost use Rattle.cd_sector.specs.CodeWords.{SumsOf, bytes_at, diagonal_input, diagonal_of, place_of};
+ghost use Rattle.std.specs.Prelude.{◌≡◌, ℕ, ◌+◌, ◌-◌, ◌*◌, ◌/◌, ◌%◌, ◌<◌, ◌≤◌, ◌⊎◌, length, slice_index};
+ghost use Rattle.cd_sector.specs.CodeWords.{SumsOf, bytes_at, diagonal_input, diagonal_of};
+ghost use Rattle.cd_sector.specs.DiagonalSteps.{HasTaken, lane_place};
 
 use crate::parity::{DIAGONALS, Q_PARITY};
 use crate::sector::SECTOR_SIZE;
-use cd_code::{ColumnSums, row_sums};
+use cd_code::{ColumnSums, LaneSums, lanes_at, put_lanes};
+use std::simd::prelude::*;
 
-/// The number of places of a plane that are input of the diagonals: 26 rows of 43.
-const PLACES: usize = 1118;
+/// Lanes of which the 86 in the middle take a byte. From place 2 * k on, lane i of 32 takes one where 15 ≤ k + i / 2 < 58.
+#[rattlefmt::skip]
+static TAKING: [u8; 146] = [
+    0, 0, 0, 0, 0, 0, 0, 0, 0, 0, 0, 0, 0, 0, 0, 0, 0, 0, 0, 0, 0, 0, 0, 0, 0, 0, 0, 0, 0, 0, 255, 255,
+    255, 255, 255, 255, 255, 255, 255, 255, 255, 255, 255, 255, 255, 255, 255, 255, 255, 255, 255, 255, 255, 255, 255, 255, 255, 255, 255, 255, 255, 255, 255, 255,
+    255, 255, 255, 255, 255, 255, 255, 255, 255, 255, 255, 255, 255, 255, 255, 255, 255, 255, 255, 255, 255, 255, 255, 255, 255, 255, 255, 255, 255, 255, 255, 255,
+    255, 255, 255, 255, 255, 255, 255, 255, 255, 255, 255, 255, 255, 255, 255, 255, 255, 255, 255, 255, 0, 0, 0, 0, 0, 0, 0, 0, 0, 0, 0, 0,
+    0, 0, 0, 0, 0, 0, 0, 0, 0, 0, 0, 0, 0, 0, 0, 0, 0, 0,
+];
 
-/// The place at which the last of these rows begins.
-const LAST_ROW: usize = 1075;
+/// The places of lanes in the order of the diagonals.
+const RISING: [usize; 32] = [
+    30, 31, 28, 29, 26, 27, 24, 25, 22, 23, 20, 21, 18, 19, 16, 17, 14, 15, 12, 13, 10, 11, 8, 9,
+    6, 7, 4, 5, 2, 3, 0, 1,
+];
 
-/// The syndromes of the 43 bytes of each diagonal in front of its parity.
-pub(crate) fn diagonal_input_sums(bytes: &[u8; SECTOR_SIZE]) -> ColumnSums
-    ensures { SumsOf (λ i. bytes_at bytes.now (diagonal_input (i % 2) (i / 2))) 52 result.plain result.weighted }
+/// The sums of sixteen diagonals of both planes, `top` the highest, as far as the steps below `step` make them. Lane i
+/// is diagonal top - i / 2 of plane i % 2.
+#[derive(Clone, Copy)]
+struct Diagonals {
+    top: usize,
+    step: usize,
+    sums: LaneSums,
+    ghost least: { 15 ≤ top },
+    ghost most: { top ≤ 25 },
+    ghost begun: { 1 ≤ step },
+    ghost near: { top ≤ step + 15 },
+}
+
+impl Diagonals {
+    /// The diagonals 25 to 10, of which none has a byte before step 10.
+    fn high(bytes: &[u8; SECTOR_SIZE]) -> Self
+        ensures top { result.top ≡ 25 }
+        ensures step { result.step ≡ 10 }
+        ensures taken { HasTaken bytes.now 25 10 result.sums.plain result.sums.weighted }
+    {
+        Diagonals {
+            top: 25,
+            step: 10,
+            sums: LaneSums::zero(),
+        }
+    }
+
+    /// The diagonals 15 to 0, of which the last takes the first byte of its plane at step 0.
+    fn low(bytes: &[u8; SECTOR_SIZE]) -> Self
+        ensures top { result.top ≡ 15 }
+        ensures step { result.step ≡ 1 }
+        ensures taken { HasTaken bytes.now 15 1 result.sums.plain result.sums.weighted }
+    {
+        let mut lanes = [0; 32];
+        lanes[30] = bytes[12];
+        lanes[31] = bytes[13];
+        let sums = LaneSums::zero().with_lanes(u8x32::from_array(lanes));
+        Diagonals {
+            top: 15,
+            step: 1,
+            sums,
+        }
+    }
+
+    /// The steps up to `end` within a turn of 26 rows, at which some diagonals have not begun or have ended.
+    #[inline(always)]
+    fn at_the_ends(self, bytes: &[u8; SECTOR_SIZE], end: usize) -> Self
+        requires forward { self.step ≤ end }
+        requires turn { end ≤ 26 * (self.step / 26) + 26 }
+        requires most { end ≤ self.top + 43 }
+        requires taken { HasTaken bytes.now self.top self.step self.sums.plain self.sums.weighted }
+        ensures top { result.top ≡ self.top }
+        ensures step { result.step ≡ end }
+        ensures taken { HasTaken bytes.now result.top end result.sums.plain result.sums.weighted }
+    {
+        let turn = self.step / 26;
+        let mut sums = self.sums;
+        for step in self.step..end {
+            let lanes = window(bytes, self.top, step, step - 26 * turn);
+            sums = sums.with_lanes_where(lanes, taking(step + 15 - self.top));
+        }
+        Diagonals {
+            top: self.top,
+            step: end,
+            sums,
+        }
+    }
+
+    /// The steps up to `end` within a turn of 26 rows, at which all diagonals take a byte.
+    #[inline(always)]
+    fn in_the_middle(self, bytes: &[u8; SECTOR_SIZE], end: usize) -> Self
+        requires forward { self.step ≤ end }
+        requires turn { end ≤ 26 * (self.step / 26) + 26 }
+        requires begun { self.top ≤ self.step }
+        requires running { end ≤ self.top + 28 }
+        requires taken { HasTaken bytes.now self.top self.step self.sums.plain self.sums.weighted }
+        ensures top { result.top ≡ self.top }
+        ensures step { result.step ≡ end }
+        ensures taken { HasTaken bytes.now result.top end result.sums.plain result.sums.weighted }
+    {
+        let turn = self.step / 26;
+        let mut sums = self.sums;
+        for step in self.step..end {
+            sums = sums.with_lanes(window(bytes, self.top, step, step - 26 * turn));
+        }
+        Diagonals {
+            top: self.top,
+            step: end,
+            sums,
+        }
+    }
+
+    /// The sums in the order of the diagonals.
+    fn rising(self) -> LaneSums
+        ensures plain { (i : ℕ) → i < 32
+            → slice_index result.plain i ≡ slice_index self.sums.plain (2 * (15 - i / 2) + i % 2) }
+        ensures weighted { (i : ℕ) → i < 32
+            → slice_index result.weighted i ≡ slice_index self.sums.weighted (2 * (15 - i / 2) + i % 2) }
+    {
+        LaneSums {
+            plain: turned(self.sums.plain),
+            weighted: turned(self.sums.weighted),
+        }
+    }
+}
+
+/// The bytes that the diagonals from `top` down take at a step, all of them in one row.
+#[inline(always)]
+fn window(bytes: &[u8; SECTOR_SIZE], top: usize, step: usize, row: usize) -> u8x32
+    requires row { row ≡ step % 26 }
+    requires inside { 2 * top ≤ 12 + 86 * row + 2 * step }
+    requires last { step ≤ top + 43 }
+    requires most { top ≤ 25 }
+    ensures { (i : ℕ) → i < 32 → slice_index result i ≡ slice_index bytes.now (lane_place top step i) }
+{
+    lanes_at(bytes, 12 + 86 * row + 2 * step - 2 * top)
+}
+
+/// Which of 32 lanes take a byte, k steps after the first one began.
+#[inline(always)]
+fn taking(k: usize) -> u8x32
+    requires { k < 58 }
+    ensures takes { (i : ℕ) → i < 32 → 15 ≤ k + i / 2 → k + i / 2 < 58 → slice_index result i ≡ 255 }
+    ensures leaves { (i : ℕ) → i < 32 → (k + i / 2 < 15) ⊎ (58 ≤ k + i / 2) → slice_index result i ≡ 0 }
+{
+    lanes_at(&TAKING, 2 * k)
+}
+
+/// Sixteen pairs of lanes, the last one first.
+fn turned(v: u8x32) -> u8x32
+    ensures { (i : ℕ) → i < 32 → slice_index result i ≡ slice_index v (2 * (15 - i / 2) + i % 2) }
+{
+    v.swizzle(RISING)
+}
+
+/// The syndromes of the first 43 bytes of diagonals 0 to 15. Those of diagonals 10 to 15 are left unfinished.
+pub(crate) fn low_input_sums(bytes: &[u8; SECTOR_SIZE]) -> LaneSums
+    ensures { SumsOf (λ i. bytes_at bytes.now (diagonal_input (i % 2) (i / 2))) 20 result.plain result.weighted }
+{
+    Diagonals::low(bytes)
+        .at_the_ends(bytes, 26)
+        .in_the_middle(bytes, 43)
+        .at_the_ends(bytes, 52)
+        .rising()
+}
+
+/// The syndromes of the first 43 bytes of diagonals 10 to 25.
+pub(crate) fn high_input_sums(bytes: &[u8; SECTOR_SIZE]) -> LaneSums
+    ensures { SumsOf (λ i. bytes_at bytes.now (diagonal_input ((20 + i) % 2) ((20 + i) / 2))) 32 result.plain result.weighted }
+{
+    Diagonals::high(bytes)
+        .at_the_ends(bytes, 26)
+        .in_the_middle(bytes, 52)
+        .at_the_ends(bytes, 68)
+        .rising()
+}
+
+/// The sums of diagonals 0 to 9 out of the one, and of diagonals 10 to 25 out of the other.
+fn joined(low: LaneSums, high: LaneSums) -> ColumnSums
+    ensures plain_low { (i : ℕ) → i < 20 → slice_index result.plain i ≡ slice_index low.plain i }
+    ensures plain_high { (i : ℕ) → i < 32 → slice_index result.plain (20 + i) ≡ slice_index high.plain i }
+    ensures weighted_low { (i : ℕ) → i < 20 → slice_index result.weighted i ≡ slice_index low.weighted i }
+    ensures weighted_high { (i : ℕ) → i < 32 → slice_index result.weighted (20 + i) ≡ slice_index high.weighted i }
 {
     let mut sums = ColumnSums::zero();
-    for m in 0..43usize {
-        let row = input_row(bytes, m);
-        row_sums(&row, &mut sums);
-    }
+    put_lanes(&mut sums.plain, 0, low.plain);
+    put_lanes(&mut sums.plain, 20, high.plain);
+    put_lanes(&mut sums.weighted, 0, low.weighted);
+    put_lanes(&mut sums.weighted, 20, high.weighted);
     sums
 }
 
@@ -30,41 +203,11 @@ pub(crate) fn diagonal_input_sums(bytes: &[u8; SECTOR_SIZE]) -> ColumnSums
 pub(crate) fn diagonal_sums(bytes: &[u8; SECTOR_SIZE]) -> ColumnSums
     ensures { SumsOf (diagonal_of bytes.now) 52 result.plain result.weighted }
 {
-    let mut sums = diagonal_input_sums(bytes);
-    let first = parity_row(bytes, Q_PARITY);
-    row_sums(&first, &mut sums);
-    let second = parity_row(bytes, Q_PARITY + DIAGONALS);
-    row_sums(&second, &mut sums);
-    sums
-}
-
-/// Byte m of each diagonal. From one diagonal to the next the place goes one row of 43 down, and from the last
-/// row to the first.
-fn input_row(bytes: &[u8; SECTOR_SIZE], m: usize) -> [u8; 86]
-    requires { m < 43 }
-    ensures { (i : ℕ) → i < 52
-        → slice_index result i ≡ slice_index bytes.now (place_of (i % 2) ((44 * m + 43 * (i / 2)) % 1118)) }
-{
-    let mut row = [0; 86];
-    let mut place = 44 * m % PLACES;
-    for n in 0..26usize {
-        row[2 * n] = bytes[12 + 2 * place];
-        row[2 * n + 1] = bytes[13 + 2 * place];
-        place = if place < LAST_ROW {
-            place + 43
-        } else {
-            place - LAST_ROW
-        };
-    }
-    row
-}
-
-/// One parity byte of each diagonal.
-fn parity_row(bytes: &[u8; SECTOR_SIZE], at: usize) -> [u8; 86]
-    requires { at + 52 ≤ 2352 }
-    ensures { (i : ℕ) → i < 52 → slice_index result i ≡ slice_index bytes.now (at + i) }
-{
-    let mut row = [0; 86];
-    row[..DIAGONALS].copy_from_slice(&bytes[at..at + DIAGONALS]);
-    row
+    let low = low_input_sums(bytes)
+        .with_lanes(lanes_at(bytes, Q_PARITY))
+        .with_lanes(lanes_at(bytes, Q_PARITY + DIAGONALS));
+    let high = high_input_sums(bytes)
+        .with_lanes(lanes_at(bytes, Q_PARITY + 20))
+        .with_lanes(lanes_at(bytes, Q_PARITY + DIAGONALS + 20));
+    joined(low, high)
 }

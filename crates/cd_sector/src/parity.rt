@@ -2,12 +2,13 @@
 //! number i / 2 of plane i % 2, so that the bytes of a row of words stand side by side.
 
 ghost use Rattle.std.specs.Prelude.{◌≡◌, ℕ, ◌+◌, ◌*◌, ◌/◌, ◌%◌, ◌<◌, ◌≤◌, ◌⊎◌, slice_index};
+ghost use Rattle.cd_code.specs.LaneWords.{AreColumns};
 ghost use Rattle.cd_code.specs.Syndrome.{IsCodeWord};
-ghost use Rattle.cd_sector.specs.CodeWords.{AllCodeWords, IsPair, SumsOf, bytes_at, column_input, column_of, diagonal_of, place_of};
+ghost use Rattle.cd_sector.specs.CodeWords.{AllCodeWords, PairsPut, bytes_at, column_input, column_of, diagonal_of, place_of};
 
-use crate::diagonals::diagonal_input_sums;
+use crate::diagonals::{high_input_sums, low_input_sums};
 use crate::sector::{SECTOR_SIZE, Sector};
-use cd_code::{ColumnSums, pair_from, row_sums};
+use cd_code::{ColumnLanes, LaneSums, column_lanes, put_lanes};
 
 /// The number of P columns over both planes.
 pub(crate) const COLUMNS: usize = 86;
@@ -46,8 +47,10 @@ fn fill_columns(bytes: &mut [u8; SECTOR_SIZE])
     ensures words { (i : ℕ) → i < 86 → IsCodeWord (column_of bytes.new i) }
     ensures stays { (k : ℕ) → (k < 2076) ⊎ (2248 ≤ k) → slice_index bytes.new k ≡ slice_index bytes.old k }
 {
-    let sums = column_input_sums(bytes);
-    fill_pairs(&sums, P_PARITY, COLUMNS, bytes);
+    let lanes = column_input_lanes(bytes);
+    put_pairs(bytes, P_PARITY, COLUMNS, lanes.front);
+    put_pairs(bytes, P_PARITY + 32, COLUMNS, lanes.middle);
+    put_pairs(bytes, P_PARITY + 54, COLUMNS, lanes.back);
 }
 
 /// Makes the Q parity of each diagonal.
@@ -55,34 +58,29 @@ fn fill_diagonals(bytes: &mut [u8; SECTOR_SIZE])
     ensures words { (i : ℕ) → i < 52 → IsCodeWord (diagonal_of bytes.new i) }
     ensures stays { (k : ℕ) → k < 2248 → slice_index bytes.new k ≡ slice_index bytes.old k }
 {
-    let sums = diagonal_input_sums(bytes);
-    fill_pairs(&sums, Q_PARITY, DIAGONALS, bytes);
+    let low = low_input_sums(bytes);
+    let high = high_input_sums(bytes);
+    put_pairs(bytes, Q_PARITY, DIAGONALS, low);
+    put_pairs(bytes, Q_PARITY + 20, DIAGONALS, high);
 }
 
 /// The syndromes of the 24 bytes of each column in front of its parity.
-fn column_input_sums(bytes: &[u8; SECTOR_SIZE]) -> ColumnSums
-    ensures { SumsOf (λ i. bytes_at bytes.now (column_input (i % 2) (i / 2))) 86 result.plain result.weighted }
+#[inline(always)]
+fn column_input_lanes(bytes: &[u8; SECTOR_SIZE]) -> ColumnLanes
+    ensures { AreColumns (λ i. bytes_at bytes.now (column_input (i % 2) (i / 2))) result }
 {
     let (rows, _) = bytes[12..P_PARITY].as_chunks::<86>();
-    let mut sums = ColumnSums::zero();
-    for row in rows {
-        row_sums(row, &mut sums);
-    }
-    sums
+    column_lanes(rows)
 }
 
-/// Writes the parity of `count` words with these sums: first bytes from place `first` on, then the second ones.
-fn fill_pairs(sums: &ColumnSums, first: usize, count: usize, bytes: &mut [u8; SECTOR_SIZE])
-    requires few { count ≤ 86 }
-    requires room { first + 2 * count ≤ 2352 }
-    ensures pairs { (i : ℕ) → i < count
-        → IsPair (slice_index sums.now.plain i) (slice_index sums.now.weighted i)
-        (slice_index bytes.new (first + i)) (slice_index bytes.new (first + count + i)) }
-    ensures stays { (k : ℕ) → (k < first) ⊎ (first + 2 * count ≤ k) → slice_index bytes.new k ≡ slice_index bytes.old k }
+/// Writes the parity of 32 words with these sums: first bytes from place `at` on, and the second ones `count` places
+/// behind them.
+fn put_pairs(bytes: &mut [u8; SECTOR_SIZE], at: usize, count: usize, sums: LaneSums)
+    requires apart { 32 ≤ count }
+    requires room { at + count + 32 ≤ 2352 }
+    ensures { PairsPut at count sums bytes.old bytes.new }
 {
-    for i in 0..count {
-        let (a, b) = pair_from(sums.plain[i], sums.weighted[i]);
-        bytes[first + i] = a;
-        bytes[first + count + i] = b;
-    }
+    let (first, second) = sums.pairs();
+    put_lanes(bytes, at, first);
+    put_lanes(bytes, at + count, second);
 }

@@ -5,3 +5,4 @@ mod changes;
 mod counts;
 mod reports;
 mod sectors;
+mod single_bytes;

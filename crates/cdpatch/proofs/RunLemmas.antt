@@ -2,9 +2,9 @@
 use Rattle.std.proofs.Common.{◌≡◌, ℕ, ◌+◌, ◌<◌, List, [], length, take, drop, Result, Ok, Err, is_ok, refl, sym, ap, ◌∙◌, inl, inr, append-nil, take-append-drop}
 use Rattle.std.specs.Io.KnownBytes.{Appends, Keeps}
 use Rattle.std.proofs.KnownBytes.{Appends-kept}
-use Rattle.cd_image.specs.Report.{Outgoing}
-use Rattle.cd_image.specs.Transfer.{Counts}
-use Rattle.cd_image.specs.declared.sink.SinkFailed.{SinkFailed}
+use Rattle.cd_stream.specs.Stream.{Outgoing}
+use Rattle.cd_stream.specs.Transfer.{Counts}
+use Rattle.cd_stream.specs.declared.sink.SinkFailed.{SinkFailed}
 use Rattle.cdpatch.specs.Run.{SaysLine}
 
 module _ (line : List ℕ) (before after : Outgoing) where

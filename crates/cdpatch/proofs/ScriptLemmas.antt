@@ -4,7 +4,7 @@ use Rattle.std.proofs.lemmas.List.{length-take-le}
 use Rattle.std.specs.Io.KnownBytes.{Consumes}
 use Rattle.std.specs.Result.{IsErrAnd}
 use Rattle.std.proofs.KnownBytes.{Consumes-trans}
-use Rattle.cd_image.specs.Report.{Incoming}
+use Rattle.cd_stream.specs.Stream.{Incoming}
 use Rattle.cdpatch.specs.ScriptLines.{Gathers, Stops}
 use Rattle.cdpatch.specs.declared.script.LoadFault.{LoadFault}
 use Rattle.cdpatch.specs.declared.script.LoadFault.TheVariants.{NoMemory}

@@ -1,10 +1,10 @@
 -- What reading a script does: the line of each fault, and what came of the file.
 use Rattle.std.specs.Prelude.{◌≡◌, ◌≢◌, ℕ, ◌+◌, ◌≤◌, ◌⊎◌, List, ◌++◌, length, codes, decimal, Result, Ok, Err, OnErr}
 use Rattle.std.specs.Io.KnownBytes.{Consumes, IsAtEnd}
-use Rattle.cd_image.specs.Report.{Incoming, Outgoing}
+use Rattle.cd_stream.specs.Stream.{Incoming, Outgoing}
 use Rattle.cd_script.specs.declared.fault.ScriptFault.{ScriptFault}
 use Rattle.cd_script.specs.declared.fault.ScriptFault.TheVariants as script_fault
-use Rattle.cd_script.specs.declared.line.TheConstants.{MAX_TEXT}
+use Rattle.cd_script.specs.declared.script.TheConstants.{MAX_TEXT}
 use Rattle.cdpatch.specs.Run.{SaysLine}
 use Rattle.cdpatch.specs.declared.script.LoadFault.{LoadFault}
 use Rattle.cdpatch.specs.declared.script.LoadFault.TheVariants.{Read, TooLong, NoMemory}

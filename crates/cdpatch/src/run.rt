@@ -1,13 +1,17 @@
 //! The commands: a call on an image, then the line of its fault, and the status.
 
 ghost use Rattle.std.specs.Prelude.{◌≡◌, ◌≢◌, ◌<◌, ◌≤◌};
-ghost use Rattle.cd_image.specs.AuditText.{audit_tally, audit_text};
-ghost use Rattle.cd_image.specs.ListText.{list_tally, list_text};
-ghost use Rattle.cd_image.specs.Report.{incoming, outgoing};
-ghost use Rattle.cd_image.specs.Transfer.{Counts};
-ghost use Rattle.cdpatch.specs.Run.{Runs, SaysFault, SaysLine, audit_status, fault_line};
+ghost use Rattle.cd_image.specs.Applying.{Applies, Checks, streams};
+ghost use Rattle.cd_image.specs.AuditText.{auditing};
+ghost use Rattle.cd_image.specs.ListText.{listing};
+ghost use Rattle.cd_image.specs.Report.{Reports};
+ghost use Rattle.cd_stream.specs.Transfer.{Counts};
+ghost use Rattle.cdpatch.specs.Run.{Runs, SaysFault, SaysLine, audit_status, fault_line, script_status};
 
-use cd_image::{Fault, MAX_BASE, Sink, SinkFailed, Source, audit, list, write_all};
+use cd_image::{
+    Fault, MAX_BASE, Sink, SinkFailed, Source, Tally, apply, audit, check, list, write_all,
+};
+use cd_script::Script;
 
 /// The status of a job that is done.
 pub const DONE: u8 = 0;
@@ -15,14 +19,17 @@ pub const DONE: u8 = 0;
 /// The status of an audit that told of a sector.
 pub const FOUND: u8 = 1;
 
+/// The status of a script of which a patch was refused.
+pub const REFUSED: u8 = 1;
+
 /// The status of a fault or of words that are refused.
 pub const FAILED: u8 = 2;
 
 /// Writes a line of the program's own and passes it on.
 pub fn say<O: Sink>(line: &[u8], out: &mut O) -> Result<(), SinkFailed>
-    requires { O.failures out.old < 4294967295 }
-    ensures line { SaysLine line.now (outgoing O.written O.failures O.finished out.old) (outgoing O.written O.failures O.finished out.new) }
-    ensures count { Counts (O.failures out.old) (O.failures out.new) result }
+    requires { (O.seen out.old).failures < 4294967295 }
+    ensures line { SaysLine line.now (O.seen out.old) (O.seen out.new) }
+    ensures count { Counts (O.seen out.old).failures (O.seen out.new).failures result }
 {
     write_all(out, line)?;
     out.finish()
@@ -34,38 +41,36 @@ fn line_of(fault: Fault) -> &'static [u8]
 {
     match fault {
         Fault::Read => b"cdpatch: reading the image failed\n",
-        Fault::Write => b"",
+        Fault::Write => b"cdpatch: writing the output failed\n",
+        Fault::Log => b"",
         Fault::TooLong => b"cdpatch: the image has more than 1000000 sectors\n",
     }
 }
 
-/// Writes the line of a fault. A sink that has failed gets none.
-fn say_fault<O: Sink>(fault: Fault, out: &mut O)
-    requires { fault ≢ Fault.Write → O.failures out.old < 4294967295 }
-    ensures { SaysFault fault (outgoing O.written O.failures O.finished out.old) (outgoing O.written O.failures O.finished out.new) }
+/// Writes the line of a fault, and answers the status. The sink whose `own` fault it is gets none.
+fn end_by<O: Sink>(fault: Fault, own: Fault, out: &mut O) -> u8
+    requires { fault ≢ own → (O.seen out.old).failures < 4294967295 }
+    ensures line { SaysFault own fault (O.seen out.old) (O.seen out.new) }
+    ensures status { result ≡ 2 }
 {
-    if fault == Fault::Write {
-        return;
+    if fault != own {
+        let _ = say(line_of(fault), out);
     }
-    let _ = say(line_of(fault), out);
+    FAILED
 }
 
 /// Lists an image to `out`, of which the first block has the number `base`, and answers the status: 0, or 2
 /// behind the line of a fault.
 pub fn run_list<I: Source, O: Sink>(image: &mut I, base: u32, out: &mut O) -> u8
     requires base { base ≤ MAX_BASE }
-    requires image_countable { I.failures image.old < 4294967295 }
-    requires out_countable { O.failures out.old < 4294967295 }
-    ensures { Runs (list_text base) list_tally (λ _. DONE)
-        (incoming I.rest I.failures image.old) (incoming I.rest I.failures image.new)
-        (outgoing O.written O.failures O.finished out.old) (outgoing O.written O.failures O.finished out.new) result }
+    requires image_countable { (I.seen image.old).failures < 4294967295 }
+    requires out_countable { (O.seen out.old).failures < 4294967295 }
+    ensures { Runs (λ out' answer. Reports (listing base) (I.seen image.old) (I.seen image.new) (O.seen out.old) out' answer)
+        Fault.Write (λ _. DONE) (O.seen out.new) result }
 {
     match list(image, base, out) {
         Ok(_) => DONE,
-        Err(fault) => {
-            say_fault(fault, out);
-            FAILED
-        }
+        Err(fault) => end_by(fault, Fault::Write, out),
     }
 }
 
@@ -73,17 +78,58 @@ pub fn run_list<I: Source, O: Sink>(image: &mut I, base: u32, out: &mut O) -> u8
 /// it told of a sector, or 2 behind the line of a fault.
 pub fn run_audit<I: Source, O: Sink>(image: &mut I, base: u32, out: &mut O) -> u8
     requires base { base ≤ MAX_BASE }
-    requires image_countable { I.failures image.old < 4294967295 }
-    requires out_countable { O.failures out.old < 4294967295 }
-    ensures { Runs (audit_text base) (audit_tally base) audit_status
-        (incoming I.rest I.failures image.old) (incoming I.rest I.failures image.new)
-        (outgoing O.written O.failures O.finished out.old) (outgoing O.written O.failures O.finished out.new) result }
+    requires image_countable { (I.seen image.old).failures < 4294967295 }
+    requires out_countable { (O.seen out.old).failures < 4294967295 }
+    ensures { Runs (λ out' answer. Reports (auditing base) (I.seen image.old) (I.seen image.new) (O.seen out.old) out' answer)
+        Fault.Write audit_status (O.seen out.new) result }
 {
     match audit(image, base, out) {
         Ok(tally) => { if tally.findings == 0 { DONE } else { FOUND } }
-        Err(fault) => {
-            say_fault(fault, out);
-            FAILED
-        }
+        Err(fault) => end_by(fault, Fault::Write, out),
+    }
+}
+
+/// The status of a script that was taken to its end.
+fn status_of(tally: &Tally) -> u8
+    ensures { result ≡ script_status tally.now }
+{
+    if tally.refused == 0 { DONE } else { REFUSED }
+}
+
+/// Decides each patch of a script on an image, and tells of it to `log`: the answer is the status, 0, 1 where a
+/// patch is refused, or 2 behind the line of a fault. A log that has failed gets no line.
+pub fn run_check<I: Source, L: Sink>(image: &mut I, script: &Script, base: u32, log: &mut L) -> u8
+    requires base { base ≤ MAX_BASE }
+    requires image_countable { (I.seen image.old).failures < 4294967295 }
+    requires log_countable { (L.seen log.old).failures < 4294967295 }
+    ensures { Runs (λ log' answer. Checks script.now base (I.seen image.old) (I.seen image.new) (L.seen log.old) log' answer)
+        Fault.Log script_status (L.seen log.new) result }
+{
+    match check(image, script, base, log) {
+        Ok(tally) => status_of(&tally),
+        Err(fault) => end_by(fault, Fault::Log, log),
+    }
+}
+
+/// Patches an image to `out`, and tells of each patch to `log`: the answer is the status, 0, 1 where a patch is
+/// refused, or 2 behind the line of a fault. A log that has failed gets no line.
+pub fn run_apply<I: Source, O: Sink, L: Sink>(
+    image: &mut I,
+    script: &Script,
+    base: u32,
+    out: &mut O,
+    log: &mut L,
+) -> u8
+    requires base { base ≤ MAX_BASE }
+    requires image_countable { (I.seen image.old).failures < 4294967295 }
+    requires out_countable { (O.seen out.old).failures < 4294967295 }
+    requires log_countable { (L.seen log.old).failures < 4294967295 }
+    ensures { Runs (λ log' answer. Applies script.now base (streams (I.seen image.old) (O.seen out.old) (L.seen log.old))
+        (streams (I.seen image.new) (O.seen out.new) log') answer)
+        Fault.Log script_status (L.seen log.new) result }
+{
+    match apply(image, script, base, out, log) {
+        Ok(tally) => status_of(&tally),
+        Err(fault) => end_by(fault, Fault::Log, log),
     }
 }

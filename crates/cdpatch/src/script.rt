@@ -1,7 +1,6 @@
 //! Scripts: how the file of one is read, what its text says, and the line of a fault.
 
 ghost use Rattle.std.specs.Prelude.{◌≡◌, ◌≢◌, ◌+◌, ◌<◌, ◌≤◌, List, Ok, Err, IfOk, IfErr, IfSome, OnOk, OnErr, length};
-ghost use Rattle.cd_image.specs.Report.{incoming, outgoing};
 ghost use Rattle.cd_script.specs.Order.{order};
 ghost use Rattle.cd_script.specs.Script.{script};
 ghost use Rattle.cd_script.specs.declared.fault.ScriptFault.{ScriptFault};
@@ -90,8 +89,8 @@ fn line_of(fault: ScriptFault) -> Line
 
 /// Says the line of a fault, and answers the status.
 fn refused<L: Sink>(line: &[u8], log: &mut L) -> u8
-    requires { L.failures log.old < 4294967295 }
-    ensures line { SaysLine line.now (outgoing L.written L.failures L.finished log.old) (outgoing L.written L.failures L.finished log.new) }
+    requires { (L.seen log.old).failures < 4294967295 }
+    ensures line { SaysLine line.now (L.seen log.old) (L.seen log.new) }
     ensures status { result ≡ 2 }
 {
     let _ = say(line, log);
@@ -102,12 +101,12 @@ fn refused<L: Sink>(line: &[u8], log: &mut L) -> u8
 /// answer is the status 2.
 pub fn read_script<L: Sink>(alloc: Global, text: &[u8], log: &mut L) -> Result<Script, u8>
     requires size { length text.now ≤ MAX_TEXT }
-    requires countable { L.failures log.old < 4294967295 }
+    requires countable { (L.seen log.old).failures < 4294967295 }
     ensures script { IfOk result (λ s. (ps : List Patch) × (script text.now ≡ Ok ps) × (s ≡ order ps)) }
-    ensures nothing_said { OnOk result (outgoing L.written L.failures L.finished log.new ≡ outgoing L.written L.failures L.finished log.old) }
+    ensures nothing_said { OnOk result (L.seen log.new ≡ L.seen log.old) }
     ensures status { IfErr result (λ status. status ≡ 2) }
     ensures line { OnErr result ((fault : ScriptFault) × (fault ≢ NoMemory → script text.now ≡ Err fault)
-        × SaysLine (script_line fault) (outgoing L.written L.failures L.finished log.old) (outgoing L.written L.failures L.finished log.new)) }
+        × SaysLine (script_line fault) (L.seen log.old) (L.seen log.new)) }
 {
     match parse(alloc, text) {
         Ok(script) => Ok(script),
@@ -117,8 +116,8 @@ pub fn read_script<L: Sink>(alloc: Global, text: &[u8], log: &mut L) -> Result<S
 
 /// The bytes of a script's file, to its end.
 fn read_all<I: Source>(alloc: Global, file: &mut I) -> Result<Vec<u8>, LoadFault>
-    requires { I.failures file.old < 4294967295 }
-    ensures { Gathers (λ bytes. bytes.items) (incoming I.rest I.failures file.old) (incoming I.rest I.failures file.new) result }
+    requires { (I.seen file.old).failures < 4294967295 }
+    ensures { Gathers (λ bytes. bytes.items) (I.seen file.old) (I.seen file.new) result }
 {
     let mut bytes = Vec::new(alloc);
     let mut chunk = [0; CHUNK_SIZE];
@@ -155,15 +154,13 @@ pub fn load_script<I: Source, L: Sink>(
     file: &mut I,
     log: &mut L,
 ) -> Result<Vec<u8>, u8>
-    requires file_countable { I.failures file.old < 4294967295 }
-    requires log_countable { L.failures log.old < 4294967295 }
-    ensures loads { Loads (λ bytes. bytes.items) (incoming I.rest I.failures file.old) (incoming I.rest I.failures file.new)
-        (outgoing L.written L.failures L.finished log.old) (outgoing L.written L.failures L.finished log.new) result }
-    ensures whole { IfOk result (λ bytes. IfSome (I.rest file.old) (λ all. bytes.items ≡ all)) }
+    requires file_countable { (I.seen file.old).failures < 4294967295 }
+    requires log_countable { (L.seen log.old).failures < 4294967295 }
+    ensures loads { Loads (λ bytes. bytes.items) (I.seen file.old) (I.seen file.new) (L.seen log.old) (L.seen log.new) result }
+    ensures whole { IfOk result (λ bytes. IfSome (I.seen file.old).rest (λ all. bytes.items ≡ all)) }
     ensures within { IfOk result (λ bytes. length bytes.items ≤ MAX_TEXT) }
-    ensures nothing_said { OnOk result (outgoing L.written L.failures L.finished log.new ≡ outgoing L.written L.failures L.finished log.old) }
-    ensures failed_reads { TellsFailedReads (incoming I.rest I.failures file.old) (incoming I.rest I.failures file.new)
-        (outgoing L.written L.failures L.finished log.old) (outgoing L.written L.failures L.finished log.new) result }
+    ensures nothing_said { OnOk result (L.seen log.new ≡ L.seen log.old) }
+    ensures failed_reads { TellsFailedReads (I.seen file.old) (I.seen file.new) (L.seen log.old) (L.seen log.new) result }
 {
     match read_all(alloc, file) {
         Ok(bytes) => Ok(bytes),

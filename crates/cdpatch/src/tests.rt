@@ -1,4 +1,6 @@
 //! Whole calls, at concrete sources and sinks.
 
+mod patching;
 mod run;
 mod script;
+mod statuses;

@@ -38,16 +38,41 @@ fn register_word(bytes: &[u8]) -> u32 {
     register
 }
 
-#[test]
-fn long_lists_against_the_register(rt: HostRuntime) {
+/// Bytes without a pattern.
+fn noise() -> [u8; 5003] {
     let mut bytes = [0u8; 5003];
     let mut byte = 1u8;
     for place in bytes.iter_mut() {
         byte = byte.wrapping_mul(77).wrapping_add(29) ^ (byte >> 5);
         *place = byte;
     }
-    for length in [1, 7, 8, 9, 15, 16, 17, 4996, 5000, 5003] {
+    bytes
+}
+
+#[test]
+fn every_short_length_against_the_register(rt: HostRuntime) {
+    let bytes = noise();
+    for length in 0..=200 {
         let list = &bytes[..length];
         assert_eq!(rt; edc_of(list), register_word(list), "{length} bytes");
+    }
+}
+
+#[test]
+fn long_lists_against_the_register(rt: HostRuntime) {
+    let bytes = noise();
+    for length in [2063, 2064, 2065, 4996, 5000, 5003] {
+        let list = &bytes[..length];
+        assert_eq!(rt; edc_of(list), register_word(list), "{length} bytes");
+    }
+}
+
+#[test]
+fn single_bits_of_a_sector_against_the_register(rt: HostRuntime) {
+    let mut bytes = [0u8; 2064];
+    for place in 0..2064 {
+        bytes[place] = 1 << (place % 8);
+        assert_eq!(rt; edc_of(&bytes), register_word(&bytes), "byte {place}");
+        bytes[place] = 0;
     }
 }

@@ -106,6 +106,31 @@ fn ranges_of_encoded_sectors(rt: HostRuntime) {
     }
 }
 
+/// `len` new bytes behind the first old one, against the sector that is encoded with them.
+fn change_against_encode(rt: &impl Abort, old: &[u8; 2048], new: &[u8; 2048], len: usize)
+    requires { len < 2048 }
+{
+    let mut user = *old;
+    user[1..1 + len].copy_from_slice(&new[..len]);
+    let mut s = encode(HEADER, old);
+    change(rt, &mut s, 1, &new[..len]);
+    assert!(rt; s == encode(HEADER, &user), "{len} bytes");
+}
+
+#[test]
+fn lengths_near_the_one_that_takes_a_difference_sector(rt: HostRuntime) {
+    let mut random = Random { state: 0x6C07_8965 };
+    let old = random.bytes();
+    let new = random.bytes();
+    change_against_encode(&rt, &old, &new, 0);
+    change_against_encode(&rt, &old, &new, 39);
+    change_against_encode(&rt, &old, &new, 40);
+    change_against_encode(&rt, &old, &new, 41);
+    change_against_encode(&rt, &old, &new, 111);
+    change_against_encode(&rt, &old, &new, 112);
+    change_against_encode(&rt, &old, &new, 2047);
+}
+
 #[test]
 fn ranges_of_damaged_sectors(rt: HostRuntime) {
     let mut random = Random { state: 0x9E37_79B9 };

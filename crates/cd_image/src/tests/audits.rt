@@ -35,7 +35,7 @@ fn flip(sector: &mut Sector, place: usize) {
 fn expect(rt: &impl Abort, bytes: &[u8], base: u32, text: &str)
     requires { base ≤ MAX_BASE }
 {
-    for most in [1, 2351, 1_000_000] {
+    for most in [1, 2, 2351, 2353, 1_000_000] {
         let mut space = [0; 256];
         let mut source = Short::new(SliceSource::new(bytes), most);
         let mut sink = Short::new(SliceSink::new(&mut space), most);
@@ -232,5 +232,13 @@ fn failing(rt: HostRuntime) {
         &damaged,
         "0 zeros p=1 q=1\nsectors 1 mode1 1 damaged 1 tail 0\n",
         16,
+    );
+    let mut damaged = zeros_at(0);
+    flip(&mut damaged, 2062);
+    fails_everywhere(
+        &rt,
+        &damaged,
+        "0 edc p=1 q=1\nsectors 1 mode1 1 damaged 1 tail 0\n",
+        14,
     );
 }

@@ -1,8 +1,9 @@
 //! The largest images, endless ones, and std's readers and writers.
 
 use crate::{
-    Fault, FromRead, ListTally, Sink, SinkFailed, SliceSink, Source, ToWrite, ZeroSource, audit,
-    images_are_cut, list, runs_spell_kinds,
+    Fault, FromRead, ListTally, Sink, SliceSink, Source, ToWrite, ZeroSource, audit,
+    audit_counts_lines, images_are_cut, list, patched_exists, patched_is_determined,
+    runs_spell_kinds,
 };
 use std::io::{self, Write};
 use std::test::Fail;
@@ -76,16 +77,19 @@ impl Write for Full {
 #[test]
 fn a_writer_that_takes_nothing(rt: HostRuntime) {
     let mut sink = ToWrite::new(Full);
-    assert_eq!(rt; sink.write(b"a"), Err(SinkFailed));
-    assert_eq!(rt; sink.failures(), 1);
-    assert!(rt; !sink.finished());
     let answer = list(&mut ZeroSource::new(0), 0, &mut sink);
+    assert_eq!(rt; answer, Err(Fault::Write));
+    assert_eq!(rt; sink.failures(), 1);
+    let answer = audit(&mut ZeroSource::new(0), 0, &mut sink);
     assert_eq!(rt; answer, Err(Fault::Write));
     assert_eq!(rt; sink.failures(), 2);
 }
 
 #[test]
 fn laws(_rt: HostRuntime) {
+    audit_counts_lines();
     images_are_cut();
     runs_spell_kinds();
+    patched_is_determined();
+    patched_exists();
 }

@@ -95,6 +95,29 @@ fn places_of_faults(rt: HostRuntime) -> Result<(), Fail> {
     Ok(())
 }
 
+/// Space and tab alone stand between words, and no other byte that looks like a space.
+#[test]
+fn other_spaces(rt: HostRuntime) -> Result<(), Fail> {
+    for (line, want) in [
+        ("rebuild\u{b}0", ScriptFault::Verb(2)),
+        ("rebuild\u{c}0", ScriptFault::Verb(2)),
+        ("rebuild 0\u{b}", ScriptFault::Number(2)),
+        ("rebuild 0\0", ScriptFault::Number(2)),
+        ("rebuild 0 \u{c}", ScriptFault::Words(2)),
+        ("set 0 0 41\u{a0}", ScriptFault::Hex(2)),
+        ("\u{b}", ScriptFault::Verb(2)),
+        ("\u{b}# x", ScriptFault::Verb(2)),
+    ] {
+        let text = format!(in rt.alloc(); "cdpatch 1\n{line}\n")?;
+        assert_eq!(rt;
+            fault_of(&rt, rt.alloc(), text.as_bytes()),
+            Some(want),
+            "{line}"
+        );
+    }
+    Ok(())
+}
+
 /// The first faulty line decides, and blank lines and comments count.
 #[test]
 fn first_faulty_line(rt: HostRuntime) {

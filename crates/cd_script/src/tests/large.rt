@@ -66,6 +66,25 @@ fn long_words(rt: HostRuntime) -> Result<(), Fail> {
     Ok(())
 }
 
+/// Line 2 is `set 0 0 NEW was OLD`, of so many bytes each.
+#[test]
+fn long_old_bytes(rt: HostRuntime) -> Result<(), Fail> {
+    for (new, old, want) in [
+        (4096, 4096, None),
+        (4096, 4095, Some(ScriptFault::Length(2))),
+        (4096, 4097, Some(ScriptFault::Length(2))),
+        (4097, 4097, Some(ScriptFault::Length(2))),
+    ] {
+        let mut text = Vec::new(rt.alloc());
+        text.extend_from_slice(b"cdpatch 1\nset 0 0 ".as_slice())?;
+        repeat(&mut text, b"41".as_slice(), new)?;
+        text.extend_from_slice(b" was ".as_slice())?;
+        repeat(&mut text, b"42".as_slice(), old)?;
+        assert_eq!(rt; fault_of(&rt, rt.alloc(), &text), want, "{new} and {old}");
+    }
+    Ok(())
+}
+
 /// The longest texts: as many bytes 0, and as many line feeds.
 #[test]
 fn longest_texts(rt: HostRuntime) -> Result<(), Fail> {

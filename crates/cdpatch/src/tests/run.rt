@@ -10,7 +10,7 @@ const LISTED: &str = "0-0 nosync\nsectors 1 tail 0\n";
 const READ_LINE: &str = "cdpatch: reading the image failed\n";
 
 /// Whether the sink's memory begins with these texts, one behind the other, and has nothing more.
-fn expect(rt: &impl Abort, space: &[u8], first: &str, second: &str) {
+pub fn expect(rt: &impl Abort, space: &[u8], first: &str, second: &str) {
     let bytes = first.as_bytes().iter().chain(second.as_bytes().iter());
     assert!(rt;
         space.iter().zip(bytes).all(|(a, b)| *a == *b),

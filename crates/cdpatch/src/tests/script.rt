@@ -8,7 +8,7 @@ use std::process::Abort;
 use std::test::Fail;
 
 /// Whether the bytes are this line, and 00 behind it.
-fn is_line(space: &[u8], line: &str) -> bool {
+pub fn is_line(space: &[u8], line: &str) -> bool {
     space.starts_with(line.as_bytes()) && space.iter().skip(line.len()).all(|byte| *byte == 0)
 }
 
@@ -36,7 +36,7 @@ fn reads_as(rt: &impl Abort, alloc: Global, text: &[u8], line: &str) -> bool {
 }
 
 /// A text, and so many copies of a part behind it.
-fn repeated(alloc: Global, text: &str, part: &str, count: u32) -> Result<Vec<u8>, AllocError> {
+pub fn repeated(alloc: Global, text: &str, part: &str, count: u32) -> Result<Vec<u8>, AllocError> {
     let mut all = Vec::new(alloc);
     all.extend_from_slice(text.as_bytes())?;
     for _ in 0..count {

@@ -1,43 +1,32 @@
-use Rattle.std.proofs.Common.{◌≡◌, ℕ, ◌+◌, ◌*◌, ◌/◌, ◌%◌, ◌≤◌, List, ◌∷◌, [], ◌++◌, length, take, drop, get_or, ap, ◌∙◌, arith}
-use Rattle.std.proofs.lemmas.List.{take_more, take_all, get_or-drop}
-use Rattle.cd_code.proofs.EdcLemmas.{IsEdc-nil, IsEdc-unique}
+use Rattle.std.proofs.Common.{◌≡◌, ℕ, ◌*◌, ◌/◌, List, [], ◌++◌, length, take, drop, get_or, ap, ◌∙◌, arith}
+use Rattle.std.proofs.lemmas.List.{take-append-drop}
+use Rattle.cd_code.specs.Edc.{IsEdc}
+use Rattle.cd_code.proofs.EdcLemmas.{IsEdc-nil, IsEdc-same_front, IsEdc-unique}
 use Rattle.cd_code.proofs.ListLemmas.{get_or-first_chunks, take-chunks}
 use Rattle.cd_code.proofs.edc.edc_of.Goals as goal
 
-pub loop-eight-init : goal.loop-eight-init
-loop-eight-init c = IsEdc-nil
-
-pub loop-eight-preserved : goal.loop-eight-preserved
-loop-eight-preserved c =
+pub loop-block-preserved : goal.loop-block-preserved
+loop-block-preserved c =
     let b = c.args.bytes.now in
-    let i = c.loop-eight.eight-index in
-    let chunk_is : (d : List ℕ) → get_or c.as_chunks.result.0.now i d ≡ take 8 (drop (i * 8) b) =
-    λ d. ap (λ z. get_or z i d) c.as_chunks.ensures.front ∙ get_or-first_chunks 8 (length b / 8) b d i (omega (arith, c.as_chunks.ensures.front_len)) in
-    rw (take-chunks 8 i b) (rw chunk_is at (c.with_eight-word.ensures (take (i * 8) b) c.loop-eight.invariant))
+    let i = c.loop-block.block-index in
+    let chunk_is : (d : List ℕ) → get_or c.as_chunks.result.0.now i d ≡ take 64 (drop (i * 64) b) =
+    λ d. ap (λ z. get_or z i d) c.as_chunks.ensures.front ∙ get_or-first_chunks 64 (length b / 64) b d i (omega (arith, c.as_chunks.ensures.front_len)) in
+    rw (take-chunks 64 i b) (rw chunk_is at (c.with_block-folded.ensures (take (i * 64) b) c.loop-block.invariant))
 
-pub loop-byte-preserved : goal.loop-byte-preserved
-loop-byte-preserved c =
+is_word : (c : goal.After-with_bytes-3) → IsEdc c.args.bytes.now c.with_bytes-3.result
+is_word c =
     let b = c.args.bytes.now in
-    let n = length b / 8 * 8 in
-    let i = c.loop-byte.byte-index in
-    let left : length c.as_chunks.result.1.now ≡ length b % 8 = c.as_chunks.ensures.back_len in
-    let byte_is : get_or c.as_chunks.result.1.now i 0 ≡ get_or b (n + i) 0 =
-    ap (λ z. get_or z i 0) c.as_chunks.ensures.back ∙ get_or-drop n b i 0 in
-    let longer : take (n + (i + 1)) b ≡ take (n + i) b ++ get_or b (n + i) 0 ∷ [] =
-    (let e : n + (i + 1) ≡ n + i + 1 = omega arith in ap (λ k. take k b) e) ∙ take_more b (n + i) 0 (omega arith) in
-    rw longer (rw byte_is at (c.with_byte-word.ensures (take (n + i) b) c.loop-byte.invariant))
-
-whole : (b : List ℕ) (i n : ℕ) → n ≡ length b % 8 → n ≤ i → take (length b / 8 * 8 + i) b ≡ b
-whole b i n e h = take_all (length b / 8 * 8 + i) b (omega arith)
+    let i = c.loop-block.block-index in
+    let rest = c.as_chunks.result.1.now in
+    let halves = c.halves.result.0 ++ c.halves.result.1 in
+    let last : length b / 64 * 64 ≡ i * 64 = (let e : length b / 64 ≡ i = omega (arith, c.as_chunks.ensures.front_len) in ap (λ k. k * 64) e) in
+    let whole : take (i * 64) b ++ rest ≡ b =
+    ap (λ z. take (i * 64) b ++ z) (c.as_chunks.ensures.back ∙ ap (λ k. drop k b) last) ∙ take-append-drop (i * 64) b in
+    IsEdc-same_front (take (i * 64) b) halves rest b c.with_bytes-3.result (c.halves.ensures (take (i * 64) b) c.loop-block.invariant) whole
+    (c.with_bytes-3.ensures halves (c.with_bytes-2.ensures c.halves.result.0 (c.with_bytes.ensures [] IsEdc-nil)))
 
 pub returns-clause-alone : goal.returns-clause-alone
-returns-clause-alone c = λ w h.
-    let b = c.args.bytes.now in
-    let all = whole b c.loop-byte.byte-index (length c.as_chunks.result.1.now) c.as_chunks.ensures.back_len c.loop-byte-test.false in
-    IsEdc-unique b w c.loop-byte.word h (rw all at c.loop-byte.invariant)
+returns-clause-alone c = λ w h. IsEdc-unique c.args.bytes.now w c.with_bytes-3.result h (is_word c)
 
 pub returns-clause-word : goal.returns-clause-word
-returns-clause-word c =
-    let b = c.args.bytes.now in
-    let all = whole b c.loop-byte.byte-index (length c.as_chunks.result.1.now) c.as_chunks.ensures.back_len c.loop-byte-test.false in
-    rw all at c.loop-byte.invariant
+returns-clause-word c = is_word c

@@ -1,19 +1,10 @@
 use Rattle.std.proofs.Common.{◌≡◌, length, ap, ◌∙◌}
 use Rattle.std.specs.Simd.Lanes.{chunk}
 use Rattle.std.proofs.lemmas.List.{length-map}
-use Rattle.std.proofs.lemmas.Simd.{length-chunk, chunk-fits, below_from_Fits}
+use Rattle.std.proofs.lemmas.Simd.{length-chunk}
 use Rattle.cd_code.specs.Field.{double}
 use Rattle.cd_code.proofs.LaneLemmas.{lanes_added, lanes_below, lanes_above}
 use Rattle.cd_code.proofs.lanes.double_and_add_lanes.Goals as goal
-use mir.Syntax.{w8}
-
-pub doubled_lanes-requires-clause-lanes : goal.doubled_lanes-requires-clause-lanes
-doubled_lanes-requires-clause-lanes c = length-chunk c.args.at 32 c.args.sums.now c.requires.within_sums
-
-pub doubled_lanes-requires-clause-bytes : goal.doubled_lanes-requires-clause-bytes
-doubled_lanes-requires-clause-bytes c =
-    let lanes = chunk c.args.at 32 c.args.sums.now in
-    below_from_Fits w8 lanes (chunk-fits w8 c.args.at 32 c.args.sums.now c.type_inv.sums)
 
 pub returns-clause-added : goal.returns-clause-added
 returns-clause-added c =

@@ -4,13 +4,14 @@ use Rattle.std.specs.Str.Parse.{ParsesUnsigned, ExplainsUnsignedError, HasUnsign
 use Rattle.clap.specs.Words.{Text, found_of, one_text, without_minus}
 use Rattle.clap.proofs.CallerReads.{signed_reads}
 use Rattle.clap.proofs.WalkLemmas.{one_text-rows}
+use Rattle.cd_command.specs.CommandLine.{max_base}
 use Rattle.cd_command.proofs.asked.base_of.Goals as goal
 
 pub unwrap-requires : goal.unwrap-requires
 unwrap-requires c =
     let text : one_text (found_of c.args.matches.now) (codes "base") ≡ Some (without_minus c.requires.text) =
     one_text-rows (found_of c.args.matches.now) (codes "base") ∙ c.requires.read in
-    let got = signed_reads _ (λ bs r. ParsesUnsigned 32 10 bs r × ExplainsUnsignedError 10 bs r × HasUnsignedDigitsIfOk bs r) 32 0 449849 c.requires.text c.get_one.result
+    let got = signed_reads _ (λ bs r. ParsesUnsigned 32 10 bs r × ExplainsUnsignedError 10 bs r × HasUnsignedDigitsIfOk bs r) 32 0 max_base c.requires.text c.get_one.result
     (c.get_one.ensures.value (without_minus c.requires.text) text) (λ u x g. g.0) (omega arith) c.requires.accepted in
     rw got.1 refl
 
@@ -26,7 +27,7 @@ pub returns-clause-most : goal.returns-clause-most
 returns-clause-most c =
     let text : one_text (found_of c.args.matches.now) (codes "base") ≡ Some (without_minus c.requires.text) =
     one_text-rows (found_of c.args.matches.now) (codes "base") ∙ c.requires.read in
-    let got = signed_reads _ (λ bs r. ParsesUnsigned 32 10 bs r × ExplainsUnsignedError 10 bs r × HasUnsignedDigitsIfOk bs r) 32 0 449849 c.requires.text c.get_one.result
+    let got = signed_reads _ (λ bs r. ParsesUnsigned 32 10 bs r × ExplainsUnsignedError 10 bs r × HasUnsignedDigitsIfOk bs r) 32 0 max_base c.requires.text c.get_one.result
     (c.get_one.ensures.value (without_minus c.requires.text) text) (λ u x g. g.0) (omega arith) c.requires.accepted in
     let is = got.1 in
     let same : c.unwrap.result ≡ got.0 = cc (is, c.unwrap.ensures) in

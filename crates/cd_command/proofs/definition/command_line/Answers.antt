@@ -2,7 +2,7 @@ use Rattle.std.proofs.Common.{◌≡◌, ◌∙◌, ap, ap₂, true, [], codes}
 use Rattle.std.proofs.lemmas.Result.{IfOk-weaker}
 use Rattle.clap.specs.Words.{App, Shape, app_of, new_app, with_subcommand}
 use Rattle.clap.specs.Simple.{app_of_fields, on_top}
-use Rattle.cd_command.specs.CommandLine.{command_line, image_shape, program_shape}
+use Rattle.cd_command.specs.CommandLine.{check_shape, command_line, image_shape, program_shape}
 use Rattle.cd_command.proofs.definition.command_line.Goals as goal
 
 abbrev without_binary_name : App → App
@@ -31,5 +31,9 @@ returns c =
     ap app_of_fields c.subcommand_required.ensures ∙ ap with_required helpless in
     let listing : app_of c.in_ok-subcommand.field-0 ≡ with_subcommand bare (image_shape (codes "list")) =
     c.in_ok-subcommand.ensures.shape c.in_ok-list_command.ensures.local ∙ ap₂ with_subcommand program c.in_ok-list_command.ensures.shape in
-    IfOk-weaker c.subcommand-2.result _ _ (λ d added. added.shape c.in_ok-audit_command.ensures.local
-    ∙ ap₂ with_subcommand listing c.in_ok-audit_command.ensures.shape) c.subcommand-2.ensures
+    let auditing : app_of c.in_ok-subcommand-2.field-0 ≡ with_subcommand (with_subcommand bare (image_shape (codes "list"))) (image_shape (codes "audit")) =
+    c.in_ok-subcommand-2.ensures.shape c.in_ok-audit_command.ensures.local ∙ ap₂ with_subcommand listing c.in_ok-audit_command.ensures.shape in
+    let checking : app_of c.in_ok-subcommand-3.field-0 ≡ with_subcommand (with_subcommand (with_subcommand bare (image_shape (codes "list"))) (image_shape (codes "audit"))) check_shape =
+    c.in_ok-subcommand-3.ensures.shape c.in_ok-check_command.ensures.local ∙ ap₂ with_subcommand auditing c.in_ok-check_command.ensures.shape in
+    IfOk-weaker c.subcommand-4.result _ _ (λ d added. added.shape c.in_ok-apply_command.ensures.local
+    ∙ ap₂ with_subcommand checking c.in_ok-apply_command.ensures.shape) c.subcommand-4.ensures

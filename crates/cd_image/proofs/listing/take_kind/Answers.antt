@@ -8,16 +8,16 @@ use Rattle.cd_image.proofs.listing.take_kind.Goals as goal
 pub returns-then-eq-clause-text : goal.returns-then-eq-clause-text
 returns-then-eq-clause-text g c =
     let same = same_true the_type (search rules) c.in-Some.run'.kind c.args.kind (sym c.if-eq.ensures) in
-    TakesKind-same c.args.run c.in-Some.run' c.args.block c.args.kind c.in-Some.is c.requires.follows _ same
+    TakesKind-same c.args.run c.in-Some.run' c.in-Some.is c.args.block c.args.kind c.requires.follows (g.O.Sink.seen c.args.out.now) same
 
 pub returns-in_err-send_run-clause-text : goal.returns-in_err-send_run-clause-text
 returns-in_err-send_run-clause-text g c =
     let other = same_false the_type c.in-Some.run'.kind c.args.kind (sym c.if-eq.ensures) in
     let failed = err_from_is_err_and c.from_residual.result c.from_residual.ensures.1 in
     rw failed.1
-    (TakesKind-failed c.args.run c.in-Some.run' c.args.block c.args.kind c.in-Some.is c.requires.follows _ _ _ other c.in_err-send_run.ensures.bytes)
+    (TakesKind-failed c.args.run c.in-Some.run' c.in-Some.is c.args.block c.args.kind c.requires.follows (g.O.Sink.seen c.args.out.now) (g.O.Sink.seen c.send_run.new.out) other c.in_err-send_run.ensures.bytes)
 
 pub returns-in_ok-send_run-clause-text : goal.returns-in_ok-send_run-clause-text
 returns-in_ok-send_run-clause-text g c =
     let other = same_false the_type c.in-Some.run'.kind c.args.kind (sym c.if-eq.ensures) in
-    TakesKind-other c.args.run c.in-Some.run' c.args.block c.args.kind c.in-Some.is c.requires.follows _ _ other c.in_ok-send_run.ensures.bytes
+    TakesKind-other c.args.run c.in-Some.run' c.in-Some.is c.args.block c.args.kind c.requires.follows (g.O.Sink.seen c.args.out.now) (g.O.Sink.seen c.send_run.new.out) other c.in_ok-send_run.ensures.bytes

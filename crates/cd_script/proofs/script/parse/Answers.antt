@@ -4,10 +4,8 @@ use Rattle.std.proofs.lemmas.List.Sorted.{answers_always}
 use Rattle.cd_script.specs.declared.fault.ScriptFault.{ScriptFault}
 use Rattle.cd_script.specs.Patch.{IsPatchList}
 use Rattle.cd_script.specs.Script.{script_from}
-use Rattle.cd_script.proofs.HeadLemmas.{patches_from-not_head}
 use Rattle.cd_script.proofs.Lines.{lines-is}
-use Rattle.cd_script.proofs.LineLemmas.{Fails-other}
-use Rattle.cd_script.proofs.ParseLemmas.{sorted-order, order-list}
+use Rattle.cd_script.proofs.ParseLemmas.{fault_is, no_fault, order-list, script-rest, sorted-order}
 use Rattle.cd_script.proofs.script.parse.Goals as goal
 
 pub returns-in_err-head-clause-err : goal.returns-in_err-head-clause-err
@@ -15,41 +13,48 @@ returns-in_err-head-clause-err c =
     let p = err_from_is_err_and c.from_residual.result c.from_residual.ensures.1 in
     rw (p.1, p.2) (λ _. ap (script_from 1) (sym (c.lines-lines.ensures.value ∙ lines-is c.args.text.now)) ∙ c.in_err-head.ensures.err)
 
-pub returns-in_err-patches-clause-err : goal.returns-in_err-patches-clause-err
-returns-in_err-patches-clause-err c =
-    let p = err_from_is_err_and c.from_residual-in_err-patches.result c.from_residual-in_err-patches.ensures.1 in
-    rw (p.1, p.2) (λ other. ap (script_from 1) (sym (c.lines-lines.ensures.value ∙ lines-is c.args.text.now)) ∙ c.in_ok-head.ensures.ok ∙ Fails-other _ _ c.in_err-patches.ensures other)
-
-pub returns-in_err-head-clause-head : goal.returns-in_err-head-clause-head
-returns-in_err-head-clause-head c =
+pub returns-in_err-head-clause-refused : goal.returns-in_err-head-clause-refused
+returns-in_err-head-clause-refused c =
     let p = err_from_is_err_and c.from_residual.result c.from_residual.ensures.1 in
     let told = ap (script_from 1) (sym (c.lines-lines.ensures.value ∙ lines-is c.args.text.now)) ∙ c.in_err-head.ensures.err in
-    λ line e. p.1 ∙ ap (λ (f : ScriptFault). Err f) p.2 ∙ sym told ∙ e
+    λ e is. p.1 ∙ ap (λ (f : ScriptFault). Err f) p.2 ∙ sym told ∙ is
 
-pub returns-in_err-patches-clause-head : goal.returns-in_err-patches-clause-head
-returns-in_err-patches-clause-head c =
-    let told = ap (script_from 1) (sym (c.lines-lines.ensures.value ∙ lines-is c.args.text.now)) ∙ c.in_ok-head.ensures.ok in
-    λ line e. absurd (patches_from-not_head _ 0 line _ (sym told ∙ e))
+pub returns-in_err-check_lines-clause-err : goal.returns-in_err-check_lines-clause-err
+returns-in_err-check_lines-clause-err c =
+    let p = err_from_is_err_and c.from_residual-in_err-check_lines.result c.from_residual-in_err-check_lines.ensures.1 in
+    let told = script-rest c.args.text.now c.as_bytes-rest.result.now _ _ _ _ c.lines-lines.ensures.value c.in_ok-head.ensures.ok c.as_bytes-rest.ensures c.lines.ensures.value in
+    rw (p.1, p.2) (λ _. told ∙ fault_is _ _ c.in_err-check_lines.ensures)
 
-pub returns-in_err-sort_by_key-clause-head : goal.returns-in_err-sort_by_key-clause-head
-returns-in_err-sort_by_key-clause-head c =
-    let told = ap (script_from 1) (sym (c.lines-lines.ensures.value ∙ lines-is c.args.text.now)) ∙ c.in_ok-head.ensures.ok in
-    λ line e. absurd (patches_from-not_head _ 0 line _ (sym told ∙ e))
+pub returns-in_err-check_lines-clause-refused : goal.returns-in_err-check_lines-clause-refused
+returns-in_err-check_lines-clause-refused c =
+    let p = err_from_is_err_and c.from_residual-in_err-check_lines.result c.from_residual-in_err-check_lines.ensures.1 in
+    let told = script-rest c.args.text.now c.as_bytes-rest.result.now _ _ _ _ c.lines-lines.ensures.value c.in_ok-head.ensures.ok c.as_bytes-rest.ensures c.lines.ensures.value in
+    λ e is. p.1 ∙ ap (λ (f : ScriptFault). Err f) p.2 ∙ sym (told ∙ fault_is _ _ c.in_err-check_lines.ensures) ∙ is
 
-pub returns-clause-head : goal.returns-clause-head
-returns-clause-head c =
-    let told = ap (script_from 1) (sym (c.lines-lines.ensures.value ∙ lines-is c.args.text.now)) ∙ c.in_ok-head.ensures.ok in
-    λ line e. absurd (patches_from-not_head _ 0 line _ (sym told ∙ e))
+pub returns-in_err-patches-clause-refused : goal.returns-in_err-patches-clause-refused
+returns-in_err-patches-clause-refused c =
+    let told = script-rest c.args.text.now c.as_bytes-rest.result.now _ _ _ _ c.lines-lines.ensures.value c.in_ok-head.ensures.ok c.as_bytes-rest.ensures c.lines.ensures.value in
+    λ e is. absurd (no_fault _ e c.in_ok-check_lines.ensures (sym told ∙ is))
+
+pub returns-in_err-sort_by_key-clause-refused : goal.returns-in_err-sort_by_key-clause-refused
+returns-in_err-sort_by_key-clause-refused c =
+    let told = script-rest c.args.text.now c.as_bytes-rest.result.now _ _ _ _ c.lines-lines.ensures.value c.in_ok-head.ensures.ok c.as_bytes-rest.ensures c.lines.ensures.value in
+    λ e is. absurd (no_fault _ e c.in_ok-check_lines.ensures (sym told ∙ is))
+
+pub returns-clause-refused : goal.returns-clause-refused
+returns-clause-refused c =
+    let told = script-rest c.args.text.now c.as_bytes-rest.result.now _ _ _ _ c.lines-lines.ensures.value c.in_ok-head.ensures.ok c.as_bytes-rest.ensures c.lines.ensures.value in
+    λ e is. absurd (no_fault _ e c.in_ok-check_lines.ensures (sym told ∙ is))
 
 pub invariant_of-result : goal.invariant_of-result
 invariant_of-result c =
-    let read = c.in_ok-head.ensures.ok ∙ c.in_ok-patches.ensures in
+    let told = script-rest c.args.text.now c.as_bytes-rest.result.now _ _ _ _ c.lines-lines.ensures.value c.in_ok-head.ensures.ok c.as_bytes-rest.ensures c.lines-2.ensures.value in
     let computes = answers_always _ _ _ (λ f a r g h. search rules) in
     let sorted = sorted-order _ _ (c.in_ok-sort_by_key.ensures.sorted (λ p. p.block) computes) (c.in_ok-sort_by_key.ensures.stable (λ p. p.block) computes) in
-    subst IsPatchList (sym sorted) (order-list _ _ read)
+    subst IsPatchList (sym sorted) (order-list _ _ (told ∙ c.in_ok-patches.ensures))
 
 pub returns-clause-ok : goal.returns-clause-ok
 returns-clause-ok c =
-    let read = ap (script_from 1) (sym (c.lines-lines.ensures.value ∙ lines-is c.args.text.now)) ∙ c.in_ok-head.ensures.ok ∙ c.in_ok-patches.ensures in
+    let told = script-rest c.args.text.now c.as_bytes-rest.result.now _ _ _ _ c.lines-lines.ensures.value c.in_ok-head.ensures.ok c.as_bytes-rest.ensures c.lines-2.ensures.value in
     let computes = answers_always _ _ _ (λ f a r g h. search rules) in
-    (_, read, sorted-order _ _ (c.in_ok-sort_by_key.ensures.sorted (λ p. p.block) computes) (c.in_ok-sort_by_key.ensures.stable (λ p. p.block) computes))
+    (_, told ∙ c.in_ok-patches.ensures, sorted-order _ _ (c.in_ok-sort_by_key.ensures.sorted (λ p. p.block) computes) (c.in_ok-sort_by_key.ensures.stable (λ p. p.block) computes))

@@ -1,6 +1,9 @@
-use Rattle.std.proofs.Common.{◌≡◌, ◌≤◌, length, take}
+use Rattle.std.proofs.Common.{◌≡◌, ◌++◌, length, map, take}
+use Rattle.cd_script.specs.Words.{words}
 use Rattle.cd_script.proofs.words.words.Given as goal
 
-abbrev pub invariant-loop-word : goal.invariant-loop-word
-invariant-loop-word l =
-    (l.count ≡ length l.yielded) × (l.count ≤ 7) × (length l.words ≡ 7) × (take l.count l.words ≡ l.yielded)
+abbrev pub invariant-loop-end : goal.invariant-loop-end
+invariant-loop-end l = take 7 (map (λ w. w.now) l.words.items ++ words l.rest) ≡ take 7 (words l.line)
+
+abbrev pub decreases-loop-end : goal.decreases-loop-end
+decreases-loop-end l = length l.rest

@@ -1,10 +1,24 @@
-use Rattle.cd_sector.proofs.ParityLemmas.{SumsOf-diagonal}
+use Rattle.std.proofs.Common.{◌≡◌, ℕ, ◌+◌, ◌<◌, get_or, ap, ◌∙◌, arith, lit≤}
+use Rattle.cd_sector.specs.CodeWords.{diagonal_of}
+use Rattle.cd_sector.proofs.DiagonalLemmas.{SumsOf-joined, SumsOf-parity}
 use Rattle.cd_sector.proofs.diagonals.diagonal_sums.Goals as goal
 
 pub returns : goal.returns
 returns c =
-    SumsOf-diagonal c.args.bytes.now c.parity_row-first.result c.parity_row-second.result
-    c.diagonal_input_sums-sums.result.plain c.diagonal_input_sums-sums.result.weighted
-    c.row_sums.new.sums.plain c.row_sums.new.sums.weighted c.row_sums-2.new.sums.plain c.row_sums-2.new.sums.weighted
-    c.diagonal_input_sums-sums.ensures c.fits-bytes c.parity_row-first.ensures c.parity_row-second.ensures
-    c.row_sums.ensures.plain c.row_sums.ensures.weighted c.row_sums-2.ensures.plain c.row_sums-2.ensures.weighted
+    let s = c.args.bytes.now in
+    let low = c.with_lanes-low.result in
+    let high = c.with_lanes-high.result in
+    let first : (i : ℕ) → i < 32 → get_or c.lanes_at-3.result i 0 ≡ get_or s (2248 + (20 + i)) 0 =
+    λ i h. c.lanes_at-3.ensures i h ∙ (let e : 2268 + i ≡ 2248 + (20 + i) = omega arith in ap (λ p. get_or s p 0) e) in
+    let second : (i : ℕ) → i < 32 → get_or c.lanes_at-4.result i 0 ≡ get_or s (2300 + (20 + i)) 0 =
+    λ i h. c.lanes_at-4.ensures i h ∙ (let e : 2320 + i ≡ 2300 + (20 + i) = omega arith in ap (λ p. get_or s p 0) e) in
+    SumsOf-joined (diagonal_of s) low.plain low.weighted high.plain high.weighted c.joined.result.plain c.joined.result.weighted
+    (SumsOf-parity s 20 (λ i. i) c.lanes_at.result c.lanes_at-2.result c.low_input_sums.result.plain c.low_input_sums.result.weighted
+    c.with_lanes.result.plain c.with_lanes.result.weighted low.plain low.weighted (lit≤ tt) c.low_input_sums.ensures c.fits-bytes
+    c.lanes_at.ensures c.lanes_at-2.ensures c.with_lanes.ensures.plain c.with_lanes.ensures.weighted
+    c.with_lanes-low.ensures.plain c.with_lanes-low.ensures.weighted)
+    (SumsOf-parity s 32 (λ i. 20 + i) c.lanes_at-3.result c.lanes_at-4.result c.high_input_sums.result.plain c.high_input_sums.result.weighted
+    c.with_lanes-2.result.plain c.with_lanes-2.result.weighted high.plain high.weighted (lit≤ tt) c.high_input_sums.ensures c.fits-bytes
+    first second c.with_lanes-2.ensures.plain c.with_lanes-2.ensures.weighted
+    c.with_lanes-high.ensures.plain c.with_lanes-high.ensures.weighted)
+    c.joined.ensures.plain_low c.joined.ensures.plain_high c.joined.ensures.weighted_low c.joined.ensures.weighted_high

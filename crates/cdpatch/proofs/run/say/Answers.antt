@@ -1,4 +1,3 @@
-use Rattle.cd_image.specs.Report.{outgoing}
 use Rattle.cdpatch.proofs.RunLemmas.{SaysLine-cut, SaysLine-whole}
 use Rattle.cdpatch.proofs.run.say.Goals as goal
 
@@ -8,5 +7,5 @@ returns-in_err-write_all-clause-line g c =
 
 pub returns-clause-line : goal.returns-clause-line
 returns-clause-line g c =
-    SaysLine-whole c.args.line.now _ _ (outgoing g.O.Sink.written g.O.Sink.failures g.O.Sink.finished c.write_all.new.out) c.finish.result
+    SaysLine-whole c.args.line.now _ _ (g.O.Sink.seen c.write_all.new.out) c.finish.result
     c.in_ok-write_all.ensures.bytes c.in_ok-write_all.ensures.count c.finish.ensures.bytes c.finish.ensures.count c.finish.ensures.finished

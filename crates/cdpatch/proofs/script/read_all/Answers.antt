@@ -1,6 +1,5 @@
 use Rattle.std.proofs.Common.{arith, take, ◌∙◌}
 use Rattle.std.proofs.Math.ListN.{length-take}
-use Rattle.cd_image.specs.Report.{incoming}
 use Rattle.cdpatch.specs.declared.script.LoadFault.TheVariants.{TooLong}
 use Rattle.cdpatch.proofs.ScriptLemmas.{Gathers-refused, Gathers-stopped, length-with_last}
 use Rattle.cdpatch.proofs.script.read_all.Goals as goal
@@ -11,7 +10,7 @@ returns-then-n-left g c =
     let came = c.in_ok-n.ensures.bytes in
     let count = length-with_last c.loop-bytes.bytes.items c.read.new.into c.in_ok-n.n came.0 in
     let room = length-take c.min-room.result c.loop-bytes.chunk in
-    Gathers-stopped _ _ (incoming g.I.Source.rest g.I.Source.failures c.loop-bytes.file) _ TooLong
+    Gathers-stopped _ _ (g.I.Source.seen c.loop-bytes.file) _ TooLong
     c.loop-bytes.bytes.items (take c.in_ok-n.n c.read.new.into) before.consumed came.1
     (c.in_ok-n.ensures.count ∙ before.counted, omega (arith, count, came.0, room))
 
@@ -20,6 +19,6 @@ returns-in_err-extend_from_slice g c =
     let before = c.loop-bytes.invariant in
     let came = c.in_ok-n.ensures.bytes in
     let count = length-with_last c.loop-bytes.bytes.items c.read.new.into c.in_ok-n.n came.0 in
-    Gathers-refused _ _ (incoming g.I.Source.rest g.I.Source.failures c.loop-bytes.file) _ _
+    Gathers-refused _ _ (g.I.Source.seen c.loop-bytes.file) _ _
     c.loop-bytes.bytes.items (take c.in_ok-n.n c.read.new.into) c.from_residual-in_err-extend_from_slice.ensures.1
     before.consumed came.1 (c.in_ok-n.ensures.count ∙ before.counted, omega (arith, count, came.0))

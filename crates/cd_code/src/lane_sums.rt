@@ -1,0 +1,103 @@
+//! The syndromes of 32 words, side by side in registers (ECMA-130, Annex A).
+
+ghost use Rattle.std.specs.Prelude.{◌≡◌, ℕ, ◌<◌, bit_xor, replicate, slice_index};
+ghost use Rattle.cd_code.specs.Field.{double, product};
+ghost use Rattle.cd_code.specs.Syndrome.{IsPair};
+
+use crate::lanes::doubled_lanes;
+use std::simd::prelude::*;
+
+/// Both syndromes of 32 words, by lane (ECMA-130, Annex A).
+#[derive(Clone, Copy)]
+pub struct LaneSums {
+    /// The sum of each word's bytes.
+    pub plain: u8x32,
+    /// The sum of each word's bytes times falling powers of alpha, down to 1 at the last byte.
+    pub weighted: u8x32,
+}
+
+impl LaneSums {
+    /// The sums of words that have no byte yet, all `00`.
+    #[inline(always)]
+    pub fn zero() -> Self
+        ensures plain { result.plain ≡ replicate 32 0 }
+        ensures weighted { result.weighted ≡ replicate 32 0 }
+    {
+        LaneSums {
+            plain: u8x32::splat(0),
+            weighted: u8x32::splat(0),
+        }
+    }
+
+    /// Puts one more byte behind each word: it is added to the plain sum, and to the doubled weighted one (ECMA-130,
+    /// Annex A).
+    #[inline(always)]
+    pub fn with_lanes(self, lanes: u8x32) -> Self
+        ensures plain { (i : ℕ) → i < 32
+            → slice_index result.plain i ≡ bit_xor (slice_index self.plain i) (slice_index lanes i) }
+        ensures weighted { (i : ℕ) → i < 32
+            → slice_index result.weighted i ≡ bit_xor (double (slice_index self.weighted i)) (slice_index lanes i) }
+    {
+        LaneSums {
+            plain: self.plain ^ lanes,
+            weighted: doubled_and_added(self.weighted, lanes),
+        }
+    }
+
+    /// The same where `taking` is `FF`; where it is `00`, the word stays as it is (ECMA-130, Annex A).
+    #[inline(always)]
+    pub fn with_lanes_where(self, lanes: u8x32, taking: u8x32) -> Self
+        ensures plain { (i : ℕ) → i < 32 → slice_index taking i ≡ 255
+            → slice_index result.plain i ≡ bit_xor (slice_index self.plain i) (slice_index lanes i) }
+        ensures weighted { (i : ℕ) → i < 32 → slice_index taking i ≡ 255
+            → slice_index result.weighted i ≡ bit_xor (double (slice_index self.weighted i)) (slice_index lanes i) }
+        ensures plain_stays { (i : ℕ) → i < 32 → slice_index taking i ≡ 0
+            → slice_index result.plain i ≡ slice_index self.plain i }
+        ensures weighted_stays { (i : ℕ) → i < 32 → slice_index taking i ≡ 0
+            → slice_index result.weighted i ≡ slice_index self.weighted i }
+    {
+        let taken = self.with_lanes(lanes);
+        LaneSums {
+            plain: chosen(self.plain, taken.plain, taking),
+            weighted: chosen(self.weighted, taken.weighted, taking),
+        }
+    }
+    /// The two parity bytes that make a code word of each word followed by them (ECMA-130, Annex A).
+    pub fn pairs(self) -> (u8x32, u8x32)
+        ensures { (i : ℕ) → i < 32
+            → IsPair (slice_index self.plain i) (slice_index self.weighted i) (slice_index result.0 i) (slice_index result.1 i) }
+    {
+        let sum = doubled_and_added(doubled_lanes(self.weighted), self.plain);
+        let first = times_inverse_of_three(sum);
+        (first, self.plain ^ first)
+    }
+}
+
+/// 32 field elements times alpha, with others added.
+#[inline(always)]
+fn doubled_and_added(v: u8x32, added: u8x32) -> u8x32
+    ensures { (i : ℕ) → i < 32
+        → slice_index result i ≡ bit_xor (double (slice_index v i)) (slice_index added i) }
+{
+    doubled_lanes(v) ^ added
+}
+
+/// 32 field elements times F4, which is alpha to the 7, 6, 5, 4 and 2.
+fn times_inverse_of_three(v: u8x32) -> u8x32
+    ensures { (i : ℕ) → i < 32 → slice_index result i ≡ product 244 (slice_index v i) }
+{
+    let two = doubled_and_added(v, v);
+    let three = doubled_and_added(two, v);
+    let four = doubled_and_added(three, v);
+    let five = doubled_and_added(doubled_lanes(four), v);
+    doubled_lanes(doubled_lanes(five))
+}
+
+/// The lanes of `new` where `taking` is `FF`, and of `old` where it is `00`.
+#[inline(always)]
+fn chosen(old: u8x32, new: u8x32, taking: u8x32) -> u8x32
+    ensures new { (i : ℕ) → i < 32 → slice_index taking i ≡ 255 → slice_index result i ≡ slice_index new i }
+    ensures old { (i : ℕ) → i < 32 → slice_index taking i ≡ 0 → slice_index result i ≡ slice_index old i }
+{
+    old ^ ((old ^ new) & taking)
+}

@@ -1,0 +1,91 @@
+-- What has been done by `apply`, in plain clauses.
+use Rattle.std.proofs.Common.{◌≡◌, ◌≢◌, ◌↔◌, ℕ, ◌+◌, List, ◌++◌, Option, Some, Result, Ok, Err, IfOk, OnOk, length, refl, sym, ap, ◌∙◌, subst, arith, length-append}
+use Rattle.std.specs.Io.KnownBytes.{Appends}
+use Rattle.cd_stream.specs.Stream.{Incoming, Outgoing}
+use Rattle.cd_script.specs.declared.patch.Patch.{Patch}
+use Rattle.cd_image.specs.Applying.{Applies, Checks, HoldsFew, Streams, WritesLog, WritesPatched}
+use Rattle.cd_image.specs.Patched.{IsPatched}
+use Rattle.cd_image.specs.PatchLog.{log_text, patch_tally}
+use Rattle.cd_image.specs.Report.{EndsWell, TellsTooLong}
+use Rattle.cd_image.specs.declared.fault.Fault.{Fault}
+use Rattle.cd_image.specs.declared.fault.Fault.TheVariants.{Log, Read, TooLong, Write}
+use Rattle.cd_image.specs.declared.patch_log.Tally.{Tally}
+use Rattle.cd_image.proofs.PatchedLemmas.{IsPatched-determined}
+use Rattle.cd_image.proofs.ReportLemmas.{appended, consumed_all, consumed_length, not_beyond, told_beyond}
+
+-- a sink that tells its bytes has these behind those that it had
+appended_length : (old new : Option (List ℕ)) (sent earlier now : List ℕ) → Appends old new sent → old ≡ Some earlier → new ≡ Some now → length now ≡ length earlier + length sent
+appended_length old new sent earlier now went had has =
+    let is : Some now ≡ Some (earlier ++ sent) = sym has ∙ appended old new sent earlier went had in
+    let same : now ≡ earlier ++ sent = cc in
+    ap length same ∙ length-append earlier sent
+
+module _ (patches : List Patch) (base : ℕ) (old new : Streams) where
+  pub Applies-output : (result : Result Tally Fault) → Applies patches base old new result → OnOk result (WritesPatched patches base old.image new.image old.out new.out)
+  Applies-output (Ok tally) a = λ bytes earlier gives holds.
+      let all = consumed_all old.image.rest new.image.rest a.read bytes a.consumes a.answers.at_end gives in (
+        all.0,
+        λ os last patched.
+            let same = IsPatched-determined patches a.answers.outcomes os base bytes a.sent last (subst (λ b. IsPatched patches a.answers.outcomes base b a.sent) all.1 a.answers.patched) patched in
+            appended old.out.written new.out.written a.sent earlier a.appends holds ∙ ap (λ l. Some (earlier ++ l)) same.1,
+      )
+  Applies-output (Err fault) a = tt
+
+  pub Applies-told : (result : Result Tally Fault) → Applies patches base old new result → IfOk result (WritesLog patches base old.image old.log new.log)
+  Applies-told (Ok tally) a = λ bytes earlier gives holds os last patched.
+      let all = consumed_all old.image.rest new.image.rest a.read bytes a.consumes a.answers.at_end gives in
+      let same = IsPatched-determined patches a.answers.outcomes os base bytes a.sent last (subst (λ b. IsPatched patches a.answers.outcomes base b a.sent) all.1 a.answers.patched) patched in (
+        appended old.log.written new.log.written a.told earlier a.logs holds ∙ ap (λ l. Some (earlier ++ l)) (a.answers.log_told ∙ ap (log_text patches) same.0),
+        a.answers.tally_told ∙ ap (λ b. patch_tally b a.answers.outcomes) all.1 ∙ ap (patch_tally bytes) same.0,
+      )
+  Applies-told (Err fault) a = tt
+
+  pub Applies-ends_out : (result : Result Tally Fault) → Applies patches base old new result → OnOk result (EndsWell old.image new.image old.out new.out)
+  Applies-ends_out (Ok tally) a = record { reads = omega (arith, a.answers.failed.reads); writes = omega (arith, a.answers.failed.writes); finished = a.answers.out_finished }
+  Applies-ends_out (Err fault) a = tt
+
+  pub Applies-ends_log : (result : Result Tally Fault) → Applies patches base old new result → OnOk result (EndsWell old.image new.image old.log new.log)
+  Applies-ends_log (Ok tally) a = record { reads = omega (arith, a.answers.failed.reads); writes = omega (arith, a.answers.failed.logs); finished = a.answers.log_finished }
+  Applies-ends_log (Err fault) a = tt
+
+  pub Applies-read_failed : (result : Result Tally Fault) → Applies patches base old new result → (result ≡ Err Read) ↔ (new.image.failures ≡ old.image.failures + 1)
+  Applies-read_failed (Ok tally) a = (λ e. cc, λ h. absurd (omega (arith, a.answers.failed.reads)))
+  Applies-read_failed (Err Read) a = (λ e. a.answers.failed.reads, λ h. refl)
+  Applies-read_failed (Err Write) a = (λ e. cc, λ h. absurd (omega (arith, a.answers.failed.reads)))
+  Applies-read_failed (Err Log) a = (λ e. cc, λ h. absurd (omega (arith, a.answers.failed.reads)))
+  Applies-read_failed (Err TooLong) a = (λ e. cc, λ h. absurd (omega (arith, a.answers.failed.reads)))
+
+  pub Applies-write_failed : (result : Result Tally Fault) → Applies patches base old new result → (result ≡ Err Write) ↔ (new.out.failures ≡ old.out.failures + 1)
+  Applies-write_failed (Ok tally) a = (λ e. cc, λ h. absurd (omega (arith, a.answers.failed.writes)))
+  Applies-write_failed (Err Read) a = (λ e. cc, λ h. absurd (omega (arith, a.answers.failed.writes)))
+  Applies-write_failed (Err Write) a = (λ e. a.answers.failed.writes, λ h. refl)
+  Applies-write_failed (Err Log) a = (λ e. cc, λ h. absurd (omega (arith, a.answers.failed.writes)))
+  Applies-write_failed (Err TooLong) a = (λ e. cc, λ h. absurd (omega (arith, a.answers.failed.writes)))
+
+  pub Applies-log_failed : (result : Result Tally Fault) → Applies patches base old new result → (result ≡ Err Log) ↔ (new.log.failures ≡ old.log.failures + 1)
+  Applies-log_failed (Ok tally) a = (λ e. cc, λ h. absurd (omega (arith, a.answers.failed.logs)))
+  Applies-log_failed (Err Read) a = (λ e. cc, λ h. absurd (omega (arith, a.answers.failed.logs)))
+  Applies-log_failed (Err Write) a = (λ e. cc, λ h. absurd (omega (arith, a.answers.failed.logs)))
+  Applies-log_failed (Err Log) a = (λ e. a.answers.failed.logs, λ h. refl)
+  Applies-log_failed (Err TooLong) a = (λ e. cc, λ h. absurd (omega (arith, a.answers.failed.logs)))
+
+  pub Applies-too_long : (result : Result Tally Fault) → Applies patches base old new result → TellsTooLong old.image new.image result
+  Applies-too_long (Ok tally) a = not_beyond old.image new.image (Ok tally) a.read a.consumes a.answers.within (λ e. cc)
+  Applies-too_long (Err Read) a = not_beyond old.image new.image (Err Read) a.read a.consumes a.answers.within (λ e. cc)
+  Applies-too_long (Err Write) a = not_beyond old.image new.image (Err Write) a.read a.consumes a.answers.within (λ e. cc)
+  Applies-too_long (Err Log) a = not_beyond old.image new.image (Err Log) a.read a.consumes a.answers.within (λ e. cc)
+  Applies-too_long (Err TooLong) a = told_beyond old.image new.image a.read a.consumes a.answers.beyond
+
+  pub Applies-few : (result : Result Tally Fault) → Applies patches base old new result → HoldsFew old new
+  Applies-few result a = λ given left earlier now gives leaves had has.
+      let came = consumed_length old.image.rest new.image.rest a.read given left a.consumes gives leaves in
+      let went = appended_length old.out.written new.out.written a.sent earlier now a.appends had has in
+      omega (arith, came, went, a.in_hand)
+
+-- an output that keeps nothing does not fail
+pub Checks-no_output : (patches : List Patch) (base : ℕ) (image image' : Incoming) (log log' : Outgoing) (result : Result Tally Fault) → Checks patches base image image' log log' result → result ≢ Err Write
+Checks-no_output patches base image image' log log' (Ok tally) done = λ e. cc
+Checks-no_output patches base image image' log log' (Err Read) done = λ e. cc
+Checks-no_output patches base image image' log log' (Err Write) done = λ e. absurd (omega (arith, done.1.answers.failed.writes))
+Checks-no_output patches base image image' log log' (Err Log) done = λ e. cc
+Checks-no_output patches base image image' log log' (Err TooLong) done = λ e. cc

@@ -1,0 +1,122 @@
+-- What a pass knows of each run on an image that may be the one that is being read.
+use Rattle.std.proofs.Common.{◌≡◌, ℕ, ◌+◌, ◌<◌, ◌≤◌, List, [], ◌++◌, length, take, drop, Option, None, Some, refl, sym, ap, ◌∙◌, subst, arith, append_assoc, append-nil, take-append-drop}
+use Rattle.std.specs.Prelude.{All, IsSome}
+use Rattle.std.specs.Io.KnownBytes.{IsAtEnd}
+use Rattle.cd_script.specs.declared.patch.Patch.{Patch}
+use Rattle.cd_sector.specs.declared.sector.TheConstants.{SECTOR_SIZE}
+use Rattle.cd_patch.specs.Run.{PatchRun}
+use Rattle.cd_patch.specs.declared.outcome.Outcome.{Outcome}
+use Rattle.cd_patch.proofs.RunLemmas.{PatchRun-determined, PatchRun-front, PatchRun-lengths, PatchRun-split}
+use Rattle.cd_image.specs.Applying.{Begins, Streams}
+use Rattle.cd_image.specs.Image.{image_limit, sectors, tail}
+use Rattle.cd_image.specs.Passing.{Going, joined, tail_bytes}
+use Rattle.cd_image.specs.Patched.{IsPatched}
+use Rattle.cd_image.specs.PatchLog.{applied_count, log_end, log_lines, log_text, refused_count}
+use Rattle.cd_stream.specs.Stream.{IsBeginning}
+use Rattle.cd_image.specs.Report.{FitsLeft}
+use Rattle.cd_image.proofs.ImageLemmas.{IsCut-sectors, sectors-joined, sectors-short}
+use Rattle.cd_image.proofs.PassLemmas.{FitsLeft-begins, FitsLeft-end}
+use Rattle.cd_image.proofs.PassingLemmas.{AreSized, joined-append}
+use Rattle.cd_image.proofs.PatchLogLemmas.{log_lines-append}
+
+-- a front of a beginning is one
+pub IsBeginning-front : (front more whole : List ℕ) → IsBeginning (front ++ more) whole → IsBeginning front whole
+IsBeginning-front front more whole begins = (more ++ begins.0, begins.1 ∙ append_assoc front more begins.0)
+
+-- an image whose first sectors are these
+pub joined-begins : (front others : List (List ℕ)) (last : List ℕ) → sectors last ≡ front ++ others → IsBeginning (joined front) last
+joined-begins front others last cut = (
+  joined others ++ tail last,
+  sym (IsCut-sectors last).joined ∙ ap (λ ss. joined ss ++ tail last) cut ∙ ap (λ l. l ++ tail last) (joined-append front others)
+      ∙ append_assoc (joined front) (joined others) (tail last),
+)
+
+-- the lines of the first patches begin the log
+pub lines-begin : (taken left : List Patch) (front back : List Outcome) → length front ≡ length taken → IsBeginning (log_lines taken front) (log_text (taken ++ left) (front ++ back))
+unfolding log_text
+lines-begin taken left front back same =
+    let end = log_end (applied_count (front ++ back)) (refused_count (front ++ back)) in (
+      log_lines left back ++ end,
+      ap (λ l. l ++ end) (log_lines-append taken left front back same) ∙ append_assoc (log_lines taken front) (log_lines left back) end,
+    )
+
+-- the same with a part of the lines behind them
+pub lines-begin_within : (taken left : List Patch) (front back : List Outcome) → length front ≡ length taken → (n : ℕ)
+    → IsBeginning (log_lines taken front ++ take n (log_lines left back)) (log_text (taken ++ left) (front ++ back))
+unfolding log_text
+lines-begin_within taken left front back same n =
+    let end = log_end (applied_count (front ++ back)) (refused_count (front ++ back)) in
+    let lines = log_lines taken front in
+    let others = log_lines left back in (
+      drop n others ++ end,
+      ap (λ l. l ++ end) (log_lines-append taken left front back same ∙ ap (λ l. lines ++ l) (sym (take-append-drop n others)) ∙ sym (append_assoc lines (take n others) (drop n others)))
+          ∙ append_assoc (lines ++ take n others) (drop n others) end,
+    )
+
+-- an image that may be the one that is being read: the sectors behind those that were seen
+pub record Extends (seen : List (List ℕ)) (end : Option (List ℕ)) (whole : List ℕ) : Type 0 where
+  pub more : List (List ℕ)
+  pub cut : sectors whole ≡ seen ++ more
+  pub unended : IsSome end → more ≡ []
+
+-- a run on it: the outcomes behind those that are known, and the last sectors behind those that are settled
+pub record Known (settled : List (List ℕ)) (outcomes os : List Outcome) (last : List ℕ) : Type 0 where
+  pub back : List Outcome
+  pub others : List (List ℕ)
+  pub all : os ≡ outcomes ++ back
+  pub cut : sectors last ≡ settled ++ others
+
+module _ (taken left : List Patch) (base : ℕ) (start now : Streams) (window : List (List ℕ)) (block sectors_read applied : ℕ) (end : Option (List ℕ)) (g : Going taken left base start now window block sectors_read applied end) where
+  pub told_lengths : length g.outcomes ≡ length taken
+  told_lengths = PatchRun-lengths taken g.outcomes base (g.seen ++ []) (g.done ++ (window ++ [])) (g.run [] (λ some. refl))
+
+  -- sectors at the front that no patch left begins in are settled
+  pub known : (whole : List ℕ) → Extends g.seen end whole → (settled : List (List ℕ)) (behind : List (List ℕ) → List (List ℕ))
+      → ((more : List (List ℕ)) → g.done ++ (window ++ more) ≡ settled ++ behind more) → All (λ p. base + length settled ≤ p.block) left
+      → (os : List Outcome) (last : List ℕ) → IsPatched (taken ++ left) os base whole last → Known settled g.outcomes os last
+  known whole extends settled behind grouped ahead os last patched =
+      let run = subst (λ old. PatchRun (taken ++ left) os base old (sectors last)) extends.cut patched.run in
+      let split = PatchRun-split taken left os base (g.seen ++ extends.more) (sectors last) run in
+      let same = PatchRun-determined taken split.0 g.outcomes base (g.seen ++ extends.more) split.2 (g.done ++ (window ++ extends.more)) split.4 (g.run extends.more extends.unended) in
+      let from = subst (λ m. PatchRun left split.1 base m (sectors last)) (same.1 ∙ grouped extends.more) split.5 in
+      let rest = PatchRun-front left split.1 base settled (behind extends.more) (sectors last) ahead from in
+      record { back = split.1; others = rest.0; all = split.3 ∙ ap (λ f. f ++ split.1) same.0; cut = rest.1 }
+
+  pub ahead_of_done : All (λ p. base + length g.done ≤ p.block) left
+  ahead_of_done = λ k d inside. let h = g.ahead k d inside in omega (arith, h, g.front)
+
+  -- what went out and what was told begin the patched image and its log
+  pub begins_now : (whole : List ℕ) → Extends g.seen end whole → (os : List Outcome) (last : List ℕ) → IsPatched (taken ++ left) os base whole last
+      → Begins (taken ++ left) (joined g.done) (log_lines taken g.outcomes) os last
+  begins_now whole extends os last patched =
+      let k = known whole extends g.done (λ more. window ++ more) (λ more. refl) ahead_of_done os last patched in (
+        joined-begins g.done k.others last k.cut,
+        subst (λ u. IsBeginning (log_lines taken g.outcomes) (log_text (taken ++ left) u)) (sym k.all) (lines-begin taken left g.outcomes k.back told_lengths),
+      )
+
+  -- an image that fits while the end is told where nothing is left
+  pub extends_left : (whole : List ℕ) → FitsLeft now.image.rest (joined g.seen ++ tail_bytes end) whole → length (joined g.seen ++ tail_bytes end) ≤ image_limit → Extends g.seen end whole
+  extends_left whole fits few = by_end end g.seen_sizes g.short g.ended fits few
+    where
+      by_end : (t : Option (List ℕ)) → AreSized g.seen → length (tail_bytes t) < SECTOR_SIZE → (IsSome t → IsAtEnd now.image.rest) → FitsLeft now.image.rest (joined g.seen ++ tail_bytes t) whole
+          → length (joined g.seen ++ tail_bytes t) ≤ image_limit → Extends g.seen t whole
+      by_end None sized short ended fits few =
+          let begins = FitsLeft-begins now.image.rest (joined g.seen ++ []) whole few fits in
+          record {
+            more = sectors begins.0;
+            cut = ap sectors (begins.1 ∙ ap (λ l. l ++ begins.0) (append-nil (joined g.seen))) ∙ sectors-joined g.seen begins.0 sized;
+            unended = λ never. cc;
+          }
+      by_end (Some t) sized short ended fits few = record {
+        more = [];
+        cut = ap sectors (FitsLeft-end now.image.rest (joined g.seen ++ t) whole (ended refl) fits) ∙ sectors-joined g.seen t sized ∙ ap (λ ss. g.seen ++ ss) (sectors-short t short);
+        unended = λ some. refl;
+      }
+
+-- an image that begins with the sectors that were seen, before the end is known
+pub Extends-begun : (seen : List (List ℕ)) (whole more : List ℕ) → AreSized seen → whole ≡ joined seen ++ more → Extends seen None whole
+Extends-begun seen whole more sized is = record {
+  more = sectors more;
+  cut = ap sectors is ∙ sectors-joined seen more sized;
+  unended = λ never. cc;
+}

@@ -1,0 +1,230 @@
+-- One step of a pass: a sector is read, or the end; a patch is taken; a sector goes out.
+use Rattle.std.proofs.Common.{◌≡◌, ℕ, ◌+◌, ◌*◌, ◌<◌, ◌≤◌, ◌⊎◌, inl, inr, List, [], ◌∷◌, ◌++◌, length, Option, None, Some, refl, sym, ap, ◌∙◌, subst, arith, append_assoc, append-nil, length-append}
+use Rattle.std.specs.Prelude.{All, IsSome, cond}
+use Rattle.std.specs.Io.KnownBytes.{Appends, Consumes, IsAtEnd}
+use Rattle.std.proofs.KnownBytes.{Appends-nil, Appends-trans, Consumes-nil, Consumes-trans}
+use Rattle.std.proofs.lemmas.List.Elements.{All-append, All-cons, All-head, All-nil, All-tail}
+use Rattle.std.proofs.lemmas.Grind.{flat_map-append}
+use Rattle.cd_script.specs.declared.patch.Patch.{Patch}
+use Rattle.cd_sector.specs.declared.sector.TheConstants.{SECTOR_SIZE}
+use Rattle.cd_patch.specs.Blocks.{blocks_met}
+use Rattle.cd_patch.specs.Deciding.{outcome}
+use Rattle.cd_patch.specs.Effect.{Effect}
+use Rattle.cd_patch.specs.Laws.{is_applied}
+use Rattle.cd_patch.specs.Run.{PatchRun}
+use Rattle.cd_patch.specs.declared.outcome.Outcome.{Outcome}
+use Rattle.cd_patch.proofs.FrameLemmas.{Effect-frame, Effect-length, outcome-frame}
+use Rattle.cd_patch.proofs.RunLemmas.{PatchRun-append, PatchRun-lengths}
+use Rattle.cd_image.specs.Applying.{Failed, Streams}
+use Rattle.cd_image.specs.Image.{image_limit}
+use Rattle.cd_image.specs.Passing.{Going, joined, missing, tail_read}
+use Rattle.cd_image.specs.PatchLog.{log_line, log_lines}
+use Rattle.cd_stream.specs.Stream.{Incoming, Outgoing}
+use Rattle.cd_image.proofs.AuditLemmas.{count_by-behind}
+use Rattle.cd_image.proofs.PatchLogLemmas.{PatchRun-missing, applied_count-missing, log_lines-append}
+
+pub joined-append : (front back : List (List ℕ)) → joined (front ++ back) ≡ joined front ++ joined back
+joined-append front back = flat_map-append (λ sector. sector) front back
+
+pub joined-more : (front : List (List ℕ)) (sector : List ℕ) → joined (front ++ sector ∷ []) ≡ joined front ++ sector
+joined-more front sector = joined-append front (sector ∷ []) ∙ ap (λ l. joined front ++ l) (append-nil sector)
+
+-- sectors of 2352 bytes
+abbrev pub AreSized : List (List ℕ) → Type 0
+AreSized whole = All (λ sector. length sector ≡ SECTOR_SIZE) whole
+
+pub length-joined : (whole : List (List ℕ)) → AreSized whole → length (joined whole) ≡ 2352 * length whole
+length-joined [] each = refl
+length-joined (s ∷ ss) each =
+    let size = All-head (λ t. length t ≡ SECTOR_SIZE) s ss each in
+    let others = length-joined ss (All-tail (λ t. length t ≡ SECTOR_SIZE) s ss each) in
+    length-append s (joined ss) ∙ omega arith
+
+AreSized-more : (whole : List (List ℕ)) (sector : List ℕ) → AreSized whole → length sector ≡ SECTOR_SIZE → AreSized (whole ++ sector ∷ [])
+AreSized-more whole sector each size = All-append (λ t. length t ≡ SECTOR_SIZE) whole (sector ∷ []) each (All-cons (λ t. length t ≡ SECTOR_SIZE) sector [] size (All-nil (λ t. length t ≡ SECTOR_SIZE)))
+
+pub Failed-none : (start now after : Streams) → Failed start now 0 0 0 → (reads writes logs : ℕ) → after.image.failures ≡ now.image.failures + reads → after.out.failures ≡ now.out.failures + writes
+    → after.log.failures ≡ now.log.failures + logs → Failed start after reads writes logs
+Failed-none start now after before reads writes logs r w l = record { reads = omega arith; writes = omega arith; logs = omega arith }
+
+-- behind the patches whose first block is below the image's
+pub Going-start : (taken left : List Patch) (base : ℕ) (start : Streams) (log : Outgoing) → All (λ p. p.block < base) taken → All (λ p. base ≤ p.block) left
+    → Appends start.log.written log.written (log_lines taken (missing taken)) → log.failures ≡ start.log.failures
+    → Going taken left base start (record start { log = log }) [] base 0 0 None
+Going-start taken left base start log below ahead told kept = record {
+  seen = [];
+  done = [];
+  outcomes = missing taken;
+  consumes = Consumes-nil start.image.rest;
+  appends = Appends-nil start.out.written;
+  logs = told;
+  unfailed = record { reads = omega arith; writes = omega arith; logs = omega arith };
+  seen_sizes = All-nil (λ t. length t ≡ SECTOR_SIZE);
+  done_sizes = All-nil (λ t. length t ≡ SECTOR_SIZE);
+  short = omega arith;
+  within = omega arith;
+  ended = λ never. cc;
+  in_hand = omega arith;
+  run = λ more unended. PatchRun-missing taken more base (λ k d inside. inl (below k d inside));
+  front = omega arith;
+  count = refl;
+  held = refl;
+  counted = sym (applied_count-missing taken);
+  due = λ k d inside. let h = below k d inside in (omega arith, omega arith);
+  ahead = ahead;
+}
+
+module _ (taken left : List Patch) (base : ℕ) (start now : Streams) (window : List (List ℕ)) (block sectors applied : ℕ) where
+  -- a sector has come
+  pub Going-read : Going taken left base start now window block sectors applied None → (image : Incoming) (came : List ℕ) → Consumes now.image.rest image.rest came → image.failures ≡ now.image.failures
+      → length came ≡ SECTOR_SIZE → sectors < 1000000 → length window < 3
+      → Going taken left base start (record now { image = image }) (window ++ came ∷ []) block (sectors + 1) applied None
+  Going-read g image came consumed kept size few room = record {
+    seen = g.seen ++ came ∷ [];
+    done = g.done;
+    outcomes = g.outcomes;
+    consumes =
+        let bytes : (joined g.seen ++ []) ++ came ≡ joined (g.seen ++ came ∷ []) ++ [] =
+        ap (λ l. l ++ came) (append-nil (joined g.seen)) ∙ sym (joined-more g.seen came) ∙ sym (append-nil _) in
+        subst (Consumes start.image.rest image.rest) bytes (Consumes-trans start.image.rest now.image.rest image.rest _ came g.consumes consumed);
+    appends = g.appends;
+    logs = g.logs;
+    unfailed = record { reads = kept ∙ g.unfailed.reads; writes = g.unfailed.writes; logs = g.unfailed.logs };
+    seen_sizes = AreSized-more g.seen came g.seen_sizes size;
+    done_sizes = g.done_sizes;
+    short = g.short;
+    within = omega arith;
+    ended = λ never. cc;
+    in_hand = let all = length-append window (came ∷ []) in omega arith;
+    run = λ more unended.
+        subst (λ old. PatchRun taken g.outcomes base old (g.done ++ ((window ++ came ∷ []) ++ more))) (sym (append_assoc g.seen (came ∷ []) more))
+        (subst (λ new. PatchRun taken g.outcomes base (g.seen ++ (came ∷ more)) (g.done ++ new)) (sym (append_assoc window (came ∷ []) more))
+        (g.run (came ∷ more) (λ never. cc)));
+    front = g.front;
+    count = let all = length-append g.seen (came ∷ []) in omega (arith, g.count);
+    held = let all = length-append g.seen (came ∷ []) in let more = length-append window (came ∷ []) in omega (arith, g.held);
+    counted = g.counted;
+    due = λ k d inside. let h = g.due k d inside in (h.0, omega (arith, h.1));
+    ahead = g.ahead;
+  }
+
+  -- less than a sector has come, and nothing is left
+  pub Going-end : Going taken left base start now window block sectors applied None → (image : Incoming) (came : List ℕ) → Consumes now.image.rest image.rest came → image.failures ≡ now.image.failures
+      → length came < SECTOR_SIZE → SECTOR_SIZE * sectors + length came ≤ image_limit → length window < 3 → IsAtEnd image.rest
+      → Going taken left base start (record now { image = image }) window block sectors applied (Some came)
+  Going-end g image came consumed kept short within room end = record {
+    seen = g.seen;
+    done = g.done;
+    outcomes = g.outcomes;
+    consumes =
+        subst (λ l. Consumes start.image.rest image.rest (l ++ came)) (append-nil (joined g.seen)) (Consumes-trans start.image.rest now.image.rest image.rest _ came g.consumes consumed);
+    appends = g.appends;
+    logs = g.logs;
+    unfailed = record { reads = kept ∙ g.unfailed.reads; writes = g.unfailed.writes; logs = g.unfailed.logs };
+    seen_sizes = g.seen_sizes;
+    done_sizes = g.done_sizes;
+    short = short;
+    within = within;
+    ended = λ some. end;
+    in_hand = omega arith;
+    run = λ more unended. g.run more (λ never. cc);
+    front = g.front;
+    count = g.count;
+    held = g.held;
+    counted = g.counted;
+    due = g.due;
+    ahead = g.ahead;
+  }
+
+-- the first sector of the window has gone out, with no patch left that begins there
+pub Going-send : (taken left : List Patch) (base : ℕ) (start now : Streams) (sector : List ℕ) (window : List (List ℕ)) (block sectors applied : ℕ) (tail : Option (List ℕ))
+    → Going taken left base start now (sector ∷ window) block sectors applied tail → (out : Outgoing) → Appends now.out.written out.written sector → out.failures ≡ now.out.failures
+    → length sector ≡ SECTOR_SIZE → All (λ p. block < p.block) left
+    → Going taken left base start (record now { out = out }) window (block + 1) sectors applied tail
+Going-send taken left base start now sector window block sectors applied tail g out sent kept size ahead = record {
+  seen = g.seen;
+  done = g.done ++ sector ∷ [];
+  outcomes = g.outcomes;
+  consumes = g.consumes;
+  appends =
+      subst (Appends start.out.written out.written) (sym (joined-more g.done sector)) (Appends-trans start.out.written now.out.written out.written _ sector g.appends sent);
+  logs = g.logs;
+  unfailed = record { reads = g.unfailed.reads; writes = kept ∙ g.unfailed.writes; logs = g.unfailed.logs };
+  seen_sizes = g.seen_sizes;
+  done_sizes = AreSized-more g.done sector g.done_sizes size;
+  short = g.short;
+  within = g.within;
+  ended = g.ended;
+  in_hand = omega (arith, g.in_hand);
+  run = λ more unended. subst (PatchRun taken g.outcomes base (g.seen ++ more)) (sym (append_assoc g.done (sector ∷ []) (window ++ more))) (g.run more unended);
+  front = let all = length-append g.done (sector ∷ []) in omega (arith, g.front);
+  count = g.count;
+  held = let all = length-append g.done (sector ∷ []) in omega (arith, g.held);
+  counted = g.counted;
+  due = λ k d inside. let h = g.due k d inside in (omega (arith, h.0), h.1);
+  ahead = λ k d inside. let h = ahead k d inside in omega arith;
+}
+
+pub tail_read-some : (tail : Option ℕ) (bytes : List ℕ) → IsSome tail → IsSome (tail_read tail bytes)
+tail_read-some None bytes never = never
+tail_read-some (Some left) bytes some = refl
+
+-- all that the patch meets is in the window, or nothing follows
+pub reaches : (block met count : ℕ) (tail : Option ℕ) (bytes : List ℕ) → (met ≤ count) ⊎ IsSome tail → (block + met ≤ block + count) ⊎ IsSome (tail_read tail bytes)
+reaches block met count tail bytes (inl within) = inl (omega arith)
+reaches block met count tail bytes (inr ended) = inr (tail_read-some tail bytes ended)
+
+-- one patch alone
+PatchRun-one : (p : Patch) (o : Outcome) (base : ℕ) (old new : List (List ℕ)) → o ≡ outcome old base p → Effect base p old new → PatchRun (p ∷ []) (o ∷ []) base old new
+PatchRun-one p o base old new is effect = (is, (new, effect, refl))
+
+-- a patch that begins at the first sector of the window was taken: all that it meets is in the window, or nothing follows
+module _ (taken : List Patch) (p : Patch) (left : List Patch) (base : ℕ) (start now : Streams) (window window' : List (List ℕ)) (block sectors applied : ℕ) (tail : Option (List ℕ)) where
+  pub Going-take : Going taken (p ∷ left) base start now window block sectors applied tail → (log : Outgoing) (o : Outcome) → o ≡ outcome window block p → Effect block p window window'
+      → Appends now.log.written log.written (log_line p o) → log.failures ≡ now.log.failures → p.block ≡ block → 0 < length window
+      → (block + blocks_met p ≤ block + length window) ⊎ IsSome tail
+      → Going (taken ++ p ∷ []) left base start (record now { log = log }) window' block sectors (applied + cond (is_applied o) 1 0) tail
+  Going-take g log o decided effect told kept at some reach = record {
+    seen = g.seen;
+    done = g.done;
+    outcomes = g.outcomes ++ o ∷ [];
+    consumes = g.consumes;
+    appends = g.appends;
+    logs =
+        let lines : log_lines (taken ++ p ∷ []) (g.outcomes ++ o ∷ []) ≡ log_lines taken g.outcomes ++ log_line p o =
+        log_lines-append taken (p ∷ []) g.outcomes (o ∷ []) lengths ∙ ap (λ l. log_lines taken g.outcomes ++ l) (append-nil (log_line p o)) in
+        subst (Appends start.log.written log.written) (sym lines) (Appends-trans start.log.written now.log.written log.written _ _ g.logs told);
+    unfailed = record { reads = g.unfailed.reads; writes = g.unfailed.writes; logs = kept ∙ g.unfailed.logs };
+    seen_sizes = g.seen_sizes;
+    done_sizes = g.done_sizes;
+    short = g.short;
+    within = g.within;
+    ended = g.ended;
+    in_hand = omega (arith, g.in_hand, same_length);
+    run = λ more unended. PatchRun-append taken (p ∷ []) g.outcomes (o ∷ []) base _ (g.done ++ (window ++ more)) _ (g.run more unended) (last more unended);
+    front = g.front;
+    count = g.count;
+    held = omega (arith, g.held, same_length);
+    counted = ap (λ n. n + cond (is_applied o) 1 0) g.counted ∙ sym (count_by-behind is_applied g.outcomes o);
+    due =
+        All-append (λ q. (q.block ≤ block) × (q.block < base + sectors)) taken (p ∷ []) g.due
+        (All-cons (λ q. (q.block ≤ block) × (q.block < base + sectors)) p [] (omega arith, omega (arith, g.front, g.held, g.count)) (All-nil (λ q. (q.block ≤ block) × (q.block < base + sectors))));
+    ahead = All-tail (λ q. block ≤ q.block) p left g.ahead;
+  }
+    where
+      same_length : length window' ≡ length window
+      same_length = Effect-length block p window window' effect
+
+      lengths : length g.outcomes ≡ length taken
+      lengths = PatchRun-lengths taken g.outcomes base (g.seen ++ []) (g.done ++ (window ++ [])) (g.run [] (λ some. refl))
+
+      reaches : (more : List (List ℕ)) → (IsSome tail → more ≡ []) → (p.block + blocks_met p ≤ block + length window) ⊎ (more ≡ [])
+      reaches more unended = elim reach [
+        | inl within ↦ inl (omega arith)
+        | inr some ↦ inr (unended some)
+      ]
+
+      last : (more : List (List ℕ)) → (IsSome tail → more ≡ []) → PatchRun (p ∷ []) (o ∷ []) base (g.done ++ (window ++ more)) (g.done ++ (window' ++ more))
+      last more unended =
+          PatchRun-one p o base _ _ (decided ∙ sym (outcome-frame g.done window more base block p g.front (omega arith) (reaches more unended)))
+          (Effect-frame g.done window window' more base block p g.front (omega arith) (reaches more unended) effect)

@@ -1,0 +1,48 @@
+-- What patches make of an image.
+use Rattle.std.proofs.Common.{◌≡◌, ℕ, ◌*◌, ◌/◌, ◌≤◌, zero, suc, List, ◌++◌, length, take, drop, sym, ap, ◌∙◌, subst, arith}
+use Rattle.std.specs.Prelude.{All}
+use Rattle.std.specs.Simd.{first_chunks}
+use Rattle.std.proofs.lemmas.List.{length-drop, length-take-le}
+use Rattle.std.proofs.lemmas.List.Elements.{All-cons, All-nil}
+use Rattle.cd_code.specs.Field.{AreBytes}
+use Rattle.cd_script.specs.Patch.{IsPatch}
+use Rattle.cd_patch.specs.Laws.{IsSector}
+use Rattle.cd_patch.specs.Run.{PatchRun}
+use Rattle.cd_script.specs.declared.patch.Patch.{Patch}
+use Rattle.cd_patch.specs.declared.outcome.Outcome.{Outcome}
+use Rattle.cd_sector.proofs.ExistenceLemmas.{AreBytes-drop}
+use Rattle.cd_sector.proofs.SectorLemmas.{AreBytes-take}
+use Rattle.cd_patch.proofs.ExistenceLemmas.{run-exists}
+use Rattle.cd_patch.proofs.RunLemmas.{PatchRun-determined}
+use Rattle.cd_image.specs.Image.{sectors, tail}
+use Rattle.cd_image.specs.Patched.{IsPatched}
+use Rattle.cd_image.specs.Passing.{joined}
+use Rattle.cd_image.proofs.ImageLemmas.{IsCut-sectors, cut_of_joined}
+
+pub IsPatched-determined : (patches : List Patch) (os os' : List Outcome) (base : ℕ) (image last last' : List ℕ) → IsPatched patches os base image last → IsPatched patches os' base image last'
+    → (os ≡ os') × (last ≡ last')
+IsPatched-determined patches os os' base image last last' one other =
+    let same = PatchRun-determined patches os os' base (sectors image) (sectors last) (sectors last') one.run other.run in (
+      same.0,
+      sym (IsCut-sectors last).joined ∙ ap (λ ss. joined ss ++ tail last) same.1 ∙ ap (λ t. joined (sectors last') ++ t) (one.same_tail ∙ sym other.same_tail) ∙ (IsCut-sectors last').joined,
+    )
+
+-- ---- there is a run
+
+chunks-sectors : (n : ℕ) (bytes : List ℕ) → 2352 * n ≤ length bytes → AreBytes bytes → All IsSector (first_chunks 2352 n bytes)
+chunks-sectors zero bytes long each = All-nil IsSector
+chunks-sectors (suc n) bytes long each =
+    let size = length-take-le 2352 bytes (omega arith) in
+    All-cons IsSector (take 2352 bytes) (first_chunks 2352 n (drop 2352 bytes)) (record { size = size; bytes = AreBytes-take bytes 2352 each })
+    (chunks-sectors n (drop 2352 bytes) (omega (arith, length-drop 2352 bytes)) (AreBytes-drop bytes 2352 each))
+
+-- the sectors of an image of bytes are sectors of bytes
+sectors-are : (image : List ℕ) → AreBytes image → All IsSector (sectors image)
+unfolding sectors
+sectors-are image each = chunks-sectors (length image / 2352) image (omega arith) each
+
+pub IsPatched-exists : (patches : List Patch) (base : ℕ) (image : List ℕ) → All IsPatch patches → AreBytes image → (os : List Outcome) × (last : List ℕ) × IsPatched patches os base image last
+IsPatched-exists patches base image each bytes =
+    let run = run-exists patches base (sectors image) each (sectors-are image bytes) in
+    let cut = cut_of_joined run.1 (tail image) (λ k d inside. (run.3 k d inside).size) (IsCut-sectors image).short in
+    (run.0, joined run.1 ++ tail image, record { run = subst (PatchRun patches run.0 base (sectors image)) cut.0 run.2; same_tail = sym cut.1 })

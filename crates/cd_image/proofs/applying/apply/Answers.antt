@@ -1,0 +1,31 @@
+use Rattle.std.proofs.Common.{subst}
+use Rattle.cd_image.specs.Applying.{Applies, streams}
+use Rattle.cd_image.proofs.ApplyReportLemmas.{Applies-ends_log, Applies-ends_out, Applies-few, Applies-log_failed, Applies-output, Applies-read_failed, Applies-told, Applies-too_long, Applies-write_failed}
+use Rattle.cd_image.proofs.applying.apply.Goals as goal
+
+pub returns-clause-output : goal.returns-clause-output
+returns-clause-output g c = Applies-output c.args.script.now c.args.base (streams (g.I.Source.seen c.args.image.now) (g.O.Sink.seen c.args.out.now) (g.L.Sink.seen c.args.log.now)) (streams (g.I.Source.seen c.apply_whole.new.image) (g.O.Sink.seen c.apply_whole.new.out) (g.L.Sink.seen c.apply_whole.new.log)) c.apply_whole.result (subst (λ ps. Applies ps c.args.base (streams (g.I.Source.seen c.args.image.now) (g.O.Sink.seen c.args.out.now) (g.L.Sink.seen c.args.log.now)) (streams (g.I.Source.seen c.apply_whole.new.image) (g.O.Sink.seen c.apply_whole.new.out) (g.L.Sink.seen c.apply_whole.new.log)) c.apply_whole.result) c.patches.ensures.patches c.apply_whole.ensures)
+
+pub returns-clause-log : goal.returns-clause-log
+returns-clause-log g c = Applies-told c.args.script.now c.args.base (streams (g.I.Source.seen c.args.image.now) (g.O.Sink.seen c.args.out.now) (g.L.Sink.seen c.args.log.now)) (streams (g.I.Source.seen c.apply_whole.new.image) (g.O.Sink.seen c.apply_whole.new.out) (g.L.Sink.seen c.apply_whole.new.log)) c.apply_whole.result (subst (λ ps. Applies ps c.args.base (streams (g.I.Source.seen c.args.image.now) (g.O.Sink.seen c.args.out.now) (g.L.Sink.seen c.args.log.now)) (streams (g.I.Source.seen c.apply_whole.new.image) (g.O.Sink.seen c.apply_whole.new.out) (g.L.Sink.seen c.apply_whole.new.log)) c.apply_whole.result) c.patches.ensures.patches c.apply_whole.ensures)
+
+pub returns-clause-output_ends_well : goal.returns-clause-output_ends_well
+returns-clause-output_ends_well g c = Applies-ends_out c.args.script.now c.args.base (streams (g.I.Source.seen c.args.image.now) (g.O.Sink.seen c.args.out.now) (g.L.Sink.seen c.args.log.now)) (streams (g.I.Source.seen c.apply_whole.new.image) (g.O.Sink.seen c.apply_whole.new.out) (g.L.Sink.seen c.apply_whole.new.log)) c.apply_whole.result (subst (λ ps. Applies ps c.args.base (streams (g.I.Source.seen c.args.image.now) (g.O.Sink.seen c.args.out.now) (g.L.Sink.seen c.args.log.now)) (streams (g.I.Source.seen c.apply_whole.new.image) (g.O.Sink.seen c.apply_whole.new.out) (g.L.Sink.seen c.apply_whole.new.log)) c.apply_whole.result) c.patches.ensures.patches c.apply_whole.ensures)
+
+pub returns-clause-log_ends_well : goal.returns-clause-log_ends_well
+returns-clause-log_ends_well g c = Applies-ends_log c.args.script.now c.args.base (streams (g.I.Source.seen c.args.image.now) (g.O.Sink.seen c.args.out.now) (g.L.Sink.seen c.args.log.now)) (streams (g.I.Source.seen c.apply_whole.new.image) (g.O.Sink.seen c.apply_whole.new.out) (g.L.Sink.seen c.apply_whole.new.log)) c.apply_whole.result (subst (λ ps. Applies ps c.args.base (streams (g.I.Source.seen c.args.image.now) (g.O.Sink.seen c.args.out.now) (g.L.Sink.seen c.args.log.now)) (streams (g.I.Source.seen c.apply_whole.new.image) (g.O.Sink.seen c.apply_whole.new.out) (g.L.Sink.seen c.apply_whole.new.log)) c.apply_whole.result) c.patches.ensures.patches c.apply_whole.ensures)
+
+pub returns-clause-read_failed : goal.returns-clause-read_failed
+returns-clause-read_failed g c = Applies-read_failed c.args.script.now c.args.base (streams (g.I.Source.seen c.args.image.now) (g.O.Sink.seen c.args.out.now) (g.L.Sink.seen c.args.log.now)) (streams (g.I.Source.seen c.apply_whole.new.image) (g.O.Sink.seen c.apply_whole.new.out) (g.L.Sink.seen c.apply_whole.new.log)) c.apply_whole.result (subst (λ ps. Applies ps c.args.base (streams (g.I.Source.seen c.args.image.now) (g.O.Sink.seen c.args.out.now) (g.L.Sink.seen c.args.log.now)) (streams (g.I.Source.seen c.apply_whole.new.image) (g.O.Sink.seen c.apply_whole.new.out) (g.L.Sink.seen c.apply_whole.new.log)) c.apply_whole.result) c.patches.ensures.patches c.apply_whole.ensures)
+
+pub returns-clause-write_failed : goal.returns-clause-write_failed
+returns-clause-write_failed g c = Applies-write_failed c.args.script.now c.args.base (streams (g.I.Source.seen c.args.image.now) (g.O.Sink.seen c.args.out.now) (g.L.Sink.seen c.args.log.now)) (streams (g.I.Source.seen c.apply_whole.new.image) (g.O.Sink.seen c.apply_whole.new.out) (g.L.Sink.seen c.apply_whole.new.log)) c.apply_whole.result (subst (λ ps. Applies ps c.args.base (streams (g.I.Source.seen c.args.image.now) (g.O.Sink.seen c.args.out.now) (g.L.Sink.seen c.args.log.now)) (streams (g.I.Source.seen c.apply_whole.new.image) (g.O.Sink.seen c.apply_whole.new.out) (g.L.Sink.seen c.apply_whole.new.log)) c.apply_whole.result) c.patches.ensures.patches c.apply_whole.ensures)
+
+pub returns-clause-log_failed : goal.returns-clause-log_failed
+returns-clause-log_failed g c = Applies-log_failed c.args.script.now c.args.base (streams (g.I.Source.seen c.args.image.now) (g.O.Sink.seen c.args.out.now) (g.L.Sink.seen c.args.log.now)) (streams (g.I.Source.seen c.apply_whole.new.image) (g.O.Sink.seen c.apply_whole.new.out) (g.L.Sink.seen c.apply_whole.new.log)) c.apply_whole.result (subst (λ ps. Applies ps c.args.base (streams (g.I.Source.seen c.args.image.now) (g.O.Sink.seen c.args.out.now) (g.L.Sink.seen c.args.log.now)) (streams (g.I.Source.seen c.apply_whole.new.image) (g.O.Sink.seen c.apply_whole.new.out) (g.L.Sink.seen c.apply_whole.new.log)) c.apply_whole.result) c.patches.ensures.patches c.apply_whole.ensures)
+
+pub returns-clause-too_long : goal.returns-clause-too_long
+returns-clause-too_long g c = Applies-too_long c.args.script.now c.args.base (streams (g.I.Source.seen c.args.image.now) (g.O.Sink.seen c.args.out.now) (g.L.Sink.seen c.args.log.now)) (streams (g.I.Source.seen c.apply_whole.new.image) (g.O.Sink.seen c.apply_whole.new.out) (g.L.Sink.seen c.apply_whole.new.log)) c.apply_whole.result (subst (λ ps. Applies ps c.args.base (streams (g.I.Source.seen c.args.image.now) (g.O.Sink.seen c.args.out.now) (g.L.Sink.seen c.args.log.now)) (streams (g.I.Source.seen c.apply_whole.new.image) (g.O.Sink.seen c.apply_whole.new.out) (g.L.Sink.seen c.apply_whole.new.log)) c.apply_whole.result) c.patches.ensures.patches c.apply_whole.ensures)
+
+pub returns-clause-holds_few : goal.returns-clause-holds_few
+returns-clause-holds_few g c = Applies-few c.args.script.now c.args.base (streams (g.I.Source.seen c.args.image.now) (g.O.Sink.seen c.args.out.now) (g.L.Sink.seen c.args.log.now)) (streams (g.I.Source.seen c.apply_whole.new.image) (g.O.Sink.seen c.apply_whole.new.out) (g.L.Sink.seen c.apply_whole.new.log)) c.apply_whole.result (subst (λ ps. Applies ps c.args.base (streams (g.I.Source.seen c.args.image.now) (g.O.Sink.seen c.args.out.now) (g.L.Sink.seen c.args.log.now)) (streams (g.I.Source.seen c.apply_whole.new.image) (g.O.Sink.seen c.apply_whole.new.out) (g.L.Sink.seen c.apply_whole.new.log)) c.apply_whole.result) c.patches.ensures.patches c.apply_whole.ensures)

@@ -1,0 +1,95 @@
+use Rattle.std.proofs.Common.{arith}
+use Rattle.std.proofs.lemmas.Result.{err_from_is_err_and}
+use Rattle.cd_image.specs.Applying.{streams}
+use Rattle.cd_image.proofs.TurnLemmas.{Applies-first, begun_pass, bounds, no_tail}
+use Rattle.cd_image.proofs.applying.apply_whole.Goals as goal
+
+pub returns-in_err-send_missing : goal.returns-in_err-send_missing
+returns-in_err-send_missing g c =
+    let failed = err_from_is_err_and c.from_residual.result c.from_residual.ensures.1 in
+    let went = c.in_err-send_missing.ensures.bytes in
+    rw (failed.1, failed.2)
+    (Applies-first c.args.patches.now c.args.base (streams (g.I.Source.seen c.args.image.now) (g.O.Sink.seen c.args.out.now) (g.L.Sink.seen c.args.log.now)) (g.L.Sink.seen c.send_missing.new.log) c.count_below-below.result c.count_below-below.ensures.below went.0 went.1 went.2 c.in_err-send_missing.ensures.count)
+
+pub loop-more-init : goal.loop-more-init
+loop-more-init g c =
+    let new = c.new-pass.ensures in
+    record {
+      goes =
+          begun_pass c.args.patches.now c.args.base (streams (g.I.Source.seen c.args.image.now) (g.O.Sink.seen c.args.out.now) (g.L.Sink.seen c.args.log.now)) (g.L.Sink.seen c.send_missing.new.log) c.count_below-below.result c.new-pass.result new.window new.block new.sectors new.decided new.applied new.tail
+          c.count_below-below.ensures.below c.count_below-below.ensures.others c.in_ok-send_missing.ensures.bytes c.in_ok-send_missing.ensures.count;
+      known = omega (arith, new.decided, c.count_below-below.ensures.within);
+      short = no_tail c.new-pass.result new.tail;
+      ended = λ never. cc;
+    }
+
+pub turn-requires-clause-image_countable : goal.turn-requires-clause-image_countable
+turn-requires-clause-image_countable g c =
+    let b = bounds c.args.patches.now c.args.base (streams (g.I.Source.seen c.args.image.now) (g.O.Sink.seen c.args.out.now) (g.L.Sink.seen c.args.log.now)) (streams (g.I.Source.seen c.loop-more.image) (g.O.Sink.seen c.loop-more.out) (g.L.Sink.seen c.loop-more.log)) c.loop-more.pass c.requires.base c.loop-more.invariant.goes in
+    omega (arith, b.reads)
+
+pub turn-requires-clause-out_countable : goal.turn-requires-clause-out_countable
+turn-requires-clause-out_countable g c =
+    let b = bounds c.args.patches.now c.args.base (streams (g.I.Source.seen c.args.image.now) (g.O.Sink.seen c.args.out.now) (g.L.Sink.seen c.args.log.now)) (streams (g.I.Source.seen c.loop-more.image) (g.O.Sink.seen c.loop-more.out) (g.L.Sink.seen c.loop-more.log)) c.loop-more.pass c.requires.base c.loop-more.invariant.goes in
+    omega (arith, b.writes)
+
+pub turn-requires-clause-log_countable : goal.turn-requires-clause-log_countable
+turn-requires-clause-log_countable g c =
+    let b = bounds c.args.patches.now c.args.base (streams (g.I.Source.seen c.args.image.now) (g.O.Sink.seen c.args.out.now) (g.L.Sink.seen c.args.log.now)) (streams (g.I.Source.seen c.loop-more.image) (g.O.Sink.seen c.loop-more.out) (g.L.Sink.seen c.loop-more.log)) c.loop-more.pass c.requires.base c.loop-more.invariant.goes in
+    omega (arith, b.logs)
+
+pub turn-requires-clause-few : goal.turn-requires-clause-few
+turn-requires-clause-few g c =
+    let b = bounds c.args.patches.now c.args.base (streams (g.I.Source.seen c.args.image.now) (g.O.Sink.seen c.args.out.now) (g.L.Sink.seen c.args.log.now)) (streams (g.I.Source.seen c.loop-more.image) (g.O.Sink.seen c.loop-more.out) (g.L.Sink.seen c.loop-more.log)) c.loop-more.pass c.requires.base c.loop-more.invariant.goes in
+    b.sectors
+
+pub turn-requires-clause-small : goal.turn-requires-clause-small
+turn-requires-clause-small g c =
+    let b = bounds c.args.patches.now c.args.base (streams (g.I.Source.seen c.args.image.now) (g.O.Sink.seen c.args.out.now) (g.L.Sink.seen c.args.log.now)) (streams (g.I.Source.seen c.loop-more.image) (g.O.Sink.seen c.loop-more.out) (g.L.Sink.seen c.loop-more.log)) c.loop-more.pass c.requires.base c.loop-more.invariant.goes in
+    omega (arith, b.block)
+
+pub turn-requires-clause-applied : goal.turn-requires-clause-applied
+turn-requires-clause-applied g c =
+    let b = bounds c.args.patches.now c.args.base (streams (g.I.Source.seen c.args.image.now) (g.O.Sink.seen c.args.out.now) (g.L.Sink.seen c.args.log.now)) (streams (g.I.Source.seen c.loop-more.image) (g.O.Sink.seen c.loop-more.out) (g.L.Sink.seen c.loop-more.log)) c.loop-more.pass c.requires.base c.loop-more.invariant.goes in
+    b.applied
+
+pub returns-in_err-more : goal.returns-in_err-more
+returns-in_err-more g c =
+    let failed = err_from_is_err_and c.from_residual-in_err-more.result c.from_residual-in_err-more.ensures.1 in
+    rw (failed.1, failed.2) (c.in_err-more.ensures.goes c.args.base (streams (g.I.Source.seen c.args.image.now) (g.O.Sink.seen c.args.out.now) (g.L.Sink.seen c.args.log.now)) c.loop-more.invariant.goes)
+
+pub loop-more-smaller : goal.loop-more-smaller
+loop-more-smaller g c =
+    rw c.loop-more-test.true (omega (arith, c.in_ok-more.ensures.nearer))
+
+pub loop-more-preserved : goal.loop-more-preserved
+loop-more-preserved g c = record {
+  goes = c.in_ok-more.ensures.goes c.args.base (streams (g.I.Source.seen c.args.image.now) (g.O.Sink.seen c.args.out.now) (g.L.Sink.seen c.args.log.now)) c.loop-more.invariant.goes;
+  known = c.in_ok-more.ensures.known c.loop-more.invariant.known;
+  short = c.in_ok-more.ensures.short c.loop-more.invariant.short;
+  ended = c.in_ok-more.ensures.ended;
+}
+
+pub close-requires-clause-out_countable : goal.close-requires-clause-out_countable
+close-requires-clause-out_countable g c =
+    let b = bounds c.args.patches.now c.args.base (streams (g.I.Source.seen c.args.image.now) (g.O.Sink.seen c.args.out.now) (g.L.Sink.seen c.args.log.now)) (streams (g.I.Source.seen c.loop-more.image) (g.O.Sink.seen c.loop-more.out) (g.L.Sink.seen c.loop-more.log)) c.loop-more.pass c.requires.base c.loop-more.invariant.goes in
+    omega (arith, b.writes)
+
+pub close-requires-clause-log_countable : goal.close-requires-clause-log_countable
+close-requires-clause-log_countable g c =
+    let b = bounds c.args.patches.now c.args.base (streams (g.I.Source.seen c.args.image.now) (g.O.Sink.seen c.args.out.now) (g.L.Sink.seen c.args.log.now)) (streams (g.I.Source.seen c.loop-more.image) (g.O.Sink.seen c.loop-more.out) (g.L.Sink.seen c.loop-more.log)) c.loop-more.pass c.requires.base c.loop-more.invariant.goes in
+    omega (arith, b.logs)
+
+pub close-requires-clause-ended : goal.close-requires-clause-ended
+close-requires-clause-ended g c = c.loop-more.invariant.ended c.loop-more-test.false
+
+pub close-requires-clause-short : goal.close-requires-clause-short
+close-requires-clause-short g c = c.loop-more.invariant.short
+
+pub close-requires-clause-applied : goal.close-requires-clause-applied
+close-requires-clause-applied g c =
+    let b = bounds c.args.patches.now c.args.base (streams (g.I.Source.seen c.args.image.now) (g.O.Sink.seen c.args.out.now) (g.L.Sink.seen c.args.log.now)) (streams (g.I.Source.seen c.loop-more.image) (g.O.Sink.seen c.loop-more.out) (g.L.Sink.seen c.loop-more.log)) c.loop-more.pass c.requires.base c.loop-more.invariant.goes in
+    b.applied
+
+pub returns : goal.returns
+returns g c = c.close.ensures c.args.base (streams (g.I.Source.seen c.args.image.now) (g.O.Sink.seen c.args.out.now) (g.L.Sink.seen c.args.log.now)) (g.I.Source.seen c.loop-more.image) c.loop-more.invariant.goes

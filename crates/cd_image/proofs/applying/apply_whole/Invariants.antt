@@ -1,0 +1,18 @@
+use Rattle.std.proofs.Common.{◌≡◌, ◌+◌, ◌≤◌, false, take, drop, length, cond}
+use Rattle.cd_image.specs.Applying.{streams}
+use Rattle.cd_image.specs.Passing.{GoesOn, HasShortTail, IsEnded, left_to_do}
+use Rattle.cd_image.proofs.applying.apply_whole.Given as goal
+
+abbrev pub invariant-loop-more : goal.invariant-loop-more
+invariant-loop-more g l =
+    let start = streams (g.I.Source.seen l.fn.image) (g.O.Sink.seen l.fn.out) (g.L.Sink.seen l.fn.log) in
+    let now = streams (g.I.Source.seen l.image) (g.O.Sink.seen l.out) (g.L.Sink.seen l.log) in
+    record {
+      goes : GoesOn (take l.pass.decided l.patches) (drop l.pass.decided l.patches) l.fn.base start now l.pass;
+      known : l.pass.decided ≤ length l.patches;
+      short : HasShortTail l.pass;
+      ended : l.more ≡ false → IsEnded l.pass;
+    }
+
+abbrev pub decreases-loop-more : goal.decreases-loop-more
+decreases-loop-more g l = left_to_do (length l.patches) l.pass + cond l.more 1 0

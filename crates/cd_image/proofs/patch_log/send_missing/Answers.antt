@@ -1,0 +1,23 @@
+use Rattle.std.proofs.Common.{sym, ◌∙◌, subst}
+use Rattle.std.specs.Io.KnownBytes.{Appends}
+use Rattle.std.proofs.KnownBytes.{Appends-trans}
+use Rattle.std.proofs.lemmas.Result.{err_from_is_err_and}
+use Rattle.cd_image.proofs.PatchLogLemmas.{missing_lines-cut, missing_lines-more}
+use Rattle.cd_image.proofs.patch_log.send_missing.Goals as goal
+
+pub returns-in_err-send_outcome : goal.returns-in_err-send_outcome
+returns-in_err-send_outcome g c =
+    let failed = err_from_is_err_and c.from_residual.result c.from_residual.ensures.1 in
+    let went = c.in_err-send_outcome.ensures.bytes in
+    rw failed.1
+    (missing_lines-cut c.args.patches.now c.loop-patch.patch-index c.patch-item.result c.loop-patch-test.true c.patch-item.is (g.L.Sink.seen c.args.log.now) (g.L.Sink.seen c.loop-patch.log) (g.L.Sink.seen c.send_outcome.new.log)
+    went.0 went.1 c.loop-patch.invariant.told went.2 c.loop-patch.invariant.kept c.in_err-send_outcome.ensures.count _)
+
+pub loop-patch-preserved : goal.loop-patch-preserved
+loop-patch-preserved g c = record {
+  told =
+      subst (Appends (g.L.Sink.seen c.args.log.now).written (g.L.Sink.seen c.send_outcome.new.log).written)
+      (sym (missing_lines-more c.args.patches.now c.loop-patch.patch-index c.patch-item.result c.loop-patch-test.true c.patch-item.is))
+      (Appends-trans _ _ _ _ _ c.loop-patch.invariant.told c.in_ok-send_outcome.ensures.bytes);
+  kept = c.in_ok-send_outcome.ensures.count ∙ c.loop-patch.invariant.kept;
+}

@@ -1,0 +1,140 @@
+-- How far a pass over an image has come that takes patches on its way: inner words of `apply` and `check`.
+use Rattle.std.specs.Prelude.{◌≡◌, ℕ, ◌+◌, ◌-◌, ◌*◌, ◌<◌, ◌≤◌, ◌⊎◌, Bool, true, false, List, [], ◌∷◌, ◌++◌, All, length, take, drop, map, Option, None, Some, IfSome, IsSome, Result, Ok, Err}
+use Rattle.std.specs.Io.KnownBytes.{Appends, Consumes, IsAtEnd}
+use Rattle.std.specs.List.{flat_map}
+use Rattle.cd_script.specs.declared.patch.Patch.{Patch}
+use Rattle.cd_sector.specs.declared.sector.TheConstants.{SECTOR_SIZE}
+use Rattle.cd_patch.specs.Run.{PatchRun}
+use Rattle.cd_patch.specs.declared.outcome.Outcome.{Outcome}
+use Rattle.cd_patch.specs.declared.outcome.Outcome.TheVariants.{NoBlock}
+use Rattle.cd_image.specs.Applying.{Applies, Failed, Streams}
+use Rattle.cd_image.specs.Image.{image_limit}
+use Rattle.cd_image.specs.PatchLog.{applied_count, log_lines}
+use Rattle.cd_stream.specs.Stream.{Incoming}
+use Rattle.cd_image.specs.declared.fault.Fault.{Fault}
+use Rattle.cd_image.specs.declared.fault.Fault.TheVariants.{Log, Read, TooLong, Write}
+use Rattle.cd_image.specs.declared.pass.Pass.{Pass}
+
+-- the bytes of sectors
+abbrev pub joined : List (List ℕ) → List ℕ
+joined whole = flat_map (λ sector. sector) whole
+
+-- the tail, once it was read
+abbrev pub tail_bytes : Option (List ℕ) → List ℕ
+tail_bytes None = []
+tail_bytes (Some bytes) = bytes
+
+abbrev pub tail_read : Option ℕ → List ℕ → Option (List ℕ)
+tail_read None bytes = None
+tail_read (Some count) bytes = Some (take count bytes)
+
+-- the outcomes of patches whose first block the image does not have
+abbrev pub missing : List Patch → List Outcome
+missing ps = map (λ p. NoBlock p.block) ps
+
+-- since `start` the sectors `seen` were read, `done` have gone out and `window` waits; the patches `taken` were decided and
+-- told; whatever may still come, they lead from what was read to what went out, the window, and that
+pub record Going (taken left : List Patch) (base : ℕ) (start now : Streams) (window : List (List ℕ)) (block sectors applied : ℕ) (tail : Option (List ℕ)) : Type 0 where
+  pub seen : List (List ℕ)
+  pub done : List (List ℕ)
+  pub outcomes : List Outcome
+  pub consumes : Consumes start.image.rest now.image.rest (joined seen ++ tail_bytes tail)
+  pub appends : Appends start.out.written now.out.written (joined done)
+  pub logs : Appends start.log.written now.log.written (log_lines taken outcomes)
+  pub unfailed : Failed start now 0 0 0
+  pub seen_sizes : All (λ sector. length sector ≡ SECTOR_SIZE) seen
+  pub done_sizes : All (λ sector. length sector ≡ SECTOR_SIZE) done
+  pub short : length (tail_bytes tail) < SECTOR_SIZE
+  pub within : SECTOR_SIZE * sectors + length (tail_bytes tail) ≤ image_limit
+  pub ended : IsSome tail → IsAtEnd now.image.rest
+  pub in_hand : SECTOR_SIZE * length window + length (tail_bytes tail) ≤ 7056
+  pub run : (more : List (List ℕ)) → (IsSome tail → more ≡ []) → PatchRun taken outcomes base (seen ++ more) (done ++ (window ++ more))
+  pub front : block ≡ base + length done
+  pub count : sectors ≡ length seen
+  pub held : length done + length window ≡ length seen
+  pub counted : applied ≡ applied_count outcomes
+  pub due : All (λ p. (p.block ≤ block) × (p.block < base + sectors)) taken
+  pub ahead : All (λ p. block ≤ p.block) left
+
+-- a tail is shorter than a sector
+abbrev pub HasShortTail : Pass → Type 0
+HasShortTail pass = IfSome pass.tail (λ left. left < SECTOR_SIZE)
+
+-- the same of a pass
+abbrev pub GoesOn : List Patch → List Patch → ℕ → Streams → Streams → Pass → Type 0
+GoesOn taken left base start now pass =
+    Going taken left base start now pass.window.items pass.block pass.sectors pass.applied (tail_read pass.tail pass.bytes)
+
+-- a step has gone well, or the call ends by its fault
+abbrev pub Steps : {X : Type 0} → List Patch → List Patch → List Patch → List Patch → ℕ → Streams → Streams → Pass → Result X Fault → Type 0
+Steps taken left taken' left' base start now pass (Ok x) = GoesOn taken' left' base start now pass
+Steps taken left taken' left' base start now pass (Err fault) = Applies (taken ++ left) base start now (Err fault)
+
+-- the same, where a patch was taken or not, as the number of decided ones tells
+abbrev pub StepsOrTakes : {X : Type 0} → List Patch → Patch → List Patch → ℕ → Streams → ℕ → Streams → Pass → Result X Fault → Type 0
+StepsOrTakes taken p left base start decided now pass (Ok x) =
+    ((pass.decided ≡ decided) × GoesOn taken (p ∷ left) base start now pass) ⊎ ((pass.decided ≡ decided + 1) × GoesOn (taken ++ p ∷ []) left base start now pass)
+StepsOrTakes taken p left base start decided now pass (Err fault) = Applies (taken ++ p ∷ left) base start now (Err fault)
+
+-- ---- reading one more sector
+
+-- a whole one has come
+pub record SectorComes (old new : Pass) (image image' : Incoming) : Type 0 where
+  pub consumes : Consumes image.rest image'.rest new.bytes
+  pub count : image'.failures ≡ image.failures
+  pub few : old.sectors < 1000000
+  pub size : length new.bytes ≡ SECTOR_SIZE
+  pub pass : new ≡ record old { bytes = new.bytes; sectors = old.sectors + 1 }
+
+-- the end has come, and less than a sector in front of it
+pub record EndComes (old new : Pass) (image image' : Incoming) : Type 0 where
+  pub left : ℕ
+  pub short : left < SECTOR_SIZE
+  pub consumes : Consumes image.rest image'.rest (take left new.bytes)
+  pub count : image'.failures ≡ image.failures
+  pub at_end : IsAtEnd image'.rest
+  pub within : SECTOR_SIZE * old.sectors + left ≤ image_limit
+  pub pass : new ≡ record old { bytes = new.bytes; tail = Some left }
+
+-- a read has failed behind a part of a sector
+pub record ReadFails (old : Pass) (image image' : Incoming) : Type 0 where
+  pub came : List ℕ
+  pub short : length came < SECTOR_SIZE
+  pub consumes : Consumes image.rest image'.rest came
+  pub count : image'.failures ≡ image.failures + 1
+  pub within : SECTOR_SIZE * old.sectors + length came ≤ image_limit
+
+-- a byte has come behind the last sector that may be
+pub record TooMuchComes (old : Pass) (image image' : Incoming) : Type 0 where
+  pub came : List ℕ
+  pub one : length came ≡ 1
+  pub consumes : Consumes image.rest image'.rest came
+  pub count : image'.failures ≡ image.failures
+  pub full : SECTOR_SIZE * old.sectors ≡ image_limit
+
+abbrev pub ReadsSector : Pass → Pass → Incoming → Incoming → Result Bool Fault → Type 0
+ReadsSector old new image image' (Ok true) = SectorComes old new image image'
+ReadsSector old new image image' (Ok false) = EndComes old new image image'
+ReadsSector old new image image' (Err Read) = ReadFails old image image'
+ReadsSector old new image image' (Err TooLong) = TooMuchComes old image image'
+ReadsSector old new image image' (Err Write) = ⊥
+ReadsSector old new image image' (Err Log) = ⊥
+
+-- ---- how much is left to do, of so many patches: each turn leaves less
+
+abbrev pub end_to_come : Option ℕ → ℕ
+end_to_come None = 1
+end_to_come (Some left) = 0
+
+abbrev pub left_to_do : ℕ → Pass → ℕ
+left_to_do count pass = 2 * (1000000 - pass.sectors) + length pass.window.items + (count - pass.decided) + end_to_come pass.tail
+
+-- nothing waits, and the end has come
+pub record IsEnded (pass : Pass) : Type 0 where
+  pub empty : pass.window.items ≡ []
+  pub ended : IsSome pass.tail
+
+-- a turn has gone well, or the call ends by its fault
+abbrev pub Turns : {X : Type 0} → List Patch → ℕ → Streams → Streams → Pass → Result X Fault → Type 0
+Turns patches base start now pass (Ok x) = GoesOn (take pass.decided patches) (drop pass.decided patches) base start now pass
+Turns patches base start now pass (Err fault) = Applies patches base start now (Err fault)

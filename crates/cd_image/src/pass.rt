@@ -1,0 +1,335 @@
+//! One pass over an image that takes patches on its way: at most three sectors are in hand.
+
+ghost use Rattle.std.specs.Prelude.{◌≡◌, ◌≢◌, ℕ, ◌+◌, ◌-◌, ◌<◌, ◌≤◌, ◌⊎◌, ◌++◌, [], ◌∷◌, true, false, All, List, cond, None, OnOk, IfOk, IfSome, IfNone, IsSome, length, take, drop, slice_get};
+ghost use Rattle.std.specs.List.Sorted.{IsNonDecreasingBy};
+ghost use Rattle.cd_script.specs.Patch.{IsPatch};
+ghost use Rattle.cd_script.specs.declared.patch.Patch.{Patch};
+ghost use Rattle.cd_patch.specs.Blocks.{blocks_met};
+ghost use Rattle.cd_patch.specs.Deciding.{outcome};
+ghost use Rattle.cd_patch.specs.Effect.{Effect};
+ghost use Rattle.cd_patch.specs.Laws.{is_applied};
+ghost use Rattle.cd_stream.specs.Stream.{Incoming, Outgoing};
+ghost use Rattle.cd_image.specs.Applying.{Applies, Streams, streams};
+ghost use Rattle.cd_image.specs.Passing.{GoesOn, HasShortTail, IsEnded, ReadsSector, Steps, StepsOrTakes, Turns, left_to_do};
+
+use crate::MAX_SECTORS;
+use crate::fault::Fault;
+use crate::patch_log::{Tally, finish_log, send_counts, send_missing, send_outcome};
+use arrayvec::ArrayVec;
+use cd_patch::{Outcome, blocks_met, take_patch};
+use cd_script::Patch;
+use cd_sector::{SECTOR_SIZE, Sector};
+use cd_stream::{Sink, Source, fill, write_all};
+
+/// How far a pass has come.
+#[derive(Drop)]
+pub(crate) struct Pass {
+    /// Sectors that were read and have not gone out, the first of which is that of `block`.
+    window: ArrayVec<Sector, 3>,
+    /// What was read last.
+    bytes: [u8; SECTOR_SIZE],
+    /// The first block that has not gone out.
+    block: u32,
+    /// How many sectors were read.
+    sectors: u32,
+    /// How many patches were decided.
+    decided: usize,
+    /// How many of these were accepted.
+    applied: u32,
+    /// Once the image has ended: the number of bytes of its tail, which stands at the front of `bytes`.
+    tail: Option<usize>,
+}
+
+impl Pass {
+    /// Before the first sector, which is that of block `base`, behind so many patches that were decided.
+    pub(crate) fn new(base: u32, decided: usize) -> Self
+        ensures window { result.window.items ≡ [] }
+        ensures block { result.block ≡ base }
+        ensures sectors { result.sectors ≡ 0 }
+        ensures decided { result.decided ≡ decided }
+        ensures applied { result.applied ≡ 0 }
+        ensures tail { result.tail ≡ None }
+    {
+        Pass {
+            window: ArrayVec::new(),
+            bytes: [0; SECTOR_SIZE],
+            block: base,
+            sectors: 0,
+            decided,
+            applied: 0,
+            tail: None,
+        }
+    }
+
+    /// Reads one more sector, and answers whether there was one; else what came is the tail.
+    fn read_sector<I: Source>(&mut self, image: &mut I) -> Result<bool, Fault>
+        requires countable { (I.seen image.old).failures < 4294967295 }
+        requires few { self.old.sectors ≤ 1000000 }
+        ensures reads { ReadsSector self.old self.new (I.seen image.old) (I.seen image.new) result }
+        ensures short { HasShortTail self.old → HasShortTail self.new }
+    {
+        if self.sectors == MAX_SECTORS {
+            return self.read_end(image);
+        }
+        let length = fill(image, &mut self.bytes)?;
+        if length < SECTOR_SIZE {
+            self.tail = Some(length);
+            return Ok(false);
+        }
+        self.sectors += 1;
+        Ok(true)
+    }
+
+    /// Behind the last sector that an image may have: reads a byte more, which must not come.
+    fn read_end<I: Source>(&mut self, image: &mut I) -> Result<bool, Fault>
+        requires countable { (I.seen image.old).failures < 4294967295 }
+        requires full { self.old.sectors ≡ 1000000 }
+        ensures reads { ReadsSector self.old self.new (I.seen image.old) (I.seen image.new) result }
+        ensures short { HasShortTail self.old → HasShortTail self.new }
+    {
+        if image.read(&mut self.bytes[..1])? > 0 {
+            return Err(Fault::TooLong);
+        }
+        self.tail = Some(0);
+        Ok(false)
+    }
+
+    /// Reads one more sector into the window, where there is one.
+    fn read_ahead<I: Source>(&mut self, image: &mut I) -> Result<(), Fault>
+        requires countable { (I.seen image.old).failures < 4294967295 }
+        requires few { self.old.sectors ≤ 1000000 }
+        requires room { length self.old.window.items < 3 }
+        requires unended { self.old.tail ≡ None }
+        ensures goes { (taken left : List Patch) (base : ℕ) (start : Streams) (out log : Outgoing)
+            → GoesOn taken left base start (streams (I.seen image.old) out log) self.old
+            → Steps taken left taken left base start (streams (I.seen image.new) out log) self.new result }
+        ensures decided { OnOk result (self.new.decided ≡ self.old.decided) }
+        ensures short { HasShortTail self.old → HasShortTail self.new }
+        ensures nearer { OnOk result ((count : ℕ) → left_to_do count self.new < left_to_do count self.old) }
+    {
+        if self.read_sector(image)? {
+            self.window.push(Sector::from_bytes(self.bytes));
+        }
+        Ok(())
+    }
+
+    /// Reads one more sector and sends it, where there is one; none waits before it.
+    fn pass_on<I: Source, O: Sink>(&mut self, image: &mut I, out: &mut O) -> Result<(), Fault>
+        requires image_countable { (I.seen image.old).failures < 4294967295 }
+        requires out_countable { (O.seen out.old).failures < 4294967295 }
+        requires few { self.old.sectors ≤ 1000000 }
+        requires small { self.old.block < 4294967295 }
+        requires empty { self.old.window.items ≡ [] }
+        requires unended { self.old.tail ≡ None }
+        ensures goes { (taken left : List Patch) (base : ℕ) (start : Streams) (log : Outgoing)
+            → All (λ p. self.old.block < p.block) left
+            → GoesOn taken left base start (streams (I.seen image.old) (O.seen out.old) log) self.old
+            → Steps taken left taken left base start (streams (I.seen image.new) (O.seen out.new) log) self.new result }
+        ensures decided { OnOk result (self.new.decided ≡ self.old.decided) }
+        ensures short { HasShortTail self.old → HasShortTail self.new }
+        ensures nearer { OnOk result ((count : ℕ) → left_to_do count self.new < left_to_do count self.old) }
+    {
+        if self.read_sector(image)? {
+            write_all(out, &self.bytes)?;
+            self.block += 1;
+        }
+        Ok(())
+    }
+
+    /// Sends the first sector of the window.
+    fn send_front<O: Sink>(&mut self, out: &mut O) -> Result<(), Fault>
+        requires countable { (O.seen out.old).failures < 4294967295 }
+        requires small { self.old.block < 4294967295 }
+        requires some { 0 < length self.old.window.items }
+        ensures goes { (taken left : List Patch) (base : ℕ) (start : Streams) (image : Incoming) (log : Outgoing)
+            → All (λ p. self.old.block < p.block) left
+            → GoesOn taken left base start (streams image (O.seen out.old) log) self.old
+            → Steps taken left taken left base start (streams image (O.seen out.new) log) self.new result }
+        ensures decided { OnOk result (self.new.decided ≡ self.old.decided) }
+        ensures short { HasShortTail self.old → HasShortTail self.new }
+        ensures nearer { OnOk result ((count : ℕ) → left_to_do count self.new < left_to_do count self.old) }
+    {
+        write_all(out, self.window.as_slice()[0].bytes())?;
+        self.window.remove(0);
+        self.block += 1;
+        Ok(())
+    }
+
+    /// Takes a patch that begins at the first sector of the window. All that it meets is in the window, or the image
+    /// has ended.
+    fn take_front<L: Sink>(&mut self, patch: &Patch, log: &mut L) -> Result<(), Fault>
+        requires countable { (L.seen log.old).failures < 4294967295 }
+        requires patch { IsPatch patch.now }
+        requires at { patch.now.block ≡ self.old.block }
+        requires some { 0 < length self.old.window.items }
+        requires reach { (blocks_met patch.now ≤ length self.old.window.items) ⊎ IsSome self.old.tail }
+        requires few { self.old.decided < 65535 }
+        requires small { self.old.applied ≤ self.old.decided }
+        ensures goes { (taken left : List Patch) (base : ℕ) (start : Streams) (image : Incoming) (out : Outgoing)
+            → GoesOn taken (patch.now ∷ left) base start (streams image out (L.seen log.old)) self.old
+            → Steps taken (patch.now ∷ left) (taken ++ patch.now ∷ []) left base start (streams image out (L.seen log.new)) self.new result }
+        ensures decided { OnOk result (self.new.decided ≡ self.old.decided + 1) }
+        ensures short { HasShortTail self.old → HasShortTail self.new }
+        ensures nearer { OnOk result ((count : ℕ) → self.old.decided < count → left_to_do count self.new < left_to_do count self.old) }
+    {
+        let outcome = take_in(&mut self.window, patch);
+        send_outcome(patch, outcome, log)?;
+        self.decided += 1;
+        self.applied += one_if_applied(outcome);
+        Ok(())
+    }
+
+    /// The next patch, where it begins at the front block.
+    fn patch_at_front<'a>(&self, patches: &'a [Patch]) -> Option<&'a Patch>
+        ensures some { IfSome result (λ p. (slice_get patches.now self.now.decided ≡ Some p.now) × (p.now.block ≡ self.now.block)) }
+        ensures none { IfNone result ((p : Patch) → slice_get patches.now self.now.decided ≡ Some p → p.block ≢ self.now.block) }
+    {
+        match patches.get(self.decided) {
+            Some(patch) if patch.block == self.block => Some(patch),
+            Some(_) | None => None,
+        }
+    }
+
+    /// Does the next thing: takes a patch that begins at the front block, for which it reads ahead as far as the patch
+    /// asks; else sends a sector. Answers whether there was anything to do.
+    pub(crate) fn turn<I: Source, O: Sink, L: Sink>(
+        &mut self,
+        image: &mut I,
+        patches: &[Patch],
+        out: &mut O,
+        log: &mut L,
+    ) -> Result<bool, Fault>
+        requires image_countable { (I.seen image.old).failures < 4294967295 }
+        requires out_countable { (O.seen out.old).failures < 4294967295 }
+        requires log_countable { (L.seen log.old).failures < 4294967295 }
+        requires each { All IsPatch patches.now }
+        requires rising { IsNonDecreasingBy (λ p. p.block) patches.now }
+        requires count { length patches.now ≤ 65535 }
+        requires few { self.old.sectors ≤ 1000000 }
+        requires small { self.old.block < 4294967295 }
+        requires applied { self.old.applied ≤ self.old.decided }
+        ensures goes { (base : ℕ) (start : Streams)
+            → GoesOn (take self.old.decided patches.now) (drop self.old.decided patches.now) base start
+            (streams (I.seen image.old) (O.seen out.old) (L.seen log.old)) self.old
+            → Turns patches.now base start (streams (I.seen image.new) (O.seen out.new) (L.seen log.new)) self.new result }
+        ensures known { OnOk result (self.old.decided ≤ length patches.now → self.new.decided ≤ length patches.now) }
+        ensures short { HasShortTail self.old → HasShortTail self.new }
+        ensures ended { IfOk result (λ more. more ≡ false → IsEnded self.new) }
+        ensures nearer { IfOk result (λ more. left_to_do (length patches.now) self.new + cond more 1 0 ≤ left_to_do (length patches.now) self.old) }
+    {
+        match self.patch_at_front(patches) {
+            Some(patch) => self.turn_at(image, patch, log),
+            None => self.turn_behind(image, out),
+        }
+    }
+
+    /// At the front block, where a patch begins.
+    fn turn_at<I: Source, L: Sink>(
+        &mut self,
+        image: &mut I,
+        patch: &Patch,
+        log: &mut L,
+    ) -> Result<bool, Fault>
+        requires image_countable { (I.seen image.old).failures < 4294967295 }
+        requires log_countable { (L.seen log.old).failures < 4294967295 }
+        requires patch { IsPatch patch.now }
+        requires at { patch.now.block ≡ self.old.block }
+        requires few { self.old.sectors ≤ 1000000 }
+        requires decided { self.old.decided < 65535 }
+        requires applied { self.old.applied ≤ self.old.decided }
+        ensures goes { (taken left : List Patch) (base : ℕ) (start : Streams) (out : Outgoing)
+            → GoesOn taken (patch.now ∷ left) base start (streams (I.seen image.old) out (L.seen log.old)) self.old
+            → StepsOrTakes taken patch.now left base start self.old.decided (streams (I.seen image.new) out (L.seen log.new)) self.new result }
+        ensures decided { OnOk result (self.new.decided ≤ self.old.decided + 1) }
+        ensures short { HasShortTail self.old → HasShortTail self.new }
+        ensures ended { IfOk result (λ more. more ≡ false → IsEnded self.new) }
+        ensures nearer { IfOk result (λ more. (count : ℕ) → self.old.decided < count → left_to_do count self.new + cond more 1 0 ≤ left_to_do count self.old) }
+    {
+        if self.tail.is_none() && self.window.len() < blocks_met(patch) {
+            self.read_ahead(image)?;
+        } else if !self.window.is_empty() {
+            self.take_front(patch, log)?;
+        } else {
+            return Ok(false);
+        }
+        Ok(true)
+    }
+
+    /// At the front block, where no patch begins.
+    fn turn_behind<I: Source, O: Sink>(&mut self, image: &mut I, out: &mut O) -> Result<bool, Fault>
+        requires image_countable { (I.seen image.old).failures < 4294967295 }
+        requires out_countable { (O.seen out.old).failures < 4294967295 }
+        requires few { self.old.sectors ≤ 1000000 }
+        requires small { self.old.block < 4294967295 }
+        ensures goes { (taken left : List Patch) (base : ℕ) (start : Streams) (log : Outgoing)
+            → All (λ p. self.old.block < p.block) left
+            → GoesOn taken left base start (streams (I.seen image.old) (O.seen out.old) log) self.old
+            → Steps taken left taken left base start (streams (I.seen image.new) (O.seen out.new) log) self.new result }
+        ensures decided { OnOk result (self.new.decided ≡ self.old.decided) }
+        ensures short { HasShortTail self.old → HasShortTail self.new }
+        ensures ended { IfOk result (λ more. more ≡ false → IsEnded self.new) }
+        ensures nearer { IfOk result (λ more. (count : ℕ) → left_to_do count self.new + cond more 1 0 ≤ left_to_do count self.old) }
+    {
+        if !self.window.is_empty() {
+            self.send_front(out)?;
+        } else if self.tail.is_none() {
+            self.pass_on(image, out)?;
+        } else {
+            return Ok(false);
+        }
+        Ok(true)
+    }
+
+    /// Behind the last sector: sends the tail, tells of the patches that are left, and finishes.
+    pub(crate) fn close<O: Sink, L: Sink>(
+        self,
+        patches: &[Patch],
+        out: &mut O,
+        log: &mut L,
+    ) -> Result<Tally, Fault>
+        requires out_countable { (O.seen out.old).failures < 4294967295 }
+        requires log_countable { (L.seen log.old).failures < 4294967295 }
+        requires count { length patches.now ≤ 65535 }
+        requires ended { IsEnded self }
+        requires short { HasShortTail self }
+        requires decided { self.decided ≤ length patches.now }
+        requires applied { self.applied ≤ self.decided }
+        ensures { (base : ℕ) (start : Streams) (image : Incoming)
+            → GoesOn (take self.decided patches.now) (drop self.decided patches.now) base start (streams image (O.seen out.old) (L.seen log.old)) self
+            → Applies patches.now base start (streams image (O.seen out.new) (L.seen log.new)) result }
+    {
+        let tail = self.tail.unwrap_or(0);
+        let tally = Tally {
+            applied: self.applied,
+            refused: patches.len() as u32 - self.applied,
+            sectors: self.sectors,
+            tail: tail as u16,
+        };
+        write_all(out, &self.bytes[..tail])?;
+        send_missing(&patches[self.decided..], log)?;
+        send_counts(tally.applied, tally.refused, log)?;
+        out.finish()?;
+        finish_log(log)?;
+        Ok(tally)
+    }
+}
+
+/// Takes a patch on the sectors of a window, of which the first is the patch's.
+fn take_in(window: &mut ArrayVec<Sector, 3>, patch: &Patch) -> Outcome
+    requires { IsPatch patch.now }
+    ensures outcome { result ≡ outcome window.old.items patch.now.block patch.now }
+    ensures effect { Effect patch.now.block patch.now window.old.items window.new.items }
+{
+    take_patch(window.as_mut_slice(), patch)
+}
+
+/// 1 for a patch that was accepted, else 0.
+fn one_if_applied(outcome: Outcome) -> u32
+    ensures { result ≡ cond (is_applied outcome) 1 0 }
+{
+    match outcome {
+        Outcome::Applied => 1,
+        Outcome::NoBlock(_) | Outcome::NotMode1(_) | Outcome::Damaged(_) | Outcome::Differs(_, _) =>
+            0,
+    }
+}

@@ -1,0 +1,109 @@
+//! The log of patches: a line for each, then their counts.
+
+ghost use Rattle.std.specs.Prelude.{◌≡◌, ◌+◌, ◌<◌, ◌≤◌, ◌++◌, length};
+ghost use Rattle.cd_stream.specs.Transfer.{Flushes, Sends};
+ghost use Rattle.cd_image.specs.Passing.{missing};
+ghost use Rattle.cd_image.specs.PatchLog.{log_end, log_line, log_lines, outcome_text};
+
+use crate::fault::LogFailed;
+use cd_patch::Outcome;
+use cd_script::Patch;
+use cd_stream::{Line, Sink, write_all};
+
+/// What became of the patches of a script, and what the image is.
+#[derive(Clone, Copy, Debug, PartialEq, Eq)]
+pub struct Tally {
+    /// Patches that were accepted.
+    pub applied: u32,
+    /// Patches that were refused.
+    pub refused: u32,
+    /// Whole sectors of the image.
+    pub sectors: u32,
+    /// Bytes behind the last whole sector.
+    pub tail: u16,
+}
+
+/// Puts what became of a patch behind the beginning of a line.
+#[tactic(auto, unfolding(crate::specs::PatchLog::outcome_text))]
+fn push_outcome(line: &mut Line, outcome: Outcome)
+    requires { length line.old ≤ 17 }
+    ensures text { line.new ≡ line.old ++ outcome_text outcome }
+    ensures room { length line.new < 96 }
+{
+    match outcome {
+        Outcome::Applied => line.push_text(b"applied"),
+        Outcome::NoBlock(block) => {
+            line.push_text(b"refused: no block ");
+            line.push_number(block);
+        }
+        Outcome::NotMode1(block) => {
+            line.push_text(b"refused: block ");
+            line.push_number(block);
+            line.push_text(b" is not mode 1");
+        }
+        Outcome::Damaged(block) => {
+            line.push_text(b"refused: block ");
+            line.push_number(block);
+            line.push_text(b" is damaged");
+        }
+        Outcome::Differs(block, offset) => {
+            line.push_text(b"refused: old bytes differ at block ");
+            line.push_number(block);
+            line.push_text(b" offset ");
+            line.push_number(u32::from(offset));
+        }
+    }
+}
+
+/// Writes the line of a patch.
+#[tactic(auto, unfolding(crate::specs::PatchLog::log_line))]
+pub(crate) fn send_outcome<L: Sink>(
+    patch: &Patch,
+    outcome: Outcome,
+    log: &mut L,
+) -> Result<(), LogFailed>
+    requires { (L.seen log.old).failures < 4294967295 }
+    ensures { Sends (L.seen log.old) (L.seen log.new) (log_line patch.now outcome) result }
+{
+    let mut line = Line::new();
+    line.push_text(b"line ");
+    line.push_number(patch.line);
+    line.push_text(b": ");
+    push_outcome(&mut line, outcome);
+    line.push_text(b"\n");
+    Ok(write_all(log, line.as_slice())?)
+}
+
+/// Writes the lines of patches whose first block the image does not have.
+pub(crate) fn send_missing<L: Sink>(patches: &[Patch], log: &mut L) -> Result<(), LogFailed>
+    requires { (L.seen log.old).failures < 4294967295 }
+    ensures { Sends (L.seen log.old) (L.seen log.new) (log_lines patches.now (missing patches.now)) result }
+{
+    for patch in patches {
+        send_outcome(patch, Outcome::NoBlock(patch.block), log)?;
+    }
+    Ok(())
+}
+
+/// Writes the last line.
+#[tactic(auto, unfolding(crate::specs::PatchLog::log_end))]
+pub(crate) fn send_counts<L: Sink>(applied: u32, refused: u32, log: &mut L) -> Result<(), LogFailed>
+    requires { (L.seen log.old).failures < 4294967295 }
+    ensures { Sends (L.seen log.old) (L.seen log.new) (log_end applied refused) result }
+{
+    let mut line = Line::new();
+    line.push_text(b"applied ");
+    line.push_number(applied);
+    line.push_text(b" refused ");
+    line.push_number(refused);
+    line.push_text(b"\n");
+    Ok(write_all(log, line.as_slice())?)
+}
+
+/// Passes on all that the log still holds back.
+pub(crate) fn finish_log<L: Sink>(log: &mut L) -> Result<(), LogFailed>
+    requires { (L.seen log.old).failures < 4294967295 }
+    ensures { Flushes (L.seen log.old) (L.seen log.new) result }
+{
+    Ok(log.finish()?)
+}

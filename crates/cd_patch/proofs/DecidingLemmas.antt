@@ -1,0 +1,346 @@
+-- Which blocks a patch meets, what an accepted one has found there, and the bytes of joined user data.
+use Rattle.std.proofs.Common.{◌≡◌, ℕ, zero, suc, ◌+◌, ◌-◌, ◌*◌, ◌/◌, ◌%◌, ◌<◌, ◌≤◌, ◌⊎◌, inl, inr, Bool, true, false, cond, List, [], ◌∷◌, ◌++◌, length, get_or, drop, Option, Some, None, refl, sym, ap, subst, ◌∙◌, eq-eqb, arith}
+use Rattle.std.specs.Prelude.{not, ◌&&◌, if◌then◌else◌, is_some, slice_get, unwrap_or}
+use Rattle.std.proofs.lemmas.Bool.{cases_lt, ne_eqb}
+use Rattle.std.proofs.lemmas.List.{get_or_append_left, get_or-append_right, get_or-drop, get_or_read, length-append, length-drop}
+use Rattle.std.proofs.lemmas.Option.{slice_get-get_or, slice_get_past}
+use Rattle.cd_script.specs.Patch.{IsEditAt, IsPatch}
+use Rattle.cd_script.specs.declared.patch.Edit.{Edit}
+use Rattle.cd_script.specs.declared.patch.Edit.TheVariants.{Put, Fill, Rebuild}
+use Rattle.cd_script.specs.declared.patch.Patch.{Patch}
+use Rattle.cd_sector.proofs.DefectLemmas.{consistent-told, mode1_told}
+use Rattle.cd_sector.specs.Consistent.{IsConsistent, consistent, is_mode1, user_of}
+use Rattle.cd_sector.specs.Kind.{kind_of}
+use Rattle.cd_sector.specs.declared.kinds.SectorKind.TheVariants.{Mode1}
+use Rattle.cd_patch.specs.Blocks.{asks_sound, blocks_met, blocks_of, old_bytes, sector_at}
+use Rattle.cd_patch.specs.Deciding.{by_difference, first_difference, first_of, first_refusal, joined_user, outcome, refusal_at, user_at, user_met}
+use Rattle.cd_patch.specs.Parts.{HaveUsers}
+use Rattle.cd_patch.proofs.PartLemmas.{length-user}
+use Rattle.cd_patch.proofs.SectorAtLemmas.{sector_at-add}
+use Rattle.cd_patch.specs.declared.outcome.Outcome.{Outcome}
+use Rattle.cd_patch.specs.declared.outcome.Outcome.TheVariants.{Damaged, Differs, NotMode1}
+
+-- ---- refusals
+
+-- a block that does not refuse has a sector of Mode 1, which is consistent where that is asked
+abbrev pub IsMet : Bool → Option (List ℕ) → Type 0
+IsMet asks None = ⊥
+IsMet asks (Some sector) = (kind_of sector ≡ Mode1) × (asks ≡ true → consistent sector ≡ true)
+
+no_refusal : (mode asks sound : Bool) (block : ℕ)
+    → (if not mode then Some (NotMode1 block) else if asks && not sound then Some (Damaged block) else None) ≡ None
+    → (mode ≡ true) × (asks ≡ true → sound ≡ true)
+no_refusal true true true block h = (refl, λ _. refl)
+no_refusal true true false block h = cc
+no_refusal true false sound block h = (refl, λ e. cc)
+no_refusal false asks sound block h = cc
+
+pub refusal_at-none : (asks : Bool) (block : ℕ) (sector : Option (List ℕ)) → refusal_at asks block sector ≡ None → IsMet asks sector
+refusal_at-none asks block None h = cc
+refusal_at-none asks block (Some sector) h =
+    let both = no_refusal (is_mode1 (kind_of sector)) asks (consistent sector) block h in
+    ((mode1_told (kind_of sector)).0 both.0, both.1)
+
+first_of-none : (a b : Option Outcome) → first_of a b ≡ None → (a ≡ None) × (b ≡ None)
+first_of-none None b h = (refl, h)
+first_of-none (Some x) b h = cc
+
+-- no block has refused
+pub first_refusal-none : (ss : List (List ℕ)) (base : ℕ) (asks : Bool) (block count : ℕ) → first_refusal ss base asks block count ≡ None
+    → (k : ℕ) → k < count → IsMet asks (sector_at ss base (block + k))
+first_refusal-none ss base asks block zero h k below = absurd (omega arith)
+first_refusal-none ss base asks block (suc count) h zero below =
+    let both = first_of-none (refusal_at asks block (sector_at ss base block)) (first_refusal ss base asks (block + 1) count) h in
+    let here : block ≡ block + 0 = omega arith in
+    subst (λ b. IsMet asks (sector_at ss base b)) here (refusal_at-none asks block (sector_at ss base block) both.0)
+first_refusal-none ss base asks block (suc count) h (suc k) below =
+    let both = first_of-none (refusal_at asks block (sector_at ss base block)) (first_refusal ss base asks (block + 1) count) h in
+    let there : block + 1 + k ≡ block + suc k = omega arith in
+    subst (λ b. IsMet asks (sector_at ss base b)) there (first_refusal-none ss base asks (block + 1) count both.1 k (omega arith))
+
+-- the next block is asked where one does not refuse
+pub first_refusal-next : (ss : List (List ℕ)) (base : ℕ) (asks : Bool) (block count : ℕ)
+    → refusal_at asks block (sector_at ss base block) ≡ None
+    → first_refusal ss base asks block (suc count) ≡ first_refusal ss base asks (block + 1) count
+first_refusal-next ss base asks block count h = ap (λ r. first_of r (first_refusal ss base asks (block + 1) count)) h
+
+-- the first that refuses decides
+pub first_refusal-here : (ss : List (List ℕ)) (base : ℕ) (asks : Bool) (block count : ℕ) (refusal : Outcome)
+    → refusal_at asks block (sector_at ss base block) ≡ Some refusal
+    → first_refusal ss base asks block (suc count) ≡ Some refusal
+first_refusal-here ss base asks block count refusal h = ap (λ r. first_of r (first_refusal ss base asks (block + 1) count)) h
+
+-- ---- joined user data
+
+-- each of `count` blocks from one on has so many bytes of user data
+abbrev pub BlocksHaveUsers : ℕ → List (List ℕ) → ℕ → ℕ → ℕ → Type 0
+BlocksHaveUsers size ss base block count = (k : ℕ) → k < count → length (user_at (sector_at ss base (block + k))) ≡ size
+
+users-behind : (size : ℕ) (ss : List (List ℕ)) (base block count : ℕ) → BlocksHaveUsers size ss base block (suc count) → BlocksHaveUsers size ss base (block + 1) count
+users-behind size ss base block count h k below =
+    let same : block + 1 + k ≡ block + suc k = omega arith in
+    ap (λ b. length (user_at (sector_at ss base b))) same ∙ h (suc k) (omega arith)
+
+first-user : (size : ℕ) (ss : List (List ℕ)) (base block count : ℕ) → BlocksHaveUsers size ss base block (suc count) → length (user_at (sector_at ss base block)) ≡ size
+first-user size ss base block count h =
+    let same : block ≡ block + 0 = omega arith in
+    ap (λ b. length (user_at (sector_at ss base b))) same ∙ h 0 (omega arith)
+
+pub length-joined : (size : ℕ) (ss : List (List ℕ)) (base block count : ℕ) → BlocksHaveUsers size ss base block count
+    → length (joined_user ss base block count) ≡ size * count
+length-joined size ss base block zero h = omega arith
+length-joined size ss base block (suc count) h =
+    let first = user_at (sector_at ss base block) in
+    let others = joined_user ss base (block + 1) count in
+    let one = first-user size ss base block count h in
+    let two = length-joined size ss base (block + 1) count (users-behind size ss base block count h) in
+    let three = length-append first others in
+    omega arith
+
+-- byte j of block k among them
+pub joined-byte : (size : ℕ) (ss : List (List ℕ)) (base block count : ℕ) → BlocksHaveUsers size ss base block count
+    → (k j : ℕ) → k < count → j < size
+    → get_or (joined_user ss base block count) (size * k + j) 0 ≡ get_or (user_at (sector_at ss base (block + k))) j 0
+joined-byte size ss base block zero h k j below inside = absurd (omega arith)
+joined-byte size ss base block (suc count) h zero j below inside =
+    let first = user_at (sector_at ss base block) in
+    let others = joined_user ss base (block + 1) count in
+    let one = first-user size ss base block count h in
+    let place : size * 0 + j ≡ j = omega arith in
+    let here : block ≡ block + 0 = omega arith in
+    ap (λ n. get_or (first ++ others) n 0) place
+    ∙ get_or_append_left first others 0 j (omega arith)
+    ∙ ap (λ b. get_or (user_at (sector_at ss base b)) j 0) here
+joined-byte size ss base block (suc count) h (suc k) j below inside =
+    let first = user_at (sector_at ss base block) in
+    let others = joined_user ss base (block + 1) count in
+    let one = first-user size ss base block count h in
+    let place : size * suc k + j - size ≡ size * k + j = omega arith in
+    let there : block + 1 + k ≡ block + suc k = omega arith in
+    get_or-append_right first others size (size * suc k + j) 0 one (omega arith)
+    ∙ ap (λ n. get_or others n 0) place
+    ∙ joined-byte size ss base (block + 1) count (users-behind size ss base block count h) k j (omega arith) inside
+    ∙ ap (λ b. get_or (user_at (sector_at ss base b)) j 0) there
+
+-- ---- the first difference
+
+pub first_difference-none : (place : ℕ) (bytes old : List ℕ) → length old ≤ length bytes
+    → ((k : ℕ) → k < length old → get_or bytes k 0 ≡ get_or old k 0) → first_difference place bytes old ≡ None
+first_difference-none place [] [] room same = refl
+first_difference-none place (b ∷ bytes) [] room same = refl
+first_difference-none place [] (o ∷ old) room same = absurd (omega arith)
+first_difference-none place (b ∷ bytes) (o ∷ old) room same =
+    let first : b ≡ o = same 0 (omega arith) in
+    let others = first_difference-none (place + 1) bytes old (omega arith) (λ k below. same (suc k) (omega arith)) in
+    ap (λ t. cond t (first_difference (place + 1) bytes old) (Some place)) (eq-eqb b o first) ∙ others
+
+pub first_difference-some : (place : ℕ) (bytes old : List ℕ) (i : ℕ) → i < length old → i < length bytes
+    → ((k : ℕ) → k < i → get_or bytes k 0 ≡ get_or old k 0) → (get_or bytes i 0 ≡ get_or old i 0 → ⊥)
+    → first_difference place bytes old ≡ Some (place + i)
+first_difference-some place bytes [] i within room same differs = absurd (omega arith)
+first_difference-some place [] (o ∷ old) i within room same differs = absurd (omega arith)
+first_difference-some place (b ∷ bytes) (o ∷ old) zero within room same differs =
+    let here : place ≡ place + 0 = omega arith in
+    ap (λ t. cond t (first_difference (place + 1) bytes old) (Some place)) (ne_eqb b o differs) ∙ ap (λ n. Some n) here
+first_difference-some place (b ∷ bytes) (o ∷ old) (suc i) within room same differs =
+    let first : b ≡ o = same 0 (omega arith) in
+    let others = first_difference-some (place + 1) bytes old i (omega arith) (omega arith) (λ k below. same (suc k) (omega arith)) differs in
+    let there : place + 1 + i ≡ place + suc i = omega arith in
+    ap (λ t. cond t (first_difference (place + 1) bytes old) (Some place)) (eq-eqb b o first) ∙ others ∙ ap (λ n. Some n) there
+
+-- ---- the sectors themselves
+
+-- the user byte at a place in the user data of the sectors joined
+abbrev pub user_byte : List (List ℕ) → ℕ → ℕ
+user_byte ss place = get_or (user_of (get_or ss (place / 2048) [])) (place % 2048) 0
+
+pub user_at-sector : (ss : List (List ℕ)) (base k : ℕ) → k < length ss → user_at (sector_at ss base (base + k)) ≡ user_of (get_or ss k [])
+user_at-sector ss base k inside = ap user_at (sector_at-add ss base k ∙ slice_get-get_or ss k [] inside)
+
+pub BlocksHaveUsers-from : (ss : List (List ℕ)) (base count : ℕ) → HaveUsers ss count → count ≤ length ss → BlocksHaveUsers 2048 ss base base count
+BlocksHaveUsers-from ss base count users room k below = ap length (user_at-sector ss base k (omega arith)) ∙ users k below
+
+-- byte `place` of the joined user data
+pub joined-place : (ss : List (List ℕ)) (base count : ℕ) → HaveUsers ss count → count ≤ length ss
+    → (place : ℕ) → place < 2048 * count → get_or (joined_user ss base base count) place 0 ≡ user_byte ss place
+joined-place ss base count users room place below =
+    let k = place / 2048 in
+    let j = place % 2048 in
+    let whole : place ≡ 2048 * k + j = omega arith in
+    ap (λ n. get_or (joined_user ss base base count) n 0) whole
+    ∙ joined-byte 2048 ss base base count (BlocksHaveUsers-from ss base count users room) k j (omega arith) (omega arith)
+    ∙ ap (λ u. get_or u j 0) (user_at-sector ss base k (omega arith))
+
+-- no byte differs
+pub no_difference : (ss : List (List ℕ)) (offset : ℕ) (old : List ℕ)
+    → ((k : ℕ) → k < length old → user_byte ss (offset + k) ≡ get_or old k 0)
+    → (base count : ℕ) → HaveUsers ss count → count ≤ length ss → offset + length old ≤ 2048 * count
+    → first_difference offset (drop offset (joined_user ss base base count)) old ≡ None
+no_difference ss offset old same base count users room fits =
+    let all = joined_user ss base base count in
+    let size = length-joined 2048 ss base base count (BlocksHaveUsers-from ss base count users room) in
+    let rest = length-drop offset all in
+    first_difference-none offset (drop offset all) old (omega arith)
+    (λ k below. get_or-drop offset all k 0 ∙ joined-place ss base count users room (offset + k) (omega arith) ∙ same k below)
+
+-- byte i is the first that does
+pub a_difference : (ss : List (List ℕ)) (offset : ℕ) (old : List ℕ) (i : ℕ) → i < length old
+    → ((k : ℕ) → k < i → user_byte ss (offset + k) ≡ get_or old k 0)
+    → (user_byte ss (offset + i) ≡ get_or old i 0 → ⊥)
+    → (base count : ℕ) → HaveUsers ss count → count ≤ length ss → offset + length old ≤ 2048 * count
+    → first_difference offset (drop offset (joined_user ss base base count)) old ≡ Some (offset + i)
+a_difference ss offset old i within same differs base count users room fits =
+    let all = joined_user ss base base count in
+    let size = length-joined 2048 ss base base count (BlocksHaveUsers-from ss base count users room) in
+    let rest = length-drop offset all in
+    let byte : (k : ℕ) → k < length old → get_or (drop offset all) k 0 ≡ user_byte ss (offset + k) =
+    λ k below. get_or-drop offset all k 0 ∙ joined-place ss base count users room (offset + k) (omega arith) in
+    first_difference-some offset (drop offset all) old i within (omega arith)
+    (λ k below. byte k (omega arith) ∙ same k below)
+    (λ e. differs (sym (byte i within) ∙ e))
+
+pub read-byte : (ss : List (List ℕ)) (place : ℕ) (sector : List ℕ) → place < 2048 * length ss → sector ≡ get_or ss (place / 2048) sector
+    → get_or (user_of sector) (place % 2048) 0 ≡ user_byte ss place
+read-byte ss place sector inside read =
+    ap (λ s. get_or (user_of s) (place % 2048) 0) (get_or_read ss (place / 2048) sector (omega arith) read [])
+
+-- ---- the search for a refusal
+
+-- what was asked of the sector at `i` in the name of a block is what is asked of block base + k
+pub asked_at : (ss : List (List ℕ)) (base : ℕ) (asks : Bool) (k i block : ℕ) (refusal : Option Outcome)
+    → refusal ≡ refusal_at asks block (slice_get ss i) → i ≡ k → block ≡ base + k
+    → refusal_at asks (base + k) (sector_at ss base (base + k)) ≡ refusal
+asked_at ss base asks k i block refusal told here named =
+    ap (refusal_at asks (base + k)) (sector_at-add ss base k)
+    ∙ ap (λ n. refusal_at asks (base + k) (slice_get ss n)) (sym here)
+    ∙ ap (λ b. refusal_at asks b (slice_get ss i)) (sym named)
+    ∙ sym told
+
+pub first_refusal-more : (ss : List (List ℕ)) (base : ℕ) (asks : Bool) (k count : ℕ) (refusal : Option Outcome)
+    → refusal_at asks (base + k) (sector_at ss base (base + k)) ≡ refusal → is_some refusal ≡ false
+    → first_refusal ss base asks (base + k) (suc count) ≡ first_refusal ss base asks (base + (k + 1)) count
+first_refusal-more ss base asks k count None told none =
+    let next : base + k + 1 ≡ base + (k + 1) = omega arith in
+    first_refusal-next ss base asks (base + k) count told ∙ ap (λ b. first_refusal ss base asks b count) next
+first_refusal-more ss base asks k count (Some refusal) told none = cc
+
+pub first_refusal-stop : (ss : List (List ℕ)) (base : ℕ) (asks : Bool) (k count : ℕ) (refusal : Option Outcome)
+    → refusal_at asks (base + k) (sector_at ss base (base + k)) ≡ refusal → is_some refusal ≡ true
+    → first_refusal ss base asks (base + k) (suc count) ≡ refusal
+first_refusal-stop ss base asks k count None told some = cc
+first_refusal-stop ss base asks k count (Some refusal) told some = first_refusal-here ss base asks (base + k) count refusal told
+
+-- ---- what an accepted patch has found
+
+-- `count` sectors of Mode 1, each consistent where that is asked
+pub record AreMet (asks : Bool) (ss : List (List ℕ)) (count : ℕ) : Type 0 where
+  pub enough : count ≤ length ss
+  pub mode : (k : ℕ) → k < count → kind_of (get_or ss k []) ≡ Mode1
+  pub sound : asks ≡ true → (k : ℕ) → k < count → IsConsistent (get_or ss k [])
+
+IsMet-sector : (ss : List (List ℕ)) (base : ℕ) (asks : Bool) (k : ℕ) → IsMet asks (sector_at ss base (base + k)) → IsMet asks (slice_get ss k)
+IsMet-sector ss base asks k h = subst (IsMet asks) (sector_at-add ss base k) h
+
+met_inside : (ss : List (List ℕ)) (asks : Bool) (k : ℕ) → IsMet asks (slice_get ss k) → k < length ss
+met_inside ss asks k h = elim (cases_lt k (length ss)) [
+  | inl inside ↦ inside
+  | inr past ↦ absurd (subst (IsMet asks) (slice_get_past ss k past) h)
+]
+
+met_sector : (ss : List (List ℕ)) (asks : Bool) (k : ℕ) → IsMet asks (slice_get ss k) → k < length ss → IsMet asks (Some (get_or ss k []))
+met_sector ss asks k h inside = subst (IsMet asks) (slice_get-get_or ss k [] inside) h
+
+pub AreMet-from : (ss : List (List ℕ)) (base : ℕ) (asks : Bool) (count : ℕ) → first_refusal ss base asks base count ≡ None → AreMet asks ss count
+AreMet-from ss base asks count none =
+    let each : (k : ℕ) → k < count → IsMet asks (slice_get ss k) = λ k below.
+    IsMet-sector ss base asks k (first_refusal-none ss base asks base count none k below) in
+    let one : (k : ℕ) → k < count → IsMet asks (Some (get_or ss k [])) = λ k below.
+    met_sector ss asks k (each k below) (met_inside ss asks k (each k below)) in
+    let enough : count ≤ length ss = elim (cases_lt (length ss) count) [
+      | inl short ↦ absurd (omega (arith, met_inside ss asks (length ss) (each (length ss) short)))
+      | inr long ↦ long
+    ] in
+    record {
+      enough = enough;
+      mode = λ k below. (one k below).0;
+      sound = λ asked k below. (consistent-told (get_or ss k [])).0 ((one k below).1 asked);
+    }
+
+pub users-met : (ss : List (List ℕ)) (count : ℕ) → AreMet true ss count → HaveUsers ss count
+users-met ss count met k below = length-user (get_or ss k []) ((met.sound refl k below).size)
+
+-- ---- edits
+
+old-fits_at : (offset : ℕ) (edit : Edit) → offset ≤ 2047 → IsEditAt offset edit
+    → (offset + length (old_bytes edit) ≤ 2048 * blocks_of offset edit) × (length (old_bytes edit) ≤ 4096)
+old-fits_at offset (Put bytes None) low h = (omega arith, omega arith)
+old-fits_at offset (Put bytes (Some was)) low h = (omega (arith, h.0.some, h.1.1), omega (arith, h.0.most, h.1.1))
+old-fits_at offset (Fill count value) low h = (omega arith, omega arith)
+old-fits_at offset Rebuild low h = (omega arith, omega arith)
+
+-- an edit that names old bytes asks for consistent sectors
+old-asked : (edit : Edit) → (length (old_bytes edit) ≡ 0) ⊎ (asks_sound edit ≡ true)
+old-asked (Put bytes was) = inr refl
+old-asked (Fill count value) = inr refl
+old-asked Rebuild = inl refl
+
+pub old-fits : (p : Patch) → IsPatch p → (p.offset + length (old_bytes p.edit) ≤ 2048 * blocks_met p) × (length (old_bytes p.edit) ≤ 4096)
+unfolding blocks_met
+old-fits p h = old-fits_at p.offset p.edit h.offset h.edit
+
+-- ---- the outcome
+
+pub outcome-refused : (ss : List (List ℕ)) (base : ℕ) (p : Patch) (refusal : Outcome)
+    → first_refusal ss base (asks_sound p.edit) p.block (blocks_met p) ≡ Some refusal → outcome ss base p ≡ refusal
+unfolding outcome
+outcome-refused ss base p refusal h =
+    ap (λ r. unwrap_or r (by_difference p.block (first_difference p.offset (drop p.offset (user_met ss base p)) (old_bytes p.edit)))) h
+
+outcome-decided : (ss : List (List ℕ)) (base : ℕ) (p : Patch) (place : Option ℕ)
+    → first_refusal ss base (asks_sound p.edit) p.block (blocks_met p) ≡ None
+    → place ≡ first_difference p.offset (drop p.offset (user_met ss base p)) (old_bytes p.edit)
+    → outcome ss base p ≡ by_difference p.block place
+unfolding outcome
+outcome-decided ss base p place none told =
+    ap (λ r. unwrap_or r (by_difference p.block (first_difference p.offset (drop p.offset (user_met ss base p)) (old_bytes p.edit)))) none
+    ∙ ap (by_difference p.block) (sym told)
+
+nothing-differs : (place : ℕ) (bytes old : List ℕ) → length old ≡ 0 → first_difference place bytes old ≡ None
+nothing-differs place bytes old none = first_difference-none place bytes old (omega arith) (λ k below. absurd (omega arith))
+
+-- what was found in the sectors is what the patch's blocks have
+difference-told : (ss : List (List ℕ)) (p : Patch) (old : List ℕ) (place : Option ℕ) → IsPatch p → old ≡ old_bytes p.edit
+    → AreMet (asks_sound p.edit) ss (blocks_met p)
+    → ((base count : ℕ) → HaveUsers ss count → count ≤ length ss → p.offset + length old ≤ 2048 * count
+    → place ≡ first_difference p.offset (drop p.offset (joined_user ss base base count)) old)
+    → (length old ≡ 0 → place ≡ None)
+    → place ≡ first_difference p.offset (drop p.offset (user_met ss p.block p)) (old_bytes p.edit)
+unfolding user_met
+difference-told ss p old place patch is met value none =
+    let fits = old-fits p patch in
+    elim (old-asked p.edit) [
+      | inl nothing ↦
+          none (ap length is ∙ nothing)
+          ∙ sym (nothing-differs p.offset (drop p.offset (joined_user ss p.block p.block (blocks_met p))) (old_bytes p.edit) nothing)
+      | inr asked ↦
+          let size = ap length is in
+          let sound = subst (λ a. AreMet a ss (blocks_met p)) asked met in
+          value p.block (blocks_met p) (users-met ss (blocks_met p) sound) sound.enough (omega (arith, fits.0))
+          ∙ ap (first_difference p.offset (drop p.offset (joined_user ss p.block p.block (blocks_met p)))) is
+    ]
+
+-- where no block refuses, the difference that was found decides
+pub outcome-told : (ss : List (List ℕ)) (p : Patch) (old : List ℕ) (place : Option ℕ) → IsPatch p
+    → first_refusal ss p.block (asks_sound p.edit) p.block (blocks_met p) ≡ None → old ≡ old_bytes p.edit
+    → ((base count : ℕ) → HaveUsers ss count → count ≤ length ss → p.offset + length old ≤ 2048 * count
+    → place ≡ first_difference p.offset (drop p.offset (joined_user ss base base count)) old)
+    → (length old ≡ 0 → place ≡ None) → outcome ss p.block p ≡ by_difference p.block place
+outcome-told ss p old place patch accepted is value none =
+    let met = AreMet-from ss p.block (asks_sound p.edit) (blocks_met p) accepted in
+    outcome-decided ss p.block p place accepted (difference-told ss p old place patch is met value none)
+
+pub Differs-same : (block offset block' offset' : ℕ) → block ≡ block' → offset ≡ offset' → Differs block offset ≡ Differs block' offset'
+Differs-same block offset block' offset' one two = ap (λ b. Differs b offset) one ∙ ap (Differs block') two
+
+pub Some-same : (i j : ℕ) → i ≡ j → Some i ≡ Some j
+Some-same i j same = ap (λ n. Some n) same

@@ -1,0 +1,15 @@
+pub mod AcceptedLemmas
+pub mod AgreeLemmas
+mod DecidingLemmas
+pub mod ElementLemmas
+pub mod ExistenceLemmas
+pub mod FrameLemmas
+pub mod LeavesLemmas
+mod PartLemmas
+pub mod RangeLemmas
+pub mod RisingLemmas
+pub mod RunLemmas
+pub mod SectorAtLemmas
+pub mod StepLemmas
+mod TakingLemmas
+pub mod UserLemmas

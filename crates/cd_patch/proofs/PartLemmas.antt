@@ -1,0 +1,189 @@
+-- What the bytes of an edit make of the sectors in which they lie.
+use Rattle.std.proofs.Common.{◌≡◌, ◌≢◌, ℕ, ◌+◌, ◌-◌, ◌*◌, ◌<◌, ◌≤◌, ◌⊎◌, inl, inr, List, [], ◌∷◌, length, get_or, set, take, drop, replicate, refl, sym, ap, subst, ◌∙◌, below_more, arith}
+use Rattle.std.specs.Prelude.{slice_range}
+use Rattle.std.proofs.lemmas.Bool.{cases_lt}
+use Rattle.std.proofs.lemmas.List.{ext_get_or, get_or_default, get_or-replicate, get_or-set_other, get_or-set_same, get_or-take, length-drop, length-replicate, length-set, length-take, length-take-le}
+use Rattle.cd_delta.proofs.UserLemmas.{length-written, written-range, written-other}
+use Rattle.cd_delta.specs.Writing.{written}
+use Rattle.cd_sector.proofs.DefectLemmas.{length-range, range-byte}
+use Rattle.cd_sector.proofs.SectorLemmas.{mode1-parts}
+use Rattle.cd_sector.specs.Consistent.{IsConsistent, header_of, user_of}
+use Rattle.cd_sector.specs.Kind.{kind_of}
+use Rattle.cd_sector.specs.declared.kinds.SectorKind.TheVariants.{Mode1}
+use Rattle.cd_patch.specs.Effect.{user_part}
+use Rattle.cd_patch.specs.Parts.{EachMade, HasPart, IsPart}
+
+-- ---- one sector
+
+-- the part of the bytes that lies in a sector, written there
+pub HasPart-written : (k offset place first end : ℕ) (bytes part before after : List ℕ) → IsPart k offset (length bytes) place first end
+    → length (user_of before) ≡ 2048 → first + length part ≡ end
+    → ((i : ℕ) → i < length part → get_or part i 0 ≡ get_or bytes (first + i) 0)
+    → IsConsistent after → header_of after ≡ header_of before → user_of after ≡ written (user_of before) place part
+    → HasPart k offset bytes before after
+HasPart-written k offset place first end bytes part before after at size long same sound header user =
+    let rises = at.rises in
+    let within = at.within in
+    let fits = at.fits in
+    let lies = at.lies in
+    let room : place + length part ≤ length (user_of before) = omega arith in
+    record {
+      is_consistent = sound;
+      has_header = header;
+      inside = λ i j below inside there.
+          let from : first ≤ i = elim at.from_start [ inl e ↦ omega arith | inr e ↦ omega arith ] in
+          let to : i < end = elim at.to_end [ inl e ↦ omega arith | inr e ↦ omega arith ] in
+          let n = i - first in
+          let at_place : j ≡ place + n = omega arith in
+          let at_byte : first + n ≡ i = omega arith in
+          ap (λ u. get_or u j 0) user
+          ∙ ap (λ m. get_or (written (user_of before) place part) m 0) at_place
+          ∙ written-range (user_of before) place part n room (omega arith)
+          ∙ same n (omega arith)
+          ∙ ap (λ m. get_or bytes m 0) at_byte;
+      outside = λ j below out.
+          let there : (j < place) ⊎ (place + length part ≤ j) =
+          elim out [ inl before_it ↦ inl (omega arith) | inr behind_it ↦ inr (omega arith) ] in
+          ap (λ u. get_or u j 0) user ∙ written-other (user_of before) place part j room there;
+    }
+
+-- a sector in which nothing is written
+pub HasPart-nothing : (k offset : ℕ) (bytes before after : List ℕ) → length bytes ≡ 0 → IsConsistent after → header_of after ≡ header_of before
+    → user_of after ≡ user_of before → HasPart k offset bytes before after
+HasPart-nothing k offset bytes before after none sound header user = record {
+  is_consistent = sound;
+  has_header = header;
+  inside = λ i j below inside there. absurd (omega arith);
+  outside = λ j below out. ap (λ u. get_or u j 0) user;
+}
+
+-- its user data is its part of the joined user data with the bytes in their range
+pub user_part-of : (k count offset : ℕ) (bytes joined before after : List ℕ) → k < count → length joined ≡ 2048 * count
+    → offset + length bytes ≤ 2048 * count → length (user_of after) ≡ 2048
+    → ((j : ℕ) → j < 2048 → get_or joined (2048 * k + j) 0 ≡ get_or (user_of before) j 0)
+    → HasPart k offset bytes before after → user_of after ≡ user_part (written joined offset bytes) k
+unfolding user_part
+user_part-of k count offset bytes joined before after inside size fits after_size same part =
+    let whole = written joined offset bytes in
+    let room : offset + length bytes ≤ length joined = omega arith in
+    let long = length-written joined offset bytes room in
+    let from = 2048 * k in
+    let to = 2048 * (k + 1) in
+    let cut : length (slice_range whole from to) ≡ 2048 = length-range whole from to (omega arith) (omega arith) ∙ omega arith in
+    let byte : (j : ℕ) → j < 2048 → get_or (slice_range whole from to) j 0 ≡ get_or whole (from + j) 0 = λ j below.
+    range-byte whole from to j (omega arith) in
+    let other : (j : ℕ) → j < 2048 → (from + j < offset) ⊎ (offset + length bytes ≤ from + j)
+    → get_or (user_of after) j 0 ≡ get_or (slice_range whole from to) j 0 = λ j below out.
+    part.outside j below out ∙ sym (same j below) ∙ sym (written-other joined offset bytes (from + j) room out) ∙ sym (byte j below) in
+    ext_get_or 0 (user_of after) (slice_range whole from to) (after_size ∙ sym cut)
+    (λ j within.
+    let below : j < 2048 = omega arith in
+    elim (cases_lt (from + j) offset) [
+      | inl before_it ↦ other j below (inl before_it)
+      | inr behind ↦ elim (cases_lt (from + j) (offset + length bytes)) [
+        | inl here ↦
+            let n = from + j - offset in
+            let at : offset + n ≡ from + j = omega arith in
+            part.inside n j (omega arith) below (sym at)
+            ∙ sym (written-range joined offset bytes n room (omega arith))
+            ∙ ap (λ m. get_or whole m 0) at
+            ∙ sym (byte j below)
+        | inr past ↦ other j below (inr past)
+      ]
+    ])
+
+-- ---- one sector after the other
+
+-- those below k are made by the rule for their number, the others are as they were
+pub record MadeBelow (Rule : ℕ → List ℕ → List ℕ → Type 0) (k : ℕ) (old new : List (List ℕ)) : Type 0 where
+  pub size : length new ≡ length old
+  pub made : (i : ℕ) → i < k → Rule i (get_or old i []) (get_or new i [])
+  pub others : (i : ℕ) → k ≤ i → get_or new i [] ≡ get_or old i []
+
+pub MadeBelow-more : (Rule : ℕ → List ℕ → List ℕ → Type 0) (k : ℕ) (old new : List (List ℕ)) (after : List ℕ)
+    → MadeBelow Rule k old new → k < length old → Rule k (get_or old k []) after → MadeBelow Rule (k + 1) old (set new k after)
+MadeBelow-more Rule k old new after below inside here =
+    let size = below.size in
+    let at : get_or (set new k after) k [] ≡ after = get_or-set_same new k after [] (omega arith) in
+    record {
+      size = length-set new k after ∙ size;
+      made = below_more _ _
+          (λ i less.
+          let apart : i ≢ k = omega arith in
+          subst (Rule i (get_or old i [])) (sym (get_or-set_other new k i after [] apart)) (below.made i less))
+          (subst (Rule k (get_or old k [])) (sym at) here);
+      others = λ i above.
+          let apart : i ≢ k = omega arith in
+          get_or-set_other new k i after [] apart ∙ below.others i (omega arith);
+    }
+
+-- the sector that a loop reads is still the old one
+pub read_old : (Rule : ℕ → List ℕ → List ℕ → Type 0) (k : ℕ) (old new : List (List ℕ)) (d : List ℕ) → MadeBelow Rule k old new → k < length old
+    → get_or new k d ≡ get_or old k []
+read_old Rule k old new d below inside =
+    let size = below.size in
+    get_or_default new k d [] (omega arith) ∙ below.others k (omega arith)
+
+-- one sector alone
+pub EachMade-one : (Rule : ℕ → List ℕ → List ℕ → Type 0) (old : List (List ℕ)) (after : List ℕ) → length old ≡ 1
+    → Rule 0 (get_or old 0 []) after → EachMade Rule old (set old 0 after)
+EachMade-one Rule old after one here = record {
+  size = length-set old 0 after;
+  each = λ k below.
+      let first : 0 ≡ k = omega arith in
+      subst (λ i. Rule i (get_or old i []) (get_or (set old 0 after) i [])) first
+      (subst (Rule 0 (get_or old 0 [])) (sym (get_or-set_same old 0 after [] (omega arith))) here);
+}
+
+-- ---- equal bytes, and the header of a sector made anew
+
+-- any bytes of a filled range are the first of as many equal ones
+pub HasPart-filled : (k offset place first end count value n : ℕ) (bytes before after : List ℕ) → IsPart k offset count place first end
+    → length (user_of before) ≡ 2048 → bytes ≡ replicate 2048 value
+    → IsConsistent after → header_of after ≡ header_of before → user_of after ≡ written (user_of before) place (take n bytes)
+    → first + n ≡ end → HasPart k offset (replicate count value) before after
+HasPart-filled k offset place first end count value n bytes before after at size filled sound header user part =
+    let fits = at.fits in
+    let within = at.within in
+    let long : length bytes ≡ 2048 = ap length filled ∙ length-replicate 2048 value in
+    let cut = length-take-le n bytes (omega arith) in
+    let whole = subst (λ m. IsPart k offset m place first end) (sym (length-replicate count value)) at in
+    HasPart-written k offset place first end (replicate count value) (take n bytes) before after whole size (omega arith)
+    (λ i below.
+    get_or-take n bytes i 0 (omega arith)
+    ∙ ap (λ v. get_or v i 0) filled
+    ∙ get_or-replicate 2048 i value 0 (omega arith)
+    ∙ sym (get_or-replicate count (first + i) value 0 (omega arith)))
+    sound header user
+
+four_bytes : (v : List ℕ) → length v ≡ 4 → v ≡ get_or v 0 0 ∷ get_or v 1 0 ∷ get_or v 2 0 ∷ get_or v 3 0 ∷ []
+four_bytes [] size = absurd (omega arith)
+four_bytes (a ∷ []) size = absurd (omega arith)
+four_bytes (a ∷ b ∷ []) size = absurd (omega arith)
+four_bytes (a ∷ b ∷ c ∷ []) size = absurd (omega arith)
+four_bytes (a ∷ b ∷ c ∷ d ∷ []) size = refl
+four_bytes (a ∷ b ∷ c ∷ d ∷ e ∷ v) size = absurd (omega arith)
+
+long-from : (s : List ℕ) → length (user_of s) ≡ 2048 → 2064 ≤ length s
+unfolding user_of
+long-from s size =
+    let cut = length-take 2048 (drop 16 s) in
+    let rest = length-drop 16 s in
+    omega arith
+
+pub length-user : (s : List ℕ) → length s ≡ 2352 → length (user_of s) ≡ 2048
+unfolding user_of
+length-user s size = length-range s 16 2064 (omega arith) (omega arith)
+
+-- the header of a sector of Mode 1 ends with 1
+pub header-kept : (s new header : List ℕ) → kind_of s ≡ Mode1 → length (user_of s) ≡ 2048 → header ≡ header_of s
+    → header_of new ≡ get_or header 0 0 ∷ get_or header 1 0 ∷ get_or header 2 0 ∷ 1 ∷ [] → header_of new ≡ header_of s
+unfolding header_of
+header-kept s new header kind size told made =
+    let long = long-from s size in
+    let four : length header ≡ 4 = ap length told ∙ length-range s 12 16 (omega arith) (omega arith) in
+    let mode : get_or header 3 0 ≡ 1 = ap (λ v. get_or v 3 0) told ∙ range-byte s 12 16 3 (omega arith) ∙ (mode1-parts s kind).1 in
+    made
+    ∙ ap (λ m. get_or header 0 0 ∷ get_or header 1 0 ∷ get_or header 2 0 ∷ m ∷ []) (sym mode)
+    ∙ sym (four_bytes header four)
+    ∙ told

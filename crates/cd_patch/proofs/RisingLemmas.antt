@@ -1,0 +1,45 @@
+-- Patches whose blocks rise: those before one, those behind it, and where a block cuts them.
+use Rattle.std.proofs.Common.{◌≡◌, ℕ, suc, ◌+◌, ◌<◌, ◌≤◌, inl, inr, List, [], ◌∷◌, length, get_or, take, drop, Some, ap, arith}
+use Rattle.std.specs.List.{All, slice_get}
+use Rattle.std.specs.List.Sorted.{IsNonDecreasingBy}
+use Rattle.std.proofs.lemmas.Bool.{cases_lt}
+use Rattle.std.proofs.lemmas.List.{get_or-drop, get_or-take, length-drop, length-take}
+use Rattle.std.proofs.lemmas.List.Elements.{All-cons}
+use Rattle.std.proofs.lemmas.Option.{get_or_from_slice_get, slice_get_within}
+use Rattle.cd_script.specs.declared.patch.Patch.{Patch}
+
+pub rising-tail : (p : Patch) (ps : List Patch) → IsNonDecreasingBy (λ q. q.block) (p ∷ ps) → IsNonDecreasingBy (λ q. q.block) ps
+rising-tail p ps rises = λ i j d le inside. rises (suc i) (suc j) d (omega arith) (omega arith)
+
+-- all begin at a block or later where the first does
+pub rising-from : (p : Patch) (ps : List Patch) (bound : ℕ) → IsNonDecreasingBy (λ q. q.block) (p ∷ ps) → bound ≤ p.block → All (λ q. bound ≤ q.block) (p ∷ ps)
+rising-from p ps bound rises from = λ k d inside. let low : p.block ≤ (get_or (p ∷ ps) k d).block = rises 0 k d (omega arith) inside in omega arith
+
+-- a patch and those behind it begin at its block or later
+pub rising-behind : (ps : List Patch) (n : ℕ) (p : Patch) → IsNonDecreasingBy (λ q. q.block) ps → slice_get ps n ≡ Some p → All (λ q. p.block ≤ q.block) (drop n ps)
+rising-behind ps n p rises is = λ k d inside.
+    let here : get_or ps n d ≡ p = get_or_from_slice_get ps n p d is in
+    let there : get_or (drop n ps) k d ≡ get_or ps (n + k) d = get_or-drop n ps k d in
+    let low : (get_or ps n d).block ≤ (get_or ps (n + k) d).block = rises n (n + k) d (omega arith) (omega (arith, length-drop n ps)) in
+    omega (arith, ap (λ (q : Patch). q.block) here, ap (λ (q : Patch). q.block) there)
+
+-- those before it begin at its block or earlier
+pub rising-before : (ps : List Patch) (n : ℕ) (p : Patch) → IsNonDecreasingBy (λ q. q.block) ps → slice_get ps n ≡ Some p → All (λ q. q.block ≤ p.block) (take n ps)
+rising-before ps n p rises is = λ k d inside.
+    let within = slice_get_within ps n p is in
+    let before : k < n = omega (arith, length-take n ps) in
+    let here : get_or ps n d ≡ p = get_or_from_slice_get ps n p d is in
+    let there : get_or (take n ps) k d ≡ get_or ps k d = get_or-take n ps k d before in
+    let low : (get_or ps k d).block ≤ (get_or ps n d).block = rises k n d (omega arith) within in
+    omega (arith, ap (λ (q : Patch). q.block) here, ap (λ (q : Patch). q.block) there)
+
+-- where a block cuts the patches: those that begin below it come first
+pub rising-cut : (ps : List Patch) (block : ℕ) → IsNonDecreasingBy (λ q. q.block) ps
+    → (n : ℕ) × (n ≤ length ps) × All (λ q. q.block < block) (take n ps) × All (λ q. block ≤ q.block) (drop n ps)
+rising-cut [] block rises = (0, omega arith, λ k d inside. absurd (omega arith), λ k d inside. absurd (omega arith))
+rising-cut (p ∷ ps) block rises = elim (cases_lt p.block block) [
+  | inl below ↦
+      let others = rising-cut ps block (rising-tail p ps rises) in
+      (suc others.0, omega (arith, others.1), All-cons (λ (q : Patch). q.block < block) p (take others.0 ps) below others.2, others.3)
+  | inr from ↦ (0, omega arith, λ k d inside. absurd (omega arith), rising-from p ps block rises from)
+]

@@ -1,0 +1,191 @@
+-- What an accepted patch makes of the sectors, and the ranges of edits.
+use Rattle.std.proofs.Common.{◌≡◌, ℕ, zero, suc, ◌+◌, ◌-◌, ◌*◌, ◌<◌, ◌≤◌, inl, inr, Bool, true, false, cond, List, [], ◌++◌, length, get_or, take, drop, Option, Some, None, refl, sym, ap, subst, ◌∙◌, arith}
+use Rattle.std.specs.Prelude.{All, not, ◌&&◌, if◌then◌else◌, slice_get, unwrap_or}
+use Rattle.std.proofs.lemmas.Bool.{cases_lt, lt-ltb}
+use Rattle.std.proofs.lemmas.List.{get_or_append_left, get_or-append_right, get_or_default, get_or-drop, get_or-take, length-append, length-drop, length-replicate, length-take-le}
+use Rattle.std.proofs.lemmas.List.Elements.{All-get_or}
+use Rattle.std.proofs.lemmas.Option.{get_or_from_slice_get, slice_get-get_or, slice_get_past}
+use Rattle.cd_script.specs.Patch.{IsEditAt, IsPatch}
+use Rattle.cd_script.specs.declared.patch.Edit.{Edit}
+use Rattle.cd_script.specs.declared.patch.Edit.TheVariants.{Put, Fill, Rebuild}
+use Rattle.cd_script.specs.declared.patch.Patch.{Patch}
+use Rattle.cd_sector.specs.Consistent.{IsConsistent, consistent, is_mode1, user_of}
+use Rattle.cd_sector.specs.Kind.{kind_of}
+use Rattle.cd_sector.specs.declared.kinds.SectorKind.TheVariants.{Mode1}
+use Rattle.cd_patch.specs.Blocks.{asks_sound, blocks_met, blocks_of, blocks_spanned, new_bytes, old_bytes, sector_at}
+use Rattle.cd_patch.specs.Deciding.{by_difference, first_difference, first_of, first_refusal, joined_user, outcome, refusal_at, user_met}
+use Rattle.cd_patch.specs.Effect.{Effect, EffectOf, IsApplied, patched_user}
+use Rattle.cd_patch.specs.Parts.{EachMade, HasPart, HaveUsers}
+use Rattle.cd_patch.specs.declared.outcome.Outcome.{Outcome}
+use Rattle.cd_patch.specs.declared.outcome.Outcome.TheVariants.{Applied, Damaged, NotMode1}
+use Rattle.cd_patch.proofs.DecidingLemmas.{AreMet, AreMet-from, BlocksHaveUsers-from, joined-byte, length-joined, user_at-sector}
+use Rattle.cd_patch.proofs.SectorAtLemmas.{sector_at-add}
+use Rattle.cd_patch.proofs.PartLemmas.{length-user, user_part-of}
+
+-- ---- the range of an edit
+
+-- a range of so many bytes lies in each of so many blocks, at most three
+pub record Spans (offset count blocks : ℕ) : Type 0 where
+  pub few : blocks ≤ 3
+  pub some : 2048 * blocks < offset + count + 2048
+  pub room : offset + count ≤ 2048 * blocks
+
+spans : (offset count : ℕ) → offset ≤ 2047 → 1 ≤ count → count ≤ 4096 → Spans offset count (blocks_spanned offset count)
+spans offset count low some most = record { few = omega arith; some = omega arith; room = omega arith }
+
+pub put-spans : (p : Patch) (bytes : List ℕ) (was : Option (List ℕ)) → IsPatch p → p.edit ≡ Put bytes was → Spans p.offset (length bytes) (blocks_met p)
+unfolding blocks_met
+put-spans p bytes was patch is =
+    let h : IsEditAt p.offset (Put bytes was) = subst (IsEditAt p.offset) is patch.edit in
+    subst (λ e. Spans p.offset (length bytes) (blocks_of p.offset e)) (sym is)
+    (spans p.offset (length bytes) patch.offset h.0.some h.0.most)
+
+pub fill-spans : (p : Patch) (count value : ℕ) → IsPatch p → p.edit ≡ Fill count value → Spans p.offset count (blocks_met p)
+unfolding blocks_met
+fill-spans p count value patch is =
+    let h : IsEditAt p.offset (Fill count value) = subst (IsEditAt p.offset) is patch.edit in
+    subst (λ e. Spans p.offset count (blocks_of p.offset e)) (sym is) (spans p.offset count patch.offset h.0 h.1)
+
+pub rebuild-alone : (p : Patch) → p.edit ≡ Rebuild → blocks_met p ≡ 1
+unfolding blocks_met
+rebuild-alone p is = ap (blocks_of p.offset) is
+
+pub users-consistent : (ss : List (List ℕ)) → All IsConsistent ss → HaveUsers ss (length ss)
+users-consistent ss h k below = length-user (get_or ss k []) ((All-get_or IsConsistent ss k [] below h).size)
+
+-- ---- no refusal is an acceptance
+
+refusal-told : (mode asks sound : Bool) (block : ℕ)
+    → (if not mode then Some (NotMode1 block) else if asks && not sound then Some (Damaged block) else None) ≡ Some Applied → ⊥
+refusal-told true true true block h = cc
+refusal-told true true false block h = cc
+refusal-told true false sound block h = cc
+refusal-told false asks sound block h = cc
+
+refusal_at-told : (asks : Bool) (block : ℕ) (sector : Option (List ℕ)) → refusal_at asks block sector ≡ Some Applied → ⊥
+refusal_at-told asks block None h = cc
+refusal_at-told asks block (Some sector) h = refusal-told (is_mode1 (kind_of sector)) asks (consistent sector) block h
+
+first_of-told : (a b : Option Outcome) → (a ≡ Some Applied → ⊥) → (b ≡ Some Applied → ⊥) → first_of a b ≡ Some Applied → ⊥
+first_of-told None b one two h = two h
+first_of-told (Some x) b one two h = one h
+
+pub first_refusal-told : (ss : List (List ℕ)) (base : ℕ) (asks : Bool) (block count : ℕ) → first_refusal ss base asks block count ≡ Some Applied → ⊥
+first_refusal-told ss base asks block zero h = cc
+first_refusal-told ss base asks block (suc count) h =
+    first_of-told (refusal_at asks block (sector_at ss base block)) (first_refusal ss base asks (block + 1) count)
+    (refusal_at-told asks block (sector_at ss base block)) (first_refusal-told ss base asks (block + 1) count) h
+
+pub applied-told : (refusal : Option Outcome) (other : Outcome) → (refusal ≡ Some Applied → ⊥) → unwrap_or refusal other ≡ Applied → refusal ≡ None
+applied-told None other real h = refl
+applied-told (Some r) other real h = absurd (real (ap (λ o. Some o) h))
+
+pub met-where-applied : (ss : List (List ℕ)) (p : Patch) → outcome ss p.block p ≡ Applied → AreMet (asks_sound p.edit) ss (blocks_met p)
+unfolding outcome
+met-where-applied ss p h =
+    let found = first_refusal ss p.block (asks_sound p.edit) p.block (blocks_met p) in
+    AreMet-from ss p.block (asks_sound p.edit) (blocks_met p)
+    (applied-told found (by_difference p.block (first_difference p.offset (drop p.offset (user_met ss p.block p)) (old_bytes p.edit)))
+    (first_refusal-told ss p.block (asks_sound p.edit) p.block (blocks_met p)) h)
+
+-- ---- the sectors in front and those behind them
+
+get_or-front : (ss : List (List ℕ)) (n k : ℕ) (d : List ℕ) → n ≤ length ss → k < length (take n ss) → get_or (take n ss) k d ≡ get_or ss k []
+get_or-front ss n k d room inside =
+    let size = length-take-le n ss room in
+    get_or-take n ss k d (omega arith) ∙ get_or_default ss k d [] (omega arith)
+
+pub mode-front : (asks : Bool) (ss : List (List ℕ)) (n : ℕ) → AreMet asks ss n → All (λ s. kind_of s ≡ Mode1) (take n ss)
+mode-front asks ss n met k d inside =
+    let size = length-take-le n ss met.enough in
+    subst (λ s. kind_of s ≡ Mode1) (sym (get_or-front ss n k d met.enough inside)) (met.mode k (omega arith))
+
+pub sound-front : (asks : Bool) (ss : List (List ℕ)) (n : ℕ) → AreMet asks ss n → asks ≡ true → All IsConsistent (take n ss)
+sound-front asks ss n met asked k d inside =
+    let size = length-take-le n ss met.enough in
+    subst IsConsistent (sym (get_or-front ss n k d met.enough inside)) (met.sound asked k (omega arith))
+
+users-front : (ss : List (List ℕ)) (n : ℕ) → n ≤ length ss → HaveUsers (take n ss) (length (take n ss)) → HaveUsers ss n
+users-front ss n room users k below =
+    let size = length-take-le n ss room in
+    let inside : k < length (take n ss) = omega arith in
+    ap (λ s. length (user_of s)) (sym (get_or-front ss n k [] room inside)) ∙ users k inside
+
+slice_get-behind : (front ss : List (List ℕ)) (n k : ℕ) → length front ≡ n → n ≤ length ss → n ≤ k → slice_get (front ++ drop n ss) k ≡ slice_get ss k
+slice_get-behind front ss n k long room behind =
+    let rest = length-drop n ss in
+    let whole = length-append front (drop n ss) in
+    elim (cases_lt k (length ss)) [
+      | inl inside ↦
+          let place : n + (k - n) ≡ k = omega arith in
+          slice_get-get_or (front ++ drop n ss) k [] (omega arith)
+          ∙ ap (λ s. Some s) (get_or-append_right front (drop n ss) n k [] long behind ∙ get_or-drop n ss (k - n) [] ∙ ap (λ i. get_or ss i []) place)
+          ∙ sym (slice_get-get_or ss k [] inside)
+      | inr past ↦ slice_get_past (front ++ drop n ss) k (omega arith) ∙ sym (slice_get_past ss k past)
+    ]
+
+sector_at-below : (ss : List (List ℕ)) (base block : ℕ) → block < base → sector_at ss base block ≡ None
+unfolding sector_at
+sector_at-below ss base block below = ap (λ b. cond b None (slice_get ss (block - base))) (lt-ltb block base below)
+
+-- ---- the effect
+
+pub IsApplied-from : (p : Patch) (ss front : List (List ℕ)) → p.offset + length (new_bytes p.edit) ≤ 2048 * blocks_met p → blocks_met p ≤ length ss
+    → HaveUsers (take (blocks_met p) ss) (length (take (blocks_met p) ss))
+    → EachMade (λ k before after. HasPart k p.offset (new_bytes p.edit) before after) (take (blocks_met p) ss) front
+    → IsApplied p.block p ss (front ++ drop (blocks_met p) ss)
+unfolding patched_user user_met
+IsApplied-from p ss front fits room front_users each =
+    let n = blocks_met p in
+    let bytes = new_bytes p.edit in
+    let joined = joined_user ss p.block p.block n in
+    let new = front ++ drop n ss in
+    let cut = length-take-le n ss room in
+    let long : length front ≡ n = each.size ∙ cut in
+    let rest = length-drop n ss in
+    let whole = length-append front (drop n ss) in
+    let users = users-front ss n room front_users in
+    let all = BlocksHaveUsers-from ss p.block n users room in
+    record {
+      count = omega arith;
+      met = λ k before after below old_at new_at.
+          let inside : k < length (take n ss) = omega arith in
+          let was : get_or ss k [] ≡ before =
+          get_or_from_slice_get ss k before [] (sym (sector_at-add ss p.block k) ∙ old_at) in
+          let is : get_or front k [] ≡ after =
+          sym (get_or_append_left front (drop n ss) [] k (omega arith))
+          ∙ get_or_from_slice_get new k after [] (sym (sector_at-add new p.block k) ∙ new_at) in
+          let old_part = subst (λ s. HasPart k p.offset bytes s (get_or front k [])) (get_or-front ss n k [] room inside ∙ was) (each.each k inside) in
+          let part : HasPart k p.offset bytes before after = subst (HasPart k p.offset bytes before) is old_part in
+          record {
+            is_consistent = part.is_consistent;
+            has_header = part.has_header;
+            has_user = user_part-of k n p.offset bytes joined before after below (length-joined 2048 ss p.block p.block n all) fits
+                (length-user after part.is_consistent.size)
+                (λ j in_block.
+                joined-byte 2048 ss p.block p.block n all k j below in_block
+                ∙ ap (λ u. get_or u j 0) (user_at-sector ss p.block k (omega arith) ∙ ap user_of was))
+                part;
+          };
+      others = λ block out.
+          elim out [
+            | inl below ↦ sector_at-below new p.block block below ∙ sym (sector_at-below ss p.block block below)
+            | inr behind ↦
+                let k = block - p.block in
+                let at : p.block + k ≡ block = omega arith in
+                subst (λ b. sector_at new p.block b ≡ sector_at ss p.block b) at
+                (sector_at-add new p.block k ∙ slice_get-behind front ss n k long room (omega arith) ∙ sym (sector_at-add ss p.block k))
+          ];
+    }
+
+new-fits_at : (offset : ℕ) (edit : Edit) → offset ≤ 2047 → IsEditAt offset edit → offset + length (new_bytes edit) ≤ 2048 * blocks_of offset edit
+new-fits_at offset (Put bytes was) low h = (spans offset (length bytes) low h.0.some h.0.most).room
+new-fits_at offset (Fill count value) low h = omega (arith, length-replicate count value, (spans offset count low h.0 h.1).room)
+new-fits_at offset Rebuild low h = omega arith
+
+pub new-fits : (p : Patch) → IsPatch p → p.offset + length (new_bytes p.edit) ≤ 2048 * blocks_met p
+unfolding blocks_met
+new-fits p patch = new-fits_at p.offset p.edit patch.offset patch.edit
+
+pub Effect-applied : (p : Patch) (old new : List (List ℕ)) → outcome old p.block p ≡ Applied → IsApplied p.block p old new → Effect p.block p old new
+Effect-applied p old new is h = subst (λ o. EffectOf o p.block p old new) (sym is) h

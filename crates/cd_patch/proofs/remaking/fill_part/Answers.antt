@@ -1,0 +1,14 @@
+use Rattle.std.proofs.Common.{arith}
+use Rattle.cd_patch.proofs.PartLemmas.{HasPart-filled, length-user}
+use Rattle.cd_patch.proofs.remaking.fill_part.Goals as goal
+
+pub returns : goal.returns
+returns c = λ value filled.
+    let before = c.args.sector.now in
+    let part = c.part_in-part.result in
+    let at = c.part_in-part.ensures in
+    let rises = at.rises in
+    let fits = at.fits in
+    HasPart-filled c.args.k c.args.offset part.place part.first part.end c.args.count value _ c.args.bytes.now before c.change_user.new.s
+    at (length-user before c.requires.consistent.size) filled
+    (c.change_user.ensures.consistent c.requires.consistent) c.change_user.ensures.header c.change_user.ensures.user (omega arith)

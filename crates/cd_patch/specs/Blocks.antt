@@ -1,0 +1,43 @@
+-- The blocks that a patch meets, and the bytes that it names in them.
+use Rattle.std.specs.Prelude.{ℕ, ◌+◌, ◌-◌, ◌/◌, nat_lt, Bool, true, false, if◌then◌else◌, List, [], length, replicate, slice_get, Option, Some, None}
+use Rattle.cd_script.specs.declared.patch.Edit.{Edit}
+use Rattle.cd_script.specs.declared.patch.Edit.TheVariants.{Put, Fill, Rebuild}
+use Rattle.cd_script.specs.declared.patch.Patch.{Patch}
+use Rattle.cd_sector.specs.declared.sector.TheConstants.{USER_SIZE}
+
+-- the bytes that an edit writes
+abbrev pub new_bytes : Edit → List ℕ
+new_bytes (Put bytes was) = bytes
+new_bytes (Fill count value) = replicate count value
+new_bytes Rebuild = []
+
+-- the bytes that have to stand in their place before; none where the edit does not ask
+abbrev pub old_bytes : Edit → List ℕ
+old_bytes (Put bytes None) = []
+old_bytes (Put bytes (Some was)) = was
+old_bytes (Fill count value) = []
+old_bytes Rebuild = []
+
+-- whether an edit is refused where a sector is damaged
+abbrev pub asks_sound : Edit → Bool
+asks_sound (Put bytes was) = true
+asks_sound (Fill count value) = true
+asks_sound Rebuild = false
+
+-- the number of blocks that so many bytes from an offset on lie in
+abbrev pub blocks_spanned : ℕ → ℕ → ℕ
+blocks_spanned offset count = (offset + count - 1) / USER_SIZE + 1
+
+-- the number of blocks that an edit at an offset meets
+abbrev pub blocks_of : ℕ → Edit → ℕ
+blocks_of offset (Put bytes was) = blocks_spanned offset (length bytes)
+blocks_of offset (Fill count value) = blocks_spanned offset count
+blocks_of offset Rebuild = 1
+
+-- the number of blocks that a patch meets: its first block, and those behind it
+unfoldable pub blocks_met : Patch → ℕ
+blocks_met p = blocks_of p.offset p.edit
+
+-- the sector of a block, where these sectors, the first of which is block `base`, have it
+unfoldable pub sector_at : List (List ℕ) → ℕ → ℕ → Option (List ℕ)
+sector_at sectors base block = if nat_lt block base then None else slice_get sectors (block - base)

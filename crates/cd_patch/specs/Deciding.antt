@@ -1,0 +1,59 @@
+-- Whether a patch is accepted: the blocks that it meets are asked upwards, then the old bytes that it names.
+use Rattle.std.specs.Prelude.{ℕ, zero, suc, ◌+◌, ◌/◌, ◌%◌, ◌==◌, Bool, not, ◌&&◌, if◌then◌else◌, List, [], ◌∷◌, ◌++◌, drop, Option, Some, None, unwrap_or}
+use Rattle.cd_script.specs.declared.patch.Patch.{Patch}
+use Rattle.cd_sector.specs.Consistent.{consistent, is_mode1, user_of}
+use Rattle.cd_sector.specs.Kind.{kind_of}
+use Rattle.cd_sector.specs.declared.sector.TheConstants.{USER_SIZE}
+use Rattle.cd_patch.specs.Blocks.{asks_sound, blocks_met, old_bytes, sector_at}
+use Rattle.cd_patch.specs.declared.outcome.Outcome.{Outcome}
+use Rattle.cd_patch.specs.declared.outcome.Outcome.TheVariants.{Applied, Damaged, Differs, NoBlock, NotMode1}
+
+-- why a block refuses a patch, which may ask for a consistent sector; none where it doesn't refuse
+abbrev pub refusal_at : Bool → ℕ → Option (List ℕ) → Option Outcome
+refusal_at asks block None = Some (NoBlock block)
+refusal_at asks block (Some sector) =
+    if not (is_mode1 (kind_of sector)) then Some (NotMode1 block)
+    else if asks && not (consistent sector) then Some (Damaged block)
+    else None
+
+-- the first of two refusals
+abbrev pub first_of : Option Outcome → Option Outcome → Option Outcome
+first_of None other = other
+first_of (Some refusal) other = Some refusal
+
+-- the first refusal of `count` blocks from one on, upwards
+abbrev pub first_refusal : List (List ℕ) → ℕ → Bool → ℕ → ℕ → Option Outcome
+first_refusal sectors base asks block zero = None
+first_refusal sectors base asks block (suc count) =
+    first_of (refusal_at asks block (sector_at sectors base block)) (first_refusal sectors base asks (block + 1) count)
+
+-- the user data of a block
+abbrev pub user_at : Option (List ℕ) → List ℕ
+user_at None = []
+user_at (Some sector) = user_of sector
+
+-- the user data of `count` blocks from one on, joined
+abbrev pub joined_user : List (List ℕ) → ℕ → ℕ → ℕ → List ℕ
+joined_user sectors base block zero = []
+joined_user sectors base block (suc count) = user_at (sector_at sectors base block) ++ joined_user sectors base (block + 1) count
+
+-- the user data of the blocks that a patch meets, joined
+unfoldable pub user_met : List (List ℕ) → ℕ → Patch → List ℕ
+user_met sectors base p = joined_user sectors base p.block (blocks_met p)
+
+-- the place of the first byte that is not the old one, where the first byte stands at `place`
+abbrev pub first_difference : ℕ → List ℕ → List ℕ → Option ℕ
+first_difference place bytes [] = None
+first_difference place [] (old ∷ others) = Some place
+first_difference place (b ∷ bytes) (old ∷ others) = if b == old then first_difference (place + 1) bytes others else Some place
+
+-- the block and offset of a place in the joined user data of blocks from one on
+abbrev pub by_difference : ℕ → Option ℕ → Outcome
+by_difference block None = Applied
+by_difference block (Some place) = Differs (block + place / USER_SIZE) (place % USER_SIZE)
+
+-- what becomes of a patch
+unfoldable pub outcome : List (List ℕ) → ℕ → Patch → Outcome
+outcome sectors base p =
+    unwrap_or (first_refusal sectors base (asks_sound p.edit) p.block (blocks_met p))
+    (by_difference p.block (first_difference p.offset (drop p.offset (user_met sectors base p)) (old_bytes p.edit)))

@@ -1,0 +1,30 @@
+-- What an edit makes of one sector after the other, among those that its patch meets.
+use Rattle.std.specs.Prelude.{◌≡◌, ℕ, ◌+◌, ◌*◌, ◌<◌, ◌≤◌, ◌⊎◌, List, [], length, slice_index, slice_index_or}
+use Rattle.cd_sector.specs.Consistent.{IsConsistent, header_of, user_of}
+use Rattle.cd_sector.specs.declared.sector.TheConstants.{USER_SIZE}
+
+-- each of the first `count` sectors has its 2048 bytes of user data
+abbrev pub HaveUsers : List (List ℕ) → ℕ → Type 0
+HaveUsers sectors count = (k : ℕ) → k < count → length (user_of (slice_index_or sectors k [])) ≡ USER_SIZE
+
+-- where a range of `count` bytes, which begins at `offset` in the joined user data, meets the block at number k among
+-- them: at `place` of its user data stand bytes `first` to `end` of the range, and no other
+pub record IsPart (k offset count place first end : ℕ) : Type 0 where
+  pub rises : first ≤ end
+  pub within : end ≤ count
+  pub fits : place + end ≤ USER_SIZE + first
+  pub lies : USER_SIZE * k + place ≡ offset + first
+  pub from_start : (first ≡ 0) ⊎ (place ≡ 0)
+  pub to_end : (end ≡ count) ⊎ (place + end ≡ USER_SIZE + first)
+
+-- the sector at number k is consistent, with its old header, and has those of the bytes that lie in it
+pub record HasPart (k offset : ℕ) (bytes before after : List ℕ) : Type 0 where
+  pub is_consistent : IsConsistent after
+  pub has_header : header_of after ≡ header_of before
+  pub inside : (i j : ℕ) → i < length bytes → j < USER_SIZE → USER_SIZE * k + j ≡ offset + i → slice_index (user_of after) j ≡ slice_index bytes i
+  pub outside : (j : ℕ) → j < USER_SIZE → (USER_SIZE * k + j < offset) ⊎ (offset + length bytes ≤ USER_SIZE * k + j) → slice_index (user_of after) j ≡ slice_index (user_of before) j
+
+-- as many sectors, each made of the one before by a rule for its number
+pub record EachMade (Rule : ℕ → List ℕ → List ℕ → Type 0) (old new : List (List ℕ)) : Type 0 where
+  pub size : length new ≡ length old
+  pub each : (k : ℕ) → k < length old → Rule k (slice_index_or old k []) (slice_index_or new k [])

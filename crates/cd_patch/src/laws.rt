@@ -1,0 +1,25 @@
+//! Laws of the definitions, each the contract of a function that does nothing.
+
+ghost use Rattle.cd_patch.specs.Laws.{RunExists, RunIsDetermined, RunLeavesOthers, RunsAgree};
+
+/// A run's outcomes and last sectors follow from the patches and the sectors.
+pub fn run_is_determined()
+    ensures { RunIsDetermined }
+{}
+
+/// Each list of patches has a run on each list of sectors.
+pub fn run_exists()
+    ensures { RunExists }
+{}
+
+/// Where the first i + 3 sectors are equal, the patches up to block base + i have equal outcomes, and leave equal
+/// sectors 0 to i.
+pub fn runs_agree()
+    ensures { RunsAgree }
+{}
+
+/// A sector that no accepted patch meets is the old one; each other one is consistent, with its old header and the
+/// user data that the accepted patches leave in order.
+pub fn run_leaves_others()
+    ensures { RunLeavesOthers }
+{}

@@ -1,0 +1,16 @@
+//! What a patch of a script makes of the sectors that it meets: whether it is accepted, and the sectors that
+//! it leaves.
+#![tactic(auto)]
+
+mod deciding;
+mod laws;
+mod outcome;
+mod remaking;
+
+pub use deciding::blocks_met;
+pub use laws::{run_exists, run_is_determined, run_leaves_others, runs_agree};
+pub use outcome::Outcome;
+pub use remaking::take_patch;
+
+#[cfg(test)]
+mod tests;

@@ -1,0 +1,16 @@
+//! What has become of a patch.
+
+/// Whether a patch was accepted, or why it was refused. Blocks are told by their numbers, which begin at the base.
+#[derive(Clone, Copy, Debug, PartialEq, Eq, Drop)]
+pub enum Outcome {
+    /// The patch was accepted, and each block that it meets holds its bytes.
+    Applied,
+    /// The patch meets this block, and the image does not have it.
+    NoBlock(u32),
+    /// The patch meets this block, and its sector is not of Mode 1.
+    NotMode1(u32),
+    /// The patch meets this block, and its sector is not consistent.
+    Damaged(u32),
+    /// The user byte at this offset of this block is not the old byte that the patch names.
+    Differs(u32, u16),
+}

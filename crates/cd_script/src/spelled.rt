@@ -1,0 +1,84 @@
+//! One patch of a script, as its line spells it.
+
+ghost use Rattle.std.specs.Prelude.{◌≡◌, IfOk};
+
+use crate::bytes::Bytes;
+use crate::hex_word::HexWord;
+use crate::patch::{Edit, Patch};
+use std::alloc::{AllocError, Global};
+
+/// A patch that has no bytes of its own: a line can be checked without memory.
+#[derive(Debug, Drop)]
+pub(crate) struct SpelledPatch<'a> {
+    pub(crate) line: u32,
+    pub(crate) block: u32,
+    pub(crate) offset: u16,
+    pub(crate) edit: SpelledEdit<'a>,
+}
+
+/// What a patch does.
+#[derive(Debug, Drop)]
+pub(crate) enum SpelledEdit<'a> {
+    Put {
+        bytes: HexWord<'a>,
+        was: Option<HexWord<'a>>,
+    },
+    Fill {
+        count: u16,
+        value: u8,
+    },
+    Rebuild,
+}
+
+/// Old bytes, where there are some.
+fn decode_old(alloc: Global, was: Option<HexWord<'_>>) -> Result<Option<Bytes>, AllocError>
+    ensures { IfOk result (λ old. old ≡ was.entry) }
+{
+    match was {
+        Some(word) => Ok(Some(word.decode(alloc)?)),
+        None => Ok(None),
+    }
+}
+
+fn build_put(
+    alloc: Global,
+    bytes: HexWord<'_>,
+    was: Option<HexWord<'_>>,
+) -> Result<Edit, AllocError>
+    ensures { IfOk result (λ edit. edit ≡ Edit.Put bytes.entry was.entry) }
+{
+    let bytes = bytes.decode(alloc)?;
+    let was = decode_old(alloc, was)?;
+    Ok(Edit::Put { bytes, was })
+}
+
+impl<'a> SpelledEdit<'a> {
+    ghost use Rattle.cd_script.specs.Spelled.{as_edit};
+
+    fn build(self, alloc: Global) -> Result<Edit, AllocError>
+        ensures { IfOk result (λ edit. edit ≡ as_edit self.entry) }
+    {
+        match self {
+            SpelledEdit::Put { bytes, was } => build_put(alloc, bytes, was),
+            SpelledEdit::Fill { count, value } => Ok(Edit::Fill { count, value }),
+            SpelledEdit::Rebuild => Ok(Edit::Rebuild),
+        }
+    }
+}
+
+impl<'a> SpelledPatch<'a> {
+    ghost use Rattle.cd_script.specs.Spelled.{as_patch};
+
+    /// The patch, with its bytes.
+    pub(crate) fn build(self, alloc: Global) -> Result<Patch, AllocError>
+        ensures { IfOk result (λ patch. patch ≡ as_patch self.entry) }
+    {
+        let edit = self.edit.build(alloc)?;
+        Ok(Patch {
+            line: self.line,
+            block: self.block,
+            offset: self.offset,
+            edit,
+        })
+    }
+}

@@ -1,0 +1,13 @@
+use Rattle.std.proofs.Common.{◌≡◌, ◌-◌, ◌≤◌, length, take}
+use Rattle.std.specs.Io.KnownBytes.{Appends}
+use Rattle.cd_stream.proofs.transfer.write_all.Given as goal
+
+abbrev pub invariant-loop-sent : goal.invariant-loop-sent
+invariant-loop-sent g l = record {
+  within : l.sent ≤ length l.bytes;
+  appended : Appends (g.O.Sink.seen l.fn.out).written (g.O.Sink.seen l.out).written (take l.sent l.bytes);
+  counted : (g.O.Sink.seen l.out).failures ≡ (g.O.Sink.seen l.fn.out).failures;
+}
+
+abbrev pub decreases-loop-sent : goal.decreases-loop-sent
+decreases-loop-sent g l = length l.bytes - l.sent

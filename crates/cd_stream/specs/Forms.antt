@@ -1,0 +1,70 @@
+-- What the forms of sources and sinks show beside what every source and sink does.
+use Rattle.std.specs.Prelude.{ℕ, ◌+◌, ◌-◌, Bool, Some, length, min, replicate, take}
+use Rattle.cd_stream.specs.Stream.{Incoming, Outgoing}
+use Rattle.cd_stream.specs.declared.forms.fail_after.FailAfter.{FailAfter}
+use Rattle.cd_stream.specs.declared.forms.short.Short.{Short}
+use Rattle.cd_stream.specs.declared.forms.slice_sink.SliceSink.{SliceSink}
+use Rattle.cd_stream.specs.declared.forms.slice_source.SliceSource.{SliceSource}
+use Rattle.cd_stream.specs.declared.forms.zero_source.ZeroSource.{ZeroSource}
+
+-- ---- a slice as a source, and zeros
+
+abbrev pub slice_to_come : SliceSource → Incoming
+slice_to_come s = record { rest = Some s.rest.now; failures = 0 }
+
+abbrev pub zeros_to_come : ZeroSource → Incoming
+zeros_to_come s = record { rest = Some (replicate s.left 0); failures = 0 }
+
+-- ---- a slice as a sink
+
+abbrev pub slice_taken : SliceSink → Outgoing
+slice_taken s = record { written = Some (take s.used s.space.now); failures = s.failures; finished = s.finished }
+
+-- the number of bytes for which there is room
+abbrev pub room_of : SliceSink → ℕ
+room_of s = length s.space.now - s.used
+
+-- ---- few bytes a call
+
+-- what it stands over
+abbrev pub shortens : {S : Type 0} → Short S → S
+shortens s = s.inner
+
+-- the largest number of bytes that it passes in a call
+abbrev pub passes_at_most : {S : Type 0} → Short S → ℕ
+passes_at_most s = s.most
+
+abbrev pub short_finished : {S : Type 0} → Short S → Bool
+short_finished s = s.finished
+
+-- as what it stands over; whether it is finished is told of its own calls
+abbrev pub short_taken : {S : Type 0} → (S → Outgoing) → Short S → Outgoing
+short_taken seen s = record (seen s.inner) { finished = s.finished }
+
+-- ---- failing from some byte on
+
+-- what it stands over
+abbrev pub fails_over : {S : Type 0} → FailAfter S → S
+fails_over f = f.inner
+
+-- the number of bytes that it still passes
+abbrev pub still_passes : {S : Type 0} → FailAfter S → ℕ
+still_passes f = f.left
+
+-- the failures behind the limit
+abbrev pub own_failures : {S : Type 0} → FailAfter S → ℕ
+own_failures f = f.own
+
+abbrev pub fail_after_finished : {S : Type 0} → FailAfter S → Bool
+fail_after_finished f = f.finished
+
+-- the failures within, and its own behind the limit, as far as they can be counted
+abbrev pub failures_with : {S : Type 0} → ℕ → FailAfter S → ℕ
+failures_with within f = min (within + f.own) 4294967295
+
+-- as what it stands over, with its own failures
+abbrev pub failing_to_come : {S : Type 0} → (S → Incoming) → FailAfter S → Incoming
+failing_to_come seen f = record (seen f.inner) { failures = failures_with (seen f.inner).failures f }
+
+abbrev pub failing_taken : {S : Type 0} → (S → Outgoing) → FailAfter S → Outgoing
+failing_taken seen f = record { written = (seen f.inner).written; failures = failures_with (seen f.inner).failures f; finished = f.finished }

@@ -1,0 +1,18 @@
+-- What a contract sees of a source and of a sink.
+use Rattle.std.specs.Prelude.{◌≡◌, ℕ, Bool, List, ◌++◌, Option}
+
+-- of a source: the bytes that are still to come, where it tells them, and how many of its reads have failed
+pub record Incoming : Type 0 where
+  pub rest : Option (List ℕ)
+  pub failures : ℕ
+
+-- of a sink: the bytes that it has got, where it tells them, how many of its writes and flushes have failed, and
+-- whether the last call of `write` and `finish` was a `finish` that succeeded
+pub record Outgoing : Type 0 where
+  pub written : Option (List ℕ)
+  pub failures : ℕ
+  pub finished : Bool
+
+-- the list begins with this front
+abbrev pub IsBeginning : List ℕ → List ℕ → Type 0
+IsBeginning front whole = (more : List ℕ) × (whole ≡ front ++ more)

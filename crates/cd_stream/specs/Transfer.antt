@@ -1,0 +1,56 @@
+-- What one read and one write do to a source and a sink.
+use Rattle.std.specs.Prelude.{◌≡◌, ℕ, ◌+◌, ◌<◌, ◌≤◌, false, List, length, take, Result, Ok, Err, is_ok}
+use Rattle.std.specs.Io.KnownBytes.{Appends, Consumes, IsAtEnd, Keeps}
+use Rattle.cd_stream.specs.Stream.{Incoming, Outgoing}
+
+-- an Ok leaves the count, and an Err is one more
+abbrev pub Counts : {X E : Type 0} → ℕ → ℕ → Result X E → Type 0
+Counts old new (Ok x) = new ≡ old
+Counts old new (Err e) = new ≡ old + 1
+
+-- at Ok(n) the first n bytes of the buffer have come, none only at the end; at Err none has come
+abbrev pub Comes : {E : Type 0} → Incoming → Incoming → List ℕ → Result ℕ E → Type 0
+Comes old new buffer (Ok n) = (n ≤ length buffer) × Consumes old.rest new.rest (take n buffer) × (n ≡ 0 → IsAtEnd new.rest)
+Comes old new buffer (Err e) = Keeps old.rest new.rest
+
+-- at Ok(n) the first n bytes, one at least, have gone out; at Err none has
+abbrev pub Goes : {E : Type 0} → Outgoing → Outgoing → List ℕ → Result ℕ E → Type 0
+Goes old new bytes (Ok n) = (0 < n) × (n ≤ length bytes) × Appends old.written new.written (take n bytes)
+Goes old new bytes (Err e) = Keeps old.written new.written
+
+-- one read
+pub record Reads {E : Type 0} (old new : Incoming) (buffer : List ℕ) (result : Result ℕ E) : Type 0 where
+  pub bytes : Comes old new buffer result
+  pub count : Counts old.failures new.failures result
+
+-- one write
+pub record Writes {E : Type 0} (old new : Outgoing) (given : List ℕ) (result : Result ℕ E) : Type 0 where
+  pub bytes : Goes old new given result
+  pub count : Counts old.failures new.failures result
+  pub unfinished : new.finished ≡ false
+
+-- one flush: it moves no byte, and the sink is finished where it succeeds
+pub record Flushes {E : Type 0} (old new : Outgoing) (result : Result (Unit {0}) E) : Type 0 where
+  pub bytes : Keeps old.written new.written
+  pub count : Counts old.failures new.failures result
+  pub finished : new.finished ≡ is_ok result
+
+-- at Ok(n) the first n bytes of the buffer have come, fewer than it holds only at the end; at Err the bytes of some front
+abbrev pub ComesWhole : {E : Type 0} → Incoming → Incoming → List ℕ → Result ℕ E → Type 0
+ComesWhole old new buffer (Ok n) = (n ≤ length buffer) × Consumes old.rest new.rest (take n buffer) × (n < length buffer → IsAtEnd new.rest)
+ComesWhole old new buffer (Err e) = (n : ℕ) × (n < length buffer) × Consumes old.rest new.rest (take n buffer)
+
+-- at Ok all the bytes have gone out; at Err a front of them, without the last
+abbrev pub GoesWhole : {X E : Type 0} → Outgoing → Outgoing → List ℕ → Result X E → Type 0
+GoesWhole old new bytes (Ok x) = Appends old.written new.written bytes
+GoesWhole old new bytes (Err e) = (n : ℕ) × (n < length bytes) × Appends old.written new.written (take n bytes)
+
+-- as many reads as it takes
+pub record Fills {E : Type 0} (old new : Incoming) (buffer : List ℕ) (result : Result ℕ E) : Type 0 where
+  pub bytes : ComesWhole old new buffer result
+  pub count : Counts old.failures new.failures result
+
+-- as many writes as it takes
+pub record Sends {X E : Type 0} (old new : Outgoing) (given : List ℕ) (result : Result X E) : Type 0 where
+  pub bytes : GoesWhole old new given result
+  pub count : Counts old.failures new.failures result

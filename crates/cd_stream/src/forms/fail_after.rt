@@ -1,0 +1,117 @@
+//! A source or a sink that fails from some byte on.
+
+use crate::sink::{Sink, SinkFailed};
+use crate::source::{Source, SourceFailed};
+
+/// Passes a number of bytes, and fails each call behind them.
+#[derive(Debug, Drop)]
+pub struct FailAfter<S> {
+    inner: S,
+    left: u64,
+    own: u32,
+    finished: bool,
+}
+
+impl<S> FailAfter<S> {
+    ghost use Rattle.std.specs.Prelude.{◌≡◌, false};
+    ghost use Rattle.cd_stream.specs.Forms.{fail_after_finished, fails_over, own_failures, still_passes};
+
+    /// Stands over `inner`, and passes `count` bytes.
+    pub fn new(inner: S, count: u64) -> Self
+        ensures over { fails_over result ≡ inner }
+        ensures limit { still_passes result ≡ count }
+        ensures failures { own_failures result ≡ 0 }
+        ensures unfinished { fail_after_finished result ≡ false }
+    {
+        FailAfter {
+            inner,
+            left: count,
+            own: 0,
+            finished: false,
+        }
+    }
+}
+
+impl<S: Source> Source for FailAfter<S> {
+    ghost use Rattle.std.specs.Prelude.{◌≡◌, ◌+◌, ◌<◌, IfOk, IsErr, OnErr, length, min};
+    ghost use Rattle.cd_stream.specs.Forms.{failing_to_come, fails_over, still_passes};
+    ghost use Rattle.cd_stream.specs.Transfer.{Counts, Reads};
+
+    ghost seen = { λ s. record { rest = (S.seen s.inner).rest; failures = min ((S.seen s.inner).failures + s.own) 4294967295 } };
+
+    fn read(&mut self, into: &mut [u8]) -> Result<usize, SourceFailed>
+        requires room { 0 < length into.old }
+        requires countable { (failing_to_come S.seen self.old).failures < 4294967295 }
+        ensures reads { Reads (failing_to_come S.seen self.old) (failing_to_come S.seen self.new) into.new result }
+        ensures limit { still_passes self.old ≡ 0 → IsErr result }
+        ensures within { 0 < still_passes self.old → Counts (S.seen (fails_over self.old)).failures (S.seen (fails_over self.new)).failures result }
+        ensures left { IfOk result (λ n. still_passes self.new + n ≡ still_passes self.old) }
+        ensures left_on_err { OnErr result (still_passes self.new ≡ still_passes self.old) }
+    {
+        if self.left == 0 {
+            self.own += 1;
+            return Err(SourceFailed);
+        }
+        let n = self.left.min(into.len() as u64) as usize;
+        let n = self.inner.read(&mut into[..n])?;
+        self.left -= n as u64;
+        Ok(n)
+    }
+
+    fn failures(&self) -> u32 {
+        self.inner.failures().saturating_add(self.own)
+    }
+}
+
+impl<S: Sink> Sink for FailAfter<S> {
+    ghost use Rattle.std.specs.Prelude.{◌≡◌, ◌+◌, ◌<◌, IfOk, IsErr, OnErr, length, min};
+    ghost use Rattle.cd_stream.specs.Forms.{failing_taken, fails_over, still_passes};
+    ghost use Rattle.cd_stream.specs.Transfer.{Counts, Flushes, Writes};
+
+    ghost seen = { λ s. record { written = (S.seen s.inner).written; failures = min ((S.seen s.inner).failures + s.own) 4294967295; finished = s.finished } };
+
+    fn write(&mut self, bytes: &[u8]) -> Result<usize, SinkFailed>
+        requires some { 0 < length bytes.now }
+        requires countable { (failing_taken S.seen self.old).failures < 4294967295 }
+        ensures writes { Writes (failing_taken S.seen self.old) (failing_taken S.seen self.new) bytes.now result }
+        ensures limit { still_passes self.old ≡ 0 → IsErr result }
+        ensures within { 0 < still_passes self.old → Counts (S.seen (fails_over self.old)).failures (S.seen (fails_over self.new)).failures result }
+        ensures left { IfOk result (λ n. still_passes self.new + n ≡ still_passes self.old) }
+        ensures left_on_err { OnErr result (still_passes self.new ≡ still_passes self.old) }
+    {
+        self.finished = false;
+        if self.left == 0 {
+            self.own += 1;
+            return Err(SinkFailed);
+        }
+        let n = self.left.min(bytes.len() as u64) as usize;
+        let n = self.inner.write(&bytes[..n])?;
+        self.left -= n as u64;
+        Ok(n)
+    }
+
+    fn finish(&mut self) -> Result<(), SinkFailed>
+        requires { (failing_taken S.seen self.old).failures < 4294967295 }
+        ensures flushes { Flushes (failing_taken S.seen self.old) (failing_taken S.seen self.new) result }
+        ensures limit { still_passes self.old ≡ 0 → IsErr result }
+        ensures within { 0 < still_passes self.old → Flushes (S.seen (fails_over self.old)) (S.seen (fails_over self.new)) result }
+        ensures left { still_passes self.new ≡ still_passes self.old }
+    {
+        self.finished = false;
+        if self.left == 0 {
+            self.own += 1;
+            return Err(SinkFailed);
+        }
+        self.inner.finish()?;
+        self.finished = true;
+        Ok(())
+    }
+
+    fn finished(&self) -> bool {
+        self.finished
+    }
+
+    fn failures(&self) -> u32 {
+        self.inner.failures().saturating_add(self.own)
+    }
+}

@@ -1,0 +1,43 @@
+//! A std reader as a source.
+
+ghost use Rattle.std.specs.Prelude.{◌≡◌, ◌+◌, ◌<◌, Some};
+
+use crate::source::{Source, SourceFailed};
+use std::io::Read;
+
+/// Gives the bytes of a reader. Each error is a failure, also one that a reader would try again.
+#[derive(Debug, Drop)]
+pub struct FromRead<R> {
+    reader: R,
+    failures: u32,
+}
+
+impl<R: Read> FromRead<R> {
+    /// Stands over `reader`.
+    pub fn new(reader: R) -> Self
+        ensures { ⟦<FromRead<R> as Source>⟧.seen result ≡ record { rest = R.remaining reader; failures = 0 } }
+    {
+        FromRead {
+            reader,
+            failures: 0,
+        }
+    }
+}
+
+impl<R: Read> Source for FromRead<R> {
+    ghost seen = { λ s. record { rest = R.remaining s.reader; failures = s.failures } };
+
+    fn read(&mut self, into: &mut [u8]) -> Result<usize, SourceFailed> {
+        match self.reader.read(into) {
+            Ok(n) => Ok(n),
+            Err(_) => {
+                self.failures += 1;
+                Err(SourceFailed)
+            }
+        }
+    }
+
+    fn failures(&self) -> u32 {
+        self.failures
+    }
+}

@@ -1,0 +1,95 @@
+//! A source or a sink that moves few bytes a call.
+
+ghost use Rattle.std.specs.Prelude.{◌<◌};
+
+use crate::sink::{Sink, SinkFailed};
+use crate::source::{Source, SourceFailed};
+
+/// Passes at most a number of bytes in each call. Its count of failures is that of what it stands over.
+#[derive(Debug, Drop)]
+pub struct Short<S> {
+    inner: S,
+    most: usize,
+    finished: bool,
+    ghost some: { 0 < most },
+}
+
+impl<S> Short<S> {
+    ghost use Rattle.std.specs.Prelude.{◌≡◌, false, max};
+    ghost use Rattle.cd_stream.specs.Forms.{passes_at_most, short_finished, shortens};
+
+    /// Stands over `inner`, and passes at most `most` bytes a call: 1 where that is 0.
+    pub fn new(inner: S, most: usize) -> Self
+        ensures over { shortens result ≡ inner }
+        ensures most { passes_at_most result ≡ max most 1 }
+        ensures unfinished { short_finished result ≡ false }
+    {
+        Short {
+            inner,
+            most: most.max(1),
+            finished: false,
+        }
+    }
+}
+
+impl<S: Source> Source for Short<S> {
+    ghost use Rattle.std.specs.Prelude.{◌≡◌, ◌<◌, ◌≤◌, IfOk, length};
+    ghost use Rattle.cd_stream.specs.Forms.{passes_at_most, shortens};
+    ghost use Rattle.cd_stream.specs.Transfer.{Reads};
+
+    ghost seen = { λ s. S.seen s.inner };
+
+    fn read(&mut self, into: &mut [u8]) -> Result<usize, SourceFailed>
+        requires room { 0 < length into.old }
+        requires countable { (S.seen (shortens self.old)).failures < 4294967295 }
+        ensures reads { Reads (S.seen (shortens self.old)) (S.seen (shortens self.new)) into.new result }
+        ensures few { IfOk result (λ n. n ≤ passes_at_most self.old) }
+        ensures most { passes_at_most self.new ≡ passes_at_most self.old }
+    {
+        let n = into.len().min(self.most);
+        self.inner.read(&mut into[..n])
+    }
+
+    fn failures(&self) -> u32 {
+        self.inner.failures()
+    }
+}
+
+impl<S: Sink> Sink for Short<S> {
+    ghost use Rattle.std.specs.Prelude.{◌≡◌, ◌<◌, ◌≤◌, IfOk, length};
+    ghost use Rattle.cd_stream.specs.Forms.{passes_at_most, short_taken, shortens};
+    ghost use Rattle.cd_stream.specs.Transfer.{Flushes, Writes};
+
+    ghost seen = { λ s. record { written = (S.seen s.inner).written; failures = (S.seen s.inner).failures; finished = s.finished } };
+
+    fn write(&mut self, bytes: &[u8]) -> Result<usize, SinkFailed>
+        requires some { 0 < length bytes.now }
+        requires countable { (short_taken S.seen self.old).failures < 4294967295 }
+        ensures writes { Writes (short_taken S.seen self.old) (short_taken S.seen self.new) bytes.now result }
+        ensures few { IfOk result (λ n. n ≤ passes_at_most self.old) }
+        ensures most { passes_at_most self.new ≡ passes_at_most self.old }
+    {
+        self.finished = false;
+        let n = bytes.len().min(self.most);
+        self.inner.write(&bytes[..n])
+    }
+
+    fn finish(&mut self) -> Result<(), SinkFailed>
+        requires { (short_taken S.seen self.old).failures < 4294967295 }
+        ensures flushes { Flushes (short_taken S.seen self.old) (short_taken S.seen self.new) result }
+        ensures within { Flushes (S.seen (shortens self.old)) (S.seen (shortens self.new)) result }
+        ensures most { passes_at_most self.new ≡ passes_at_most self.old }
+    {
+        let finished = self.inner.finish();
+        self.finished = finished.is_ok();
+        finished
+    }
+
+    fn finished(&self) -> bool {
+        self.finished
+    }
+
+    fn failures(&self) -> u32 {
+        self.inner.failures()
+    }
+}

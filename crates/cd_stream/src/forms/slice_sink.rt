@@ -1,0 +1,79 @@
+//! Memory as a sink.
+
+ghost use Rattle.std.specs.Prelude.{◌≡◌, ◌≤◌, [], Some, false, length, take};
+
+use crate::sink::{Sink, SinkFailed};
+
+/// Writes to the front of a slice, and fails where that is full.
+#[derive(Debug, Drop)]
+pub struct SliceSink<'a> {
+    space: &'a mut [u8],
+    used: usize,
+    failures: u32,
+    finished: bool,
+    ghost within: { used ≤ length space.now },
+}
+
+impl<'a> SliceSink<'a> {
+    ghost use Rattle.std.specs.Prelude.{◌≡◌, [], Some, false, length};
+    ghost use Rattle.cd_stream.specs.Forms.{room_of};
+
+    /// Stands over `space`, from its front.
+    pub fn new(space: &'a mut [u8]) -> Self
+        ensures seen { ⟦<SliceSink<'a> as Sink>⟧.seen result ≡ record { written = Some []; failures = 0; finished = false } }
+        ensures room { room_of result ≡ length space.entry.now }
+    {
+        SliceSink {
+            space,
+            used: 0,
+            failures: 0,
+            finished: false,
+        }
+    }
+}
+
+impl Sink for SliceSink<'_> {
+    ghost use Rattle.std.specs.Prelude.{◌≡◌, ◌+◌, ◌<◌, ◌↔◌, IfOk, IsOk, Some, false, is_ok, length, min, take};
+    ghost use Rattle.cd_stream.specs.Forms.{room_of, slice_taken};
+    ghost use Rattle.cd_stream.specs.Transfer.{Flushes, Writes};
+
+    ghost seen = { λ s. record { written = Some (take s.used s.space.now); failures = s.failures; finished = s.finished } };
+
+    fn write(&mut self, bytes: &[u8]) -> Result<usize, SinkFailed>
+        requires some { 0 < length bytes.now }
+        requires countable { (slice_taken self.old).failures < 4294967295 }
+        ensures writes { Writes (slice_taken self.old) (slice_taken self.new) bytes.now result }
+        ensures room { IsOk result ↔ (0 < room_of self.old) }
+        ensures taken { IfOk result (λ n. n ≡ min (length bytes.now) (room_of self.old)) }
+        ensures room_left { IfOk result (λ n. room_of self.new + n ≡ room_of self.old) }
+    {
+        self.finished = false;
+        let n = bytes.len().min(self.space.len() - self.used);
+        if n == 0 {
+            self.failures += 1;
+            return Err(SinkFailed);
+        }
+        let end = self.used + n;
+        self.space[self.used..end].copy_from_slice(&bytes[..n]);
+        self.used = end;
+        Ok(n)
+    }
+
+    fn finish(&mut self) -> Result<(), SinkFailed>
+        requires { (slice_taken self.old).failures < 4294967295 }
+        ensures flushes { Flushes (slice_taken self.old) (slice_taken self.new) result }
+        ensures never_fails { IsOk result }
+        ensures room { room_of self.new ≡ room_of self.old }
+    {
+        self.finished = true;
+        Ok(())
+    }
+
+    fn finished(&self) -> bool {
+        self.finished
+    }
+
+    fn failures(&self) -> u32 {
+        self.failures
+    }
+}

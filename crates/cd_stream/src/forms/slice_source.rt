@@ -1,0 +1,44 @@
+//! Bytes in memory as a source.
+
+ghost use Rattle.std.specs.Prelude.{◌≡◌, IsOk, Some};
+
+use crate::source::{Source, SourceFailed};
+
+/// Gives the bytes of a slice, and never fails.
+#[derive(Debug, Drop)]
+pub struct SliceSource<'a> {
+    rest: &'a [u8],
+}
+
+impl<'a> SliceSource<'a> {
+    /// Stands over `bytes`.
+    pub fn new(bytes: &'a [u8]) -> Self
+        ensures { ⟦<SliceSource<'a> as Source>⟧.seen result ≡ record { rest = Some bytes.entry.now; failures = 0 } }
+    {
+        SliceSource { rest: bytes }
+    }
+}
+
+impl Source for SliceSource<'_> {
+    ghost use Rattle.std.specs.Prelude.{◌<◌, IsOk, Some, length};
+    ghost use Rattle.cd_stream.specs.Forms.{slice_to_come};
+    ghost use Rattle.cd_stream.specs.Transfer.{Reads};
+
+    ghost seen = { λ s. record { rest = Some s.rest.now; failures = 0 } };
+
+    fn read(&mut self, into: &mut [u8]) -> Result<usize, SourceFailed>
+        requires { 0 < length into.old }
+        ensures reads { Reads (slice_to_come self.old) (slice_to_come self.new) into.new result }
+        ensures never_fails { IsOk result }
+    {
+        let n = into.len().min(self.rest.len());
+        let (front, rest) = self.rest.split_at(n);
+        into[..n].copy_from_slice(front);
+        self.rest = rest;
+        Ok(n)
+    }
+
+    fn failures(&self) -> u32 {
+        0
+    }
+}

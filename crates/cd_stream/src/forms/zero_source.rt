@@ -1,0 +1,43 @@
+//! Zeros as a source.
+
+ghost use Rattle.std.specs.Prelude.{◌≡◌, IsOk, Some, replicate};
+
+use crate::source::{Source, SourceFailed};
+
+/// Gives a number of bytes `00`, and never fails.
+#[derive(Debug, Drop)]
+pub struct ZeroSource {
+    left: u64,
+}
+
+impl ZeroSource {
+    /// Gives `count` bytes.
+    pub fn new(count: u64) -> Self
+        ensures { ⟦<ZeroSource as Source>⟧.seen result ≡ record { rest = Some (replicate count 0); failures = 0 } }
+    {
+        ZeroSource { left: count }
+    }
+}
+
+impl Source for ZeroSource {
+    ghost use Rattle.std.specs.Prelude.{◌<◌, IsOk, Some, length, replicate};
+    ghost use Rattle.cd_stream.specs.Forms.{zeros_to_come};
+    ghost use Rattle.cd_stream.specs.Transfer.{Reads};
+
+    ghost seen = { λ s. record { rest = Some (replicate s.left 0); failures = 0 } };
+
+    fn read(&mut self, into: &mut [u8]) -> Result<usize, SourceFailed>
+        requires { 0 < length into.old }
+        ensures reads { Reads (zeros_to_come self.old) (zeros_to_come self.new) into.new result }
+        ensures never_fails { IsOk result }
+    {
+        let n = self.left.min(into.len() as u64);
+        into[..n as usize].fill(0);
+        self.left -= n;
+        Ok(n as usize)
+    }
+
+    fn failures(&self) -> u32 {
+        0
+    }
+}

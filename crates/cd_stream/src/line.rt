@@ -1,0 +1,62 @@
+//! One line of a text, made in place.
+
+ghost use Rattle.std.specs.Prelude.{◌≡◌, ◌+◌, ◌≤◌, [], ◌++◌, decimal, length};
+
+use arrayvec::ArrayVec;
+use itoa::Buffer;
+use std::marker::Model;
+
+/// The largest number of bytes in a line.
+pub const LINE_SIZE: usize = 96;
+
+/// The bytes of a line that is being made. A contract sees their list.
+#[derive(Drop)]
+pub struct Line {
+    bytes: ArrayVec<u8, LINE_SIZE>,
+}
+
+impl Model for Line {
+    ghost use Rattle.std.specs.Prelude.{ℕ, List, ◌≤◌, length};
+    ghost use Rattle.cd_stream.specs.declared.line.TheConstants.{LINE_SIZE};
+
+    ghost Value = { List ℕ };
+
+    ghost view = { λ line. line.bytes.items };
+
+    ghost invariant = { λ line. length line.bytes.items ≤ LINE_SIZE };
+}
+
+impl Line {
+    /// A line without a byte.
+    pub fn new() -> Self
+        ensures { result ≡ [] }
+    {
+        Line {
+            bytes: ArrayVec::new(),
+        }
+    }
+
+    /// Puts a text behind the line, for which there is room.
+    pub fn push_text(&mut self, text: &[u8])
+        requires { length self.old + length text.now ≤ LINE_SIZE }
+        ensures { self.new ≡ self.old ++ text.now }
+    {
+        let _ = self.bytes.try_extend_from_slice(text);
+    }
+
+    /// Puts a number in decimal behind the line, for which there is room.
+    pub fn push_number(&mut self, number: u32)
+        requires { length self.old + 10 ≤ LINE_SIZE }
+        ensures line { self.new ≡ self.old ++ decimal number }
+        ensures size { length self.new ≤ length self.old + 10 }
+    {
+        self.push_text(Buffer::new().format(number).as_bytes());
+    }
+
+    /// The bytes so far.
+    pub fn as_slice(&self) -> &[u8]
+        ensures { result.now ≡ self.now }
+    {
+        self.bytes.as_slice()
+    }
+}

@@ -1,0 +1,4 @@
+//! Sources and sinks at concrete types.
+
+mod forms;
+mod std_streams;
