@@ -6,12 +6,12 @@ use Rattle.cd_script.specs.declared.patch.Patch.{Patch}
 use Rattle.cd_image.specs.Applying.{Applies, Checks, HoldsFew, Streams, WritesLog, WritesPatched}
 use Rattle.cd_image.specs.Patched.{IsPatched}
 use Rattle.cd_image.specs.PatchLog.{log_text, patch_tally}
-use Rattle.cd_image.specs.Report.{EndsWell, TellsTooLong}
+use Rattle.cd_image.specs.Report.{AnswersByLength, EndsWell, TellsTooLong}
 use Rattle.cd_image.specs.declared.fault.Fault.{Fault}
 use Rattle.cd_image.specs.declared.fault.Fault.TheVariants.{Log, Read, TooLong, Write}
 use Rattle.cd_image.specs.declared.patch_log.Tally.{Tally}
 use Rattle.cd_image.proofs.PatchedLemmas.{IsPatched-determined}
-use Rattle.cd_image.proofs.ReportLemmas.{appended, consumed_all, consumed_length, not_beyond, told_beyond}
+use Rattle.cd_image.proofs.ReportLemmas.{appended, beyond_by_length, consumed_all, consumed_length, ended_by_length, not_beyond, told_beyond}
 
 -- a sink that tells its bytes has these behind those that it had
 appended_length : (old new : Option (List ℕ)) (sent earlier now : List ℕ) → Appends old new sent → old ≡ Some earlier → new ≡ Some now → length now ≡ length earlier + length sent
@@ -75,6 +75,13 @@ module _ (patches : List Patch) (base : ℕ) (old new : Streams) where
   Applies-too_long (Err Write) a = not_beyond old.image new.image (Err Write) a.read a.consumes a.answers.within (λ e. cc)
   Applies-too_long (Err Log) a = not_beyond old.image new.image (Err Log) a.read a.consumes a.answers.within (λ e. cc)
   Applies-too_long (Err TooLong) a = told_beyond old.image new.image a.read a.consumes a.answers.beyond
+
+  pub Applies-by_length : (result : Result Tally Fault) → Applies patches base old new result → new.image.failures ≡ old.image.failures → new.out.failures ≡ old.out.failures → new.log.failures ≡ old.log.failures → AnswersByLength old.image result
+  Applies-by_length (Ok tally) a no_read no_write no_log = ended_by_length old.image new.image tally a.read a.consumes a.answers.at_end a.answers.within
+  Applies-by_length (Err Read) a no_read no_write no_log = absurd (omega (arith, a.answers.failed.reads, no_read))
+  Applies-by_length (Err Write) a no_read no_write no_log = absurd (omega (arith, a.answers.failed.writes, no_write))
+  Applies-by_length (Err Log) a no_read no_write no_log = absurd (omega (arith, a.answers.failed.logs, no_log))
+  Applies-by_length (Err TooLong) a no_read no_write no_log = beyond_by_length old.image new.image a.read a.consumes a.answers.beyond
 
   pub Applies-few : (result : Result Tally Fault) → Applies patches base old new result → HoldsFew old new
   Applies-few result a = λ given left earlier now gives leaves had has.

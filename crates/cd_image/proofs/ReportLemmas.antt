@@ -1,7 +1,7 @@
 -- What a report says in plain clauses.
 use Rattle.std.proofs.Common.{◌≡◌, ◌↔◌, ℕ, ◌+◌, List, [], ◌++◌, Option, None, Some, Result, Ok, Err, IfOk, OnOk, refl, sym, ap, ◌∙◌, arith, append-nil, length, ◌<◌, ◌≤◌, length-append}
 use Rattle.std.specs.Io.KnownBytes.{Appends, Consumes, IsAtEnd}
-use Rattle.cd_image.specs.Report.{EndsWell, Reports, Telling, TellsTooLong, WritesText}
+use Rattle.cd_image.specs.Report.{AnswersByLength, EndsWell, Reports, Telling, TellsTooLong, WritesText}
 use Rattle.cd_stream.specs.Stream.{Incoming, Outgoing}
 use Rattle.cd_image.specs.Image.{image_limit}
 use Rattle.cd_image.specs.declared.fault.Fault.{Fault}
@@ -24,6 +24,15 @@ consumed_length (Some xs) (Some ys) read bytes left consumed told telling =
     let still : ys ≡ left = cc in
     ap length (sym given ∙ consumed) ∙ length-append read ys ∙ ap (λ l. length read + length l) still
 
+-- what was read is no more than what the source had
+pub consumed_within : (old new : Option (List ℕ)) (read bytes : List ℕ) → Consumes old new read → old ≡ Some bytes → length read ≤ length bytes
+consumed_within None new read bytes consumed told = cc
+consumed_within (Some xs) None read bytes consumed told = absurd consumed
+consumed_within (Some xs) (Some ys) read bytes consumed told =
+    let given : xs ≡ bytes = cc in
+    let size = ap length (sym given ∙ consumed) ∙ length-append read ys in
+    omega (arith, size)
+
 pub appended : (old new : Option (List ℕ)) (sent earlier : List ℕ) → Appends old new sent → old ≡ Some earlier → new ≡ Some (earlier ++ sent)
 appended None new sent earlier went told = cc
 appended (Some xs) None sent earlier went told = absurd went
@@ -40,6 +49,17 @@ module _ {T : Type 0} (image image' : Incoming) where
   told_beyond read consumed beyond = λ bytes left gives leaves.
       let all = consumed_length image.rest image'.rest read bytes left consumed gives leaves in
       (λ e. omega (arith, all, beyond), λ h. refl)
+
+  -- an image that was read to its end is short enough
+  pub ended_by_length : (told : T) (read : List ℕ) → Consumes image.rest image'.rest read → IsAtEnd image'.rest → length read ≤ image_limit → AnswersByLength image (Ok told)
+  ended_by_length told read consumed end within = λ bytes gives.
+      let size = ap length (consumed_all image.rest image'.rest read bytes consumed end gives).1 in
+      (λ few. refl, λ many. absurd (omega (arith, size, within, many)))
+
+  pub beyond_by_length : (read : List ℕ) → Consumes image.rest image'.rest read → image_limit < length read → AnswersByLength {T = T} image (Err TooLong)
+  beyond_by_length read consumed beyond = λ bytes gives.
+      let size = consumed_within image.rest image'.rest read bytes consumed gives in
+      (λ few. absurd (omega (arith, size, beyond, few)), λ many. refl)
 
 module _ {T : Type 0} (telling : Telling T) (image image' : Incoming) (out out' : Outgoing) where
   pub Reports-text : (result : Result T Fault) → Reports telling image image' out out' result → IfOk result (WritesText telling image image' out out')
@@ -75,3 +95,10 @@ module _ {T : Type 0} (telling : Telling T) (image image' : Incoming) (out out' 
   Reports-too_long_told (Err Write) report = not_beyond image image' (Err Write) report.read report.consumes report.answers.within (λ e. cc)
   Reports-too_long_told (Err Log) report = absurd report.answers
   Reports-too_long_told (Err TooLong) report = told_beyond image image' report.read report.consumes report.answers.beyond
+
+  pub Reports-by_length : (result : Result T Fault) → Reports telling image image' out out' result → image'.failures ≡ image.failures → out'.failures ≡ out.failures → AnswersByLength image result
+  Reports-by_length (Ok told) report no_read no_write = ended_by_length image image' told report.read report.consumes report.answers.at_end report.answers.within
+  Reports-by_length (Err Read) report no_read no_write = absurd (omega (arith, report.answers.reads, no_read))
+  Reports-by_length (Err Write) report no_read no_write = absurd (omega (arith, report.answers.writes, no_write))
+  Reports-by_length (Err Log) report no_read no_write = absurd report.answers
+  Reports-by_length (Err TooLong) report no_read no_write = beyond_by_length image image' report.read report.consumes report.answers.beyond

@@ -1,5 +1,5 @@
 -- What a call has done that reads an image to its end and writes a text of it.
-use Rattle.std.specs.Prelude.{◌≡◌, ◌↔◌, ℕ, ◌+◌, ◌<◌, ◌≤◌, true, List, [], ◌∷◌, ◌++◌, length, take, Option, None, Some, Result, Ok, Err}
+use Rattle.std.specs.Prelude.{◌≡◌, ◌↔◌, ℕ, ◌+◌, ◌<◌, ◌≤◌, IsOk, true, List, [], ◌∷◌, ◌++◌, length, take, Option, None, Some, Result, Ok, Err}
 use Rattle.std.specs.Io.KnownBytes.{Appends, Consumes, IsAtEnd}
 use Rattle.cd_image.specs.Image.{image_limit}
 use Rattle.cd_image.specs.Lines.{all_but_last, text_of}
@@ -85,6 +85,12 @@ abbrev pub TellsTooLong : {T : Type 0} → Incoming → Incoming → Result T Fa
 TellsTooLong image image' result =
     (bytes left : List ℕ) → image.rest ≡ Some bytes → image'.rest ≡ Some left
     → (result ≡ Err TooLong) ↔ (image_limit + length left < length bytes)
+
+-- where the source tells its bytes: the answer is Ok for an image of at most 2,352,000,000 bytes, and for a longer one that it is
+-- too long
+abbrev pub AnswersByLength : {T : Type 0} → Incoming → Result T Fault → Type 0
+AnswersByLength image result =
+    (bytes : List ℕ) → image.rest ≡ Some bytes → (length bytes ≤ image_limit → IsOk result) × (image_limit < length bytes → result ≡ Err TooLong)
 
 -- no failure was counted, and the sink is finished
 pub record EndsWell (image image' : Incoming) (out out' : Outgoing) : Type 0 where

@@ -3,7 +3,7 @@
 ghost use Rattle.std.specs.Prelude.{◌≡◌, ◌≢◌, ◌+◌, ◌<◌, ◌≤◌, ◌↔◌, All, IfOk, OnOk, drop, length, take};
 ghost use Rattle.std.specs.List.Sorted.{IsNonDecreasingBy};
 ghost use Rattle.cd_script.specs.Patch.{IsPatch};
-ghost use Rattle.cd_image.specs.Report.{EndsWell, TellsTooLong};
+ghost use Rattle.cd_image.specs.Report.{AnswersByLength, EndsWell, TellsTooLong};
 ghost use Rattle.cd_image.specs.Applying.{Applies, Checks, HoldsFew, WritesLog, WritesPatched, streams};
 
 use crate::MAX_BASE;
@@ -46,6 +46,8 @@ pub fn apply<I: Source, O: Sink, L: Sink>(
     ensures write_failed { (result ≡ Err Fault.Write) ↔ ((O.seen out.new).failures ≡ (O.seen out.old).failures + 1) }
     ensures log_failed { (result ≡ Err Fault.Log) ↔ ((L.seen log.new).failures ≡ (L.seen log.old).failures + 1) }
     ensures too_long { TellsTooLong (I.seen image.old) (I.seen image.new) result }
+    ensures by_length { (I.seen image.new).failures ≡ (I.seen image.old).failures → (O.seen out.new).failures ≡ (O.seen out.old).failures
+        → (L.seen log.new).failures ≡ (L.seen log.old).failures → AnswersByLength (I.seen image.old) result }
     ensures holds_few { HoldsFew (streams (I.seen image.old) (O.seen out.old) (L.seen log.old))
         (streams (I.seen image.new) (O.seen out.new) (L.seen log.new)) }
 {
@@ -72,6 +74,8 @@ pub fn check<I: Source, L: Sink>(
     ensures read_failed { (result ≡ Err Fault.Read) ↔ ((I.seen image.new).failures ≡ (I.seen image.old).failures + 1) }
     ensures log_failed { (result ≡ Err Fault.Log) ↔ ((L.seen log.new).failures ≡ (L.seen log.old).failures + 1) }
     ensures too_long { TellsTooLong (I.seen image.old) (I.seen image.new) result }
+    ensures by_length { (I.seen image.new).failures ≡ (I.seen image.old).failures → (L.seen log.new).failures ≡ (L.seen log.old).failures
+        → AnswersByLength (I.seen image.old) result }
     ensures no_output { result ≢ Err Fault.Write }
 {
     check_whole(image, script.patches(), base, log)

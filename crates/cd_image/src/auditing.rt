@@ -2,7 +2,7 @@
 
 ghost use Rattle.std.specs.Prelude.{◌≡◌, ◌+◌, ◌<◌, ◌≤◌, ◌↔◌, [], IfOk, OnOk};
 ghost use Rattle.cd_image.specs.AuditText.{audit_end, auditing};
-ghost use Rattle.cd_image.specs.Report.{EndsWell, Reports, TellsTooLong, WritesText};
+ghost use Rattle.cd_image.specs.Report.{AnswersByLength, EndsWell, Reports, TellsTooLong, WritesText};
 ghost use Rattle.cd_image.specs.Telling.{counted};
 ghost use Rattle.cd_stream.specs.Transfer.{Sends};
 
@@ -153,6 +153,8 @@ pub fn audit<I: Source, O: Sink>(image: &mut I, base: u32, out: &mut O) -> Resul
     ensures read_failed { (result ≡ Err Fault.Read) ↔ ((I.seen image.new).failures ≡ (I.seen image.old).failures + 1) }
     ensures write_failed { (result ≡ Err Fault.Write) ↔ ((O.seen out.new).failures ≡ (O.seen out.old).failures + 1) }
     ensures too_long { TellsTooLong (I.seen image.old) (I.seen image.new) result }
+    ensures by_length { (I.seen image.new).failures ≡ (I.seen image.old).failures → (O.seen out.new).failures ≡ (O.seen out.old).failures
+        → AnswersByLength (I.seen image.old) result }
 {
     audit_whole(image, base, out)
 }

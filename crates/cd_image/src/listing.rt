@@ -3,7 +3,7 @@
 ghost use Rattle.std.specs.Prelude.{◌≡◌, ◌+◌, ◌-◌, ◌<◌, ◌≤◌, ◌↔◌, [], IfOk, IfSome, OnOk, length};
 ghost use Rattle.cd_image.specs.ListText.{kind_name, list_end, listing, run_line};
 ghost use Rattle.cd_image.specs.OpenRun.{EndsBefore, open_first, open_kinds};
-ghost use Rattle.cd_image.specs.Report.{EndsWell, Reports, TellsTooLong, WritesText};
+ghost use Rattle.cd_image.specs.Report.{AnswersByLength, EndsWell, Reports, TellsTooLong, WritesText};
 ghost use Rattle.cd_image.specs.Runs.{runs};
 ghost use Rattle.cd_image.specs.Telling.{TakesKind, last_line};
 ghost use Rattle.cd_stream.specs.Transfer.{Counts, Sends};
@@ -187,6 +187,8 @@ pub fn list<I: Source, O: Sink>(image: &mut I, base: u32, out: &mut O) -> Result
     ensures read_failed { (result ≡ Err Fault.Read) ↔ ((I.seen image.new).failures ≡ (I.seen image.old).failures + 1) }
     ensures write_failed { (result ≡ Err Fault.Write) ↔ ((O.seen out.new).failures ≡ (O.seen out.old).failures + 1) }
     ensures too_long { TellsTooLong (I.seen image.old) (I.seen image.new) result }
+    ensures by_length { (I.seen image.new).failures ≡ (I.seen image.old).failures → (O.seen out.new).failures ≡ (O.seen out.old).failures
+        → AnswersByLength (I.seen image.old) result }
 {
     list_whole(image, base, out)
 }

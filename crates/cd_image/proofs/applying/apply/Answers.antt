@@ -1,6 +1,6 @@
 use Rattle.std.proofs.Common.{subst}
 use Rattle.cd_image.specs.Applying.{Applies, streams}
-use Rattle.cd_image.proofs.ApplyReportLemmas.{Applies-ends_log, Applies-ends_out, Applies-few, Applies-log_failed, Applies-output, Applies-read_failed, Applies-told, Applies-too_long, Applies-write_failed}
+use Rattle.cd_image.proofs.ApplyReportLemmas.{Applies-by_length, Applies-ends_log, Applies-ends_out, Applies-few, Applies-log_failed, Applies-output, Applies-read_failed, Applies-told, Applies-too_long, Applies-write_failed}
 use Rattle.cd_image.proofs.applying.apply.Goals as goal
 
 pub returns-clause-output : goal.returns-clause-output
@@ -26,6 +26,9 @@ returns-clause-log_failed g c = Applies-log_failed c.args.script.now c.args.base
 
 pub returns-clause-too_long : goal.returns-clause-too_long
 returns-clause-too_long g c = Applies-too_long c.args.script.now c.args.base (streams (g.I.Source.seen c.args.image.now) (g.O.Sink.seen c.args.out.now) (g.L.Sink.seen c.args.log.now)) (streams (g.I.Source.seen c.apply_whole.new.image) (g.O.Sink.seen c.apply_whole.new.out) (g.L.Sink.seen c.apply_whole.new.log)) c.apply_whole.result (subst (λ ps. Applies ps c.args.base (streams (g.I.Source.seen c.args.image.now) (g.O.Sink.seen c.args.out.now) (g.L.Sink.seen c.args.log.now)) (streams (g.I.Source.seen c.apply_whole.new.image) (g.O.Sink.seen c.apply_whole.new.out) (g.L.Sink.seen c.apply_whole.new.log)) c.apply_whole.result) c.patches.ensures.patches c.apply_whole.ensures)
+
+pub returns-clause-by_length : goal.returns-clause-by_length
+returns-clause-by_length g c = Applies-by_length c.args.script.now c.args.base (streams (g.I.Source.seen c.args.image.now) (g.O.Sink.seen c.args.out.now) (g.L.Sink.seen c.args.log.now)) (streams (g.I.Source.seen c.apply_whole.new.image) (g.O.Sink.seen c.apply_whole.new.out) (g.L.Sink.seen c.apply_whole.new.log)) c.apply_whole.result (subst (λ ps. Applies ps c.args.base (streams (g.I.Source.seen c.args.image.now) (g.O.Sink.seen c.args.out.now) (g.L.Sink.seen c.args.log.now)) (streams (g.I.Source.seen c.apply_whole.new.image) (g.O.Sink.seen c.apply_whole.new.out) (g.L.Sink.seen c.apply_whole.new.log)) c.apply_whole.result) c.patches.ensures.patches c.apply_whole.ensures)
 
 pub returns-clause-holds_few : goal.returns-clause-holds_few
 returns-clause-holds_few g c = Applies-few c.args.script.now c.args.base (streams (g.I.Source.seen c.args.image.now) (g.O.Sink.seen c.args.out.now) (g.L.Sink.seen c.args.log.now)) (streams (g.I.Source.seen c.apply_whole.new.image) (g.O.Sink.seen c.apply_whole.new.out) (g.L.Sink.seen c.apply_whole.new.log)) c.apply_whole.result (subst (λ ps. Applies ps c.args.base (streams (g.I.Source.seen c.args.image.now) (g.O.Sink.seen c.args.out.now) (g.L.Sink.seen c.args.log.now)) (streams (g.I.Source.seen c.apply_whole.new.image) (g.O.Sink.seen c.apply_whole.new.out) (g.L.Sink.seen c.apply_whole.new.log)) c.apply_whole.result) c.patches.ensures.patches c.apply_whole.ensures)

@@ -1,6 +1,6 @@
-use Rattle.std.proofs.Common.{false, subst}
+use Rattle.std.proofs.Common.{false, refl, subst}
 use Rattle.cd_image.specs.Applying.{Checks, streams, unkept}
-use Rattle.cd_image.proofs.ApplyReportLemmas.{Applies-ends_log, Applies-log_failed, Applies-read_failed, Applies-told, Applies-too_long, Checks-no_output}
+use Rattle.cd_image.proofs.ApplyReportLemmas.{Applies-by_length, Applies-ends_log, Applies-log_failed, Applies-read_failed, Applies-told, Applies-too_long, Checks-no_output}
 use Rattle.cd_image.proofs.applying.check.Goals as goal
 
 pub returns-clause-log : goal.returns-clause-log
@@ -27,6 +27,11 @@ pub returns-clause-too_long : goal.returns-clause-too_long
 returns-clause-too_long g c =
     let done = subst (λ ps. Checks ps c.args.base (g.I.Source.seen c.args.image.now) (g.I.Source.seen c.check_whole.new.image) (g.L.Sink.seen c.args.log.now) (g.L.Sink.seen c.check_whole.new.log) c.check_whole.result) c.patches.ensures.patches c.check_whole.ensures in
     Applies-too_long c.args.script.now c.args.base (streams (g.I.Source.seen c.args.image.now) (unkept false) (g.L.Sink.seen c.args.log.now)) (streams (g.I.Source.seen c.check_whole.new.image) (unkept done.0) (g.L.Sink.seen c.check_whole.new.log)) c.check_whole.result done.1
+
+pub returns-clause-by_length : goal.returns-clause-by_length
+returns-clause-by_length g c = λ no_read no_log.
+    let done = subst (λ ps. Checks ps c.args.base (g.I.Source.seen c.args.image.now) (g.I.Source.seen c.check_whole.new.image) (g.L.Sink.seen c.args.log.now) (g.L.Sink.seen c.check_whole.new.log) c.check_whole.result) c.patches.ensures.patches c.check_whole.ensures in
+    Applies-by_length c.args.script.now c.args.base (streams (g.I.Source.seen c.args.image.now) (unkept false) (g.L.Sink.seen c.args.log.now)) (streams (g.I.Source.seen c.check_whole.new.image) (unkept done.0) (g.L.Sink.seen c.check_whole.new.log)) c.check_whole.result done.1 no_read refl no_log
 
 pub returns-clause-no_output : goal.returns-clause-no_output
 returns-clause-no_output g c =

@@ -1,4 +1,4 @@
-use Rattle.cd_image.proofs.ReportLemmas.{Reports-ends_well, Reports-read_failed, Reports-text, Reports-too_long_told, Reports-write_failed}
+use Rattle.cd_image.proofs.ReportLemmas.{Reports-by_length, Reports-ends_well, Reports-read_failed, Reports-text, Reports-too_long_told, Reports-write_failed}
 use Rattle.cd_image.proofs.auditing.audit.Goals as goal
 
 pub returns-clause-text : goal.returns-clause-text
@@ -15,3 +15,6 @@ returns-clause-write_failed g c = Reports-write_failed _ _ _ _ _ c.audit_whole.r
 
 pub returns-clause-too_long : goal.returns-clause-too_long
 returns-clause-too_long g c = Reports-too_long_told _ _ _ _ _ c.audit_whole.result c.audit_whole.ensures
+
+pub returns-clause-by_length : goal.returns-clause-by_length
+returns-clause-by_length g c = Reports-by_length _ _ _ _ _ c.audit_whole.result c.audit_whole.ensures
