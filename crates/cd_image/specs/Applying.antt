@@ -28,7 +28,7 @@ pub record Failed (old new : Streams) (of_image of_out of_log : ℕ) : Type 0 wh
   pub logs : new.log.failures ≡ old.log.failures + of_log
 
 -- the whole image was read; its patched image went out, and the log of the patches
-pub record Applies-all (patches : List Patch) (base : ℕ) (read sent told : List ℕ) (old new : Streams) (tally : Tally) : Type 0 where
+pub record CompletesPatching (patches : List Patch) (base : ℕ) (read sent told : List ℕ) (old new : Streams) (tally : Tally) : Type 0 where
   pub failed : Failed old new 0 0 0
   pub out_finished : new.out.finished ≡ true
   pub log_finished : new.log.finished ≡ true
@@ -72,7 +72,7 @@ pub record StopsBeyond (patches : List Patch) (base : ℕ) (read sent told : Lis
   pub begins : (whole : List ℕ) → Fits read whole → EachRun patches base whole (Begins patches sent told)
 
 abbrev pub AppliesBy : List Patch → ℕ → List ℕ → List ℕ → List ℕ → Streams → Streams → Result Tally Fault → Type 0
-AppliesBy patches base read sent told old new (Ok tally) = Applies-all patches base read sent told old new tally
+AppliesBy patches base read sent told old new (Ok tally) = CompletesPatching patches base read sent told old new tally
 AppliesBy patches base read sent told old new (Err Read) = StopsAtRead patches base read sent told old new
 AppliesBy patches base read sent told old new (Err Write) = StopsAtWrite patches base read sent told old new
 AppliesBy patches base read sent told old new (Err Log) = StopsAtLog patches base read sent told old new
