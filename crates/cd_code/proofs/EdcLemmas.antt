@@ -7,8 +7,9 @@ use Rattle.std.proofs.lemmas.Nat.{xor_lt, xor_shr, xor_block, shr_below, shr-shr
 use Rattle.std.proofs.lemmas.Bool.{cond-true, cond-false, lt-ltb, le-ltb, cases_lt}
 use Rattle.std.proofs.lemmas.List.Sums.{fold-append}
 use Rattle.cd_code.specs.Edc.{IsEdc, low_bits, bits, generator, divide_step, remainder}
-use Rattle.cd_code.specs.Field.{AreBytes}
+use Rattle.cd_code.specs.Field.{AreBytes, IsSum}
 use Rattle.cd_code.specs.Laws.{DifferAtMostInLast}
+use Rattle.cd_code.proofs.ByteLemmas.{AreBytes-four, AreBytes-tail, AreBytes-word}
 use Rattle.cd_code.proofs.ListLemmas.{DifferAtMostInLast-tail, eight_of}
 use Rattle.cd_code.proofs.XorLemmas.{xor_half, xor_low, xor_twice_left, xor_swap, same_from_xor}
 
@@ -213,9 +214,6 @@ after-number r (x ∷ v) h =
     ∙ sym (after_bits-more 8 (8 * length v) r n)
     ∙ ap (λ k. after_bits k r n) more
 
-pub AreBytes-tail : (x : ℕ) (v : List ℕ) → AreBytes (x ∷ v) → AreBytes v
-AreBytes-tail x v h = λ i. h (suc i)
-
 pub number-injective : (v w : List ℕ) → AreBytes v → AreBytes w → length v ≡ length w → number v ≡ number w → v ≡ w
 number-injective [] [] hv hw e same = refl
 number-injective [] (y ∷ w) hv hw e same = absurd (omega arith)
@@ -226,17 +224,6 @@ number-injective (x ∷ v) (y ∷ w) hv hw e same =
     let first : x ≡ y = omega arith in
     let rest = number-injective v w (AreBytes-tail x v hv) (AreBytes-tail y w hw) (omega arith) (omega arith) in
     ap (λ z. z ∷ v) first ∙ ap (λ z. y ∷ z) rest
-
--- the four bytes of a word
-pub AreBytes-four : (a b c d : ℕ) → a < 256 → b < 256 → c < 256 → d < 256 → AreBytes (a ∷ b ∷ c ∷ d ∷ [])
-AreBytes-four a b c d ha hb hc hd zero = ha
-AreBytes-four a b c d ha hb hc hd (suc zero) = hb
-AreBytes-four a b c d ha hb hc hd (suc (suc zero)) = hc
-AreBytes-four a b c d ha hb hc hd (suc (suc (suc zero))) = hd
-AreBytes-four a b c d ha hb hc hd (suc (suc (suc (suc i)))) = lit< tt
-
-AreBytes-word : (w : ℕ) → AreBytes (to_le_bytes w32 w)
-AreBytes-word w = AreBytes-four (w % 256) _ _ _ (omega arith) (omega arith) (omega arith) (omega arith)
 
 pub after-word : (r w : ℕ) → w < 2 ^ 32 → after r (to_le_bytes w32 w) ≡ after_bits 32 r w
 after-word r w h =
@@ -436,9 +423,15 @@ after-sum r s (x ∷ u) (y ∷ v) (z ∷ w) hr hs e f h =
     ∙ after-sum (after_bits 8 r y) (after_bits 8 s z) u v w (after_bits-lt 8 r y hr) (after_bits-lt 8 s z hs)
     (omega arith) (omega arith) (λ i k. h (suc i) (omega arith))
 
-pub remainder-sum : (u v w : List ℕ) → length u ≡ length v → length u ≡ length w
-    → ((i : ℕ) → i < length u → get_or u i 0 ≡ bit_xor (get_or v i 0) (get_or w i 0))
+pub remainder-sum : (u v w : List ℕ) → length u ≡ length v → length u ≡ length w → IsSum u v w
     → remainder (bits u) ≡ bit_xor (remainder (bits v)) (remainder (bits w))
 remainder-sum u v w e f h =
-    remainder-after u ∙ after-sum 0 0 u v w (lit< tt) (lit< tt) e f h
+    remainder-after u ∙ after-sum 0 0 u v w (lit< tt) (lit< tt) e f (λ i _. h.byte i)
     ∙ sym (ap (λ n. bit_xor n (remainder (bits w))) (remainder-after v) ∙ ap (bit_xor (after 0 v)) (remainder-after w))
+
+pub IsEdc-sum : (u v w : List ℕ) → length u ≡ length v → length u ≡ length w → IsSum u v w
+    → (a b : ℕ) → IsEdc v a → IsEdc w b → IsEdc u (bit_xor a b)
+IsEdc-sum u v w e f h a b one two =
+    let left : bit_xor (after 0 v) (after 0 w) ≡ after 0 u = sym (after-sum 0 0 u v w (lit< tt) (lit< tt) e f (λ i _. h.byte i)) in
+    let both = Ends-xor (after 0 v) (after 0 w) a b (Ends-from v a one) (Ends-from w b two) in
+    IsEdc-from u (bit_xor a b) (rw left at both)

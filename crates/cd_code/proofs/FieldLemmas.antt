@@ -135,10 +135,6 @@ abbrev pub doubles : ℕ → ℕ → ℕ
 doubles zero b = b
 doubles (suc n) b = double (doubles n b)
 
-pub doubles-lt : (n b : ℕ) → b < 256 → doubles n b < 256
-doubles-lt zero b h = h
-doubles-lt (suc n) b h = double-lt (doubles n b) (doubles-lt n b h)
-
 pub power-lt : (n : ℕ) → power n < 256
 power-lt zero = lit< tt
 power-lt (suc n) = double-lt (power n) (power-lt n)

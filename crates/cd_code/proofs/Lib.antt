@@ -1,3 +1,4 @@
+pub mod ByteLemmas
 pub mod ColumnLemmas
 pub mod EdcLemmas
 pub mod EdcTableLemmas

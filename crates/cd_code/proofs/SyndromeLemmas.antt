@@ -1,10 +1,8 @@
 -- The two syndromes of lists: at the end of a list, at a changed byte, and with a parity pair behind it.
-use Rattle.std.proofs.Common.{◌≡◌, ℕ, zero, suc, ◌+◌, ◌-◌, ◌<◌, List, [], ◌∷◌, ◌++◌, ◌*◌, length, map, get_or, bit_xor, refl, sym, ap, ◌∙◌, arith, lit<, append_assoc, subst}
-use Rattle.std.specs.List.{range_with_len}
+use Rattle.std.proofs.Common.{◌≡◌, ℕ, zero, suc, ◌+◌, ◌-◌, ◌<◌, List, [], ◌∷◌, ◌++◌, length, get_or, bit_xor, refl, sym, ap, ◌∙◌, arith, lit<, append_assoc, subst}
 use Rattle.std.specs.Int.Bits.{xor_self, xor_zero_l, xor_zero_r, xor_assoc}
 use Rattle.std.proofs.lemmas.Nat.{xor_comm, xor_lt}
 use Rattle.std.proofs.lemmas.List.{length-set}
-use Rattle.std.proofs.lemmas.List.FromFn.{map-range_with_len_more}
 use Rattle.cd_code.specs.Field.{AreBytes, double, power, product}
 use Rattle.cd_code.specs.Syndrome.{first_syndrome, second_syndrome, IsCodeWord, SameSums, added}
 use Rattle.cd_code.specs.Laws.{DifferAtMostInLast}
@@ -216,27 +214,6 @@ pair_unique (x ∷ a ∷ b ∷ v) (y ∷ c ∷ e ∷ w) d s =
     (SameSums-tail x (a ∷ b ∷ v) (c ∷ e ∷ w) (omega arith)
     (let P : ℕ → Type 0 = λ z. SameSums (x ∷ a ∷ b ∷ v) (z ∷ c ∷ e ∷ w) in subst P (sym first) s)) in
     ap (λ z. z ∷ a ∷ b ∷ v) first ∙ ap (λ z. y ∷ z) rest
-
--- one more row under a column
-abbrev pub column_part : List ℕ → ℕ → ℕ → List ℕ
-column_part rows c i = map (λ m. get_or rows (86 * m + c) 0) (range_with_len 0 i)
-
-column_part-more : (rows : List ℕ) (c i : ℕ) → column_part rows c (i + 1) ≡ column_part rows c i ++ get_or rows (86 * i + c) 0 ∷ []
-column_part-more rows c i = map-range_with_len_more (λ m. get_or rows (86 * m + c) 0) 0 i i (omega arith)
-
-pub first_syndrome-column : (rows : List ℕ) (c i : ℕ) → first_syndrome (column_part rows c (i + 1)) ≡ bit_xor (first_syndrome (column_part rows c i)) (get_or rows (86 * i + c) 0)
-first_syndrome-column rows c i = ap first_syndrome (column_part-more rows c i) ∙ first_syndrome-push (column_part rows c i) (get_or rows (86 * i + c) 0)
-
-pub second_syndrome-column : (rows : List ℕ) (c i : ℕ) → AreBytes rows
-    → second_syndrome (column_part rows c (i + 1)) ≡ bit_xor (double (second_syndrome (column_part rows c i))) (get_or rows (86 * i + c) 0)
-second_syndrome-column rows c i bytes =
-    ap second_syndrome (column_part-more rows c i) ∙ second_syndrome-push (column_part rows c i) (get_or rows (86 * i + c) 0) (bytes (86 * i + c))
-
--- one list behind another
-pub first_syndrome-append : (v w : List ℕ) → first_syndrome (v ++ w) ≡ bit_xor (first_syndrome v) (first_syndrome w)
-unfolding first_syndrome
-first_syndrome-append [] w = sym (xor_zero_l (first_syndrome w))
-first_syndrome-append (x ∷ v) w = ap (bit_xor x) (first_syndrome-append v w) ∙ sym (xor_assoc x (first_syndrome v) (first_syndrome w))
 
 -- the syndromes of a sum, byte by byte, of two lists
 pub first_syndrome-sum : (u v w : List ℕ) → length u ≡ length v → length u ≡ length w

@@ -1,6 +1,6 @@
 -- The field GF(2^8) of ECMA-130, Annex A: bytes as polynomials over GF(2), modulo x^8 + x^4 + x^3 + x^2 + 1.
 -- The sum of two elements is std's `bit_xor`.
-use Rattle.std.specs.Prelude.{ℕ, zero, suc, ◌==◌, ◌-◌, ◌*◌, ◌/◌, ◌%◌, ◌<◌, nat_lt, if◌then◌else◌, bit_xor, List, slice_index}
+use Rattle.std.specs.Prelude.{◌≡◌, ℕ, zero, suc, ◌==◌, ◌-◌, ◌*◌, ◌/◌, ◌%◌, ◌<◌, nat_lt, if◌then◌else◌, bit_xor, List, slice_index}
 
 -- an element times alpha, which is 2: a shift, and 1D added where x^8 has come up
 unfoldable pub double : ℕ → ℕ
@@ -23,3 +23,7 @@ power (suc n) = double (power n)
 -- each element is a byte; past the end `slice_index` is 0
 abbrev pub AreBytes : List ℕ → Type 0
 AreBytes v = (i : ℕ) → slice_index v i < 256
+
+-- u is the sum, element by element, of v and w
+pub record IsSum (u v w : List ℕ) : Type 0 where
+  pub byte : (i : ℕ) → slice_index u i ≡ bit_xor (slice_index v i) (slice_index w i)

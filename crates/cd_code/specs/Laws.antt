@@ -1,7 +1,7 @@
 -- What follows from the definitions alone; each is the contract of a function of `laws.rt`.
 use Rattle.std.specs.Prelude.{◌≡◌, ℕ, ◌==◌, ◌+◌, ◌*◌, ◌/◌, ◌%◌, ◌<◌, if◌then◌else◌, bit_xor, List, length, slice_index}
-use Rattle.cd_code.specs.Field.{AreBytes, double, product}
-use Rattle.cd_code.specs.Edc.{bits, remainder}
+use Rattle.cd_code.specs.Field.{AreBytes, IsSum, double, product}
+use Rattle.cd_code.specs.Edc.{IsEdc, bits, remainder}
 use Rattle.cd_code.specs.Syndrome.{SameSums}
 
 -- a sum goes bit by bit
@@ -31,3 +31,15 @@ PairIsUnique = (v w : List ℕ) → DifferAtMostInLast 2 v w → SameSums v w �
 -- the last four bytes of a list follow from the others and the remainder
 abbrev pub EdcIsUnique : Type 0
 EdcIsUnique = (v w : List ℕ) → DifferAtMostInLast 4 v w → remainder (bits v) ≡ remainder (bits w) → v ≡ w
+
+-- what the sum of two lists of one length leaves is the sum of what they leave
+abbrev pub RemainderOfSum : Type 0
+RemainderOfSum =
+    (u v w : List ℕ) → length u ≡ length v → length u ≡ length w → IsSum u v w
+    → remainder (bits u) ≡ bit_xor (remainder (bits v)) (remainder (bits w))
+
+-- the EDC word of the sum of two lists of one length is the sum of their words
+abbrev pub EdcOfSum : Type 0
+EdcOfSum =
+    (u v w : List ℕ) → length u ≡ length v → length u ≡ length w → IsSum u v w
+    → (a b : ℕ) → IsEdc v a → IsEdc w b → IsEdc u (bit_xor a b)

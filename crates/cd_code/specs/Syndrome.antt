@@ -1,5 +1,5 @@
 -- The two syndromes of a list of bytes, and its code words (ECMA-130, Annex A).
-use Rattle.std.specs.Prelude.{◌≡◌, ℕ, ◌+◌, ◌*◌, List, [], ◌∷◌, ◌++◌, length, map, bit_xor, slice_index, slice_set}
+use Rattle.std.specs.Prelude.{◌≡◌, ℕ, ◌+◌, ◌-◌, ◌*◌, List, [], ◌∷◌, ◌++◌, length, map, bit_xor, slice_index, slice_set}
 use Rattle.std.specs.List.{range_with_len}
 use Rattle.cd_code.specs.Field.{AreBytes, product, power}
 
@@ -31,6 +31,10 @@ pub record SameSums (v w : List ℕ) : Type 0 where
 -- the list with `d` added to the byte at a place
 abbrev pub added : List ℕ → ℕ → ℕ → List ℕ
 added v place d = slice_set v place (bit_xor (slice_index v place) d)
+
+-- in a word of `len` bytes to which `d` is added at `place`, `a` and `b` added to the last two keep the syndromes
+pub record Balances (len place d a b : ℕ) : Type 0 where
+  pub keeps : (v : List ℕ) → AreBytes v → length v ≡ len → SameSums (added (added (added v place d) (len - 2) a) (len - 1) b) v
 
 -- column c of 26 rows of 86 bytes
 abbrev pub column : List ℕ → ℕ → List ℕ

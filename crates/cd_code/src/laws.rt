@@ -1,6 +1,6 @@
 //! Laws of the definitions, each the contract of a function that does nothing.
 
-ghost use Rattle.cd_code.specs.Laws.{EdcIsUnique, PairIsUnique, ProductByBits, ProductOfNone, SumByBits};
+ghost use Rattle.cd_code.specs.Laws.{EdcIsUnique, EdcOfSum, PairIsUnique, ProductByBits, ProductOfNone, RemainderOfSum, SumByBits};
 
 /// A sum of field elements goes bit by bit.
 pub fn sum_goes_by_bits()
@@ -21,4 +21,10 @@ pub fn pair_is_unique()
 /// Two lists that differ at most in their last four bytes and have equal remainders are equal.
 pub fn edc_is_unique()
     ensures { EdcIsUnique }
+{}
+
+/// The EDC word of the sum of two lists of one length is the sum of their words, and so is the remainder.
+pub fn edc_of_sum()
+    ensures words { EdcOfSum }
+    ensures remainders { RemainderOfSum }
 {}

@@ -18,7 +18,7 @@ pub use edc::edc_of;
 pub use field::{alpha_power, times};
 pub use lane_sums::LaneSums;
 pub use lanes::{lanes_at, put_lanes};
-pub use laws::{edc_is_unique, pair_is_unique, product_goes_by_bits, sum_goes_by_bits};
+pub use laws::{edc_is_unique, edc_of_sum, pair_is_unique, product_goes_by_bits, sum_goes_by_bits};
 pub use syndrome::{pair_change, pair_from, parity_pair, syndromes};
 
 #[cfg(test)]

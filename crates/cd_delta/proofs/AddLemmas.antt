@@ -1,29 +1,10 @@
 -- A sector to which changes are added one after another.
-use Rattle.std.proofs.Common.{◌≡◌, ℕ, zero, suc, ◌<◌, ◌≤◌, All, Contains, inl, inr, List, [], ◌∷◌, length, map, get_or, bit_xor, refl, sym, ap, ◌∙◌, arith, lit<}
-use Rattle.std.proofs.lemmas.Bool.{cases_eq, cases_lt}
-use Rattle.std.proofs.lemmas.List.{get_or-map, get_or-set_same, get_or-set_other, get_or_past, length-set, length-map}
-use Rattle.std.specs.Prelude.{slice_set}
-use Rattle.cd_code.specs.Field.{AreBytes}
+use Rattle.std.proofs.Common.{◌≡◌, ℕ, zero, suc, ◌<◌, ◌≤◌, All, Contains, List, [], ◌∷◌, length, map, get_or, bit_xor, refl, sym, ◌∙◌, arith}
+use Rattle.std.proofs.lemmas.List.{get_or-map, get_or-set_same, get_or-set_other, length-map}
 use Rattle.cd_code.specs.Syndrome.{added}
 use Rattle.cd_code.proofs.XorLemmas.{xor_twice_left}
 use Rattle.cd_delta.specs.declared.changes.Change.{Change}
 use Rattle.cd_delta.specs.ParityChanges.{changed}
-
-pub AreBytes-set : (s : List ℕ) (place b : ℕ) → AreBytes s → b < 256 → AreBytes (slice_set s place b)
-AreBytes-set s place b bytes below = λ i. elim (cases_eq i place) [
-  | inl e ↦ elim (cases_lt place (length s)) [
-    | inl inside ↦
-        let here : get_or (slice_set s place b) i 0 ≡ b = ap (λ k. get_or (slice_set s place b) k 0) e ∙ get_or-set_same s place b 0 inside in
-        rw here below
-    | inr past ↦
-        let long = length-set s place b in
-        let none : get_or (slice_set s place b) i 0 ≡ 0 = get_or_past (slice_set s place b) i 0 (omega arith) in
-        rw none (lit< tt)
-  ]
-  | inr other ↦
-      let same : get_or (slice_set s place b) i 0 ≡ get_or s i 0 = get_or-set_other s place i b 0 other in
-      rw same (bytes i)
-]
 
 abbrev pub places_of : List Change → List ℕ
 places_of changes = map (λ c. c.place) changes

@@ -1,38 +1,52 @@
 -- A changed byte and the eight changes of parity bytes that follow from it keep all syndromes (ECMA-130, Annex A).
-use Rattle.std.proofs.Common.{◌≡◌, ◌≢◌, ◌⊎◌, ℕ, ◌+◌, ◌*◌, ◌-◌, ◌%◌, ◌<◌, inl, inr, List, [], ◌∷◌, length, nat_eq, refl, ap, ◌∙◌, ◌/◌, ◌≤◌, arith}
+use Rattle.std.proofs.Common.{◌≡◌, ◌≢◌, ◌⊎◌, ℕ, ◌+◌, ◌*◌, ◌-◌, ◌%◌, ◌<◌, inl, inr, Bool, true, false, List, [], ◌∷◌, length, nat_eq, refl, ap, ◌∙◌, ◌/◌, ◌≤◌, arith}
 use Rattle.std.specs.List.{IsDistinct}
 use Rattle.std.proofs.lemmas.Bool.{cases_eq, ne_eqb}
 use Rattle.cd_code.specs.Field.{AreBytes}
-use Rattle.cd_code.specs.Syndrome.{SameSums, added, first_syndrome, second_syndrome}
+use Rattle.cd_code.specs.Syndrome.{Balances, SameSums, added, first_syndrome, second_syndrome}
 use Rattle.cd_sector.specs.CodeWords.{SameSyndromes, place_of, column_places, diagonal_places, bytes_at}
 use Rattle.cd_sector.proofs.PlaceLemmas.{AreBytes-bytes_at, length-bytes_at, length-column_places, length-diagonal_places}
 use Rattle.cd_delta.specs.declared.changes.Change.{Change}
-use Rattle.cd_delta.specs.ParityChanges.{Balances, changed, diagonal_at, parity_places, parity_places_at}
+use Rattle.cd_delta.specs.ParityChanges.{changed, diagonal_at, parity_places, parity_places_at}
 use Rattle.cd_delta.proofs.WordLemmas.{Follows, hit, miss}
 use Rattle.cd_delta.proofs.PlaceFacts.{column-lies, column-misses, column-misses_behind, diagonal_at-lt, diagonal-lies, diagonal-lies_first, diagonal-lies_second, diagonal-misses, diagonal-misses_first, diagonal-misses_second}
 
--- the byte of a cell is changed by d, and eight more bytes: those of its column, and of three diagonals
-pub record AreCarried (plane row column place d : ℕ) (p q a b e f g h : Change) : Type 0 where
+-- the eight changes, two by two: of the column, and of the diagonals through the byte and through the column's two
+pub record Eight : Type 0 where
+  pub column : Change × Change
+  pub own : Change × Change
+  pub first : Change × Change
+  pub second : Change × Change
+
+abbrev pub listed : Eight → List Change
+listed t =
+    t.column.0 ∷ t.column.1 ∷ t.own.0 ∷ t.own.1 ∷ t.first.0 ∷ t.first.1 ∷ t.second.0 ∷ t.second.1 ∷ []
+
+-- the pair of the column keeps its syndromes where d is added to the byte of a cell
+pub record IsColumnPair (plane row column d : ℕ) (t : Change × Change) : Type 0 where
+  pub first_at : t.0.place ≡ place_of plane (1032 + column)
+  pub second_at : t.1.place ≡ place_of plane (1075 + column)
+  pub balances : Balances 26 row d t.0.d t.1.d
+
+-- the same of the diagonal through a cell
+pub record IsDiagonalPair (plane row column d : ℕ) (t : Change × Change) : Type 0 where
+  pub first_at : t.0.place ≡ place_of plane (1118 + diagonal_at row column)
+  pub second_at : t.1.place ≡ place_of plane (1144 + diagonal_at row column)
+  pub balances : Balances 45 column d t.0.d t.1.d
+
+-- d is added to the byte of a cell in front of the parity, and the eight changes follow from it
+pub record AreCarried (plane row column place d : ℕ) (t : Eight) : Type 0 where
   pub in_plane : plane < 2
   pub in_rows : row < 24
   pub in_columns : column < 43
   pub place_at : place ≡ place_of plane (43 * row + column)
-  pub p_at : p.place ≡ place_of plane (1032 + column)
-  pub q_at : q.place ≡ place_of plane (1075 + column)
-  pub a_at : a.place ≡ place_of plane (1118 + diagonal_at row column)
-  pub b_at : b.place ≡ place_of plane (1144 + diagonal_at row column)
-  pub e_at : e.place ≡ place_of plane (1118 + diagonal_at 24 column)
-  pub f_at : f.place ≡ place_of plane (1144 + diagonal_at 24 column)
-  pub g_at : g.place ≡ place_of plane (1118 + diagonal_at 25 column)
-  pub h_at : h.place ≡ place_of plane (1144 + diagonal_at 25 column)
-  pub of_column : Balances 26 row d p.d q.d
-  pub of_own : Balances 45 column d a.d b.d
-  pub of_first : Balances 45 column p.d e.d f.d
-  pub of_second : Balances 45 column q.d g.d h.d
+  pub of_column : IsColumnPair plane row column d t.column
+  pub of_own : IsDiagonalPair plane row column d t.own
+  pub of_first : IsDiagonalPair plane 24 column t.column.0.d t.first
+  pub of_second : IsDiagonalPair plane 25 column t.column.1.d t.second
 
-abbrev carried : ℕ → ℕ → Change → Change → Change → Change → Change → Change → Change → Change → List ℕ → List ℕ
-carried place d p q a b e f g h s =
-    changed (added s place d) (p ∷ q ∷ a ∷ b ∷ e ∷ f ∷ g ∷ h ∷ [])
+abbrev carried : ℕ → ℕ → Eight → List ℕ → List ℕ
+carried place d t s = changed (added s place d) (listed t)
 
 SameSums-refl : (v : List ℕ) → SameSums v v
 SameSums-refl v = record { first = refl; second = refl }
@@ -57,217 +71,203 @@ balanced len index d x y ps s b bytes long =
 pub Balances-at : {len index j d a b : ℕ} → index ≡ j → Balances len index d a b → Balances len j d a b
 Balances-at {len} {index} {j} {d} {a} {b} e h = rw e at h
 
+-- d added at a place of the word where a test holds
+abbrev added_where : Bool → List ℕ → ℕ → ℕ → List ℕ
+added_where true v i d = added v i d
+added_where false v i d = v
+
 -- ---- columns
 
-column_behind : (plane row column place d : ℕ) (p q a b e f g h : Change) → AreCarried plane row column place d p q a b e f g h
-    → (l n : ℕ) → l < 2 → n < 43 → (t v : List ℕ) → Follows (column_places l n) t v
-    → Follows (column_places l n) (changed t (a ∷ b ∷ e ∷ f ∷ g ∷ h ∷ [])) v
-column_behind plane row column place d p q a b e f g h c l n hl hn t v start =
-    let hp = c.in_plane in
-    miss h.d (column-misses_behind l n plane (1144 + diagonal_at 25 column) h.place hl hn hp (omega arith) c.h_at)
-    (miss g.d (column-misses_behind l n plane (1118 + diagonal_at 25 column) g.place hl hn hp (omega arith) c.g_at)
-    (miss f.d (column-misses_behind l n plane (1144 + diagonal_at 24 column) f.place hl hn hp (omega arith) c.f_at)
-    (miss e.d (column-misses_behind l n plane (1118 + diagonal_at 24 column) e.place hl hn hp (omega arith) c.e_at)
-    (miss b.d (column-misses_behind l n plane (1144 + diagonal_at row column) b.place hl hn hp (omega arith) c.b_at)
-    (miss a.d (column-misses_behind l n plane (1118 + diagonal_at row column) a.place hl hn hp (omega arith) c.a_at)
-    start)))))
+-- whether column n of plane l is that of a cell
+abbrev IsColumn : Bool → ℕ → ℕ → ℕ → ℕ → Type 0
+IsColumn true l n plane column = (l ≡ plane) × (n ≡ column)
+IsColumn false l n plane column = (l ≢ plane) ⊎ (n ≢ column)
 
-column_other : (plane row column place d : ℕ) (p q a b e f g h : Change) → AreCarried plane row column place d p q a b e f g h
-    → (l n : ℕ) → l < 2 → n < 43 → (l ≢ plane) ⊎ (n ≢ column) → (s : List ℕ) → length s ≡ 2352
-    → SameSums (bytes_at (carried place d p q a b e f g h s) (column_places l n)) (bytes_at s (column_places l n))
-column_other plane row column place d p q a b e f g h c l n hl hn apart s long =
-    let hp = c.in_plane in
-    let hc = c.in_columns in
-    let q_at : q.place ≡ place_of plane (43 * 25 + column) = (let at = c.q_at in omega arith) in
-    let p_at : p.place ≡ place_of plane (43 * 24 + column) = (let at = c.p_at in omega arith) in
-    let ps = column_places l n in
-    SameSums-follows (bytes_at s ps)
-    (column_behind plane row column place d p q a b e f g h c l n hl hn _ _
-    (miss q.d (column-misses l n plane 25 column q.place hl hn hp hc q_at apart)
-    (miss p.d (column-misses l n plane 24 column p.place hl hn hp hc p_at apart)
-    (miss d (column-misses l n plane row column place hl hn hp hc c.place_at apart)
-    (at_first ps s long)))))
-    (SameSums-refl (bytes_at s ps))
+column_byte : (on : Bool) (l n plane row column place d : ℕ) → IsColumn on l n plane column → l < 2 → n < 43 → plane < 2 → row < 26
+    → column < 43 → place ≡ place_of plane (43 * row + column) → {s v : List ℕ} → Follows (column_places l n) s v
+    → Follows (column_places l n) (added s place d) (added_where on v row d)
+column_byte true l n plane row column place d is hl hn hp hr hc at f =
+    let here : place ≡ place_of l (43 * row + n) = (let one = is.0 in let two = is.1 in omega arith) in
+    hit d (column-lies l row n place hl hr hn here) f
+column_byte false l n plane row column place d is hl hn hp hr hc at f =
+    miss d (column-misses l n plane row column place hl hn hp hc at is) f
 
-column_own : (plane row column place d : ℕ) (p q a b e f g h : Change) → AreCarried plane row column place d p q a b e f g h
-    → (l n : ℕ) → l ≡ plane → n ≡ column → (s : List ℕ) → AreBytes s → length s ≡ 2352
-    → SameSums (bytes_at (carried place d p q a b e f g h s) (column_places l n)) (bytes_at s (column_places l n))
-column_own plane row column place d p q a b e f g h c l n el en s bytes long =
+-- the parity of a diagonal stands behind all columns
+column_pair_behind : (l n plane row column d : ℕ) (t : Change × Change) → IsDiagonalPair plane row column d t → l < 2 → n < 43 → plane < 2
+    → {s v : List ℕ} → Follows (column_places l n) s v
+    → Follows (column_places l n) (added (added s t.0.place t.0.d) t.1.place t.1.d) v
+column_pair_behind l n plane row column d t is hl hn hp f =
+    miss t.1.d (column-misses_behind l n plane (1144 + diagonal_at row column) t.1.place hl hn hp (omega arith) is.second_at)
+    (miss t.0.d (column-misses_behind l n plane (1118 + diagonal_at row column) t.0.place hl hn hp (omega arith) is.first_at) f)
+
+column_follows : (on : Bool) (plane row column place d : ℕ) (t : Eight) → AreCarried plane row column place d t
+    → (l n : ℕ) → l < 2 → n < 43 → IsColumn on l n plane column → (s : List ℕ) → length s ≡ 2352
+    → Follows (column_places l n) (carried place d t s)
+    (added_where on (added_where on (added_where on (bytes_at s (column_places l n)) row d) 24 t.column.0.d) 25 t.column.1.d)
+column_follows on plane row column place d t c l n hl hn is s long =
     let hp = c.in_plane in
     let hc = c.in_columns in
     let hr = c.in_rows in
-    let hl : l < 2 = omega arith in
-    let hn : n < 43 = omega arith in
-    let place_at : place ≡ place_of l (43 * row + n) = (let at = c.place_at in omega arith) in
-    let p_at : p.place ≡ place_of l (43 * 24 + n) = (let at = c.p_at in omega arith) in
-    let q_at : q.place ≡ place_of l (43 * 25 + n) = (let at = c.q_at in omega arith) in
+    let p_at : t.column.0.place ≡ place_of plane (43 * 24 + column) = (let at = c.of_column.first_at in omega arith) in
+    let q_at : t.column.1.place ≡ place_of plane (43 * 25 + column) = (let at = c.of_column.second_at in omega arith) in
+    column_pair_behind l n plane 25 column t.column.1.d t.second c.of_second hl hn hp
+    (column_pair_behind l n plane 24 column t.column.0.d t.first c.of_first hl hn hp
+    (column_pair_behind l n plane row column d t.own c.of_own hl hn hp
+    (column_byte on l n plane 25 column t.column.1.place t.column.1.d is hl hn hp (omega arith) hc q_at
+    (column_byte on l n plane 24 column t.column.0.place t.column.0.d is hl hn hp (omega arith) hc p_at
+    (column_byte on l n plane row column place d is hl hn hp (omega arith) hc c.place_at
+    (at_first (column_places l n) s long))))))
+
+column_keeps : (on : Bool) (plane row column place d : ℕ) (t : Eight) → AreCarried plane row column place d t
+    → (l n : ℕ) → l < 2 → n < 43 → IsColumn on l n plane column → (s : List ℕ) → AreBytes s → length s ≡ 2352
+    → SameSums (bytes_at (carried place d t s) (column_places l n)) (bytes_at s (column_places l n))
+column_keeps true plane row column place d t c l n hl hn is s bytes long =
     let ps = column_places l n in
-    SameSums-follows (bytes_at s ps)
-    (column_behind plane row column place d p q a b e f g h c l n hl hn _ _
-    (hit q.d (column-lies l 25 n q.place hl (omega arith) hn q_at)
-    (hit p.d (column-lies l 24 n p.place hl (omega arith) hn p_at)
-    (hit d (column-lies l row n place hl (omega arith) hn place_at)
-    (at_first ps s long)))))
-    (balanced 26 row d p.d q.d ps s c.of_column bytes (length-column_places l n))
+    SameSums-follows (bytes_at s ps) (column_follows true plane row column place d t c l n hl hn is s long)
+    (balanced 26 row d t.column.0.d t.column.1.d ps s c.of_column.balances bytes (length-column_places l n))
+column_keeps false plane row column place d t c l n hl hn is s bytes long =
+    let ps = column_places l n in
+    SameSums-follows (bytes_at s ps) (column_follows false plane row column place d t c l n hl hn is s long)
+    (SameSums-refl (bytes_at s ps))
 
 -- ---- diagonals
 
--- the diagonal has neither a byte of this row and column nor the parity of theirs
-abbrev Apart : ℕ → ℕ → ℕ → ℕ → ℕ → Type 0
-Apart l n plane row column = (l ≢ plane) ⊎ (n ≢ diagonal_at row column)
+-- whether diagonal n of plane l is the one through a cell
+abbrev IsDiagonal : Bool → ℕ → ℕ → ℕ → ℕ → ℕ → Type 0
+IsDiagonal true l n plane row column = (l ≡ plane) × (n ≡ diagonal_at row column)
+IsDiagonal false l n plane row column = (l ≢ plane) ⊎ (n ≢ diagonal_at row column)
 
-diagonal_other : (plane row column place d : ℕ) (p q a b e f g h : Change) → AreCarried plane row column place d p q a b e f g h
-    → (l n : ℕ) → l < 2 → n < 26 → Apart l n plane row column → Apart l n plane 24 column → Apart l n plane 25 column
-    → (s : List ℕ) → length s ≡ 2352
-    → SameSums (bytes_at (carried place d p q a b e f g h s) (diagonal_places l n)) (bytes_at s (diagonal_places l n))
-diagonal_other plane row column place d p q a b e f g h c l n hl hn own first second s long =
+diagonal_byte : (on : Bool) (l n plane row column place d : ℕ) → IsDiagonal on l n plane row column → l < 2 → n < 26 → plane < 2 → row < 26
+    → column < 43 → place ≡ place_of plane (43 * row + column) → {s v : List ℕ} → Follows (diagonal_places l n) s v
+    → Follows (diagonal_places l n) (added s place d) (added_where on v column d)
+diagonal_byte true l n plane row column place d is hl hn hp hr hc at f =
+    let here : place ≡ place_of l (43 * row + column) = (let one = is.0 in omega arith) in
+    hit d (diagonal-lies l row column n place hl hr hc is.1 here) f
+diagonal_byte false l n plane row column place d is hl hn hp hr hc at f =
+    miss d (diagonal-misses l n plane row column place hl hn hp hr hc at is) f
+
+diagonal_pair_of : (on : Bool) (l n plane row column d : ℕ) (t : Change × Change) → IsDiagonal on l n plane row column
+    → IsDiagonalPair plane row column d t → l < 2 → n < 26 → plane < 2 → {s v : List ℕ} → Follows (diagonal_places l n) s v
+    → Follows (diagonal_places l n) (added (added s t.0.place t.0.d) t.1.place t.1.d) (added_where on (added_where on v 43 t.0.d) 44 t.1.d)
+diagonal_pair_of true l n plane row column d t is pair hl hn hp f =
+    let one = is.0 in
+    let two = is.1 in
+    let first : t.0.place ≡ place_of l (1118 + n) = (let at = pair.first_at in omega arith) in
+    let second : t.1.place ≡ place_of l (1144 + n) = (let at = pair.second_at in omega arith) in
+    hit t.1.d (diagonal-lies_second l n t.1.place hl hn second) (hit t.0.d (diagonal-lies_first l n t.0.place hl hn first) f)
+diagonal_pair_of false l n plane row column d t is pair hl hn hp f =
+    let m = diagonal_at row column in
+    let lt = diagonal_at-lt row column in
+    miss t.1.d (diagonal-misses_second l n plane m t.1.place hl hn hp lt pair.second_at is)
+    (miss t.0.d (diagonal-misses_first l n plane m t.0.place hl hn hp lt pair.first_at is) f)
+
+-- what a diagonal takes of the nine changes, by which of the three diagonals it is
+abbrev taken : Bool → Bool → Bool → ℕ → ℕ → Eight → List ℕ → List ℕ
+taken own first second column d t v =
+    let bytes = added_where second (added_where first (added_where own v column d) column t.column.0.d) column t.column.1.d in
+    let pair = added_where own (added_where own bytes 43 t.own.0.d) 44 t.own.1.d in
+    let pairs = added_where first (added_where first pair 43 t.first.0.d) 44 t.first.1.d in
+    added_where second (added_where second pairs 43 t.second.0.d) 44 t.second.1.d
+
+diagonal_follows : (own first second : Bool) (plane row column place d : ℕ) (t : Eight) → AreCarried plane row column place d t
+    → (l n : ℕ) → l < 2 → n < 26 → IsDiagonal own l n plane row column → IsDiagonal first l n plane 24 column
+    → IsDiagonal second l n plane 25 column → (s : List ℕ) → length s ≡ 2352
+    → Follows (diagonal_places l n) (carried place d t s) (taken own first second column d t (bytes_at s (diagonal_places l n)))
+diagonal_follows own first second plane row column place d t c l n hl hn at_own at_first_byte at_second s long =
     let hp = c.in_plane in
     let hc = c.in_columns in
     let hr = c.in_rows in
-    let p_at : p.place ≡ place_of plane (43 * 24 + column) = (let at = c.p_at in omega arith) in
-    let q_at : q.place ≡ place_of plane (43 * 25 + column) = (let at = c.q_at in omega arith) in
-    let ps = diagonal_places l n in
-    SameSums-follows (bytes_at s ps)
-    (miss h.d (diagonal-misses_second l n plane (diagonal_at 25 column) h.place hl hn hp (diagonal_at-lt 25 column) c.h_at second)
-    (miss g.d (diagonal-misses_first l n plane (diagonal_at 25 column) g.place hl hn hp (diagonal_at-lt 25 column) c.g_at second)
-    (miss f.d (diagonal-misses_second l n plane (diagonal_at 24 column) f.place hl hn hp (diagonal_at-lt 24 column) c.f_at first)
-    (miss e.d (diagonal-misses_first l n plane (diagonal_at 24 column) e.place hl hn hp (diagonal_at-lt 24 column) c.e_at first)
-    (miss b.d (diagonal-misses_second l n plane (diagonal_at row column) b.place hl hn hp (diagonal_at-lt row column) c.b_at own)
-    (miss a.d (diagonal-misses_first l n plane (diagonal_at row column) a.place hl hn hp (diagonal_at-lt row column) c.a_at own)
-    (miss q.d (diagonal-misses l n plane 25 column q.place hl hn hp (omega arith) hc q_at second)
-    (miss p.d (diagonal-misses l n plane 24 column p.place hl hn hp (omega arith) hc p_at first)
-    (miss d (diagonal-misses l n plane row column place hl hn hp (omega arith) hc c.place_at own)
-    (at_first ps s long))))))))))
-    (SameSums-refl (bytes_at s ps))
+    let p_at : t.column.0.place ≡ place_of plane (43 * 24 + column) = (let at = c.of_column.first_at in omega arith) in
+    let q_at : t.column.1.place ≡ place_of plane (43 * 25 + column) = (let at = c.of_column.second_at in omega arith) in
+    diagonal_pair_of second l n plane 25 column t.column.1.d t.second at_second c.of_second hl hn hp
+    (diagonal_pair_of first l n plane 24 column t.column.0.d t.first at_first_byte c.of_first hl hn hp
+    (diagonal_pair_of own l n plane row column d t.own at_own c.of_own hl hn hp
+    (diagonal_byte second l n plane 25 column t.column.1.place t.column.1.d at_second hl hn hp (omega arith) hc q_at
+    (diagonal_byte first l n plane 24 column t.column.0.place t.column.0.d at_first_byte hl hn hp (omega arith) hc p_at
+    (diagonal_byte own l n plane row column place d at_own hl hn hp (omega arith) hc c.place_at
+    (at_first (diagonal_places l n) s long))))))
 
-diagonal_own : (plane row column place d : ℕ) (p q a b e f g h : Change) → AreCarried plane row column place d p q a b e f g h
-    → (l n : ℕ) → l ≡ plane → n ≡ diagonal_at row column → (s : List ℕ) → AreBytes s → length s ≡ 2352
-    → SameSums (bytes_at (carried place d p q a b e f g h s) (diagonal_places l n)) (bytes_at s (diagonal_places l n))
-diagonal_own plane row column place d p q a b e f g h c l n el en s bytes long =
-    let hp = c.in_plane in
-    let hc = c.in_columns in
-    let hr = c.in_rows in
-    let hl : l < 2 = omega arith in
-    let hn : n < 26 = omega arith in
-    let first : Apart l n plane 24 column = inr (omega arith) in
-    let second : Apart l n plane 25 column = inr (omega arith) in
-    let place_at : place ≡ place_of l (43 * row + column) = (let at = c.place_at in omega arith) in
-    let p_at : p.place ≡ place_of plane (43 * 24 + column) = (let at = c.p_at in omega arith) in
-    let q_at : q.place ≡ place_of plane (43 * 25 + column) = (let at = c.q_at in omega arith) in
-    let a_at : a.place ≡ place_of l (1118 + n) = (let at = c.a_at in omega arith) in
-    let b_at : b.place ≡ place_of l (1144 + n) = (let at = c.b_at in omega arith) in
-    let ps = diagonal_places l n in
-    SameSums-follows (bytes_at s ps)
-    (miss h.d (diagonal-misses_second l n plane (diagonal_at 25 column) h.place hl hn hp (diagonal_at-lt 25 column) c.h_at second)
-    (miss g.d (diagonal-misses_first l n plane (diagonal_at 25 column) g.place hl hn hp (diagonal_at-lt 25 column) c.g_at second)
-    (miss f.d (diagonal-misses_second l n plane (diagonal_at 24 column) f.place hl hn hp (diagonal_at-lt 24 column) c.f_at first)
-    (miss e.d (diagonal-misses_first l n plane (diagonal_at 24 column) e.place hl hn hp (diagonal_at-lt 24 column) c.e_at first)
-    (hit b.d (diagonal-lies_second l n b.place hl hn b_at)
-    (hit a.d (diagonal-lies_first l n a.place hl hn a_at)
-    (miss q.d (diagonal-misses l n plane 25 column q.place hl hn hp (omega arith) hc q_at second)
-    (miss p.d (diagonal-misses l n plane 24 column p.place hl hn hp (omega arith) hc p_at first)
-    (hit d (diagonal-lies l row column n place hl (omega arith) hc en place_at)
-    (at_first ps s long))))))))))
-    (balanced 45 column d a.d b.d ps s c.of_own bytes (length-diagonal_places l n))
-
-diagonal_first : (plane row column place d : ℕ) (p q a b e f g h : Change) → AreCarried plane row column place d p q a b e f g h
-    → (l n : ℕ) → l ≡ plane → n ≡ diagonal_at 24 column → (s : List ℕ) → AreBytes s → length s ≡ 2352
-    → SameSums (bytes_at (carried place d p q a b e f g h s) (diagonal_places l n)) (bytes_at s (diagonal_places l n))
-diagonal_first plane row column place d p q a b e f g h c l n el en s bytes long =
-    let hp = c.in_plane in
-    let hc = c.in_columns in
-    let hr = c.in_rows in
-    let hl : l < 2 = omega arith in
-    let hn : n < 26 = omega arith in
-    let own : Apart l n plane row column = inr (omega arith) in
-    let second : Apart l n plane 25 column = inr (omega arith) in
-    let p_at : p.place ≡ place_of l (43 * 24 + column) = (let at = c.p_at in omega arith) in
-    let q_at : q.place ≡ place_of plane (43 * 25 + column) = (let at = c.q_at in omega arith) in
-    let e_at : e.place ≡ place_of l (1118 + n) = (let at = c.e_at in omega arith) in
-    let f_at : f.place ≡ place_of l (1144 + n) = (let at = c.f_at in omega arith) in
-    let ps = diagonal_places l n in
-    SameSums-follows (bytes_at s ps)
-    (miss h.d (diagonal-misses_second l n plane (diagonal_at 25 column) h.place hl hn hp (diagonal_at-lt 25 column) c.h_at second)
-    (miss g.d (diagonal-misses_first l n plane (diagonal_at 25 column) g.place hl hn hp (diagonal_at-lt 25 column) c.g_at second)
-    (hit f.d (diagonal-lies_second l n f.place hl hn f_at)
-    (hit e.d (diagonal-lies_first l n e.place hl hn e_at)
-    (miss b.d (diagonal-misses_second l n plane (diagonal_at row column) b.place hl hn hp (diagonal_at-lt row column) c.b_at own)
-    (miss a.d (diagonal-misses_first l n plane (diagonal_at row column) a.place hl hn hp (diagonal_at-lt row column) c.a_at own)
-    (miss q.d (diagonal-misses l n plane 25 column q.place hl hn hp (omega arith) hc q_at second)
-    (hit p.d (diagonal-lies l 24 column n p.place hl (omega arith) hc en p_at)
-    (miss d (diagonal-misses l n plane row column place hl hn hp (omega arith) hc c.place_at own)
-    (at_first ps s long))))))))))
-    (balanced 45 column p.d e.d f.d ps s c.of_first bytes (length-diagonal_places l n))
-
-diagonal_second : (plane row column place d : ℕ) (p q a b e f g h : Change) → AreCarried plane row column place d p q a b e f g h
-    → (l n : ℕ) → l ≡ plane → n ≡ diagonal_at 25 column → (s : List ℕ) → AreBytes s → length s ≡ 2352
-    → SameSums (bytes_at (carried place d p q a b e f g h s) (diagonal_places l n)) (bytes_at s (diagonal_places l n))
-diagonal_second plane row column place d p q a b e f g h c l n el en s bytes long =
-    let hp = c.in_plane in
-    let hc = c.in_columns in
-    let hr = c.in_rows in
-    let hl : l < 2 = omega arith in
-    let hn : n < 26 = omega arith in
-    let own : Apart l n plane row column = inr (omega arith) in
-    let first : Apart l n plane 24 column = inr (omega arith) in
-    let p_at : p.place ≡ place_of plane (43 * 24 + column) = (let at = c.p_at in omega arith) in
-    let q_at : q.place ≡ place_of l (43 * 25 + column) = (let at = c.q_at in omega arith) in
-    let g_at : g.place ≡ place_of l (1118 + n) = (let at = c.g_at in omega arith) in
-    let h_at : h.place ≡ place_of l (1144 + n) = (let at = c.h_at in omega arith) in
-    let ps = diagonal_places l n in
-    SameSums-follows (bytes_at s ps)
-    (hit h.d (diagonal-lies_second l n h.place hl hn h_at)
-    (hit g.d (diagonal-lies_first l n g.place hl hn g_at)
-    (miss f.d (diagonal-misses_second l n plane (diagonal_at 24 column) f.place hl hn hp (diagonal_at-lt 24 column) c.f_at first)
-    (miss e.d (diagonal-misses_first l n plane (diagonal_at 24 column) e.place hl hn hp (diagonal_at-lt 24 column) c.e_at first)
-    (miss b.d (diagonal-misses_second l n plane (diagonal_at row column) b.place hl hn hp (diagonal_at-lt row column) c.b_at own)
-    (miss a.d (diagonal-misses_first l n plane (diagonal_at row column) a.place hl hn hp (diagonal_at-lt row column) c.a_at own)
-    (hit q.d (diagonal-lies l 25 column n q.place hl (omega arith) hc en q_at)
-    (miss p.d (diagonal-misses l n plane 24 column p.place hl hn hp (omega arith) hc p_at first)
-    (miss d (diagonal-misses l n plane row column place hl hn hp (omega arith) hc c.place_at own)
-    (at_first ps s long))))))))))
-    (balanced 45 column q.d g.d h.d ps s c.of_second bytes (length-diagonal_places l n))
+-- a diagonal's sums are kept where those of what it takes are
+diagonal_keeps : (own first second : Bool) (plane row column place d : ℕ) (t : Eight) → AreCarried plane row column place d t
+    → (l n : ℕ) → l < 2 → n < 26 → IsDiagonal own l n plane row column → IsDiagonal first l n plane 24 column
+    → IsDiagonal second l n plane 25 column → (s : List ℕ) → length s ≡ 2352
+    → SameSums (taken own first second column d t (bytes_at s (diagonal_places l n))) (bytes_at s (diagonal_places l n))
+    → SameSums (bytes_at (carried place d t s) (diagonal_places l n)) (bytes_at s (diagonal_places l n))
+diagonal_keeps own first second plane row column place d t c l n hl hn at_own at_first_byte at_second s long kept =
+    SameSums-follows (bytes_at s (diagonal_places l n))
+    (diagonal_follows own first second plane row column place d t c l n hl hn at_own at_first_byte at_second s long) kept
 
 -- ---- all of them
 
-pub SameSyndromes-carried : (plane row column place d : ℕ) (p q a b e f g h : Change) → AreCarried plane row column place d p q a b e f g h
-    → (s : List ℕ) → AreBytes s → length s ≡ 2352 → SameSyndromes (carried place d p q a b e f g h s) s
-SameSyndromes-carried plane row column place d p q a b e f g h c s bytes long = record {
-  columns = λ l n hl hn. elim (cases_eq l plane) [
-    | inl el ↦ elim (cases_eq n column) [
-      | inl en ↦ column_own plane row column place d p q a b e f g h c l n el en s bytes long
-      | inr other ↦ column_other plane row column place d p q a b e f g h c l n hl hn (inr other) s long
-    ]
-    | inr other ↦ column_other plane row column place d p q a b e f g h c l n hl hn (inl other) s long
-  ];
-  diagonals = λ l n hl hn. elim (cases_eq l plane) [
-    | inl el ↦ elim (cases_eq n (diagonal_at row column)) [
-      | inl en ↦ diagonal_own plane row column place d p q a b e f g h c l n el en s bytes long
-      | inr own ↦ elim (cases_eq n (diagonal_at 24 column)) [
-        | inl en ↦ diagonal_first plane row column place d p q a b e f g h c l n el en s bytes long
-        | inr first ↦ elim (cases_eq n (diagonal_at 25 column)) [
-          | inl en ↦ diagonal_second plane row column place d p q a b e f g h c l n el en s bytes long
-          | inr second ↦ diagonal_other plane row column place d p q a b e f g h c l n hl hn (inr own) (inr first) (inr second) s long
+columns_keep : (plane row column place d : ℕ) (t : Eight) → AreCarried plane row column place d t → (s : List ℕ) → AreBytes s
+    → length s ≡ 2352 → (l n : ℕ) → l < 2 → n < 43
+    → SameSums (bytes_at (carried place d t s) (column_places l n)) (bytes_at s (column_places l n))
+columns_keep plane row column place d t c s bytes long l n hl hn = elim (cases_eq l plane) [
+  | inl el ↦ elim (cases_eq n column) [
+    | inl en ↦ column_keeps true plane row column place d t c l n hl hn (el, en) s bytes long
+    | inr other ↦ column_keeps false plane row column place d t c l n hl hn (inr other) s bytes long
+  ]
+  | inr other ↦ column_keeps false plane row column place d t c l n hl hn (inl other) s bytes long
+]
+
+-- the three diagonals are different ones
+diagonals_keep : (plane row column place d : ℕ) (t : Eight) → AreCarried plane row column place d t → (s : List ℕ) → AreBytes s
+    → length s ≡ 2352 → (l n : ℕ) → l < 2 → n < 26
+    → SameSums (bytes_at (carried place d t s) (diagonal_places l n)) (bytes_at s (diagonal_places l n))
+diagonals_keep plane row column place d t c s bytes long l n hl hn =
+    let hr = c.in_rows in
+    let hc = c.in_columns in
+    let ps = diagonal_places l n in
+    let size = length-diagonal_places l n in
+    elim (cases_eq l plane) [
+      | inl el ↦ elim (cases_eq n (diagonal_at row column)) [
+        | inl en ↦
+            diagonal_keeps true false false plane row column place d t c l n hl hn (el, en) (inr (omega arith)) (inr (omega arith)) s long
+            (balanced 45 column d t.own.0.d t.own.1.d ps s c.of_own.balances bytes size)
+        | inr own ↦ elim (cases_eq n (diagonal_at 24 column)) [
+          | inl en ↦
+              diagonal_keeps false true false plane row column place d t c l n hl hn (inr own) (el, en) (inr (omega arith)) s long
+              (balanced 45 column t.column.0.d t.first.0.d t.first.1.d ps s c.of_first.balances bytes size)
+          | inr first ↦ elim (cases_eq n (diagonal_at 25 column)) [
+            | inl en ↦
+                diagonal_keeps false false true plane row column place d t c l n hl hn (inr own) (inr first) (el, en) s long
+                (balanced 45 column t.column.1.d t.second.0.d t.second.1.d ps s c.of_second.balances bytes size)
+            | inr second ↦
+                diagonal_keeps false false false plane row column place d t c l n hl hn (inr own) (inr first) (inr second) s long
+                (SameSums-refl (bytes_at s ps))
+          ]
         ]
       ]
+      | inr other ↦
+          diagonal_keeps false false false plane row column place d t c l n hl hn (inl other) (inl other) (inl other) s long
+          (SameSums-refl (bytes_at s ps))
     ]
-    | inr other ↦ diagonal_other plane row column place d p q a b e f g h c l n hl hn (inl other) (inl other) (inl other) s long
-  ];
+
+pub SameSyndromes-carried : (plane row column place d : ℕ) (t : Eight) → AreCarried plane row column place d t
+    → (s : List ℕ) → AreBytes s → length s ≡ 2352 → SameSyndromes (carried place d t s) s
+SameSyndromes-carried plane row column place d t c s bytes long = record {
+  columns = columns_keep plane row column place d t c s bytes long;
+  diagonals = diagonals_keep plane row column place d t c s bytes long;
 }
 
 -- ---- the eight places
 
-pub parity_places-carried : (plane row column place d : ℕ) (p q a b e f g h : Change) → AreCarried plane row column place d p q a b e f g h
-    → p.place ∷ q.place ∷ a.place ∷ b.place ∷ e.place ∷ f.place ∷ g.place ∷ h.place ∷ [] ≡ parity_places_at plane row column
-parity_places-carried plane row column place d p q a b e f g h c =
-    let p_at = c.p_at in
-    let q_at = c.q_at in
-    let a_at = c.a_at in
-    let b_at = c.b_at in
-    let e_at = c.e_at in
-    let f_at = c.f_at in
-    let g_at = c.g_at in
-    let h_at = c.h_at in
+abbrev pub places_listed : Eight → List ℕ
+places_listed t =
+    t.column.0.place ∷ t.column.1.place ∷ t.own.0.place ∷ t.own.1.place ∷ t.first.0.place ∷ t.first.1.place
+    ∷ t.second.0.place ∷ t.second.1.place ∷ []
+
+pub parity_places-carried : (plane row column place d : ℕ) (t : Eight) → AreCarried plane row column place d t
+    → places_listed t ≡ parity_places_at plane row column
+parity_places-carried plane row column place d t c =
+    let p_at = c.of_column.first_at in
+    let q_at = c.of_column.second_at in
+    let a_at = c.of_own.first_at in
+    let b_at = c.of_own.second_at in
+    let e_at = c.of_first.first_at in
+    let f_at = c.of_first.second_at in
+    let g_at = c.of_second.first_at in
+    let h_at = c.of_second.second_at in
     cc
 
 -- a list of eight numbers that differ
@@ -299,20 +299,20 @@ distinct_eight p q a b e f g h pq pa pb pe pf pg ph qa qb qe qf qg qh ab ae af a
   ),
 )
 
-pub IsDistinct-carried : (plane row column place d : ℕ) (p q a b e f g h : Change) → AreCarried plane row column place d p q a b e f g h
-    → IsDistinct nat_eq (p.place ∷ q.place ∷ a.place ∷ b.place ∷ e.place ∷ f.place ∷ g.place ∷ h.place ∷ [])
-IsDistinct-carried plane row column place d p q a b e f g h c =
+pub IsDistinct-carried : (plane row column place d : ℕ) (t : Eight) → AreCarried plane row column place d t
+    → IsDistinct nat_eq (places_listed t)
+IsDistinct-carried plane row column place d t c =
     let hr = c.in_rows in
     let hc = c.in_columns in
-    let p_at = c.p_at in
-    let q_at = c.q_at in
-    let a_at = c.a_at in
-    let b_at = c.b_at in
-    let e_at = c.e_at in
-    let f_at = c.f_at in
-    let g_at = c.g_at in
-    let h_at = c.h_at in
-    distinct_eight p.place q.place a.place b.place e.place f.place g.place h.place
+    let p_at = c.of_column.first_at in
+    let q_at = c.of_column.second_at in
+    let a_at = c.of_own.first_at in
+    let b_at = c.of_own.second_at in
+    let e_at = c.of_first.first_at in
+    let f_at = c.of_first.second_at in
+    let g_at = c.of_second.first_at in
+    let h_at = c.of_second.second_at in
+    distinct_eight t.column.0.place t.column.1.place t.own.0.place t.own.1.place t.first.0.place t.first.1.place t.second.0.place t.second.1.place
     (omega arith) (omega arith) (omega arith) (omega arith) (omega arith) (omega arith) (omega arith)
     (omega arith) (omega arith) (omega arith) (omega arith) (omega arith) (omega arith)
     (omega arith) (omega arith) (omega arith) (omega arith) (omega arith)

@@ -9,6 +9,7 @@ use Rattle.std.proofs.lemmas.List.{ext_get_or, get_or-append_right, get_or_appen
 use Rattle.std.proofs.lemmas.Nat.{from_le_bytes-to_le_bytes_4}
 use Rattle.cd_code.specs.Edc.{IsEdc, bits, remainder}
 use Rattle.cd_code.specs.Field.{AreBytes}
+use Rattle.cd_code.proofs.ByteLemmas.{front-same, get_or-part, length-part, part-list, part-same}
 use Rattle.cd_sector.specs.CodeWords.{SameSyndromes}
 use Rattle.cd_sector.specs.Consistent.{IsConsistent, header_of, user_of}
 use Rattle.cd_sector.specs.Kind.{kind_of, kind_of_mode, sync_field}
@@ -16,40 +17,6 @@ use Rattle.cd_sector.specs.declared.kinds.SectorKind.{SectorKind}
 use Rattle.cd_sector.specs.declared.kinds.SectorKind.TheVariants.{NoSync}
 use Rattle.cd_delta.specs.Writing.{HasEdc, IsChanged, IsWritten, WithEdc, written}
 use Rattle.cd_delta.proofs.WritingLemmas.{AllCodeWords-same, SameSyndromes-trans}
-
--- ---- parts of equal bytes
-
-length-part : (s : List ℕ) (a n : ℕ) → a + n ≤ length s → length (take n (drop a s)) ≡ n
-length-part s a n h = length-take-le n (drop a s) (omega (arith, length-drop a s))
-
-get_or-part : (s : List ℕ) (a n k : ℕ) → k < n → get_or (take n (drop a s)) k 0 ≡ get_or s (a + k) 0
-get_or-part s a n k h = get_or-take n (drop a s) k 0 h ∙ get_or-drop a s k 0
-
--- n bytes from a on
-pub part-same : (s t : List ℕ) (a n : ℕ) → a + n ≤ length s → length s ≡ length t
-    → ((i : ℕ) → a ≤ i → i < a + n → get_or s i 0 ≡ get_or t i 0) → take n (drop a s) ≡ take n (drop a t)
-part-same s t a n inside same_size h =
-    let one = length-part s a n inside in
-    let two = length-part t a n (omega arith) in
-    ext_get_or 0 (take n (drop a s)) (take n (drop a t)) (one ∙ sym two)
-    (λ k within.
-    let below : k < n = omega arith in
-    get_or-part s a n k below ∙ h (a + k) (omega arith) (omega arith) ∙ sym (get_or-part t a n k below))
-
-pub front-same : (s t : List ℕ) (n : ℕ) → n ≤ length s → length s ≡ length t
-    → ((i : ℕ) → i < n → get_or s i 0 ≡ get_or t i 0) → take n s ≡ take n t
-front-same s t n inside same_size h =
-    part-same s t 0 n (omega arith) same_size (λ i _ below. h i (omega arith))
-
--- n bytes from a on that are those of a list
-pub part-list : (s v : List ℕ) (a : ℕ) → a + length v ≤ length s → ((i : ℕ) → i < length v → get_or s (a + i) 0 ≡ get_or v i 0)
-    → take (length v) (drop a s) ≡ v
-part-list s v a inside h =
-    let one = length-part s a (length v) inside in
-    ext_get_or 0 (take (length v) (drop a s)) v one
-    (λ k within.
-    let below : k < length v = omega arith in
-    get_or-part s a (length v) k below ∙ h k below)
 
 -- ---- kind and header
 
@@ -60,13 +27,13 @@ pub kind_of-same : (s t : List ℕ) → 16 ≤ length s → length s ≡ length 
     → kind_of s ≡ kind_of t
 unfolding kind_of kind_from
 kind_of-same s t inside same_size h =
-    let front : take 12 s ≡ take 12 t = front-same s t 12 (omega arith) same_size (λ i below. h i (omega arith)) in
+    let front : take 12 s ≡ take 12 t = front-same s t 12 (omega arith) (omega arith) (λ i below. h i (omega arith)) in
     ap (λ v. kind_from v (get_or s 15 0)) front ∙ ap (kind_from (take 12 t)) (h 15 (omega arith))
 
 pub header_of-same : (s t : List ℕ) → 16 ≤ length s → length s ≡ length t → ((i : ℕ) → i < 16 → get_or s i 0 ≡ get_or t i 0)
     → header_of s ≡ header_of t
 unfolding header_of
-header_of-same s t inside same_size h = part-same s t 12 4 inside same_size (λ i _ below. h i below)
+header_of-same s t inside same_size h = part-same s t 12 4 inside (omega arith) (λ i _ below. h i below)
 
 -- ---- the user data
 
@@ -157,7 +124,7 @@ pub WithEdc-written : (old new four : List ℕ) (w : ℕ) → length old ≡ 235
     → four ≡ to_le_bytes w32 w → IsWritten old new 2064 (length four) four → WithEdc old new
 WithEdc-written old new four w size each word at h =
     let same_size = h.size in
-    let front : take 2064 new ≡ take 2064 old = front-same new old 2064 (omega arith) same_size (λ i below. h.front i (omega arith) (inl below)) in
+    let front : take 2064 new ≡ take 2064 old = front-same new old 2064 (omega arith) (omega arith) (λ i below. h.front i (omega arith) (inl below)) in
     let long : length four ≡ 4 = ap length at in
     let four_at : take (length four) (drop 2064 new) ≡ four =
     part-list new four 2064 (omega arith) (λ i below. h.range i (omega arith)) in
@@ -196,7 +163,7 @@ pub HasEdc-put : (old new four : List ℕ) (w : ℕ) → length old ≡ 2352 →
     → HasEdc new
 HasEdc-put old new four w old_size new_size word e inside outside =
     let front : take 2064 new ≡ take 2064 old =
-    front-same new old 2064 (omega arith) (new_size ∙ sym old_size) (λ i below. outside i (inl below)) in
+    front-same new old 2064 (omega arith) (omega arith) (λ i below. outside i (inl below)) in
     let long : length four ≡ 4 = ap length e in
     record {
       word = w;
@@ -213,9 +180,9 @@ pub IsChanged-front : (old front new : List ℕ) (offset : ℕ) (bytes : List �
     → IsChanged old new offset bytes
 IsChanged-front old front new offset bytes fits old_size front_size same_size each range elsewhere edc same syndromes =
     let size : length new ≡ 2352 = same_size ∙ old_size in
-    let whole : take 2064 new ≡ take 2064 front = front-same new front 2064 (omega arith) (size ∙ sym front_size) (λ i below. same i (omega arith)) in
+    let whole : take 2064 new ≡ take 2064 front = front-same new front 2064 (omega arith) (omega arith) (λ i below. same i (omega arith)) in
     let word : slice_range new 2064 2068 ≡ slice_range front 2064 2068 =
-    part-same new front 2064 4 (omega arith) (size ∙ sym front_size) (λ i _ below. same i (omega arith)) in
+    part-same new front 2064 4 (omega arith) (omega arith) (λ i _ below. same i (omega arith)) in
     record {
       fits = fits;
       size = size;

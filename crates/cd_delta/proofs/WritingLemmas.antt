@@ -1,22 +1,15 @@
 -- Bytes written into a sector and carried into its parity, one after another or by a difference sector.
-use Rattle.std.proofs.Common.{◌≡◌, ◌≢◌, ℕ, ◌+◌, ◌<◌, ◌≤◌, inl, inr, List, length, get_or, bit_xor, refl, sym, ap, ◌∙◌, arith}
+use Rattle.std.proofs.Common.{◌≡◌, ℕ, ◌+◌, ◌<◌, ◌≤◌, inl, inr, List, length, get_or, bit_xor, refl, sym, ap, ◌∙◌, arith}
 use Rattle.std.specs.Prelude.{slice_set}
 use Rattle.std.specs.Int.Bits.{xor_zero_r}
 use Rattle.std.proofs.lemmas.Bool.{cases_eq}
 use Rattle.std.proofs.lemmas.List.{get_or-set_other, get_or-set_same, length-set}
-use Rattle.cd_code.specs.Field.{AreBytes}
+use Rattle.cd_code.specs.Field.{IsSum}
 use Rattle.cd_code.specs.Syndrome.{SameSums, IsCodeWord, first_syndrome, second_syndrome}
 use Rattle.cd_code.proofs.SyndromeLemmas.{first_syndrome-sum, second_syndrome-sum}
 use Rattle.cd_code.proofs.XorLemmas.{xor_twice_left}
 use Rattle.cd_sector.specs.CodeWords.{AllCodeWords, SameSyndromes, bytes_at, column_places, diagonal_places}
 use Rattle.cd_sector.proofs.PlaceLemmas.{bytes_at-byte, length-bytes_at}
-use Rattle.cd_delta.specs.Writing.{IsWritten}
-
-pub SameSyndromes-refl : (s : List ℕ) → SameSyndromes s s
-SameSyndromes-refl s = record {
-  columns = λ plane n hp hn. record { first = refl; second = refl };
-  diagonals = λ plane n hp hn. record { first = refl; second = refl };
-}
 
 SameSums-trans : {u v w : List ℕ} → SameSums u v → SameSums v w → SameSums u w
 SameSums-trans h k = record { first = h.first ∙ k.first; second = h.second ∙ k.second }
@@ -40,40 +33,7 @@ AllCodeWords-same h k = record {
       record { first = same.first ∙ word.first; second = same.second ∙ word.second };
 }
 
--- ---- one byte after another
-
-pub IsWritten-none : (s : List ℕ) (place : ℕ) (bytes : List ℕ) → IsWritten s s place 0 bytes
-IsWritten-none s place bytes = record {
-  size = refl;
-  each = λ h. h;
-  range = λ i h. absurd (omega arith);
-  front = λ i below out. refl;
-  syndromes = SameSyndromes-refl s;
-}
-
-pub IsWritten-more : {old t : List ℕ} {place i : ℕ} {bytes : List ℕ} (new : List ℕ) → IsWritten old t place i bytes
-    → length new ≡ length t → AreBytes new → get_or new (place + i) 0 ≡ get_or bytes i 0
-    → ((k : ℕ) → k < 2076 → k ≢ place + i → get_or new k 0 ≡ get_or t k 0) → SameSyndromes new t → place + i < 2076
-    → IsWritten old new place (i + 1) bytes
-IsWritten-more {old} {t} {place} {i} {bytes} new w size each here others same inside = record {
-  size = size ∙ w.size;
-  each = λ _. each;
-  range = λ k h. elim (cases_eq k i) [
-    | inl e ↦ ap (λ n. get_or new (place + n) 0) e ∙ here ∙ ap (λ n. get_or bytes n 0) (sym e)
-    | inr not ↦ others (place + k) (omega arith) (λ e. not (omega arith)) ∙ w.range k (omega arith)
-  ];
-  front = λ k below out. elim out [
-    | inl before ↦ others k below (λ e. omega arith) ∙ w.front k below (inl before)
-    | inr behind ↦ others k below (λ e. omega arith) ∙ w.front k below (inr (omega arith))
-  ];
-  syndromes = SameSyndromes-trans same w.syndromes;
-}
-
 -- ---- by a difference sector
-
--- u is the sum, byte by byte, of s and t
-pub record IsSum (u s t : List ℕ) : Type 0 where
-  pub byte : (i : ℕ) → get_or u i 0 ≡ bit_xor (get_or s i 0) (get_or t i 0)
 
 bytes_at-sum : (u s t ps : List ℕ) → IsSum u s t → (i : ℕ) → i < length (bytes_at u ps)
     → get_or (bytes_at u ps) i 0 ≡ bit_xor (get_or (bytes_at s ps) i 0) (get_or (bytes_at t ps) i 0)

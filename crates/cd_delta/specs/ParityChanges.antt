@@ -1,8 +1,7 @@
 -- What a change of one byte changes in the parity of its sector (ECMA-130, Annex A). Place n of a plane is in row n / 43
 -- and column n % 43; the P parity makes rows 24 and 25.
-use Rattle.std.specs.Prelude.{ℕ, ◌+◌, ◌-◌, ◌/◌, ◌%◌, ◌≡◌, List, [], ◌∷◌, ◌++◌, length, fold}
-use Rattle.cd_code.specs.Field.{AreBytes}
-use Rattle.cd_code.specs.Syndrome.{SameSums, added}
+use Rattle.std.specs.Prelude.{ℕ, ◌+◌, ◌-◌, ◌/◌, ◌%◌, List, [], ◌∷◌, ◌++◌, fold}
+use Rattle.cd_code.specs.Syndrome.{added}
 use Rattle.cd_sector.specs.CodeWords.{place_of}
 use Rattle.cd_delta.specs.declared.changes.Change.{Change}
 
@@ -31,7 +30,3 @@ parity_places_at plane row column =
 -- the same of the byte at a place of the sector, 12 to 2075
 unfoldable pub parity_places : ℕ → List ℕ
 parity_places place = parity_places_at (place % 2) ((place - 12) / 2 / 43) ((place - 12) / 2 % 43)
-
--- in a word of `len` bytes to which `d` is added at `index`, `a` and `b` added to the last two keep the syndromes
-pub record Balances (len index d a b : ℕ) : Type 0 where
-  pub keeps : (v : List ℕ) → AreBytes v → length v ≡ len → SameSums (added (added (added v index d) (len - 2) a) (len - 1) b) v

@@ -21,19 +21,6 @@ pub fn change_byte(s: &mut Sector, place: u16, value: u8)
     ensures others { (i : ℕ) → i ≢ place → ¬ Contains (parity_places place) i
         → slice_index s.new i ≡ slice_index s.old i }
     ensures front { (i : ℕ) → i < 2076 → i ≢ place → slice_index s.new i ≡ slice_index s.old i }
-{
-    carry_byte(s, place, value);
-}
-
-/// As [`change_byte`], with the size and the bytes of the sector, which a caller's loop keeps.
-fn carry_byte(s: &mut Sector, place: u16, value: u8)
-    requires from { 12 ≤ place }
-    requires below { place < 2076 }
-    ensures byte { slice_index s.new place ≡ value }
-    ensures syndromes { SameSyndromes s.new s.old }
-    ensures others { (i : ℕ) → i ≢ place → ¬ Contains (parity_places place) i
-        → slice_index s.new i ≡ slice_index s.old i }
-    ensures front { (i : ℕ) → i < 2076 → i ≢ place → slice_index s.new i ≡ slice_index s.old i }
     ensures size { length s.new ≡ length s.old }
     ensures each { AreBytes s.new }
 {
@@ -64,6 +51,6 @@ pub(crate) fn write_few(s: &mut Sector, place: usize, bytes: &[u8])
     ensures { IsWritten s.old s.new place (length bytes.now) bytes.now }
 {
     for (i, byte) in bytes.iter().enumerate() {
-        carry_byte(s, (place + i) as u16, *byte);
+        change_byte(s, (place + i) as u16, *byte);
     }
 }

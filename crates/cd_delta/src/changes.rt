@@ -3,9 +3,9 @@
 ghost use Rattle.std.specs.Prelude.{◌≡◌, ℕ, ◌+◌, ◌*◌, ◌-◌, ◌/◌, ◌%◌, ◌<◌, ◌≤◌, All, List, length, map, nat_eq};
 ghost use Rattle.std.specs.List.{IsDistinct};
 ghost use Rattle.cd_code.specs.Field.{AreBytes};
-ghost use Rattle.cd_code.specs.Syndrome.{added};
+ghost use Rattle.cd_code.specs.Syndrome.{Balances, added};
 ghost use Rattle.cd_sector.specs.CodeWords.{SameSyndromes, place_of};
-ghost use Rattle.cd_delta.specs.ParityChanges.{Balances, changed, diagonal_at, parity_places};
+ghost use Rattle.cd_delta.specs.ParityChanges.{changed, diagonal_at, parity_places};
 
 use cd_code::pair_change;
 

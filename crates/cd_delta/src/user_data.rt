@@ -14,13 +14,7 @@ use crate::byte_by_byte::write_few;
 use crate::difference::carry_front;
 use byteorder::{ByteOrder, LittleEndian};
 use cd_code::edc_of;
-use cd_sector::{SECTOR_SIZE, Sector};
-
-/// Where the user data begins.
-const USER_DATA: usize = 16;
-
-/// Where the EDC begins.
-const EDC: usize = 2064;
+use cd_sector::{EDC, SECTOR_SIZE, Sector, USER_DATA};
 
 /// The number of bytes from which on a difference sector costs less than a change of each byte.
 const MANY: usize = 40;

@@ -10,8 +10,7 @@ use Rattle.cd_patch.specs.Laws.{IsSector}
 use Rattle.cd_patch.specs.Run.{PatchRun}
 use Rattle.cd_script.specs.declared.patch.Patch.{Patch}
 use Rattle.cd_patch.specs.declared.outcome.Outcome.{Outcome}
-use Rattle.cd_sector.proofs.ExistenceLemmas.{AreBytes-drop}
-use Rattle.cd_sector.proofs.SectorLemmas.{AreBytes-take}
+use Rattle.cd_code.proofs.ByteLemmas.{AreBytes-drop, AreBytes-take}
 use Rattle.cd_patch.proofs.ExistenceLemmas.{run-exists}
 use Rattle.cd_patch.proofs.RunLemmas.{PatchRun-determined}
 use Rattle.cd_image.specs.Image.{sectors, tail}

@@ -14,8 +14,7 @@ use Rattle.cd_script.specs.declared.patch.Patch.{Patch}
 use Rattle.cd_sector.specs.Consistent.{user_of}
 use Rattle.cd_sector.specs.declared.sector.TheConstants.{USER_SIZE}
 use Rattle.cd_sector.proofs.DefectLemmas.{length-range, range-byte}
-use Rattle.cd_sector.proofs.ExistenceLemmas.{AreBytes-drop}
-use Rattle.cd_sector.proofs.SectorLemmas.{AreBytes-append, AreBytes-take}
+use Rattle.cd_code.proofs.ByteLemmas.{AreBytes-append, AreBytes-drop, AreBytes-take}
 use Rattle.cd_delta.specs.Writing.{written}
 use Rattle.cd_delta.proofs.UserLemmas.{length-written, written-other, written-range}
 use Rattle.cd_patch.specs.Blocks.{blocks_met, new_bytes, sector_at}

@@ -2,13 +2,12 @@
 use Rattle.std.proofs.Common.{◌≡◌, ℕ, zero, suc, ◌+◌, ◌*◌, ◌/◌, ◌%◌, ◌<◌, ◌≤◌, ◌⊎◌, inl, inr, true, nat_lt, List, [], ◌∷◌, ◌++◌, length, get_or, set, take, drop, replicate, bit_xor, refl, sym, ap, ◌∙◌, arith, lit<, lit≤}
 use Rattle.std.specs.Int.{to_le_bytes, w32}
 use Rattle.std.proofs.lemmas.Bool.{cases_lt, agree_below_at, ltb-true}
-use Rattle.std.proofs.lemmas.Bool.Decides.{eqb_tells}
-use Rattle.std.proofs.lemmas.Grind.{get_or-set_at}
-use Rattle.std.proofs.lemmas.List.{get_or-set_other, get_or_past, get_or-replicate, length-set, take_more, length-take-le, length-drop, length-append, length-replicate, get_or-drop}
+use Rattle.std.proofs.lemmas.List.{get_or_past, get_or-replicate, length-set, take_more, length-take-le, length-drop, length-append, length-replicate}
 use Rattle.std.proofs.lemmas.Nat.{xor_lt}
 use Rattle.cd_code.specs.Edc.{IsEdc, bits, remainder}
 use Rattle.cd_code.specs.Field.{AreBytes, double, product}
 use Rattle.cd_code.specs.Syndrome.{IsPair, IsCodeWord, first_syndrome, second_syndrome}
+use Rattle.cd_code.proofs.ByteLemmas.{AreBytes-append, AreBytes-drop, AreBytes-set, AreBytes-take, AreBytes-word}
 use Rattle.cd_code.proofs.EdcLemmas.{IsEdc-nil, IsEdc-push}
 use Rattle.cd_code.proofs.EdcTableLemmas.{word_at-IsEdc}
 use Rattle.cd_code.proofs.FieldLemmas.{product-lt}
@@ -18,7 +17,7 @@ use Rattle.cd_sector.specs.Kind.{sync_field}
 use Rattle.cd_sector.specs.Laws.{IsEncoded}
 use Rattle.cd_sector.proofs.PlaceLemmas.{AreBytes-bytes_at}
 use Rattle.cd_sector.proofs.ParityLemmas.{Filled, Filled-none, Filled-more, columns_made, diagonals_made, column_of-same, AllCodeWords-by_number}
-use Rattle.cd_sector.proofs.SectorLemmas.{AreBytes-take, AreBytes-append, AreBytes-word, content_of, edc_written, encoded}
+use Rattle.cd_sector.proofs.SectorLemmas.{content_of, edc_written, encoded}
 
 -- ---- an EDC word
 
@@ -37,17 +36,6 @@ edc_of_front v h (suc n) k =
     (bit_xor (before.0 / 256) t.0, rw longer at (IsEdc-push (take n v) before.0 x t.0 before.1 t.1))
 
 -- ---- pairs
-
-AreBytes-set : (s : List ℕ) (i b : ℕ) → AreBytes s → b < 256 → AreBytes (set s i b)
-AreBytes-set s i b h k = λ j. elim (cases_lt j (length s)) [
-  | inl inside ↦ elim (eqb_tells j i) [
-    | inl same ↦ let e = get_or-set_at s i j b 0 same.1 (omega (arith, same.1)) in rw e k
-    | inr other ↦ let e = get_or-set_other s i j b 0 other.1 in rw e (h j)
-  ]
-  | inr past ↦
-      let none : get_or (set s i b) j 0 ≡ 0 = get_or_past (set s i b) j 0 (omega (arith, length-set s i b)) in
-      rw none (lit< tt)
-]
 
 -- what stands behind the other words, with n pairs filled in
 record Made (word : ℕ → List ℕ) (start count n : ℕ) (old : List ℕ) : Type 0 where
@@ -123,9 +111,6 @@ length-content header user h k =
     let a : length rest ≡ 2336 = length-append user (replicate 288 0) ∙ ap (λ n. n + length (replicate {A = ℕ} 288 0)) k ∙ ap (λ n. 2048 + n) (length-replicate {A = ℕ} 288 0) in
     let b : length (header ++ 1 ∷ rest) ≡ 2340 = length-append header (1 ∷ rest) ∙ ap (λ n. n + length (1 ∷ rest)) h ∙ ap (λ n. 3 + suc n) a in
     length-append sync_field (header ++ 1 ∷ rest) ∙ ap (λ n. 12 + n) b
-
-pub AreBytes-drop : (s : List ℕ) (n : ℕ) → AreBytes s → AreBytes (drop n s)
-AreBytes-drop s n h = λ i. rw (get_or-drop n s i 0) (h (n + i))
 
 -- the same front with an EDC behind it
 record Checked (old : List ℕ) : Type 0 where

@@ -33,14 +33,6 @@ SumsOf-more word longer count plain weighted row next next_weighted sums bytes m
       ∙ sym (ap second_syndrome (more i h) ∙ second_syndrome-push (word i) (get_or row i 0) (bytes i h));
 }
 
--- the sums of words that are the same
-pub SumsOf-same : (word other : ℕ → List ℕ) (count : ℕ) (plain weighted : List ℕ)
-    → SumsOf word count plain weighted → ((i : ℕ) → i < count → word i ≡ other i) → SumsOf other count plain weighted
-SumsOf-same word other count plain weighted sums same = record {
-  first = λ i h. sums.first i h ∙ ap first_syndrome (same i h);
-  second = λ i h. sums.second i h ∙ ap second_syndrome (same i h);
-}
-
 -- byte n of each word stands in the row
 pub take-row : (v : List ℕ) (n byte : ℕ) → n < length v → get_or v n 0 ≡ byte → take (n + 1) v ≡ take n v ++ byte ∷ []
 take-row v n byte inside e = take_more v n 0 inside ∙ ap (λ b. take n v ++ b ∷ []) e

@@ -5,7 +5,7 @@ use Rattle.std.specs.Int.{to_le_bytes, w32}
 use Rattle.std.specs.List.{slice_range, starts_with}
 use Rattle.std.proofs.lemmas.Bool.{cases_lt}
 use Rattle.std.proofs.lemmas.Bool.Decides.{Decides-eqb, Decides-like, eqb_tells}
-use Rattle.std.proofs.lemmas.List.{ext_get_or, get_or-take, get_or-drop, get_or_past, get_or_append_left, get_or-append-add, get_or-append_right, get_or-replicate, length-take, length-take-le, length-append, take-append-drop, append_cancel_left, drop-drop}
+use Rattle.std.proofs.lemmas.List.{ext_get_or, get_or-take, get_or-drop, get_or_append_left, get_or-append-add, get_or-append_right, get_or-replicate, length-take, length-take-le, length-append, take-append-drop, append_cancel_left, drop-drop}
 use Rattle.std.proofs.Math.Seq.{take-add, take-append_seam}
 use Rattle.std.proofs.Math.ListN.{drop_of_length-le}
 use Rattle.std.specs.Bool.{one_answer}
@@ -13,6 +13,7 @@ use Rattle.std.proofs.lemmas.Slice.Eq.{starts_is}
 use Rattle.cd_code.specs.Edc.{IsEdc, bits, remainder}
 use Rattle.cd_code.specs.Field.{AreBytes}
 use Rattle.cd_code.specs.Syndrome.{IsCodeWord, SameSums}
+use Rattle.cd_code.proofs.ByteLemmas.{AreBytes-append, AreBytes-take, AreBytes-word, front-same}
 use Rattle.cd_code.proofs.EdcLemmas.{edc_unique}
 use Rattle.cd_code.proofs.SyndromeLemmas.{pair_unique}
 use Rattle.cd_sector.specs.CodeWords.{AllCodeWords, SameSyndromes, place_of, bytes_at, column_places, diagonal_places}
@@ -29,42 +30,6 @@ use Rattle.cd_sector.proofs.PlaceLemmas.{length-bytes_at, bytes_at-byte, AreByte
 -- two lists have the same elements below n
 abbrev pub Agree : List ℕ → List ℕ → ℕ → Type 0
 Agree s t n = (i : ℕ) → i < n → get_or s i 0 ≡ get_or t i 0
-
-pub take-agree : (s t : List ℕ) (n : ℕ) → n ≤ length s → n ≤ length t → Agree s t n → take n s ≡ take n t
-take-agree s t n h k same =
-    let a = length-take-le n s h in
-    let b = length-take-le n t k in
-    ext_get_or 0 (take n s) (take n t) (a ∙ sym b)
-    (λ i inside.
-    let below : i < n = omega (arith, a) in
-    get_or-take n s i 0 below ∙ same i below ∙ sym (get_or-take n t i 0 below))
-
-pub AreBytes-take : (s : List ℕ) (n : ℕ) → AreBytes s → AreBytes (take n s)
-AreBytes-take s n h = λ i. elim (cases_lt i n) [
-  | inl inside ↦ let e = get_or-take n s i 0 inside in rw e (h i)
-  | inr past ↦ elim (cases_lt i (length (take n s))) [
-    | inl inside ↦ absurd (omega (arith, length-take n s))
-    | inr over ↦ let none : get_or (take n s) i 0 ≡ 0 = get_or_past (take n s) i 0 over in rw none (lit< tt)
-  ]
-]
-
-pub AreBytes-append : (v w : List ℕ) → AreBytes v → AreBytes w → AreBytes (v ++ w)
-AreBytes-append [] w hv hw = hw
-AreBytes-append (x ∷ v) w hv hw = λ i. cons_byte x (v ++ w) (hv 0) (AreBytes-append v w (λ k. hv (suc k)) hw) i
-  where
-    cons_byte : (x : ℕ) (v : List ℕ) → x < 256 → AreBytes v → AreBytes (x ∷ v)
-    cons_byte x v h k zero = h
-    cons_byte x v h k (suc i) = k i
-
-four_bytes : (a b c d : ℕ) → a < 256 → b < 256 → c < 256 → d < 256 → AreBytes (a ∷ b ∷ c ∷ d ∷ [])
-four_bytes a b c d ha hb hc hd zero = ha
-four_bytes a b c d ha hb hc hd (suc zero) = hb
-four_bytes a b c d ha hb hc hd (suc (suc zero)) = hc
-four_bytes a b c d ha hb hc hd (suc (suc (suc zero))) = hd
-four_bytes a b c d ha hb hc hd (suc (suc (suc (suc i)))) = lit< tt
-
-pub AreBytes-word : (w : ℕ) → AreBytes (to_le_bytes w32 w)
-AreBytes-word w = four_bytes (w % 256) _ _ _ (omega arith) (omega arith) (omega arith) (omega arith)
 
 pub range-agree : (s t : List ℕ) (a b : ℕ) → slice_range s a b ≡ slice_range t a b → (i : ℕ) → a ≤ i → i < b → get_or s i 0 ≡ get_or t i 0
 range-agree s t a b same i low high =
@@ -316,7 +281,7 @@ encoded header user edc s size long edc_size s_size bytes divides edc_stays stay
             ∙ content-zeros header user size long (i - 2064) (omega arith);
         edc =
             ap (λ v. remainder (bits v))
-            (take-agree s edc 2068 (omega (arith, s_size)) (omega (arith, edc_size)) (λ i h. stays i (omega arith)))
+            (front-same s edc 2068 (omega (arith, s_size)) (omega (arith, edc_size)) (λ i h. stays i (omega arith)))
             ∙ divides;
         words = words;
       };

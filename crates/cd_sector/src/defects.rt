@@ -11,7 +11,7 @@ ghost use Rattle.cd_sector.specs.Defect.{all_syndromes, defect_of, is_broken, is
 use crate::diagonals::diagonal_sums;
 use crate::kinds::{SectorKind, kind};
 use crate::parity::{COLUMNS, DIAGONALS};
-use crate::sector::{SECTOR_SIZE, Sector};
+use crate::sector::{EDC, HEADER, INTERMEDIATE, P_PARITY, Q_PARITY, SECTOR_SIZE, Sector};
 use cd_code::{ColumnSums, column_sums, edc_of};
 
 /// Which parts of a sector are wrong (ECMA-130, Annex A and the clause on the digital data structure of sectors).
@@ -92,15 +92,15 @@ fn has_code_words(bytes: &[u8; SECTOR_SIZE]) -> bool
 fn has_zeros(bytes: &[u8; SECTOR_SIZE]) -> bool
     ensures { result ≡ list_all (λ b. b == 0) (slice_range bytes.now 2068 2076) }
 {
-    bytes[2068..2076].iter().all(|b| *b == 0)
+    bytes[INTERMEDIATE..P_PARITY].iter().all(|b| *b == 0)
 }
 
 /// Whether the EDC is that of the bytes before it.
 fn has_edc(bytes: &[u8; SECTOR_SIZE]) -> bool
     ensures { result ≡ (remainder (bits (take 2068 bytes.now)) == 0) }
 {
-    let word = edc_of(&bytes[..2064]).to_le_bytes();
-    bytes[2064..2068] == word[..]
+    let word = edc_of(&bytes[..EDC]).to_le_bytes();
+    bytes[EDC..INTERMEDIATE] == word[..]
 }
 
 /// How many columns are no code words.
@@ -122,7 +122,7 @@ fn broken_diagonals(bytes: &[u8; SECTOR_SIZE]) -> u8
 pub(crate) fn all_column_sums(bytes: &[u8; SECTOR_SIZE]) -> ColumnSums
     ensures { SumsOf (column_of bytes.now) 86 result.plain result.weighted }
 {
-    column_sums(bytes[12..2248].first_chunk().unwrap())
+    column_sums(bytes[HEADER..Q_PARITY].first_chunk().unwrap())
 }
 
 /// How many of the first `count` words have sums that are not both 0.

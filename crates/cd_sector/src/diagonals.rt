@@ -6,8 +6,8 @@ ghost use Rattle.std.specs.Prelude.{◌≡◌, ℕ, ◌+◌, ◌-◌, ◌*◌, �
 ghost use Rattle.cd_sector.specs.CodeWords.{SumsOf, bytes_at, diagonal_input, diagonal_of};
 ghost use Rattle.cd_sector.specs.DiagonalSteps.{HasTaken, lane_place};
 
-use crate::parity::{DIAGONALS, Q_PARITY};
-use crate::sector::SECTOR_SIZE;
+use crate::parity::DIAGONALS;
+use crate::sector::{HEADER, Q_PARITY, SECTOR_SIZE};
 use cd_code::{ColumnSums, LaneSums, lanes_at, put_lanes};
 use std::simd::prelude::*;
 
@@ -61,8 +61,8 @@ impl Diagonals {
         ensures taken { HasTaken bytes.now 15 1 result.sums.plain result.sums.weighted }
     {
         let mut lanes = [0; 32];
-        lanes[30] = bytes[12];
-        lanes[31] = bytes[13];
+        lanes[30] = bytes[HEADER];
+        lanes[31] = bytes[HEADER + 1];
         let sums = LaneSums::zero().with_lanes(u8x32::from_array(lanes));
         Diagonals {
             top: 15,
@@ -142,7 +142,7 @@ fn window(bytes: &[u8; SECTOR_SIZE], top: usize, step: usize, row: usize) -> u8x
     requires most { top ≤ 25 }
     ensures { (i : ℕ) → i < 32 → slice_index result i ≡ slice_index bytes.now (lane_place top step i) }
 {
-    lanes_at(bytes, 12 + 86 * row + 2 * step - 2 * top)
+    lanes_at(bytes, HEADER + 86 * row + 2 * step - 2 * top)
 }
 
 /// Which of 32 lanes take a byte, k steps after the first one began.

@@ -5,9 +5,9 @@ ghost use Rattle.cd_code.specs.Edc.{bits, remainder};
 ghost use Rattle.cd_sector.specs.Consistent.{IsConsistent, header_of, user_of};
 ghost use Rattle.cd_sector.specs.Kind.{sync_field};
 
-use crate::kinds::{MODE, SYNC};
+use crate::kinds::SYNC;
 use crate::parity::fill_words;
-use crate::sector::{SECTOR_SIZE, Sector, USER_SIZE};
+use crate::sector::{EDC, HEADER, INTERMEDIATE, MODE, SECTOR_SIZE, Sector, USER_DATA, USER_SIZE};
 use byteorder::{ByteOrder, LittleEndian};
 use cd_code::edc_of;
 
@@ -32,9 +32,9 @@ fn content(header: [u8; 3], user: &[u8; USER_SIZE]) -> [u8; SECTOR_SIZE]
 {
     let mut bytes = [0; SECTOR_SIZE];
     put_part(&mut bytes, 0, &SYNC);
-    put_part(&mut bytes, 12, &header);
+    put_part(&mut bytes, HEADER, &header);
     put_part(&mut bytes, MODE, &[1]);
-    put_part(&mut bytes, 16, user);
+    put_part(&mut bytes, USER_DATA, user);
     bytes
 }
 
@@ -52,6 +52,6 @@ fn fill_edc(bytes: &mut [u8; SECTOR_SIZE])
     ensures divides { remainder (bits (take 2068 bytes.new)) ≡ 0 }
     ensures stays { (k : ℕ) → (k < 2064) ⊎ (2068 ≤ k) → slice_index bytes.new k ≡ slice_index bytes.old k }
 {
-    let word = edc_of(&bytes[..2064]);
-    LittleEndian::write_u32(&mut bytes[2064..2068], word);
+    let word = edc_of(&bytes[..EDC]);
+    LittleEndian::write_u32(&mut bytes[EDC..INTERMEDIATE], word);
 }

@@ -3,7 +3,7 @@
 ghost use Rattle.std.specs.Prelude.{◌≡◌};
 ghost use Rattle.cd_sector.specs.Kind.{kind_of};
 
-use crate::sector::Sector;
+use crate::sector::{MODE, Sector};
 
 /// The kinds of sector that ECMA-130 knows, and the two that it does not: without a sync field, and with
 /// a mode byte above 2.
@@ -18,9 +18,6 @@ pub enum SectorKind {
 
 /// The synchronisation field: `00`, ten times `FF`, `00`.
 pub(crate) const SYNC: [u8; 12] = [0, 255, 255, 255, 255, 255, 255, 255, 255, 255, 255, 0];
-
-/// The place of the mode byte, the last of the header.
-pub(crate) const MODE: usize = 15;
 
 /// The kind of a sector, from its sync field and its mode byte (ECMA-130, the clause on the digital data
 /// structure of sectors).

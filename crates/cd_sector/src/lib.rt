@@ -18,7 +18,9 @@ pub use encoding::encode;
 pub use kinds::{SectorKind, kind};
 pub use laws::{consistent_by_parts, sector_exists, sector_is_unique};
 pub use parity::fill_parity;
-pub use sector::{SECTOR_SIZE, Sector, USER_SIZE};
+pub use sector::{
+    EDC, HEADER, INTERMEDIATE, MODE, P_PARITY, Q_PARITY, SECTOR_SIZE, Sector, USER_DATA, USER_SIZE,
+};
 
 #[cfg(test)]
 mod tests;

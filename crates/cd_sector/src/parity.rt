@@ -7,7 +7,7 @@ ghost use Rattle.cd_code.specs.Syndrome.{IsCodeWord};
 ghost use Rattle.cd_sector.specs.CodeWords.{AllCodeWords, PairsPut, bytes_at, column_input, column_of, diagonal_of, place_of};
 
 use crate::diagonals::{high_input_sums, low_input_sums};
-use crate::sector::{SECTOR_SIZE, Sector};
+use crate::sector::{HEADER, P_PARITY, Q_PARITY, SECTOR_SIZE, Sector};
 use cd_code::{ColumnLanes, LaneSums, column_lanes, put_lanes};
 
 /// The number of P columns over both planes.
@@ -15,12 +15,6 @@ pub(crate) const COLUMNS: usize = 86;
 
 /// The number of Q diagonals over both planes.
 pub(crate) const DIAGONALS: usize = 52;
-
-/// Where the P parity begins.
-const P_PARITY: usize = 2076;
-
-/// Where the Q parity begins.
-pub(crate) const Q_PARITY: usize = 2248;
 
 /// Makes the 276 bytes of P and Q parity anew, from the 2076 bytes in front of them, in a sector of any kind
 /// (ECMA-130, Annex A).
@@ -69,7 +63,7 @@ fn fill_diagonals(bytes: &mut [u8; SECTOR_SIZE])
 fn column_input_lanes(bytes: &[u8; SECTOR_SIZE]) -> ColumnLanes
     ensures { AreColumns (λ i. bytes_at bytes.now (column_input (i % 2) (i / 2))) result }
 {
-    let (rows, _) = bytes[12..P_PARITY].as_chunks::<86>();
+    let (rows, _) = bytes[HEADER..P_PARITY].as_chunks::<86>();
     column_lanes(rows)
 }
 

@@ -1,4 +1,5 @@
-//! The 2352 bytes of one sector.
+//! The 2352 bytes of one sector, and where its parts begin (ECMA-130, the clause on the digital data structure of
+//! sectors and Annex A). Places count from 0.
 
 ghost use Rattle.std.specs.Prelude.{◌≡◌, ◌<◌, List, ℕ, length, replicate, slice_index, slice_set};
 ghost use Rattle.cd_code.specs.Field.{AreBytes};
@@ -12,6 +13,27 @@ pub const SECTOR_SIZE: usize = 2352;
 /// The number of bytes of user data in a Mode 1 sector (ECMA-130, the clause on the digital data structure
 /// of sectors).
 pub const USER_SIZE: usize = 2048;
+
+/// The place of the header, behind the sync field; the planes of the parity begin here too.
+pub const HEADER: usize = 12;
+
+/// The place of the mode byte, the last of the header.
+pub const MODE: usize = 15;
+
+/// Where the user data begins.
+pub const USER_DATA: usize = 16;
+
+/// The place of the four bytes of the EDC, behind the user data.
+pub const EDC: usize = 2064;
+
+/// The place of the eight bytes of the Intermediate field, behind the EDC.
+pub const INTERMEDIATE: usize = 2068;
+
+/// Where the P parity begins.
+pub const P_PARITY: usize = 2076;
+
+/// Where the Q parity begins.
+pub const Q_PARITY: usize = 2248;
 
 /// A sector: 2352 bytes of any content. A contract sees the list of its bytes.
 #[derive(Clone, Copy, Debug, PartialEq, Eq)]
@@ -74,10 +96,10 @@ impl Sector {
         ensures { result ≡ header_of self.now }
     {
         [
-            self.bytes[12],
-            self.bytes[13],
-            self.bytes[14],
-            self.bytes[15],
+            self.bytes[HEADER],
+            self.bytes[HEADER + 1],
+            self.bytes[HEADER + 2],
+            self.bytes[MODE],
         ]
     }
 
@@ -88,7 +110,7 @@ impl Sector {
         ensures user { result.now ≡ user_of self.now }
         ensures size { length result.now ≡ USER_SIZE }
     {
-        &self.bytes[16..2064]
+        &self.bytes[USER_DATA..EDC]
     }
 }
 

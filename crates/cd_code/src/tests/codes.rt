@@ -1,5 +1,5 @@
 use crate::{
-    alpha_power, edc_is_unique, pair_change, pair_from, pair_is_unique, parity_pair,
+    alpha_power, edc_is_unique, edc_of_sum, pair_change, pair_from, pair_is_unique, parity_pair,
     product_goes_by_bits, sum_goes_by_bits, syndromes, times,
 };
 
@@ -47,4 +47,5 @@ fn laws_can_be_called() {
     product_goes_by_bits();
     pair_is_unique();
     edc_is_unique();
+    edc_of_sum();
 }

@@ -1,7 +1,7 @@
 use Rattle.std.proofs.Common.{◌≡◌, length, drop}
 use Rattle.cd_code.specs.Field.{AreBytes}
 use Rattle.cd_delta.specs.ParityChanges.{changed}
-use Rattle.cd_delta.proofs.byte_by_byte.carry_byte.Given as goal
+use Rattle.cd_delta.proofs.byte_by_byte.change_byte.Given as goal
 
 abbrev pub invariant-loop-change : goal.invariant-loop-change
 invariant-loop-change l = record {

@@ -4,7 +4,7 @@ use Rattle.cd_code.specs.Field.{AreBytes}
 use Rattle.cd_code.specs.Syndrome.{added}
 use Rattle.cd_delta.specs.ParityChanges.{changed}
 use Rattle.cd_delta.proofs.AddLemmas.{added-value, changed-other, places_of, places_of-behind}
-use Rattle.cd_delta.proofs.byte_by_byte.carry_byte.Goals as goal
+use Rattle.cd_delta.proofs.byte_by_byte.change_byte.Goals as goal
 
 pub returns : goal.returns
 returns c =
