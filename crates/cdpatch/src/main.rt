@@ -1,9 +1,12 @@
 //! cdpatch lists and audits raw CD images.
 #![tactic(auto)]
 
+mod host;
+mod jobs;
 mod program;
 mod run;
 mod script;
+mod system;
 
 use std::process::ExitCode;
 

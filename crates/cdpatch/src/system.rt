@@ -1,0 +1,84 @@
+//! The system as a host: its files, and its standard input.
+
+ghost use Rattle.std.specs.Prelude.{◌≡◌, ⊤, IfOk};
+
+use crate::host::{Host, NoFile};
+use cd_image::{FromRead, Source, ToWrite};
+use std::fs;
+use std::fs::File;
+use std::io::{self, BufReader, BufWriter, Read, Stdin};
+
+/// The number of bytes that are read or written at a time.
+pub const BUFFER_SIZE: usize = 65_536;
+
+/// Where the bytes of an image or a script come from.
+#[derive(Drop)]
+pub enum Reader {
+    File(File),
+    StandardInput(Stdin),
+}
+
+impl Read for Reader {
+    fn read(&mut self, buf: &mut [u8]) -> io::Result<usize> {
+        match self {
+            Reader::File(file) => file.read(buf),
+            Reader::StandardInput(input) => input.read(buf),
+        }
+    }
+}
+
+/// The files of the system, and its standard input.
+#[derive(Clone, Copy)]
+pub struct System<'a> {
+    rt: &'a HostRuntime,
+}
+
+impl<'a> System<'a> {
+    /// Stands for the system that `rt` gives.
+    pub fn new(rt: &'a HostRuntime) -> Self {
+        System { rt }
+    }
+
+    fn buffered(&self, reader: Reader) -> Result<FromRead<BufReader<Reader>>, NoFile>
+        ensures { IfOk result (λ file. (⟦<FromRead<BufReader<Reader>> as Source>⟧.seen file).failures ≡ 0) }
+    {
+        match BufReader::with_capacity(self.rt.alloc(), BUFFER_SIZE, reader) {
+            Ok(reader) => Ok(FromRead::new(reader)),
+            Err(_) => Err(NoFile::NoMemory),
+        }
+    }
+}
+
+impl<'a> Host for System<'a> {
+    type Input = FromRead<BufReader<Reader>>;
+
+    type Output = ToWrite<BufWriter<File>>;
+
+    // Nothing is said of what a disc holds.
+    ghost gives_input = { λ _ _ _ _. ⊤ };
+
+    ghost gives_standard_input = { λ _ _ _. ⊤ };
+
+    ghost gives_output = { λ _ _ _ _. ⊤ };
+
+    fn input_at(&mut self, path: &str) -> Result<FromRead<BufReader<Reader>>, NoFile> {
+        match fs::open(self.rt, path) {
+            Ok(file) => self.buffered(Reader::File(file)),
+            Err(_) => Err(NoFile::Refused),
+        }
+    }
+
+    fn standard_input(&mut self) -> Result<FromRead<BufReader<Reader>>, NoFile> {
+        self.buffered(Reader::StandardInput(self.rt.stdin()))
+    }
+
+    fn output_at(&mut self, path: &str) -> Result<ToWrite<BufWriter<File>>, NoFile> {
+        let Ok(file) = File::create_new(self.rt, path) else {
+            return Err(NoFile::Refused);
+        };
+        match BufWriter::with_capacity(self.rt.alloc(), BUFFER_SIZE, file) {
+            Ok(writer) => Ok(ToWrite::new(writer)),
+            Err(_) => Err(NoFile::NoMemory),
+        }
+    }
+}
