@@ -1,7 +1,7 @@
 -- The tables of powers and logarithms: one computed test over each, and the rule at each entry.
-use Rattle.std.proofs.Common.{◌≡◌, ℕ, zero, suc, ◌+◌, ◌-◌, ◌*◌, ◌/◌, ◌%◌, ◌<◌, Bool, true, ◌&&◌, nat_lt, get_or, refl, sym, ap, ◌∙◌, arith, lit<}
+use Rattle.std.proofs.Common.{◌≡◌, ℕ, zero, suc, ◌+◌, ◌-◌, ◌*◌, ◌/◌, ◌%◌, ◌<◌, Bool, true, false, ◌&&◌, nat_lt, get_or, refl, sym, ap, ◌∙◌, arith, lit<}
 use Rattle.std.specs.Bool.{◌==◌}
-use Rattle.std.proofs.lemmas.Bool.{agree_below, agree_below_at, eqb-true, ltb-true, and_parts}
+use Rattle.std.proofs.lemmas.Bool.{agree_below, agree_below_at, eqb-false, eqb-true, ltb-true, and_parts}
 use Rattle.cd_code.specs.Field.{double, power, product}
 use Rattle.cd_code.specs.declared.field_tables.TheConstants.{EXPONENTS, LOGARITHMS}
 use Rattle.cd_code.proofs.FieldLemmas.{doubles, power-lt, power-doubles, product-power}
@@ -76,3 +76,40 @@ pub power-mod : (n : ℕ) → power (n % 255) ≡ power n
 power-mod n =
     let e : n / 255 * 255 + n % 255 ≡ n = omega arith in
     sym (power-turns (n / 255) (n % 255)) ∙ ap power e
+
+-- no lower power than the 255th is 1
+abbrev is_one_above : ℕ → Bool
+is_one_above n = get_or EXPONENTS (n + 1) 0 == 1
+
+is_one_above-none : agree_below is_one_above (λ _. false) 254 ≡ true
+is_one_above-none = refl
+
+power-one : (n : ℕ) → 0 < n → n < 255 → power n ≡ 1 → ⊥
+power-one n some below one =
+    let e : n - 1 + 1 ≡ n = omega arith in
+    let never = eqb-false (get_or EXPONENTS (n - 1 + 1) 0) 1 (agree_below_at is_one_above (λ _. false) 254 (n - 1) is_one_above-none (omega arith)) in
+    never (exponents-power (n - 1 + 1) (omega arith) ∙ ap power e ∙ one)
+
+-- an element but 0 is another one n doublings later, up to the 255th
+pub product-power_moves : (n d : ℕ) → 0 < n → n < 255 → 0 < d → d < 256 → product (power n) d ≡ d → ⊥
+product-power_moves n d some below nonzero byte same =
+    let m = get_or LOGARITHMS d 0 in
+    let m_lt : m < 255 = logarithms-lt d nonzero byte in
+    let is : power m ≡ d = power-logarithms d nonzero byte in
+    let moved : power (n + m) ≡ power m = sym (product-powers n m) ∙ ap (product (power n)) is ∙ same ∙ sym is in
+    let back : 255 - m + (n + m) ≡ 255 + n = omega arith in
+    let whole : 255 - m + m ≡ 255 = omega arith in
+    power-one n some below
+    (sym (power-turn n) ∙ ap power (sym back) ∙ sym (product-powers (255 - m) (n + m)) ∙ ap (product (power (255 - m))) moved
+    ∙ product-powers (255 - m) m ∙ ap power whole ∙ power_order)
+
+-- nor is it that of one doubling
+pub product-power_moves_on : (n d : ℕ) → 1 < n → n < 256 → 0 < d → d < 256 → product (power n) d ≡ double d → ⊥
+product-power_moves_on n d some below nonzero byte same =
+    let e : 254 + n ≡ 255 + (n - 1) = omega arith in
+    let turned : doubles 254 (doubles n d) ≡ product (power (n - 1)) d =
+    doubles-doubles 254 n d ∙ sym (product-power (254 + n) d byte) ∙ ap (λ k. product (power k) d) e ∙ ap (λ z. product z d) (power-turn (n - 1)) in
+    let round : doubles 254 (double d) ≡ d =
+    doubles-doubles 254 1 d ∙ sym (product-power 255 d byte) ∙ ap (λ z. product z d) power_order ∙ product-power 0 d byte in
+    product-power_moves (n - 1) d (omega arith) (omega arith) nonzero byte
+    (sym turned ∙ ap (doubles 254) (sym (product-power n d byte) ∙ same) ∙ round)

@@ -1,5 +1,5 @@
 -- The two syndromes of lists: at the end of a list, at a changed byte, and with a parity pair behind it.
-use Rattle.std.proofs.Common.{◌≡◌, ℕ, zero, suc, ◌+◌, ◌-◌, ◌<◌, List, [], ◌∷◌, ◌++◌, length, get_or, bit_xor, refl, sym, ap, ◌∙◌, arith, lit<, append_assoc, subst}
+use Rattle.std.proofs.Common.{◌≡◌, ◌≢◌, ℕ, zero, suc, ◌+◌, ◌-◌, ◌<◌, List, [], ◌∷◌, ◌++◌, length, get_or, bit_xor, refl, sym, ap, ◌∙◌, arith, lit<, append_assoc, subst}
 use Rattle.std.specs.Int.Bits.{xor_self, xor_zero_l, xor_zero_r, xor_assoc}
 use Rattle.std.proofs.lemmas.Nat.{xor_comm, xor_lt}
 use Rattle.std.proofs.lemmas.List.{length-set}
@@ -7,8 +7,9 @@ use Rattle.cd_code.specs.Field.{AreBytes, double, power, product}
 use Rattle.cd_code.specs.Syndrome.{first_syndrome, second_syndrome, IsCodeWord, SameSums, added}
 use Rattle.cd_code.specs.Laws.{DifferAtMostInLast}
 use Rattle.cd_code.proofs.ListLemmas.{DifferAtMostInLast-tail}
-use Rattle.cd_code.proofs.XorLemmas.{xor_twice, xor_swap, xor_cancel}
+use Rattle.cd_code.proofs.XorLemmas.{same_from_xor, xor_cancel, xor_cancel_right, xor_swap, xor_twice}
 use Rattle.cd_code.proofs.FieldLemmas.{double-xor, double-lt, double-zero, product-xor, product-lt, product-one, product-power, product-power_suc, power-lt, third_tripled, tripled_third}
+use Rattle.cd_code.proofs.FieldTableLemmas.{product-power_moves, product-power_moves_on}
 
 pub first_syndrome-nil : first_syndrome [] ≡ 0
 unfolding first_syndrome
@@ -157,6 +158,22 @@ SameSums-change v len place d moved p long inside below moves e =
           ∙ ap (bit_xor (bit_xor s moved)) back
           ∙ xor_twice s moved;
     }
+
+-- and where d is not 0, neither of the pair is
+pub pair-nonzero : (weight d moved p : ℕ) → 1 < weight → weight < 255 → 0 < d → d < 256
+    → moved ≡ product (power weight) d → p ≡ product 244 (bit_xor moved d) → (p ≢ 0) × (bit_xor p d ≢ 0)
+pair-nonzero weight d moved p more below nonzero byte moves e =
+    let moved_lt : moved < 256 = rw moves (product-lt (power weight) d (power-lt weight)) in
+    let tripled : bit_xor (double p) p ≡ bit_xor moved d =
+    ap (λ z. bit_xor (double z) z) e ∙ third_tripled (bit_xor moved d) (xor_lt 8 moved d moved_lt byte) in (
+      λ none.
+      let nothing : bit_xor moved d ≡ 0 = sym tripled ∙ ap (λ z. bit_xor (double z) z) none ∙ xor_zero_r (double 0) ∙ double-zero in
+      product-power_moves weight d (omega arith) below nonzero byte (sym moves ∙ same_from_xor moved d nothing),
+      λ none.
+      let same : p ≡ d = same_from_xor p d none in
+      let doubled : moved ≡ double d = xor_cancel_right moved (double d) d (sym tripled ∙ ap (λ z. bit_xor (double z) z) same) in
+      product-power_moves_on weight d more (omega arith) nonzero byte (sym moves ∙ doubled),
+    )
 
 -- two bytes follow from both their syndromes
 pair_same : (a b c d : ℕ) → a < 256 → b < 256 → c < 256 → d < 256

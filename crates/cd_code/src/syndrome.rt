@@ -1,8 +1,7 @@
 //! Syndromes and parity pairs of one code word (ECMA-130, Annex A).
 
-ghost use Rattle.std.specs.Prelude.{◌≡◌, ℕ, ◌+◌, ◌-◌, ◌<◌, ◌≤◌, List, [], ◌∷◌, ◌++◌, length};
-ghost use Rattle.cd_code.specs.Field.{AreBytes};
-ghost use Rattle.cd_code.specs.Syndrome.{first_syndrome, second_syndrome, IsCodeWord, SameSums, added};
+ghost use Rattle.std.specs.Prelude.{◌≡◌, ◌≢◌, ◌+◌, ◌<◌, ◌≤◌, [], ◌∷◌, ◌++◌};
+ghost use Rattle.cd_code.specs.Syndrome.{Balances, IsCodeWord, IsPair, first_syndrome, second_syndrome};
 
 use crate::field::{INVERSE_OF_THREE, alpha_power, doubled, times};
 
@@ -24,8 +23,7 @@ pub fn syndromes(v: &[u8]) -> (u8, u8)
 /// The two parity bytes that make a code word of any list followed by them, from the list's own two
 /// syndromes, as [`syndromes`] gives them (ECMA-130, Annex A).
 pub fn pair_from(plain: u8, weighted: u8) -> (u8, u8)
-    ensures { (v : List ℕ) → AreBytes v → first_syndrome v ≡ plain → second_syndrome v ≡ weighted
-        → IsCodeWord (v ++ result.0 ∷ result.1 ∷ []) }
+    ensures { IsPair plain weighted result.0 result.1 }
 {
     let first = times(INVERSE_OF_THREE, plain ^ doubled(doubled(weighted)));
     (first, plain ^ first)
@@ -40,12 +38,13 @@ pub fn parity_pair(v: &[u8]) -> (u8, u8)
 }
 
 /// What has to be added to the last two bytes of a list of `len` bytes, its parity, so that both its
-/// syndromes stay when `d` is added to the byte at `place` in front of them (ECMA-130, Annex A).
+/// syndromes stay when `d` is added to the byte at `place` in front of them; neither is `00` unless `d` is (ECMA-130,
+/// Annex A).
 pub fn pair_change(len: usize, place: usize, d: u8) -> (u8, u8)
     requires in_front { place + 2 < len }
     requires short { len ≤ 255 }
-    ensures { (v : List ℕ) → AreBytes v → length v ≡ len
-        → SameSums (added (added (added v place d) (len - 2) result.0) (len - 1) result.1) v }
+    ensures balances { Balances len place d result.0 result.1 }
+    ensures nonzero { d ≢ 0 → (result.0 ≢ 0) × (result.1 ≢ 0) }
 {
     let moved = times(alpha_power((len - 1 - place) as u32), d);
     let first = times(INVERSE_OF_THREE, moved ^ d);

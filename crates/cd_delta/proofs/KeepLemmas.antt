@@ -27,12 +27,16 @@ pub record IsColumnPair (plane row column d : ℕ) (t : Change × Change) : Type
   pub first_at : t.0.place ≡ place_of plane (1032 + column)
   pub second_at : t.1.place ≡ place_of plane (1075 + column)
   pub balances : Balances 26 row d t.0.d t.1.d
+  pub nonzero : d ≢ 0 → (t.0.d ≢ 0) × (t.1.d ≢ 0)
+  pub bytes : (t.0.d < 256) × (t.1.d < 256)
 
 -- the same of the diagonal through a cell
 pub record IsDiagonalPair (plane row column d : ℕ) (t : Change × Change) : Type 0 where
   pub first_at : t.0.place ≡ place_of plane (1118 + diagonal_at row column)
   pub second_at : t.1.place ≡ place_of plane (1144 + diagonal_at row column)
   pub balances : Balances 45 column d t.0.d t.1.d
+  pub nonzero : d ≢ 0 → (t.0.d ≢ 0) × (t.1.d ≢ 0)
+  pub bytes : (t.0.d < 256) × (t.1.d < 256)
 
 -- d is added to the byte of a cell in front of the parity, and the eight changes follow from it
 pub record AreCarried (plane row column place d : ℕ) (t : Eight) : Type 0 where

@@ -1,4 +1,5 @@
 mod AddLemmas
+mod AmountLemmas
 mod KeepLemmas
 mod PlaceFacts
 pub mod UserLemmas

@@ -1,5 +1,5 @@
 -- At which index of a column or a diagonal a place of the sector stands (ECMA-130, Annex A).
-use Rattle.std.proofs.Common.{◌≡◌, ◌≢◌, ◌⊎◌, ℕ, ◌+◌, ◌*◌, ◌%◌, ◌<◌, ◌≤◌, inl, inr, get_or, sym, ap, ◌∙◌, arith}
+use Rattle.std.proofs.Common.{◌≡◌, ◌≢◌, ◌↔◌, ◌⊎◌, ℕ, ◌+◌, ◌*◌, ◌%◌, ◌<◌, ◌≤◌, inl, inr, get_or, refl, sym, ap, ◌∙◌, arith}
 use Rattle.std.proofs.lemmas.Bool.{cases_eq, cases_lt}
 use Rattle.cd_sector.specs.CodeWords.{place_of, column_places, diagonal_places}
 use Rattle.cd_sector.proofs.PlaceLemmas.{length-column_places, length-diagonal_places, column_place, diagonal_place, diagonal_place-first, diagonal_place-second}
@@ -162,3 +162,21 @@ diagonal-misses_second plane n p m q hplane hn hp hm e apart =
             ]
           ];
     }
+
+-- ---- the one diagonal of a row and a column
+
+pub one_diagonal-told : (plane row column l n k : ℕ) → plane < 2 → row < 26 → column < 43 → l < 2 → n < 26 → k < 45
+    → (get_or (diagonal_places l n) k 0 ≡ place_of plane (43 * row + column))
+    ↔ ((l ≡ plane) × (n ≡ diagonal_at row column) × (k ≡ column))
+one_diagonal-told plane row column l n k hp hr hc hl hn hk = (
+  λ same. elim (diagonal_index l n k hn hk) [
+    | inl front ↦ (omega arith, omega arith, omega arith)
+    | inr past ↦ elim past [ inl first ↦ absurd (omega arith) | inr second ↦ absurd (omega arith) ]
+  ],
+  λ is.
+  let here = diagonal-lies plane row column (diagonal_at row column) (place_of plane (43 * row + column)) hp hr hc refl refl in
+  ap (λ i. get_or (diagonal_places i n) k 0) is.0
+  ∙ ap (λ i. get_or (diagonal_places plane i) k 0) is.1
+  ∙ ap (λ i. get_or (diagonal_places plane (diagonal_at row column)) i 0) is.2
+  ∙ here.at,
+)

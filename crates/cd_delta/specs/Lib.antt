@@ -1,2 +1,3 @@
+pub mod Laws
 pub mod ParityChanges
 pub mod Writing

@@ -1,6 +1,6 @@
 //! What the change of one byte changes in the parity (ECMA-130, Annex A).
 
-ghost use Rattle.std.specs.Prelude.{◌≡◌, ℕ, ◌+◌, ◌*◌, ◌-◌, ◌/◌, ◌%◌, ◌<◌, ◌≤◌, All, List, length, map, nat_eq};
+ghost use Rattle.std.specs.Prelude.{◌≡◌, ◌≢◌, ℕ, ◌+◌, ◌*◌, ◌-◌, ◌/◌, ◌%◌, ◌<◌, ◌≤◌, All, List, length, map, nat_eq};
 ghost use Rattle.std.specs.List.{IsDistinct};
 ghost use Rattle.cd_code.specs.Field.{AreBytes};
 ghost use Rattle.cd_code.specs.Syndrome.{Balances, added};
@@ -42,7 +42,8 @@ struct Cell {
 }
 
 /// The eight changes of parity bytes that carry the change of the byte at `place`, 12 to 2075, by `d`, in any
-/// sector, consistent or not: all 276 syndromes stay. First the two parity bytes of the P column, then those of
+/// sector, consistent or not: all 276 syndromes stay, and no other amounts at these places do that. None is `00` unless
+/// `d` is. First the two parity bytes of the P column, then those of
 /// the Q diagonals of the byte itself, of the first and of the second P byte (ECMA-130, Annex A).
 pub fn parity_changes(place: u16, d: u8) -> [Change; 8]
     requires from { 12 ≤ place }
@@ -52,6 +53,9 @@ pub fn parity_changes(place: u16, d: u8) -> [Change; 8]
     ensures distinct { IsDistinct nat_eq (map (λ c. c.place) result) }
     ensures keeps { (s : List ℕ) → AreBytes s → length s ≡ 2352
         → SameSyndromes (changed (added s place d) result) s }
+    ensures alone { (others : List Change) → map (λ c. c.place) others ≡ parity_places place → All (λ c. c.d < 256) others
+        → (s : List ℕ) → AreBytes s → length s ≡ 2352 → SameSyndromes (changed (added s place d) others) s → others ≡ result }
+    ensures nonzero { d ≢ 0 → All (λ c. c.d ≢ 0) result }
 {
     let cell = cell_of(place);
     let (first, second) = column_changes(cell, d);
@@ -106,6 +110,7 @@ fn column_changes(cell: Cell, d: u8) -> (Change, Change)
     ensures first { result.0.place ≡ place_of cell.plane (1032 + cell.column) }
     ensures second { result.1.place ≡ place_of cell.plane (1075 + cell.column) }
     ensures balances { Balances 26 cell.row d result.0.d result.1.d }
+    ensures nonzero { d ≢ 0 → (result.0.d ≢ 0) × (result.1.d ≢ 0) }
 {
     let (first, second) = pair_change(26, cell.row as usize, d);
     (
@@ -119,6 +124,7 @@ fn diagonal_changes(cell: Cell, d: u8) -> (Change, Change)
     ensures first { result.0.place ≡ place_of cell.plane (1118 + diagonal_at cell.row cell.column) }
     ensures second { result.1.place ≡ place_of cell.plane (1144 + diagonal_at cell.row cell.column) }
     ensures balances { Balances 45 cell.column d result.0.d result.1.d }
+    ensures nonzero { d ≢ 0 → (result.0.d ≢ 0) × (result.1.d ≢ 0) }
 {
     let diagonal = (cell.row + 52 - cell.column) % 26;
     let (first, second) = pair_change(45, cell.column as usize, d);

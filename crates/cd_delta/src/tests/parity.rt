@@ -1,6 +1,6 @@
 ghost use Rattle.std.specs.Prelude.{◌<◌, ◌≤◌};
 
-use crate::{Change, change_byte, parity_changes};
+use crate::{Change, change_byte, one_diagonal, parity_changes};
 use cd_sector::Sector;
 use std::process::Abort;
 
@@ -105,4 +105,9 @@ fn a_byte_and_its_eight(rt: HostRuntime) {
         let wanted = 0xFF ^ amount_at(place, &amounts);
         assert_eq!(rt; s.byte(place), wanted, "byte {place}");
     }
+}
+
+#[test]
+fn laws_can_be_called() {
+    one_diagonal();
 }

@@ -1,0 +1,11 @@
+-- What follows from the definitions alone; each is the contract of a function of `laws.rt`.
+use Rattle.std.specs.Prelude.{◌≡◌, ◌↔◌, ℕ, ◌+◌, ◌*◌, ◌<◌, slice_index}
+use Rattle.cd_sector.specs.CodeWords.{diagonal_places, place_of}
+use Rattle.cd_delta.specs.ParityChanges.{diagonal_at}
+
+-- the place in a row and a column is in the diagonal of their difference, at the column's number, and nowhere else in any
+abbrev pub OneDiagonal : Type 0
+OneDiagonal =
+    (plane row column l n k : ℕ) → plane < 2 → row < 26 → column < 43 → l < 2 → n < 26 → k < 45
+    → (slice_index (diagonal_places l n) k ≡ place_of plane (43 * row + column))
+    ↔ ((l ≡ plane) × (n ≡ diagonal_at row column) × (k ≡ column))
