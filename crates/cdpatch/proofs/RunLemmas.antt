@@ -1,10 +1,12 @@
 -- How a line of the program's own goes out, and how a command ends.
-use Rattle.std.proofs.Common.{◌≡◌, ℕ, ◌+◌, ◌<◌, List, [], length, take, drop, Result, Ok, Err, is_ok, refl, sym, ap, ◌∙◌, inl, inr, append-nil, take-append-drop}
+use Rattle.std.proofs.Common.{◌≡◌, ◌≢◌, ◌⊎◌, arith, ℕ, ◌+◌, ◌<◌, List, [], length, take, drop, Result, Ok, Err, is_ok, refl, sym, ap, ◌∙◌, inl, inr, append-nil, take-append-drop}
 use Rattle.std.specs.Io.KnownBytes.{Appends, Keeps}
 use Rattle.std.proofs.KnownBytes.{Appends-kept}
 use Rattle.cd_stream.specs.Stream.{Outgoing}
 use Rattle.cd_stream.specs.Transfer.{Counts}
 use Rattle.cd_stream.specs.declared.sink.SinkFailed.{SinkFailed}
+use Rattle.cd_image.specs.declared.fault.Fault.{Fault}
+use Rattle.cd_image.specs.declared.fault.Fault.TheVariants.{Log, Read, TooLong, Write}
 use Rattle.cdpatch.specs.Run.{SaysLine}
 
 module _ (line : List ℕ) (before after : Outgoing) where
@@ -32,3 +34,14 @@ module _ (line : List ℕ) (before after : Outgoing) where
     begins = ([], sym (append-nil line));
     outcome = inr (count ∙ ap (λ n. n + 1) kept);
   }
+
+-- a count that has risen is another
+pub one-more : {m n : ℕ} → m ≡ n + 1 → m ≢ n
+one-more up same = omega (arith, up, same)
+
+-- what each fault shows
+pub fault-counts : {A B C D : Type 0} (fault : Fault) → (fault ≡ Read → A) → (fault ≡ Write → B) → (fault ≡ Log → C) → (fault ≡ TooLong → D) → A ⊎ B ⊎ C ⊎ D
+fault-counts Read a b c d = inl (a refl)
+fault-counts Write a b c d = inr (inl (b refl))
+fault-counts Log a b c d = inr (inr (inl (c refl)))
+fault-counts TooLong a b c d = inr (inr (inr (d refl)))

@@ -1,7 +1,12 @@
 -- What the program does with the answer of a call on an image: the fault's line, and the status.
-use Rattle.std.specs.Prelude.{◌≡◌, ◌≢◌, ℕ, ◌==◌, ◌+◌, ◌⊎◌, if◌then◌else◌, List, [], true, codes, Result, Ok, Err}
+use Rattle.std.specs.Prelude.{◌≡◌, ◌≢◌, ℕ, ◌==◌, ◌+◌, ◌<◌, ◌⊎◌, if◌then◌else◌, List, [], ◌++◌, length, Some, true, codes, Result, Ok, Err}
 use Rattle.std.specs.Io.KnownBytes.{Appends}
-use Rattle.cd_stream.specs.Stream.{IsBeginning, Outgoing}
+use Rattle.cd_stream.specs.Stream.{Incoming, IsBeginning, Outgoing}
+use Rattle.cd_script.specs.declared.patch.Patch.{Patch}
+use Rattle.cd_image.specs.Image.{image_limit}
+use Rattle.cd_image.specs.PatchLog.{log_text, patch_tally}
+use Rattle.cd_image.specs.Patched.{EachRun}
+use Rattle.cd_image.specs.Report.{Telling}
 use Rattle.cd_image.specs.declared.auditing.AuditTally.{AuditTally}
 use Rattle.cd_image.specs.declared.fault.Fault.{Fault}
 use Rattle.cd_image.specs.declared.fault.Fault.TheVariants.{Log, Read, TooLong, Write}
@@ -46,3 +51,25 @@ pub record Runs {T : Type 0} (Does : Outgoing → Result T Fault → Type 0) (ow
   pub middle : Outgoing
   pub does : Does middle result
   pub ends : Ends own status_of result middle after status
+
+-- ---- the same in plain words
+
+-- where the image and the sink tell their bytes: the whole image was read, the sink has got its text behind what it had, and the
+-- status is that of its tally
+abbrev pub TellsText : {T : Type 0} → Telling T → (T → ℕ) → Incoming → Incoming → Outgoing → Outgoing → ℕ → Type 0
+TellsText telling status_of image image' out out' status =
+    (bytes earlier : List ℕ) → image.rest ≡ Some bytes → out.written ≡ Some earlier
+    → (image'.rest ≡ Some []) × (out'.written ≡ Some (earlier ++ telling.text bytes)) × (status ≡ status_of (telling.tally bytes))
+
+-- where the image and the log tell their bytes: the log has got the log of the patches behind what it had, and the status is that
+-- of its counts
+abbrev pub TellsPatches : List Patch → ℕ → Incoming → Outgoing → Outgoing → ℕ → Type 0
+TellsPatches patches base image log log' status =
+    (bytes earlier : List ℕ) → image.rest ≡ Some bytes → log.written ≡ Some earlier
+    → EachRun patches base bytes (λ outcomes last.
+    (log'.written ≡ Some (earlier ++ log_text patches outcomes)) × (status ≡ script_status (patch_tally bytes outcomes)))
+
+-- where the image tells its bytes, a byte was read behind the millionth sector
+abbrev pub IsTooLong : Incoming → Incoming → Type 0
+IsTooLong image image' =
+    (bytes left : List ℕ) → image.rest ≡ Some bytes → image'.rest ≡ Some left → image_limit + length left < length bytes

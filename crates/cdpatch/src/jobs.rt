@@ -9,7 +9,7 @@ ghost use Rattle.cdpatch.specs.Program.{ReadsScript, TakesImage, TakesScript, Te
 ghost use Rattle.cdpatch.specs.Run.{audit_status};
 
 use crate::host::{Host, NoFile};
-use crate::run::{FAILED, run_apply, run_audit, run_check, run_list, say};
+use crate::run::{FAILED, fail, run_apply, run_audit, run_check, run_list, say};
 use crate::script::{load_script, read_script};
 use cd_command::{Job, LineFault, NO_MEMORY, job_of, line_of};
 use cd_image::{MAX_BASE, Sink, Source};
@@ -25,15 +25,6 @@ const NO_IMAGE: &str = "cdpatch: cannot open the image\n";
 
 const NO_OUTPUT: &str = "cdpatch: cannot make the output file\n";
 
-/// Says a line, and answers the status of a failure.
-pub fn fail<O: Sink>(line: &str, out: &mut O) -> u8
-    requires { (O.seen out.old).failures < 4294967295 }
-    ensures { Fails line.now (O.seen out.old) (O.seen out.new) result }
-{
-    let _ = say(line.as_bytes(), out);
-    FAILED
-}
-
 /// Says why there is no file, by the line for one that was refused, and answers the status.
 #[tactic(auto, unfolding(crate::specs::Program::missing_line))]
 fn fail_without<O: Sink>(fault: NoFile, line: &str, out: &mut O) -> u8
@@ -41,8 +32,8 @@ fn fail_without<O: Sink>(fault: NoFile, line: &str, out: &mut O) -> u8
     ensures { Fails (missing_line line.now fault) (O.seen out.old) (O.seen out.new) result }
 {
     match fault {
-        NoFile::Refused => fail(line, out),
-        NoFile::NoMemory => fail(NO_MEMORY, out),
+        NoFile::Refused => fail(line.as_bytes(), out),
+        NoFile::NoMemory => fail(NO_MEMORY.as_bytes(), out),
     }
 }
 

@@ -2,7 +2,8 @@
 
 ghost use Rattle.std.specs.Prelude.{◌<◌};
 
-use crate::jobs::{do_words, fail};
+use crate::jobs::do_words;
+use crate::run::fail;
 use crate::system::{BUFFER_SIZE, System};
 use cd_command::NO_MEMORY;
 use cd_image::{Sink, ToWrite};
@@ -17,7 +18,7 @@ pub fn run(rt: &HostRuntime) -> u8 {
     let _spare = (fs::open(rt, "/"), fs::open(rt, "/"), fs::open(rt, "/"));
     match BufWriter::with_capacity(rt.alloc(), BUFFER_SIZE, rt.stdout()) {
         Ok(writer) => do_given(rt, &mut ToWrite::new(writer)),
-        Err(_) => fail(NO_MEMORY, &mut ToWrite::new(rt.stdout())),
+        Err(_) => fail(NO_MEMORY.as_bytes(), &mut ToWrite::new(rt.stdout())),
     }
 }
 
@@ -26,8 +27,8 @@ fn do_given<O: Sink>(rt: &HostRuntime, out: &mut O) -> u8
 {
     match words_of(rt) {
         Ok(words) => do_words(rt.alloc(), &mut System::new(rt), words, out),
-        Err(error) if error.kind() == ErrorKind::OutOfMemory => fail(NO_MEMORY, out),
-        Err(_) => fail("cdpatch: the words are not text\n", out),
+        Err(error) if error.kind() == ErrorKind::OutOfMemory => fail(NO_MEMORY.as_bytes(), out),
+        Err(_) => fail(b"cdpatch: the words are not text\n", out),
     }
 }
 

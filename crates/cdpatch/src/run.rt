@@ -1,12 +1,12 @@
 //! The commands: a call on an image, then the line of its fault, and the status.
 
-ghost use Rattle.std.specs.Prelude.{◌≡◌, ◌≢◌, ◌<◌, ◌≤◌};
-ghost use Rattle.cd_image.specs.Applying.{Applies, Checks, streams};
+ghost use Rattle.std.specs.Prelude.{◌≡◌, ◌≢◌, ◌⊎◌, ◌<◌, ◌≤◌};
+ghost use Rattle.cd_image.specs.Applying.{Applies, Checks, HoldsFew, WritesPatched, streams};
 ghost use Rattle.cd_image.specs.AuditText.{auditing};
 ghost use Rattle.cd_image.specs.ListText.{listing};
-ghost use Rattle.cd_image.specs.Report.{Reports};
+ghost use Rattle.cd_image.specs.Report.{EndsWell, Reports};
 ghost use Rattle.cd_stream.specs.Transfer.{Counts};
-ghost use Rattle.cdpatch.specs.Run.{Runs, SaysFault, SaysLine, audit_status, fault_line, script_status};
+ghost use Rattle.cdpatch.specs.Run.{IsTooLong, Runs, SaysFault, SaysLine, TellsPatches, TellsText, audit_status, fault_line, script_status};
 
 use cd_image::{
     Fault, MAX_BASE, Sink, SinkFailed, Source, Tally, apply, audit, check, list, write_all,
@@ -35,6 +35,16 @@ pub fn say<O: Sink>(line: &[u8], out: &mut O) -> Result<(), SinkFailed>
     out.finish()
 }
 
+/// Says a line, and answers the status of a failure.
+pub fn fail<O: Sink>(line: &[u8], out: &mut O) -> u8
+    requires { (O.seen out.old).failures < 4294967295 }
+    ensures line { SaysLine line.now (O.seen out.old) (O.seen out.new) }
+    ensures status { result ≡ 2 }
+{
+    let _ = say(line, out);
+    FAILED
+}
+
 #[tactic(auto, unfolding(crate::specs::Run::fault_line))]
 fn line_of(fault: Fault) -> &'static [u8]
     ensures { result.now ≡ fault_line fault }
@@ -53,10 +63,10 @@ fn end_by<O: Sink>(fault: Fault, own: Fault, out: &mut O) -> u8
     ensures line { SaysFault own fault (O.seen out.old) (O.seen out.new) }
     ensures status { result ≡ 2 }
 {
-    if fault != own {
-        let _ = say(line_of(fault), out);
+    if fault == own {
+        return FAILED;
     }
-    FAILED
+    fail(line_of(fault), out)
 }
 
 /// Lists an image to `out`, of which the first block has the number `base`, and answers the status: 0, or 2
@@ -65,8 +75,14 @@ pub fn run_list<I: Source, O: Sink>(image: &mut I, base: u32, out: &mut O) -> u8
     requires base { base ≤ MAX_BASE }
     requires image_countable { (I.seen image.old).failures < 4294967295 }
     requires out_countable { (O.seen out.old).failures < 4294967295 }
-    ensures { Runs (λ out' answer. Reports (listing base) (I.seen image.old) (I.seen image.new) (O.seen out.old) out' answer)
+    ensures report { Runs (λ out' answer. Reports (listing base) (I.seen image.old) (I.seen image.new) (O.seen out.old) out' answer)
         Fault.Write (λ _. DONE) (O.seen out.new) result }
+
+    // What it says where nothing failed, and when something has.
+    ensures text { result ≢ 2 → TellsText (listing base) (λ _. DONE) (I.seen image.old) (I.seen image.new) (O.seen out.old) (O.seen out.new) result }
+    ensures ends_well { result ≢ 2 → EndsWell (I.seen image.old) (I.seen image.new) (O.seen out.old) (O.seen out.new) }
+    ensures failed { result ≡ 2 → ((I.seen image.new).failures ≢ (I.seen image.old).failures) ⊎ ((O.seen out.new).failures ≢ (O.seen out.old).failures)
+        ⊎ IsTooLong (I.seen image.old) (I.seen image.new) }
 {
     match list(image, base, out) {
         Ok(_) => DONE,
@@ -80,8 +96,14 @@ pub fn run_audit<I: Source, O: Sink>(image: &mut I, base: u32, out: &mut O) -> u
     requires base { base ≤ MAX_BASE }
     requires image_countable { (I.seen image.old).failures < 4294967295 }
     requires out_countable { (O.seen out.old).failures < 4294967295 }
-    ensures { Runs (λ out' answer. Reports (auditing base) (I.seen image.old) (I.seen image.new) (O.seen out.old) out' answer)
+    ensures report { Runs (λ out' answer. Reports (auditing base) (I.seen image.old) (I.seen image.new) (O.seen out.old) out' answer)
         Fault.Write audit_status (O.seen out.new) result }
+
+    // What it says where nothing failed, and when something has.
+    ensures text { result ≢ 2 → TellsText (auditing base) audit_status (I.seen image.old) (I.seen image.new) (O.seen out.old) (O.seen out.new) result }
+    ensures ends_well { result ≢ 2 → EndsWell (I.seen image.old) (I.seen image.new) (O.seen out.old) (O.seen out.new) }
+    ensures failed { result ≡ 2 → ((I.seen image.new).failures ≢ (I.seen image.old).failures) ⊎ ((O.seen out.new).failures ≢ (O.seen out.old).failures)
+        ⊎ IsTooLong (I.seen image.old) (I.seen image.new) }
 {
     match audit(image, base, out) {
         Ok(tally) => { if tally.findings == 0 { DONE } else { FOUND } }
@@ -102,8 +124,14 @@ pub fn run_check<I: Source, L: Sink>(image: &mut I, script: &Script, base: u32, 
     requires base { base ≤ MAX_BASE }
     requires image_countable { (I.seen image.old).failures < 4294967295 }
     requires log_countable { (L.seen log.old).failures < 4294967295 }
-    ensures { Runs (λ log' answer. Checks script.now base (I.seen image.old) (I.seen image.new) (L.seen log.old) log' answer)
+    ensures report { Runs (λ log' answer. Checks script.now base (I.seen image.old) (I.seen image.new) (L.seen log.old) log' answer)
         Fault.Log script_status (L.seen log.new) result }
+
+    // What it says where nothing failed, and when something has.
+    ensures log { result ≢ 2 → TellsPatches script.now base (I.seen image.old) (L.seen log.old) (L.seen log.new) result }
+    ensures ends_well { result ≢ 2 → EndsWell (I.seen image.old) (I.seen image.new) (L.seen log.old) (L.seen log.new) }
+    ensures failed { result ≡ 2 → ((I.seen image.new).failures ≢ (I.seen image.old).failures) ⊎ ((L.seen log.new).failures ≢ (L.seen log.old).failures)
+        ⊎ IsTooLong (I.seen image.old) (I.seen image.new) }
 {
     match check(image, script, base, log) {
         Ok(tally) => status_of(&tally),
@@ -124,9 +152,19 @@ pub fn run_apply<I: Source, O: Sink, L: Sink>(
     requires image_countable { (I.seen image.old).failures < 4294967295 }
     requires out_countable { (O.seen out.old).failures < 4294967295 }
     requires log_countable { (L.seen log.old).failures < 4294967295 }
-    ensures { Runs (λ log' answer. Applies script.now base (streams (I.seen image.old) (O.seen out.old) (L.seen log.old))
+    ensures report { Runs (λ log' answer. Applies script.now base (streams (I.seen image.old) (O.seen out.old) (L.seen log.old))
         (streams (I.seen image.new) (O.seen out.new) log') answer)
         Fault.Log script_status (L.seen log.new) result }
+
+    // What it says where nothing failed, and when something has.
+    ensures output { result ≢ 2 → WritesPatched script.now base (I.seen image.old) (I.seen image.new) (O.seen out.old) (O.seen out.new) }
+    ensures log { result ≢ 2 → TellsPatches script.now base (I.seen image.old) (L.seen log.old) (L.seen log.new) result }
+    ensures output_ends_well { result ≢ 2 → EndsWell (I.seen image.old) (I.seen image.new) (O.seen out.old) (O.seen out.new) }
+    ensures log_ends_well { result ≢ 2 → EndsWell (I.seen image.old) (I.seen image.new) (L.seen log.old) (L.seen log.new) }
+    ensures failed { result ≡ 2 → ((I.seen image.new).failures ≢ (I.seen image.old).failures) ⊎ ((O.seen out.new).failures ≢ (O.seen out.old).failures)
+        ⊎ ((L.seen log.new).failures ≢ (L.seen log.old).failures) ⊎ IsTooLong (I.seen image.old) (I.seen image.new) }
+    ensures holds_few { HoldsFew (streams (I.seen image.old) (O.seen out.old) (L.seen log.old))
+        (streams (I.seen image.new) (O.seen out.new) (L.seen log.new)) }
 {
     match apply(image, script, base, out, log) {
         Ok(tally) => status_of(&tally),

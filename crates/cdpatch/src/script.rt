@@ -9,7 +9,7 @@ ghost use Rattle.cd_script.specs.declared.patch.Patch.{Patch};
 ghost use Rattle.cdpatch.specs.Run.{SaysLine};
 ghost use Rattle.cdpatch.specs.ScriptLines.{Gathers, Loads, TellsFailedReads, load_line, numbered_line, script_line};
 
-use crate::run::{FAILED, say};
+use crate::run::fail;
 use cd_image::{Line, Sink, Source, SourceFailed};
 use cd_script::{MAX_TEXT, Script, ScriptFault, parse};
 use std::alloc::{AllocError, Global};
@@ -87,16 +87,6 @@ fn line_of(fault: ScriptFault) -> Line
     }
 }
 
-/// Says the line of a fault, and answers the status.
-fn refused<L: Sink>(line: &[u8], log: &mut L) -> u8
-    requires { (L.seen log.old).failures < 4294967295 }
-    ensures line { SaysLine line.now (L.seen log.old) (L.seen log.new) }
-    ensures status { result ≡ 2 }
-{
-    let _ = say(line, log);
-    FAILED
-}
-
 /// The script of a text of at most 67,108,864 bytes. For a fault of it the fault's line goes to `log`, and the
 /// answer is the status 2.
 pub fn read_script<L: Sink>(alloc: Global, text: &[u8], log: &mut L) -> Result<Script, u8>
@@ -110,7 +100,7 @@ pub fn read_script<L: Sink>(alloc: Global, text: &[u8], log: &mut L) -> Result<S
 {
     match parse(alloc, text) {
         Ok(script) => Ok(script),
-        Err(fault) => Err(refused(line_of(fault).as_slice(), log)),
+        Err(fault) => Err(fail(line_of(fault).as_slice(), log)),
     }
 }
 
@@ -164,6 +154,6 @@ pub fn load_script<I: Source, L: Sink>(
 {
     match read_all(alloc, file) {
         Ok(bytes) => Ok(bytes),
-        Err(fault) => Err(refused(load_line(fault), log)),
+        Err(fault) => Err(fail(load_line(fault), log)),
     }
 }

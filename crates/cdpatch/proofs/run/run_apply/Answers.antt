@@ -1,0 +1,17 @@
+use Rattle.std.proofs.Common.{Err, ap, ◌∙◌}
+use Rattle.cdpatch.specs.Run.{script_status}
+use Rattle.cdpatch.proofs.RunLemmas.{fault-counts, one-more}
+use Rattle.cdpatch.proofs.run.run_apply.Goals as goal
+
+pub returns-in-Ok-clause-log : goal.returns-in-Ok-clause-log
+returns-in-Ok-clause-log g c = λ done bytes earlier coming had outcomes last patched.
+    let told = c.in-Ok.ensures.log bytes earlier coming had outcomes last patched in
+    (told.0, c.status_of.ensures ∙ ap script_status told.1)
+
+pub returns-in-Err-clause-failed : goal.returns-in-Err-clause-failed
+returns-in-Err-clause-failed g c = λ failed.
+    fault-counts c.in-Err.fault
+    (λ is. one-more (c.in-Err.ensures.read_failed.0 (ap Err is)))
+    (λ is. one-more (c.in-Err.ensures.write_failed.0 (ap Err is)))
+    (λ is. one-more (ap (λ o. o.failures) (c.end_by.ensures.line.0 is) ∙ c.in-Err.ensures.log_failed.0 (ap Err is)))
+    (λ is bytes left coming stays. (c.in-Err.ensures.too_long bytes left coming stays).0 (ap Err is))
