@@ -9,6 +9,7 @@ ghost use Rattle.cd_patch.specs.Deciding.{outcome};
 ghost use Rattle.cd_patch.specs.Effect.{Effect};
 ghost use Rattle.cd_patch.specs.Laws.{is_applied};
 ghost use Rattle.cd_stream.specs.Stream.{Incoming, Outgoing};
+ghost use Rattle.cd_stream.specs.Transfer.{Flushes};
 ghost use Rattle.cd_image.specs.Applying.{Applies, Streams, streams};
 ghost use Rattle.cd_image.specs.Passing.{GoesOn, HasShortTail, IsEnded, ReadsSector, Steps, StepsOrTakes, Turns, left_to_do};
 
@@ -19,7 +20,7 @@ use arrayvec::ArrayVec;
 use cd_patch::{Outcome, blocks_met, take_patch};
 use cd_script::Patch;
 use cd_sector::{SECTOR_SIZE, Sector};
-use cd_stream::{Sink, Source, fill, write_all};
+use cd_stream::{Sink, SinkFailed, Source, fill, write_all};
 
 /// How far a pass has come.
 #[derive(Drop)]
@@ -308,10 +309,18 @@ impl Pass {
         write_all(out, &self.bytes[..tail])?;
         send_missing(&patches[self.decided..], log)?;
         send_counts(tally.applied, tally.refused, log)?;
-        out.finish()?;
+        finish_output(out)?;
         finish_log(log)?;
         Ok(tally)
     }
+}
+
+/// Passes on all that the output still holds back.
+fn finish_output<O: Sink>(out: &mut O) -> Result<(), SinkFailed>
+    requires { (O.seen out.old).failures < 4294967295 }
+    ensures { Flushes (O.seen out.old) (O.seen out.new) result }
+{
+    out.finish()
 }
 
 /// Takes a patch on the sectors of a window, of which the first is the patch's.

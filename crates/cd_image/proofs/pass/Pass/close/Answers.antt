@@ -31,15 +31,15 @@ returns-in_err-send_counts g c = λ base start image going.
     (g.L.Sink.seen c.send_missing.new.log) c.in_ok-send_missing.ensures.bytes c.in_ok-send_missing.ensures.count (length c.args.patches.now - c.args.self.applied) (omega arith)
     (g.L.Sink.seen c.send_counts.new.log) went.0 went.1 went.2 c.in_err-send_counts.ensures.count)
 
-pub returns-in_err-finish : goal.returns-in_err-finish
-returns-in_err-finish g c = λ base start image going.
-    let failed = err_from_is_err_and c.from_residual-in_err-finish.result c.from_residual-in_err-finish.ensures.1 in
+pub returns-in_err-finish_output : goal.returns-in_err-finish_output
+returns-in_err-finish_output g c = λ base start image going.
+    let failed = err_from_is_err_and c.from_residual-in_err-finish_output.result c.from_residual-in_err-finish_output.ensures.1 in
     rw (failed.1, failed.2)
     (Closes-flush c.args.patches.now base start (streams image (g.O.Sink.seen c.args.out.now) (g.L.Sink.seen c.args.log.now)) c.args.self c.unwrap_or-tail.result c.requires.ended c.unwrap_or-tail.ensures going
     (g.O.Sink.seen c.write_all.new.out) c.in_ok-write_all.ensures.bytes c.in_ok-write_all.ensures.count _ (rest_from c.args.patches.now c.args.self.decided)
     (g.L.Sink.seen c.send_missing.new.log) c.in_ok-send_missing.ensures.bytes c.in_ok-send_missing.ensures.count (length c.args.patches.now - c.args.self.applied) (omega arith)
     (g.L.Sink.seen c.send_counts.new.log) c.in_ok-send_counts.ensures.bytes c.in_ok-send_counts.ensures.count
-    (g.O.Sink.seen c.finish.new.self) c.in_err-finish.ensures.bytes c.in_err-finish.ensures.count)
+    (g.O.Sink.seen c.finish_output.new.out) c.in_err-finish_output.ensures.bytes c.in_err-finish_output.ensures.count)
 
 pub returns-in_err-finish_log : goal.returns-in_err-finish_log
 returns-in_err-finish_log g c = λ base start image going.
@@ -49,7 +49,7 @@ returns-in_err-finish_log g c = λ base start image going.
     (g.O.Sink.seen c.write_all.new.out) c.in_ok-write_all.ensures.bytes c.in_ok-write_all.ensures.count _ (rest_from c.args.patches.now c.args.self.decided)
     (g.L.Sink.seen c.send_missing.new.log) c.in_ok-send_missing.ensures.bytes c.in_ok-send_missing.ensures.count (length c.args.patches.now - c.args.self.applied) (omega arith)
     (g.L.Sink.seen c.send_counts.new.log) c.in_ok-send_counts.ensures.bytes c.in_ok-send_counts.ensures.count
-    (g.O.Sink.seen c.finish.new.self) c.in_ok-finish.ensures.bytes c.in_ok-finish.ensures.count
+    (g.O.Sink.seen c.finish_output.new.out) c.in_ok-finish_output.ensures.bytes c.in_ok-finish_output.ensures.count
     (g.L.Sink.seen c.finish_log.new.log) c.in_err-finish_log.ensures.bytes c.in_err-finish_log.ensures.count)
 
 pub returns : goal.returns
@@ -58,5 +58,5 @@ returns g c = λ base start image going.
     (g.O.Sink.seen c.write_all.new.out) c.in_ok-write_all.ensures.bytes c.in_ok-write_all.ensures.count _ (rest_from c.args.patches.now c.args.self.decided)
     (g.L.Sink.seen c.send_missing.new.log) c.in_ok-send_missing.ensures.bytes c.in_ok-send_missing.ensures.count (length c.args.patches.now - c.args.self.applied) (omega arith)
     (g.L.Sink.seen c.send_counts.new.log) c.in_ok-send_counts.ensures.bytes c.in_ok-send_counts.ensures.count
-    (g.O.Sink.seen c.finish.new.self) c.in_ok-finish.ensures.bytes c.in_ok-finish.ensures.count
-    (g.L.Sink.seen c.finish_log.new.log) c.in_ok-finish_log.ensures.bytes c.in_ok-finish_log.ensures.count c.in_ok-finish.ensures.finished c.in_ok-finish_log.ensures.finished (omega (arith, c.unwrap_or-tail.ensures, short_tail c.args.self.tail c.requires.short))
+    (g.O.Sink.seen c.finish_output.new.out) c.in_ok-finish_output.ensures.bytes c.in_ok-finish_output.ensures.count
+    (g.L.Sink.seen c.finish_log.new.log) c.in_ok-finish_log.ensures.bytes c.in_ok-finish_log.ensures.count c.in_ok-finish_output.ensures.finished c.in_ok-finish_log.ensures.finished (omega (arith, c.unwrap_or-tail.ensures, short_tail c.args.self.tail c.requires.short))
