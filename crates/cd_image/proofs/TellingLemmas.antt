@@ -5,6 +5,7 @@ use Rattle.std.proofs.KnownBytes.{Appends-nil, Appends-trans, Consumes-nil, Cons
 use Rattle.std.proofs.lemmas.Grind.{flat_map-append}
 use Rattle.cd_image.specs.Image.{image_limit, sectors, tail}
 use Rattle.cd_image.specs.Lines.{all_but_last, text_of}
+use Rattle.cd_image.specs.Reading.{ReadsSector}
 use Rattle.cd_image.specs.Report.{Reports, Telling}
 use Rattle.cd_image.specs.Telling.{Finishes, HasFailed, HasTaken, ToTell, telling_of}
 use Rattle.cd_image.specs.declared.fault.Fault.{Fault}
@@ -248,6 +249,14 @@ module _ {T : Type 0} (first now : ToTell T) (image before after : Incoming) (ou
                 (subst (IsBeginning (text_of told.sent ++ finished.0)) (sym text_is) (IsBeginning-behind (text_of told.sent) finished.0 (now.end [] left) finished.2));
           };
         }
+
+-- the next sector was not read
+pub Told-unread : {T : Type 0} (first now : ToTell T) (image before after : Incoming) (out sunk : Outgoing) (count : ℕ) → Told first now image before out sunk count → (bytes : List ℕ) (fault : Fault)
+    → ReadsSector count bytes before after (Err fault) → Reports (telling_of first) image after out sunk (Err fault)
+Told-unread first now image before after out sunk count told bytes Read r = Told-read first now image before after out sunk count told r.came r.consumes r.short r.within r.rose
+Told-unread first now image before after out sunk count told bytes TooLong r = Told-too_long first now image before after out sunk count told r.came r.consumes (omega (arith, r.one)) r.full (omega (arith, r.one)) r.kept
+Told-unread first now image before after out sunk count told bytes Write r = elim r [ ]
+Told-unread first now image before after out sunk count told bytes Log r = elim r [ ]
 
 -- ---- what is told in other words
 

@@ -12,7 +12,8 @@ use Rattle.cd_stream.specs.Stream.{Incoming, Outgoing}
 use Rattle.cd_script.specs.declared.patch.Patch.{Patch}
 use Rattle.cd_sector.specs.declared.sector.TheConstants.{SECTOR_SIZE}
 use Rattle.cd_image.specs.Applying.{Applies, Streams}
-use Rattle.cd_image.specs.Passing.{EndComes, GoesOn, Going, HasShortTail, IsEnded, ReadsSector, SectorComes, Steps, StepsOrTakes, Turns, tail_read}
+use Rattle.cd_image.specs.Passing.{GoesOn, Going, HasShortTail, IsEnded, Steps, StepsOrTakes, Turns, tail_read}
+use Rattle.cd_image.specs.Reading.{EndComes, ReadsSector, SectorComes}
 use Rattle.cd_image.specs.declared.fault.Fault.{Fault}
 use Rattle.cd_image.specs.declared.fault.Fault.TheVariants.{Log, Read, TooLong, Write}
 use Rattle.cd_image.specs.declared.pass.Pass.{Pass}
@@ -26,49 +27,46 @@ use Rattle.cd_image.proofs.KnownLemmas.{told_lengths}
 use Rattle.cd_image.proofs.PatchLogLemmas.{missing_lines}
 use Rattle.cd_image.proofs.PassingLemmas.{Going-end, Going-read, Going-send, Going-start}
 
-module _ (taken left : List Patch) (base : ℕ) (start now : Streams) (pass pass' : Pass) (image : Incoming) (unended : pass.tail ≡ None) (room : length pass.window.items < 3) (g : GoesOn taken left base start now pass) where
+module _ (taken left : List Patch) (base : ℕ) (start now : Streams) (pass : Pass) (bytes : List ℕ) (image : Incoming) (unended : pass.tail ≡ None) (room : length pass.window.items < 3) (g : GoesOn taken left base start now pass) where
   begun : Going taken left base start now pass.window.items pass.block pass.sectors pass.applied None
   begun = subst (λ t. Going taken left base start now pass.window.items pass.block pass.sectors pass.applied (tail_read t pass.bytes)) unended g
 
-  pub Steps-unread : (fault : Fault) → ReadsSector pass pass' now.image image (Err fault) → Applies (taken ++ left) base start (record now { image = image }) (Err fault)
-  Steps-unread Read r = Applies-read taken left base start now pass.window.items pass.block pass.sectors pass.applied begun image r.came r.consumes room r.short r.within r.count
-  Steps-unread TooLong r = Applies-beyond taken left base start now pass.window.items pass.block pass.sectors pass.applied begun image r.came r.consumes room r.one r.full r.count
+  pub Steps-unread : (fault : Fault) → ReadsSector pass.sectors bytes now.image image (Err fault) → Applies (taken ++ left) base start (record now { image = image }) (Err fault)
+  Steps-unread Read r = Applies-read taken left base start now pass.window.items pass.block pass.sectors pass.applied begun image r.came r.consumes room r.short r.within r.rose
+  Steps-unread TooLong r = Applies-beyond taken left base start now pass.window.items pass.block pass.sectors pass.applied begun image r.came r.consumes room r.one r.full r.kept
   Steps-unread Write r = elim r [ ]
   Steps-unread Log r = elim r [ ]
 
-  pub Steps-ended : EndComes pass pass' now.image image → GoesOn taken left base start (record now { image = image }) pass'
-  Steps-ended r =
-      let size = length-take r.left pass'.bytes in
-      subst (GoesOn taken left base start (record now { image = image })) (sym r.pass)
-      (Going-end taken left base start now pass.window.items pass.block pass.sectors pass.applied begun image (take r.left pass'.bytes) r.consumes r.count (omega (arith, size, r.short)) (omega (arith, size, r.within)) room r.at_end)
+  pub Steps-ended : (count : ℕ) → EndComes pass.sectors count bytes now.image image
+      → Going taken left base start (record now { image = image }) pass.window.items pass.block pass.sectors pass.applied (Some (take count bytes))
+  Steps-ended count r =
+      Going-end taken left base start now pass.window.items pass.block pass.sectors pass.applied begun image (take count bytes) r.consumes r.kept (omega (arith, r.size, r.short)) (omega (arith, r.size, r.within)) room r.at_end
 
-  came : SectorComes pass pass' now.image image → Going taken left base start (record now { image = image }) (pass.window.items ++ pass'.bytes ∷ []) pass.block (pass.sectors + 1) pass.applied None
-  came r = Going-read taken left base start now pass.window.items pass.block pass.sectors pass.applied begun image pass'.bytes r.consumes r.count r.size r.few room
+  module _ (r : SectorComes pass.sectors bytes now.image image) where
+    came : Going taken left base start (record now { image = image }) (pass.window.items ++ bytes ∷ []) pass.block (pass.sectors + 1) pass.applied None
+    came = Going-read taken left base start now pass.window.items pass.block pass.sectors pass.applied begun image bytes r.consumes r.kept r.size r.few room
 
-  pub Steps-ahead : SectorComes pass pass' now.image image → (items : List (List ℕ)) → items ≡ pass'.window.items ++ pass'.bytes ∷ []
-      → Going taken left base start (record now { image = image }) items pass'.block pass'.sectors pass'.applied (tail_read pass'.tail pass'.bytes)
-  Steps-ahead r items grown =
-      subst (λ ws. Going taken left base start (record now { image = image }) ws pass'.block pass'.sectors pass'.applied (tail_read pass'.tail pass'.bytes)) (sym grown)
-      (subst (λ (p : Pass). Going taken left base start (record now { image = image }) (p.window.items ++ pass'.bytes ∷ []) p.block p.sectors p.applied (tail_read p.tail pass'.bytes)) (sym r.pass)
-      (subst (λ t. Going taken left base start (record now { image = image }) (pass.window.items ++ pass'.bytes ∷ []) pass.block (pass.sectors + 1) pass.applied (tail_read t pass'.bytes)) (sym unended)
-      (came r)))
+    pub Steps-ahead : (items : List (List ℕ)) → items ≡ pass.window.items ++ bytes ∷ []
+        → Going taken left base start (record now { image = image }) items pass.block (pass.sectors + 1) pass.applied (tail_read pass.tail bytes)
+    Steps-ahead items grown =
+        subst (λ t. Going taken left base start (record now { image = image }) items pass.block (pass.sectors + 1) pass.applied (tail_read t bytes)) (sym unended)
+        (subst (λ ws. Going taken left base start (record now { image = image }) ws pass.block (pass.sectors + 1) pass.applied None) (sym grown) came)
 
-  module _ (empty : pass.window.items ≡ []) (ahead : All (λ p. pass.block < p.block) left) (r : SectorComes pass pass' now.image image) (out : Outgoing) where
-    alone : Going taken left base start (record now { image = image }) (pass'.bytes ∷ []) pass.block (pass.sectors + 1) pass.applied None
-    alone = subst (λ ws. Going taken left base start (record now { image = image }) (ws ++ pass'.bytes ∷ []) pass.block (pass.sectors + 1) pass.applied None) empty (came r)
+    module _ (empty : pass.window.items ≡ []) (ahead : All (λ p. pass.block < p.block) left) (out : Outgoing) where
+      alone : Going taken left base start (record now { image = image }) (bytes ∷ []) pass.block (pass.sectors + 1) pass.applied None
+      alone = subst (λ ws. Going taken left base start (record now { image = image }) (ws ++ bytes ∷ []) pass.block (pass.sectors + 1) pass.applied None) empty came
 
-    pub Steps-passed : Appends now.out.written out.written pass'.bytes → out.failures ≡ now.out.failures
-        → Going taken left base start (record now { image = image; out = out }) pass'.window.items (pass'.block + 1) pass'.sectors pass'.applied (tail_read pass'.tail pass'.bytes)
-    Steps-passed sent kept =
-        subst (λ (p : Pass). Going taken left base start (record now { image = image; out = out }) p.window.items (p.block + 1) p.sectors p.applied (tail_read p.tail pass'.bytes)) (sym r.pass)
-        (subst (λ t. Going taken left base start (record now { image = image; out = out }) pass.window.items (pass.block + 1) (pass.sectors + 1) pass.applied (tail_read t pass'.bytes)) (sym unended)
-        (subst (λ ws. Going taken left base start (record now { image = image; out = out }) ws (pass.block + 1) (pass.sectors + 1) pass.applied None) (sym empty)
-        (Going-send taken left base start (record now { image = image }) pass'.bytes [] pass.block (pass.sectors + 1) pass.applied None alone out sent kept r.size ahead)))
+      pub Steps-passed : Appends now.out.written out.written bytes → out.failures ≡ now.out.failures
+          → Going taken left base start (record now { image = image; out = out }) pass.window.items (pass.block + 1) (pass.sectors + 1) pass.applied (tail_read pass.tail bytes)
+      Steps-passed sent kept =
+          subst (λ t. Going taken left base start (record now { image = image; out = out }) pass.window.items (pass.block + 1) (pass.sectors + 1) pass.applied (tail_read t bytes)) (sym unended)
+          (subst (λ ws. Going taken left base start (record now { image = image; out = out }) ws (pass.block + 1) (pass.sectors + 1) pass.applied None) (sym empty)
+          (Going-send taken left base start (record now { image = image }) bytes [] pass.block (pass.sectors + 1) pass.applied None alone out sent kept r.size ahead))
 
-    pub Steps-unpassed : (n : ℕ) → n < length pass'.bytes → Appends now.out.written out.written (take n pass'.bytes) → out.failures ≡ now.out.failures + 1
-        → Applies (taken ++ left) base start (record now { image = image; out = out }) (Err Write)
-    Steps-unpassed n inside went failed =
-        Applies-write taken left base start (record now { image = image }) pass'.bytes [] pass.block (pass.sectors + 1) pass.applied None alone out n inside went failed r.size ahead
+      pub Steps-unpassed : (n : ℕ) → n < length bytes → Appends now.out.written out.written (take n bytes) → out.failures ≡ now.out.failures + 1
+          → Applies (taken ++ left) base start (record now { image = image; out = out }) (Err Write)
+      Steps-unpassed n inside went failed =
+          Applies-write taken left base start (record now { image = image }) bytes [] pass.block (pass.sectors + 1) pass.applied None alone out n inside went failed r.size ahead
 
 -- the first sector of a window goes out
 module _ (taken left : List Patch) (base : ℕ) (start now : Streams) (block count applied : ℕ) (end : Option (List ℕ)) (ahead : All (λ p. block < p.block) left) (out : Outgoing) where

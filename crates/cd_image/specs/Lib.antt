@@ -7,6 +7,7 @@ pub mod OpenRun
 pub mod Passing
 pub mod PatchLog
 pub mod Patched
+pub mod Reading
 pub mod Report
 pub mod Runs
 pub mod Telling

@@ -1,5 +1,5 @@
 -- How far a pass over an image has come that takes patches on its way: inner words of `apply` and `check`.
-use Rattle.std.specs.Prelude.{◌≡◌, ℕ, ◌+◌, ◌-◌, ◌*◌, ◌<◌, ◌≤◌, ◌⊎◌, Bool, true, false, List, [], ◌∷◌, ◌++◌, All, length, take, drop, map, Option, None, Some, IfSome, IsSome, Result, Ok, Err}
+use Rattle.std.specs.Prelude.{◌≡◌, ℕ, ◌+◌, ◌-◌, ◌*◌, ◌<◌, ◌≤◌, ◌⊎◌, List, [], ◌∷◌, ◌++◌, All, length, take, drop, map, Option, None, Some, IfSome, IsSome, Result, Ok, Err}
 use Rattle.std.specs.Io.KnownBytes.{Appends, Consumes, IsAtEnd}
 use Rattle.std.specs.List.{flat_map}
 use Rattle.cd_script.specs.declared.patch.Patch.{Patch}
@@ -10,9 +10,7 @@ use Rattle.cd_patch.specs.declared.outcome.Outcome.TheVariants.{NoBlock}
 use Rattle.cd_image.specs.Applying.{Applies, Failed, Streams}
 use Rattle.cd_image.specs.Image.{image_limit}
 use Rattle.cd_image.specs.PatchLog.{applied_count, log_lines}
-use Rattle.cd_stream.specs.Stream.{Incoming}
 use Rattle.cd_image.specs.declared.fault.Fault.{Fault}
-use Rattle.cd_image.specs.declared.fault.Fault.TheVariants.{Log, Read, TooLong, Write}
 use Rattle.cd_image.specs.declared.pass.Pass.{Pass}
 
 -- the bytes of sectors
@@ -75,50 +73,6 @@ abbrev pub StepsOrTakes : {X : Type 0} → List Patch → Patch → List Patch �
 StepsOrTakes taken p left base start decided now pass (Ok x) =
     ((pass.decided ≡ decided) × GoesOn taken (p ∷ left) base start now pass) ⊎ ((pass.decided ≡ decided + 1) × GoesOn (taken ++ p ∷ []) left base start now pass)
 StepsOrTakes taken p left base start decided now pass (Err fault) = Applies (taken ++ p ∷ left) base start now (Err fault)
-
--- ---- reading one more sector
-
--- a whole one has come
-pub record SectorComes (old new : Pass) (image image' : Incoming) : Type 0 where
-  pub consumes : Consumes image.rest image'.rest new.bytes
-  pub count : image'.failures ≡ image.failures
-  pub few : old.sectors < 1000000
-  pub size : length new.bytes ≡ SECTOR_SIZE
-  pub pass : new ≡ record old { bytes = new.bytes; sectors = old.sectors + 1 }
-
--- the end has come, and less than a sector in front of it
-pub record EndComes (old new : Pass) (image image' : Incoming) : Type 0 where
-  pub left : ℕ
-  pub short : left < SECTOR_SIZE
-  pub consumes : Consumes image.rest image'.rest (take left new.bytes)
-  pub count : image'.failures ≡ image.failures
-  pub at_end : IsAtEnd image'.rest
-  pub within : SECTOR_SIZE * old.sectors + left ≤ image_limit
-  pub pass : new ≡ record old { bytes = new.bytes; tail = Some left }
-
--- a read has failed behind a part of a sector
-pub record ReadFails (old : Pass) (image image' : Incoming) : Type 0 where
-  pub came : List ℕ
-  pub short : length came < SECTOR_SIZE
-  pub consumes : Consumes image.rest image'.rest came
-  pub count : image'.failures ≡ image.failures + 1
-  pub within : SECTOR_SIZE * old.sectors + length came ≤ image_limit
-
--- a byte has come behind the last sector that may be
-pub record TooMuchComes (old : Pass) (image image' : Incoming) : Type 0 where
-  pub came : List ℕ
-  pub one : length came ≡ 1
-  pub consumes : Consumes image.rest image'.rest came
-  pub count : image'.failures ≡ image.failures
-  pub full : SECTOR_SIZE * old.sectors ≡ image_limit
-
-abbrev pub ReadsSector : Pass → Pass → Incoming → Incoming → Result Bool Fault → Type 0
-ReadsSector old new image image' (Ok true) = SectorComes old new image image'
-ReadsSector old new image image' (Ok false) = EndComes old new image image'
-ReadsSector old new image image' (Err Read) = ReadFails old image image'
-ReadsSector old new image image' (Err TooLong) = TooMuchComes old image image'
-ReadsSector old new image image' (Err Write) = ⊥
-ReadsSector old new image image' (Err Log) = ⊥
 
 -- ---- how much is left to do, of so many patches: each turn leaves less
 

@@ -10,6 +10,7 @@ mod laws;
 mod listing;
 mod pass;
 mod patch_log;
+mod reading;
 mod telling;
 
 pub use applying::{apply, check};

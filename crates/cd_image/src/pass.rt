@@ -11,16 +11,16 @@ ghost use Rattle.cd_patch.specs.Laws.{is_applied};
 ghost use Rattle.cd_stream.specs.Stream.{Incoming, Outgoing};
 ghost use Rattle.cd_stream.specs.Transfer.{Flushes};
 ghost use Rattle.cd_image.specs.Applying.{Applies, Streams, streams};
-ghost use Rattle.cd_image.specs.Passing.{GoesOn, HasShortTail, IsEnded, ReadsSector, Steps, StepsOrTakes, Turns, left_to_do};
+ghost use Rattle.cd_image.specs.Passing.{GoesOn, HasShortTail, IsEnded, Steps, StepsOrTakes, Turns, left_to_do};
 
-use crate::MAX_SECTORS;
 use crate::fault::Fault;
 use crate::patch_log::{Tally, finish_log, send_counts, send_missing, send_outcome};
+use crate::reading::read_sector;
 use arrayvec::ArrayVec;
 use cd_patch::{Outcome, blocks_met, take_patch};
 use cd_script::Patch;
 use cd_sector::{SECTOR_SIZE, Sector};
-use cd_stream::{Sink, SinkFailed, Source, fill, write_all};
+use cd_stream::{Sink, SinkFailed, Source, write_all};
 
 /// How far a pass has come.
 #[derive(Drop)]
@@ -62,39 +62,6 @@ impl Pass {
         }
     }
 
-    /// Reads one more sector, and answers whether there was one; else what came is the tail.
-    fn read_sector<I: Source>(&mut self, image: &mut I) -> Result<bool, Fault>
-        requires countable { (I.seen image.old).failures < 4294967295 }
-        requires few { self.old.sectors ≤ 1000000 }
-        ensures reads { ReadsSector self.old self.new (I.seen image.old) (I.seen image.new) result }
-        ensures short { HasShortTail self.old → HasShortTail self.new }
-    {
-        if self.sectors == MAX_SECTORS {
-            return self.read_end(image);
-        }
-        let length = fill(image, &mut self.bytes)?;
-        if length < SECTOR_SIZE {
-            self.tail = Some(length);
-            return Ok(false);
-        }
-        self.sectors += 1;
-        Ok(true)
-    }
-
-    /// Behind the last sector that an image may have: reads a byte more, which must not come.
-    fn read_end<I: Source>(&mut self, image: &mut I) -> Result<bool, Fault>
-        requires countable { (I.seen image.old).failures < 4294967295 }
-        requires full { self.old.sectors ≡ 1000000 }
-        ensures reads { ReadsSector self.old self.new (I.seen image.old) (I.seen image.new) result }
-        ensures short { HasShortTail self.old → HasShortTail self.new }
-    {
-        if image.read(&mut self.bytes[..1])? > 0 {
-            return Err(Fault::TooLong);
-        }
-        self.tail = Some(0);
-        Ok(false)
-    }
-
     /// Reads one more sector into the window, where there is one.
     fn read_ahead<I: Source>(&mut self, image: &mut I) -> Result<(), Fault>
         requires countable { (I.seen image.old).failures < 4294967295 }
@@ -108,8 +75,12 @@ impl Pass {
         ensures short { HasShortTail self.old → HasShortTail self.new }
         ensures nearer { OnOk result ((count : ℕ) → left_to_do count self.new < left_to_do count self.old) }
     {
-        if self.read_sector(image)? {
-            self.window.push(Sector::from_bytes(self.bytes));
+        match read_sector(image, self.sectors, &mut self.bytes)? {
+            None => {
+                self.sectors += 1;
+                self.window.push(Sector::from_bytes(self.bytes));
+            }
+            Some(length) => self.tail = Some(length),
         }
         Ok(())
     }
@@ -130,9 +101,13 @@ impl Pass {
         ensures short { HasShortTail self.old → HasShortTail self.new }
         ensures nearer { OnOk result ((count : ℕ) → left_to_do count self.new < left_to_do count self.old) }
     {
-        if self.read_sector(image)? {
-            write_all(out, &self.bytes)?;
-            self.block += 1;
+        match read_sector(image, self.sectors, &mut self.bytes)? {
+            None => {
+                self.sectors += 1;
+                write_all(out, &self.bytes)?;
+                self.block += 1;
+            }
+            Some(length) => self.tail = Some(length),
         }
         Ok(())
     }

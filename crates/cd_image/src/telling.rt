@@ -7,8 +7,9 @@ ghost use Rattle.cd_stream.specs.Transfer.{Counts};
 
 use crate::MAX_SECTORS;
 use crate::fault::Fault;
+use crate::reading::read_sector;
 use cd_sector::{SECTOR_SIZE, Sector};
-use cd_stream::{Sink, SinkFailed, Source, fill};
+use cd_stream::{Sink, SinkFailed, Source};
 
 /// What is told of an image while its sectors are read.
 pub(crate) trait Teller {
@@ -64,15 +65,12 @@ pub(crate) fn tell<I: Source, T: Teller, O: Sink>(
     ensures { Reports (telling_of (T.to_tell teller.old 0)) (I.seen image.old) (I.seen image.new) (O.seen out.old) (O.seen out.new) result }
 {
     let mut bytes = [0; SECTOR_SIZE];
-    for count in 0..MAX_SECTORS {
-        let length = fill(image, &mut bytes)?;
-        if length < SECTOR_SIZE {
-            return Ok(teller.close(count, length as u16, out)?);
+    let mut count = 0;
+    loop {
+        match read_sector(image, count, &mut bytes)? {
+            None => teller.take_sector(count, &Sector::from_bytes(bytes), out)?,
+            Some(length) => return Ok(teller.close(count, length as u16, out)?),
         }
-        teller.take_sector(count, &Sector::from_bytes(bytes), out)?;
+        count += 1;
     }
-    if image.read(&mut bytes[..1])? > 0 {
-        return Err(Fault::TooLong);
-    }
-    Ok(teller.close(MAX_SECTORS, 0, out)?)
 }
