@@ -1,7 +1,5 @@
 //! The images of the tests.
 
-ghost use Rattle.std.specs.Prelude.{◌≡◌, length};
-
 use cd_sector::{Sector, address_of, encode};
 use std::alloc::{AllocError, Global};
 
@@ -14,18 +12,6 @@ pub fn sector(mode: u8) -> [u8; 2352] {
     bytes[13] = 2;
     bytes[15] = mode;
     bytes
-}
-
-/// Sectors of these modes, and then bytes `00`.
-pub fn image(alloc: Global, modes: &[u8], zeros: usize) -> Result<Vec<u8>, AllocError> {
-    let mut bytes = Vec::new(alloc);
-    for mode in modes {
-        bytes.extend_from_slice(&sector(*mode))?;
-    }
-    for _ in 0..zeros {
-        bytes.push(0)?;
-    }
-    Ok(bytes)
 }
 
 /// The consistent sector of a block with this user data.

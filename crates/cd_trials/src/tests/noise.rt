@@ -2,7 +2,7 @@
 
 use super::images::joined;
 use super::patching::{Case, expect, memory};
-use crate::{SliceSink, SliceSource, audit};
+use cd_image::{SliceSink, SliceSource, audit};
 use cd_sector::{Sector, defect, encode};
 use std::alloc::Global;
 use std::test::Fail;

@@ -1,8 +1,9 @@
-//! What the tests of patching share: scripts, and calls with what they must leave.
+//! What the tests of patching share: scripts, memory, and cases with what they must leave.
 
 ghost use Rattle.std.specs.Prelude.{◌≤◌};
 
-use crate::{Fault, MAX_BASE, Short, Sink, SliceSink, SliceSource, Source, Tally, apply, check};
+use super::calls::{Call, Ending, Limit, Limits, apply_within, check_within};
+use cd_image::MAX_BASE;
 use cd_script::{MAX_TEXT, Script, parse};
 use std::alloc::{AllocError, Global};
 use std::process::Abort;
@@ -86,71 +87,50 @@ pub fn expect(rt: &impl Abort, alloc: Global, case: &Case) -> Result<(), Fail>
     requires { case.now.base ≤ MAX_BASE }
 {
     let script = script_of(rt, alloc, case.script)?;
-    for most in [1, 2, 2351, 2353, 10_000_000] {
-        applies(rt, alloc, case, &script, most)?;
-        checks(rt, alloc, case, &script, most)?;
+    let call = Call {
+        image: case.image,
+        script: &script,
+        base: case.base,
+    };
+    for a_call in [1, 2, 2351, 2353, 10_000_000] {
+        let limit = Limit {
+            all: u64::MAX,
+            a_call,
+        };
+        let limits = Limits {
+            image: limit,
+            out: limit,
+            log: limit,
+        };
+        let mut space = memory(alloc, case.out.len())?;
+        let mut lines = memory(alloc, case.log.len())?;
+        let ending = apply_within(&call, &limits, &mut space, &mut lines, &mut [0]);
+        ends_well(rt, alloc, &ending, case)?;
+        assert!(rt; space.as_slice() == case.out, "{}", case.log);
+        assert!(rt; lines.as_slice() == case.log.as_bytes(), "{}", case.log);
+
+        let mut lines = memory(alloc, case.log.len())?;
+        let ending = check_within(&call, &limits, &mut lines, &mut [0]);
+        ends_well(rt, alloc, &ending, case)?;
+        assert!(rt; lines.as_slice() == case.log.as_bytes(), "{}", case.log);
     }
     Ok(())
 }
 
-fn applies(
-    rt: &impl Abort,
-    alloc: Global,
-    case: &Case,
-    script: &Script,
-    most: usize,
-) -> Result<(), Fail>
-    requires { case.now.base ≤ MAX_BASE }
-{
-    let mut space = memory(alloc, case.out.len())?;
-    let mut lines = memory(alloc, case.log.len())?;
-    let mut image = Short::new(SliceSource::new(case.image), most);
-    let mut out = Short::new(SliceSink::new(&mut space), most);
-    let mut log = Short::new(SliceSink::new(&mut lines), most);
-    let answer = apply(&mut image, script, case.base, &mut out, &mut log);
-    assert!(rt; out.finished() && log.finished(), "{}", case.log);
-    assert!(rt; out.failures() == 0 && log.failures() == 0);
-    assert!(rt; image.failures() == 0);
-    assert_eq!(rt; image.read(&mut [0]), Ok(0));
-    is_counted(rt, alloc, answer, case)?;
-    assert!(rt; space.as_slice() == case.out, "{}", case.log);
-    assert!(rt; lines.as_slice() == case.log.as_bytes(), "{}", case.log);
-    Ok(())
-}
-
-fn checks(
-    rt: &impl Abort,
-    alloc: Global,
-    case: &Case,
-    script: &Script,
-    most: usize,
-) -> Result<(), Fail>
-    requires { case.now.base ≤ MAX_BASE }
-{
-    let mut lines = memory(alloc, case.log.len())?;
-    let mut image = Short::new(SliceSource::new(case.image), most);
-    let mut log = Short::new(SliceSink::new(&mut lines), most);
-    let answer = check(&mut image, script, case.base, &mut log);
-    assert!(rt; log.finished() && log.failures() == 0, "{}", case.log);
-    assert!(rt; image.failures() == 0);
-    assert_eq!(rt; image.read(&mut [0]), Ok(0));
-    is_counted(rt, alloc, answer, case)?;
-    assert!(rt; lines.as_slice() == case.log.as_bytes(), "{}", case.log);
-    Ok(())
-}
-
-/// Asserts that the tally counts the image, and the patches as the log's last line does.
-fn is_counted(
-    rt: &impl Abort,
-    alloc: Global,
-    answer: Result<Tally, Fault>,
-    case: &Case,
-) -> Result<(), Fail> {
-    let Ok(tally) = answer else {
+/// Asserts that nothing has failed, that the whole image was read, and that the tally counts the image, and the patches
+/// as the log's last line does.
+fn ends_well(rt: &impl Abort, alloc: Global, ending: &Ending, case: &Case) -> Result<(), Fail> {
+    assert!(rt; ending.out_finished && ending.log_finished, "{}", case.log);
+    assert_eq!(rt; ending.image_failures, 0);
+    assert_eq!(rt; ending.out_failures, 0);
+    assert_eq!(rt; ending.log_failures, 0);
+    assert_eq!(rt; ending.left, 0);
+    let Ok(tally) = ending.answer else {
         return Err("a fault".into());
     };
-    assert_eq!(rt; tally.sectors as usize, case.image.len() / 2352);
-    assert_eq!(rt; usize::from(tally.tail), case.image.len() % 2352);
+    let size = case.image.len() as u64;
+    assert_eq!(rt; u64::from(tally.sectors), size / 2352);
+    assert_eq!(rt; u64::from(tally.tail), size % 2352);
     let (applied, refused) = (tally.applied, tally.refused);
     let last = format!(in alloc; "applied {applied} refused {refused}\n")?;
     assert!(rt; case.log.ends_with(last.as_str()), "{last}");

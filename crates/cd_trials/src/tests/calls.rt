@@ -1,0 +1,114 @@
+//! Calls of `apply` and `check` on memory, and how they end.
+
+ghost use Rattle.std.specs.Prelude.{◌≤◌};
+
+use cd_image::{
+    FailAfter, Fault, MAX_BASE, Short, Sink, SliceSink, SliceSource, Source, Tally, apply, check,
+    fill,
+};
+use cd_script::Script;
+
+/// How many bytes pass: in all, before each call fails, and at most in a call.
+#[derive(Clone, Copy)]
+pub struct Limit {
+    pub all: u64,
+    pub a_call: usize,
+}
+
+const NO_LIMIT: Limit = Limit {
+    all: u64::MAX,
+    a_call: usize::MAX,
+};
+
+/// What may pass from the image, to the output and to the log.
+#[derive(Clone, Copy)]
+pub struct Limits {
+    pub image: Limit,
+    pub out: Limit,
+    pub log: Limit,
+}
+
+/// All may pass.
+pub const NO_LIMITS: Limits = Limits {
+    image: NO_LIMIT,
+    out: NO_LIMIT,
+    log: NO_LIMIT,
+};
+
+/// A script on an image whose first block is `base`.
+#[derive(Clone, Copy)]
+pub struct Call<'a> {
+    pub image: &'a [u8],
+    pub script: &'a Script,
+    pub base: u32,
+}
+
+/// How a call ended.
+#[derive(Clone, Copy)]
+pub struct Ending {
+    pub answer: Result<Tally, Fault>,
+    pub image_failures: u32,
+    pub out_failures: u32,
+    pub log_failures: u32,
+    pub out_finished: bool,
+    pub log_finished: bool,
+    /// How many bytes the image gave when it was read on, 0 where it had failed.
+    pub left: usize,
+}
+
+/// Reads on what is left of an image that has not failed, and answers how many bytes came.
+fn read_on<I: Source>(image: &mut I, rest: &mut [u8]) -> usize {
+    if image.failures() > 0 {
+        return 0;
+    }
+    fill(image, rest).unwrap_or(0)
+}
+
+/// Applies the script, with an output over `space` and a log over `lines`, and reads on what is left of the image.
+pub fn apply_within(
+    call: &Call,
+    limits: &Limits,
+    space: &mut [u8],
+    lines: &mut [u8],
+    rest: &mut [u8],
+) -> Ending
+    requires { call.now.base ≤ MAX_BASE }
+{
+    let image = FailAfter::new(SliceSource::new(call.image), limits.image.all);
+    let mut image = Short::new(image, limits.image.a_call);
+    let out = FailAfter::new(SliceSink::new(space), limits.out.all);
+    let mut out = Short::new(out, limits.out.a_call);
+    let log = FailAfter::new(SliceSink::new(lines), limits.log.all);
+    let mut log = Short::new(log, limits.log.a_call);
+    let answer = apply(&mut image, call.script, call.base, &mut out, &mut log);
+    Ending {
+        answer,
+        image_failures: image.failures(),
+        out_failures: out.failures(),
+        log_failures: log.failures(),
+        out_finished: out.finished(),
+        log_finished: log.finished(),
+        left: read_on(&mut image, rest),
+    }
+}
+
+/// Checks the script, with a log over `lines`, and reads on what is left of the image. There is no output, so it does
+/// not fail and is as finished as the log.
+pub fn check_within(call: &Call, limits: &Limits, lines: &mut [u8], rest: &mut [u8]) -> Ending
+    requires { call.now.base ≤ MAX_BASE }
+{
+    let image = FailAfter::new(SliceSource::new(call.image), limits.image.all);
+    let mut image = Short::new(image, limits.image.a_call);
+    let log = FailAfter::new(SliceSink::new(lines), limits.log.all);
+    let mut log = Short::new(log, limits.log.a_call);
+    let answer = check(&mut image, call.script, call.base, &mut log);
+    Ending {
+        answer,
+        image_failures: image.failures(),
+        out_failures: 0,
+        log_failures: log.failures(),
+        out_finished: log.finished(),
+        log_finished: log.finished(),
+        left: read_on(&mut image, rest),
+    }
+}

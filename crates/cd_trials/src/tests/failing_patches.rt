@@ -1,0 +1,247 @@
+//! One of an image, an output and a log fails at each byte of a patched image: what went to the others is known.
+
+use super::calls::{Call, Ending, Limit, Limits, NO_LIMITS, apply_within, check_within};
+use super::images::{filled_at, joined, zeros_at, zeros_from};
+use super::patching::{has_front, memory, script_of, written};
+use cd_image::{Fault, Tally};
+use cd_script::Script;
+use std::alloc::Global;
+use std::process::Abort;
+use std::test::Fail;
+
+const LOG: &[u8] = b"line 2: applied\napplied 1 refused 0\n";
+
+const TALLY: Tally = Tally {
+    applied: 1,
+    refused: 0,
+    sectors: 3,
+    tail: 0,
+};
+
+/// An image, its script, and the patched image.
+#[derive(Drop)]
+struct Parts {
+    image: Vec<u8>,
+    script: Script,
+    whole: Vec<u8>,
+}
+
+fn make_parts(rt: &impl Abort, alloc: Global) -> Result<Parts, Fail> {
+    Ok(Parts {
+        image: zeros_from(alloc, 0, 3)?,
+        script: script_of(rt, alloc, "cdpatch 1\nset 1 0 41\n")?,
+        whole: joined(alloc, &[zeros_at(0), filled_at(1, 0, 1, 65), zeros_at(2)])?,
+    })
+}
+
+fn applies(parts: &Parts, limits: &Limits, space: &mut [u8], lines: &mut [u8]) -> Ending {
+    let call = Call {
+        image: &parts.image,
+        script: &parts.script,
+        base: 0,
+    };
+    apply_within(&call, limits, space, lines, &mut [0])
+}
+
+fn checks(parts: &Parts, limits: &Limits, lines: &mut [u8]) -> Ending {
+    let call = Call {
+        image: &parts.image,
+        script: &parts.script,
+        base: 0,
+    };
+    check_within(&call, limits, lines, &mut [0])
+}
+
+/// So many bytes pass in all.
+fn passing(all: u64) -> Limit {
+    Limit {
+        all,
+        a_call: usize::MAX,
+    }
+}
+
+/// Asserts the answer, and that what it names has failed once and nothing else has.
+fn is_answered(rt: &impl Abort, ending: &Ending, fault: Fault, count: u64) {
+    assert_eq!(rt; ending.answer, Err(fault), "{count}");
+    let read = u32::from(fault == Fault::Read);
+    assert_eq!(rt; ending.image_failures, read, "{count}");
+    let write = u32::from(fault == Fault::Write);
+    assert_eq!(rt; ending.out_failures, write, "{count}");
+    let log = u32::from(fault == Fault::Log);
+    assert_eq!(rt; ending.log_failures, log, "{count}");
+}
+
+/// The image fails behind so many bytes, of a call of each kind.
+fn image_fails(rt: &impl Abort, parts: &Parts, space: &mut [u8], count: u64) {
+    let limits = Limits {
+        image: passing(count),
+        out: NO_LIMITS.out,
+        log: NO_LIMITS.log,
+    };
+    let mut lines = [238; 36];
+    space.fill(238);
+    let ending = applies(parts, &limits, space, &mut lines);
+    is_answered(rt, &ending, Fault::Read, count);
+    let sent = written(rt, space, &parts.whole);
+    let told = written(rt, &lines, LOG);
+    assert!(rt; count >= 4704 || sent <= 2352 && told == 0, "{count}");
+    assert!(rt; count as usize <= sent.saturating_add(7056), "{count}");
+
+    let mut lines = [238; 36];
+    let ending = checks(parts, &limits, &mut lines);
+    is_answered(rt, &ending, Fault::Read, count);
+    let told = written(rt, &lines, LOG);
+    assert!(rt; count >= 4704 || told == 0, "{count}");
+}
+
+#[test]
+fn the_image_fails_at_each_byte(rt: HostRuntime) -> Result<(), Fail> {
+    let parts = make_parts(&rt, rt.alloc())?;
+    let mut space = memory(rt.alloc(), 7056)?;
+    for count in 0..7057u64 {
+        image_fails(&rt, &parts, &mut space, count);
+    }
+    Ok(())
+}
+
+/// The output fails behind so many bytes.
+fn output_fails(rt: &impl Abort, parts: &Parts, space: &mut [u8], count: u64) {
+    let limits = Limits {
+        image: NO_LIMITS.image,
+        out: passing(count),
+        log: NO_LIMITS.log,
+    };
+    let mut lines = [238; 36];
+    let ending = applies(parts, &limits, space, &mut lines);
+    is_answered(rt, &ending, Fault::Write, count);
+    assert!(rt; !ending.out_finished, "{count}");
+    assert!(rt; has_front(space, &parts.whole, count as usize), "{count}");
+    let told = match count {
+        0..2352 => 0,
+        2352..7056 => 16,
+        _ => 36,
+    };
+    assert!(rt; has_front(&lines, LOG, told), "{count}");
+}
+
+/// The memory is the same each time: what lies behind the bytes that pass was never written to.
+#[test]
+fn the_output_fails_at_each_byte(rt: HostRuntime) -> Result<(), Fail> {
+    let parts = make_parts(&rt, rt.alloc())?;
+    let mut space = memory(rt.alloc(), 7056)?;
+    for count in 0..7057u64 {
+        output_fails(&rt, &parts, &mut space, count);
+    }
+    Ok(())
+}
+
+/// The log fails behind so many bytes, of a call of each kind.
+fn log_fails(rt: &impl Abort, parts: &Parts, space: &mut [u8], count: u64) {
+    let limits = Limits {
+        image: NO_LIMITS.image,
+        out: NO_LIMITS.out,
+        log: passing(count),
+    };
+    let mut lines = [238; 36];
+    space.fill(238);
+    let ending = applies(parts, &limits, space, &mut lines);
+    is_answered(rt, &ending, Fault::Log, count);
+    assert!(rt; !ending.log_finished, "{count}");
+    assert_eq!(rt; ending.out_finished, count == 36, "{count}");
+    let sent = if count < 16 { 2352 } else { 7056 };
+    assert!(rt; has_front(space, &parts.whole, sent), "{count}");
+    assert!(rt; has_front(&lines, LOG, count as usize), "{count}");
+
+    let mut lines = [238; 36];
+    let ending = checks(parts, &limits, &mut lines);
+    is_answered(rt, &ending, Fault::Log, count);
+    assert!(rt; !ending.log_finished, "{count}");
+    assert!(rt; has_front(&lines, LOG, count as usize), "{count}");
+}
+
+#[test]
+fn the_log_fails_at_each_byte(rt: HostRuntime) -> Result<(), Fail> {
+    let parts = make_parts(&rt, rt.alloc())?;
+    let mut space = memory(rt.alloc(), 7056)?;
+    for count in 0..37u64 {
+        log_fails(&rt, &parts, &mut space, count);
+    }
+    Ok(())
+}
+
+/// A call of each kind that passes all, within these limits.
+fn nothing_fails(
+    rt: &impl Abort,
+    alloc: Global,
+    parts: &Parts,
+    limits: &Limits,
+) -> Result<(), Fail> {
+    let mut space = memory(alloc, 7056)?;
+    let mut lines = [238; 36];
+    let ending = applies(parts, limits, &mut space, &mut lines);
+    assert_eq!(rt; ending.answer, Ok(TALLY));
+    assert!(rt; ending.out_finished && ending.log_finished);
+    assert!(rt; has_front(&space, &parts.whole, 7056));
+    assert!(rt; has_front(&lines, LOG, 36));
+
+    let mut lines = [238; 36];
+    let ending = checks(parts, limits, &mut lines);
+    assert_eq!(rt; ending.answer, Ok(TALLY));
+    assert!(rt; ending.log_finished && has_front(&lines, LOG, 36));
+    Ok(())
+}
+
+/// Each of the three alone, and then all of them, may pass one byte more than the whole.
+#[test]
+fn none_fails_behind_the_last_byte(rt: HostRuntime) -> Result<(), Fail> {
+    let parts = make_parts(&rt, rt.alloc())?;
+    for (image, out, log) in [
+        (7057, u64::MAX, u64::MAX),
+        (u64::MAX, 7057, u64::MAX),
+        (u64::MAX, u64::MAX, 37),
+        (7057, 7057, 37),
+    ] {
+        let limits = Limits {
+            image: passing(image),
+            out: passing(out),
+            log: passing(log),
+        };
+        nothing_fails(&rt, rt.alloc(), &parts, &limits)?;
+    }
+    Ok(())
+}
+
+/// At most so many bytes pass in a call.
+fn in_parts(a_call: usize) -> Limit {
+    Limit {
+        all: u64::MAX,
+        a_call,
+    }
+}
+
+/// Few bytes a call on each of the three, in every mixture.
+#[test]
+fn few_bytes_a_call(rt: HostRuntime) -> Result<(), Fail> {
+    let parts = make_parts(&rt, rt.alloc())?;
+    let sizes = [1, 2, 2351, 2353, 7056];
+    for mixture in 0..125usize {
+        let limits = Limits {
+            image: in_parts(sizes[mixture % 5]),
+            out: in_parts(sizes[mixture / 5 % 5]),
+            log: in_parts(sizes[mixture / 25 % 5]),
+        };
+        nothing_fails(&rt, rt.alloc(), &parts, &limits)?;
+    }
+    Ok(())
+}
+
+/// The output ends in the second of three sectors: the first byte of that is still that of the sync field.
+#[test]
+fn an_output_that_fails_in_a_patched_sector(rt: HostRuntime) -> Result<(), Fail> {
+    let parts = make_parts(&rt, rt.alloc())?;
+    let mut space = memory(rt.alloc(), 7056)?;
+    output_fails(&rt, &parts, &mut space, 2353);
+    assert!(rt; space.get(..2352) == Some(zeros_at(0).bytes().as_slice()));
+    assert_eq!(rt; space.get(2352), Some(&0));
+    Ok(())
+}
