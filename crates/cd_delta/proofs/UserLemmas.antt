@@ -23,12 +23,12 @@ use Rattle.cd_delta.proofs.WritingLemmas.{AllCodeWords-same, SameSyndromes-trans
 kind_from : List ℕ → ℕ → SectorKind
 kind_from front mode = if pointwise nat_eq sync_field front then kind_of_mode mode else NoSync
 
-pub kind_of-same : (s t : List ℕ) → 16 ≤ length s → length s ≡ length t → ((i : ℕ) → i < 16 → get_or s i 0 ≡ get_or t i 0)
-    → kind_of s ≡ kind_of t
+pub kind_of-same : (s t : List ℕ) → 16 ≤ length s → length s ≡ length t → ((i : ℕ) → i < 12 → get_or s i 0 ≡ get_or t i 0)
+    → get_or s 15 0 ≡ get_or t 15 0 → kind_of s ≡ kind_of t
 unfolding kind_of kind_from
-kind_of-same s t inside same_size h =
-    let front : take 12 s ≡ take 12 t = front-same s t 12 (omega arith) (omega arith) (λ i below. h i (omega arith)) in
-    ap (λ v. kind_from v (get_or s 15 0)) front ∙ ap (kind_from (take 12 t)) (h 15 (omega arith))
+kind_of-same s t inside same_size h mode =
+    let front : take 12 s ≡ take 12 t = front-same s t 12 (omega arith) (omega arith) h in
+    ap (λ v. kind_from v (get_or s 15 0)) front ∙ ap (kind_from (take 12 t)) mode
 
 pub header_of-same : (s t : List ℕ) → 16 ≤ length s → length s ≡ length t → ((i : ℕ) → i < 16 → get_or s i 0 ≡ get_or t i 0)
     → header_of s ≡ header_of t
@@ -141,15 +141,15 @@ WithEdc-written old new four w size each word at h =
 
 -- ---- both
 
--- bytes in the user data, and then the EDC
-pub IsChanged-carried : (old t new : List ℕ) (offset : ℕ) (bytes : List ℕ) → offset + length bytes ≤ 2048
-    → IsWritten old t (16 + offset) (length bytes) bytes → WithEdc t new → IsChanged old new offset bytes
-IsChanged-carried old t new offset bytes fits user edc = record {
+-- bytes in front of the EDC, and then the EDC
+pub IsChanged-carried : (old t new : List ℕ) (place : ℕ) (bytes : List ℕ) → place + length bytes ≤ 2064
+    → IsWritten old t place (length bytes) bytes → WithEdc t new → IsChanged old new place bytes
+IsChanged-carried old t new place bytes fits user edc = record {
   fits = fits;
   size = edc.size;
   same_size = edc.same_size ∙ user.size;
   each = edc.each;
-  range = λ i below. edc.front (16 + offset + i) (omega arith) (inl (omega arith)) ∙ user.range i below;
+  range = λ i below. edc.front (place + i) (omega arith) (inl (omega arith)) ∙ user.range i below;
   front = λ i below out. edc.front i (omega arith) (inl below) ∙ user.front i (omega arith) out;
   zeros = λ i from below. edc.front i below (inr from) ∙ user.front i below (inr (omega arith));
   edc = record { word = edc.word; is_word = edc.is_word; at_end = edc.at_end };
@@ -172,13 +172,13 @@ HasEdc-put old new four w old_size new_size word e inside outside =
     }
 
 -- the front of another sector, with its EDC
-pub IsChanged-front : (old front new : List ℕ) (offset : ℕ) (bytes : List ℕ) → offset + length bytes ≤ 2048
+pub IsChanged-front : (old front new : List ℕ) (place : ℕ) (bytes : List ℕ) → place + length bytes ≤ 2064
     → length old ≡ 2352 → length front ≡ 2352 → length new ≡ length old → AreBytes new
-    → ((i : ℕ) → i < length bytes → get_or front (16 + offset + i) 0 ≡ get_or bytes i 0)
-    → ((i : ℕ) → (i < 16 + offset) ⊎ (16 + offset + length bytes ≤ i) → (i < 2064) ⊎ (2068 ≤ i) → get_or front i 0 ≡ get_or old i 0)
+    → ((i : ℕ) → i < length bytes → get_or front (place + i) 0 ≡ get_or bytes i 0)
+    → ((i : ℕ) → (i < place) ⊎ (place + length bytes ≤ i) → (i < 2064) ⊎ (2068 ≤ i) → get_or front i 0 ≡ get_or old i 0)
     → HasEdc front → ((i : ℕ) → i < 2076 → get_or new i 0 ≡ get_or front i 0) → SameSyndromes new old
-    → IsChanged old new offset bytes
-IsChanged-front old front new offset bytes fits old_size front_size same_size each range elsewhere edc same syndromes =
+    → IsChanged old new place bytes
+IsChanged-front old front new place bytes fits old_size front_size same_size each range elsewhere edc same syndromes =
     let size : length new ≡ 2352 = same_size ∙ old_size in
     let whole : take 2064 new ≡ take 2064 front = front-same new front 2064 (omega arith) (omega arith) (λ i below. same i (omega arith)) in
     let word : slice_range new 2064 2068 ≡ slice_range front 2064 2068 =
@@ -188,29 +188,17 @@ IsChanged-front old front new offset bytes fits old_size front_size same_size ea
       size = size;
       same_size = same_size;
       each = each;
-      range = λ i below. same (16 + offset + i) (omega arith) ∙ range i below;
+      range = λ i below. same (place + i) (omega arith) ∙ range i below;
       front = λ i below out. same i (omega arith) ∙ elsewhere i out (inl below);
       zeros = λ i from below. same i below ∙ elsewhere i (inr (omega arith)) (inr from);
       edc = record { word = edc.word; is_word = rw whole edc.is_word; at_end = word ∙ edc.at_end };
       syndromes = syndromes;
     }
 
-long-of : {old new : List ℕ} {offset : ℕ} {bytes : List ℕ} → IsChanged old new offset bytes → length old ≡ 2352
+long-of : {old new : List ℕ} {place : ℕ} {bytes : List ℕ} → IsChanged old new place bytes → length old ≡ 2352
 long-of h = sym h.same_size ∙ h.size
 
-pub stays-of : {old new : List ℕ} {offset : ℕ} {bytes : List ℕ} → IsChanged old new offset bytes
-    → (i : ℕ) → (i < 16) ⊎ ((2068 ≤ i) × (i < 2076)) → get_or new i 0 ≡ get_or old i 0
-stays-of h i out = elim out [
-  | inl before ↦ h.front i (omega arith) (inl (omega arith))
-  | inr behind ↦ h.zeros i behind.0 behind.1
-]
-
-pub user-of : {old new : List ℕ} {offset : ℕ} {bytes : List ℕ} → IsChanged old new offset bytes
-    → user_of new ≡ written (user_of old) offset bytes
-user-of {old} {new} {offset} {bytes} h =
-    user_of-written old new offset bytes h.fits (long-of h) h.same_size h.range (λ i below out. h.front i below out)
-
-pub edc-of : {old new : List ℕ} {offset : ℕ} {bytes : List ℕ} → IsChanged old new offset bytes
+pub edc-of : {old new : List ℕ} {place : ℕ} {bytes : List ℕ} → IsChanged old new place bytes
     → IsEdc (take 2064 new) (from_le_bytes w32 (slice_range new 2064 2068))
 edc-of {old} {new} h =
     let w = h.edc.word in
@@ -218,26 +206,92 @@ edc-of {old} {new} h =
     ap (from_le_bytes w32) h.edc.at_end ∙ from_le_bytes-to_le_bytes_4 w h.edc.is_word.fits in
     rw e h.edc.is_word
 
-pub divides-of : {old new : List ℕ} {offset : ℕ} {bytes : List ℕ} → IsChanged old new offset bytes
+pub divides-of : {old new : List ℕ} {place : ℕ} {bytes : List ℕ} → IsChanged old new place bytes
     → remainder (bits (take 2068 new)) ≡ 0
 divides-of {old} {new} h = divides-with new 2064 h.edc.word h.edc.is_word h.edc.at_end
 
-pub kind-of : {old new : List ℕ} {offset : ℕ} {bytes : List ℕ} → IsChanged old new offset bytes → kind_of new ≡ kind_of old
-kind-of {old} {new} h =
+-- the sync field and the mode byte stay
+pub kind-of : {old new : List ℕ} {place : ℕ} {bytes : List ℕ} → IsChanged old new place bytes
+    → 12 ≤ place → (16 ≤ place) ⊎ (place + length bytes ≤ 15) → kind_of new ≡ kind_of old
+kind-of {old} {new} h from out =
     let size = h.size in
-    kind_of-same new old (omega arith) h.same_size (λ i below. stays-of h i (inl below))
+    kind_of-same new old (omega arith) h.same_size (λ i below. h.front i (omega arith) (inl (omega arith)))
+    (h.front 15 (omega arith) (elim out [ inl behind ↦ inl (omega arith) | inr before ↦ inr before ]))
 
-pub header-of : {old new : List ℕ} {offset : ℕ} {bytes : List ℕ} → IsChanged old new offset bytes → header_of new ≡ header_of old
-header-of {old} {new} h =
-    let size = h.size in
-    header_of-same new old (omega arith) h.same_size (λ i below. stays-of h i (inl below))
-
-pub IsConsistent-of : {old new : List ℕ} {offset : ℕ} {bytes : List ℕ} → IsChanged old new offset bytes → IsConsistent old → IsConsistent new
-IsConsistent-of h sound = record {
+pub IsConsistent-of : {old new : List ℕ} {place : ℕ} {bytes : List ℕ} → IsChanged old new place bytes
+    → kind_of new ≡ kind_of old → IsConsistent old → IsConsistent new
+IsConsistent-of h kind sound = record {
   size = h.size;
   bytes = h.each;
-  mode = kind-of h ∙ sound.mode;
-  zeros = λ i from below. stays-of h i (inr (from, below)) ∙ sound.zeros i from below;
+  mode = kind ∙ sound.mode;
+  zeros = λ i from below. h.zeros i from below ∙ sound.zeros i from below;
   edc = divides-of h;
   words = AllCodeWords-same h.syndromes sound.words;
 }
+
+-- ---- bytes of the user data
+
+pub user-stays : (offset : ℕ) {old new bytes : List ℕ} → IsChanged old new (16 + offset) bytes
+    → (i : ℕ) → (i < 16) ⊎ ((2068 ≤ i) × (i < 2076)) → get_or new i 0 ≡ get_or old i 0
+user-stays offset h i out = elim out [
+  | inl before ↦ h.front i (omega arith) (inl (omega arith))
+  | inr behind ↦ h.zeros i behind.0 behind.1
+]
+
+pub user-of : (offset : ℕ) {old new bytes : List ℕ} → IsChanged old new (16 + offset) bytes
+    → user_of new ≡ written (user_of old) offset bytes
+user-of offset {old} {new} {bytes} h =
+    let fits = h.fits in
+    user_of-written old new offset bytes (omega arith) (long-of h) h.same_size h.range (λ i below out. h.front i below out)
+
+pub user-kind : (offset : ℕ) {old new bytes : List ℕ} → IsChanged old new (16 + offset) bytes → kind_of new ≡ kind_of old
+user-kind offset h = kind-of h (omega arith) (inl (omega arith))
+
+pub user-header : (offset : ℕ) {old new bytes : List ℕ} → IsChanged old new (16 + offset) bytes → header_of new ≡ header_of old
+user-header offset {old} {new} h =
+    let size = h.size in
+    header_of-same new old (omega arith) h.same_size (λ i below. user-stays offset h i (inl below))
+
+-- ---- the address in the header
+
+-- the three bytes of an address, and every other byte as it was
+pub header-stays : {old new bytes : List ℕ} → IsChanged old new 12 bytes → length bytes ≡ 3
+    → (i : ℕ) → (i < 12) ⊎ (((15 ≤ i) × (i < 2064)) ⊎ ((2068 ≤ i) × (i < 2076))) → get_or new i 0 ≡ get_or old i 0
+header-stays h three i out = elim out [
+  | inl before ↦ h.front i (omega arith) (inl before)
+  | inr behind ↦ elim behind [
+    | inl user ↦ h.front i user.1 (inr (omega (arith, user.0)))
+    | inr zeros ↦ h.zeros i zeros.0 zeros.1
+  ]
+]
+
+pub header-kind : {old new bytes : List ℕ} → IsChanged old new 12 bytes → length bytes ≡ 3 → kind_of new ≡ kind_of old
+header-kind h three = kind-of h (omega arith) (inr (omega arith))
+
+pub header-user : {old new bytes : List ℕ} → IsChanged old new 12 bytes → length bytes ≡ 3 → user_of new ≡ user_of old
+unfolding user_of
+header-user {old} {new} h three =
+    let size = h.size in
+    part-same new old 16 2048 (omega arith) (omega (arith, h.same_size)) (λ i from below. h.front i (omega arith) (inr (omega arith)))
+
+-- the three bytes of the address, and the old mode byte
+pub header-of : {old new bytes : List ℕ} → IsChanged old new 12 bytes → length bytes ≡ 3 → header_of new ≡ bytes ++ drop 3 (header_of old)
+unfolding header_of
+header-of {old} {new} {bytes} h three =
+    let size = h.size in
+    let header = take 4 (drop 12 old) in
+    let long = length-part old 12 4 (omega (arith, long-of h)) in
+    let new_long = length-part new 12 4 (omega arith) in
+    let whole = length-append bytes (drop 3 header) in
+    let rest = length-drop 3 header in
+    ext_get_or 0 (take 4 (drop 12 new)) (bytes ++ drop 3 header) (omega arith)
+    (λ k within.
+    let below : k < 4 = omega arith in
+    elim (cases_lt k 3) [
+      | inl lower ↦ get_or-part new 12 4 k below ∙ h.range k (omega arith) ∙ sym (get_or_append_left bytes (drop 3 header) 0 k (omega arith))
+      | inr higher ↦
+          let index : 3 + (k - 3) ≡ k = omega arith in
+          let other : get_or (bytes ++ drop 3 header) k 0 ≡ get_or header k 0 =
+          get_or-append_right bytes (drop 3 header) 3 k 0 three higher ∙ get_or-drop 3 header (k - 3) 0 ∙ ap (λ n. get_or header n 0) index in
+          get_or-part new 12 4 k below ∙ h.front (12 + k) (omega arith) (inr (omega arith)) ∙ sym (get_or-part old 12 4 k below) ∙ sym other
+    ])

@@ -35,15 +35,15 @@ pub record HasEdc (s : List ℕ) : Type 0 where
   pub is_word : IsEdc (take 2064 s) word
   pub at_end : slice_range s 2064 2068 ≡ to_le_bytes w32 word
 
--- the bytes stand in the user data from `offset` on, with the EDC behind it; in front of the parity nothing else has
--- changed, and no syndrome has
-pub record IsChanged (old new : List ℕ) (offset : ℕ) (bytes : List ℕ) : Type 0 where
-  pub fits : offset + length bytes ≤ 2048
+-- the bytes stand in the sector from `place` on, with the EDC behind the user data; in front of the parity nothing else
+-- has changed, and no syndrome has
+pub record IsChanged (old new : List ℕ) (place : ℕ) (bytes : List ℕ) : Type 0 where
+  pub fits : place + length bytes ≤ 2064
   pub size : length new ≡ 2352
   pub same_size : length new ≡ length old
   pub each : AreBytes new
-  pub range : (i : ℕ) → i < length bytes → slice_index new (16 + offset + i) ≡ slice_index bytes i
-  pub front : (i : ℕ) → i < 2064 → (i < 16 + offset) ⊎ (16 + offset + length bytes ≤ i) → slice_index new i ≡ slice_index old i
+  pub range : (i : ℕ) → i < length bytes → slice_index new (place + i) ≡ slice_index bytes i
+  pub front : (i : ℕ) → i < 2064 → (i < place) ⊎ (place + length bytes ≤ i) → slice_index new i ≡ slice_index old i
   pub zeros : (i : ℕ) → 2068 ≤ i → i < 2076 → slice_index new i ≡ slice_index old i
   pub edc : HasEdc new
   pub syndromes : SameSyndromes new old

@@ -5,11 +5,13 @@
 mod byte_by_byte;
 mod changes;
 mod difference;
+mod header;
 mod laws;
 mod user_data;
 
 pub use byte_by_byte::change_byte;
 pub use changes::{Change, parity_changes};
+pub use header::change_header;
 pub use laws::one_diagonal;
 pub use user_data::change_user;
 

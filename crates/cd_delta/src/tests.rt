@@ -1,4 +1,5 @@
 //! Worked changes, and changed sectors against encoded ones.
 
+mod header;
 mod parity;
 mod user_data;

@@ -34,19 +34,29 @@ pub fn change_user(s: &mut Sector, offset: u16, bytes: &[u8])
     ensures syndromes { SameSyndromes s.new s.old }
     ensures consistent { IsConsistent s.old → IsConsistent s.new }
 {
+    change(s, USER_DATA + offset as usize, bytes);
+}
+
+/// Writes bytes behind the sync field and in front of the EDC, then the EDC, and carries both into the parity.
+pub(crate) fn change(s: &mut Sector, place: usize, bytes: &[u8])
+    requires from { 12 ≤ place }
+    requires below { place + length bytes.now ≤ 2064 }
+    ensures { IsChanged s.old s.new place bytes.now }
+{
     if bytes.len() < MANY {
-        change_few(s, offset, bytes);
+        change_few(s, place, bytes);
     } else {
-        change_many(s, offset, bytes);
+        change_many(s, place, bytes);
     }
 }
 
 /// Writes the bytes one by one, and then the EDC, and carries each into the parity.
-fn change_few(s: &mut Sector, offset: u16, bytes: &[u8])
-    requires { offset + length bytes.now ≤ 2048 }
-    ensures { IsChanged s.old s.new offset bytes.now }
+fn change_few(s: &mut Sector, place: usize, bytes: &[u8])
+    requires from { 12 ≤ place }
+    requires below { place + length bytes.now ≤ 2064 }
+    ensures { IsChanged s.old s.new place bytes.now }
 {
-    write_few(s, USER_DATA + offset as usize, bytes);
+    write_few(s, place, bytes);
     write_edc(s);
 }
 
@@ -61,11 +71,11 @@ fn write_edc(s: &mut Sector)
 }
 
 /// Writes the bytes and the EDC, and carries both into the parity at once.
-fn change_many(s: &mut Sector, offset: u16, bytes: &[u8])
-    requires { offset + length bytes.now ≤ 2048 }
-    ensures { IsChanged s.old s.new offset bytes.now }
+fn change_many(s: &mut Sector, place: usize, bytes: &[u8])
+    requires { place + length bytes.now ≤ 2064 }
+    ensures { IsChanged s.old s.new place bytes.now }
 {
-    let front = front_with(s, USER_DATA + offset as usize, bytes);
+    let front = front_with(s, place, bytes);
     carry_front(s, &front);
 }
 

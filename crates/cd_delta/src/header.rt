@@ -1,0 +1,31 @@
+//! Writing the address in the header of a Mode 1 sector by differences (ECMA-130, the clause on the digital data
+//! structure of sectors and Annex A).
+
+ghost use Rattle.std.specs.Prelude.{◌≡◌, ℕ, ◌++◌, ◌<◌, ◌≤◌, ◌⊎◌, drop, slice_index, slice_range, take};
+ghost use Rattle.std.specs.Int.{from_le_bytes, w32};
+ghost use Rattle.cd_code.specs.Edc.{IsEdc, bits, remainder};
+ghost use Rattle.cd_sector.specs.CodeWords.{SameSyndromes};
+ghost use Rattle.cd_sector.specs.Consistent.{IsConsistent, header_of, user_of};
+ghost use Rattle.cd_sector.specs.Kind.{kind_of};
+ghost use Rattle.cd_sector.specs.declared.kinds.SectorKind.TheVariants.{Mode1};
+
+use crate::user_data::change;
+use cd_sector::{HEADER, Sector};
+
+/// Makes `bcd` bytes 12 to 14 of a Mode 1 sector, which are its address (three bytes, BCD or not), then writes the
+/// EDC of bytes 0 to 2063 behind them, and carries both into the parity, so that all 276 syndromes stay as they were
+/// (ECMA-130, the clause on the digital data structure of sectors and Annex A). The sector need not be consistent.
+pub fn change_header(s: &mut Sector, bcd: [u8; 3])
+    requires mode { kind_of s.old ≡ Mode1 }
+    ensures header { header_of s.new ≡ bcd ++ drop 3 (header_of s.old) }
+    ensures user { user_of s.new ≡ user_of s.old }
+    ensures edc { IsEdc (take 2064 s.new) (from_le_bytes w32 (slice_range s.new 2064 2068)) }
+    ensures divides { remainder (bits (take 2068 s.new)) ≡ 0 }
+    ensures kind { kind_of s.new ≡ kind_of s.old }
+    ensures stays { (i : ℕ) → (i < 12) ⊎ (((15 ≤ i) × (i < 2064)) ⊎ ((2068 ≤ i) × (i < 2076)))
+        → slice_index s.new i ≡ slice_index s.old i }
+    ensures syndromes { SameSyndromes s.new s.old }
+    ensures consistent { IsConsistent s.old → IsConsistent s.new }
+{
+    change(s, HEADER, &bcd);
+}
