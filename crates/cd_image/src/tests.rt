@@ -1,5 +1,6 @@
 //! Whole calls, at concrete sources and sinks.
 
+mod addresses;
 mod audits;
 mod bounds;
 mod failing;

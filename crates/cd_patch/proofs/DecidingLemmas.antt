@@ -6,7 +6,7 @@ use Rattle.std.proofs.lemmas.List.{get_or_append_left, get_or-append_right, get_
 use Rattle.std.proofs.lemmas.Option.{slice_get-get_or, slice_get_past}
 use Rattle.cd_script.specs.Patch.{IsEditAt, IsPatch}
 use Rattle.cd_script.specs.declared.patch.Edit.{Edit}
-use Rattle.cd_script.specs.declared.patch.Edit.TheVariants.{Put, Fill, Rebuild}
+use Rattle.cd_script.specs.declared.patch.Edit.TheVariants.{Put, Fill, Rebuild, Address}
 use Rattle.cd_script.specs.declared.patch.Patch.{Patch}
 use Rattle.cd_sector.proofs.DefectLemmas.{consistent-told, mode1_told}
 use Rattle.cd_sector.specs.Consistent.{IsConsistent, consistent, is_mode1, user_of}
@@ -277,12 +277,14 @@ old-fits_at offset (Put bytes None) low h = (omega arith, omega arith)
 old-fits_at offset (Put bytes (Some was)) low h = (omega (arith, h.0.some, h.1.1), omega (arith, h.0.most, h.1.1))
 old-fits_at offset (Fill count value) low h = (omega arith, omega arith)
 old-fits_at offset Rebuild low h = (omega arith, omega arith)
+old-fits_at offset (Address bcd) low h = (omega arith, omega arith)
 
 -- an edit that names old bytes asks for consistent sectors
 old-asked : (edit : Edit) → (length (old_bytes edit) ≡ 0) ⊎ (asks_sound edit ≡ true)
 old-asked (Put bytes was) = inr refl
 old-asked (Fill count value) = inr refl
 old-asked Rebuild = inl refl
+old-asked (Address bcd) = inl refl
 
 pub old-fits : (p : Patch) → IsPatch p → (p.offset + length (old_bytes p.edit) ≤ 2048 * blocks_met p) × (length (old_bytes p.edit) ≤ 4096)
 unfolding blocks_met

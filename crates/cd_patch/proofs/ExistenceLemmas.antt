@@ -2,11 +2,14 @@
 use Rattle.std.proofs.Common.{◌≡◌, ℕ, zero, suc, ◌+◌, ◌-◌, ◌<◌, ◌≤◌, ◌⊎◌, inl, inr, List, [], ◌∷◌, ◌++◌, length, get_or, take, drop, Some, refl, sym, ap, subst, ◌∙◌, arith, lit≤}
 use Rattle.std.specs.Prelude.{slice_range}
 use Rattle.std.specs.List.{All, slice_get}
+use Rattle.std.proofs.Math.Seq.{drop-append_seam}
 use Rattle.std.proofs.lemmas.List.{get_or-drop, length-drop, take_more}
 use Rattle.std.proofs.lemmas.List.Elements.{All-head, All-tail}
 use Rattle.std.proofs.lemmas.Option.{none-some, same_Some, slice_get-get_or}
 use Rattle.cd_code.specs.Field.{AreBytes}
-use Rattle.cd_script.specs.Patch.{IsPatch}
+use Rattle.cd_script.specs.Patch.{IsEditAt, IsPatch}
+use Rattle.cd_script.specs.declared.patch.Edit.{Edit}
+use Rattle.cd_script.specs.declared.patch.Edit.TheVariants.{Put, Fill, Rebuild, Address}
 use Rattle.cd_script.specs.declared.patch.Patch.{Patch}
 use Rattle.cd_sector.specs.Consistent.{header_of}
 use Rattle.cd_sector.specs.Kind.{kind_of}
@@ -15,7 +18,7 @@ use Rattle.cd_sector.specs.declared.sector.TheConstants.{USER_SIZE}
 use Rattle.cd_sector.proofs.DefectLemmas.{length-range}
 use Rattle.cd_sector.proofs.ExistenceLemmas.{sector_found}
 use Rattle.cd_sector.proofs.SectorLemmas.{mode1-parts}
-use Rattle.cd_patch.specs.Blocks.{blocks_met, sector_at}
+use Rattle.cd_patch.specs.Blocks.{blocks_met, new_header, sector_at}
 use Rattle.cd_patch.specs.Deciding.{outcome}
 use Rattle.cd_patch.specs.Effect.{Effect, EffectOf, IsApplied, IsRemade, patched_user, user_part}
 use Rattle.cd_patch.specs.Laws.{IsSector}
@@ -26,7 +29,7 @@ use Rattle.cd_patch.proofs.AcceptedLemmas.{AreThere, accepted-there}
 use Rattle.cd_patch.proofs.ElementLemmas.{option_cases}
 use Rattle.cd_patch.proofs.LeavesLemmas.{Effect-sectors, meets-cases}
 use Rattle.cd_patch.proofs.SectorAtLemmas.{sector_at-add, sector_at-from, sector_at-none, sector_at-within}
-use Rattle.cd_patch.proofs.UserLemmas.{AreBytes-range, AreBytes-user_part, IsSector-at, length-user_part}
+use Rattle.cd_patch.proofs.UserLemmas.{AreBytes-address, AreBytes-range, AreBytes-user_part, IsSector-at, length-user_part}
 
 -- where each index has an element with a property, there is a list of such elements
 chosen : {X : Type 0} (P : ℕ → X → Type 0) (n : ℕ) → ((i : ℕ) → i < n → (x : X) × P i x) → (xs : List X) × (length xs ≡ n) × ((i : ℕ) (x : X) → slice_get xs i ≡ Some x → P i x)
@@ -50,13 +53,43 @@ header-mode1 sector h mode =
     ap (λ b. take 3 (drop 12 sector) ++ b ∷ []) (sym last)
     ∙ sym (take_more (drop 12 sector) 3 0 (omega (arith, length-drop 12 sector, h.size)))
 
-sector_remade : (before user : List ℕ) → IsSector before → kind_of before ≡ Mode1 → AreBytes user → length user ≡ USER_SIZE → (after : List ℕ) × IsRemade (header_of before) user after
-sector_remade before user h mode bytes size =
-    let made = sector_found (slice_range before 12 15) user (AreBytes-range before 12 15 h.bytes) (length-range before 12 15 (lit≤ tt) (omega (arith, h.size))) bytes size in (
+-- a header of Mode 1: three bytes, and the mode byte
+record IsHeader (header : List ℕ) : Type 0 where
+  address : List ℕ
+  bytes : AreBytes address
+  size : length address ≡ 3
+  whole : address ++ 1 ∷ [] ≡ header
+
+IsHeader-of : (sector : List ℕ) → IsSector sector → kind_of sector ≡ Mode1 → IsHeader (header_of sector)
+IsHeader-of sector h mode = record {
+  address = slice_range sector 12 15;
+  bytes = AreBytes-range sector 12 15 h.bytes;
+  size = length-range sector 12 15 (lit≤ tt) (omega (arith, h.size));
+  whole = header-mode1 sector h mode;
+}
+
+mode-behind : (header : List ℕ) → IsHeader header → drop 3 header ≡ 1 ∷ []
+mode-behind header h =
+    ap (drop 3) (sym h.whole) ∙ ap (λ n. drop n (h.address ++ 1 ∷ [])) (sym h.size) ∙ drop-append_seam h.address (1 ∷ [])
+
+IsHeader-new : (offset : ℕ) (edit : Edit) (header : List ℕ) → IsEditAt offset edit → IsHeader header → IsHeader (new_header edit header)
+IsHeader-new offset (Put bytes was) header kept h = h
+IsHeader-new offset (Fill count value) header kept h = h
+IsHeader-new offset Rebuild header kept h = h
+IsHeader-new offset (Address bcd) header kept h = record {
+  address = bcd;
+  bytes = AreBytes-address bcd kept.1;
+  size = ap length kept.1.are;
+  whole = ap (λ rest. bcd ++ rest) (sym (mode-behind header h));
+}
+
+sector_remade : (header user : List ℕ) → IsHeader header → AreBytes user → length user ≡ USER_SIZE → (after : List ℕ) × IsRemade header user after
+sector_remade header user h bytes size =
+    let made = sector_found h.address user h.bytes h.size bytes size in (
       made.0,
       record {
         is_consistent = made.1.is_consistent;
-        has_header = made.1.has_header ∙ header-mode1 before h mode;
+        has_header = made.1.has_header ∙ h.whole;
         has_user = made.1.has_user;
       },
     )
@@ -66,7 +99,7 @@ sector_remade before user h mode bytes size =
 -- what stands in a block behind an accepted patch
 record Follows (base : ℕ) (p : Patch) (old : List (List ℕ)) (block : ℕ) (after : List ℕ) : Type 0 where
   met : (before : List ℕ) → p.block ≤ block → block < p.block + blocks_met p → sector_at old base block ≡ Some before
-      → IsRemade (header_of before) (user_part (patched_user old base p) (block - p.block)) after
+      → IsRemade (new_header p.edit (header_of before)) (user_part (patched_user old base p) (block - p.block)) after
   others : (block < p.block) ⊎ (p.block + blocks_met p ≤ block) → sector_at old base block ≡ Some after
 
 followed : (base : ℕ) (p : Patch) (old : List (List ℕ)) → IsPatch p → All IsSector old → AreThere old base p → (block : ℕ) (before : List ℕ) → sector_at old base block ≡ Some before
@@ -76,11 +109,12 @@ followed base p old kept each there block before is = elim (meets-cases p block)
       let t = there block met.0 met.1 in
       let same : before ≡ t.sector = same_Some before t.sector (sym is ∙ t.is) in
       let made =
-      sector_remade before (user_part (patched_user old base p) (block - p.block)) (IsSector-at old base block before each is) (ap kind_of same ∙ t.mode)
+      sector_remade (new_header p.edit (header_of before)) (user_part (patched_user old base p) (block - p.block))
+      (IsHeader-new p.offset p.edit (header_of before) kept.edit (IsHeader-of before (IsSector-at old base block before each is) (ap kind_of same ∙ t.mode)))
       (AreBytes-user_part old base p each there kept (block - p.block)) (length-user_part old base p each there kept (block - p.block) (omega (arith, met.0, met.1))) in (
         made.0,
         record {
-          met = λ b from to was. let e = same_Some before b (sym is ∙ was) in subst (λ s. IsRemade (header_of s) (user_part (patched_user old base p) (block - p.block)) made.0) e made.1;
+          met = λ b from to was. let e = same_Some before b (sym is ∙ was) in subst (λ s. IsRemade (new_header p.edit (header_of s)) (user_part (patched_user old base p) (block - p.block)) made.0) e made.1;
           others = λ side. elim side [ inl below ↦ absurd (omega (arith, met.0)) | inr behind ↦ absurd (omega (arith, met.1)) ];
         },
       )
@@ -110,7 +144,7 @@ applied_to base p old kept each there =
           count = count;
           met = λ k before after inside is was.
               let e : p.block + k - p.block ≡ k = omega arith in
-              subst (λ n. IsRemade (header_of before) (user_part (patched_user old base p) n) after) e ((at (p.block + k) after was).met before (omega arith) (omega arith) is);
+              subst (λ n. IsRemade (new_header p.edit (header_of before)) (user_part (patched_user old base p) n) after) e ((at (p.block + k) after was).met before (omega arith) (omega arith) is);
           others = λ block side. elim (option_cases (sector_at new base block)) [
             | inl none ↦ none ∙ sym (sector_at-none new old base block (sym count) none)
             | inr some ↦ some.1 ∙ sym ((at block some.0 some.1).others side)

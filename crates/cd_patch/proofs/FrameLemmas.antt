@@ -4,12 +4,12 @@ use Rattle.std.specs.Prelude.{unwrap_or}
 use Rattle.std.proofs.lemmas.Bool.{cases_lt}
 use Rattle.std.proofs.lemmas.List.{length-append}
 use Rattle.cd_script.specs.declared.patch.Edit.{Edit}
-use Rattle.cd_script.specs.declared.patch.Edit.TheVariants.{Put, Fill, Rebuild}
+use Rattle.cd_script.specs.declared.patch.Edit.TheVariants.{Put, Fill, Rebuild, Address}
 use Rattle.cd_script.specs.declared.patch.Patch.{Patch}
 use Rattle.cd_sector.specs.Consistent.{header_of}
 use Rattle.cd_sector.specs.declared.sector.TheConstants.{USER_SIZE}
 use Rattle.cd_delta.specs.Writing.{written}
-use Rattle.cd_patch.specs.Blocks.{asks_sound, blocks_met, blocks_of, new_bytes, old_bytes, sector_at}
+use Rattle.cd_patch.specs.Blocks.{asks_sound, blocks_met, blocks_of, new_bytes, new_header, old_bytes, sector_at}
 use Rattle.cd_patch.specs.Deciding.{by_difference, first_difference, first_of, first_refusal, joined_user, outcome, refusal_at, user_at, user_met}
 use Rattle.cd_patch.specs.Effect.{Effect, EffectOf, IsApplied, IsRemade, patched_user, user_part}
 use Rattle.cd_patch.specs.declared.outcome.Outcome.{Outcome}
@@ -59,6 +59,7 @@ blocks_of-some : (offset : ℕ) (edit : Edit) → (n : ℕ) × (blocks_of offset
 blocks_of-some offset (Put bytes was) = ((offset + length bytes - 1) / USER_SIZE, add-one _)
 blocks_of-some offset (Fill count value) = ((offset + count - 1) / USER_SIZE, add-one _)
 blocks_of-some offset Rebuild = (0, refl)
+blocks_of-some offset (Address bcd) = (0, refl)
 
 pub blocks_met-some : (p : Patch) → (n : ℕ) × (blocks_met p ≡ suc n)
 unfolding blocks_met
@@ -106,7 +107,7 @@ IsApplied-frame front window window' more base block p e from room h =
     record {
       count = omega (arith, h.count, length-append front (window' ++ more), length-append front (window ++ more), length-append window' more, length-append window more);
       met = λ k before after inside is was.
-          subst (λ user. IsRemade (header_of before) (user_part user k) after) (sym (patched_user-same (front ++ (window ++ more)) window base block p same))
+          subst (λ user. IsRemade (new_header p.edit (header_of before)) (user_part user k) after) (sym (patched_user-same (front ++ (window ++ more)) window base block p same))
           (h.met k before after inside (sym (same (p.block + k) (omega arith) (omega arith)) ∙ is) (sym (same' (p.block + k) (omega arith) (omega arith)) ∙ was));
       others = λ b side. elim (cases_lt b block) [
         | inl below ↦

@@ -2,7 +2,7 @@
 use Rattle.std.proofs.Common.{◌≡◌, ℕ, ◌+◌, ◌<◌, ◌≤◌, ◌⊎◌, inl, inr, true, false, ◌&&◌, List, [], ◌∷◌, length, get_or, Some, refl, sym, ap, subst, ◌∙◌, arith}
 use Rattle.std.specs.Prelude.{if◌then◌else◌, nat_le, nat_lt}
 use Rattle.std.specs.List.{All}
-use Rattle.std.proofs.lemmas.Bool.{and_from, and_parts, cases_Bool, cases_lt, cond-false, false≢true, le-leb, leb-true, lt-ltb, ltb-true, or_cases, or_parts}
+use Rattle.std.proofs.lemmas.Bool.{and_from, and_parts, cases_Bool, cases_lt, cond-false, cond-true, false≢true, le-leb, leb-true, lt-ltb, ltb-true, or_cases, or_parts}
 use Rattle.std.proofs.lemmas.List.{ext_get_or}
 use Rattle.std.proofs.lemmas.List.Elements.{All-head, All-same, All-tail}
 use Rattle.std.proofs.lemmas.Option.{same_Some, slice_get-get_or}
@@ -11,10 +11,10 @@ use Rattle.cd_script.specs.declared.patch.Patch.{Patch}
 use Rattle.cd_sector.specs.Consistent.{IsConsistent, header_of, user_of}
 use Rattle.cd_sector.specs.declared.sector.TheConstants.{USER_SIZE}
 use Rattle.cd_sector.proofs.SectorLemmas.{sector_unique}
-use Rattle.cd_patch.specs.Blocks.{blocks_met, sector_at}
+use Rattle.cd_patch.specs.Blocks.{blocks_met, new_header, sector_at}
 use Rattle.cd_patch.specs.Deciding.{outcome}
 use Rattle.cd_patch.specs.Effect.{Effect, EffectOf, IsApplied}
-use Rattle.cd_patch.specs.Laws.{IsSector, LeavesOthers, byte_by, byte_left, is_applied, is_touched, meets}
+use Rattle.cd_patch.specs.Laws.{IsSector, LeavesOthers, byte_by, byte_left, header_left, is_applied, is_touched, meets}
 use Rattle.cd_patch.specs.Run.{PatchRun}
 use Rattle.cd_patch.specs.declared.outcome.Outcome.{Outcome}
 use Rattle.cd_patch.specs.declared.outcome.Outcome.TheVariants.{Applied, Damaged, Differs, NoBlock, NotMode1}
@@ -50,6 +50,12 @@ meets-false p block e = elim (meets-cases p block) [
   | inr other ↦ other
 ]
 
+meets-other : (p : Patch) (block : ℕ) → (block < p.block) ⊎ (p.block + blocks_met p ≤ block) → meets p block ≡ false
+meets-other p block other = elim (cases_Bool (meets p block)) [
+  | inl met ↦ let within = meets-within p block met in absurd (elim other [ inl below ↦ omega (arith, within.0) | inr behind ↦ omega (arith, within.1) ])
+  | inr e ↦ e
+]
+
 -- ---- one patch
 
 -- what a patch with this outcome leaves
@@ -57,7 +63,8 @@ record Leaves (o : Outcome) (base : ℕ) (p : Patch) (old new : List (List ℕ))
   count : length new ≡ length old
   others : (block : ℕ) → (is_applied o && meets p block) ≡ false → sector_at new base block ≡ sector_at old base block
   consistent : (block : ℕ) (before after : List ℕ) → (is_applied o && meets p block) ≡ true → sector_at old base block ≡ Some before → sector_at new base block ≡ Some after → IsConsistent after
-  header : (block : ℕ) (before after : List ℕ) → sector_at old base block ≡ Some before → sector_at new base block ≡ Some after → header_of after ≡ header_of before
+  header : (block : ℕ) (before after : List ℕ) → sector_at old base block ≡ Some before → sector_at new base block ≡ Some after
+      → header_of after ≡ (if is_applied o && meets p block then new_header p.edit (header_of before) else header_of before)
   user : (block offset : ℕ) (before after : List ℕ) → offset < USER_SIZE → sector_at old base block ≡ Some before → sector_at new base block ≡ Some after
       → get_or (user_of after) offset 0 ≡ (if is_applied o then byte_by p block offset (get_or (user_of before) offset 0) else get_or (user_of before) offset 0)
 
@@ -66,7 +73,9 @@ Leaves-refused o base p old new refused e = record {
   count = ap length e;
   others = λ block h. ap (λ l. sector_at l base block) e;
   consistent = λ block before after h is was. absurd (false≢true (sym refused ∙ (and_parts (is_applied o) (meets p block) h).0));
-  header = λ block before after is was. ap header_of (same block before after is was);
+  header = λ block before after is was.
+      let none : (is_applied o && meets p block) ≡ false = ap (λ b. b && meets p block) refused in
+      ap header_of (same block before after is was) ∙ sym (cond-false (is_applied o && meets p block) (new_header p.edit (header_of before)) (header_of before) none);
   user = λ block offset before after low is was.
       ap (λ s. get_or (user_of s) offset 0) (same block before after is was)
       ∙ sym (cond-false (is_applied o) (byte_by p block offset (get_or (user_of before) offset 0)) (get_or (user_of before) offset 0) refused);
@@ -83,8 +92,12 @@ Leaves-applied base p old new kept each there h = record {
       let within = meets-within p block met in
       (IsApplied-at base p old new h block before after within.0 within.1 is was).is_consistent;
   header = λ block before after is was. elim (meets-cases p block) [
-    | inl met ↦ (IsApplied-at base p old new h block before after met.0 met.1 is was).has_header
-    | inr other ↦ ap header_of (same block before after other is was)
+    | inl met ↦
+        (IsApplied-at base p old new h block before after met.0 met.1 is was).has_header
+        ∙ sym (cond-true (meets p block) (new_header p.edit (header_of before)) (header_of before) (meets-true p block met.0 met.1))
+    | inr other ↦
+        ap header_of (same block before after other is was)
+        ∙ sym (cond-false (meets p block) (new_header p.edit (header_of before)) (header_of before) (meets-other p block other))
   ];
   user = λ block offset before after low is was. elim (meets-cases p block) [
     | inl met ↦
@@ -151,7 +164,7 @@ LeavesOthers-more p ps o os base old next last one rest = record {
   ];
   header = λ block before after is was.
       let middle = sector_at-other old next base block before one.count is in
-      rest.header block middle.0 after middle.1 was ∙ one.header block before middle.0 is middle.1;
+      rest.header block middle.0 after middle.1 was ∙ ap (header_left ps os block) (one.header block before middle.0 is middle.1);
   user = λ block offset before after low is was.
       let middle = sector_at-other old next base block before one.count is in
       rest.user block offset middle.0 after low middle.1 was ∙ ap (byte_left ps os block offset) (one.user block offset before middle.0 low is middle.1);

@@ -16,12 +16,12 @@ use Rattle.cd_patch.specs.Parts.{EachMade, HasPart, IsPart}
 -- ---- one sector
 
 -- the part of the bytes that lies in a sector, written there
-pub HasPart-written : (k offset place first end : ℕ) (bytes part before after : List ℕ) → IsPart k offset (length bytes) place first end
+pub HasPart-written : (k offset place first end : ℕ) (bytes part header before after : List ℕ) → IsPart k offset (length bytes) place first end
     → length (user_of before) ≡ 2048 → first + length part ≡ end
     → ((i : ℕ) → i < length part → get_or part i 0 ≡ get_or bytes (first + i) 0)
-    → IsConsistent after → header_of after ≡ header_of before → user_of after ≡ written (user_of before) place part
-    → HasPart k offset bytes before after
-HasPart-written k offset place first end bytes part before after at size long same sound header user =
+    → IsConsistent after → header_of after ≡ header → user_of after ≡ written (user_of before) place part
+    → HasPart k offset bytes header before after
+HasPart-written k offset place first end bytes part header before after at size long same sound is_header user =
     let rises = at.rises in
     let within = at.within in
     let fits = at.fits in
@@ -29,7 +29,7 @@ HasPart-written k offset place first end bytes part before after at size long sa
     let room : place + length part ≤ length (user_of before) = omega arith in
     record {
       is_consistent = sound;
-      has_header = header;
+      has_header = is_header;
       inside = λ i j below inside there.
           let from : first ≤ i = elim at.from_start [ inl e ↦ omega arith | inr e ↦ omega arith ] in
           let to : i < end = elim at.to_end [ inl e ↦ omega arith | inr e ↦ omega arith ] in
@@ -48,22 +48,22 @@ HasPart-written k offset place first end bytes part before after at size long sa
     }
 
 -- a sector in which nothing is written
-pub HasPart-nothing : (k offset : ℕ) (bytes before after : List ℕ) → length bytes ≡ 0 → IsConsistent after → header_of after ≡ header_of before
-    → user_of after ≡ user_of before → HasPart k offset bytes before after
-HasPart-nothing k offset bytes before after none sound header user = record {
+pub HasPart-nothing : (k offset : ℕ) (bytes header before after : List ℕ) → length bytes ≡ 0 → IsConsistent after → header_of after ≡ header
+    → user_of after ≡ user_of before → HasPart k offset bytes header before after
+HasPart-nothing k offset bytes header before after none sound is_header user = record {
   is_consistent = sound;
-  has_header = header;
+  has_header = is_header;
   inside = λ i j below inside there. absurd (omega arith);
   outside = λ j below out. ap (λ u. get_or u j 0) user;
 }
 
 -- its user data is its part of the joined user data with the bytes in their range
-pub user_part-of : (k count offset : ℕ) (bytes joined before after : List ℕ) → k < count → length joined ≡ 2048 * count
+pub user_part-of : (k count offset : ℕ) (bytes joined header before after : List ℕ) → k < count → length joined ≡ 2048 * count
     → offset + length bytes ≤ 2048 * count → length (user_of after) ≡ 2048
     → ((j : ℕ) → j < 2048 → get_or joined (2048 * k + j) 0 ≡ get_or (user_of before) j 0)
-    → HasPart k offset bytes before after → user_of after ≡ user_part (written joined offset bytes) k
+    → HasPart k offset bytes header before after → user_of after ≡ user_part (written joined offset bytes) k
 unfolding user_part
-user_part-of k count offset bytes joined before after inside size fits after_size same part =
+user_part-of k count offset bytes joined header before after inside size fits after_size same part =
     let whole = written joined offset bytes in
     let room : offset + length bytes ≤ length joined = omega arith in
     let long = length-written joined offset bytes room in
@@ -138,23 +138,23 @@ EachMade-one Rule old after one here = record {
 -- ---- equal bytes, and the header of a sector made anew
 
 -- any bytes of a filled range are the first of as many equal ones
-pub HasPart-filled : (k offset place first end count value n : ℕ) (bytes before after : List ℕ) → IsPart k offset count place first end
+pub HasPart-filled : (k offset place first end count value n : ℕ) (bytes header before after : List ℕ) → IsPart k offset count place first end
     → length (user_of before) ≡ 2048 → bytes ≡ replicate 2048 value
-    → IsConsistent after → header_of after ≡ header_of before → user_of after ≡ written (user_of before) place (take n bytes)
-    → first + n ≡ end → HasPart k offset (replicate count value) before after
-HasPart-filled k offset place first end count value n bytes before after at size filled sound header user part =
+    → IsConsistent after → header_of after ≡ header → user_of after ≡ written (user_of before) place (take n bytes)
+    → first + n ≡ end → HasPart k offset (replicate count value) header before after
+HasPart-filled k offset place first end count value n bytes header before after at size filled sound is_header user part =
     let fits = at.fits in
     let within = at.within in
     let long : length bytes ≡ 2048 = ap length filled ∙ length-replicate 2048 value in
     let cut = length-take-le n bytes (omega arith) in
     let whole = subst (λ m. IsPart k offset m place first end) (sym (length-replicate count value)) at in
-    HasPart-written k offset place first end (replicate count value) (take n bytes) before after whole size (omega arith)
+    HasPart-written k offset place first end (replicate count value) (take n bytes) header before after whole size (omega arith)
     (λ i below.
     get_or-take n bytes i 0 (omega arith)
     ∙ ap (λ v. get_or v i 0) filled
     ∙ get_or-replicate 2048 i value 0 (omega arith)
     ∙ sym (get_or-replicate count (first + i) value 0 (omega arith)))
-    sound header user
+    sound is_header user
 
 four_bytes : (v : List ℕ) → length v ≡ 4 → v ≡ get_or v 0 0 ∷ get_or v 1 0 ∷ get_or v 2 0 ∷ get_or v 3 0 ∷ []
 four_bytes [] size = absurd (omega arith)

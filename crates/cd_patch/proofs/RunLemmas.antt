@@ -7,7 +7,7 @@ use Rattle.std.proofs.lemmas.List.Elements.{All-head, All-tail}
 use Rattle.cd_script.specs.declared.patch.Patch.{Patch}
 use Rattle.cd_sector.specs.Consistent.{header_of}
 use Rattle.cd_sector.proofs.SectorLemmas.{sector_unique}
-use Rattle.cd_patch.specs.Blocks.{blocks_met, sector_at}
+use Rattle.cd_patch.specs.Blocks.{blocks_met, new_header, sector_at}
 use Rattle.cd_patch.specs.Deciding.{outcome}
 use Rattle.cd_patch.specs.Effect.{Effect, EffectOf, IsApplied, IsRemade, patched_user, user_part}
 use Rattle.cd_patch.specs.Run.{PatchRun}
@@ -81,7 +81,7 @@ PatchRun-front ps os base front rest last from h =
 -- ---- equal sectors stay equal
 
 pub IsApplied-at : (base : ℕ) (p : Patch) (old new : List (List ℕ)) → IsApplied base p old new → (block : ℕ) (before after : List ℕ) → p.block ≤ block → block < p.block + blocks_met p
-    → sector_at old base block ≡ Some before → sector_at new base block ≡ Some after → IsRemade (header_of before) (user_part (patched_user old base p) (block - p.block)) after
+    → sector_at old base block ≡ Some before → sector_at new base block ≡ Some after → IsRemade (new_header p.edit (header_of before)) (user_part (patched_user old base p) (block - p.block)) after
 IsApplied-at base p old new h block before after from below is was =
     let e : p.block + (block - p.block) ≡ block = omega arith in
     h.met (block - p.block) before after (omega arith) (ap (sector_at old base) e ∙ is) (ap (sector_at new base) e ∙ was)

@@ -7,12 +7,12 @@ use Rattle.std.proofs.lemmas.List.Elements.{All-get_or}
 use Rattle.std.proofs.lemmas.Option.{get_or_from_slice_get, slice_get-get_or, slice_get_past}
 use Rattle.cd_script.specs.Patch.{IsEditAt, IsPatch}
 use Rattle.cd_script.specs.declared.patch.Edit.{Edit}
-use Rattle.cd_script.specs.declared.patch.Edit.TheVariants.{Put, Fill, Rebuild}
+use Rattle.cd_script.specs.declared.patch.Edit.TheVariants.{Put, Fill, Rebuild, Address}
 use Rattle.cd_script.specs.declared.patch.Patch.{Patch}
-use Rattle.cd_sector.specs.Consistent.{IsConsistent, consistent, is_mode1, user_of}
+use Rattle.cd_sector.specs.Consistent.{IsConsistent, consistent, header_of, is_mode1, user_of}
 use Rattle.cd_sector.specs.Kind.{kind_of}
 use Rattle.cd_sector.specs.declared.kinds.SectorKind.TheVariants.{Mode1}
-use Rattle.cd_patch.specs.Blocks.{asks_sound, blocks_met, blocks_of, blocks_spanned, new_bytes, old_bytes, sector_at}
+use Rattle.cd_patch.specs.Blocks.{asks_sound, blocks_met, blocks_of, blocks_spanned, new_bytes, new_header, old_bytes, sector_at}
 use Rattle.cd_patch.specs.Deciding.{by_difference, first_difference, first_of, first_refusal, joined_user, outcome, refusal_at, user_met}
 use Rattle.cd_patch.specs.Effect.{Effect, EffectOf, IsApplied, patched_user}
 use Rattle.cd_patch.specs.Parts.{EachMade, HasPart, HaveUsers}
@@ -49,6 +49,10 @@ fill-spans p count value patch is =
 pub rebuild-alone : (p : Patch) → p.edit ≡ Rebuild → blocks_met p ≡ 1
 unfolding blocks_met
 rebuild-alone p is = ap (blocks_of p.offset) is
+
+pub address-alone : (p : Patch) (bcd : List ℕ) → p.edit ≡ Address bcd → blocks_met p ≡ 1
+unfolding blocks_met
+address-alone p bcd is = ap (blocks_of p.offset) is
 
 pub users-consistent : (ss : List (List ℕ)) → All IsConsistent ss → HaveUsers ss (length ss)
 users-consistent ss h k below = length-user (get_or ss k []) ((All-get_or IsConsistent ss k [] below h).size)
@@ -132,7 +136,7 @@ sector_at-below ss base block below = ap (λ b. cond b None (slice_get ss (block
 
 pub IsApplied-from : (p : Patch) (ss front : List (List ℕ)) → p.offset + length (new_bytes p.edit) ≤ 2048 * blocks_met p → blocks_met p ≤ length ss
     → HaveUsers (take (blocks_met p) ss) (length (take (blocks_met p) ss))
-    → EachMade (λ k before after. HasPart k p.offset (new_bytes p.edit) before after) (take (blocks_met p) ss) front
+    → EachMade (λ k before after. HasPart k p.offset (new_bytes p.edit) (new_header p.edit (header_of before)) before after) (take (blocks_met p) ss) front
     → IsApplied p.block p ss (front ++ drop (blocks_met p) ss)
 unfolding patched_user user_met
 IsApplied-from p ss front fits room front_users each =
@@ -155,12 +159,13 @@ IsApplied-from p ss front fits room front_users each =
           let is : get_or front k [] ≡ after =
           sym (get_or_append_left front (drop n ss) [] k (omega arith))
           ∙ get_or_from_slice_get new k after [] (sym (sector_at-add new p.block k) ∙ new_at) in
-          let old_part = subst (λ s. HasPart k p.offset bytes s (get_or front k [])) (get_or-front ss n k [] room inside ∙ was) (each.each k inside) in
-          let part : HasPart k p.offset bytes before after = subst (HasPart k p.offset bytes before) is old_part in
+          let old_part = subst (λ s. HasPart k p.offset bytes (new_header p.edit (header_of s)) s (get_or front k [])) (get_or-front ss n k [] room inside ∙ was) (each.each k inside) in
+          let header = new_header p.edit (header_of before) in
+          let part : HasPart k p.offset bytes header before after = subst (HasPart k p.offset bytes header before) is old_part in
           record {
             is_consistent = part.is_consistent;
             has_header = part.has_header;
-            has_user = user_part-of k n p.offset bytes joined before after below (length-joined 2048 ss p.block p.block n all) fits
+            has_user = user_part-of k n p.offset bytes joined header before after below (length-joined 2048 ss p.block p.block n all) fits
                 (length-user after part.is_consistent.size)
                 (λ j in_block.
                 joined-byte 2048 ss p.block p.block n all k j below in_block
@@ -182,6 +187,7 @@ new-fits_at : (offset : ℕ) (edit : Edit) → offset ≤ 2047 → IsEditAt offs
 new-fits_at offset (Put bytes was) low h = (spans offset (length bytes) low h.0.some h.0.most).room
 new-fits_at offset (Fill count value) low h = omega (arith, length-replicate count value, (spans offset count low h.0 h.1).room)
 new-fits_at offset Rebuild low h = omega arith
+new-fits_at offset (Address bcd) low h = let start = h.0 in omega arith
 
 pub new-fits : (p : Patch) → IsPatch p → p.offset + length (new_bytes p.edit) ≤ 2048 * blocks_met p
 unfolding blocks_met

@@ -1,15 +1,16 @@
 -- The user data of the blocks that a patch meets, byte by byte, before and after.
-use Rattle.std.proofs.Common.{◌≡◌, ℕ, zero, suc, ◌+◌, ◌-◌, ◌*◌, ◌<◌, ◌≤◌, ◌⊎◌, inl, inr, ◌&&◌, nat_lt, List, [], ◌++◌, length, get_or, take, drop, replicate, Some, sym, ap, subst, ◌∙◌, arith, lit<}
+use Rattle.std.proofs.Common.{◌≡◌, ℕ, zero, suc, ◌+◌, ◌-◌, ◌*◌, ◌<◌, ◌≤◌, ◌⊎◌, inl, inr, ◌&&◌, nat_lt, List, [], ◌∷◌, ◌++◌, length, get_or, take, drop, replicate, Some, sym, ap, subst, ◌∙◌, arith, lit<}
 use Rattle.std.specs.Prelude.{if◌then◌else◌, nat_le, slice_range}
 use Rattle.std.specs.List.{All}
 use Rattle.std.proofs.lemmas.Bool.{and_from, and_left, and_right, cases_lt, cond-false, cond-true, le-leb, le-ltb, lt-leb, lt-ltb}
 use Rattle.std.proofs.lemmas.List.{get_or_past}
-use Rattle.std.proofs.lemmas.List.Elements.{All-replicate}
+use Rattle.std.proofs.lemmas.List.Elements.{All-cons, All-nil, All-replicate}
 use Rattle.std.proofs.lemmas.Option.{same_Some}
 use Rattle.cd_code.specs.Field.{AreBytes}
+use Rattle.cd_script.specs.Address.{IsAddress, bcd}
 use Rattle.cd_script.specs.Patch.{IsEditAt, IsPatch}
 use Rattle.cd_script.specs.declared.patch.Edit.{Edit}
-use Rattle.cd_script.specs.declared.patch.Edit.TheVariants.{Put, Fill, Rebuild}
+use Rattle.cd_script.specs.declared.patch.Edit.TheVariants.{Put, Fill, Rebuild, Address}
 use Rattle.cd_script.specs.declared.patch.Patch.{Patch}
 use Rattle.cd_sector.specs.Consistent.{user_of}
 use Rattle.cd_sector.specs.declared.sector.TheConstants.{USER_SIZE}
@@ -49,10 +50,23 @@ AreBytes-all v h = λ i. elim (cases_lt i (length v)) [
   | inr past ↦ let none : get_or v i 0 ≡ 0 = get_or_past v i 0 past in rw none (lit< tt)
 ]
 
+-- the three bytes of an address
+bcd-byte : (n : ℕ) → n < 100 → bcd n < 256
+bcd-byte n lt = omega arith
+
+pub AreBytes-address : (bytes : List ℕ) → IsAddress bytes → AreBytes bytes
+AreBytes-address bytes h =
+    subst AreBytes (sym h.are)
+    (AreBytes-all (bcd h.minute ∷ bcd h.second ∷ bcd h.fraction ∷ [])
+    (All-cons (λ b. b < 256) (bcd h.minute) (bcd h.second ∷ bcd h.fraction ∷ []) (bcd-byte h.minute h.is_minute)
+    (All-cons (λ b. b < 256) (bcd h.second) (bcd h.fraction ∷ []) (bcd-byte h.second (omega (arith, h.is_second)))
+    (All-cons (λ b. b < 256) (bcd h.fraction) [] (bcd-byte h.fraction (omega (arith, h.is_fraction))) (All-nil (λ b. b < 256))))))
+
 new_bytes_are : (offset : ℕ) (edit : Edit) → IsEditAt offset edit → AreBytes (new_bytes edit)
 new_bytes_are offset (Put bytes was) h = AreBytes-all bytes h.0.each
 new_bytes_are offset (Fill count value) h = AreBytes-all (replicate count value) (All-replicate (λ b. b < 256) count value h.2)
 new_bytes_are offset Rebuild h = λ i. lit< tt
+new_bytes_are offset (Address bcd) h = λ i. lit< tt
 
 pub AreBytes-new : (p : Patch) → IsPatch p → AreBytes (new_bytes p.edit)
 AreBytes-new p h = new_bytes_are p.offset p.edit h.edit

@@ -4,7 +4,7 @@ use Rattle.cd_script.specs.declared.patch.Patch.{Patch}
 use Rattle.cd_sector.specs.Consistent.{IsConsistent, header_of, user_of}
 use Rattle.cd_sector.specs.declared.sector.TheConstants.{USER_SIZE}
 use Rattle.cd_delta.specs.Writing.{written}
-use Rattle.cd_patch.specs.Blocks.{blocks_met, new_bytes, sector_at}
+use Rattle.cd_patch.specs.Blocks.{blocks_met, new_bytes, new_header, sector_at}
 use Rattle.cd_patch.specs.Deciding.{outcome, user_met}
 use Rattle.cd_patch.specs.declared.outcome.Outcome.{Outcome}
 use Rattle.cd_patch.specs.declared.outcome.Outcome.TheVariants.{Applied, Damaged, Differs, NoBlock, NotMode1}
@@ -23,12 +23,12 @@ patched_user sectors base p = written (user_met sectors base p) p.offset (new_by
 unfoldable pub user_part : List ℕ → ℕ → List ℕ
 user_part user k = slice_range user (USER_SIZE * k) (USER_SIZE * (k + 1))
 
--- an accepted patch: each block that it meets has its old header and its part of the patched user data, and is
--- consistent; every other is as it was
+-- an accepted patch: each block that it meets has the header that the patch makes of its old one and its part of the
+-- patched user data, and is consistent; every other is as it was
 pub record IsApplied (base : ℕ) (p : Patch) (old new : List (List ℕ)) : Type 0 where
   pub count : length new ≡ length old
   pub met : (k : ℕ) (before after : List ℕ) → k < blocks_met p → sector_at old base (p.block + k) ≡ Some before → sector_at new base (p.block + k) ≡ Some after
-      → IsRemade (header_of before) (user_part (patched_user old base p) k) after
+      → IsRemade (new_header p.edit (header_of before)) (user_part (patched_user old base p) k) after
   pub others : (block : ℕ) → (block < p.block) ⊎ (p.block + blocks_met p ≤ block) → sector_at new base block ≡ sector_at old base block
 
 -- a refused patch changes nothing

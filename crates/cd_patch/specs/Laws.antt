@@ -6,7 +6,7 @@ use Rattle.cd_script.specs.Patch.{IsPatch}
 use Rattle.cd_script.specs.declared.patch.Patch.{Patch}
 use Rattle.cd_sector.specs.Consistent.{IsConsistent, header_of, user_of}
 use Rattle.cd_sector.specs.declared.sector.TheConstants.{SECTOR_SIZE, USER_SIZE}
-use Rattle.cd_patch.specs.Blocks.{blocks_met, new_bytes, sector_at}
+use Rattle.cd_patch.specs.Blocks.{blocks_met, new_bytes, new_header, sector_at}
 use Rattle.cd_patch.specs.Run.{PatchRun}
 use Rattle.cd_patch.specs.declared.outcome.Outcome.{Outcome}
 use Rattle.cd_patch.specs.declared.outcome.Outcome.TheVariants.{Applied, Damaged, Differs, NoBlock, NotMode1}
@@ -71,13 +71,21 @@ byte_left (p ∷ ps) [] block offset before = before
 byte_left (p ∷ ps) (o ∷ os) block offset before =
     byte_left ps os block offset (if is_applied o then byte_by p block offset before else before)
 
--- a sector that no accepted patch meets is the old one; each other one is consistent, with its old header and the user
--- bytes that the accepted patches leave in order
+-- the header that the accepted patches leave, in order
+abbrev pub header_left : List Patch → List Outcome → ℕ → List ℕ → List ℕ
+header_left [] os block before = before
+header_left (p ∷ ps) [] block before = before
+header_left (p ∷ ps) (o ∷ os) block before =
+    header_left ps os block (if is_applied o && meets p block then new_header p.edit before else before)
+
+-- a sector that no accepted patch meets is the old one; each other one is consistent, with the header and the user bytes
+-- that the accepted patches leave in order
 pub record LeavesOthers (ps : List Patch) (os : List Outcome) (base : ℕ) (old last : List (List ℕ)) : Type 0 where
   pub count : length last ≡ length old
   pub others : (block : ℕ) → is_touched ps os block ≡ false → sector_at last base block ≡ sector_at old base block
   pub consistent : (block : ℕ) (before after : List ℕ) → is_touched ps os block ≡ true → sector_at old base block ≡ Some before → sector_at last base block ≡ Some after → IsConsistent after
-  pub header : (block : ℕ) (before after : List ℕ) → sector_at old base block ≡ Some before → sector_at last base block ≡ Some after → header_of after ≡ header_of before
+  pub header : (block : ℕ) (before after : List ℕ) → sector_at old base block ≡ Some before → sector_at last base block ≡ Some after
+      → header_of after ≡ header_left ps os block (header_of before)
   pub user : (block offset : ℕ) (before after : List ℕ) → offset < USER_SIZE → sector_at old base block ≡ Some before → sector_at last base block ≡ Some after
       → slice_index (user_of after) offset ≡ byte_left ps os block offset (slice_index (user_of before) offset)
 

@@ -17,10 +17,10 @@ pub record IsPart (k offset count place first end : ℕ) : Type 0 where
   pub from_start : (first ≡ 0) ⊎ (place ≡ 0)
   pub to_end : (end ≡ count) ⊎ (place + end ≡ USER_SIZE + first)
 
--- the sector at number k is consistent, with its old header, and has those of the bytes that lie in it
-pub record HasPart (k offset : ℕ) (bytes before after : List ℕ) : Type 0 where
+-- the sector at number k is consistent, with this header, and has those of the bytes that lie in it
+pub record HasPart (k offset : ℕ) (bytes header before after : List ℕ) : Type 0 where
   pub is_consistent : IsConsistent after
-  pub has_header : header_of after ≡ header_of before
+  pub has_header : header_of after ≡ header
   pub inside : (i j : ℕ) → i < length bytes → j < USER_SIZE → USER_SIZE * k + j ≡ offset + i → slice_index (user_of after) j ≡ slice_index bytes i
   pub outside : (j : ℕ) → j < USER_SIZE → (USER_SIZE * k + j < offset) ⊎ (offset + length bytes ≤ USER_SIZE * k + j) → slice_index (user_of after) j ≡ slice_index (user_of before) j
 

@@ -20,7 +20,7 @@ pub fn blocks_met(patch: &Patch) -> usize
     match &patch.edit {
         Edit::Put { bytes, was: _ } => blocks_spanned(patch.offset, bytes.as_slice().len()),
         Edit::Fill { count, value: _ } => blocks_spanned(patch.offset, *count as usize),
-        Edit::Rebuild => 1,
+        Edit::Rebuild | Edit::Address { .. } => 1,
     }
 }
 
@@ -60,7 +60,7 @@ fn asks_sound(edit: &Edit) -> bool
     ensures { result ≡ asks_sound edit.now }
 {
     match edit {
-        Edit::Put { .. } | Edit::Fill { .. } => true,
+        Edit::Put { .. } | Edit::Fill { .. } | Edit::Address { .. } => true,
         Edit::Rebuild => false,
     }
 }
@@ -74,7 +74,7 @@ fn old_bytes(edit: &Edit) -> &[u8]
             Some(was) => was.as_slice(),
             None => &[],
         },
-        Edit::Fill { .. } | Edit::Rebuild => &[],
+        Edit::Fill { .. } | Edit::Rebuild | Edit::Address { .. } => &[],
     }
 }
 

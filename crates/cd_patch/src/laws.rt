@@ -18,7 +18,7 @@ pub fn runs_agree()
     ensures { RunsAgree }
 {}
 
-/// A sector that no accepted patch meets is the old one; each other one is consistent, with its old header and the
+/// A sector that no accepted patch meets is the old one; each other one is consistent, with the header and the
 /// user data that the accepted patches leave in order.
 pub fn run_leaves_others()
     ensures { RunLeavesOthers }

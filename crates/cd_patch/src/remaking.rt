@@ -1,25 +1,25 @@
 //! Taking a patch: where it is accepted, each sector that it meets becomes the one consistent sector with its old
-//! header and its part of the patched user data.
+//! header, or the one with the patch's address, and its part of the patched user data.
 
 ghost use Rattle.std.specs.Prelude.{◌≡◌, ℕ, ◌+◌, ◌*◌, ◌<◌, ◌≤◌, All, length, replicate, true};
 ghost use Rattle.cd_script.specs.Patch.{IsPatch};
 ghost use Rattle.cd_sector.specs.Consistent.{IsConsistent, header_of, user_of};
 ghost use Rattle.cd_sector.specs.Kind.{kind_of};
 ghost use Rattle.cd_sector.specs.declared.kinds.SectorKind.TheVariants.{Mode1};
-ghost use Rattle.cd_patch.specs.Blocks.{asks_sound, blocks_met, new_bytes};
+ghost use Rattle.cd_patch.specs.Blocks.{asks_sound, blocks_met, new_bytes, new_header};
 ghost use Rattle.cd_patch.specs.Deciding.{outcome};
 ghost use Rattle.cd_patch.specs.Effect.{Effect};
 ghost use Rattle.cd_patch.specs.Parts.{EachMade, HasPart, HaveUsers, IsPart};
 
 use crate::deciding::{blocks_met, decide};
 use crate::outcome::Outcome;
-use cd_delta::change_user;
+use cd_delta::{change_header, change_user};
 use cd_script::{Edit, Patch};
 use cd_sector::{Sector, USER_SIZE, encode};
 
 /// Decides a patch on the sectors from its first block on, as far as the image has them or the patch asks for them
 /// (three serve any patch), and, where it is accepted, makes of each sector that it meets the one consistent sector
-/// with its old header and its part of the patched user data.
+/// with its old header, or the one with the patch's address, and its part of the patched user data.
 pub fn take_patch(sectors: &mut [Sector], patch: &Patch) -> Outcome
     requires { IsPatch patch.now }
     ensures outcome { result ≡ outcome sectors.old patch.now.block patch.now }
@@ -41,7 +41,8 @@ fn change(sectors: &mut [Sector], patch: &Patch)
     requires met { length sectors.old ≡ blocks_met patch.now }
     requires mode { All (λ s. kind_of s ≡ Mode1) sectors.old }
     requires sound { asks_sound patch.now.edit ≡ true → All IsConsistent sectors.old }
-    ensures each { EachMade (λ k before after. HasPart k patch.now.offset (new_bytes patch.now.edit) before after)
+    ensures each { EachMade
+        (λ k before after. HasPart k patch.now.offset (new_bytes patch.now.edit) (new_header patch.now.edit (header_of before)) before after)
         sectors.old sectors.new }
     ensures users { HaveUsers sectors.old (length sectors.old) }
 {
@@ -49,6 +50,7 @@ fn change(sectors: &mut [Sector], patch: &Patch)
         Edit::Put { bytes, was: _ } => write_over(sectors, patch.offset, bytes.as_slice()),
         Edit::Fill { count, value } => fill_over(sectors, patch.offset, *count, *value),
         Edit::Rebuild => rebuild(&mut sectors[0]),
+        Edit::Address { bcd } => change_header(&mut sectors[0], *bcd),
     }
 }
 
@@ -73,7 +75,7 @@ fn write_over(sectors: &mut [Sector], offset: u16, bytes: &[u8])
     requires offset { offset ≤ 2047 }
     requires some { 2048 * length sectors.old < offset + length bytes.now + 2048 }
     requires room { offset + length bytes.now ≤ 2048 * length sectors.old }
-    ensures { EachMade (λ k before after. HasPart k offset bytes.now before after) sectors.old sectors.new }
+    ensures { EachMade (λ k before after. HasPart k offset bytes.now (header_of before) before after) sectors.old sectors.new }
 {
     for k in 0..sectors.len() {
         write_part(&mut sectors[k], k, offset, bytes);
@@ -87,7 +89,7 @@ fn write_part(sector: &mut Sector, k: usize, offset: u16, bytes: &[u8])
     requires offset { offset ≤ 2047 }
     requires some { 2048 * k < offset + length bytes.now }
     requires most { offset + length bytes.now ≤ 6144 }
-    ensures { HasPart k offset bytes.now sector.old sector.new }
+    ensures { HasPart k offset bytes.now (header_of sector.old) sector.old sector.new }
 {
     let part = part_in(k, offset as usize, bytes.len());
     change_user(sector, part.place, &bytes[part.first..part.end]);
@@ -100,7 +102,7 @@ fn fill_over(sectors: &mut [Sector], offset: u16, count: u16, value: u8)
     requires offset { offset ≤ 2047 }
     requires some { 2048 * length sectors.old < offset + count + 2048 }
     requires room { offset + count ≤ 2048 * length sectors.old }
-    ensures { EachMade (λ k before after. HasPart k offset (replicate count value) before after) sectors.old sectors.new }
+    ensures { EachMade (λ k before after. HasPart k offset (replicate count value) (header_of before) before after) sectors.old sectors.new }
 {
     let bytes = [value; USER_SIZE];
     for k in 0..sectors.len() {
@@ -116,7 +118,7 @@ fn fill_part(sector: &mut Sector, k: usize, offset: u16, count: u16, bytes: &[u8
     requires some { 2048 * k < offset + count }
     requires most { offset + count ≤ 6144 }
     ensures { (value : ℕ) → bytes.now ≡ replicate USER_SIZE value
-        → HasPart k offset (replicate count value) sector.old sector.new }
+        → HasPart k offset (replicate count value) (header_of sector.old) sector.old sector.new }
 {
     let part = part_in(k, offset as usize, count as usize);
     change_user(sector, part.place, &bytes[..part.end - part.first]);

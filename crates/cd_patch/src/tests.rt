@@ -3,6 +3,7 @@
 ghost use Rattle.std.specs.Prelude.{◌+◌, ◌≤◌, length};
 
 mod accepted;
+mod addressed;
 mod refused;
 mod spans;
 
@@ -67,7 +68,7 @@ fn hex_of(alloc: Global, bytes: &[u8]) -> Result<String, AllocError> {
     Ok(text)
 }
 
-/// Takes the patch of a script of this one line on the sectors from its first block on.
+/// Takes the patch of a script of version 1 of this one line on the sectors from its first block on.
 fn assert_taken(
     rt: &impl Abort,
     alloc: Global,
@@ -77,16 +78,28 @@ fn assert_taken(
     after: &[Sector],
 ) -> Result<(), Fail> {
     let text = format!(in alloc; "cdpatch 1\n{line}\n")?;
-    let bytes = text.as_str().as_bytes();
+    assert_script_taken(rt, alloc, text.as_str(), sectors, expected, after)
+}
+
+/// Takes the patch of a script of one patch on the sectors from its first block on.
+fn assert_script_taken(
+    rt: &impl Abort,
+    alloc: Global,
+    text: &str,
+    sectors: &mut [Sector],
+    expected: Outcome,
+    after: &[Sector],
+) -> Result<(), Fail> {
+    let bytes = text.as_bytes();
     assert!(rt; bytes.len() <= MAX_TEXT);
     let script = parse(alloc, bytes)?;
     let patches = script.patches();
     assert!(rt; patches.len() == 1);
     let outcome = take_patch(sectors, &patches[0]);
-    assert_eq!(rt; outcome, expected, "{line}");
+    assert_eq!(rt; outcome, expected, "{text}");
     assert_eq!(rt; sectors.len(), after.len());
     for (sector, wanted) in sectors.iter().zip(after) {
-        assert_eq!(rt; *sector, *wanted, "{line}");
+        assert_eq!(rt; *sector, *wanted, "{text}");
     }
     Ok(())
 }

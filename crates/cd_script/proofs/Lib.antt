@@ -7,3 +7,4 @@ pub mod PatchLemmas
 pub mod ParseLemmas
 pub mod SpellingLemmas
 pub mod SplitLemmas
+pub mod VersionLemmas

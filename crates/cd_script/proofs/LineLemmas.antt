@@ -9,11 +9,12 @@ use Rattle.std.proofs.lemmas.List.{append-nil, append_assoc}
 use Rattle.cd_script.specs.declared.fault.ScriptFault.{ScriptFault}
 use Rattle.cd_script.specs.declared.fault.ScriptFault.TheVariants.{Head}
 use Rattle.cd_script.specs.declared.patch.Patch.{Patch}
-use Rattle.cd_script.specs.Line.{patch_at}
+use Rattle.cd_script.specs.declared.version.Version.{Version}
+use Rattle.cd_script.specs.Line.{patch_by}
 use Rattle.cd_script.specs.Reading.{◌>>=◌, Reads}
-use Rattle.cd_script.specs.Script.{at_limit, is_passed_over, is_head, line_at, patches_from, script_from}
+use Rattle.cd_script.specs.Script.{at_limit, is_passed_over, head_version, line_at, patches_behind, patches_from, script_from}
 use Rattle.cd_script.specs.Words.{words}
-use Rattle.cd_script.proofs.WordLemmas.{is_passed_over-take, is_head-take, patch_at-take}
+use Rattle.cd_script.proofs.WordLemmas.{is_passed_over-take, head_version-take, patch_by-take}
 
 -- what was answered for a reading is what was answered for the same
 pub Reads-same : {X Y : Type 0} (view : X → Y) (r : Result X ScriptFault) (read same : Result Y ScriptFault) → same ≡ read → Reads view r read → Reads view r same
@@ -27,12 +28,12 @@ reads_ok view (Err e) read h sound = absurd (sound e h)
 
 -- ---- one line, of which the first seven words were found
 
-pub line_at-is : (line earlier : ℕ) (text : List ℕ) (found : List (List ℕ)) (r : Result Patch ScriptFault) → found ≡ take 7 (words text) → is_passed_over found ≡ false
-    → patch_at line found ≡ r → line_at line earlier text ≡ (r >>= at_limit line earlier)
+pub line_at-is : (version : Version) (line earlier : ℕ) (text : List ℕ) (found : List (List ℕ)) (r : Result Patch ScriptFault) → found ≡ take 7 (words text) → is_passed_over found ≡ false
+    → patch_by version line found ≡ r → line_at version line earlier text ≡ (r >>= at_limit line earlier)
 unfolding line_at
-line_at-is line earlier text found r is patch read =
+line_at-is version line earlier text found r is patch read =
     let passes : is_passed_over (words text) ≡ false = sym (is_passed_over-take (words text)) ∙ ap is_passed_over (sym is) ∙ patch in
-    let reads : patch_at line (words text) ≡ r = sym (patch_at-take line (words text)) ∙ ap (patch_at line) (sym is) ∙ read in
+    let reads : patch_by version line (words text) ≡ r = sym (patch_by-take version line (words text)) ∙ ap (patch_by version line) (sym is) ∙ read in
     rw (passes, reads) refl
 
 -- ---- the lines of a loop
@@ -51,54 +52,54 @@ regroup front None (Ok ps) = ap (λ (qs : List Patch). Ok (qs ++ ps)) (sym (appe
 regroup front (Some p) (Ok ps) = ap (λ (qs : List Patch). Ok qs) (sym (append_assoc front (p ∷ []) ps))
 regroup front found (Err e) = refl
 
-pub goes_on : (front after : List Patch) (line count earlier later : ℕ) (text : List ℕ) (all rest : List (List ℕ)) (found : Option Patch) (total : Result (List Patch) ScriptFault)
-    → count ≡ earlier → later ≡ earlier + length (option_to_list found) → after ≡ front ++ option_to_list found → all ≡ text ∷ rest → line_at line count text ≡ Ok found
-    → with_front front (patches_from line earlier all) ≡ total → with_front after (patches_from (line + 1) later rest) ≡ total
+pub goes_on : (version : Version) (front after : List Patch) (line count earlier later : ℕ) (text : List ℕ) (all rest : List (List ℕ)) (found : Option Patch) (total : Result (List Patch) ScriptFault)
+    → count ≡ earlier → later ≡ earlier + length (option_to_list found) → after ≡ front ++ option_to_list found → all ≡ text ∷ rest → line_at version line count text ≡ Ok found
+    → with_front front (patches_from version line earlier all) ≡ total → with_front after (patches_from version (line + 1) later rest) ≡ total
 unfolding patches_from
-goes_on front after line count earlier later text all rest found total same more grown parts read so_far =
-    let reads : line_at line earlier text ≡ Ok found = ap (λ (n : ℕ). line_at line n text) (sym same) ∙ read in
-    let step : with_front front (patches_from line earlier (text ∷ rest)) ≡ with_front (front ++ option_to_list found) (patches_from (line + 1) (earlier + length (option_to_list found)) rest) =
-    rw reads (regroup front found (patches_from (line + 1) (earlier + length (option_to_list found)) rest)) in
-    ap (λ (qs : List Patch). with_front qs (patches_from (line + 1) later rest)) grown
-    ∙ ap (λ (n : ℕ). with_front (front ++ option_to_list found) (patches_from (line + 1) n rest)) more
-    ∙ sym step ∙ ap (λ (ls : List (List ℕ)). with_front front (patches_from line earlier ls)) (sym parts) ∙ so_far
+goes_on version front after line count earlier later text all rest found total same more grown parts read so_far =
+    let reads : line_at version line earlier text ≡ Ok found = ap (λ (n : ℕ). line_at version line n text) (sym same) ∙ read in
+    let step : with_front front (patches_from version line earlier (text ∷ rest)) ≡ with_front (front ++ option_to_list found) (patches_from version (line + 1) (earlier + length (option_to_list found)) rest) =
+    rw reads (regroup front found (patches_from version (line + 1) (earlier + length (option_to_list found)) rest)) in
+    ap (λ (qs : List Patch). with_front qs (patches_from version (line + 1) later rest)) grown
+    ∙ ap (λ (n : ℕ). with_front (front ++ option_to_list found) (patches_from version (line + 1) n rest)) more
+    ∙ sym step ∙ ap (λ (ls : List (List ℕ)). with_front front (patches_from version line earlier ls)) (sym parts) ∙ so_far
 
 -- where the lines have no fault, the next has none
-pub next_sound : (front : List Patch) (line count earlier : ℕ) (text : List ℕ) (all rest : List (List ℕ)) (e : ScriptFault) (total : Result (List Patch) ScriptFault)
-    → count ≡ earlier → all ≡ text ∷ rest → with_front front (patches_from line earlier all) ≡ total → IsOk total → line_at line count text ≡ Err e → ⊥
+pub next_sound : (version : Version) (front : List Patch) (line count earlier : ℕ) (text : List ℕ) (all rest : List (List ℕ)) (e : ScriptFault) (total : Result (List Patch) ScriptFault)
+    → count ≡ earlier → all ≡ text ∷ rest → with_front front (patches_from version line earlier all) ≡ total → IsOk total → line_at version line count text ≡ Err e → ⊥
 unfolding patches_from
-next_sound front line count earlier text all rest e total same parts so_far sound read =
-    let reads : line_at line earlier text ≡ Err e = ap (λ (n : ℕ). line_at line n text) (sym same) ∙ read in
-    let step : with_front front (patches_from line earlier (text ∷ rest)) ≡ Err e = rw reads refl in
-    let bad : total ≡ Err e = sym so_far ∙ ap (λ (ls : List (List ℕ)). with_front front (patches_from line earlier ls)) parts ∙ step in
+next_sound version front line count earlier text all rest e total same parts so_far sound read =
+    let reads : line_at version line earlier text ≡ Err e = ap (λ (n : ℕ). line_at version line n text) (sym same) ∙ read in
+    let step : with_front front (patches_from version line earlier (text ∷ rest)) ≡ Err e = rw reads refl in
+    let bad : total ≡ Err e = sym so_far ∙ ap (λ (ls : List (List ℕ)). with_front front (patches_from version line earlier ls)) parts ∙ step in
     let no : IsOk {T = List Patch} {E = ScriptFault} (Err e) = subst IsOk bad sound in
     cc
 
-pub all_read : (front : List Patch) (line earlier : ℕ) (all : List (List ℕ)) (total : Result (List Patch) ScriptFault) → all ≡ []
-    → with_front front (patches_from line earlier all) ≡ total → total ≡ Ok front
+pub all_read : (version : Version) (front : List Patch) (line earlier : ℕ) (all : List (List ℕ)) (total : Result (List Patch) ScriptFault) → all ≡ []
+    → with_front front (patches_from version line earlier all) ≡ total → total ≡ Ok front
 unfolding patches_from
-all_read front line earlier all total none so_far =
-    let end : with_front front (patches_from line earlier []) ≡ Ok front = ap (λ (qs : List Patch). Ok qs) (append-nil front) in
-    sym so_far ∙ ap (λ (ls : List (List ℕ)). with_front front (patches_from line earlier ls)) none ∙ end
+all_read version front line earlier all total none so_far =
+    let end : with_front front (patches_from version line earlier []) ≡ Ok front = ap (λ (qs : List Patch). Ok qs) (append-nil front) in
+    sym so_far ∙ ap (λ (ls : List (List ℕ)). with_front front (patches_from version line earlier ls)) none ∙ end
 
 -- ---- the first fault of lines
 
-pub fault_later : (line earlier : ℕ) (text : List ℕ) (all rest : List (List ℕ)) (found : Option Patch) → all ≡ text ∷ rest → line_at line earlier text ≡ Ok found
-    → result_err (patches_from line earlier all) ≡ result_err (patches_from (line + 1) (earlier + length (option_to_list found)) rest)
+pub fault_later : (version : Version) (line earlier : ℕ) (text : List ℕ) (all rest : List (List ℕ)) (found : Option Patch) → all ≡ text ∷ rest → line_at version line earlier text ≡ Ok found
+    → result_err (patches_from version line earlier all) ≡ result_err (patches_from version (line + 1) (earlier + length (option_to_list found)) rest)
 unfolding patches_from
-fault_later line earlier text all rest found parts read =
-    ap (λ (ls : List (List ℕ)). result_err (patches_from line earlier ls)) parts
-    ∙ rw read (same_fault (patches_from (line + 1) (earlier + length (option_to_list found)) rest) (cons_option found))
+fault_later version line earlier text all rest found parts read =
+    ap (λ (ls : List (List ℕ)). result_err (patches_from version line earlier ls)) parts
+    ∙ rw read (same_fault (patches_from version (line + 1) (earlier + length (option_to_list found)) rest) (cons_option found))
 
-pub fault_here : (line earlier : ℕ) (text : List ℕ) (all rest : List (List ℕ)) (e : ScriptFault) → all ≡ text ∷ rest → line_at line earlier text ≡ Err e
-    → result_err (patches_from line earlier all) ≡ Some e
+pub fault_here : (version : Version) (line earlier : ℕ) (text : List ℕ) (all rest : List (List ℕ)) (e : ScriptFault) → all ≡ text ∷ rest → line_at version line earlier text ≡ Err e
+    → result_err (patches_from version line earlier all) ≡ Some e
 unfolding patches_from
-fault_here line earlier text all rest e parts read =
-    ap (λ (ls : List (List ℕ)). result_err (patches_from line earlier ls)) parts ∙ rw read refl
+fault_here version line earlier text all rest e parts read =
+    ap (λ (ls : List (List ℕ)). result_err (patches_from version line earlier ls)) parts ∙ rw read refl
 
-pub fault_none : (line earlier : ℕ) (all : List (List ℕ)) → all ≡ [] → result_err (patches_from line earlier all) ≡ None
+pub fault_none : (version : Version) (line earlier : ℕ) (all : List (List ℕ)) → all ≡ [] → result_err (patches_from version line earlier all) ≡ None
 unfolding patches_from
-fault_none line earlier all none = ap (λ (ls : List (List ℕ)). result_err (patches_from line earlier ls)) none
+fault_none version line earlier all none = ap (λ (ls : List (List ℕ)). result_err (patches_from version line earlier ls)) none
 
 -- one more where a line has a patch
 pub counted : {X Y : Type 0} (f : X → Y) (found : Option X) → from_bool (is_some found) ≡ length (option_to_list (option_map f found))
@@ -118,20 +119,13 @@ head_passed line text rest found is passed =
     let passes : is_passed_over (words text) ≡ true = sym (is_passed_over-take (words text)) ∙ ap is_passed_over (sym is) ∙ passed in
     rw passes refl
 
-pub head_found : (line : ℕ) (text : List ℕ) (rest found : List (List ℕ)) → found ≡ take 7 (words text) → is_passed_over found ≡ false → is_head found ≡ true
-    → script_from line (text ∷ rest) ≡ patches_from (line + 1) 0 rest
+-- the lines behind a head line, or its fault
+pub head_read : (line : ℕ) (text : List ℕ) (rest found : List (List ℕ)) (named : Option Version) → found ≡ take 7 (words text) → is_passed_over found ≡ false → head_version found ≡ named
+    → script_from line (text ∷ rest) ≡ patches_behind line named rest
 unfolding script_from
-head_found line text rest found is patch head =
+head_read line text rest found named is patch head =
     let passes : is_passed_over (words text) ≡ false = sym (is_passed_over-take (words text)) ∙ ap is_passed_over (sym is) ∙ patch in
-    let heads : is_head (words text) ≡ true = sym (is_head-take (words text)) ∙ ap is_head (sym is) ∙ head in
-    rw (passes, heads) refl
-
-pub head_missed : (line : ℕ) (text : List ℕ) (rest found : List (List ℕ)) → found ≡ take 7 (words text) → is_passed_over found ≡ false → is_head found ≡ false
-    → script_from line (text ∷ rest) ≡ Err (Head line)
-unfolding script_from
-head_missed line text rest found is patch head =
-    let passes : is_passed_over (words text) ≡ false = sym (is_passed_over-take (words text)) ∙ ap is_passed_over (sym is) ∙ patch in
-    let heads : is_head (words text) ≡ false = sym (is_head-take (words text)) ∙ ap is_head (sym is) ∙ head in
+    let heads : head_version (words text) ≡ named = sym (head_version-take (words text)) ∙ ap head_version (sym is) ∙ head in
     rw (passes, heads) refl
 
 pub head_absent : (line : ℕ) → script_from line [] ≡ Err (Head line)

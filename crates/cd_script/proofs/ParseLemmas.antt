@@ -9,6 +9,7 @@ use Rattle.std.proofs.lemmas.List.Sorted.{IsNonDecreasingBy-from_sort, All-permu
 use Rattle.bstr.specs.Text.{lines_of, without_terminator}
 use Rattle.cd_script.specs.declared.fault.ScriptFault.{ScriptFault}
 use Rattle.cd_script.specs.declared.patch.Patch.{Patch}
+use Rattle.cd_script.specs.declared.version.Version.{Version}
 use Rattle.cd_script.specs.declared.patch.Edit.TheVariants.{Rebuild}
 use Rattle.cd_script.specs.Order.{order, stands_in}
 use Rattle.cd_script.specs.Patch.{IsPatch, IsPatchList}
@@ -40,10 +41,10 @@ order-list ls ps e = record {
 }
 
 -- the script of a text is what its lines behind the head line give
-pub script-rest : (text bytes : List ℕ) (all rest later : List (List ℕ)) (head : ℕ) → all ≡ map without_terminator (lines_of text) → script_from 1 all ≡ patches_from (head + 1) 0 rest
-    → map without_terminator (lines_of bytes) ≡ rest → later ≡ map without_terminator (lines_of bytes) → script text ≡ patches_from (head + 1) 0 later
-script-rest text bytes all rest later head is_all read is_rest is_later =
-    ap (script_from 1) (sym (is_all ∙ lines-is text)) ∙ read ∙ ap (patches_from (head + 1) 0) (sym (is_later ∙ is_rest))
+pub script-rest : (version : Version) (text bytes : List ℕ) (all rest later : List (List ℕ)) (head : ℕ) → all ≡ map without_terminator (lines_of text) → script_from 1 all ≡ patches_from version (head + 1) 0 rest
+    → map without_terminator (lines_of bytes) ≡ rest → later ≡ map without_terminator (lines_of bytes) → script text ≡ patches_from version (head + 1) 0 later
+script-rest version text bytes all rest later head is_all read is_rest is_later =
+    ap (script_from 1) (sym (is_all ∙ lines-is text)) ∙ read ∙ ap (patches_from version (head + 1) 0) (sym (is_later ∙ is_rest))
 
 pub fault_is : (read : Result (List Patch) ScriptFault) (e : ScriptFault) → Some e ≡ result_err read → read ≡ Err e
 fault_is (Ok ps) e h = cc

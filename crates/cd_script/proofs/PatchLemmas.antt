@@ -1,6 +1,6 @@
 -- What is read keeps to what a patch keeps to.
-use Rattle.std.proofs.Common.{◌≡◌, ℕ, suc, ◌+◌, ◌-◌, ◌*◌, ◌^◌, ◌<◌, ◌≤◌, Bool, true, false, cond, List, [], ◌∷◌, length, Option, Some, None, Result, Ok, Err, refl, subst, ◌∙◌, arith, inl, inr, ◌⊎◌}
-use Rattle.std.specs.Prelude.{All, fold, ok_or, nat_le, ◌==◌, ◌&&◌, codes, IfSome}
+use Rattle.std.proofs.Common.{◌≡◌, ℕ, suc, ◌+◌, ◌-◌, ◌*◌, ◌^◌, ◌<◌, ◌≤◌, Bool, true, false, cond, List, [], ◌∷◌, length, Option, Some, None, Result, Ok, Err, refl, subst, sym, ◌∙◌, arith, inl, inr, ◌⊎◌}
+use Rattle.std.specs.Prelude.{All, fold, option_and_then, nat_lt, ok_or, nat_le, ◌==◌, ◌&&◌, codes, IfSome}
 use Rattle.std.specs.Char.{is_ascii_digit}
 use Rattle.std.specs.List.{list_all, cons_option}
 use Rattle.std.specs.Option.{option_to_list}
@@ -13,16 +13,20 @@ use Rattle.std.proofs.Math.Nat.{pow-le-pow_right, mul-le-mul_right}
 use Rattle.hex.specs.Hex.{decode_of}
 use Rattle.hex.proofs.HexLemmas.{decode_of-ok}
 use Rattle.cd_script.specs.declared.fault.ScriptFault.{ScriptFault}
-use Rattle.cd_script.specs.declared.fault.ScriptFault.TheVariants.{Head, Verb, Number, Hex, Length, Offset, Words, TooMany}
+use Rattle.cd_script.specs.declared.fault.ScriptFault.TheVariants.{Head, Verb, Address, Number, Hex, Length, Offset, Words, TooMany}
 use Rattle.cd_script.specs.declared.patch.Patch.{Patch}
 use Rattle.cd_script.specs.declared.patch.Edit.TheVariants.{Put, Fill, Rebuild}
+use Rattle.cd_script.specs.declared.patch.Edit.TheVariants as edit
+use Rattle.cd_script.specs.declared.version.Version.{Version}
+use Rattle.cd_script.specs.declared.version.Version.TheVariants.{One, Two}
+use Rattle.cd_script.specs.Address.{IsAddress, address, bcd, bcd_below, header_bytes}
 use Rattle.cd_script.specs.Hex.{hex_bytes}
-use Rattle.cd_script.specs.Value.{number_at, hex_at, offset_at, count_at, new_at, old_at, byte_at, only_byte}
-use Rattle.cd_script.specs.Line.{put_at, put_where_at, fill_at, rebuild_at, set_line, fill_line, rebuild_line, patch_at}
+use Rattle.cd_script.specs.Value.{address_at, number_at, hex_at, offset_at, count_at, new_at, old_at, byte_at, only_byte}
+use Rattle.cd_script.specs.Line.{put_at, put_where_at, fill_at, rebuild_at, readdress_at, set_line, fill_line, rebuild_line, address_line, patch_at, patch_by}
 use Rattle.cd_script.specs.Number.{number, digits_value}
 use Rattle.cd_script.specs.Patch.{IsBytes, IsPatch}
 use Rattle.cd_script.specs.Reading.{◌>>=◌}
-use Rattle.cd_script.specs.Script.{is_passed_over, is_head, line_at, patches_from, script_from}
+use Rattle.cd_script.specs.Script.{is_passed_over, head_version, line_at, patches_behind, patches_from, script_from}
 use Rattle.cd_script.specs.Words.{words}
 use Rattle.cd_script.proofs.HexLemmas.{decoded, result_ok-decode_of}
 
@@ -74,6 +78,14 @@ digits-below a (b ∷ w) digits =
 some_where : {A : Type 0} (b : Bool) (x y : A) → cond b (Some x) None ≡ Some y → (b ≡ true) × (x ≡ y)
 some_where true x y e = (refl, cc)
 some_where false x y e = absurd cc
+
+-- the value behind a test
+some_if : {A : Type 0} (b : Bool) (o : Option A) (x : A) → cond b o None ≡ Some x → o ≡ Some x
+some_if true o x e = e
+some_if false o x e = absurd cc
+
+is_value : {A : Type 0} (x y : A) → Some x ≡ Some y → x ≡ y
+is_value x y e = cc
 
 number-below : (w : List ℕ) (n : ℕ) → number w ≡ Some n → n ≤ 999999999
 unfolding number
@@ -143,6 +155,57 @@ byte_at-below line w v e =
     let one = only_byte-is line b.0 v b.2 in
     (subst (All (λ b. b < 256)) one (hex_at-bytes line w b.0 b.1)) 0 0 (omega arith)
 
+-- ---- addresses
+
+some_bind : {A B : Type 0} (o : Option A) (f : A → Option B) (y : B) → option_and_then f o ≡ Some y → (x : A) × (o ≡ Some x) × (f x ≡ Some y)
+some_bind (Some x) f y e = (x, refl, e)
+some_bind None f y e = absurd cc
+
+bcd_below-is : (limit high low b : ℕ) → bcd_below limit high low ≡ Some b → (n : ℕ) × (n < limit) × (bcd n ≡ b)
+unfolding bcd_below
+bcd_below-is limit high low b e =
+    let n = digits_value (high ∷ low ∷ []) in
+    let test = some_where (is_ascii_digit high && is_ascii_digit low && nat_lt n limit) (bcd n) b e in
+    let parts = and_parts (is_ascii_digit high && is_ascii_digit low) (nat_lt n limit) test.0 in
+    let below : n < limit = grind (arith, nat_tests, parts.1) in
+    (n, below, test.1)
+
+header_bytes-address : (m n s t f g : ℕ) (bytes : List ℕ) → header_bytes m n s t f g ≡ Some bytes → IsAddress bytes
+unfolding header_bytes
+header_bytes-address m n s t f g bytes e =
+    let minute = some_bind (bcd_below 100 m n) (λ a. option_and_then (λ b. option_and_then (λ c. Some (a ∷ b ∷ c ∷ [])) (bcd_below 75 f g)) (bcd_below 60 s t)) bytes e in
+    let second = some_bind (bcd_below 60 s t) (λ b. option_and_then (λ c. Some (minute.0 ∷ b ∷ c ∷ [])) (bcd_below 75 f g)) bytes minute.2 in
+    let fraction = some_bind (bcd_below 75 f g) (λ c. Some (minute.0 ∷ second.0 ∷ c ∷ [])) bytes second.2 in
+    let a = bcd_below-is 100 m n minute.0 minute.1 in
+    let b = bcd_below-is 60 s t second.0 second.1 in
+    let c = bcd_below-is 75 f g fraction.0 fraction.1 in
+    record {
+      minute = a.0;
+      second = b.0;
+      fraction = c.0;
+      is_minute = a.1;
+      is_second = b.1;
+      is_fraction = c.1;
+      are = sym (rw (a.2, b.2, c.2) (is_value _ _ fraction.2));
+    }
+
+address-address : (word bytes : List ℕ) → address word ≡ Some bytes → IsAddress bytes
+unfolding address
+address-address [] bytes e = absurd cc
+address-address (m ∷ []) bytes e = absurd cc
+address-address (m ∷ n ∷ []) bytes e = absurd cc
+address-address (m ∷ n ∷ c ∷ []) bytes e = absurd cc
+address-address (m ∷ n ∷ c ∷ s ∷ []) bytes e = absurd cc
+address-address (m ∷ n ∷ c ∷ s ∷ t ∷ []) bytes e = absurd cc
+address-address (m ∷ n ∷ c ∷ s ∷ t ∷ d ∷ []) bytes e = absurd cc
+address-address (m ∷ n ∷ c ∷ s ∷ t ∷ d ∷ f ∷ []) bytes e = absurd cc
+address-address (m ∷ n ∷ c ∷ s ∷ t ∷ d ∷ f ∷ g ∷ []) bytes e = header_bytes-address m n s t f g bytes (some_if (c == 58 && d == 58) (header_bytes m n s t f g) bytes e)
+address-address (m ∷ n ∷ c ∷ s ∷ t ∷ d ∷ f ∷ g ∷ h ∷ rest) bytes e = absurd cc
+
+address_at-address : (line : ℕ) (word bytes : List ℕ) → address_at line word ≡ Ok bytes → IsAddress bytes
+unfolding address_at
+address_at-address line word bytes e = address-address word bytes (present (address word) (Address line) bytes e)
+
 -- ---- the forms
 
 abbrev done : Patch → Result Patch ScriptFault
@@ -209,10 +272,24 @@ fill_line-patch line (a ∷ b ∷ c ∷ []) p e = absurd cc
 fill_line-patch line (a ∷ b ∷ c ∷ d ∷ []) p e = fill_at-patch line a b c d p e
 fill_line-patch line (a ∷ b ∷ c ∷ d ∷ f ∷ ws) p e = absurd cc
 
+readdress_at-patch : (line : ℕ) (block address : List ℕ) (p : Patch) → readdress_at line block address ≡ Ok p → IsPatch p
+unfolding readdress_at
+readdress_at-patch line block address p e =
+    let b = bind_ok (number_at line block) (λ b. address_at line address >>= λ bcd. Ok (record { line = line; block = b; offset = 0; edit = edit.Address bcd })) p e in
+    let a = bind_ok (address_at line address) (λ bcd. Ok (record { line = line; block = b.0; offset = 0; edit = edit.Address bcd })) p b.2 in
+    let made : Patch = record { line = line; block = b.0; offset = 0; edit = edit.Address a.0 } in
+    subst IsPatch (patch_is made p a.2) (record { block = number_at-below line block b.0 b.1; offset = omega arith; edit = (refl, address_at-address line address a.0 a.1) })
+
 rebuild_line-patch : (line : ℕ) (ws : List (List ℕ)) (p : Patch) → rebuild_line line ws ≡ Ok p → IsPatch p
 rebuild_line-patch line [] p e = absurd cc
 rebuild_line-patch line (a ∷ []) p e = rebuild_at-patch line a p e
 rebuild_line-patch line (a ∷ b ∷ ws) p e = absurd cc
+
+address_line-patch : (line : ℕ) (ws : List (List ℕ)) (p : Patch) → address_line line ws ≡ Ok p → IsPatch p
+address_line-patch line [] p e = absurd cc
+address_line-patch line (a ∷ []) p e = absurd cc
+address_line-patch line (a ∷ b ∷ []) p e = readdress_at-patch line a b p e
+address_line-patch line (a ∷ b ∷ c ∷ ws) p e = absurd cc
 
 patch_at-patch : (line : ℕ) (ws : List (List ℕ)) (p : Patch) → patch_at line ws ≡ Ok p → IsPatch p
 unfolding patch_at
@@ -227,6 +304,16 @@ patch_at-patch line (verb ∷ ws) p e =
           ]
     ]
 
+patch_by-patch : (version : Version) (line : ℕ) (ws : List (List ℕ)) (p : Patch) → patch_by version line ws ≡ Ok p → IsPatch p
+unfolding patch_by
+patch_by-patch One line ws p e = patch_at-patch line ws p e
+patch_by-patch Two line [] p e = patch_at-patch line [] p e
+patch_by-patch Two line (verb ∷ ws) p e =
+    elim (chosen (bytes_eq verb (codes "address")) (address_line line ws) (patch_at line (verb ∷ ws)) p e) [
+      | inl is_address ↦ address_line-patch line ws p is_address
+      | inr other ↦ patch_at-patch line (verb ∷ ws) p other
+    ]
+
 -- ---- the lines
 
 abbrev found_done : Option Patch → Result (Option Patch) ScriptFault
@@ -235,16 +322,16 @@ found_done o = Ok o
 found_is : (a b : Option Patch) → found_done a ≡ found_done b → a ≡ b
 found_is a b e = cc
 
-line_at-patch : (line earlier : ℕ) (text : List ℕ) (found : Option Patch) → line_at line earlier text ≡ Ok found → IfSome found (λ p. IsPatch p × (earlier < 65535))
+line_at-patch : (version : Version) (line earlier : ℕ) (text : List ℕ) (found : Option Patch) → line_at version line earlier text ≡ Ok found → IfSome found (λ p. IsPatch p × (earlier < 65535))
 unfolding line_at
-line_at-patch line earlier text found e =
+line_at-patch version line earlier text found e =
     elim (chosen (is_passed_over (words text)) (Ok None) _ found e) [
       | inl none ↦ subst (λ (o : Option Patch). IfSome o (λ p. IsPatch p × (earlier < 65535))) (found_is None found none) tt
       | inr some ↦
-          let b = bind_ok (patch_at line (words text)) (λ p. cond (nat_le 65535 earlier) (Err (TooMany line)) (Ok (Some p))) found some in
+          let b = bind_ok (patch_by version line (words text)) (λ p. cond (nat_le 65535 earlier) (Err (TooMany line)) (Ok (Some p))) found some in
           let few = not_taken (nat_le 65535 earlier) (TooMany line) (Some b.0) found b.2 in
           let below : earlier < 65535 = grind (arith, nat_tests, few.0) in
-          subst (λ (o : Option Patch). IfSome o (λ p. IsPatch p × (earlier < 65535))) few.1 (patch_at-patch line (words text) b.0 b.1, below)
+          subst (λ (o : Option Patch). IfSome o (λ p. IsPatch p × (earlier < 65535))) few.1 (patch_by-patch version line (words text) b.0 b.1, below)
     ]
 
 abbrev all_done : List Patch → Result (List Patch) ScriptFault
@@ -266,15 +353,19 @@ put_on : (earlier : ℕ) (found : Option Patch) (ps : List Patch) → IfSome fou
 put_on earlier None ps h rest = record { each = rest.each; count = omega (arith, rest.count) }
 put_on earlier (Some p) ps h rest = record { each = All-cons IsPatch p ps h.0 rest.each; count = omega (arith, rest.count) }
 
-patches_from-patches : (line earlier : ℕ) (ls : List (List ℕ)) (ps : List Patch) → earlier ≤ 65535 → patches_from line earlier ls ≡ Ok ps → AreBehind earlier ps
+patches_from-patches : (version : Version) (line earlier : ℕ) (ls : List (List ℕ)) (ps : List Patch) → earlier ≤ 65535 → patches_from version line earlier ls ≡ Ok ps → AreBehind earlier ps
 unfolding patches_from
-patches_from-patches line earlier [] ps le e = subst (AreBehind earlier) (patches_are [] ps e) (record { each = All-nil IsPatch; count = omega arith })
-patches_from-patches line earlier (text ∷ rest) ps le e =
-    let f = bind_ok (line_at line earlier text) (λ found. patches_from (line + 1) (earlier + length (option_to_list found)) rest >>= λ others. Ok (cons_option found others)) ps e in
-    let o = bind_ok (patches_from (line + 1) (earlier + length (option_to_list f.0)) rest) (λ others. Ok (cons_option f.0 others)) ps f.2 in
-    let one = line_at-patch line earlier text f.0 f.1 in
-    let behind = patches_from-patches (line + 1) (earlier + length (option_to_list f.0)) rest o.0 (room earlier f.0 le one) o.1 in
+patches_from-patches version line earlier [] ps le e = subst (AreBehind earlier) (patches_are [] ps e) (record { each = All-nil IsPatch; count = omega arith })
+patches_from-patches version line earlier (text ∷ rest) ps le e =
+    let f = bind_ok (line_at version line earlier text) (λ found. patches_from version (line + 1) (earlier + length (option_to_list found)) rest >>= λ others. Ok (cons_option found others)) ps e in
+    let o = bind_ok (patches_from version (line + 1) (earlier + length (option_to_list f.0)) rest) (λ others. Ok (cons_option f.0 others)) ps f.2 in
+    let one = line_at-patch version line earlier text f.0 f.1 in
+    let behind = patches_from-patches version (line + 1) (earlier + length (option_to_list f.0)) rest o.0 (room earlier f.0 le one) o.1 in
     subst (AreBehind earlier) (patches_are (cons_option f.0 o.0) ps o.2) (put_on earlier f.0 o.0 one behind)
+
+patches_behind-patches : (line : ℕ) (named : Option Version) (rest : List (List ℕ)) (ps : List Patch) → patches_behind line named rest ≡ Ok ps → AreBehind 0 ps
+patches_behind-patches line None rest ps e = absurd cc
+patches_behind-patches line (Some version) rest ps e = patches_from-patches version (line + 1) 0 rest ps (omega arith) e
 
 script_from-patches : (line : ℕ) (ls : List (List ℕ)) (ps : List Patch) → script_from line ls ≡ Ok ps → AreBehind 0 ps
 unfolding script_from
@@ -282,7 +373,7 @@ script_from-patches line [] ps e = absurd cc
 script_from-patches line (text ∷ rest) ps e =
     elim (chosen (is_passed_over (words text)) (script_from (line + 1) rest) _ ps e) [
       | inl on ↦ script_from-patches (line + 1) rest ps on
-      | inr here ↦ patches_from-patches (line + 1) 0 rest ps (omega arith) (taken (is_head (words text)) (patches_from (line + 1) 0 rest) (Head line) ps here).1
+      | inr here ↦ patches_behind-patches line (head_version (words text)) rest ps here
     ]
 
 pub script-each : (line : ℕ) (ls : List (List ℕ)) (ps : List Patch) → script_from line ls ≡ Ok ps → All IsPatch ps

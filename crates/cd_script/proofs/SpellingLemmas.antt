@@ -1,6 +1,6 @@
 -- What is spelled is read.
-use Rattle.std.proofs.Common.{◌≡◌, ℕ, ◌+◌, ◌-◌, ◌*◌, ◌<◌, ◌≤◌, true, false, List, [], ◌∷◌, ◌++◌, length, get_or, slice_index, Option, Some, None, Result, Ok, refl, sym, ap, ◌∙◌, arith, inl, inr, append_assoc}
-use Rattle.std.specs.Prelude.{All, ok_or, fold, filter, not, codes, nat_le, ◌==◌, ◌&&◌}
+use Rattle.std.proofs.Common.{◌≡◌, ℕ, ◌+◌, ◌-◌, ◌*◌, ◌/◌, ◌%◌, ◌<◌, ◌≤◌, true, false, List, [], ◌∷◌, ◌++◌, length, get_or, slice_index, Option, Some, None, Result, Ok, refl, subst, sym, ap, ◌∙◌, arith, inl, inr, append_assoc}
+use Rattle.std.specs.Prelude.{All, ok_or, fold, filter, not, codes, nat_le, nat_lt, ◌==◌, ◌&&◌}
 use Rattle.std.specs.Char.{is_ascii_digit, digit_value}
 use Rattle.std.specs.Fmt.{decimal}
 use Rattle.std.specs.List.{list_all, join_with_byte, flat_map}
@@ -22,14 +22,17 @@ use Rattle.cd_script.specs.declared.fault.ScriptFault.{ScriptFault}
 use Rattle.cd_script.specs.declared.fault.ScriptFault.TheVariants.{Hex}
 use Rattle.cd_script.specs.declared.patch.Patch.{Patch}
 use Rattle.cd_script.specs.declared.patch.Edit.{Edit}
-use Rattle.cd_script.specs.declared.patch.Edit.TheVariants.{Put, Fill, Rebuild}
-use Rattle.cd_script.specs.Value.{number_at, hex_at, offset_at, count_at, new_at, old_at, byte_at, only_byte}
-use Rattle.cd_script.specs.Line.{put_at, put_where_at, fill_at, rebuild_at, patch_at}
+use Rattle.cd_script.specs.declared.patch.Edit.TheVariants.{Put, Fill, Rebuild, Address}
+use Rattle.cd_script.specs.declared.version.Version.{Version}
+use Rattle.cd_script.specs.declared.version.Version.TheVariants.{One, Two}
+use Rattle.cd_script.specs.Address.{IsAddress, address, bcd, bcd_below, header_bytes}
+use Rattle.cd_script.specs.Value.{address_at, number_at, hex_at, offset_at, count_at, new_at, old_at, byte_at, only_byte}
+use Rattle.cd_script.specs.Line.{put_at, put_where_at, fill_at, rebuild_at, readdress_at, patch_at, patch_by}
 use Rattle.cd_script.specs.Number.{number, digits_value}
 use Rattle.cd_script.specs.Patch.{IsBytes, IsEditAt, IsPatch}
 use Rattle.cd_script.specs.Reading.{◌>>=◌}
-use Rattle.cd_script.specs.Script.{is_passed_over, line_at, patches_from, script_from, script}
-use Rattle.cd_script.specs.Spelling.{edit_words, spelled_line, spelled_patch, spelling, numbered}
+use Rattle.cd_script.specs.Script.{is_passed_over, head_version, line_at, patches_from, script_from, script}
+use Rattle.cd_script.specs.Spelling.{address_word, high_digit, low_digit, has_form, version_word, edit_words, spelled_line, spelled_patch, spelling, numbered}
 use Rattle.cd_script.specs.Words.{words, is_space, is_word}
 use Rattle.cd_script.proofs.HexLemmas.{result_ok-decode_of}
 use Rattle.cd_script.proofs.Lines.{NoFeed, lines-cut}
@@ -129,6 +132,32 @@ byte_at-encode : (line v : ℕ) → v < 256 → byte_at line (encode_lower (v �
 unfolding byte_at
 byte_at-encode line v lt = ap (λ (r : Result (List ℕ) ScriptFault). r >>= only_byte line) (hex_at-encode line (v ∷ []) (one-byte v lt))
 
+-- ---- addresses
+
+bcd_below-digits : (limit n : ℕ) → n < limit → limit ≤ 100 → bcd_below limit (high_digit (bcd n)) (low_digit (bcd n)) ≡ Some (bcd n)
+unfolding bcd_below
+bcd_below-digits limit n lt most =
+    let high : high_digit (bcd n) ≡ 48 + n / 10 = omega arith in
+    let low : low_digit (bcd n) ≡ 48 + n % 10 = omega arith in
+    let value : digits_value (high_digit (bcd n) ∷ low_digit (bcd n) ∷ []) ≡ n = omega (arith, high, low) in
+    let below : nat_lt (digits_value (high_digit (bcd n) ∷ low_digit (bcd n) ∷ [])) limit ≡ true = grind (arith, nat_tests, value) in
+    let first : is_ascii_digit (high_digit (bcd n)) ≡ true = is_digit (high_digit (bcd n)) (omega (arith, high)) (omega (arith, high)) in
+    let second : is_ascii_digit (low_digit (bcd n)) ≡ true = is_digit (low_digit (bcd n)) (omega (arith, low)) (omega (arith, low)) in
+    let spelled = digits_value (high_digit (bcd n) ∷ low_digit (bcd n) ∷ []) in
+    cond-true (is_ascii_digit (high_digit (bcd n)) && is_ascii_digit (low_digit (bcd n)) && nat_lt spelled limit) (Some (bcd spelled)) None (both_true (both_true first second) below) ∙ ap (λ (k : ℕ). Some (bcd k)) value
+
+address-numbers : (m s f : ℕ) → m < 100 → s < 60 → f < 75
+    → address (address_word (bcd m ∷ bcd s ∷ bcd f ∷ [])) ≡ Some (bcd m ∷ bcd s ∷ bcd f ∷ [])
+unfolding address address_word header_bytes
+address-numbers m s f hm hs hf = rw (bcd_below-digits 100 m hm (omega arith), bcd_below-digits 60 s hs (omega arith), bcd_below-digits 75 f hf (omega arith)) refl
+
+address_at-spelled : (line : ℕ) (bytes : List ℕ) → IsAddress bytes → address_at line (address_word bytes) ≡ Ok bytes
+unfolding address_at
+address_at-spelled line bytes h =
+    let read : address (address_word bytes) ≡ Some bytes =
+    ap (λ (bs : List ℕ). address (address_word bs)) h.are ∙ address-numbers h.minute h.second h.fraction h.is_minute h.is_second h.is_fraction ∙ ap Some (sym h.are) in
+    rw read refl
+
 -- ---- the forms
 
 put_at-spelled : (line b o : ℕ) (bytes : List ℕ) → b ≤ 999999999 → o ≤ 2047 → IsBytes bytes
@@ -152,14 +181,31 @@ rebuild_at-spelled : (line b : ℕ) → b ≤ 999999999 → rebuild_at line (dec
 unfolding rebuild_at
 rebuild_at-spelled line b hb = rw (number_at-decimal line b hb) refl
 
-patch_at-spelled : (line b o : ℕ) (e : Edit) → b ≤ 999999999 → o ≤ 2047 → IsEditAt o e
+readdress_at-spelled : (line b : ℕ) (bytes : List ℕ) → b ≤ 999999999 → IsAddress bytes
+    → readdress_at line (decimal b) (address_word bytes) ≡ Ok (record { line = line; block = b; offset = 0; edit = Address bytes })
+unfolding readdress_at
+readdress_at-spelled line b bytes hb h = rw (number_at-decimal line b hb, address_at-spelled line bytes h) refl
+
+patch_at-spelled : (line b o : ℕ) (e : Edit) → b ≤ 999999999 → o ≤ 2047 → IsEditAt o e → has_form One e ≡ true
     → patch_at line (edit_words b o e) ≡ Ok (record { line = line; block = b; offset = o; edit = e })
 unfolding patch_at edit_words
-patch_at-spelled line b o (Put bytes None) hb ho fits = put_at-spelled line b o bytes hb ho fits.0
-patch_at-spelled line b o (Put bytes (Some old)) hb ho fits = put_where_at-spelled line b o bytes old hb ho fits.0 fits.1.0 fits.1.1
-patch_at-spelled line b o (Fill n v) hb ho fits = fill_at-spelled line b o n v hb ho fits.0 fits.1 fits.2
-patch_at-spelled line b o Rebuild hb ho fits =
+patch_at-spelled line b o (Put bytes None) hb ho fits form = put_at-spelled line b o bytes hb ho fits.0
+patch_at-spelled line b o (Put bytes (Some old)) hb ho fits form = put_where_at-spelled line b o bytes old hb ho fits.0 fits.1.0 fits.1.1
+patch_at-spelled line b o (Fill n v) hb ho fits form = fill_at-spelled line b o n v hb ho fits.0 fits.1 fits.2
+patch_at-spelled line b o Rebuild hb ho fits form =
     rebuild_at-spelled line b hb ∙ ap (λ (k : ℕ). Ok (record { line = line; block = b; offset = k; edit = Rebuild })) (sym fits)
+patch_at-spelled line b o (Address bytes) hb ho fits form = absurd cc
+
+patch_by-spelled : (version : Version) (line b o : ℕ) (e : Edit) → b ≤ 999999999 → o ≤ 2047 → IsEditAt o e → has_form version e ≡ true
+    → patch_by version line (edit_words b o e) ≡ Ok (record { line = line; block = b; offset = o; edit = e })
+unfolding patch_by edit_words
+patch_by-spelled One line b o e hb ho fits form = patch_at-spelled line b o e hb ho fits form
+patch_by-spelled Two line b o (Put bytes None) hb ho fits form = patch_at-spelled line b o (Put bytes None) hb ho fits refl
+patch_by-spelled Two line b o (Put bytes (Some old)) hb ho fits form = patch_at-spelled line b o (Put bytes (Some old)) hb ho fits refl
+patch_by-spelled Two line b o (Fill n v) hb ho fits form = patch_at-spelled line b o (Fill n v) hb ho fits refl
+patch_by-spelled Two line b o Rebuild hb ho fits form = patch_at-spelled line b o Rebuild hb ho fits refl
+patch_by-spelled Two line b o (Address bytes) hb ho fits form =
+    readdress_at-spelled line b bytes hb fits.1 ∙ ap (λ (k : ℕ). Ok (record { line = line; block = b; offset = k; edit = Address bytes })) (sym fits.0)
 
 -- ---- words
 
@@ -224,8 +270,29 @@ plain_rebuild = plain_word (codes "rebuild") refl (omega arith)
 plain_name : IsPlainWord (codes "cdpatch")
 plain_name = plain_word (codes "cdpatch") refl (omega arith)
 
-plain_version : IsPlainWord (codes "1")
-plain_version = plain_word (codes "1") refl (omega arith)
+plain_address : IsPlainWord (codes "address")
+plain_address = plain_word (codes "address") refl (omega arith)
+
+plain_version : (version : Version) → IsPlainWord (version_word version)
+plain_version One = plain_word (codes "1") refl (omega arith)
+plain_version Two = plain_word (codes "2") refl (omega arith)
+
+digits-then : (a b : ℕ) (rest : List ℕ) → All (λ b. 33 ≤ b) rest → All (λ b. 33 ≤ b) ((48 + a) ∷ ((48 + b) ∷ rest))
+digits-then a b rest h = All-cons (λ b. 33 ≤ b) (48 + a) ((48 + b) ∷ rest) (omega arith) (All-cons (λ b. 33 ≤ b) (48 + b) rest (omega arith) h)
+
+colon-then : (rest : List ℕ) → All (λ b. 33 ≤ b) rest → All (λ b. 33 ≤ b) (58 ∷ rest)
+colon-then rest h = All-cons (λ b. 33 ≤ b) 58 rest (omega arith) h
+
+plain_bytes : (m s f : ℕ) → IsPlainWord (address_word (m ∷ s ∷ f ∷ []))
+unfolding address_word
+plain_bytes m s f =
+    let fraction = high_digit f ∷ low_digit f ∷ [] in
+    let second = high_digit s ∷ low_digit s ∷ 58 ∷ fraction in
+    let behind = digits-then (s / 16) (s % 16) (58 ∷ fraction) (colon-then fraction (digits-then (f / 16) (f % 16) [] (All-nil (λ b. 33 ≤ b)))) in
+    record { some = omega arith; plain = digits-then (m / 16) (m % 16) (58 ∷ second) (colon-then second behind) }
+
+plain_address_word : (bytes : List ℕ) → IsAddress bytes → IsPlainWord (address_word bytes)
+plain_address_word bytes h = subst (λ (bs : List ℕ). IsPlainWord (address_word bs)) (sym h.are) (plain_bytes (bcd h.minute) (bcd h.second) (bcd h.fraction))
 
 edit_words-words : (b o : ℕ) (e : Edit) → b ≤ 999999999 → o ≤ 2047 → IsEditAt o e → AreWords (edit_words b o e)
 unfolding edit_words
@@ -236,6 +303,7 @@ edit_words-words b o (Put bytes (Some old)) hb ho fits =
 edit_words-words b o (Fill n v) hb ho fits =
     (plain_fill, (decimal-word b hb, (decimal-word o (omega arith), (decimal-word n (omega (arith, fits.1)), (hex-word (v ∷ []) (omega arith) (one-byte v fits.2), tt)))))
 edit_words-words b o Rebuild hb ho fits = (plain_rebuild, (decimal-word b hb, tt))
+edit_words-words b o (Address bytes) hb ho fits = (plain_address, (decimal-word b hb, (plain_address_word bytes fits.1, tt)))
 
 -- ---- lines
 
@@ -266,6 +334,7 @@ words-spelled b o (Put bytes None) hb ho fits = words-join _ _ (edit_words-words
 words-spelled b o (Put bytes (Some old)) hb ho fits = words-join _ _ (edit_words-words b o (Put bytes (Some old)) hb ho fits)
 words-spelled b o (Fill n v) hb ho fits = words-join _ _ (edit_words-words b o (Fill n v) hb ho fits)
 words-spelled b o Rebuild hb ho fits = words-join _ _ (edit_words-words b o Rebuild hb ho fits)
+words-spelled b o (Address bytes) hb ho fits = words-join _ _ (edit_words-words b o (Address bytes) hb ho fits)
 
 not_passed : (b o : ℕ) (e : Edit) → is_passed_over (edit_words b o e) ≡ false
 unfolding edit_words
@@ -273,36 +342,44 @@ not_passed b o (Put bytes None) = refl
 not_passed b o (Put bytes (Some old)) = refl
 not_passed b o (Fill n v) = refl
 not_passed b o Rebuild = refl
+not_passed b o (Address bytes) = refl
 
-line_at-spelled : (line earlier : ℕ) (p : Patch) → IsPatch p → earlier < 65535 → line_at line earlier (join_with_byte 32 (edit_words p.block p.offset p.edit)) ≡ Ok (Some (record p { line = line }))
+line_at-spelled : (version : Version) (line earlier : ℕ) (p : Patch) → IsPatch p → has_form version p.edit ≡ true → earlier < 65535 → line_at version line earlier (join_with_byte 32 (edit_words p.block p.offset p.edit)) ≡ Ok (Some (record p { line = line }))
 unfolding line_at
-line_at-spelled line earlier p fits few =
+line_at-spelled version line earlier p fits form few =
     let found = words-spelled p.block p.offset p.edit fits.block fits.offset fits.edit in
     let passed = not_passed p.block p.offset p.edit in
-    let reads = patch_at-spelled line p.block p.offset p.edit fits.block fits.offset fits.edit in
+    let reads = patch_by-spelled version line p.block p.offset p.edit fits.block fits.offset fits.edit form in
     let test : nat_le 65535 earlier ≡ false = grind (arith, nat_tests) in
     rw (found, passed, reads, test) refl
 
-patches_from-spelled : (line earlier : ℕ) (ps : List Patch) → All IsPatch ps → earlier + length ps ≤ 65535
-    → patches_from line earlier (lines (flat_map spelled_patch ps)) ≡ Ok (numbered line ps)
+patches_from-spelled : (version : Version) (line earlier : ℕ) (ps : List Patch) → All IsPatch ps → All (λ p. has_form version p.edit ≡ true) ps
+    → earlier + length ps ≤ 65535 → patches_from version line earlier (lines (flat_map spelled_patch ps)) ≡ Ok (numbered line ps)
 unfolding patches_from numbered
-patches_from-spelled line earlier [] each few = refl
-patches_from-spelled line earlier (p ∷ ps) each few =
+patches_from-spelled version line earlier [] each forms few = refl
+patches_from-spelled version line earlier (p ∷ ps) each forms few =
     let fits = All-head IsPatch p ps each in
     let rest = flat_map spelled_patch ps in
     let parts : lines (flat_map spelled_patch (p ∷ ps)) ≡ join_with_byte 32 (edit_words p.block p.offset p.edit) ∷ lines rest =
     ap lines (flat_map-cons spelled_patch p ps) ∙ lines-spelled (edit_words p.block p.offset p.edit) rest (edit_words-words p.block p.offset p.edit fits.block fits.offset fits.edit) in
-    let one = line_at-spelled line earlier p fits (omega arith) in
-    let others = patches_from-spelled (line + 1) (earlier + 1) ps (All-tail IsPatch p ps each) (omega arith) in
-    ap (patches_from line earlier) parts ∙ rw (one, others) refl
+    let form = All-head (λ p. has_form version p.edit ≡ true) p ps forms in
+    let one = line_at-spelled version line earlier p fits form (omega arith) in
+    let others = patches_from-spelled version (line + 1) (earlier + 1) ps (All-tail IsPatch p ps each) (All-tail (λ p. has_form version p.edit ≡ true) p ps forms) (omega arith) in
+    ap (patches_from version line earlier) parts ∙ rw (one, others) refl
 
-head_words : AreWords (codes "cdpatch" ∷ codes "1" ∷ [])
-head_words = (plain_name, (plain_version, tt))
+head_words : (version : Version) → AreWords (codes "cdpatch" ∷ version_word version ∷ [])
+head_words version = (plain_name, (plain_version version, tt))
 
-pub script-spelling : (ps : List Patch) → All IsPatch ps → length ps ≤ 65535 → script (spelling ps) ≡ Ok (numbered 2 ps)
+head-named : (version : Version) → head_version (codes "cdpatch" ∷ version_word version ∷ []) ≡ Some version
+head-named One = refl
+head-named Two = refl
+
+pub script-spelling : (version : Version) (ps : List Patch) → All IsPatch ps → All (λ p. has_form version p.edit ≡ true) ps → length ps ≤ 65535
+    → script (spelling version ps) ≡ Ok (numbered 2 ps)
 unfolding script_from
-script-spelling ps each few =
-    let head = codes "cdpatch" ∷ codes "1" ∷ [] in
-    let found : words (join_with_byte 32 head) ≡ head = words-join (codes "cdpatch") (codes "1" ∷ []) head_words in
-    ap (script_from 1) (lines-spelled head (flat_map spelled_patch ps) head_words)
-    ∙ rw found (patches_from-spelled 2 0 ps each (omega arith))
+script-spelling version ps each forms few =
+    let head = codes "cdpatch" ∷ version_word version ∷ [] in
+    let found : words (join_with_byte 32 head) ≡ head = words-join (codes "cdpatch") (version_word version ∷ []) (head_words version) in
+    let named = head-named version in
+    ap (script_from 1) (lines-spelled head (flat_map spelled_patch ps) (head_words version))
+    ∙ rw (found, named) (patches_from-spelled version 2 0 ps each forms (omega arith))

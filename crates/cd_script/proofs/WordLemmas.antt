@@ -5,18 +5,20 @@ use Rattle.std.specs.Str.{bytes_eq}
 use Rattle.cd_script.specs.declared.fault.ScriptFault.{ScriptFault}
 use Rattle.cd_script.specs.declared.fault.ScriptFault.TheVariants.{Verb}
 use Rattle.cd_script.specs.declared.patch.Patch.{Patch}
-use Rattle.cd_script.specs.Line.{set_line, fill_line, rebuild_line, patch_at}
-use Rattle.cd_script.specs.Script.{is_passed_over, is_head}
+use Rattle.cd_script.specs.declared.version.Version.{Version}
+use Rattle.cd_script.specs.declared.version.Version.TheVariants.{One, Two}
+use Rattle.cd_script.specs.Line.{set_line, fill_line, rebuild_line, address_line, patch_at, patch_by}
+use Rattle.cd_script.specs.Script.{is_passed_over, head_version}
 
 pub is_passed_over-take : (ws : List (List ℕ)) → is_passed_over (take 7 ws) ≡ is_passed_over ws
 is_passed_over-take [] = refl
 is_passed_over-take (w ∷ ws) = refl
 
-pub is_head-take : (ws : List (List ℕ)) → is_head (take 7 ws) ≡ is_head ws
-is_head-take [] = refl
-is_head-take (a ∷ []) = refl
-is_head-take (a ∷ b ∷ []) = refl
-is_head-take (a ∷ b ∷ c ∷ ws) = refl
+pub head_version-take : (ws : List (List ℕ)) → head_version (take 7 ws) ≡ head_version ws
+head_version-take [] = refl
+head_version-take (a ∷ []) = refl
+head_version-take (a ∷ b ∷ []) = refl
+head_version-take (a ∷ b ∷ c ∷ ws) = refl
 
 set_line-take : (line : ℕ) (ws : List (List ℕ)) → set_line line (take 6 ws) ≡ set_line line ws
 set_line-take line [] = refl
@@ -40,10 +42,24 @@ rebuild_line-take line [] = refl
 rebuild_line-take line (a ∷ []) = refl
 rebuild_line-take line (a ∷ b ∷ ws) = refl
 
-pub patch_at-take : (line : ℕ) (ws : List (List ℕ)) → patch_at line (take 7 ws) ≡ patch_at line ws
+address_line-take : (line : ℕ) (ws : List (List ℕ)) → address_line line (take 6 ws) ≡ address_line line ws
+address_line-take line [] = refl
+address_line-take line (a ∷ []) = refl
+address_line-take line (a ∷ b ∷ []) = refl
+address_line-take line (a ∷ b ∷ c ∷ ws) = refl
+
+patch_at-take : (line : ℕ) (ws : List (List ℕ)) → patch_at line (take 7 ws) ≡ patch_at line ws
 unfolding patch_at
 patch_at-take line [] = refl
 patch_at-take line (verb ∷ ws) =
     ap (λ (r : Result Patch ScriptFault). cond (bytes_eq verb (codes "set")) r (cond (bytes_eq verb (codes "fill")) (fill_line line (take 6 ws)) (cond (bytes_eq verb (codes "rebuild")) (rebuild_line line (take 6 ws)) (Err (Verb line))))) (set_line-take line ws)
     ∙ ap (λ (r : Result Patch ScriptFault). cond (bytes_eq verb (codes "set")) (set_line line ws) (cond (bytes_eq verb (codes "fill")) r (cond (bytes_eq verb (codes "rebuild")) (rebuild_line line (take 6 ws)) (Err (Verb line))))) (fill_line-take line ws)
     ∙ ap (λ (r : Result Patch ScriptFault). cond (bytes_eq verb (codes "set")) (set_line line ws) (cond (bytes_eq verb (codes "fill")) (fill_line line ws) (cond (bytes_eq verb (codes "rebuild")) r (Err (Verb line))))) (rebuild_line-take line ws)
+
+pub patch_by-take : (version : Version) (line : ℕ) (ws : List (List ℕ)) → patch_by version line (take 7 ws) ≡ patch_by version line ws
+unfolding patch_by
+patch_by-take One line ws = patch_at-take line ws
+patch_by-take Two line [] = refl
+patch_by-take Two line (verb ∷ ws) =
+    ap (λ (r : Result Patch ScriptFault). cond (bytes_eq verb (codes "address")) r (patch_at line (take 7 (verb ∷ ws)))) (address_line-take line ws)
+    ∙ ap (λ (r : Result Patch ScriptFault). cond (bytes_eq verb (codes "address")) (address_line line ws) r) (patch_at-take line (verb ∷ ws))

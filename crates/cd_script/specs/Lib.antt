@@ -2,6 +2,7 @@ pub mod Patch
 pub mod Number
 pub mod Hex
 pub mod Words
+pub mod Address
 pub mod Reading
 pub mod Value
 pub mod Line
@@ -9,3 +10,4 @@ pub mod Spelled
 pub mod Order
 pub mod Script
 pub mod Spelling
+pub mod Versions

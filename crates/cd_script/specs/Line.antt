@@ -4,9 +4,11 @@ use Rattle.std.specs.Str.{bytes_eq}
 use Rattle.cd_script.specs.declared.fault.ScriptFault.{ScriptFault}
 use Rattle.cd_script.specs.declared.fault.ScriptFault.TheVariants.{Verb, Words}
 use Rattle.cd_script.specs.declared.patch.Patch.{Patch}
-use Rattle.cd_script.specs.declared.patch.Edit.TheVariants.{Put, Fill, Rebuild}
+use Rattle.cd_script.specs.declared.patch.Edit.TheVariants.{Put, Fill, Rebuild, Address}
+use Rattle.cd_script.specs.declared.version.Version.{Version}
+use Rattle.cd_script.specs.declared.version.Version.TheVariants.{One, Two}
 use Rattle.cd_script.specs.Reading.{◌>>=◌}
-use Rattle.cd_script.specs.Value.{number_at, offset_at, count_at, new_at, old_at, byte_at}
+use Rattle.cd_script.specs.Value.{number_at, offset_at, count_at, new_at, old_at, byte_at, address_at}
 
 unfoldable pub put_at : ℕ → List ℕ → List ℕ → List ℕ → Result Patch ScriptFault
 put_at line block offset new = do
@@ -36,6 +38,12 @@ rebuild_at line block = do
   b ← number_at line block
   Ok (record { line = line; block = b; offset = 0; edit = Rebuild })
 
+unfoldable pub readdress_at : ℕ → List ℕ → List ℕ → Result Patch ScriptFault
+readdress_at line block address = do
+  b ← number_at line block
+  bcd ← address_at line address
+  Ok (record { line = line; block = b; offset = 0; edit = Address bcd })
+
 -- ---- the words behind each verb
 
 abbrev pub set_line : ℕ → List (List ℕ) → Result Patch ScriptFault
@@ -52,7 +60,11 @@ abbrev pub rebuild_line : ℕ → List (List ℕ) → Result Patch ScriptFault
 rebuild_line line (block ∷ []) = rebuild_at line block
 rebuild_line line other = Err (Words line)
 
--- the patch that the words of a line spell
+abbrev pub address_line : ℕ → List (List ℕ) → Result Patch ScriptFault
+address_line line (block ∷ address ∷ []) = readdress_at line block address
+address_line line other = Err (Words line)
+
+-- the patch that the words of a line spell in the first version of the language
 unfoldable pub patch_at : ℕ → List (List ℕ) → Result Patch ScriptFault
 patch_at line [] = Err (Verb line)
 patch_at line (verb ∷ rest) =
@@ -60,3 +72,9 @@ patch_at line (verb ∷ rest) =
     else if bytes_eq verb (codes "fill") then fill_line line rest
     else if bytes_eq verb (codes "rebuild") then rebuild_line line rest
     else Err (Verb line)
+
+-- the patch that the words of a line spell in a version: the second has one verb more
+unfoldable pub patch_by : Version → ℕ → List (List ℕ) → Result Patch ScriptFault
+patch_by One line ws = patch_at line ws
+patch_by Two line [] = patch_at line []
+patch_by Two line (verb ∷ rest) = if bytes_eq verb (codes "address") then address_line line rest else patch_at line (verb ∷ rest)

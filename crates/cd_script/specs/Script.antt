@@ -7,7 +7,9 @@ use Rattle.std.specs.Str.Lines.{lines}
 use Rattle.cd_script.specs.declared.fault.ScriptFault.{ScriptFault}
 use Rattle.cd_script.specs.declared.fault.ScriptFault.TheVariants.{Head, TooMany}
 use Rattle.cd_script.specs.declared.patch.Patch.{Patch}
-use Rattle.cd_script.specs.Line.{patch_at}
+use Rattle.cd_script.specs.declared.version.Version.{Version}
+use Rattle.cd_script.specs.declared.version.Version.TheVariants.{One, Two}
+use Rattle.cd_script.specs.Line.{patch_by}
 use Rattle.cd_script.specs.Reading.{◌>>=◌}
 use Rattle.cd_script.specs.Words.{words}
 
@@ -21,34 +23,43 @@ abbrev pub is_passed_over : List (List ℕ) → Bool
 is_passed_over [] = true
 is_passed_over (first ∷ rest) = begins_comment first
 
--- the words are `cdpatch` and `1`
-abbrev pub is_head : List (List ℕ) → Bool
-is_head (name ∷ version ∷ []) = bytes_eq name (codes "cdpatch") && bytes_eq version (codes "1")
-is_head other = false
+-- the version that the second word of a head line names
+abbrev pub named_version : List ℕ → Option Version
+named_version word = if bytes_eq word (codes "1") then Some One else if bytes_eq word (codes "2") then Some Two else None
+
+-- the words are `cdpatch` and that of a version
+abbrev pub head_version : List (List ℕ) → Option Version
+head_version (name ∷ version ∷ []) = if bytes_eq name (codes "cdpatch") then named_version version else None
+head_version other = None
 
 -- a well-formed patch behind so many others: behind 65,535 it is one too many
 abbrev pub at_limit : ℕ → ℕ → Patch → Result (Option Patch) ScriptFault
 at_limit line earlier p = if nat_le 65535 earlier then Err (TooMany line) else Ok (Some p)
 
 -- the patch of a line behind so many others, none where the line is blank or a comment
-unfoldable pub line_at : ℕ → ℕ → List ℕ → Result (Option Patch) ScriptFault
-line_at line earlier text = if is_passed_over (words text) then Ok None else patch_at line (words text) >>= at_limit line earlier
+unfoldable pub line_at : Version → ℕ → ℕ → List ℕ → Result (Option Patch) ScriptFault
+line_at version line earlier text =
+    if is_passed_over (words text) then Ok None else patch_by version line (words text) >>= at_limit line earlier
 
 -- the patches of the lines behind the head line, the first of them numbered line, behind so many patches
-unfoldable pub patches_from : ℕ → ℕ → List (List ℕ) → Result (List Patch) ScriptFault
-patches_from line earlier [] = Ok []
-patches_from line earlier (text ∷ rest) = do
-  found ← line_at line earlier text
-  others ← patches_from (line + 1) (earlier + length (option_to_list found)) rest
+unfoldable pub patches_from : Version → ℕ → ℕ → List (List ℕ) → Result (List Patch) ScriptFault
+patches_from version line earlier [] = Ok []
+patches_from version line earlier (text ∷ rest) = do
+  found ← line_at version line earlier text
+  others ← patches_from version (line + 1) (earlier + length (option_to_list found)) rest
   Ok (cons_option found others)
+
+-- the patches of the lines behind one that may be the head line
+abbrev pub patches_behind : ℕ → Option Version → List (List ℕ) → Result (List Patch) ScriptFault
+patches_behind line None rest = Err (Head line)
+patches_behind line (Some version) rest = patches_from version (line + 1) 0 rest
 
 -- the patches of lines, the first of them numbered line: those behind the head line
 unfoldable pub script_from : ℕ → List (List ℕ) → Result (List Patch) ScriptFault
 script_from line [] = Err (Head line)
 script_from line (text ∷ rest) =
     if is_passed_over (words text) then script_from (line + 1) rest
-    else if is_head (words text) then patches_from (line + 1) 0 rest
-    else Err (Head line)
+    else patches_behind line (head_version (words text)) rest
 
 -- the patches of a text, in the order of its lines
 abbrev pub script : List ℕ → Result (List Patch) ScriptFault

@@ -1,13 +1,28 @@
 -- The text that spells patches.
-use Rattle.std.specs.Prelude.{◌≡◌, ℕ, ◌+◌, ◌≤◌, List, [], ◌∷◌, ◌++◌, length, codes, All, Some, None, Ok}
+use Rattle.std.specs.Prelude.{◌≡◌, ℕ, ◌+◌, ◌/◌, ◌%◌, ◌≤◌, Bool, true, false, List, [], ◌∷◌, ◌++◌, length, codes, All, Some, None, Ok}
 use Rattle.std.specs.Fmt.{decimal}
 use Rattle.std.specs.List.{flat_map, join_with_byte}
 use Rattle.hex.specs.Hex.{encode_lower}
 use Rattle.cd_script.specs.declared.patch.Patch.{Patch}
 use Rattle.cd_script.specs.declared.patch.Edit.{Edit}
-use Rattle.cd_script.specs.declared.patch.Edit.TheVariants.{Put, Fill, Rebuild}
+use Rattle.cd_script.specs.declared.patch.Edit.TheVariants.{Put, Fill, Rebuild, Address}
+use Rattle.cd_script.specs.declared.version.Version.{Version}
+use Rattle.cd_script.specs.declared.version.Version.TheVariants.{One, Two}
 use Rattle.cd_script.specs.Patch.{IsPatch}
 use Rattle.cd_script.specs.Script.{script}
+
+-- the two digits of a byte in BCD
+abbrev pub high_digit : ℕ → ℕ
+high_digit b = 48 + b / 16
+
+abbrev pub low_digit : ℕ → ℕ
+low_digit b = 48 + b % 16
+
+-- the three bytes of an address as MM:SS:FF
+unfoldable pub address_word : List ℕ → List ℕ
+address_word (minute ∷ second ∷ fraction ∷ []) =
+    high_digit minute ∷ low_digit minute ∷ 58 ∷ high_digit second ∷ low_digit second ∷ 58 ∷ high_digit fraction ∷ low_digit fraction ∷ []
+address_word other = []
 
 -- the words of the form that spells an edit
 unfoldable pub edit_words : ℕ → ℕ → Edit → List (List ℕ)
@@ -17,6 +32,7 @@ edit_words block offset (Put bytes (Some old)) =
 edit_words block offset (Fill count value) =
     codes "fill" ∷ decimal block ∷ decimal offset ∷ decimal count ∷ encode_lower (value ∷ []) ∷ []
 edit_words block offset Rebuild = codes "rebuild" ∷ decimal block ∷ []
+edit_words block offset (Address bcd) = codes "address" ∷ decimal block ∷ address_word bcd ∷ []
 
 -- words with a space between each two, and a line feed
 abbrev pub spelled_line : List (List ℕ) → List ℕ
@@ -25,15 +41,30 @@ spelled_line ws = join_with_byte 32 ws ++ 10 ∷ []
 abbrev pub spelled_patch : Patch → List ℕ
 spelled_patch p = spelled_line (edit_words p.block p.offset p.edit)
 
+abbrev pub version_word : Version → List ℕ
+version_word One = codes "1"
+version_word Two = codes "2"
+
 -- the head line, and a line for each patch
-abbrev pub spelling : List Patch → List ℕ
-spelling ps = spelled_line (codes "cdpatch" ∷ codes "1" ∷ []) ++ flat_map spelled_patch ps
+abbrev pub spelling : Version → List Patch → List ℕ
+spelling version ps = spelled_line (codes "cdpatch" ∷ version_word version ∷ []) ++ flat_map spelled_patch ps
+
+-- a version has a form for an edit: the first has none for an address
+abbrev pub has_form : Version → Edit → Bool
+has_form One (Put bytes was) = true
+has_form One (Fill count value) = true
+has_form One Rebuild = true
+has_form One (Address bcd) = false
+has_form Two edit = true
 
 -- the patches of lines in a row, the first of them numbered line
 unfoldable pub numbered : ℕ → List Patch → List Patch
 numbered line [] = []
 numbered line (p ∷ ps) = record p { line = line } ∷ numbered (line + 1) ps
 
--- the text that spells patches is a script of just these, on the lines behind the head line
+-- the text that spells patches in a version that has forms for them is a script of just these, on the lines behind the
+-- head line
 abbrev pub SpellingReads : Type 0
-SpellingReads = (ps : List Patch) → All IsPatch ps → length ps ≤ 65535 → script (spelling ps) ≡ Ok (numbered 2 ps)
+SpellingReads =
+    (version : Version) (ps : List Patch) → All IsPatch ps → All (λ p. has_form version p.edit ≡ true) ps → length ps ≤ 65535
+    → script (spelling version ps) ≡ Ok (numbered 2 ps)

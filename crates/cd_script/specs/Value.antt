@@ -1,7 +1,8 @@
 -- The value of one word of a line, or the word's fault.
 use Rattle.std.specs.Prelude.{ℕ, ◌==◌, ◌&&◌, nat_le, List, [], ◌∷◌, length, ok_or, Result, Ok, Err, if◌then◌else◌}
 use Rattle.cd_script.specs.declared.fault.ScriptFault.{ScriptFault}
-use Rattle.cd_script.specs.declared.fault.ScriptFault.TheVariants.{Number, Hex, Length, Offset}
+use Rattle.cd_script.specs.declared.fault.ScriptFault.TheVariants.{Address, Number, Hex, Length, Offset}
+use Rattle.cd_script.specs.Address.{address}
 use Rattle.cd_script.specs.Number.{number}
 use Rattle.cd_script.specs.Hex.{hex_bytes}
 use Rattle.cd_script.specs.Reading.{◌>>=◌}
@@ -40,3 +41,6 @@ only_byte line other = Err (Length line)
 
 unfoldable pub byte_at : ℕ → List ℕ → Result ℕ ScriptFault
 byte_at line word = hex_at line word >>= only_byte line
+
+unfoldable pub address_at : ℕ → List ℕ → Result (List ℕ) ScriptFault
+address_at line word = ok_or (address word) (Address line)

@@ -32,6 +32,10 @@ pub enum ScriptFault {
     /// An offset over 2047.
     #[error("offset over 2047")]
     Offset(u32),
+    /// A header address is not `MM:SS:FF`, two digits each, with a second below 60 and a fraction
+    /// below 75.
+    #[error("bad address")]
+    Address(u32),
     /// A well-formed patch behind 65,535 others.
     #[error("more than 65535 patches")]
     TooMany(u32),

@@ -2,6 +2,7 @@
 
 ghost use Rattle.cd_script.specs.Order.{OrderRises, OrderKeepsTies, OrderPermutes};
 ghost use Rattle.cd_script.specs.Spelling.{SpellingReads};
+ghost use Rattle.cd_script.specs.Versions.{FirstStays, SecondExtends};
 
 /// The blocks rise along the order.
 pub fn order_rises()
@@ -21,4 +22,14 @@ pub fn order_permutes()
 /// The text that spells patches is a script of just these.
 pub fn spelling_reads()
     ensures reads { SpellingReads }
+{}
+
+/// A text whose head line is not `cdpatch 2` says what it said when there was no version but the first.
+pub fn first_stays()
+    ensures stays { FirstStays }
+{}
+
+/// Lines without the verb `address` say in version 2 what they say in version 1.
+pub fn second_extends()
+    ensures extends { SecondExtends }
 {}

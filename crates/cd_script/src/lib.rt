@@ -1,25 +1,27 @@
-//! The patch script language, version 1: what a script's text says, or its first fault.
+//! The patch script language, versions 1 and 2: what a script's text says, or its first fault.
 //!
 //! A text is cut into lines at each line feed; the line feed, and one carriage return directly before
 //! it, belong to no line, and what follows the last line feed is a line where it is not empty. A
 //! line's words are its parts without space and tab. Lines without words, and lines whose first word
-//! begins with `#`, are passed over, but counted. The first other line is the head line
-//! `cdpatch 1`; each later one is a patch:
+//! begins with `#`, are passed over, but counted. The first other line is the head line,
+//! `cdpatch 1` or `cdpatch 2`, which names the version; each later one is a patch:
 //!
 //! - `set BLOCK OFFSET NEW`: user bytes from that offset of that block become NEW;
 //! - `set BLOCK OFFSET NEW was OLD`: the same, where they are OLD before;
 //! - `fill BLOCK OFFSET COUNT BYTE`: COUNT user bytes become BYTE;
-//! - `rebuild BLOCK`: EDC, Intermediate and parity of the block are made anew.
+//! - `rebuild BLOCK`: EDC, Intermediate and parity of the block are made anew;
+//! - `address BLOCK MM:SS:FF`, in version 2 alone: the address in the header of the block becomes this one.
 //!
 //! BLOCK (0 to 999,999,999), OFFSET (0 to 2047) and COUNT (1 to 4096) are 1 to 9 decimal digits. NEW (1
 //! to 4096 bytes), OLD (as many bytes as NEW) and BYTE (one byte) are two hex digits for each byte, in
-//! either case. A text has at most 67,108,864 bytes, and a script at most 65,535 patches.
+//! either case. MM (00 to 99), SS (00 to 59) and FF (00 to 74) are two decimal digits each. A text has at most 67,108,864 bytes, and a script at most 65,535 patches.
 //!
 //! The first faulty line decides. In a line the verb is asked first, then the number of words, then the
 //! words from the left, and last of all whether the patch is one too many. A script's patches are ordered
 //! by their first blocks, those of one block as in the script; offsets play no part.
 #![tactic(auto)]
 
+mod address;
 mod bytes;
 mod fault;
 mod hex_word;
@@ -29,12 +31,14 @@ mod patch;
 mod script;
 mod spelled;
 mod value;
+mod version;
 mod words;
 
 pub use bytes::Bytes;
 pub use fault::ScriptFault;
 pub use patch::{Edit, Patch};
 pub use script::{MAX_TEXT, Script, parse};
+pub use version::Version;
 
 #[cfg(test)]
 mod tests;

@@ -3,11 +3,12 @@
 ghost use Rattle.std.specs.Prelude.{map};
 ghost use Rattle.cd_script.specs.Reading.{Reads};
 ghost use Rattle.cd_script.specs.Spelled.{as_patch};
-ghost use Rattle.cd_script.specs.Line.{put_at, put_where_at, fill_at, rebuild_at, set_line, fill_line, rebuild_line, patch_at};
+ghost use Rattle.cd_script.specs.Line.{put_at, put_where_at, fill_at, rebuild_at, readdress_at, set_line, fill_line, rebuild_line, address_line, patch_at, patch_by};
 
 use crate::fault::ScriptFault;
 use crate::spelled::{SpelledEdit, SpelledPatch};
-use crate::value::{byte_of, count_of, new_of, number_of, offset_of, old_of};
+use crate::value::{address_of, byte_of, count_of, new_of, number_of, offset_of, old_of};
+use crate::version::Version;
 
 #[tactic(auto, unfolding(crate::specs::Line::put_at))]
 fn put<'a>(
@@ -89,6 +90,20 @@ fn rebuild<'a>(line: u32, block: &[u8]) -> Result<SpelledPatch<'a>, ScriptFault>
     })
 }
 
+#[tactic(auto, unfolding(crate::specs::Line::readdress_at))]
+fn readdress<'a>(line: u32, block: &[u8], address: &[u8]) -> Result<SpelledPatch<'a>, ScriptFault>
+    ensures { Reads as_patch result (readdress_at line block.now address.now) }
+{
+    let block = number_of(line, block)?;
+    let bcd = address_of(line, address)?;
+    Ok(SpelledPatch {
+        line,
+        block,
+        offset: 0,
+        edit: SpelledEdit::Address { bcd },
+    })
+}
+
 fn set_of<'a>(line: u32, words: &[&'a [u8]]) -> Result<SpelledPatch<'a>, ScriptFault>
     ensures { Reads as_patch result (set_line line (map (λ w. w.now) words.now)) }
 {
@@ -119,9 +134,18 @@ fn rebuild_of<'a>(line: u32, words: &[&'a [u8]]) -> Result<SpelledPatch<'a>, Scr
     }
 }
 
-/// The patch that the words of this line spell.
+fn readdress_of<'a>(line: u32, words: &[&'a [u8]]) -> Result<SpelledPatch<'a>, ScriptFault>
+    ensures { Reads as_patch result (address_line line (map (λ w. w.now) words.now)) }
+{
+    match words {
+        [block, address] => readdress(line, block, address),
+        _ => Err(ScriptFault::Words(line)),
+    }
+}
+
+/// The patch that the words of this line spell in version 1.
 #[tactic(auto, unfolding(crate::specs::Line::patch_at))]
-pub(crate) fn patch_of<'a>(line: u32, words: &[&'a [u8]]) -> Result<SpelledPatch<'a>, ScriptFault>
+fn first_patch_of<'a>(line: u32, words: &[&'a [u8]]) -> Result<SpelledPatch<'a>, ScriptFault>
     ensures { Reads as_patch result (patch_at line (map (λ w. w.now) words.now)) }
 {
     let Some((verb, rest)) = words.split_first() else {
@@ -132,5 +156,23 @@ pub(crate) fn patch_of<'a>(line: u32, words: &[&'a [u8]]) -> Result<SpelledPatch
         b"fill" => fill_of(line, rest),
         b"rebuild" => rebuild_of(line, rest),
         _ => Err(ScriptFault::Verb(line)),
+    }
+}
+
+/// The patch that the words of this line spell.
+#[tactic(auto, unfolding(crate::specs::Line::patch_by))]
+pub(crate) fn patch_of<'a>(
+    version: Version,
+    line: u32,
+    words: &[&'a [u8]],
+) -> Result<SpelledPatch<'a>, ScriptFault>
+    ensures { Reads as_patch result (patch_by version line (map (λ w. w.now) words.now)) }
+{
+    match version {
+        Version::One => first_patch_of(line, words),
+        Version::Two => match words {
+            [verb, rest @ ..] if *verb == b"address".as_slice() => readdress_of(line, rest),
+            _ => first_patch_of(line, words),
+        },
     }
 }

@@ -9,7 +9,8 @@ pub struct Patch {
     pub line: u32,
     /// The block in which it begins, 0 to 999,999,999.
     pub block: u32,
-    /// The user byte of that block at which it begins, 0 to 2047; 0 for a rebuild.
+    /// The user byte of that block at which it begins, 0 to 2047; 0 for a rebuild or an
+    /// address.
     pub offset: u16,
     /// What it does.
     pub edit: Edit,
@@ -34,4 +35,9 @@ pub enum Edit {
     },
     /// EDC, Intermediate and parity of the block are made anew from its header and user data.
     Rebuild,
+    /// The address in the header of the block becomes another.
+    Address {
+        /// Minute, second and fraction, each in BCD.
+        bcd: [u8; 3],
+    },
 }

@@ -10,13 +10,14 @@ ghost use Rattle.cd_script.specs.declared.patch.Patch.{Patch};
 ghost use Rattle.cd_script.specs.Order.{order};
 ghost use Rattle.cd_script.specs.Patch.{IsPatch};
 ghost use Rattle.cd_script.specs.Reading.{Reads};
-ghost use Rattle.cd_script.specs.Script.{at_limit, is_passed_over, is_head, line_at, patches_from, script, script_from};
+ghost use Rattle.cd_script.specs.Script.{at_limit, head_version, is_passed_over, line_at, named_version, patches_from, script, script_from};
 ghost use Rattle.cd_script.specs.Spelled.{as_patch};
 
 use crate::fault::ScriptFault;
 use crate::line::patch_of;
 use crate::patch::Patch;
 use crate::spelled::SpelledPatch;
+use crate::version::Version;
 use crate::words::words;
 use bstr::{ByteSlice, Lines};
 use std::alloc::{AllocError, Global};
@@ -72,22 +73,40 @@ fn is_passed_over(words: &[&[u8]]) -> bool
     }
 }
 
-/// Whether a line of these words is the head line.
-fn is_head(words: &[&[u8]]) -> bool
-    ensures { result ≡ is_head (map (λ w. w.now) words.now) }
+/// The version that the second word of a head line names.
+fn named_version(word: &[u8]) -> Option<Version>
+    ensures { result ≡ named_version word.now }
 {
-    match words {
-        [name, version] => *name == b"cdpatch".as_slice() && *version == b"1".as_slice(),
-        _ => false,
+    match word {
+        b"1" => Some(Version::One),
+        b"2" => Some(Version::Two),
+        _ => None,
     }
 }
 
-/// Reads on past the head line, and gives its number.
-fn head_of(lines: &mut Lines) -> Result<u32, ScriptFault>
+/// The version that the head line names, where a line of these words is one.
+fn head_version(words: &[&[u8]]) -> Option<Version>
+    ensures { result ≡ head_version (map (λ w. w.now) words.now) }
+{
+    match words {
+        [name, version] if *name == b"cdpatch".as_slice() => named_version(version),
+        _ => None,
+    }
+}
+
+/// The head line: its number, and the version that it names.
+#[derive(Clone, Copy, Drop)]
+struct Head {
+    line: u32,
+    version: Version,
+}
+
+/// Reads on past the head line.
+fn head_of(lines: &mut Lines) -> Result<Head, ScriptFault>
     requires { length lines.old ≤ MAX_TEXT }
-    ensures ok { IfOk result (λ line.
-        script_from 1 lines.old ≡ patches_from (line + 1) 0 lines.new) }
-    ensures room { IfOk result (λ line. line + length lines.new ≤ MAX_TEXT) }
+    ensures ok { IfOk result (λ head.
+        script_from 1 lines.old ≡ patches_from head.version (head.line + 1) 0 lines.new) }
+    ensures room { IfOk result (λ head. head.line + length lines.new ≤ MAX_TEXT) }
     ensures err { IfErr result (λ e. script_from 1 lines.old ≡ Err e) }
 {
     let mut line = 1;
@@ -95,10 +114,10 @@ fn head_of(lines: &mut Lines) -> Result<u32, ScriptFault>
         let words = words(text);
         let words = words.as_slice();
         if !is_passed_over(words) {
-            if !is_head(words) {
+            let Some(version) = head_version(words) else {
                 return Err(ScriptFault::Head(line));
-            }
-            return Ok(line);
+            };
+            return Ok(Head { line, version });
         }
         line += 1;
     }
@@ -123,31 +142,32 @@ fn within_limit<'a>(
 /// The patch of a line behind so many others, none where the line is blank or a comment.
 #[tactic(auto, unfolding(crate::specs::Script::line_at))]
 fn line_of<'a>(
+    version: Version,
     line: u32,
     earlier: usize,
     text: &'a [u8],
 ) -> Result<Option<SpelledPatch<'a>>, ScriptFault>
-    ensures { Reads (option_map as_patch) result (line_at line earlier text.now) }
+    ensures { Reads (option_map as_patch) result (line_at version line earlier text.now) }
 {
     let words = words(text);
     let words = words.as_slice();
     if is_passed_over(words) {
         return Ok(None);
     }
-    let patch = patch_of(line, words)?;
+    let patch = patch_of(version, line, words)?;
     within_limit(line, earlier, patch)
 }
 
 /// Looks for the first fault of the lines behind the head line.
-fn check_lines(head: u32, mut lines: Lines<'_>) -> Result<(), ScriptFault>
-    requires { head + length lines ≤ MAX_TEXT }
-    ensures { result_err result ≡ result_err (patches_from (head + 1) 0 lines.entry) }
+fn check_lines(head: Head, mut lines: Lines<'_>) -> Result<(), ScriptFault>
+    requires { head.line + length lines ≤ MAX_TEXT }
+    ensures { result_err result ≡ result_err (patches_from head.version (head.line + 1) 0 lines.entry) }
 {
-    let mut line = head;
+    let mut line = head.line;
     let mut count = 0;
     while let Some(text) = lines.next() {
         line += 1;
-        let found = line_of(line, count, text)?;
+        let found = line_of(head.version, line, count, text)?;
         count += usize::from(found.is_some());
     }
     Ok(())
@@ -172,16 +192,16 @@ fn put_behind(
 }
 
 /// The patches of the lines behind the head line, which have no fault.
-fn patches_of(alloc: Global, head: u32, mut lines: Lines<'_>) -> Result<Vec<Patch>, AllocError>
-    requires room { head + length lines ≤ MAX_TEXT }
-    requires sound { IsOk (patches_from (head + 1) 0 lines) }
-    ensures { IfOk result (λ ps. patches_from (head + 1) 0 lines.entry ≡ Ok ps.items) }
+fn patches_of(alloc: Global, head: Head, mut lines: Lines<'_>) -> Result<Vec<Patch>, AllocError>
+    requires room { head.line + length lines ≤ MAX_TEXT }
+    requires sound { IsOk (patches_from head.version (head.line + 1) 0 lines) }
+    ensures { IfOk result (λ ps. patches_from head.version (head.line + 1) 0 lines.entry ≡ Ok ps.items) }
 {
     let mut patches = Vec::new(alloc);
-    let mut line = head;
+    let mut line = head.line;
     while let Some(text) = lines.next() {
         line += 1;
-        let found = line_of(line, patches.len(), text).unwrap();
+        let found = line_of(head.version, line, patches.len(), text).unwrap();
         put_behind(alloc, &mut patches, found)?;
     }
     Ok(patches)

@@ -28,6 +28,9 @@ pub(crate) enum SpelledEdit<'a> {
         value: u8,
     },
     Rebuild,
+    Address {
+        bcd: [u8; 3],
+    },
 }
 
 /// Old bytes, where there are some.
@@ -62,6 +65,7 @@ impl<'a> SpelledEdit<'a> {
             SpelledEdit::Put { bytes, was } => build_put(alloc, bytes, was),
             SpelledEdit::Fill { count, value } => Ok(Edit::Fill { count, value }),
             SpelledEdit::Rebuild => Ok(Edit::Rebuild),
+            SpelledEdit::Address { bcd } => Ok(Edit::Address { bcd }),
         }
     }
 }

@@ -1,6 +1,7 @@
 mod accepted;
 mod faults;
 mod large;
+mod versions;
 
 use crate::{MAX_TEXT, ScriptFault, parse};
 use std::alloc::{AllocError, Global};

@@ -2,8 +2,9 @@
 
 ghost use Rattle.std.specs.Prelude.{◌≡◌};
 ghost use Rattle.cd_script.specs.Number.{number};
-ghost use Rattle.cd_script.specs.Value.{number_at, hex_at, offset_at, count_at, new_at, old_at, byte_at};
+ghost use Rattle.cd_script.specs.Value.{address_at, number_at, hex_at, offset_at, count_at, new_at, old_at, byte_at};
 
+use crate::address::address;
 use crate::fault::ScriptFault;
 use crate::hex_word::HexWord;
 
@@ -113,4 +114,12 @@ pub(crate) fn byte_of(line: u32, word: &[u8]) -> Result<u8, ScriptFault>
         return Err(ScriptFault::Length(line));
     }
     Ok(bytes.only_byte())
+}
+
+/// The three bytes of a header's address.
+#[tactic(auto, unfolding(crate::specs::Value::address_at))]
+pub(crate) fn address_of(line: u32, word: &[u8]) -> Result<[u8; 3], ScriptFault>
+    ensures { result ≡ address_at line word.now }
+{
+    address(word).ok_or(ScriptFault::Address(line))
 }

@@ -24,6 +24,7 @@ script_line (script_fault.Number line) = numbered_line line (codes "bad number")
 script_line (script_fault.Hex line) = numbered_line line (codes "bad hex")
 script_line (script_fault.Length line) = numbered_line line (codes "bad length")
 script_line (script_fault.Offset line) = numbered_line line (codes "offset over 2047")
+script_line (script_fault.Address line) = numbered_line line (codes "bad address")
 script_line (script_fault.TooMany line) = numbered_line line (codes "more than 65535 patches")
 script_line script_fault.NoMemory = codes "script: no memory\n"
 

@@ -78,6 +78,7 @@ fn line_of(fault: ScriptFault) -> Line
         ScriptFault::Hex(line) => numbered(line, b"bad hex"),
         ScriptFault::Length(line) => numbered(line, b"bad length"),
         ScriptFault::Offset(line) => numbered(line, b"offset over 2047"),
+        ScriptFault::Address(line) => numbered(line, b"bad address"),
         ScriptFault::TooMany(line) => numbered(line, b"more than 65535 patches"),
         ScriptFault::NoMemory => {
             let mut line = Line::new();

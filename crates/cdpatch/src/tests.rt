@@ -1,5 +1,6 @@
 //! Whole calls, at concrete sources and sinks.
 
+mod addresses;
 mod patching;
 mod run;
 mod script;

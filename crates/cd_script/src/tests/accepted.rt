@@ -18,6 +18,7 @@ fn shown(alloc: Global, script: &Script) -> Result<String, Fail> {
             }
             Edit::Fill { count, value } => format!(in alloc; "{count} times {value}")?,
             Edit::Rebuild => format!(in alloc; "rebuild")?,
+            Edit::Address { bcd } => format!(in alloc; "address {bcd:?}")?,
         };
         text.push_str(format!(in alloc; "{line}: {block} {offset} {edit}; ")?.as_str())?;
     }

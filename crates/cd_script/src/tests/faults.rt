@@ -10,7 +10,7 @@ fn head_faults(rt: HostRuntime) {
         ("cdpatch 1 x", ScriptFault::Head(1)),
         ("cdpatch", ScriptFault::Head(1)),
         ("Cdpatch 1", ScriptFault::Head(1)),
-        ("cdpatch 2\n", ScriptFault::Head(1)),
+        ("cdpatch 3\n", ScriptFault::Head(1)),
         ("cdpatch 1\rset 0 0 4\n", ScriptFault::Head(1)),
         ("# a\n\n", ScriptFault::Head(3)),
         ("\n# a\n \t\nrebuild 0\ncdpatch 1\n", ScriptFault::Head(4)),
@@ -151,6 +151,7 @@ fn texts(rt: HostRuntime) -> Result<(), Fail> {
         (ScriptFault::Hex(7), "bad hex"),
         (ScriptFault::Length(7), "bad length"),
         (ScriptFault::Offset(7), "offset over 2047"),
+        (ScriptFault::Address(7), "bad address"),
         (ScriptFault::TooMany(7), "more than 65535 patches"),
         (ScriptFault::NoMemory, "no memory"),
     ] {

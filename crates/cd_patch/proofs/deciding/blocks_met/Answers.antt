@@ -13,3 +13,7 @@ returns-in-Fill-clause-number c = search rules
 pub returns-in-Rebuild-clause-number : goal.returns-in-Rebuild-clause-number
 unfolding blocks_met
 returns-in-Rebuild-clause-number c = search rules
+
+pub returns-in-Rebuild-2-clause-number : goal.returns-in-Rebuild-2-clause-number
+unfolding blocks_met
+returns-in-Rebuild-2-clause-number c = search rules

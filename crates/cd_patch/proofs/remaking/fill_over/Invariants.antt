@@ -1,8 +1,9 @@
 use Rattle.std.proofs.Common.{replicate}
+use Rattle.cd_sector.specs.Consistent.{header_of}
 use Rattle.cd_patch.specs.Parts.{HasPart}
 use Rattle.cd_patch.proofs.PartLemmas.{MadeBelow}
 use Rattle.cd_patch.proofs.remaking.fill_over.Given as goal
 
 abbrev pub invariant-loop-k : goal.invariant-loop-k
 invariant-loop-k l =
-    MadeBelow (λ i before after. HasPart i l.offset (replicate l.count l.value) before after) l.k l.initial.sectors l.sectors
+    MadeBelow (λ i before after. HasPart i l.offset (replicate l.count l.value) (header_of before) before after) l.k l.initial.sectors l.sectors

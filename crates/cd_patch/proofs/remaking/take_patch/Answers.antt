@@ -1,6 +1,7 @@
 use Rattle.std.proofs.Common.{◌++◌, length, drop, take, sym, subst, ◌∙◌, arith}
 use Rattle.std.proofs.lemmas.List.{length-take-le}
-use Rattle.cd_patch.specs.Blocks.{asks_sound, new_bytes}
+use Rattle.cd_patch.specs.Blocks.{asks_sound, new_bytes, new_header}
+use Rattle.cd_sector.specs.Consistent.{header_of}
 use Rattle.cd_patch.specs.Effect.{IsApplied}
 use Rattle.cd_patch.specs.Parts.{EachMade, HasPart, HaveUsers}
 use Rattle.cd_patch.proofs.DecidingLemmas.{AreMet}
@@ -48,7 +49,7 @@ returns-in-Applied-clause-effect c =
     let met = met-where-applied ss p applied in
     let number = c.blocks_met-count.ensures.number in
     let users = subst (λ n. HaveUsers (take n ss) (length (take n ss))) number c.change.ensures.users in
-    let each = subst (λ n. EachMade (λ k before after. HasPart k p.offset (new_bytes p.edit) before after) (take n ss) front) number c.change.ensures.each in
+    let each = subst (λ n. EachMade (λ k before after. HasPart k p.offset (new_bytes p.edit) (new_header p.edit (header_of before)) before after) (take n ss) front) number c.change.ensures.each in
     Effect-applied p ss (front ++ drop c.blocks_met-count.result ss) applied
     (subst (λ n. IsApplied p.block p ss (front ++ drop n ss)) (sym number)
     (IsApplied-from p ss front (new-fits p c.requires) met.enough users each))

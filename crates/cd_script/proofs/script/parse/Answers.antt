@@ -22,39 +22,39 @@ returns-in_err-head-clause-refused c =
 pub returns-in_err-check_lines-clause-err : goal.returns-in_err-check_lines-clause-err
 returns-in_err-check_lines-clause-err c =
     let p = err_from_is_err_and c.from_residual-in_err-check_lines.result c.from_residual-in_err-check_lines.ensures.1 in
-    let told = script-rest c.args.text.now c.as_bytes-rest.result.now _ _ _ _ c.lines-lines.ensures.value c.in_ok-head.ensures.ok c.as_bytes-rest.ensures c.lines.ensures.value in
+    let told = script-rest _ c.args.text.now c.as_bytes-rest.result.now _ _ _ _ c.lines-lines.ensures.value c.in_ok-head.ensures.ok c.as_bytes-rest.ensures c.lines.ensures.value in
     rw (p.1, p.2) (λ _. told ∙ fault_is _ _ c.in_err-check_lines.ensures)
 
 pub returns-in_err-check_lines-clause-refused : goal.returns-in_err-check_lines-clause-refused
 returns-in_err-check_lines-clause-refused c =
     let p = err_from_is_err_and c.from_residual-in_err-check_lines.result c.from_residual-in_err-check_lines.ensures.1 in
-    let told = script-rest c.args.text.now c.as_bytes-rest.result.now _ _ _ _ c.lines-lines.ensures.value c.in_ok-head.ensures.ok c.as_bytes-rest.ensures c.lines.ensures.value in
+    let told = script-rest _ c.args.text.now c.as_bytes-rest.result.now _ _ _ _ c.lines-lines.ensures.value c.in_ok-head.ensures.ok c.as_bytes-rest.ensures c.lines.ensures.value in
     λ e is. p.1 ∙ ap (λ (f : ScriptFault). Err f) p.2 ∙ sym (told ∙ fault_is _ _ c.in_err-check_lines.ensures) ∙ is
 
 pub returns-in_err-patches-clause-refused : goal.returns-in_err-patches-clause-refused
 returns-in_err-patches-clause-refused c =
-    let told = script-rest c.args.text.now c.as_bytes-rest.result.now _ _ _ _ c.lines-lines.ensures.value c.in_ok-head.ensures.ok c.as_bytes-rest.ensures c.lines.ensures.value in
+    let told = script-rest _ c.args.text.now c.as_bytes-rest.result.now _ _ _ _ c.lines-lines.ensures.value c.in_ok-head.ensures.ok c.as_bytes-rest.ensures c.lines.ensures.value in
     λ e is. absurd (no_fault _ e c.in_ok-check_lines.ensures (sym told ∙ is))
 
 pub returns-in_err-sort_by_key-clause-refused : goal.returns-in_err-sort_by_key-clause-refused
 returns-in_err-sort_by_key-clause-refused c =
-    let told = script-rest c.args.text.now c.as_bytes-rest.result.now _ _ _ _ c.lines-lines.ensures.value c.in_ok-head.ensures.ok c.as_bytes-rest.ensures c.lines.ensures.value in
+    let told = script-rest _ c.args.text.now c.as_bytes-rest.result.now _ _ _ _ c.lines-lines.ensures.value c.in_ok-head.ensures.ok c.as_bytes-rest.ensures c.lines.ensures.value in
     λ e is. absurd (no_fault _ e c.in_ok-check_lines.ensures (sym told ∙ is))
 
 pub returns-clause-refused : goal.returns-clause-refused
 returns-clause-refused c =
-    let told = script-rest c.args.text.now c.as_bytes-rest.result.now _ _ _ _ c.lines-lines.ensures.value c.in_ok-head.ensures.ok c.as_bytes-rest.ensures c.lines.ensures.value in
+    let told = script-rest _ c.args.text.now c.as_bytes-rest.result.now _ _ _ _ c.lines-lines.ensures.value c.in_ok-head.ensures.ok c.as_bytes-rest.ensures c.lines.ensures.value in
     λ e is. absurd (no_fault _ e c.in_ok-check_lines.ensures (sym told ∙ is))
 
 pub invariant_of-result : goal.invariant_of-result
 invariant_of-result c =
-    let told = script-rest c.args.text.now c.as_bytes-rest.result.now _ _ _ _ c.lines-lines.ensures.value c.in_ok-head.ensures.ok c.as_bytes-rest.ensures c.lines-2.ensures.value in
+    let told = script-rest _ c.args.text.now c.as_bytes-rest.result.now _ _ _ _ c.lines-lines.ensures.value c.in_ok-head.ensures.ok c.as_bytes-rest.ensures c.lines-2.ensures.value in
     let computes = answers_always _ _ _ (λ f a r g h. search rules) in
     let sorted = sorted-order _ _ (c.in_ok-sort_by_key.ensures.sorted (λ p. p.block) computes) (c.in_ok-sort_by_key.ensures.stable (λ p. p.block) computes) in
     subst IsPatchList (sym sorted) (order-list _ _ (told ∙ c.in_ok-patches.ensures))
 
 pub returns-clause-ok : goal.returns-clause-ok
 returns-clause-ok c =
-    let told = script-rest c.args.text.now c.as_bytes-rest.result.now _ _ _ _ c.lines-lines.ensures.value c.in_ok-head.ensures.ok c.as_bytes-rest.ensures c.lines-2.ensures.value in
+    let told = script-rest _ c.args.text.now c.as_bytes-rest.result.now _ _ _ _ c.lines-lines.ensures.value c.in_ok-head.ensures.ok c.as_bytes-rest.ensures c.lines-2.ensures.value in
     let computes = answers_always _ _ _ (λ f a r g h. search rules) in
     (_, told ∙ c.in_ok-patches.ensures, sorted-order _ _ (c.in_ok-sort_by_key.ensures.sorted (λ p. p.block) computes) (c.in_ok-sort_by_key.ensures.stable (λ p. p.block) computes))

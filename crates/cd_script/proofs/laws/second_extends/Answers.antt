@@ -1,0 +1,5 @@
+use Rattle.cd_script.proofs.VersionLemmas.{second-extends}
+use Rattle.cd_script.proofs.laws.second_extends.Goals as goal
+
+pub returns : goal.returns
+returns c = record { extends = second-extends }

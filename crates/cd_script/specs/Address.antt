@@ -1,0 +1,38 @@
+-- Header addresses, as words spell them.
+use Rattle.std.specs.Prelude.{◌≡◌, ℕ, ◌+◌, ◌-◌, ◌*◌, ◌/◌, ◌%◌, ◌<◌, ◌==◌, ◌&&◌, nat_lt, if◌then◌else◌, List, [], ◌∷◌, Option, Some, None}
+use Rattle.std.specs.Char.{is_ascii_digit}
+use Rattle.cd_script.specs.Hex.{◌>>=◌}
+use Rattle.cd_script.specs.Number.{digits_value}
+
+-- two decimal digits in one byte
+abbrev pub bcd : ℕ → ℕ
+bcd n = 16 * (n / 10) + n % 10
+
+-- the number below a limit that two decimal digits spell, in BCD
+unfoldable pub bcd_below : ℕ → ℕ → ℕ → Option ℕ
+bcd_below limit high low =
+    if is_ascii_digit high && is_ascii_digit low && nat_lt (digits_value (high ∷ low ∷ [])) limit
+    then Some (bcd (digits_value (high ∷ low ∷ []))) else None
+
+-- the minute 0 to 99, the second 0 to 59 and the fraction 0 to 74, two digits each
+unfoldable pub header_bytes : ℕ → ℕ → ℕ → ℕ → ℕ → ℕ → Option (List ℕ)
+header_bytes m n s t f g = do
+  minute ← bcd_below 100 m n
+  second ← bcd_below 60 s t
+  fraction ← bcd_below 75 f g
+  Some (minute ∷ second ∷ fraction ∷ [])
+
+-- MM:SS:FF, as the three bytes of a header
+unfoldable pub address : List ℕ → Option (List ℕ)
+address (m ∷ n ∷ c ∷ s ∷ t ∷ d ∷ f ∷ g ∷ []) = if c == 58 && d == 58 then header_bytes m n s t f g else None
+address other = None
+
+-- the three bytes of a minute, a second and a fraction
+pub record IsAddress (bytes : List ℕ) : Type 0 where
+  pub minute : ℕ
+  pub second : ℕ
+  pub fraction : ℕ
+  pub is_minute : minute < 100
+  pub is_second : second < 60
+  pub is_fraction : fraction < 75
+  pub are : bytes ≡ bcd minute ∷ bcd second ∷ bcd fraction ∷ []
