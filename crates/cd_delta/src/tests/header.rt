@@ -41,10 +41,19 @@ fn encoded_sectors(rt: HostRuntime) {
     }
 }
 
+/// The sector with `d` added to a byte.
+fn with_sum(s: Sector, place: usize, d: u8) -> Sector {
+    let mut other = s;
+    if place < 2352 {
+        other.put(place, s.byte(place) ^ d);
+    }
+    other
+}
+
 /// A damaged sector keeps its damage in the parity, and each byte of its sync field, mode and user data.
 #[test]
 fn damaged_sectors(rt: HostRuntime) {
-    let address = [0x01, 0x23, 0x45];
+    let sound = encode([0x00, 0x02, 0x00], &user());
     for (place, d) in [
         (12, 0x10),
         (16, 0x01),
@@ -55,25 +64,23 @@ fn damaged_sectors(rt: HostRuntime) {
         (2076, 0x01),
         (2351, 0x01),
     ] {
-        let mut s = encode([0x00, 0x02, 0x00], &user());
-        let byte = s.byte(place);
-        s.put(place, byte ^ d);
-        let (old, before) = (s, defect(&s));
-        change(&rt, &mut s, address);
+        let old = with_sum(sound, place, d);
+        let mut s = old;
+        change(&rt, &mut s, [0x01, 0x23, 0x45]);
         let wanted = DefectReport {
             edc: false,
-            ..before
+            ..defect(&old)
         };
         assert_eq!(rt; defect(&s), wanted, "byte {place}");
-        for i in 0..2076usize {
-            let byte = if (12..15).contains(&i) {
-                address[i - 12]
-            } else if (2064..2068).contains(&i) {
-                s.byte(i)
-            } else {
-                old.byte(i)
+        for (i, (new, old)) in s.bytes().iter().zip(old.bytes()).enumerate().take(2076) {
+            let byte = match i {
+                12 => 0x01,
+                13 => 0x23,
+                14 => 0x45,
+                2064..=2067 => *new,
+                _ => *old,
             };
-            assert_eq!(rt; s.byte(i), byte, "byte {i}");
+            assert_eq!(rt; *new, byte, "byte {i}");
         }
     }
 }
