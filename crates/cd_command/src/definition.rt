@@ -1,9 +1,14 @@
 //! What the parser is told of the command line.
 ghost use Rattle.std.specs.Prelude.{◌≡◌, IfOk, codes, false};
+ghost use Rattle.clap.specs.Simple.{new_shape};
 ghost use Rattle.clap.specs.Words.{app_of, rule_of, shape_of};
 ghost use Rattle.clap.specs.declared.builder.command.Command.TheViews.{out-Command};
 ghost use Rattle.cd_command.specs.CommandLine.{apply_shape, base_rule, check_shape, command_line, image_shape, text_rule};
 
+use crate::help::{
+    APPLY_ABOUT, APPLY_MORE, AUDIT_ABOUT, AUDIT_MORE, CHECK_ABOUT, CHECK_MORE, LIST_ABOUT,
+    LIST_MORE, PROGRAM_ABOUT, PROGRAM_MORE,
+};
 use clap::{Arg, Command, value_parser};
 use std::alloc::{AllocError, Global};
 
@@ -65,15 +70,22 @@ fn base_argument<'a>(alloc: Global) -> Arg<'a>
         .value_name("N")
         .default_value("0")
         .value_parser(value_parser!(u32).range(0..=i64::from(MAX_BASE)))
-        .help("The block number of the first sector, at most 449849")
+        .help("The number of the first block, at most 449849")
+}
+
+// A command before its arguments, with the texts above and below them in its help.
+fn described<'a>(alloc: Global, name: &'a str, about: &'a str, more: &'a str) -> Command<'a>
+    ensures shape { shape_of result ≡ new_shape name.now }
+    ensures local { (out-Command result).has_globals ≡ false }
+{
+    Command::new(alloc, name).about(about).after_help(more)
 }
 
 fn list_command<'a>(alloc: Global) -> Result<Command<'a>, AllocError>
     ensures shape { IfOk result (λ c. shape_of c ≡ image_shape (codes "list")) }
     ensures local { IfOk result (λ c. (out-Command c).has_globals ≡ false) }
 {
-    Command::new(alloc, "list")
-        .about("List the kinds of an image's sectors")
+    described(alloc, "list", LIST_ABOUT, LIST_MORE)
         .arg(image_argument(alloc))?
         .arg(base_argument(alloc))
 }
@@ -82,8 +94,7 @@ fn audit_command<'a>(alloc: Global) -> Result<Command<'a>, AllocError>
     ensures shape { IfOk result (λ c. shape_of c ≡ image_shape (codes "audit")) }
     ensures local { IfOk result (λ c. (out-Command c).has_globals ≡ false) }
 {
-    Command::new(alloc, "audit")
-        .about("Report what is wrong with an image's sectors")
+    described(alloc, "audit", AUDIT_ABOUT, AUDIT_MORE)
         .arg(image_argument(alloc))?
         .arg(base_argument(alloc))
 }
@@ -92,8 +103,7 @@ fn check_command<'a>(alloc: Global) -> Result<Command<'a>, AllocError>
     ensures shape { IfOk result (λ c. shape_of c ≡ check_shape) }
     ensures local { IfOk result (λ c. (out-Command c).has_globals ≡ false) }
 {
-    Command::new(alloc, "check")
-        .about("Report what a script's patches would do to an image")
+    described(alloc, "check", CHECK_ABOUT, CHECK_MORE)
         .arg(image_argument(alloc))?
         .arg(script_argument(alloc))?
         .arg(base_argument(alloc))
@@ -103,8 +113,7 @@ fn apply_command<'a>(alloc: Global) -> Result<Command<'a>, AllocError>
     ensures shape { IfOk result (λ c. shape_of c ≡ apply_shape) }
     ensures local { IfOk result (λ c. (out-Command c).has_globals ≡ false) }
 {
-    Command::new(alloc, "apply")
-        .about("Patch an image by a script, into a new file")
+    described(alloc, "apply", APPLY_ABOUT, APPLY_MORE)
         .arg(image_argument(alloc))?
         .arg(script_argument(alloc))?
         .arg(out_argument(alloc))?
@@ -116,6 +125,8 @@ pub fn command_line<'a>(alloc: Global) -> Result<Command<'a>, AllocError>
     ensures { IfOk result (λ c. app_of c ≡ command_line) }
 {
     Command::new(alloc, "cdpatch")
+        .about(PROGRAM_ABOUT)
+        .after_help(PROGRAM_MORE)
         .bin_name("cdpatch")?
         .no_binary_name(true)
         .disable_help_subcommand(true)

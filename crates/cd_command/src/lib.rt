@@ -4,6 +4,7 @@
 mod asked;
 mod definition;
 mod fault;
+mod help;
 mod job;
 
 pub use asked::job_of;

@@ -96,7 +96,7 @@ fn gives_patchings(rt: HostRuntime) -> Result<(), Fail> {
 
 #[test]
 fn refuses_words(rt: HostRuntime) -> Result<(), Fail> {
-    let cases: [&[&str]; 20] = [
+    let cases: [&[&str]; 23] = [
         &["list", "-", "--base", "450000"],
         &["list", "-", "--base", "449850"],
         &["list", "-", "--base", "-1"],
@@ -117,6 +117,9 @@ fn refuses_words(rt: HostRuntime) -> Result<(), Fail> {
         &["list", "-", "--carry"],
         &["Apply", "a", "b", "c"],
         &["help"],
+        &["--version"],
+        &["-V"],
+        &["list", "x", "--version"],
     ];
     for words in cases {
         assert_eq!(rt; answer(rt.alloc(), words)?.as_str(), "parser, 2");

@@ -21,8 +21,10 @@ bare = record { top = record program_shape { is_leaf = true }; subs = [] }
 pub returns : goal.returns
 unfolding command_line
 returns c =
+    let told : app_of c.after_help.result ≡ new_app (codes "cdpatch") =
+    ap app_of_fields c.after_help.ensures ∙ ap app_of_fields c.about.ensures ∙ c.new.ensures.app in
     let named : app_of c.in_ok-bin_name.field-0 ≡ new_app (codes "cdpatch") =
-    ap app_of_fields c.in_ok-bin_name.ensures.0 ∙ c.new.ensures.app in
+    ap app_of_fields c.in_ok-bin_name.ensures.0 ∙ told in
     let nameless : app_of c.no_binary_name.result ≡ without_binary_name (new_app (codes "cdpatch")) =
     ap app_of_fields c.no_binary_name.ensures ∙ ap without_binary_name named in
     let helpless : app_of c.disable_help_subcommand.result ≡ without_help (without_binary_name (new_app (codes "cdpatch"))) =

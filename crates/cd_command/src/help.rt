@@ -1,0 +1,90 @@
+//! The texts of help that tell what the words are for.
+
+/// What the program is.
+pub const PROGRAM_ABOUT: &str =
+    "List, audit and patch raw images of CDs (sectors of 2352 bytes, ECMA-130)";
+
+/// How to make a script, what the program writes, its statuses and, as the last line, its version.
+pub const PROGRAM_MORE: &str = "\
+With no words at all, cdpatch lists the image on the standard input.
+'cdpatch COMMAND --help' tells more of a command.
+
+A script is a text file: the line 'cdpatch 1', and then a patch a line. Lines
+that begin with '#', and empty ones, are passed over.
+
+    cdpatch 1
+    # five user bytes of block 1 from offset 16 on, if these are there now
+    set 1 16 48454C4C4F was 71FE284B05
+    # the same, whatever is there
+    set 1 16 48454C4C4F
+    # 2048 bytes 00 from offset 0 of block 2 on
+    fill 2 0 2048 00
+    # EDC and parity of block 3, damaged or not, made anew for its user data
+    rebuild 3
+
+Blocks, offsets (0 to 2047) and counts (1 to 4096) are decimal, bytes are hex.
+A patch that runs past the end of a block goes on in the next one.
+
+    cdpatch check disc.bin changes            what would become of each patch
+    cdpatch apply disc.bin changes new.bin    the patched image, in a new file
+
+Every message, the line of a fault too, goes to the standard output. A patched
+image goes to OUT alone.
+
+Status:
+  0  done
+  1  a patch was refused, or audit told of a sector
+  2  a fault, a fault of the script, or words that are refused
+
+cdpatch 0.1.0";
+
+/// What `list` does.
+pub const LIST_ABOUT: &str = "List the kinds of an image's sectors";
+
+/// What `list` writes, and its statuses.
+pub const LIST_MORE: &str = "\
+For each run of sectors of equal kind it prints FIRST-LAST KIND: the numbers of
+two blocks, and nosync, mode0, mode1, mode2 or other. Then it prints
+'sectors S tail T', where T bytes stand behind the last whole sector.
+
+Status: 0 done, 2 a fault.";
+
+/// What `audit` does.
+pub const AUDIT_ABOUT: &str = "Report what is wrong with an image's sectors";
+
+/// What `audit` writes, and its statuses.
+pub const AUDIT_MORE: &str = "\
+For each Mode 1 sector with findings it prints the block's number and what was
+found:
+  address  the header has not the address of this block
+  zeros    the eight bytes behind the EDC are not all 00
+  edc      the EDC is not that of the bytes in front of it
+  p=N      N of the 86 P columns are no code words
+  q=N      N of the 52 Q diagonals are no code words
+Then it prints 'sectors S mode1 M damaged D tail T'. With 'mode1 0' nothing was
+audited: the image is of another kind or form.
+
+Status: 0 nothing found, 1 something found, 2 a fault.";
+
+/// What `check` does.
+pub const CHECK_ABOUT: &str = "Report what a script's patches would do to an image";
+
+/// What `check` writes, and its statuses.
+pub const CHECK_MORE: &str = "\
+For each patch it prints 'line L: applied' or 'line L: refused: WHY', ordered by
+blocks, and then 'applied A refused R'. No file is written.
+'cdpatch --help' has an example of a script.
+
+Status: 0 all applied, 1 a patch refused, 2 a fault or a fault of the script.";
+
+/// What `apply` does.
+pub const APPLY_ABOUT: &str = "Patch an image by a script, into a new file";
+
+/// What `apply` writes, and its statuses.
+pub const APPLY_MORE: &str = "\
+For each patch it prints 'line L: applied' or 'line L: refused: WHY', ordered by
+blocks, and then 'applied A refused R'. A refused patch changes nothing. OUT is
+as long as the image. After a fault OUT stays, and begins the patched image.
+'cdpatch --help' has an example of a script.
+
+Status: 0 all applied, 1 a patch refused, 2 a fault or a fault of the script.";
