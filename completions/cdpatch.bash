@@ -1,0 +1,45 @@
+# bash completion of cdpatch
+
+# Answers the file names that begin with the word.
+_cdpatch_files() {
+    compopt -o filenames 2> /dev/null
+    mapfile -t COMPREPLY < <(compgen "$@" -- "$word")
+}
+
+_cdpatch() {
+    local word=${COMP_WORDS[COMP_CWORD]} before command='' texts=0 options='--base --help'
+    local in_base='' is_closed='' place
+    COMPREPLY=()
+    for ((place = 1; place < COMP_CWORD; place++)); do
+        before=${COMP_WORDS[place]}
+        if [[ $in_base ]]; then
+            [[ $before = '=' ]] || in_base=''
+        elif [[ ! $command && $before = -* ]]; then
+            return
+        elif [[ ! $command ]]; then
+            command=$before
+        elif [[ $is_closed || $before != -?* ]]; then
+            texts=$((texts + 1))
+        else
+            case $before in
+                --) is_closed=1 ;;
+                --base) in_base=1 options=${options/--base/} ;;
+                --base=*) options=${options/--base/} ;;
+                *) return ;;
+            esac
+        fi
+    done
+    [[ $in_base ]] && return
+    if [[ ! $is_closed && $word = -?* ]]; then
+        [[ $command ]] || options='--help'
+        mapfile -t COMPREPLY < <(compgen -W "$options" -- "$word")
+        return
+    fi
+    case $command:$texts in
+        :0) mapfile -t COMPREPLY < <(compgen -W 'list audit check apply' -- "$word") ;;
+        list:0 | audit:0 | check:[01] | apply:[01]) _cdpatch_files -f ;;
+        apply:2) _cdpatch_files -d ;;
+    esac
+}
+
+complete -F _cdpatch cdpatch

@@ -1,0 +1,42 @@
+# fish completion of cdpatch
+
+# Whether the next word is this text of one of these commands: `__cdpatch_at NUMBER COMMAND..`.
+function __cdpatch_at
+    set -l words (commandline -opc)
+    set -l command $words[2]
+    contains -- "$command" $argv[2..-1]
+    or return 1
+    set -l texts 0
+    set -l in_base no
+    set -l is_closed no
+    for word in $words[3..-1]
+        if test $in_base = yes
+            set in_base no
+        else if test $is_closed = yes
+            set texts (math $texts + 1)
+        else if test "x$word" = x--
+            set is_closed yes
+        else if test "x$word" = x--base
+            set in_base yes
+        else if not string match -q -- '-?*' "$word"
+            set texts (math $texts + 1)
+        end
+    end
+    test $in_base = no -a $texts = $argv[1]
+end
+
+# Whether there is no command yet.
+function __cdpatch_begins
+    test (count (commandline -opc)) = 1
+end
+
+complete -c cdpatch -f
+complete -c cdpatch -n __cdpatch_begins -a list -d 'List the kinds of an image\'s sectors'
+complete -c cdpatch -n __cdpatch_begins -a audit -d 'Report what is wrong with an image\'s sectors'
+complete -c cdpatch -n __cdpatch_begins -a check -d 'Report what a script\'s patches would do to an image'
+complete -c cdpatch -n __cdpatch_begins -a apply -d 'Patch an image by a script, into a new file'
+complete -c cdpatch -s h -l help -d 'Print help'
+complete -c cdpatch -n 'not __cdpatch_begins; and not __fish_contains_opt base' -l base -x -d 'The number of the first block'
+complete -c cdpatch -n '__cdpatch_at 0 list audit check apply' -F
+complete -c cdpatch -n '__cdpatch_at 1 check apply' -F
+complete -c cdpatch -n '__cdpatch_at 2 apply' -a '(__fish_complete_directories)'
