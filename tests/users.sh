@@ -11,6 +11,7 @@ cd "$scratch" || exit 1
 mkdir bin
 ln -s "$program" bin/cdpatch
 PATH=$scratch/bin:$PATH
+export HOME=$scratch
 passed=0
 failed=0
 
@@ -140,7 +141,16 @@ for word in --version -V; do
     judge "$word is refused" test $? = 2
 done
 
-# The program's options are those of the man page and of each completion.
+# The program's commands and options are those of the man page and of each completion.
+sed -n '/^Commands:/,/^Options:/s/^  \([a-z]*\) .*/\1/p' help | sort > wanted
+sed -n 's/^\.It Cm \([a-z]*\) Ar .*/\1/p' "$top/man/cdpatch.1" | sort > got
+judge 'the commands of the man page' cmp -s wanted got
+sed -n "s/^        :0).*compgen -W '\([a-z ]*\)'.*/\1/p" "$top/completions/cdpatch.bash" | tr ' ' '\n' | sort > got
+judge 'the commands of the bash completion' cmp -s wanted got
+sed -n "s/^ *[\"']\([a-z]*\):[A-Z].*/\1/p" "$top/completions/_cdpatch" | sort > got
+judge 'the commands of the zsh completion' cmp -s wanted got
+sed -n 's/^complete .* -n __cdpatch_begins -a \([a-z]*\) .*/\1/p' "$top/completions/cdpatch.fish" | sort > got
+judge 'the commands of the fish completion' cmp -s wanted got
 options() { grep -o -e '--[a-z][a-z]*' | sort -u; }
 cat help ./*.help | options > wanted
 sed -n 's/^\.\(It\|Op\)\(.*\)/\2/p' "$top/man/cdpatch.1" | sed -n 's/.*Fl Fl \([a-z]*\).*/--\1/p' | sort -u > got
@@ -154,18 +164,25 @@ judge 'the options of the fish completion' cmp -s wanted got
 
 # ---- the man page
 
-# The page as text on one line, without macros: what is typed, with single spaces.
-sed -e 's/^\.[A-Z][a-z] \(Li\|Ql\) //' -e 's/^\.It //' -e 's/\\e/\\/g' "$top/man/cdpatch.1" > page
+# The page without the macros in front of messages.
+sed -e 's/^\.It Li //' -e 's/^\.Ql //' -e 's/\\e/\\/g' "$top/man/cdpatch.1" > page
 messages() { grep -oh "b\?\"$1[^\"]*\"" "${@:2}" | sed -e 's/^b\?"//' -e 's/\\n"$//' -e 's/"$//'; }
 {
-    messages 'cdpatch: ' "$top"/crates/cdpatch/src/{run,script,program}.rt "$top/crates/cd_command/src/fault.rt"
+    messages 'cdpatch: ' "$top"/crates/cdpatch/src/*.rt "$top/crates/cd_command/src/fault.rt"
     grep -oh 'numbered(line, b"[^"]*"' "$top/crates/cdpatch/src/script.rt" | sed -e 's/.*b"//' -e 's/"$//'
     grep -oh '#\[error("[a-z][^"]*")\]' "$top/crates/cd_script/src/fault.rt" | sed -e 's/.*("//' -e 's/").*//'
 } | sort -u > told
-judge 'there are messages to look for' test "$(wc -l < told)" -gt 15
+judge 'there are messages to look for' test "$(wc -l < told)" -gt 16
 while IFS= read -r message <&3; do
     judge "the man page has: $message" grep -qF -- "$message" page
 done 3< told
+{
+    sed -n '/^\.Ss Faults of a script/,/^\.Ss/s/^\.It Li //p' "$top/man/cdpatch.1"
+    sed -n 's/^\.It Li cdpatch: /cdpatch: /p' "$top/man/cdpatch.1"
+} > in_page
+while IFS= read -r message <&3; do
+    judge "the sources have: $message" grep -qxF -- "$message" told
+done 3< in_page
 for message in 'applied' 'refused: no block 9' 'refused: block 9 is not mode 1' 'refused: block 9 is damaged' \
     'refused: old bytes differ at block 9 offset 16'; do
     judge "the man page has the line: $message" grep -qxF "line 3: $message" page
@@ -228,45 +245,52 @@ done
 
 # ---- installing
 
-enter installing
-make() { command make --no-print-directory -s -C "$top" PROGRAM="$program" "$@"; }
+built() { make --no-print-directory -s -C "$top" PROGRAM="$program" "$@"; }
 files() { (cd "$1" && find . ! -type d | sort); }
-judge 'make install' make install DESTDIR="$PWD/root" PREFIX=/usr
-cat > wanted <<'EOF'
-./usr/bin/cdpatch
-./usr/share/bash-completion/completions/cdpatch
-./usr/share/fish/vendor_completions.d/cdpatch.fish
-./usr/share/man/man1/cdpatch.1
-./usr/share/zsh/site-functions/_cdpatch
+
+installed_for_a_package() {
+    judge 'make install' built install DESTDIR="$PWD/root" PREFIX=/usr
+    : > wanted
+    while read -r path source <&3; do
+        judge "$path is $source" cmp -s "$source" "root/$path"
+        echo "$path" >> wanted
+    done 3<< EOF
+./usr/bin/cdpatch $program
+./usr/share/bash-completion/completions/cdpatch $top/completions/cdpatch.bash
+./usr/share/fish/vendor_completions.d/cdpatch.fish $top/completions/cdpatch.fish
+./usr/share/man/man1/cdpatch.1 $top/man/cdpatch.1
+./usr/share/zsh/site-functions/_cdpatch $top/completions/_cdpatch
 EOF
-files root > got
-judge 'it installs five files' cmp -s wanted got
-while read -r source path <&3; do
-    judge "$path is $source" cmp -s "$source" "root/usr/$path"
-done 3<< EOF
-$program bin/cdpatch
-$top/man/cdpatch.1 share/man/man1/cdpatch.1
-$top/completions/cdpatch.bash share/bash-completion/completions/cdpatch
-$top/completions/_cdpatch share/zsh/site-functions/_cdpatch
-$top/completions/cdpatch.fish share/fish/vendor_completions.d/cdpatch.fish
-EOF
-judge 'the installed program runs' test "$(root/usr/bin/cdpatch list disc.bin | tail -n 1)" = 'sectors 8 tail 0'
-judge 'the program may be run by all' test "$(stat -c %a root/usr/bin/cdpatch)" = 755
-judge 'the man page may be read by all' test "$(stat -c %a root/usr/share/man/man1/cdpatch.1)" = 644
-touch root/usr/bin/another
-judge 'make uninstall' make uninstall DESTDIR="$PWD/root" PREFIX=/usr
-judge 'it leaves what others installed, and no more' test "$(files root)" = ./usr/bin/another
-judge 'make uninstall of nothing' make uninstall DESTDIR="$PWD/root" PREFIX=/usr
-make install DESTDIR="$PWD/local"
-judge 'without PREFIX into /usr/local' test -x local/usr/local/bin/cdpatch
-make uninstall DESTDIR="$PWD/local"
-judge 'and away again' test -z "$(files local)"
-make install prefix="$PWD/with space" bindir="$PWD/with space/sbin" zshcompdir="$PWD/zsh"
-judge 'prefix, and folders by their names' test -x 'with space/sbin/cdpatch' -a -f zsh/_cdpatch
-make uninstall prefix="$PWD/with space" bindir="$PWD/with space/sbin" zshcompdir="$PWD/zsh"
-judge 'and away from there' test -z "$(files 'with space')$(files zsh)"
-make install PROGRAM="$PWD/nothing" DESTDIR="$PWD/none" 2> /dev/null
-judge 'nothing that was built, nothing installed' test $? != 0 -a ! -e none
+    files root > got
+    judge 'it installs five files' cmp -s wanted got
+    judge 'the installed program runs' test "$(root/usr/bin/cdpatch list disc.bin | tail -n 1)" = 'sectors 8 tail 0'
+    judge 'the program may be run by all' test "$(stat -c %a root/usr/bin/cdpatch)" = 755
+    judge 'the man page may be read by all' test "$(stat -c %a root/usr/share/man/man1/cdpatch.1)" = 644
+    touch root/usr/bin/another
+    judge 'make uninstall' built uninstall DESTDIR="$PWD/root" PREFIX=/usr
+    judge 'it leaves what others installed, and no more' test "$(files root)" = ./usr/bin/another
+    judge 'make uninstall of nothing' built uninstall DESTDIR="$PWD/root" PREFIX=/usr
+}
+
+installed_elsewhere() {
+    built install DESTDIR="$PWD/local"
+    judge 'without PREFIX into /usr/local' test -x local/usr/local/bin/cdpatch
+    built uninstall DESTDIR="$PWD/local"
+    judge 'and away again' test -z "$(files local)"
+    local folders=(prefix="$PWD/with space" bindir="$PWD/with space/sbin" zshcompdir="$PWD/zsh")
+    built install "${folders[@]}"
+    judge 'prefix, and folders by their names' test -x 'with space/sbin/cdpatch' -a -f zsh/_cdpatch
+    built uninstall "${folders[@]}"
+    judge 'and away from there' test -z "$(files 'with space')$(files zsh)"
+    built install PROGRAM="$PWD/nothing" DESTDIR="$PWD/none" 2> /dev/null
+    judge 'nothing that was built, nothing installed' test $? != 0 -a ! -e none
+}
+
+if ! missing make make; then
+    enter installing
+    installed_for_a_package
+    installed_elsewhere
+fi
 
 # ---- completions
 
