@@ -79,8 +79,12 @@ enter() {
 # ---- the examples
 
 enter readme
-sed -n '/^## Run it/,/^## Test it/s/^    //p' "$top/README.md" | sed -n '/^\$ /,$p' | sed '/^\.\/cdpatch /,$d' > example
+sed -n '/^## Run it/,/^## /s/^    //p' "$top/README.md" | sed -n '/^\$ /,$p' | sed '/^\.\/cdpatch /,$d' > example
 transcript 'the README' < example
+for drawing in sector apply; do
+    judge "the README shows $drawing.svg" grep -q "](docs/$drawing.svg)$" "$top/README.md"
+    judge "$drawing.svg is there" grep -q '^</svg>$' "$top/docs/$drawing.svg"
+done
 
 enter manual
 sed -n '/^\.Bd -literal/,/^\.Ed/{/^\./!p}' "$top/man/cdpatch.1" | sed 's/\\e/\\/g' > example
