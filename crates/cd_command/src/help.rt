@@ -23,7 +23,8 @@ that begin with '#', and empty ones, are passed over.
     rebuild 3
 
 Blocks, offsets (0 to 2047) and counts (1 to 4096) are decimal, bytes are hex.
-A patch that runs past the end of a block goes on in the next one.
+A patch that runs past the end of a block goes on in the next one. Where the
+first line is 'cdpatch 2', 'address 3 00:02:03' writes the address in a header.
 
     cdpatch check disc.bin changes            what would become of each patch
     cdpatch apply disc.bin changes new.bin    the patched image, in a new file
