@@ -247,6 +247,16 @@ for n in $place "${column_pair[@]}" "${diagonal_pairs[@]}"; do
     judge "byte $((12 + 2 * n)) is named" grep -qw "$((12 + 2 * n))" "$top/docs/sector.svg"
 done
 
+# ---- what has to be read
+
+bash "$top/tests/reading_list.sh" > list
+{
+    sed -n 's/^| `\(crates[^`]*\)` | \([0-9]*\) |.*/\1 \2/p' "$top/docs/TRUST.md"
+    grep -o '`crates/[a-z_]*/src/[a-z_]*\.rt`' "$top/docs/TRUST.md" | tr -d '`' | sort -u | grep -vx crates/cd_image/src/applying.rt
+    grep '^[0-9]* lines in all\.$' "$top/docs/TRUST.md"
+} > wanted
+judge 'the reading list is that of the sources (bash tests/reading_list.sh --write)' cmp -s wanted list
+
 # ---- installing
 
 built() { make --no-print-directory -s -C "$top" PROGRAM="$program" "$@"; }
