@@ -52,16 +52,16 @@ pub struct Ending {
     pub log_failures: u32,
     pub out_finished: bool,
     pub log_finished: bool,
-    /// How many bytes the image gave when it was read on, 0 where it had failed.
-    pub left: usize,
+    /// How many bytes the image gave when it was read on, if it had not failed.
+    pub left: Option<usize>,
 }
 
 /// Reads on what is left of an image that has not failed, and answers how many bytes came.
-fn read_on<I: Source>(image: &mut I, rest: &mut [u8]) -> usize {
+fn read_on<I: Source>(image: &mut I, rest: &mut [u8]) -> Option<usize> {
     if image.failures() > 0 {
-        return 0;
+        return None;
     }
-    fill(image, rest).unwrap_or(0)
+    fill(image, rest).ok()
 }
 
 /// Applies the script, with an output over `space` and a log over `lines`, and reads on what is left of the image.

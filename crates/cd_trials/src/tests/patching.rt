@@ -124,7 +124,7 @@ fn ends_well(rt: &impl Abort, alloc: Global, ending: &Ending, case: &Case) -> Re
     assert_eq!(rt; ending.image_failures, 0);
     assert_eq!(rt; ending.out_failures, 0);
     assert_eq!(rt; ending.log_failures, 0);
-    assert_eq!(rt; ending.left, 0);
+    assert_eq!(rt; ending.left, Some(0));
     let Ok(tally) = ending.answer else {
         return Err("a fault".into());
     };

@@ -41,6 +41,10 @@ fn blocks_past_the_end(rt: HostRuntime) -> Result<(), Fail> {
     let set = "cdpatch 1\nset 2 0 41\n";
     leaves(&rt, rt.alloc(), set, &image, log)?;
 
+    let rebuild = "cdpatch 1\nrebuild 999999999\n";
+    let log = "line 2: refused: no block 999999999\napplied 0 refused 1\n";
+    leaves(&rt, rt.alloc(), rebuild, zeros_at(0).bytes(), log)?;
+
     let all = "cdpatch 1\nrebuild 999999999\nfill 999999999 2047 4096 FF\nset 2 2047 4141\n";
     let log = "line 4: refused: no block 2\nline 2: refused: no block 999999999\n\
         line 3: refused: no block 999999999\napplied 0 refused 3\n";

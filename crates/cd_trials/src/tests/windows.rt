@@ -24,8 +24,16 @@ fn passing(all: u64) -> Limit {
     }
 }
 
-/// Applies the script on an image from block 0 on. Asserts that the image then still gives its last bytes, at least those
-/// that are not three sectors ahead of what was sent to the memory, and that these bytes were told.
+/// How a call ended, how many bytes it had sent by then, and how many of the image it had not read.
+#[derive(Clone, Copy)]
+struct Ahead {
+    ending: Ending,
+    sent: usize,
+    left: usize,
+}
+
+/// Applies the script on an image from block 0 on. Asserts that so many bytes were told, and that the image still gives
+/// its last bytes, all but three sectors of those that were not sent.
 fn reads_ahead(
     rt: &impl Abort,
     alloc: Global,
@@ -33,7 +41,7 @@ fn reads_ahead(
     script: &Script,
     limits: &Limits,
     told: usize,
-) -> Result<Ending, Fail> {
+) -> Result<Ahead, Fail> {
     let call = Call {
         image,
         script,
@@ -45,10 +53,16 @@ fn reads_ahead(
     let ending = apply_within(&call, limits, &mut space, &mut lines, &mut rest);
     assert!(rt; has_front(&lines, LOG, told), "{told}");
     let unsent = space.iter().rev().take_while(|byte| **byte == 238).count();
-    assert!(rt; unsent <= ending.left.saturating_add(7056), "{unsent}");
-    let first = image.len().saturating_sub(ending.left);
-    assert!(rt; image.get(first..) == rest.get(..ending.left), "{unsent}");
-    Ok(ending)
+    let sent = image.len().saturating_sub(unsent);
+    let left = ending.left.ok_or("the image has failed")?;
+    assert!(rt; unsent <= left.saturating_add(7056), "{unsent}");
+    let first = image.len().saturating_sub(left);
+    assert!(rt; image.get(first..) == rest.get(..left), "{unsent}");
+    Ok(Ahead {
+        ending,
+        sent,
+        left,
+    })
 }
 
 #[test]
@@ -61,9 +75,10 @@ fn an_output_that_takes_nothing(rt: HostRuntime) -> Result<(), Fail> {
     };
     for text in ["cdpatch 1\n", "cdpatch 1\nset 4 0 41\n"] {
         let script = script_of(&rt, rt.alloc(), text)?;
-        let ending = reads_ahead(&rt, rt.alloc(), &image, &script, &limits, 0)?;
-        assert_eq!(rt; ending.answer, Err(Fault::Write));
-        assert!(rt; ending.left >= 4704);
+        let ahead = reads_ahead(&rt, rt.alloc(), &image, &script, &limits, 0)?;
+        assert_eq!(rt; ahead.ending.answer, Err(Fault::Write));
+        assert_eq!(rt; ahead.sent, 0);
+        assert!(rt; ahead.left >= 4704);
     }
     Ok(())
 }
@@ -80,10 +95,10 @@ fn three_sectors_are_in_hand_where_the_output_fails(rt: HostRuntime) -> Result<(
             log: NO_LIMITS.log,
         };
         let told = (sent / 2352).min(4) * 16 + 16;
-        let ending = reads_ahead(&rt, rt.alloc(), &image, &script, &limits, told)?;
-        assert_eq!(rt; ending.answer, Err(Fault::Write), "{sent}");
+        let ahead = reads_ahead(&rt, rt.alloc(), &image, &script, &limits, told)?;
+        assert_eq!(rt; ahead.ending.answer, Err(Fault::Write), "{sent}");
         let least = (14_112 - sent).saturating_sub(7056);
-        assert!(rt; ending.left >= least, "{sent}");
+        assert!(rt; ahead.left >= least, "{sent}");
     }
     Ok(())
 }
@@ -98,10 +113,10 @@ fn three_sectors_are_in_hand_where_the_log_fails(rt: HostRuntime) -> Result<(), 
             out: NO_LIMITS.out,
             log: passing(count as u64),
         };
-        let ending = reads_ahead(&rt, rt.alloc(), &image, &script, &limits, count)?;
-        assert_eq!(rt; ending.answer, Err(Fault::Log), "{count}");
-        assert_eq!(rt; ending.out_failures, 0, "{count}");
-        assert_eq!(rt; ending.log_failures, 1, "{count}");
+        let ahead = reads_ahead(&rt, rt.alloc(), &image, &script, &limits, count)?;
+        assert_eq!(rt; ahead.ending.answer, Err(Fault::Log), "{count}");
+        assert_eq!(rt; ahead.ending.out_failures, 0, "{count}");
+        assert_eq!(rt; ahead.ending.log_failures, 1, "{count}");
     }
     Ok(())
 }
