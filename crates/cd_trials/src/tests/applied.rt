@@ -54,6 +54,27 @@ fn bytes_over_three_blocks(rt: HostRuntime) -> Result<(), Fail> {
     Ok(())
 }
 
+/// Fills these joined user bytes of three sectors with `41`.
+fn fills(
+    rt: &impl Abort,
+    alloc: Global,
+    image: &[u8],
+    patch: &str,
+    first: usize,
+    end: usize,
+) -> Result<(), Fail> {
+    let out = range_filled(alloc, 3, first, end)?;
+    let script = repeated(alloc, "cdpatch 1\nfill ", patch, 1, " 41")?;
+    let case = Case {
+        script: script.as_str(),
+        image,
+        base: 0,
+        log: ONE,
+        out: &out,
+    };
+    expect(rt, alloc, &case)
+}
+
 #[test]
 fn ranges_at_the_borders_of_blocks(rt: HostRuntime) -> Result<(), Fail> {
     let image = zeros_from(rt.alloc(), 0, 3)?;
@@ -77,16 +98,7 @@ fn ranges_at_the_borders_of_blocks(rt: HostRuntime) -> Result<(), Fail> {
         ("2 2047 1", 6143, 6144),
         ("2 0 2048", 4096, 6144),
     ] {
-        let out = range_filled(rt.alloc(), 3, first, end)?;
-        let script = repeated(rt.alloc(), "cdpatch 1\nfill ", patch, 1, " 41")?;
-        let case = Case {
-            script: script.as_str(),
-            image: &image,
-            base: 0,
-            log: ONE,
-            out: &out,
-        };
-        expect(&rt, rt.alloc(), &case)?;
+        fills(&rt, rt.alloc(), &image, patch, first, end)?;
     }
     Ok(())
 }
@@ -237,23 +249,28 @@ fn no_patches(rt: HostRuntime) -> Result<(), Fail> {
     Ok(())
 }
 
+/// A sector that a patch fills, and a tail of so many bytes.
+fn keeps_a_tail(rt: &impl Abort, alloc: Global, size: usize) -> Result<(), Fail> {
+    let tail = zeros_at(1);
+    let tail = tail.bytes().get(..size).ok_or("too few bytes")?;
+    let mut image = zeros_from(alloc, 0, 1)?;
+    image.extend_from_slice(tail)?;
+    let mut out = joined(alloc, &[filled_at(0, 0, 2048, 65)])?;
+    out.extend_from_slice(tail)?;
+    let case = Case {
+        script: "cdpatch 1\nfill 0 0 2048 41\n",
+        image: &image,
+        base: 0,
+        log: ONE,
+        out: &out,
+    };
+    expect(rt, alloc, &case)
+}
+
 #[test]
 fn a_tail_behind_patched_sectors(rt: HostRuntime) -> Result<(), Fail> {
     for size in [1, 2047, 2351] {
-        let tail = zeros_at(1);
-        let tail = tail.bytes().get(..size).ok_or("too few bytes")?;
-        let mut image = zeros_from(rt.alloc(), 0, 1)?;
-        image.extend_from_slice(tail)?;
-        let mut out = joined(rt.alloc(), &[filled_at(0, 0, 2048, 65)])?;
-        out.extend_from_slice(tail)?;
-        let case = Case {
-            script: "cdpatch 1\nfill 0 0 2048 41\n",
-            image: &image,
-            base: 0,
-            log: ONE,
-            out: &out,
-        };
-        expect(&rt, rt.alloc(), &case)?;
+        keeps_a_tail(&rt, rt.alloc(), size)?;
     }
     Ok(())
 }

@@ -2,7 +2,7 @@
 
 use super::calls::{Call, Ending, Limit, Limits, NO_LIMITS, apply_within, check_within};
 use super::images::{filled_at, joined, zeros_at, zeros_from};
-use super::patching::{has_front, memory, script_of, written};
+use super::patching::{has_failed, has_front, memory, script_of, written};
 use cd_image::{Fault, Tally};
 use cd_script::Script;
 use std::alloc::Global;
@@ -62,13 +62,11 @@ fn passing(all: u64) -> Limit {
 
 /// Asserts the answer, and that what it names has failed once and nothing else has.
 fn is_answered(rt: &impl Abort, ending: &Ending, fault: Fault, count: u64) {
-    assert_eq!(rt; ending.answer, Err(fault), "{count}");
     let read = u32::from(fault == Fault::Read);
-    assert_eq!(rt; ending.image_failures, read, "{count}");
     let write = u32::from(fault == Fault::Write);
-    assert_eq!(rt; ending.out_failures, write, "{count}");
     let log = u32::from(fault == Fault::Log);
-    assert_eq!(rt; ending.log_failures, log, "{count}");
+    let is_counted = has_failed(ending, read, write, log);
+    assert!(rt; ending.answer == Err(fault) && is_counted, "{count}");
 }
 
 /// The image fails behind so many bytes, of a call of each kind.
@@ -84,8 +82,11 @@ fn image_fails(rt: &impl Abort, parts: &Parts, space: &mut [u8], count: u64) {
     is_answered(rt, &ending, Fault::Read, count);
     let sent = written(rt, space, &parts.whole);
     let told = written(rt, &lines, LOG);
-    assert!(rt; count >= 4704 || sent <= 2352 && told == 0, "{count}");
-    assert!(rt; count as usize <= sent.saturating_add(7056), "{count}");
+    let is_begun = count >= 4704 || sent <= 2352 && told == 0;
+    assert!(rt;
+        is_begun && count as usize <= sent.saturating_add(7056),
+        "{count}"
+    );
 
     let mut lines = [238; 36];
     let ending = checks(parts, &limits, &mut lines);
@@ -114,13 +115,13 @@ fn output_fails(rt: &impl Abort, parts: &Parts, space: &mut [u8], count: u64) {
     let mut lines = [238; 36];
     let ending = applies(parts, &limits, space, &mut lines);
     is_answered(rt, &ending, Fault::Write, count);
-    assert!(rt; !ending.out_finished, "{count}");
-    assert!(rt; has_front(space, &parts.whole, count as usize), "{count}");
     let told = match count {
         0..2352 => 0,
         2352..7056 => 16,
         _ => 36,
     };
+    let is_sent = has_front(space, &parts.whole, count as usize);
+    assert!(rt; is_sent && !ending.out_finished, "{count}");
     assert!(rt; has_front(&lines, LOG, told), "{count}");
 }
 
@@ -146,17 +147,17 @@ fn log_fails(rt: &impl Abort, parts: &Parts, space: &mut [u8], count: u64) {
     space.fill(238);
     let ending = applies(parts, &limits, space, &mut lines);
     is_answered(rt, &ending, Fault::Log, count);
-    assert!(rt; !ending.log_finished, "{count}");
-    assert_eq!(rt; ending.out_finished, count == 36, "{count}");
     let sent = if count < 16 { 2352 } else { 7056 };
-    assert!(rt; has_front(space, &parts.whole, sent), "{count}");
-    assert!(rt; has_front(&lines, LOG, count as usize), "{count}");
+    let is_sent = has_front(space, &parts.whole, sent);
+    assert!(rt; is_sent && ending.out_finished == (count == 36), "{count}");
+    let is_told = has_front(&lines, LOG, count as usize);
+    assert!(rt; is_told && !ending.log_finished, "{count}");
 
     let mut lines = [238; 36];
     let ending = checks(parts, &limits, &mut lines);
     is_answered(rt, &ending, Fault::Log, count);
-    assert!(rt; !ending.log_finished, "{count}");
-    assert!(rt; has_front(&lines, LOG, count as usize), "{count}");
+    let is_told = has_front(&lines, LOG, count as usize);
+    assert!(rt; is_told && !ending.log_finished, "{count}");
 }
 
 #[test]
@@ -169,6 +170,12 @@ fn the_log_fails_at_each_byte(rt: HostRuntime) -> Result<(), Fail> {
     Ok(())
 }
 
+/// Asserts that nothing has failed and that the whole log was told.
+fn is_whole(rt: &impl Abort, ending: &Ending, lines: &[u8]) {
+    let is_done = ending.out_finished && ending.log_finished;
+    assert!(rt; is_done && ending.answer == Ok(TALLY) && has_front(lines, LOG, 36));
+}
+
 /// A call of each kind that passes all, within these limits.
 fn nothing_fails(
     rt: &impl Abort,
@@ -179,15 +186,12 @@ fn nothing_fails(
     let mut space = memory(alloc, 7056)?;
     let mut lines = [238; 36];
     let ending = applies(parts, limits, &mut space, &mut lines);
-    assert_eq!(rt; ending.answer, Ok(TALLY));
-    assert!(rt; ending.out_finished && ending.log_finished);
+    is_whole(rt, &ending, &lines);
     assert!(rt; has_front(&space, &parts.whole, 7056));
-    assert!(rt; has_front(&lines, LOG, 36));
 
     let mut lines = [238; 36];
     let ending = checks(parts, limits, &mut lines);
-    assert_eq!(rt; ending.answer, Ok(TALLY));
-    assert!(rt; ending.log_finished && has_front(&lines, LOG, 36));
+    is_whole(rt, &ending, &lines);
     Ok(())
 }
 
@@ -211,8 +215,15 @@ fn none_fails_behind_the_last_byte(rt: HostRuntime) -> Result<(), Fail> {
     Ok(())
 }
 
-/// At most so many bytes pass in a call.
-fn in_parts(a_call: usize) -> Limit {
+/// At most so many bytes pass in a call: 1, 2, 2351, 2353 or all.
+fn in_parts(number: u32) -> Limit {
+    let a_call = match number % 5 {
+        0 => 1,
+        1 => 2,
+        2 => 2351,
+        3 => 2353,
+        _ => usize::MAX,
+    };
     Limit {
         all: u64::MAX,
         a_call,
@@ -223,12 +234,11 @@ fn in_parts(a_call: usize) -> Limit {
 #[test]
 fn few_bytes_a_call(rt: HostRuntime) -> Result<(), Fail> {
     let parts = make_parts(&rt, rt.alloc())?;
-    let sizes = [1, 2, 2351, 2353, 7056];
-    for mixture in 0..125usize {
+    for mixture in 0..125u32 {
         let limits = Limits {
-            image: in_parts(sizes[mixture % 5]),
-            out: in_parts(sizes[mixture / 5 % 5]),
-            log: in_parts(sizes[mixture / 25 % 5]),
+            image: in_parts(mixture),
+            out: in_parts(mixture / 5),
+            log: in_parts(mixture / 25),
         };
         nothing_fails(&rt, rt.alloc(), &parts, &limits)?;
     }
@@ -241,7 +251,7 @@ fn an_output_that_fails_in_a_patched_sector(rt: HostRuntime) -> Result<(), Fail>
     let parts = make_parts(&rt, rt.alloc())?;
     let mut space = memory(rt.alloc(), 7056)?;
     output_fails(&rt, &parts, &mut space, 2353);
-    assert!(rt; space.get(..2352) == Some(zeros_at(0).bytes().as_slice()));
-    assert_eq!(rt; space.get(2352), Some(&0));
+    assert!(rt; has_front(&space, &parts.image, 2353));
+    assert!(rt; space.get(2352) == Some(&0));
     Ok(())
 }

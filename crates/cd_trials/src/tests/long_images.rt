@@ -52,11 +52,9 @@ fn expect_applied<I: Source>(
     let mut out = ToWrite::new(Unkept);
     let mut told = SliceSink::new(&mut lines);
     let answer = apply(image, script, base, &mut out, &mut told);
-    assert_eq!(rt; answer, want, "{log}");
-    assert_eq!(rt; out.finished() && told.finished(), want.is_ok(), "{log}");
-    assert_eq!(rt; out.failures(), 0, "{log}");
-    assert_eq!(rt; told.failures(), 0, "{log}");
-    assert_eq!(rt; image.failures(), 0, "{log}");
+    let is_done = (out.finished() && told.finished()) == want.is_ok();
+    let failures = [image.failures(), out.failures(), told.failures()];
+    assert!(rt; is_done && answer == want && failures == [0, 0, 0], "{log}");
     assert!(rt; has_front(&lines, log.as_bytes(), log.len()), "{log}");
 }
 
@@ -75,10 +73,9 @@ fn expect_checked<I: Source>(
     let mut lines = [238; 128];
     let mut told = SliceSink::new(&mut lines);
     let answer = check(image, script, base, &mut told);
-    assert_eq!(rt; answer, want, "{log}");
-    assert_eq!(rt; told.finished(), want.is_ok(), "{log}");
-    assert_eq!(rt; told.failures(), 0, "{log}");
-    assert_eq!(rt; image.failures(), 0, "{log}");
+    let is_done = told.finished() == want.is_ok();
+    let failures = [image.failures(), told.failures()];
+    assert!(rt; is_done && answer == want && failures == [0, 0], "{log}");
     assert!(rt; has_front(&lines, log.as_bytes(), log.len()), "{log}");
 }
 

@@ -53,10 +53,7 @@ pub fn memory(alloc: Global, size: usize) -> Result<Vec<u8>, AllocError> {
 
 /// Whether nothing was written to the memory.
 fn is_untouched(space: &[u8]) -> bool {
-    let untouched = [UNTOUCHED; 588];
-    space
-        .chunks(588)
-        .all(|part| untouched.get(..part.len()) == Some(part))
+    space.iter().all(|byte| *byte == UNTOUCHED)
 }
 
 /// Whether so many bytes of `whole` were written to the front of the memory, and nothing behind them.
@@ -66,18 +63,12 @@ pub fn has_front(space: &[u8], whole: &[u8], count: usize) -> bool {
 
 /// How many bytes were written to the front of the memory; they are the first ones of `whole`.
 pub fn written(rt: &impl Abort, space: &[u8], whole: &[u8]) -> usize {
-    let parts = space
-        .chunks(98)
-        .take_while(|part| !is_untouched(part))
-        .count();
-    let end = parts.saturating_mul(98).min(space.len());
     let left = space
         .iter()
-        .take(end)
         .rev()
         .take_while(|byte| **byte == UNTOUCHED)
         .count();
-    let count = end.saturating_sub(left);
+    let count = space.len().saturating_sub(left);
     assert!(rt; has_front(space, whole, count), "{count}");
     count
 }
@@ -87,52 +78,91 @@ pub fn expect(rt: &impl Abort, alloc: Global, case: &Case) -> Result<(), Fail>
     requires { case.now.base ≤ MAX_BASE }
 {
     let script = script_of(rt, alloc, case.script)?;
-    let call = Call {
-        image: case.image,
-        script: &script,
-        base: case.base,
-    };
     for a_call in [1, 2, 2351, 2353, 10_000_000] {
-        let limit = Limit {
-            all: u64::MAX,
-            a_call,
-        };
-        let limits = Limits {
-            image: limit,
-            out: limit,
-            log: limit,
-        };
-        let mut space = memory(alloc, case.out.len())?;
-        let mut lines = memory(alloc, case.log.len())?;
-        let ending = apply_within(&call, &limits, &mut space, &mut lines, &mut [0]);
-        ends_well(rt, alloc, &ending, case)?;
-        assert!(rt; space.as_slice() == case.out, "{}", case.log);
-        assert!(rt; lines.as_slice() == case.log.as_bytes(), "{}", case.log);
-
-        let mut lines = memory(alloc, case.log.len())?;
-        let ending = check_within(&call, &limits, &mut lines, &mut [0]);
-        ends_well(rt, alloc, &ending, case)?;
-        assert!(rt; lines.as_slice() == case.log.as_bytes(), "{}", case.log);
+        applies(rt, alloc, case, &script, a_call)?;
+        checks(rt, alloc, case, &script, a_call)?;
     }
     Ok(())
 }
 
-/// Asserts that nothing has failed, that the whole image was read, and that the tally counts the image, and the patches
-/// as the log's last line does.
-fn ends_well(rt: &impl Abort, alloc: Global, ending: &Ending, case: &Case) -> Result<(), Fail> {
-    assert!(rt; ending.out_finished && ending.log_finished, "{}", case.log);
-    assert_eq!(rt; ending.image_failures, 0);
-    assert_eq!(rt; ending.out_failures, 0);
-    assert_eq!(rt; ending.log_failures, 0);
-    assert_eq!(rt; ending.left, Some(0));
+/// At most so many bytes a call.
+fn by_parts(a_call: usize) -> Limits {
+    let limit = Limit {
+        all: u64::MAX,
+        a_call,
+    };
+    Limits {
+        image: limit,
+        out: limit,
+        log: limit,
+    }
+}
+
+fn applies(
+    rt: &impl Abort,
+    alloc: Global,
+    case: &Case,
+    script: &Script,
+    a_call: usize,
+) -> Result<(), Fail>
+    requires { case.now.base ≤ MAX_BASE }
+{
+    let call = Call {
+        image: case.image,
+        script,
+        base: case.base,
+    };
+    let mut space = memory(alloc, case.out.len())?;
+    let mut lines = memory(alloc, case.log.len())?;
+    let ending = apply_within(&call, &by_parts(a_call), &mut space, &mut lines, &mut [0]);
+    assert!(rt; space.as_slice() == case.out, "{}", case.log);
+    ends_well(rt, alloc, &ending, case, &lines)
+}
+
+fn checks(
+    rt: &impl Abort,
+    alloc: Global,
+    case: &Case,
+    script: &Script,
+    a_call: usize,
+) -> Result<(), Fail>
+    requires { case.now.base ≤ MAX_BASE }
+{
+    let call = Call {
+        image: case.image,
+        script,
+        base: case.base,
+    };
+    let mut lines = memory(alloc, case.log.len())?;
+    let ending = check_within(&call, &by_parts(a_call), &mut lines, &mut [0]);
+    ends_well(rt, alloc, &ending, case, &lines)
+}
+
+/// Asserts that nothing has failed, that the whole image was read, and that the log and the tally are right: this counts
+/// the image, and the patches as the log's last line does.
+fn ends_well(
+    rt: &impl Abort,
+    alloc: Global,
+    ending: &Ending,
+    case: &Case,
+    lines: &[u8],
+) -> Result<(), Fail> {
+    let is_done = ending.out_finished && ending.log_finished && ending.left == Some(0);
+    assert!(rt; is_done && has_failed(ending, 0, 0, 0), "{}", case.log);
     let Ok(tally) = ending.answer else {
         return Err("a fault".into());
     };
     let size = case.image.len() as u64;
-    assert_eq!(rt; u64::from(tally.sectors), size / 2352);
-    assert_eq!(rt; u64::from(tally.tail), size % 2352);
+    let is_counted = u64::from(tally.sectors) == size / 2352
+        && u64::from(tally.tail) == size % 2352;
     let (applied, refused) = (tally.applied, tally.refused);
     let last = format!(in alloc; "applied {applied} refused {refused}\n")?;
-    assert!(rt; case.log.ends_with(last.as_str()), "{last}");
+    assert!(rt; is_counted && case.log.ends_with(last.as_str()), "{last}");
+    assert!(rt; lines == case.log.as_bytes(), "{}", case.log);
     Ok(())
+}
+
+/// Whether the image, the output and the log have failed so often.
+pub fn has_failed(ending: &Ending, image: u32, out: u32, log: u32) -> bool {
+    ending.image_failures == image && ending.out_failures == out && ending.log_failures == log
 }
