@@ -32,7 +32,7 @@ test:
 	bash .ci/run
 
 test-outside:
-	WHOLE=1 bash tests/users.sh '$(PROGRAM)'
+	WHOLE=1 bash tests/outside/run '$(PROGRAM)'
 
 install:
 	@test -x '$(PROGRAM)' || { echo 'There is no $(PROGRAM) to install: run make first.' >&2; exit 1; }
