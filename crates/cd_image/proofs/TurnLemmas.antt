@@ -27,39 +27,39 @@ use Rattle.cd_image.proofs.KnownLemmas.{told_lengths}
 use Rattle.cd_image.proofs.PatchLogLemmas.{missing_lines}
 use Rattle.cd_image.proofs.PassingLemmas.{Going-end, Going-read, Going-send, Going-start}
 
-module _ (taken left : List Patch) (base : ℕ) (start now : Streams) (pass : Pass) (bytes : List ℕ) (image : Incoming) (unended : pass.tail ≡ None) (room : length pass.window.items < 3) (g : GoesOn taken left base start now pass) where
-  begun : Going taken left base start now pass.window.items pass.block pass.sectors pass.applied None
-  begun = subst (λ t. Going taken left base start now pass.window.items pass.block pass.sectors pass.applied (tail_read t pass.bytes)) unended g
+module _ (taken left : List Patch) (base : ℕ) (start now : Streams) (pass : Pass) (bytes : List ℕ) (image : Incoming) (unended : pass.tail ≡ None) (room : length pass.window < 3) (g : GoesOn taken left base start now pass) where
+  begun : Going taken left base start now pass.window pass.block pass.sectors pass.applied None
+  begun = subst (λ t. Going taken left base start now pass.window pass.block pass.sectors pass.applied (tail_read t pass.bytes)) unended g
 
   pub Steps-unread : (fault : Fault) → ReadsSector pass.sectors bytes now.image image (Err fault) → Applies (taken ++ left) base start (record now { image = image }) (Err fault)
-  Steps-unread Read r = Applies-read taken left base start now pass.window.items pass.block pass.sectors pass.applied begun image r.came r.consumes room r.short r.within r.rose
-  Steps-unread TooLong r = Applies-beyond taken left base start now pass.window.items pass.block pass.sectors pass.applied begun image r.came r.consumes room r.one r.full r.kept
+  Steps-unread Read r = Applies-read taken left base start now pass.window pass.block pass.sectors pass.applied begun image r.came r.consumes room r.short r.within r.rose
+  Steps-unread TooLong r = Applies-beyond taken left base start now pass.window pass.block pass.sectors pass.applied begun image r.came r.consumes room r.one r.full r.kept
   Steps-unread Write r = elim r [ ]
   Steps-unread Log r = elim r [ ]
 
   pub Steps-ended : (count : ℕ) → EndComes pass.sectors count bytes now.image image
-      → Going taken left base start (record now { image = image }) pass.window.items pass.block pass.sectors pass.applied (Some (take count bytes))
+      → Going taken left base start (record now { image = image }) pass.window pass.block pass.sectors pass.applied (Some (take count bytes))
   Steps-ended count r =
-      Going-end taken left base start now pass.window.items pass.block pass.sectors pass.applied begun image (take count bytes) r.consumes r.kept (omega (arith, r.size, r.short)) (omega (arith, r.size, r.within)) room r.at_end
+      Going-end taken left base start now pass.window pass.block pass.sectors pass.applied begun image (take count bytes) r.consumes r.kept (omega (arith, r.size, r.short)) (omega (arith, r.size, r.within)) room r.at_end
 
   module _ (r : SectorComes pass.sectors bytes now.image image) where
-    came : Going taken left base start (record now { image = image }) (pass.window.items ++ bytes ∷ []) pass.block (pass.sectors + 1) pass.applied None
-    came = Going-read taken left base start now pass.window.items pass.block pass.sectors pass.applied begun image bytes r.consumes r.kept r.size r.few room
+    came : Going taken left base start (record now { image = image }) (pass.window ++ bytes ∷ []) pass.block (pass.sectors + 1) pass.applied None
+    came = Going-read taken left base start now pass.window pass.block pass.sectors pass.applied begun image bytes r.consumes r.kept r.size r.few room
 
-    pub Steps-ahead : (items : List (List ℕ)) → items ≡ pass.window.items ++ bytes ∷ []
+    pub Steps-ahead : (items : List (List ℕ)) → items ≡ pass.window ++ bytes ∷ []
         → Going taken left base start (record now { image = image }) items pass.block (pass.sectors + 1) pass.applied (tail_read pass.tail bytes)
     Steps-ahead items grown =
         subst (λ t. Going taken left base start (record now { image = image }) items pass.block (pass.sectors + 1) pass.applied (tail_read t bytes)) (sym unended)
         (subst (λ ws. Going taken left base start (record now { image = image }) ws pass.block (pass.sectors + 1) pass.applied None) (sym grown) came)
 
-    module _ (empty : pass.window.items ≡ []) (ahead : All (λ p. pass.block < p.block) left) (out : Outgoing) where
+    module _ (empty : pass.window ≡ []) (ahead : All (λ p. pass.block < p.block) left) (out : Outgoing) where
       alone : Going taken left base start (record now { image = image }) (bytes ∷ []) pass.block (pass.sectors + 1) pass.applied None
       alone = subst (λ ws. Going taken left base start (record now { image = image }) (ws ++ bytes ∷ []) pass.block (pass.sectors + 1) pass.applied None) empty came
 
       pub Steps-passed : Appends now.out.written out.written bytes → out.failures ≡ now.out.failures
-          → Going taken left base start (record now { image = image; out = out }) pass.window.items (pass.block + 1) (pass.sectors + 1) pass.applied (tail_read pass.tail bytes)
+          → Going taken left base start (record now { image = image; out = out }) pass.window (pass.block + 1) (pass.sectors + 1) pass.applied (tail_read pass.tail bytes)
       Steps-passed sent kept =
-          subst (λ t. Going taken left base start (record now { image = image; out = out }) pass.window.items (pass.block + 1) (pass.sectors + 1) pass.applied (tail_read t bytes)) (sym unended)
+          subst (λ t. Going taken left base start (record now { image = image; out = out }) pass.window (pass.block + 1) (pass.sectors + 1) pass.applied (tail_read t bytes)) (sym unended)
           (subst (λ ws. Going taken left base start (record now { image = image; out = out }) ws (pass.block + 1) (pass.sectors + 1) pass.applied None) (sym empty)
           (Going-send taken left base start (record now { image = image }) bytes [] pass.block (pass.sectors + 1) pass.applied None alone out sent kept r.size ahead))
 
@@ -144,7 +144,7 @@ pub closed : (taken left : List Patch) (base : ℕ) (start now : Streams) (pass 
     → Going taken left base start now [] pass.block pass.sectors pass.applied (Some (take n pass.bytes))
 closed taken left base start now pass n ended is g =
     subst (λ (ws : List (List ℕ)). Going taken left base start now ws pass.block pass.sectors pass.applied (Some (take n pass.bytes))) ended.empty
-    (closed_by taken left base start now pass.window.items pass.block pass.sectors pass.applied pass.bytes n pass.tail ended.ended is g)
+    (closed_by taken left base start now pass.window pass.block pass.sectors pass.applied pass.bytes n pass.tail ended.ended is g)
 
 pub short_tail : (tail : Option ℕ) → IfSome tail (λ left. left < 2352) → unwrap_or tail 0 ≤ 2352
 short_tail None short = omega arith
@@ -225,7 +225,7 @@ pub record Bounds (start now : Streams) (pass : Pass) : Type 0 where
 
 pub bounds : (ps : List Patch) (base : ℕ) (start now : Streams) (pass : Pass) → base ≤ 449849 → GoesOn (take pass.decided ps) (drop pass.decided ps) base start now pass → Bounds start now pass
 bounds ps base start now pass low g =
-    let told = told_lengths (take pass.decided ps) (drop pass.decided ps) base start now pass.window.items pass.block pass.sectors pass.applied (tail_read pass.tail pass.bytes) g in
+    let told = told_lengths (take pass.decided ps) (drop pass.decided ps) base start now pass.window pass.block pass.sectors pass.applied (tail_read pass.tail pass.bytes) g in
     let few = count_by-le-length is_applied g.outcomes in
     let taken = length-take pass.decided ps in
     record {
@@ -241,7 +241,7 @@ pub no_tail : (pass : Pass) → pass.tail ≡ None → HasShortTail pass
 no_tail pass none = subst (λ t. IfSome t (λ left. left < SECTOR_SIZE)) (sym none) tt
 
 -- a new pass, behind the patches that begin below the image
-pub begun_pass : (ps : List Patch) (base : ℕ) (start : Streams) (log : Outgoing) (below : ℕ) (pass : Pass) → pass.window.items ≡ [] → pass.block ≡ base → pass.sectors ≡ 0 → pass.decided ≡ below → pass.applied ≡ 0 → pass.tail ≡ None
+pub begun_pass : (ps : List Patch) (base : ℕ) (start : Streams) (log : Outgoing) (below : ℕ) (pass : Pass) → pass.window ≡ [] → pass.block ≡ base → pass.sectors ≡ 0 → pass.decided ≡ below → pass.applied ≡ 0 → pass.tail ≡ None
     → All (λ p. p.block < base) (take below ps) → All (λ p. base ≤ p.block) (drop below ps) → Appends start.log.written log.written (missing_lines (take below ps)) → log.failures ≡ start.log.failures
     → GoesOn (take pass.decided ps) (drop pass.decided ps) base start (record start { log = log }) pass
 begun_pass ps base start log below pass window block sectors decided applied tail under ahead told kept =

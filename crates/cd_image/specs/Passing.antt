@@ -61,7 +61,7 @@ HasShortTail pass = IfSome pass.tail (λ left. left < SECTOR_SIZE)
 -- the same of a pass
 abbrev pub GoesOn : List Patch → List Patch → ℕ → Streams → Streams → Pass → Type 0
 GoesOn taken left base start now pass =
-    Going taken left base start now pass.window.items pass.block pass.sectors pass.applied (tail_read pass.tail pass.bytes)
+    Going taken left base start now pass.window pass.block pass.sectors pass.applied (tail_read pass.tail pass.bytes)
 
 -- a step has gone well, or the call ends by its fault
 abbrev pub Steps : {X : Type 0} → List Patch → List Patch → List Patch → List Patch → ℕ → Streams → Streams → Pass → Result X Fault → Type 0
@@ -81,11 +81,11 @@ end_to_come None = 1
 end_to_come (Some left) = 0
 
 abbrev pub left_to_do : ℕ → Pass → ℕ
-left_to_do count pass = 2 * (1000000 - pass.sectors) + length pass.window.items + (count - pass.decided) + end_to_come pass.tail
+left_to_do count pass = 2 * (1000000 - pass.sectors) + length pass.window + (count - pass.decided) + end_to_come pass.tail
 
 -- nothing waits, and the end has come
 pub record IsEnded (pass : Pass) : Type 0 where
-  pub empty : pass.window.items ≡ []
+  pub empty : pass.window ≡ []
   pub ended : IsSome pass.tail
 
 -- a turn has gone well, or the call ends by its fault

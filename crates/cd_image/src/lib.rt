@@ -12,6 +12,7 @@ mod pass;
 mod patch_log;
 mod reading;
 mod telling;
+mod window;
 
 pub use applying::{apply, check};
 pub use auditing::{AuditTally, audit};

@@ -5,8 +5,6 @@ ghost use Rattle.std.specs.List.Sorted.{IsNonDecreasingBy};
 ghost use Rattle.cd_script.specs.Patch.{IsPatch};
 ghost use Rattle.cd_script.specs.declared.patch.Patch.{Patch};
 ghost use Rattle.cd_patch.specs.Blocks.{blocks_met};
-ghost use Rattle.cd_patch.specs.Deciding.{outcome};
-ghost use Rattle.cd_patch.specs.Effect.{Effect};
 ghost use Rattle.cd_patch.specs.Laws.{is_applied};
 ghost use Rattle.cd_stream.specs.Stream.{Incoming, Outgoing};
 ghost use Rattle.cd_stream.specs.Transfer.{Flushes};
@@ -16,8 +14,8 @@ ghost use Rattle.cd_image.specs.Passing.{GoesOn, HasShortTail, IsEnded, Steps, S
 use crate::fault::Fault;
 use crate::patch_log::{Tally, finish_log, send_counts, send_missing, send_outcome};
 use crate::reading::read_sector;
-use arrayvec::ArrayVec;
-use cd_patch::{Outcome, blocks_met, take_patch};
+use crate::window::Window;
+use cd_patch::{Outcome, blocks_met};
 use cd_script::Patch;
 use cd_sector::{SECTOR_SIZE, Sector};
 use cd_stream::{Sink, SinkFailed, Source, write_all};
@@ -26,7 +24,7 @@ use cd_stream::{Sink, SinkFailed, Source, write_all};
 #[derive(Drop)]
 pub(crate) struct Pass {
     /// Sectors that were read and have not gone out, the first of which is that of `block`.
-    window: ArrayVec<Sector, 3>,
+    window: Window,
     /// What was read last.
     bytes: [u8; SECTOR_SIZE],
     /// The first block that has not gone out.
@@ -44,7 +42,7 @@ pub(crate) struct Pass {
 impl Pass {
     /// Before the first sector, which is that of block `base`, behind so many patches that were decided.
     pub(crate) fn new(base: u32, decided: usize) -> Self
-        ensures window { result.window.items ≡ [] }
+        ensures window { result.window ≡ [] }
         ensures block { result.block ≡ base }
         ensures sectors { result.sectors ≡ 0 }
         ensures decided { result.decided ≡ decided }
@@ -52,7 +50,7 @@ impl Pass {
         ensures tail { result.tail ≡ None }
     {
         Pass {
-            window: ArrayVec::new(),
+            window: Window::new(),
             bytes: [0; SECTOR_SIZE],
             block: base,
             sectors: 0,
@@ -66,7 +64,7 @@ impl Pass {
     fn read_ahead<I: Source>(&mut self, image: &mut I) -> Result<(), Fault>
         requires countable { (I.seen image.old).failures < 4294967295 }
         requires few { self.old.sectors ≤ 1000000 }
-        requires room { length self.old.window.items < 3 }
+        requires room { length self.old.window < 3 }
         requires unended { self.old.tail ≡ None }
         ensures goes { (taken left : List Patch) (base : ℕ) (start : Streams) (out log : Outgoing)
             → GoesOn taken left base start (streams (I.seen image.old) out log) self.old
@@ -91,7 +89,7 @@ impl Pass {
         requires out_countable { (O.seen out.old).failures < 4294967295 }
         requires few { self.old.sectors ≤ 1000000 }
         requires small { self.old.block < 4294967295 }
-        requires empty { self.old.window.items ≡ [] }
+        requires empty { self.old.window ≡ [] }
         requires unended { self.old.tail ≡ None }
         ensures goes { (taken left : List Patch) (base : ℕ) (start : Streams) (log : Outgoing)
             → All (λ p. self.old.block < p.block) left
@@ -116,7 +114,7 @@ impl Pass {
     fn send_front<O: Sink>(&mut self, out: &mut O) -> Result<(), Fault>
         requires countable { (O.seen out.old).failures < 4294967295 }
         requires small { self.old.block < 4294967295 }
-        requires some { 0 < length self.old.window.items }
+        requires some { 0 < length self.old.window }
         ensures goes { (taken left : List Patch) (base : ℕ) (start : Streams) (image : Incoming) (log : Outgoing)
             → All (λ p. self.old.block < p.block) left
             → GoesOn taken left base start (streams image (O.seen out.old) log) self.old
@@ -126,7 +124,7 @@ impl Pass {
         ensures nearer { OnOk result ((count : ℕ) → left_to_do count self.new < left_to_do count self.old) }
     {
         write_all(out, self.window.as_slice()[0].bytes())?;
-        self.window.remove(0);
+        self.window.remove_first();
         self.block += 1;
         Ok(())
     }
@@ -137,8 +135,8 @@ impl Pass {
         requires countable { (L.seen log.old).failures < 4294967295 }
         requires patch { IsPatch patch.now }
         requires at { patch.now.block ≡ self.old.block }
-        requires some { 0 < length self.old.window.items }
-        requires reach { (blocks_met patch.now ≤ length self.old.window.items) ⊎ IsSome self.old.tail }
+        requires some { 0 < length self.old.window }
+        requires reach { (blocks_met patch.now ≤ length self.old.window) ⊎ IsSome self.old.tail }
         requires few { self.old.decided < 65535 }
         requires small { self.old.applied ≤ self.old.decided }
         ensures goes { (taken left : List Patch) (base : ℕ) (start : Streams) (image : Incoming) (out : Outgoing)
@@ -148,7 +146,7 @@ impl Pass {
         ensures short { HasShortTail self.old → HasShortTail self.new }
         ensures nearer { OnOk result ((count : ℕ) → self.old.decided < count → left_to_do count self.new < left_to_do count self.old) }
     {
-        let outcome = take_in(&mut self.window, patch);
+        let outcome = self.window.take(patch);
         send_outcome(patch, outcome, log)?;
         self.decided += 1;
         self.applied += one_if_applied(outcome);
@@ -296,15 +294,6 @@ fn finish_output<O: Sink>(out: &mut O) -> Result<(), SinkFailed>
     ensures { Flushes (O.seen out.old) (O.seen out.new) result }
 {
     out.finish()
-}
-
-/// Takes a patch on the sectors of a window, of which the first is the patch's.
-fn take_in(window: &mut ArrayVec<Sector, 3>, patch: &Patch) -> Outcome
-    requires { IsPatch patch.now }
-    ensures outcome { result ≡ outcome window.old.items patch.now.block patch.now }
-    ensures effect { Effect patch.now.block patch.now window.old.items window.new.items }
-{
-    take_patch(window.as_mut_slice(), patch)
 }
 
 /// 1 for a patch that was accepted, else 0.
