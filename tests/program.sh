@@ -39,7 +39,7 @@ run() {
     status=$?
 }
 
-# The README's first example, as it stands there.
+# The README's first example.
 cp "$top/crates/cd_vectors/data/cdrkit-8.bin" image
 cp image image.kept
 printf 'cdpatch 1\n# five user bytes of block 1, from the 16th on\nset 1 16 48454C4C4F\n' > script
@@ -174,6 +174,8 @@ run apply image script
 judge 'a word too few has status 2' test "$status" = 2
 run list image image
 judge 'a word too many has status 2' test "$status" = 2
+run list $'\xff'
+judge 'a word that is no text' ended 2 'cdpatch: the words are not text\n'
 run list image --base 449850
 judge 'a base too large has status 2' test "$status" = 2
 run list image --base 449849
@@ -182,6 +184,8 @@ judge 'the largest base' ended 0 '449849-449851 mode1\nsectors 3 tail 0\n'
 # With a standard stream closed, no message goes into a file.
 for closed in 0 1 2 01 02 12 012; do
     rm -f out
+    : > log
+    : > errors
     case $closed in
         0) "$program" apply image script out <&- > log 2> errors ;;
         1) "$program" apply image script out >&- 2> errors ;;
@@ -193,7 +197,7 @@ for closed in 0 1 2 01 02 12 012; do
     esac
     status=$?
     case $closed in
-        *1*) judge "status, closed $closed" test "$status" = 2 ;;
+        *1*) judge "status, closed $closed" ended 2 '' ;;
         *) judge "status, closed $closed" ended 0 "$applied" ;;
     esac
     size=$(stat -c %s out 2> /dev/null || echo 0)

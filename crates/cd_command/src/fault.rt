@@ -1,5 +1,5 @@
 //! Why the command line gives no job.
-ghost use Rattle.std.specs.Prelude.{◌≡◌, None, if◌then◌else◌, is_some, option_map, string_bytes};
+ghost use Rattle.std.specs.Prelude.{◌≡◌, None, if◌then◌else◌, is_some, option_map};
 ghost use Rattle.cd_command.specs.Fault.{fault_from, printed, status_of};
 ghost use Rattle.cd_command.specs.declared.fault.LineFault.TheVariants.{NoMemory};
 
@@ -55,8 +55,8 @@ impl LineFault {
 
     /// The status that the program ends with where it printed `line_of` this text: 2 where the text
     /// found no memory, and else that of the fault.
-    pub fn status_with(&self, parser_text: &Option<String>) -> u8
-        ensures { result ≡ (if is_some parser_text.now then status_of self.now else 2) }
+    pub fn status_with(&self, parser_text: Option<&str>) -> u8
+        ensures { result ≡ (if is_some parser_text.entry then status_of self.now else 2) }
     {
         match parser_text {
             Some(_) => self.status(),
@@ -77,11 +77,8 @@ impl LineFault {
 }
 
 /// What the program prints for a fault, by the parser's text where there is one.
-pub fn line_of(parser_text: &Option<String>) -> &str
-    ensures { result.now ≡ printed (option_map string_bytes parser_text.now) }
+pub fn line_of(parser_text: Option<&str>) -> &str
+    ensures { result.now ≡ printed (option_map (λ text. text.now) parser_text.entry) }
 {
-    match parser_text {
-        Some(text) => text.as_str(),
-        None => NO_MEMORY,
-    }
+    parser_text.unwrap_or(NO_MEMORY)
 }

@@ -133,8 +133,8 @@ fn is_help(alloc: Global, words: &[&str]) -> Result<bool, AllocError> {
     match job_of(alloc, words) {
         Err(fault) => {
             let text = fault.parser_text(alloc);
-            let line = line_of(&text);
-            let ends_well = fault.status() == 0 && fault.status_with(&text) == 0;
+            let line = line_of(text.as_deref());
+            let ends_well = fault.status() == 0 && fault.status_with(text.as_deref()) == 0;
             Ok(ends_well && line.contains("Usage: cdpatch"))
         }
         Ok(_) => Ok(false),
@@ -158,7 +158,7 @@ fn answers_by_help(rt: HostRuntime) -> Result<(), Fail> {
 fn prints_want_of_memory(rt: HostRuntime) {
     let fault = LineFault::NoMemory;
     let text = fault.parser_text(rt.alloc());
-    assert!(rt; fault.status() == 2 && fault.status_with(&text) == 2);
-    assert!(rt; line_of(&text) == "cdpatch: no memory\n");
+    assert!(rt; fault.status() == 2 && fault.status_with(text.as_deref()) == 2);
+    assert!(rt; line_of(text.as_deref()) == "cdpatch: no memory\n");
     assert!(rt; NO_MEMORY == "cdpatch: no memory\n");
 }

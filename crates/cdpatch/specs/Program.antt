@@ -1,5 +1,5 @@
 -- What the program does for a job: which files it asks for, by which names and in which order, and what it does with them.
-use Rattle.std.specs.Prelude.{◌≡◌, ◌≢◌, ℕ, ◌⊎◌, List, Option, Result, Ok, Err, codes, if◌then◌else◌, is_some, string_bytes}
+use Rattle.std.specs.Prelude.{◌≡◌, ◌≢◌, ℕ, ◌⊎◌, List, Option, None, Result, Ok, Err, codes, if◌then◌else◌, is_some, string_bytes}
 use Rattle.std.specs.Io.KnownBytes.{Consumes}
 use Rattle.cd_command.specs.CommandLine.{IsJobOf, IsTaken}
 use Rattle.cd_command.specs.Fault.{HasKindOf, printed, status_of}
@@ -182,6 +182,7 @@ refused_status fault text = if is_some text then status_of fault else 2
 -- what is printed of a fault: the parser's text, or the line for want of memory; one that went out in part is a failure
 pub record Tells (fault : LineFault) (before after : Outgoing) (status : ℕ) : Type 0 where
   pub text : Option (List ℕ)
+  pub memory : fault ≡ line_fault.NoMemory → text ≡ None
   pub says : SaysLine (printed text) before after
   pub whole : after.failures ≡ before.failures → status ≡ refused_status fault text
   pub cut : after.failures ≢ before.failures → status ≡ 2

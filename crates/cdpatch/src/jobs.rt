@@ -238,8 +238,9 @@ fn refuse<O: Sink>(alloc: Global, fault: &LineFault, out: &mut O) -> u8
     ensures { Tells fault.now (O.seen out.old) (O.seen out.new) result }
 {
     let text = fault.parser_text(alloc);
-    if say(line_of(&text).as_bytes(), out).is_ok() {
-        fault.status_with(&text)
+    let text = text.as_deref();
+    if say(line_of(text).as_bytes(), out).is_ok() {
+        fault.status_with(text)
     } else {
         FAILED
     }

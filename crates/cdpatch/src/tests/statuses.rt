@@ -99,7 +99,7 @@ fn audits_of_addresses(rt: HostRuntime) -> Result<(), Fail> {
 
 /// A writer that takes all, and cannot pass it on, as on a full disk.
 #[derive(Drop)]
-struct Unflushed;
+pub struct Unflushed;
 
 impl Write for Unflushed {
     fn write(&mut self, buf: &[u8]) -> io::Result<usize> {
