@@ -17,7 +17,8 @@ use Rattle.cd_sector.specs.Kind.{sync_field}
 use Rattle.cd_sector.specs.Laws.{IsEncoded}
 use Rattle.cd_sector.proofs.PlaceLemmas.{AreBytes-bytes_at}
 use Rattle.cd_sector.proofs.ParityLemmas.{Filled, Filled-none, Filled-more, columns_made, diagonals_made, column_of-same, AllCodeWords-by_number}
-use Rattle.cd_sector.proofs.SectorLemmas.{content_of, edc_written, encoded}
+use Rattle.cd_sector.proofs.ContentLemmas.{content_of, encoded}
+use Rattle.cd_sector.proofs.EdcPlaceLemmas.{edc_written}
 
 -- ---- an EDC word
 

@@ -9,10 +9,15 @@ use crate::sector::{MODE, Sector};
 /// a mode byte above 2.
 #[derive(Clone, Copy, Debug, PartialEq, Eq)]
 pub enum SectorKind {
+    /// Bytes 0 to 11 are no sync field, as in a sector of an audio track.
     NoSync,
+    /// Mode byte 00: the 2336 bytes behind the header are 00.
     Mode0,
+    /// Mode byte 01: 2048 bytes of user data, with EDC and parity behind them.
     Mode1,
+    /// Mode byte 02: 2336 bytes of user data.
     Mode2,
+    /// A sync field, and a mode byte above 02.
     Other,
 }
 

@@ -19,6 +19,10 @@ fn products_and_powers(rt: HostRuntime) {
         (25, 0x03),
         (44, 0xEE),
         (255, 0x01),
+        (256, 0x02),
+        (263, 0x1D),
+        (510, 0x01),
+        (4_294_967_295, 0x01),
     ];
     for (n, power) in powers {
         assert_eq!(rt; alpha_power(n), power, "power {n}");
@@ -31,6 +35,15 @@ fn parity_pairs(rt: HostRuntime) {
     assert_eq!(rt; parity_pair(&[0x01]), (0x03, 0x02));
     assert_eq!(rt; pair_from(0x01, 0x01), (0x03, 0x02));
     assert_eq!(rt; syndromes(&[0x01, 0x03, 0x02]), (0x00, 0x00));
+    // 01 and 23 bytes 00: the sum is 01, and the weighted one C9, which doubled is 8F
+    let column = {
+        let mut bytes = [0x00; 24];
+        bytes[0] = 0x01;
+        bytes
+    };
+    assert_eq!(rt; syndromes(&column), (0x01, 0xC9));
+    assert_eq!(rt; parity_pair(&column), (0xF5, 0xF4));
+    assert_eq!(rt; pair_from(0x01, 0xC9), (0xF5, 0xF4));
     assert_eq!(rt; pair_change(3, 0, 0x01), (0x03, 0x02));
     assert_eq!(rt; pair_change(26, 23, 0x01), (0x03, 0x02));
     assert_eq!(rt; pair_change(45, 36, 0x01), (0xFF, 0xFE));

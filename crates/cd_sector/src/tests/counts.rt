@@ -73,7 +73,7 @@ fn flipped_bytes(rt: HostRuntime) {
         let old = s.byte(place);
         s.put(place, !old);
         assert_eq!(rt; defect(&s), slow_report(&s), "byte {place}");
-        assert!(rt; !is_consistent(&s) || place < 15, "byte {place}");
+        assert!(rt; !is_consistent(&s), "byte {place}");
     }
 }
 

@@ -1,5 +1,8 @@
 //! Sectors that several tests start from.
+ghost use Rattle.std.specs.Prelude.{◌<◌};
+
 use crate::{Sector, SectorKind, encode, fill_parity, kind};
+use std::process::Abort;
 
 /// The consistent sector of the block with this address byte, its user data all 00.
 pub fn zeros_at(second: u8) -> Sector {
@@ -56,12 +59,57 @@ fn parts_of_a_sector(rt: HostRuntime) {
 }
 
 #[test]
-fn parity_of_a_foreign_front(rt: HostRuntime) {
-    let good = noise();
-    let mut s = good;
-    for place in 2076..2352usize {
-        s.put(place, 0xA5);
+fn headers_of_all_modes(rt: HostRuntime) {
+    for mode in [0x00, 0x01, 0x02, 0x03, 0xFF] {
+        assert_eq!(rt; with_mode(mode).header(), [0x00, 0x02, 0x00, mode]);
     }
+}
+
+#[test]
+fn the_default_is_of_zeros(rt: HostRuntime) {
+    assert!(rt; Sector::default() == Sector::from_bytes([0x00; 2352]));
+}
+
+/// The parity of a front that is 00 but for one byte, against worked amounts.
+fn expect_parity(rt: &impl Abort, place: usize, amounts: [(usize, u8); 8])
+    requires { place < 2076 }
+{
+    let mut wanted = [0x00; 2352];
+    wanted[place] = 0x01;
+    let mut start = wanted;
+    start[2076..2352].fill(0xA5);
+    for (at, d) in amounts {
+        if at < 2352 {
+            wanted[at] = d;
+        }
+    }
+    let mut s = Sector::from_bytes(start);
     fill_parity(&mut s);
-    assert!(rt; s == good);
+    assert!(rt; s == Sector::from_bytes(wanted), "byte {place}");
+}
+
+#[test]
+fn parity_of_a_foreign_front(rt: HostRuntime) {
+    let first = [
+        (2076, 0xF5),
+        (2162, 0xF4),
+        (2248, 0xAE),
+        (2300, 0xAF),
+        (2296, 0x3F),
+        (2348, 0xCA),
+        (2298, 0x91),
+        (2350, 0x65),
+    ];
+    expect_parity(&rt, 12, first);
+    let last = [
+        (2161, 0x03),
+        (2247, 0x02),
+        (2263, 0x03),
+        (2315, 0x02),
+        (2265, 0x05),
+        (2317, 0x06),
+        (2267, 0x06),
+        (2319, 0x04),
+    ];
+    expect_parity(&rt, 2075, last);
 }

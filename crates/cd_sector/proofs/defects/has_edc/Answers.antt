@@ -1,7 +1,7 @@
 use Rattle.std.proofs.Common.{take, drop, refl}
 use Rattle.std.proofs.lemmas.Bool.Decides.{Decides-eqb}
 use Rattle.std.proofs.lemmas.Slice.Eq.{slice_eq-Decides}
-use Rattle.cd_sector.proofs.SectorLemmas.{edc_told}
+use Rattle.cd_sector.proofs.EdcPlaceLemmas.{edc_told}
 use Rattle.cd_sector.proofs.defects.has_edc.Goals as goal
 
 pub returns : goal.returns

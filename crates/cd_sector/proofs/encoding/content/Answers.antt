@@ -1,6 +1,6 @@
 use Rattle.std.proofs.Common.{replicate, arith}
 use Rattle.std.proofs.lemmas.List.{get_or-replicate}
-use Rattle.cd_sector.proofs.SectorLemmas.{content_put}
+use Rattle.cd_sector.proofs.ContentLemmas.{content_put}
 use Rattle.cd_sector.proofs.encoding.content.Goals as goal
 
 pub returns : goal.returns

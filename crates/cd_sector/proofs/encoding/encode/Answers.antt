@@ -1,6 +1,6 @@
 use Rattle.std.proofs.Common.{arith}
 use Rattle.cd_sector.specs.Laws.{IsEncoded}
-use Rattle.cd_sector.proofs.SectorLemmas.{encoded_from, encoded-alone}
+use Rattle.cd_sector.proofs.ContentLemmas.{encoded_from, encoded-alone}
 use Rattle.cd_sector.proofs.encoding.encode.Goals as goal
 
 pub returns : goal.returns

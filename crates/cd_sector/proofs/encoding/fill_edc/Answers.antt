@@ -1,4 +1,4 @@
-use Rattle.cd_sector.proofs.SectorLemmas.{edc_filled}
+use Rattle.cd_sector.proofs.EdcPlaceLemmas.{edc_filled}
 use Rattle.cd_sector.proofs.encoding.fill_edc.Goals as goal
 
 pub returns-clause-divides : goal.returns-clause-divides

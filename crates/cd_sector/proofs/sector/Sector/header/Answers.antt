@@ -1,4 +1,4 @@
-use Rattle.cd_sector.proofs.SectorLemmas.{header_bytes}
+use Rattle.cd_sector.proofs.ContentLemmas.{header_bytes}
 use Rattle.cd_sector.proofs.sector.Sector.header.Goals as goal
 
 pub returns : goal.returns
