@@ -62,6 +62,7 @@ impl LaneSums {
             weighted: chosen(self.weighted, taken.weighted, taking),
         }
     }
+
     /// The two parity bytes that make a code word of each word followed by them (ECMA-130, Annex A).
     pub fn pairs(self) -> (u8x32, u8x32)
         ensures { (i : ℕ) → i < 32

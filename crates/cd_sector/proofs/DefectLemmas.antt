@@ -222,49 +222,80 @@ consistent-told s =
           ∙ ap (λ b. ((true && true) && true) && b) four,
     )
 
-and_grouped : (x y z : Bool) → ((x && y) && z) ≡ (x && (y && z))
-and_grouped true y z = refl
-and_grouped false y z = refl
+and_false : (x : Bool) → (x && false) ≡ false
+and_false true = refl
+and_false false = refl
 
--- the test of a list that is a sector, as it is made: part by part
-pub consistent-chain : (s : List ℕ) → length s ≡ 2352 → AreBytes s
-    → consistent s
-    ≡ (is_mode1 (kind_of s)
-    && ((list_all (λ b. b == 0) (slice_range s 2068 2076) && (remainder (bits (take 2068 s)) == 0))
-    && ((count_by is_broken (all_syndromes (column_of s) 86) == 0)
-    && (count_by is_broken (all_syndromes (diagonal_of s) 52) == 0))))
-consistent-chain s long bytes =
-    let a = list_all (λ b. b == 0) (slice_range s 2068 2076) in
-    let b = remainder (bits (take 2068 s)) == 0 in
+-- the test by the counts of broken words
+abbrev counts_of : List ℕ → Bool
+counts_of s =
+    ((list_all (λ b. b == 0) (slice_range s 2068 2076) && (remainder (bits (take 2068 s)) == 0))
+    && (count_by is_broken (all_syndromes (column_of s) 86) == 0))
+    && (count_by is_broken (all_syndromes (diagonal_of s) 52) == 0)
+
+pub sound-counts : (s : List ℕ) → is_sound (defect_of s) ≡ counts_of s
+sound-counts s =
+    let front = list_all (λ b. b == 0) (slice_range s 2068 2076) && (remainder (bits (take 2068 s)) == 0) in
     let ws = all_syndromes (column_of s) 86 in
     let us = all_syndromes (diagonal_of s) 52 in
+    sound-parts s
+    ∙ ap (λ t. (front && t) && list_all (λ w. not (is_broken w)) us) (sym (none_broken ws))
+    ∙ ap (λ t. (front && (count_by is_broken ws == 0)) && t) (sym (none_broken us))
+
+-- the way of the code through the four parts: all hold, or the first that fails
+module _ (s : List ℕ) where
+  pub sound-all : (zeros edc : Bool) (p q : ℕ) → zeros ≡ list_all (λ b. b == 0) (slice_range s 2068 2076) → zeros ≡ true
+      → edc ≡ (remainder (bits (take 2068 s)) == 0) → edc ≡ true → p ≡ count_by is_broken (all_syndromes (column_of s) 86)
+      → (p == 0) ≡ true → q ≡ count_by is_broken (all_syndromes (diagonal_of s) 52) → (q == 0) ≡ is_sound (defect_of s)
+  sound-all zeros edc p q a holds_a b holds_b c holds_c d =
+      let edc_of_s = remainder (bits (take 2068 s)) == 0 in
+      let columns = count_by is_broken (all_syndromes (column_of s) 86) == 0 in
+      let diagonals = count_by is_broken (all_syndromes (diagonal_of s) 52) == 0 in
+      sym (sound-counts s
+      ∙ ap (λ t. ((t && edc_of_s) && columns) && diagonals) (sym a ∙ holds_a)
+      ∙ ap (λ t. (t && columns) && diagonals) (sym b ∙ holds_b)
+      ∙ ap (λ t. t && diagonals) (ap (λ n. n == 0) (sym c) ∙ holds_c)
+      ∙ ap (λ n. n == 0) (sym d))
+
+  pub unsound-zeros : (zeros : Bool) → zeros ≡ list_all (λ b. b == 0) (slice_range s 2068 2076) → zeros ≡ false → false ≡ is_sound (defect_of s)
+  unsound-zeros zeros a fails =
+      let edc_of_s = remainder (bits (take 2068 s)) == 0 in
+      let columns = count_by is_broken (all_syndromes (column_of s) 86) == 0 in
+      let diagonals = count_by is_broken (all_syndromes (diagonal_of s) 52) == 0 in
+      sym (sound-counts s ∙ ap (λ t. ((t && edc_of_s) && columns) && diagonals) (sym a ∙ fails))
+
+  pub unsound-edc : (edc : Bool) → edc ≡ (remainder (bits (take 2068 s)) == 0) → edc ≡ false → false ≡ is_sound (defect_of s)
+  unsound-edc edc b fails =
+      let zeros = list_all (λ b. b == 0) (slice_range s 2068 2076) in
+      let columns = count_by is_broken (all_syndromes (column_of s) 86) == 0 in
+      let diagonals = count_by is_broken (all_syndromes (diagonal_of s) 52) == 0 in
+      sym (sound-counts s ∙ ap (λ t. ((zeros && t) && columns) && diagonals) (sym b ∙ fails)
+      ∙ ap (λ t. (t && columns) && diagonals) (and_false zeros))
+
+  pub unsound-columns : (p : ℕ) → p ≡ count_by is_broken (all_syndromes (column_of s) 86) → (p == 0) ≡ false → false ≡ is_sound (defect_of s)
+  unsound-columns p c fails =
+      let front = list_all (λ b. b == 0) (slice_range s 2068 2076) && (remainder (bits (take 2068 s)) == 0) in
+      let diagonals = count_by is_broken (all_syndromes (diagonal_of s) 52) == 0 in
+      sym (sound-counts s ∙ ap (λ t. (front && t) && diagonals) (ap (λ n. n == 0) (sym c) ∙ fails)
+      ∙ ap (λ t. t && diagonals) (and_false front))
+
+-- of a list that is a sector only the kind and the defect are asked
+pub consistent-sector : (s : List ℕ) → length s ≡ 2352 → AreBytes s → consistent s ≡ (is_mode1 (kind_of s) && is_sound (defect_of s))
+unfolding consistent
+consistent-sector s long bytes =
     let mode = is_mode1 (kind_of s) in
-    consistent-parts s
-    ∙ ap (λ t. ((t && list_all (λ b. nat_lt b 256) s) && mode) && parts_of s) ((Decides-eqb (length s) 2352).1 long)
-    ∙ ap (λ t. ((true && t) && mode) && parts_of s) ((all_bytes s).1 bytes)
-    ∙ ap (λ t. mode && (((a && b) && t) && list_all (λ w. not (is_broken w)) us)) (sym (none_broken ws))
-    ∙ ap (λ t. mode && (((a && b) && (count_by is_broken ws == 0)) && t)) (sym (none_broken us))
-    ∙ ap (λ t. mode && t) (and_grouped (a && b) (count_by is_broken ws == 0) (count_by is_broken us == 0))
+    let sound = is_sound (defect_of s) in
+    ap (λ t. ((t && list_all (λ b. nat_lt b 256) s) && mode) && sound) ((Decides-eqb (length s) 2352).1 long)
+    ∙ ap (λ t. ((true && t) && mode) && sound) ((all_bytes s).1 bytes)
 
 -- the way of the code, where the kind is right, and where it is not
 pub consistent-true : (s bytes : List ℕ) (mode whole : Bool) → length s ≡ 2352 → AreBytes s → bytes ≡ s
-    → mode ≡ is_mode1 (kind_of s) → mode ≡ true
-    → whole
-    ≡ ((list_all (λ b. b == 0) (slice_range bytes 2068 2076) && (remainder (bits (take 2068 bytes)) == 0))
-    && ((count_by is_broken (all_syndromes (column_of bytes) 86) == 0)
-    && (count_by is_broken (all_syndromes (diagonal_of bytes) 52) == 0)))
-    → whole ≡ consistent s
+    → mode ≡ is_mode1 (kind_of s) → mode ≡ true → whole ≡ is_sound (defect_of bytes) → whole ≡ consistent s
 consistent-true s bytes mode whole size each same e held f =
-    let right : List ℕ → Bool =
-    (λ v. (list_all (λ b. b == 0) (slice_range v 2068 2076) && (remainder (bits (take 2068 v)) == 0))
-    && ((count_by is_broken (all_syndromes (column_of v) 86) == 0) && (count_by is_broken (all_syndromes (diagonal_of v) 52) == 0))) in
-    sym (consistent-chain s size each ∙ ap (λ t. t && right s) (sym e ∙ held) ∙ ap right (sym same) ∙ sym f)
+    sym (consistent-sector s size each ∙ ap (λ t. t && is_sound (defect_of s)) (sym e ∙ held)
+    ∙ ap (λ v. is_sound (defect_of v)) (sym same) ∙ sym f)
 
 pub consistent-false : (s : List ℕ) (mode : Bool) → mode ≡ is_mode1 (kind_of s) → mode ≡ false → false ≡ consistent s
 consistent-false s mode e fails =
     let sized = (length s == 2352) && list_all (λ b. nat_lt b 256) s in
     sym (consistent-parts s ∙ ap (λ t. (sized && t) && parts_of s) (sym e ∙ fails) ∙ ap (λ t. t && parts_of s) (and_false sized))
-  where
-    and_false : (x : Bool) → (x && false) ≡ false
-    and_false true = refl
-    and_false false = refl

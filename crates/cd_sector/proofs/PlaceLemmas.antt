@@ -23,7 +23,7 @@ column_input_place plane n m h = get_or-map-range_with_len (λ k. place_of plane
 
 pub diagonal_places-parts : (plane n : ℕ)
     → diagonal_places plane n ≡ diagonal_input plane n ++ place_of plane (1118 + n) ∷ place_of plane (1144 + n) ∷ []
-unfolding diagonal_places diagonal_input
+unfolding diagonal_places
 diagonal_places-parts plane n = refl
 
 pub length-column_places : (plane n : ℕ) → length (column_places plane n) ≡ 26
@@ -31,7 +31,7 @@ unfolding column_places
 length-column_places plane n = refl
 
 pub length-diagonal_places : (plane n : ℕ) → length (diagonal_places plane n) ≡ 45
-unfolding diagonal_places
+unfolding diagonal_places diagonal_input
 length-diagonal_places plane n = refl
 
 pub length-diagonal_input : (plane n : ℕ) → length (diagonal_input plane n) ≡ 43
@@ -55,11 +55,11 @@ diagonal_place plane n m h =
     ∙ diagonal_input_place plane n m h
 
 pub diagonal_place-first : (plane n : ℕ) → get_or (diagonal_places plane n) 43 0 ≡ place_of plane (1118 + n)
-unfolding diagonal_places
+unfolding diagonal_places diagonal_input
 diagonal_place-first plane n = refl
 
 pub diagonal_place-second : (plane n : ℕ) → get_or (diagonal_places plane n) 44 0 ≡ place_of plane (1144 + n)
-unfolding diagonal_places
+unfolding diagonal_places diagonal_input
 diagonal_place-second plane n = refl
 
 -- ---- the bytes at them

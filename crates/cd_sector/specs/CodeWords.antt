@@ -17,15 +17,13 @@ column_places plane n = map (λ m. place_of plane (43 * m + n)) (range_with_len 
 unfoldable pub column_input : ℕ → ℕ → List ℕ
 column_input plane n = map (λ m. place_of plane (43 * m + n)) (range_with_len 0 24)
 
--- Q: diagonal n, of 26, with its two parity bytes last
-unfoldable pub diagonal_places : ℕ → ℕ → List ℕ
-diagonal_places plane n =
-    map (λ m. place_of plane ((44 * m + 43 * n) % 1118)) (range_with_len 0 43)
-    ++ place_of plane (1118 + n) ∷ place_of plane (1144 + n) ∷ []
-
--- the same without the parity
+-- Q: diagonal n, of 26, without its parity
 unfoldable pub diagonal_input : ℕ → ℕ → List ℕ
 diagonal_input plane n = map (λ m. place_of plane ((44 * m + 43 * n) % 1118)) (range_with_len 0 43)
+
+-- the same with its two parity bytes last
+unfoldable pub diagonal_places : ℕ → ℕ → List ℕ
+diagonal_places plane n = diagonal_input plane n ++ place_of plane (1118 + n) ∷ place_of plane (1144 + n) ∷ []
 
 -- the bytes of a sector at places
 unfoldable pub bytes_at : List ℕ → List ℕ → List ℕ

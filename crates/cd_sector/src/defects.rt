@@ -6,7 +6,7 @@ ghost use Rattle.cd_code.specs.Edc.{bits, remainder};
 ghost use Rattle.cd_sector.specs.CodeWords.{SumsOf, column_of, diagonal_of};
 ghost use Rattle.cd_sector.specs.Consistent.{consistent, is_mode1};
 ghost use Rattle.cd_sector.specs.Kind.{kind_of};
-ghost use Rattle.cd_sector.specs.Defect.{all_syndromes, defect_of, is_broken, is_nonzero};
+ghost use Rattle.cd_sector.specs.Defect.{all_syndromes, defect_of, is_broken, is_nonzero, is_sound};
 
 use crate::diagonals::diagonal_sums;
 use crate::kinds::{SectorKind, kind};
@@ -62,30 +62,14 @@ fn has_mode1(s: &Sector) -> bool
     }
 }
 
-/// Whether the Intermediate field, the EDC and the code words are right, in this order.
+/// Whether every member of a sector's defect is 0.
 fn is_whole(bytes: &[u8; SECTOR_SIZE]) -> bool
-    ensures { result ≡ ((list_all (λ b. b == 0) (slice_range bytes.now 2068 2076)
-        && (remainder (bits (take 2068 bytes.now)) == 0))
-        && ((count_by is_broken (all_syndromes (column_of bytes.now) 86) == 0)
-        && (count_by is_broken (all_syndromes (diagonal_of bytes.now) 52) == 0))) }
+    ensures { result ≡ is_sound (defect_of bytes.now) }
 {
-    has_sound_front(bytes) && has_code_words(bytes)
-}
-
-/// Whether the Intermediate field and the EDC are right.
-fn has_sound_front(bytes: &[u8; SECTOR_SIZE]) -> bool
-    ensures { result ≡ (list_all (λ b. b == 0) (slice_range bytes.now 2068 2076)
-        && (remainder (bits (take 2068 bytes.now)) == 0)) }
-{
-    has_zeros(bytes) && has_edc(bytes)
-}
-
-/// Whether all columns and all diagonals are code words.
-fn has_code_words(bytes: &[u8; SECTOR_SIZE]) -> bool
-    ensures { result ≡ ((count_by is_broken (all_syndromes (column_of bytes.now) 86) == 0)
-        && (count_by is_broken (all_syndromes (diagonal_of bytes.now) 52) == 0)) }
-{
-    broken_columns(bytes) == 0 && broken_diagonals(bytes) == 0
+    has_zeros(bytes)
+        && has_edc(bytes)
+        && broken_columns(bytes) == 0
+        && broken_diagonals(bytes) == 0
 }
 
 /// Whether the Intermediate field is all 00.
