@@ -7,3 +7,4 @@ mod run;
 mod script;
 mod statuses;
 mod words;
+mod worked;

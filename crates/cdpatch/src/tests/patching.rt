@@ -24,17 +24,17 @@ const WRITE_LINE: &str = "cdpatch: writing the output failed\n";
 const LONG_LINE: &str = "cdpatch: the image has more than 1000000 sectors\n";
 
 /// The script of a text.
-fn script_of(rt: &impl Abort, alloc: Global, text: &[u8]) -> Result<Script, Fail> {
+pub fn script_of(rt: &impl Abort, alloc: Global, text: &[u8]) -> Result<Script, Fail> {
     assert!(rt; text.len() <= MAX_TEXT);
     Ok(parse(alloc, text)?)
 }
 
 /// Takes a script on an image in both ways, and looks at the log and the status.
-fn expect_status(rt: &impl Abort, script: &Script, image: &[u8], base: u32, log: &str, want: u8)
+pub fn expect_status(rt: &impl Abort, script: &Script, image: &[u8], base: u32, log: &str, want: u8)
     requires { base ≤ MAX_BASE }
 {
     let mut lines = [0; 128];
-    let mut sent = [0; 7056];
+    let mut sent = [0; 14_112];
     let status = run_apply(
         &mut SliceSource::new(image),
         script,
