@@ -2,6 +2,7 @@
 use Rattle.std.proofs.Common.{◌≡◌, ℕ, ◌+◌, ◌-◌, ◌/◌, ◌%◌, ◌<◌, ◌≤◌, inl, inr, Bool, true, false, not, ◌&&◌, ◌||◌, cond, Decides, List, [], ◌∷◌, length, map, get_or, take, drop, refl, sym, ap, ◌∙◌, arith, lit<, lit≤}
 use Rattle.std.specs.Bool.{◌==◌, nat_lt}
 use Rattle.std.specs.List.{count_by, list_all, list_any, range_with_len, slice_range}
+use Rattle.std.proofs.Math.Bool.{and-false}
 use Rattle.std.proofs.lemmas.Bool.{cases_lt, and_parts}
 use Rattle.std.proofs.lemmas.Bool.Decides.{Decides-eqb, Decides-ltb, Decides-and, Decides-at, Decides-like, Decides-by_and}
 use Rattle.std.proofs.lemmas.List.{get_or_past, get_or_default, get_or-take, get_or-drop, length-take-le, length-drop}
@@ -222,10 +223,6 @@ consistent-told s =
           ∙ ap (λ b. ((true && true) && true) && b) four,
     )
 
-and_false : (x : Bool) → (x && false) ≡ false
-and_false true = refl
-and_false false = refl
-
 -- the test by the counts of broken words
 abbrev counts_of : List ℕ → Bool
 counts_of s =
@@ -270,14 +267,14 @@ module _ (s : List ℕ) where
       let columns = count_by is_broken (all_syndromes (column_of s) 86) == 0 in
       let diagonals = count_by is_broken (all_syndromes (diagonal_of s) 52) == 0 in
       sym (sound-counts s ∙ ap (λ t. ((zeros && t) && columns) && diagonals) (sym b ∙ fails)
-      ∙ ap (λ t. (t && columns) && diagonals) (and_false zeros))
+      ∙ ap (λ t. (t && columns) && diagonals) (and-false zeros))
 
   pub unsound-columns : (p : ℕ) → p ≡ count_by is_broken (all_syndromes (column_of s) 86) → (p == 0) ≡ false → false ≡ is_sound (defect_of s)
   unsound-columns p c fails =
       let front = list_all (λ b. b == 0) (slice_range s 2068 2076) && (remainder (bits (take 2068 s)) == 0) in
       let diagonals = count_by is_broken (all_syndromes (diagonal_of s) 52) == 0 in
       sym (sound-counts s ∙ ap (λ t. (front && t) && diagonals) (ap (λ n. n == 0) (sym c) ∙ fails)
-      ∙ ap (λ t. t && diagonals) (and_false front))
+      ∙ ap (λ t. t && diagonals) (and-false front))
 
 -- of a list that is a sector only the kind and the defect are asked
 pub consistent-sector : (s : List ℕ) → length s ≡ 2352 → AreBytes s → consistent s ≡ (is_mode1 (kind_of s) && is_sound (defect_of s))
@@ -298,4 +295,4 @@ consistent-true s bytes mode whole size each same e held f =
 pub consistent-false : (s : List ℕ) (mode : Bool) → mode ≡ is_mode1 (kind_of s) → mode ≡ false → false ≡ consistent s
 consistent-false s mode e fails =
     let sized = (length s == 2352) && list_all (λ b. nat_lt b 256) s in
-    sym (consistent-parts s ∙ ap (λ t. (sized && t) && parts_of s) (sym e ∙ fails) ∙ ap (λ t. t && parts_of s) (and_false sized))
+    sym (consistent-parts s ∙ ap (λ t. (sized && t) && parts_of s) (sym e ∙ fails) ∙ ap (λ t. t && parts_of s) (and-false sized))
