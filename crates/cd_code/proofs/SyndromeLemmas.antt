@@ -167,12 +167,12 @@ pair-nonzero weight d moved p more below nonzero byte moves e =
     let tripled : bit_xor (double p) p ≡ bit_xor moved d =
     ap (λ z. bit_xor (double z) z) e ∙ third_tripled (bit_xor moved d) (xor_lt 8 moved d moved_lt byte) in (
       λ none.
-      let nothing : bit_xor moved d ≡ 0 = sym tripled ∙ ap (λ z. bit_xor (double z) z) none ∙ xor_zero_r (double 0) ∙ double-zero in
-      product-power_moves weight d (omega arith) below nonzero byte (sym moves ∙ same_from_xor moved d nothing),
+          let nothing : bit_xor moved d ≡ 0 = sym tripled ∙ ap (λ z. bit_xor (double z) z) none ∙ xor_zero_r (double 0) ∙ double-zero in
+          product-power_moves weight d (omega arith) below nonzero byte (sym moves ∙ same_from_xor moved d nothing),
       λ none.
-      let same : p ≡ d = same_from_xor p d none in
-      let doubled : moved ≡ double d = xor_cancel_right moved (double d) d (sym tripled ∙ ap (λ z. bit_xor (double z) z) same) in
-      product-power_moves_on weight d more (omega arith) nonzero byte (sym moves ∙ doubled),
+          let same : p ≡ d = same_from_xor p d none in
+          let doubled : moved ≡ double d = xor_cancel_right moved (double d) d (sym tripled ∙ ap (λ z. bit_xor (double z) z) same) in
+          product-power_moves_on weight d more (omega arith) nonzero byte (sym moves ∙ doubled),
     )
 
 -- two bytes follow from both their syndromes

@@ -174,9 +174,9 @@ one_diagonal-told plane row column l n k hp hr hc hl hn hk = (
     | inr past ↦ elim past [ inl first ↦ absurd (omega arith) | inr second ↦ absurd (omega arith) ]
   ],
   λ is.
-  let here = diagonal-lies plane row column (diagonal_at row column) (place_of plane (43 * row + column)) hp hr hc refl refl in
-  ap (λ i. get_or (diagonal_places i n) k 0) is.0
-  ∙ ap (λ i. get_or (diagonal_places plane i) k 0) is.1
-  ∙ ap (λ i. get_or (diagonal_places plane (diagonal_at row column)) i 0) is.2
-  ∙ here.at,
+      let here = diagonal-lies plane row column (diagonal_at row column) (place_of plane (43 * row + column)) hp hr hc refl refl in
+      ap (λ i. get_or (diagonal_places i n) k 0) is.0
+      ∙ ap (λ i. get_or (diagonal_places plane i) k 0) is.1
+      ∙ ap (λ i. get_or (diagonal_places plane (diagonal_at row column)) i 0) is.2
+      ∙ here.at,
 )

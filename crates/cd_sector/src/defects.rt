@@ -66,10 +66,7 @@ fn has_mode1(s: &Sector) -> bool
 fn is_whole(bytes: &[u8; SECTOR_SIZE]) -> bool
     ensures { result ≡ is_sound (defect_of bytes.now) }
 {
-    has_zeros(bytes)
-        && has_edc(bytes)
-        && broken_columns(bytes) == 0
-        && broken_diagonals(bytes) == 0
+    has_zeros(bytes) && has_edc(bytes) && broken_columns(bytes) == 0 && broken_diagonals(bytes) == 0
 }
 
 /// Whether the Intermediate field is all 00.
