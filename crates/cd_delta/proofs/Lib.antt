@@ -1,5 +1,6 @@
 mod AddLemmas
 mod AmountLemmas
+mod CarryLemmas
 mod KeepLemmas
 mod PlaceFacts
 pub mod UserLemmas

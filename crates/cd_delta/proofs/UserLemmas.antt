@@ -1,22 +1,25 @@
 -- A sector into whose user data bytes were written, and then the EDC.
-use Rattle.std.proofs.Common.{◌≡◌, ◌⊎◌, ℕ, ◌+◌, ◌-◌, ◌<◌, ◌≤◌, inl, inr, List, ◌++◌, length, get_or, take, drop, refl, sym, ap, ◌∙◌, arith}
+use Rattle.std.proofs.Common.{◌≡◌, ◌⊎◌, ℕ, ◌+◌, ◌-◌, ◌^◌, ◌<◌, ◌≤◌, inl, inr, List, ◌++◌, length, get_or, take, drop, bit_xor, refl, sym, ap, ◌∙◌, arith, lit<}
 use lib.Pointwise.{pointwise}
 use Rattle.std.specs.Prelude.{nat_eq, if◌then◌else◌, slice_range}
 use Rattle.std.specs.Int.{from_le_bytes, to_le_bytes, w32}
+use Rattle.std.specs.Int.Bits.{xor_zero_l, xor_zero_r}
 use Rattle.std.proofs.Math.Seq.{take-add}
 use Rattle.std.proofs.lemmas.Bool.{cases_lt}
 use Rattle.std.proofs.lemmas.List.{ext_get_or, get_or-append_right, get_or_append_left, get_or-drop, get_or-take, length-append, length-drop, length-take-le}
-use Rattle.std.proofs.lemmas.Nat.{from_le_bytes-to_le_bytes_4}
+use Rattle.std.proofs.lemmas.Nat.{from_le_bytes-to_le_bytes_4, xor_lt}
 use Rattle.cd_code.specs.Edc.{IsEdc, bits, remainder}
 use Rattle.cd_code.specs.Field.{AreBytes}
 use Rattle.cd_code.proofs.ByteLemmas.{front-same, get_or-part, length-part, part-list, part-same}
+use Rattle.cd_code.proofs.EdcLemmas.{Ends-from, after, after-append, after-lt, after-word, after_bits, after_bits-xor, after_bits-zero, remainder-after}
 use Rattle.cd_sector.specs.CodeWords.{SameSyndromes}
 use Rattle.cd_sector.specs.Consistent.{IsConsistent, header_of, user_of}
 use Rattle.cd_sector.specs.Kind.{kind_of, kind_of_mode, sync_field}
 use Rattle.cd_sector.specs.declared.kinds.SectorKind.{SectorKind}
 use Rattle.cd_sector.specs.declared.kinds.SectorKind.TheVariants.{NoSync}
-use Rattle.cd_delta.specs.Writing.{HasEdc, IsChanged, IsWritten, WithEdc, written}
-use Rattle.cd_delta.proofs.WritingLemmas.{AllCodeWords-same, SameSyndromes-trans}
+use Rattle.cd_delta.specs.Writing.{IsChanged, IsWritten, StoresEdc, WithEdc, written}
+use Rattle.cd_sector.proofs.SumLemmas.{AllCodeWords-same}
+use Rattle.cd_delta.proofs.WritingLemmas.{SameSyndromes-trans}
 
 -- ---- kind and header
 
@@ -115,26 +118,42 @@ user_of-written old new offset bytes inside size same_size range others =
 
 -- ---- the EDC
 
-divides-with : (s : List ℕ) (m w : ℕ) → IsEdc (take m s) w → take 4 (drop m s) ≡ to_le_bytes w32 w → remainder (bits (take (m + 4) s)) ≡ 0
-divides-with s m w word at =
-    ap (λ v. remainder (bits v)) (take-add m 4 s ∙ ap (λ v. take m s ++ v) at) ∙ word.divides
+-- what the division leaves is what the error leaves
+pub StoresEdc-remainder : {s : List ℕ} {error : ℕ} → StoresEdc s error → remainder (bits (take 2068 s)) ≡ after_bits 32 0 error
+StoresEdc-remainder {s} {error} h =
+    let front = take 2064 s in
+    let four = to_le_bytes w32 (bit_xor h.word error) in
+    let rest = after 0 front in
+    let below : rest < 2 ^ 32 = after-lt 0 front (lit< tt) in
+    let ends = Ends-from front h.word h.is_word in
+    ap (λ v. remainder (bits v)) (take-add 2064 4 s ∙ ap (λ v. front ++ v) h.at_end)
+    ∙ remainder-after (front ++ four) ∙ after-append 0 front four
+    ∙ after-word rest (bit_xor h.word error) (xor_lt 32 h.word error h.is_word.fits h.fits)
+    ∙ ap (λ r. after_bits 32 r (bit_xor h.word error)) (sym (xor_zero_r rest))
+    ∙ after_bits-xor 32 rest 0 h.word error below (lit< tt)
+    ∙ ap (λ n. bit_xor n (after_bits 32 0 error)) ends.ends
+    ∙ xor_zero_l (after_bits 32 0 error)
 
 -- the word of the first bytes, written behind them
-pub WithEdc-written : (old new four : List ℕ) (w : ℕ) → length old ≡ 2352 → AreBytes old → IsEdc (take 2064 old) w
-    → four ≡ to_le_bytes w32 w → IsWritten old new 2064 (length four) four → WithEdc old new
-WithEdc-written old new four w size each word at h =
+pub WithEdc-written : (old new four : List ℕ) (w error : ℕ) → length old ≡ 2352 → AreBytes old → error < 2 ^ 32
+    → IsEdc (take 2064 old) w → four ≡ to_le_bytes w32 (bit_xor w error) → IsWritten old new 2064 (length four) four
+    → WithEdc old new error
+WithEdc-written old new four w error size each fits word at h =
     let same_size = h.size in
     let front : take 2064 new ≡ take 2064 old = front-same new old 2064 (omega arith) (omega arith) (λ i below. h.front i (omega arith) (inl below)) in
     let long : length four ≡ 4 = ap length at in
     let four_at : take (length four) (drop 2064 new) ≡ four =
     part-list new four 2064 (omega arith) (λ i below. h.range i (omega arith)) in
     record {
-      word = w;
       size = h.size ∙ size;
       each = h.each each;
       same_size = h.size;
-      is_word = rw front word;
-      at_end = ap (λ n. take n (drop 2064 new)) (sym long) ∙ four_at ∙ at;
+      edc = record {
+        word = w;
+        fits = fits;
+        is_word = rw front word;
+        at_end = ap (λ n. take n (drop 2064 new)) (sym long) ∙ four_at ∙ at;
+      };
       front = λ i below out. elim out [ inl before ↦ h.front i below (inl before) | inr behind ↦ h.front i below (inr (omega arith)) ];
       syndromes = h.syndromes;
     }
@@ -142,9 +161,9 @@ WithEdc-written old new four w size each word at h =
 -- ---- both
 
 -- bytes in front of the EDC, and then the EDC
-pub IsChanged-carried : (old t new : List ℕ) (place : ℕ) (bytes : List ℕ) → place + length bytes ≤ 2064
-    → IsWritten old t place (length bytes) bytes → WithEdc t new → IsChanged old new place bytes
-IsChanged-carried old t new place bytes fits user edc = record {
+pub IsChanged-carried : (old t new : List ℕ) (place : ℕ) (bytes : List ℕ) (error : ℕ) → place + length bytes ≤ 2064
+    → IsWritten old t place (length bytes) bytes → WithEdc t new error → IsChanged old new place bytes error
+IsChanged-carried old t new place bytes error fits user edc = record {
   fits = fits;
   size = edc.size;
   same_size = edc.same_size ∙ user.size;
@@ -152,33 +171,35 @@ IsChanged-carried old t new place bytes fits user edc = record {
   range = λ i below. edc.front (place + i) (omega arith) (inl (omega arith)) ∙ user.range i below;
   front = λ i below out. edc.front i (omega arith) (inl below) ∙ user.front i (omega arith) out;
   zeros = λ i from below. edc.front i below (inr from) ∙ user.front i below (inr (omega arith));
-  edc = record { word = edc.word; is_word = edc.is_word; at_end = edc.at_end };
+  edc = edc.edc;
   syndromes = SameSyndromes-trans edc.syndromes user.syndromes;
 }
 
 -- the word of the first bytes, put behind them
-pub HasEdc-put : (old new four : List ℕ) (w : ℕ) → length old ≡ 2352 → length new ≡ 2352 → IsEdc (take 2064 old) w → four ≡ to_le_bytes w32 w
+pub StoresEdc-put : (old new four : List ℕ) (w error : ℕ) → length old ≡ 2352 → length new ≡ 2352 → error < 2 ^ 32
+    → IsEdc (take 2064 old) w → four ≡ to_le_bytes w32 (bit_xor w error)
     → ((i : ℕ) → i < length four → get_or new (2064 + i) 0 ≡ get_or four i 0)
     → ((k : ℕ) → (k < 2064) ⊎ (2064 + length four ≤ k) → get_or new k 0 ≡ get_or old k 0)
-    → HasEdc new
-HasEdc-put old new four w old_size new_size word e inside outside =
+    → StoresEdc new error
+StoresEdc-put old new four w error old_size new_size fits word e inside outside =
     let front : take 2064 new ≡ take 2064 old =
     front-same new old 2064 (omega arith) (omega arith) (λ i below. outside i (inl below)) in
     let long : length four ≡ 4 = ap length e in
     record {
       word = w;
+      fits = fits;
       is_word = rw front word;
       at_end = ap (λ n. take n (drop 2064 new)) (sym long) ∙ part-list new four 2064 (omega arith) inside ∙ e;
     }
 
 -- the front of another sector, with its EDC
-pub IsChanged-front : (old front new : List ℕ) (place : ℕ) (bytes : List ℕ) → place + length bytes ≤ 2064
+pub IsChanged-front : (old front new : List ℕ) (place : ℕ) (bytes : List ℕ) (error : ℕ) → place + length bytes ≤ 2064
     → length old ≡ 2352 → length front ≡ 2352 → length new ≡ length old → AreBytes new
     → ((i : ℕ) → i < length bytes → get_or front (place + i) 0 ≡ get_or bytes i 0)
     → ((i : ℕ) → (i < place) ⊎ (place + length bytes ≤ i) → (i < 2064) ⊎ (2068 ≤ i) → get_or front i 0 ≡ get_or old i 0)
-    → HasEdc front → ((i : ℕ) → i < 2076 → get_or new i 0 ≡ get_or front i 0) → SameSyndromes new old
-    → IsChanged old new place bytes
-IsChanged-front old front new place bytes fits old_size front_size same_size each range elsewhere edc same syndromes =
+    → StoresEdc front error → ((i : ℕ) → i < 2076 → get_or new i 0 ≡ get_or front i 0) → SameSyndromes new old
+    → IsChanged old new place bytes error
+IsChanged-front old front new place bytes error fits old_size front_size same_size each range elsewhere edc same syndromes =
     let size : length new ≡ 2352 = same_size ∙ old_size in
     let whole : take 2064 new ≡ take 2064 front = front-same new front 2064 (omega arith) (omega arith) (λ i below. same i (omega arith)) in
     let word : slice_range new 2064 2068 ≡ slice_range front 2064 2068 =
@@ -191,63 +212,64 @@ IsChanged-front old front new place bytes fits old_size front_size same_size eac
       range = λ i below. same (place + i) (omega arith) ∙ range i below;
       front = λ i below out. same i (omega arith) ∙ elsewhere i out (inl below);
       zeros = λ i from below. same i below ∙ elsewhere i (inr (omega arith)) (inr from);
-      edc = record { word = edc.word; is_word = rw whole edc.is_word; at_end = word ∙ edc.at_end };
+      edc = record { word = edc.word; fits = edc.fits; is_word = rw whole edc.is_word; at_end = word ∙ edc.at_end };
       syndromes = syndromes;
     }
 
-long-of : {old new : List ℕ} {place : ℕ} {bytes : List ℕ} → IsChanged old new place bytes → length old ≡ 2352
+long-of : {old new : List ℕ} {place : ℕ} {bytes : List ℕ} {error : ℕ} → IsChanged old new place bytes error → length old ≡ 2352
 long-of h = sym h.same_size ∙ h.size
 
-pub edc-of : {old new : List ℕ} {place : ℕ} {bytes : List ℕ} → IsChanged old new place bytes
+-- without an error
+pub edc-of : {old new : List ℕ} {place : ℕ} {bytes : List ℕ} → IsChanged old new place bytes 0
     → IsEdc (take 2064 new) (from_le_bytes w32 (slice_range new 2064 2068))
 edc-of {old} {new} h =
     let w = h.edc.word in
     let e : from_le_bytes w32 (slice_range new 2064 2068) ≡ w =
-    ap (from_le_bytes w32) h.edc.at_end ∙ from_le_bytes-to_le_bytes_4 w h.edc.is_word.fits in
+    ap (from_le_bytes w32) (h.edc.at_end ∙ ap (to_le_bytes w32) (xor_zero_r w)) ∙ from_le_bytes-to_le_bytes_4 w h.edc.is_word.fits in
     rw e h.edc.is_word
 
-pub divides-of : {old new : List ℕ} {place : ℕ} {bytes : List ℕ} → IsChanged old new place bytes
+pub divides-of : {old new : List ℕ} {place : ℕ} {bytes : List ℕ} → IsChanged old new place bytes 0
     → remainder (bits (take 2068 new)) ≡ 0
-divides-of {old} {new} h = divides-with new 2064 h.edc.word h.edc.is_word h.edc.at_end
+divides-of h = StoresEdc-remainder h.edc ∙ after_bits-zero 32
 
 -- the sync field and the mode byte stay
-pub kind-of : {old new : List ℕ} {place : ℕ} {bytes : List ℕ} → IsChanged old new place bytes
+pub kind-of : {old new : List ℕ} {place : ℕ} {bytes : List ℕ} {error : ℕ} → IsChanged old new place bytes error
     → 12 ≤ place → (16 ≤ place) ⊎ (place + length bytes ≤ 15) → kind_of new ≡ kind_of old
 kind-of {old} {new} h from out =
     let size = h.size in
     kind_of-same new old (omega arith) h.same_size (λ i below. h.front i (omega arith) (inl (omega arith)))
     (h.front 15 (omega arith) (elim out [ inl behind ↦ inl (omega arith) | inr before ↦ inr before ]))
 
-pub IsConsistent-of : {old new : List ℕ} {place : ℕ} {bytes : List ℕ} → IsChanged old new place bytes
-    → kind_of new ≡ kind_of old → IsConsistent old → IsConsistent new
-IsConsistent-of h kind sound = record {
+pub IsConsistent-of : {old new : List ℕ} {place : ℕ} {bytes : List ℕ} {error : ℕ} → IsChanged old new place bytes error
+    → remainder (bits (take 2068 new)) ≡ 0 → kind_of new ≡ kind_of old → IsConsistent old → IsConsistent new
+IsConsistent-of h divides kind sound = record {
   size = h.size;
   bytes = h.each;
   mode = kind ∙ sound.mode;
   zeros = λ i from below. h.zeros i from below ∙ sound.zeros i from below;
-  edc = divides-of h;
+  edc = divides;
   words = AllCodeWords-same h.syndromes sound.words;
 }
 
 -- ---- bytes of the user data
 
-pub user-stays : (offset : ℕ) {old new bytes : List ℕ} → IsChanged old new (16 + offset) bytes
+pub user-stays : (offset : ℕ) {old new bytes : List ℕ} {error : ℕ} → IsChanged old new (16 + offset) bytes error
     → (i : ℕ) → (i < 16) ⊎ ((2068 ≤ i) × (i < 2076)) → get_or new i 0 ≡ get_or old i 0
 user-stays offset h i out = elim out [
   | inl before ↦ h.front i (omega arith) (inl (omega arith))
   | inr behind ↦ h.zeros i behind.0 behind.1
 ]
 
-pub user-of : (offset : ℕ) {old new bytes : List ℕ} → IsChanged old new (16 + offset) bytes
+pub user-of : (offset : ℕ) {old new bytes : List ℕ} {error : ℕ} → IsChanged old new (16 + offset) bytes error
     → user_of new ≡ written (user_of old) offset bytes
 user-of offset {old} {new} {bytes} h =
     let fits = h.fits in
     user_of-written old new offset bytes (omega arith) (long-of h) h.same_size h.range (λ i below out. h.front i below out)
 
-pub user-kind : (offset : ℕ) {old new bytes : List ℕ} → IsChanged old new (16 + offset) bytes → kind_of new ≡ kind_of old
+pub user-kind : (offset : ℕ) {old new bytes : List ℕ} {error : ℕ} → IsChanged old new (16 + offset) bytes error → kind_of new ≡ kind_of old
 user-kind offset h = kind-of h (omega arith) (inl (omega arith))
 
-pub user-header : (offset : ℕ) {old new bytes : List ℕ} → IsChanged old new (16 + offset) bytes → header_of new ≡ header_of old
+pub user-header : (offset : ℕ) {old new bytes : List ℕ} {error : ℕ} → IsChanged old new (16 + offset) bytes error → header_of new ≡ header_of old
 user-header offset {old} {new} h =
     let size = h.size in
     header_of-same new old (omega arith) h.same_size (λ i below. user-stays offset h i (inl below))
@@ -255,7 +277,7 @@ user-header offset {old} {new} h =
 -- ---- the address in the header
 
 -- the three bytes of an address, and every other byte as it was
-pub header-stays : {old new bytes : List ℕ} → IsChanged old new 12 bytes → length bytes ≡ 3
+pub header-stays : {old new bytes : List ℕ} {error : ℕ} → IsChanged old new 12 bytes error → length bytes ≡ 3
     → (i : ℕ) → (i < 12) ⊎ (((15 ≤ i) × (i < 2064)) ⊎ ((2068 ≤ i) × (i < 2076))) → get_or new i 0 ≡ get_or old i 0
 header-stays h three i out = elim out [
   | inl before ↦ h.front i (omega arith) (inl before)
@@ -265,17 +287,17 @@ header-stays h three i out = elim out [
   ]
 ]
 
-pub header-kind : {old new bytes : List ℕ} → IsChanged old new 12 bytes → length bytes ≡ 3 → kind_of new ≡ kind_of old
+pub header-kind : {old new bytes : List ℕ} {error : ℕ} → IsChanged old new 12 bytes error → length bytes ≡ 3 → kind_of new ≡ kind_of old
 header-kind h three = kind-of h (omega arith) (inr (omega arith))
 
-pub header-user : {old new bytes : List ℕ} → IsChanged old new 12 bytes → length bytes ≡ 3 → user_of new ≡ user_of old
+pub header-user : {old new bytes : List ℕ} {error : ℕ} → IsChanged old new 12 bytes error → length bytes ≡ 3 → user_of new ≡ user_of old
 unfolding user_of
 header-user {old} {new} h three =
     let size = h.size in
     part-same new old 16 2048 (omega arith) (omega (arith, h.same_size)) (λ i from below. h.front i (omega arith) (inr (omega arith)))
 
 -- the three bytes of the address, and the old mode byte
-pub header-of : {old new bytes : List ℕ} → IsChanged old new 12 bytes → length bytes ≡ 3 → header_of new ≡ bytes ++ drop 3 (header_of old)
+pub header-of : {old new bytes : List ℕ} {error : ℕ} → IsChanged old new 12 bytes error → length bytes ≡ 3 → header_of new ≡ bytes ++ drop 3 (header_of old)
 unfolding header_of
 header-of {old} {new} {bytes} h three =
     let size = h.size in

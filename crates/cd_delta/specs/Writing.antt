@@ -1,5 +1,5 @@
 -- Bytes written into a sector in front of its parity, and carried into it (ECMA-130, Annex A).
-use Rattle.std.specs.Prelude.{◌≡◌, ℕ, ◌+◌, ◌<◌, ◌≤◌, ◌⊎◌, List, ◌++◌, length, take, drop, slice_index, slice_range}
+use Rattle.std.specs.Prelude.{◌≡◌, ℕ, ◌+◌, ◌^◌, ◌<◌, ◌≤◌, ◌⊎◌, bit_xor, List, ◌++◌, length, take, drop, slice_index, slice_range}
 use Rattle.std.specs.Int.{to_le_bytes, w32}
 use Rattle.cd_code.specs.Edc.{IsEdc}
 use Rattle.cd_code.specs.Field.{AreBytes}
@@ -18,26 +18,25 @@ pub record IsWritten (old new : List ℕ) (place count : ℕ) (bytes : List ℕ)
   pub front : (i : ℕ) → i < 2076 → (i < place) ⊎ (place + count ≤ i) → slice_index new i ≡ slice_index old i
   pub syndromes : SameSyndromes new old
 
--- the EDC of the first 2064 bytes stands behind them, and is carried into the parity
-pub record WithEdc (old new : List ℕ) : Type 0 where
+-- the EDC of the first 2064 bytes, with `error` added to it, stands behind them
+pub record StoresEdc (s : List ℕ) (error : ℕ) : Type 0 where
   pub word : ℕ
+  pub fits : error < 2 ^ 32
+  pub is_word : IsEdc (take 2064 s) word
+  pub at_end : slice_range s 2064 2068 ≡ to_le_bytes w32 (bit_xor word error)
+
+-- the same, carried into the parity
+pub record WithEdc (old new : List ℕ) (error : ℕ) : Type 0 where
   pub size : length new ≡ 2352
   pub each : AreBytes new
   pub same_size : length new ≡ length old
-  pub is_word : IsEdc (take 2064 new) word
-  pub at_end : slice_range new 2064 2068 ≡ to_le_bytes w32 word
+  pub edc : StoresEdc new error
   pub front : (i : ℕ) → i < 2076 → (i < 2064) ⊎ (2068 ≤ i) → slice_index new i ≡ slice_index old i
   pub syndromes : SameSyndromes new old
 
--- the EDC of the first 2064 bytes stands behind them
-pub record HasEdc (s : List ℕ) : Type 0 where
-  pub word : ℕ
-  pub is_word : IsEdc (take 2064 s) word
-  pub at_end : slice_range s 2064 2068 ≡ to_le_bytes w32 word
-
--- the bytes stand in the sector from `place` on, with the EDC behind the user data; in front of the parity nothing else
--- has changed, and no syndrome has
-pub record IsChanged (old new : List ℕ) (place : ℕ) (bytes : List ℕ) : Type 0 where
+-- the bytes stand in the sector from `place` on, with the EDC behind the user data, to which `error` is added; in front
+-- of the parity nothing else has changed, and no syndrome has
+pub record IsChanged (old new : List ℕ) (place : ℕ) (bytes : List ℕ) (error : ℕ) : Type 0 where
   pub fits : place + length bytes ≤ 2064
   pub size : length new ≡ 2352
   pub same_size : length new ≡ length old
@@ -45,5 +44,5 @@ pub record IsChanged (old new : List ℕ) (place : ℕ) (bytes : List ℕ) : Typ
   pub range : (i : ℕ) → i < length bytes → slice_index new (place + i) ≡ slice_index bytes i
   pub front : (i : ℕ) → i < 2064 → (i < place) ⊎ (place + length bytes ≤ i) → slice_index new i ≡ slice_index old i
   pub zeros : (i : ℕ) → 2068 ≤ i → i < 2076 → slice_index new i ≡ slice_index old i
-  pub edc : HasEdc new
+  pub edc : StoresEdc new error
   pub syndromes : SameSyndromes new old

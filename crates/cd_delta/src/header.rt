@@ -27,5 +27,5 @@ pub fn change_header(s: &mut Sector, bcd: [u8; 3])
     ensures syndromes { SameSyndromes s.new s.old }
     ensures consistent { IsConsistent s.old → IsConsistent s.new }
 {
-    change(s, HEADER, &bcd);
+    change(s, HEADER, &bcd, 0);
 }

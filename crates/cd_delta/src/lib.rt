@@ -3,6 +3,7 @@
 #![tactic(auto)]
 
 mod byte_by_byte;
+mod carrying;
 mod changes;
 mod difference;
 mod header;
@@ -10,6 +11,7 @@ mod laws;
 mod user_data;
 
 pub use byte_by_byte::change_byte;
+pub use carrying::{carry_header, carry_user};
 pub use changes::{Change, parity_changes};
 pub use header::change_header;
 pub use laws::one_diagonal;

@@ -8,7 +8,7 @@ ghost use Rattle.cd_sector.specs.CodeWords.{SameSyndromes};
 ghost use Rattle.cd_sector.specs.Consistent.{IsConsistent, header_of, user_of};
 ghost use Rattle.cd_sector.specs.Kind.{kind_of};
 ghost use Rattle.cd_sector.specs.declared.kinds.SectorKind.TheVariants.{Mode1};
-ghost use Rattle.cd_delta.specs.Writing.{HasEdc, IsChanged, WithEdc, written};
+ghost use Rattle.cd_delta.specs.Writing.{IsChanged, StoresEdc, WithEdc, written};
 
 use crate::byte_by_byte::write_few;
 use crate::difference::carry_front;
@@ -34,74 +34,76 @@ pub fn change_user(s: &mut Sector, offset: u16, bytes: &[u8])
     ensures syndromes { SameSyndromes s.new s.old }
     ensures consistent { IsConsistent s.old → IsConsistent s.new }
 {
-    change(s, USER_DATA + offset as usize, bytes);
+    change(s, USER_DATA + offset as usize, bytes, 0);
 }
 
-/// Writes bytes behind the sync field and in front of the EDC, then the EDC, and carries both into the parity.
-pub(crate) fn change(s: &mut Sector, place: usize, bytes: &[u8])
+/// Writes bytes behind the sync field and in front of the EDC, then the EDC with `error` added to it, and carries both
+/// into the parity.
+pub(crate) fn change(s: &mut Sector, place: usize, bytes: &[u8], error: u32)
     requires from { 12 ≤ place }
     requires below { place + length bytes.now ≤ 2064 }
-    ensures { IsChanged s.old s.new place bytes.now }
+    ensures { IsChanged s.old s.new place bytes.now error }
 {
     if bytes.len() < MANY {
-        change_few(s, place, bytes);
+        change_few(s, place, bytes, error);
     } else {
-        change_many(s, place, bytes);
+        change_many(s, place, bytes, error);
     }
 }
 
-/// Writes the bytes one by one, and then the EDC, and carries each into the parity.
-fn change_few(s: &mut Sector, place: usize, bytes: &[u8])
+/// Writes the bytes one by one, and then the EDC with `error` added, and carries each into the parity.
+fn change_few(s: &mut Sector, place: usize, bytes: &[u8], error: u32)
     requires from { 12 ≤ place }
     requires below { place + length bytes.now ≤ 2064 }
-    ensures { IsChanged s.old s.new place bytes.now }
+    ensures { IsChanged s.old s.new place bytes.now error }
 {
     write_few(s, place, bytes);
-    write_edc(s);
+    write_edc(s, error);
 }
 
-/// Writes the EDC of bytes 0 to 2063 behind them, and carries it into the parity.
-fn write_edc(s: &mut Sector)
-    ensures { WithEdc s.old s.new }
+/// Writes the EDC of bytes 0 to 2063, with `error` added, behind them, and carries it into the parity.
+fn write_edc(s: &mut Sector, error: u32)
+    ensures { WithEdc s.old s.new error }
 {
     let word = edc_of(&s.bytes()[..EDC]);
     let mut edc = [0; 4];
-    LittleEndian::write_u32(&mut edc, word);
+    LittleEndian::write_u32(&mut edc, word ^ error);
     write_few(s, EDC, &edc);
 }
 
-/// Writes the bytes and the EDC, and carries both into the parity at once.
-fn change_many(s: &mut Sector, place: usize, bytes: &[u8])
+/// Writes the bytes and the EDC with `error` added, and carries both into the parity at once.
+fn change_many(s: &mut Sector, place: usize, bytes: &[u8], error: u32)
     requires { place + length bytes.now ≤ 2064 }
-    ensures { IsChanged s.old s.new place bytes.now }
+    ensures { IsChanged s.old s.new place bytes.now error }
 {
-    let front = front_with(s, place, bytes);
+    let front = front_with(s, place, bytes, error);
     carry_front(s, &front);
 }
 
-/// A sector with `bytes` from `place` on and the EDC of bytes 0 to 2063 behind them; its parity is left as it was.
-fn front_with(s: &Sector, place: usize, bytes: &[u8]) -> Sector
+/// A sector with `bytes` from `place` on and the EDC of bytes 0 to 2063, with `error` added, behind them; its parity is
+/// left as it was.
+fn front_with(s: &Sector, place: usize, bytes: &[u8], error: u32) -> Sector
     requires { place + length bytes.now ≤ 2064 }
     ensures range { (i : ℕ) → i < length bytes.now → slice_index result (place + i) ≡ slice_index bytes.now i }
     ensures elsewhere { (i : ℕ) → (i < place) ⊎ (place + length bytes.now ≤ i) → (i < 2064) ⊎ (2068 ≤ i)
         → slice_index result i ≡ slice_index s.now i }
-    ensures edc { HasEdc result }
+    ensures edc { StoresEdc result error }
     ensures size { length result ≡ 2352 }
     ensures whole { length s.now ≡ 2352 }
 {
     let mut front = *s.bytes();
     put_part(&mut front, place, bytes);
-    put_edc(&mut front);
+    put_edc(&mut front, error);
     Sector::from_bytes(front)
 }
 
-/// Writes the EDC of bytes 0 to 2063 behind them.
-fn put_edc(bytes: &mut [u8; SECTOR_SIZE])
-    ensures edc { HasEdc bytes.new }
+/// Writes the EDC of bytes 0 to 2063, with `error` added, behind them.
+fn put_edc(bytes: &mut [u8; SECTOR_SIZE], error: u32)
+    ensures edc { StoresEdc bytes.new error }
     ensures stays { (k : ℕ) → (k < 2064) ⊎ (2068 ≤ k) → slice_index bytes.new k ≡ slice_index bytes.old k }
 {
     let word = edc_of(&bytes[..EDC]);
-    put_part(bytes, EDC, &word.to_le_bytes());
+    put_part(bytes, EDC, &(word ^ error).to_le_bytes());
 }
 
 /// Writes bytes from place `at` on.

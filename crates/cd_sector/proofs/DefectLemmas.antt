@@ -169,7 +169,7 @@ unfolding consistent
 consistent-parts s =
     ap (λ b. (((length s == 2352) && list_all (λ b. nat_lt b 256) s) && is_mode1 (kind_of s)) && b) (sound-parts s)
 
-abbrev IsWhole : List ℕ → Type 0
+abbrev pub IsWhole : List ℕ → Type 0
 IsWhole s =
     (((((i : ℕ) → 2068 ≤ i → i < 2076 → get_or s i 0 ≡ 0) × (remainder (bits (take 2068 s)) ≡ 0))
     × ((i : ℕ) → i < 86 → IsCodeWord (column_of s i)))
@@ -284,6 +284,10 @@ consistent-sector s long bytes =
     let sound = is_sound (defect_of s) in
     ap (λ t. ((t && list_all (λ b. nat_lt b 256) s) && mode) && sound) ((Decides-eqb (length s) 2352).1 long)
     ∙ ap (λ t. ((true && t) && mode) && sound) ((all_bytes s).1 bytes)
+
+-- the test of a defect's members
+pub sound_told : (s : List ℕ) → length s ≡ 2352 → Decides (is_sound (defect_of s)) (IsWhole s)
+sound_told s size = Decides-at (is_sound (defect_of s)) (parts_of s) (sound-parts s) (parts_told s size)
 
 -- the way of the code, where the kind is right, and where it is not
 pub consistent-true : (s bytes : List ℕ) (mode whole : Bool) → length s ≡ 2352 → AreBytes s → bytes ≡ s

@@ -114,14 +114,14 @@ length-content header user h k =
     length-append sync_field (header ++ 1 ∷ rest) ∙ ap (λ n. 12 + n) b
 
 -- the same front with an EDC behind it
-record Checked (old : List ℕ) : Type 0 where
-  sector : List ℕ
-  size : length sector ≡ 2352
-  bytes : AreBytes sector
-  divides : remainder (bits (take 2068 sector)) ≡ 0
-  stays : (k : ℕ) → (k < 2064) ⊎ (2068 ≤ k) → get_or sector k 0 ≡ get_or old k 0
+pub record Checked (old : List ℕ) : Type 0 where
+  pub sector : List ℕ
+  pub size : length sector ≡ 2352
+  pub bytes : AreBytes sector
+  pub divides : remainder (bits (take 2068 sector)) ≡ 0
+  pub stays : (k : ℕ) → (k < 2064) ⊎ (2068 ≤ k) → get_or sector k 0 ≡ get_or old k 0
 
-checked : (old : List ℕ) → length old ≡ 2352 → AreBytes old → Checked old
+pub checked : (old : List ℕ) → length old ≡ 2352 → AreBytes old → Checked old
 checked old size h =
     let word = edc_of_front old h 2064 (omega (arith, size)) in
     let four = to_le_bytes w32 word.0 in
@@ -143,14 +143,14 @@ checked old size h =
     }
 
 -- the same front with code words behind it: the columns, then all
-record WithColumns (old : List ℕ) : Type 0 where
-  sector : List ℕ
-  size : length sector ≡ 2352
-  bytes : AreBytes sector
-  words : (i : ℕ) → i < 86 → IsCodeWord (column_of sector i)
-  stays : (k : ℕ) → k < 2076 → get_or sector k 0 ≡ get_or old k 0
+pub record WithColumns (old : List ℕ) : Type 0 where
+  pub sector : List ℕ
+  pub size : length sector ≡ 2352
+  pub bytes : AreBytes sector
+  pub words : (i : ℕ) → i < 86 → IsCodeWord (column_of sector i)
+  pub stays : (k : ℕ) → k < 2076 → get_or sector k 0 ≡ get_or old k 0
 
-with_columns : (old : List ℕ) → length old ≡ 2352 → AreBytes old → WithColumns old
+pub with_columns : (old : List ℕ) → length old ≡ 2352 → AreBytes old → WithColumns old
 with_columns old size h =
     let word : ℕ → List ℕ = λ i. bytes_at old (column_input (i % 2) (i / 2)) in
     let low : (i : ℕ) → i < 86 → first_syndrome (word i) < 256 =
@@ -165,14 +165,14 @@ with_columns old size h =
       stays = λ k low. p.filled.stays k (inl low);
     }
 
-record WithWords (old : List ℕ) : Type 0 where
-  sector : List ℕ
-  size : length sector ≡ 2352
-  bytes : AreBytes sector
-  words : AllCodeWords sector
-  stays : (k : ℕ) → k < 2076 → get_or sector k 0 ≡ get_or old k 0
+pub record WithWords (old : List ℕ) : Type 0 where
+  pub sector : List ℕ
+  pub size : length sector ≡ 2352
+  pub bytes : AreBytes sector
+  pub words : AllCodeWords sector
+  pub stays : (k : ℕ) → k < 2076 → get_or sector k 0 ≡ get_or old k 0
 
-with_diagonals : (old : List ℕ) → WithColumns old → WithWords old
+pub with_diagonals : (old : List ℕ) → WithColumns old → WithWords old
 with_diagonals old p =
     let word : ℕ → List ℕ = λ i. bytes_at p.sector (diagonal_input (i % 2) (i / 2)) in
     let low : (i : ℕ) → i < 52 → first_syndrome (word i) < 256 =

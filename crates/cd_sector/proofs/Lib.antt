@@ -1,3 +1,5 @@
+pub mod CarriedExistence
+pub mod CarriedLemmas
 pub mod ContentLemmas
 pub mod DefectLemmas
 pub mod DiagonalLemmas
@@ -6,3 +8,4 @@ pub mod ExistenceLemmas
 pub mod ParityLemmas
 pub mod PlaceLemmas
 pub mod SectorLemmas
+pub mod SumLemmas

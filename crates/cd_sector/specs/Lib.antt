@@ -1,4 +1,5 @@
 pub mod Address
+pub mod Carried
 pub mod CodeWords
 pub mod Consistent
 pub mod Defect

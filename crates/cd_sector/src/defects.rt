@@ -1,6 +1,6 @@
 //! What is wrong with a sector, and whether it is consistent.
 
-ghost use Rattle.std.specs.Prelude.{◌≡◌, ℕ, ◌==◌, ◌<◌, ◌≤◌, ◌&&◌, cond, count_by, List, slice_index, slice_range, take};
+ghost use Rattle.std.specs.Prelude.{◌≡◌, ℕ, ◌==◌, ◌<◌, ◌≤◌, ◌&&◌, Decides, cond, count_by, List, slice_index, slice_range, take, true};
 ghost use Rattle.std.specs.List.{list_all, list_any};
 ghost use Rattle.cd_code.specs.Edc.{bits, remainder};
 ghost use Rattle.cd_sector.specs.CodeWords.{SumsOf, column_of, diagonal_of};
@@ -12,6 +12,7 @@ use crate::diagonals::diagonal_sums;
 use crate::kinds::{SectorKind, kind};
 use crate::parity::{COLUMNS, DIAGONALS};
 use crate::sector::{EDC, HEADER, INTERMEDIATE, P_PARITY, Q_PARITY, SECTOR_SIZE, Sector};
+use crate::sums::sum_of_bytes;
 use cd_code::{ColumnSums, column_sums, edc_of};
 
 /// Which parts of a sector are wrong (ECMA-130, Annex A and the clause on the digital data structure of sectors).
@@ -50,6 +51,16 @@ pub fn is_consistent(s: &Sector) -> bool
     ensures { result ≡ consistent s.now }
 {
     has_mode1(s) && is_whole(s.bytes())
+}
+
+/// Whether two sectors of any kind, taken as ones of Mode 1, have the same defect: equal bytes in the Intermediate field,
+/// equal remainders of the EDC's division and equal syndromes (ECMA-130, Annex A and the clause on the digital data
+/// structure of sectors).
+pub fn same_defect(a: &Sector, b: &Sector) -> bool
+    ensures same { Decides result (defect_of a.now ≡ defect_of b.now) }
+    ensures alone { result ≡ true → take 2064 a.now ≡ take 2064 b.now → a.now ≡ b.now }
+{
+    is_whole(&sum_of_bytes(a.bytes(), b.bytes()))
 }
 
 /// Whether a sector has the sync field, and mode byte 01.

@@ -11,16 +11,21 @@ mod kinds;
 mod laws;
 mod parity;
 mod sector;
+mod sums;
 
 pub use addresses::address_of;
-pub use defects::{DefectReport, defect, is_consistent};
+pub use defects::{DefectReport, defect, is_consistent, same_defect};
 pub use encoding::encode;
 pub use kinds::{SectorKind, kind};
-pub use laws::{consistent_by_parts, sector_exists, sector_is_unique};
+pub use laws::{
+    carried_exists, carried_is_unique, carried_of_consistent, consistent_by_parts,
+    consistent_is_carried, sector_by_defect, sector_exists, sector_is_unique,
+};
 pub use parity::fill_parity;
 pub use sector::{
     EDC, HEADER, INTERMEDIATE, MODE, P_PARITY, Q_PARITY, SECTOR_SIZE, Sector, USER_DATA, USER_SIZE,
 };
+pub use sums::sum_of;
 
 #[cfg(test)]
 mod tests;

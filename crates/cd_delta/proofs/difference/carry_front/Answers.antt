@@ -1,4 +1,5 @@
-use Rattle.cd_delta.proofs.WritingLemmas.{SameSyndromes-sum, front-sum}
+use Rattle.cd_delta.proofs.WritingLemmas.{front-sum}
+use Rattle.cd_sector.proofs.SumLemmas.{SameSyndromes-sum}
 use Rattle.cd_delta.proofs.difference.carry_front.Goals as goal
 
 pub returns : goal.returns

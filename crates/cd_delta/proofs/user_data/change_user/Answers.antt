@@ -5,7 +5,7 @@ use Rattle.cd_delta.proofs.user_data.change_user.Goals as goal
 
 pub returns : goal.returns
 returns c =
-    let changed : IsChanged c.args.s.now c.change.new.s (16 + c.args.offset) c.args.bytes.now = c.change.ensures in
+    let changed : IsChanged c.args.s.now c.change.new.s (16 + c.args.offset) c.args.bytes.now 0 = c.change.ensures in
     record {
       user = user-of c.args.offset changed;
       edc = edc-of changed;
@@ -14,5 +14,5 @@ returns c =
       header = user-header c.args.offset changed;
       stays = user-stays c.args.offset changed;
       syndromes = changed.syndromes;
-      consistent = IsConsistent-of changed (user-kind c.args.offset changed);
+      consistent = IsConsistent-of changed (divides-of changed) (user-kind c.args.offset changed);
     }

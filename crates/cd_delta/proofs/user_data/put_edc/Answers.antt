@@ -1,11 +1,11 @@
 use Rattle.std.proofs.Common.{◌≡◌, length, inl, inr, ap, arith}
-use Rattle.cd_delta.proofs.UserLemmas.{HasEdc-put}
+use Rattle.cd_delta.proofs.UserLemmas.{StoresEdc-put}
 use Rattle.cd_delta.proofs.user_data.put_edc.Goals as goal
 
 pub returns-clause-edc : goal.returns-clause-edc
 returns-clause-edc c =
-    HasEdc-put c.args.bytes.now c.put_part.new.bytes c.to_le_bytes.result c.edc_of-word.result c.told-bytes c.put_part.array_long
-    c.edc_of-word.ensures.word c.to_le_bytes.ensures c.put_part.ensures.inside c.put_part.ensures.outside
+    StoresEdc-put c.args.bytes.now c.put_part.new.bytes c.to_le_bytes.result c.edc_of-word.result c.args.error c.told-bytes c.put_part.array_long
+    (omega arith) c.edc_of-word.ensures.word c.to_le_bytes.ensures c.put_part.ensures.inside c.put_part.ensures.outside
 
 pub returns-clause-stays : goal.returns-clause-stays
 returns-clause-stays c = λ k out.

@@ -1,0 +1,59 @@
+//! Writing into a Mode 1 sector that may be damaged, so that what was wrong in it stays wrong and nothing else becomes
+//! so (ECMA-130, the clause on the digital data structure of sectors and Annex A).
+
+ghost use Rattle.std.specs.Prelude.{◌≡◌, ℕ, ◌+◌, ◌++◌, ◌≤◌, List, bit_xor, drop, length, slice_range, take};
+ghost use Rattle.std.specs.Int.{from_le_bytes, w32};
+ghost use Rattle.cd_code.specs.Edc.{IsEdc};
+ghost use Rattle.cd_sector.specs.Carried.{IsCarried};
+ghost use Rattle.cd_sector.specs.Consistent.{IsConsistent, header_of, user_of};
+ghost use Rattle.cd_sector.specs.Kind.{kind_of};
+ghost use Rattle.cd_sector.specs.declared.kinds.SectorKind.TheVariants.{Mode1};
+ghost use Rattle.cd_delta.specs.Writing.{StoresEdc, written};
+
+use crate::user_data::change;
+use cd_code::edc_of;
+use cd_sector::{EDC, HEADER, INTERMEDIATE, Sector, USER_DATA};
+
+/// Writes `bytes` into the 2048 bytes of user data of a Mode 1 sector, from `offset` on, and carries the sector's
+/// damage over: the EDC changes by the sum of the EDC words of bytes 0 to 2063 before and after, and all 276 syndromes
+/// stay (ECMA-130, the clause on the digital data structure of sectors and Annex A).
+pub fn carry_user(s: &mut Sector, offset: u16, bytes: &[u8])
+    requires mode { kind_of s.old ≡ Mode1 }
+    requires range { offset + length bytes.now ≤ 2048 }
+    ensures carried { IsCarried s.old (header_of s.old) (written (user_of s.old) offset bytes.now) s.new }
+    ensures alone { (t : List ℕ) → IsCarried s.old (header_of s.old) (written (user_of s.old) offset bytes.now) t → t ≡ s.new }
+    ensures kind { kind_of s.new ≡ kind_of s.old }
+    ensures edc { (before after : ℕ) → IsEdc (take 2064 s.old) before → IsEdc (take 2064 s.new) after
+        → from_le_bytes w32 (slice_range s.new 2064 2068)
+        ≡ bit_xor (from_le_bytes w32 (slice_range s.old 2064 2068)) (bit_xor before after) }
+    ensures consistent { IsConsistent s.old → IsConsistent s.new }
+{
+    let error = edc_error(s);
+    change(s, USER_DATA + offset as usize, bytes, error);
+}
+
+/// Makes `bcd` bytes 12 to 14 of a Mode 1 sector, which are its address (three bytes, BCD or not), and carries the
+/// sector's damage over: the EDC changes by the sum of the EDC words of bytes 0 to 2063 before and after, and all 276
+/// syndromes stay (ECMA-130, the clause on the digital data structure of sectors and Annex A).
+pub fn carry_header(s: &mut Sector, bcd: [u8; 3])
+    requires mode { kind_of s.old ≡ Mode1 }
+    ensures carried { IsCarried s.old (bcd ++ drop 3 (header_of s.old)) (user_of s.old) s.new }
+    ensures alone { (t : List ℕ) → IsCarried s.old (bcd ++ drop 3 (header_of s.old)) (user_of s.old) t → t ≡ s.new }
+    ensures kind { kind_of s.new ≡ kind_of s.old }
+    ensures edc { (before after : ℕ) → IsEdc (take 2064 s.old) before → IsEdc (take 2064 s.new) after
+        → from_le_bytes w32 (slice_range s.new 2064 2068)
+        ≡ bit_xor (from_le_bytes w32 (slice_range s.old 2064 2068)) (bit_xor before after) }
+    ensures consistent { IsConsistent s.old → IsConsistent s.new }
+{
+    let error = edc_error(s);
+    change(s, HEADER, &bcd, error);
+}
+
+/// What is added to the EDC of a sector's bytes 0 to 2063 in the four bytes behind them; 0 where these are right.
+fn edc_error(s: &Sector) -> u32
+    ensures { StoresEdc s.now result }
+{
+    let bytes = s.bytes();
+    let stored = u32::from_le_bytes(*bytes[EDC..INTERMEDIATE].first_chunk().unwrap());
+    edc_of(&bytes[..EDC]) ^ stored
+}

@@ -1,0 +1,26 @@
+//! The sum of two sectors, byte by byte, of which the syndromes and the EDC's remainder are the sums of theirs.
+
+ghost use Rattle.std.specs.Prelude.{◌≡◌, ℕ, bit_xor, length, slice_index};
+ghost use Rattle.cd_code.specs.Field.{AreBytes, IsSum};
+
+use crate::sector::{SECTOR_SIZE, Sector};
+
+/// The sum of two sectors, byte by byte, in the field of the parity (ECMA-130, Annex A).
+pub fn sum_of(s: &Sector, t: &Sector) -> Sector
+    ensures sum { (i : ℕ) → slice_index result i ≡ bit_xor (slice_index s.now i) (slice_index t.now i) }
+    ensures size { length result ≡ length s.now }
+    ensures each { AreBytes result }
+{
+    Sector::from_bytes(sum_of_bytes(s.bytes(), t.bytes()))
+}
+
+/// The sums of the bytes of two sectors.
+pub(crate) fn sum_of_bytes(s: &[u8; SECTOR_SIZE], t: &[u8; SECTOR_SIZE]) -> [u8; SECTOR_SIZE]
+    ensures { IsSum result s.now t.now }
+{
+    let mut sum = *s;
+    for i in 0..SECTOR_SIZE {
+        sum[i] ^= t[i];
+    }
+    sum
+}
