@@ -4,5 +4,6 @@ mod addresses;
 mod changes;
 mod counts;
 mod reports;
+mod same_defects;
 mod sectors;
 mod single_bytes;

@@ -2,8 +2,9 @@ ghost use Rattle.std.specs.Prelude.{◌<◌};
 
 use crate::tests::sectors::zeros_at;
 use crate::{
-    DefectReport, Sector, consistent_by_parts, defect, encode, is_consistent, sector_exists,
-    sector_is_unique,
+    DefectReport, Sector, carried_exists, carried_is_unique, carried_of_consistent,
+    consistent_by_parts, consistent_is_carried, defect, encode, is_consistent, sector_by_defect,
+    sector_exists, sector_is_unique,
 };
 
 /// A consistent sector of zeros with a byte changed.
@@ -51,4 +52,9 @@ fn laws() {
     consistent_by_parts();
     sector_is_unique();
     sector_exists();
+    sector_by_defect();
+    carried_is_unique();
+    carried_exists();
+    carried_of_consistent();
+    consistent_is_carried();
 }
