@@ -1,5 +1,5 @@
 -- A sector whose bytes were changed with the error that its EDC had: its damage is carried.
-use Rattle.std.proofs.Common.{◌≡◌, ℕ, ◌+◌, ◌^◌, ◌<◌, ◌≤◌, inl, inr, List, length, get_or, take, bit_xor, sym, ap, ◌∙◌, arith, lit<}
+use Rattle.std.proofs.Common.{◌≡◌, ℕ, ◌^◌, ◌<◌, ◌≤◌, inl, List, length, take, bit_xor, sym, ap, ◌∙◌, arith}
 use Rattle.std.specs.Prelude.{slice_range}
 use Rattle.std.specs.Int.{from_le_bytes, to_le_bytes, w32}
 use Rattle.std.specs.Int.Bits.{xor_self, xor_zero_l}
@@ -11,7 +11,6 @@ use Rattle.cd_code.proofs.EdcLemmas.{IsEdc-unique}
 use Rattle.cd_code.proofs.XorLemmas.{xor_swap, xor_twice_left}
 use Rattle.cd_sector.specs.Carried.{IsCarried, sync_of}
 use Rattle.cd_sector.specs.Consistent.{IsConsistent, header_of, user_of}
-use Rattle.cd_sector.specs.Defect.{defect_of}
 use Rattle.cd_sector.specs.Kind.{kind_of}
 use Rattle.cd_sector.proofs.CarriedLemmas.{carried_unique, defect-same}
 use Rattle.cd_delta.specs.Writing.{IsChanged, StoresEdc}

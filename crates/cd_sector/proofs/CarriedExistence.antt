@@ -1,6 +1,6 @@
 -- For any header and user data there is a sector to which a sector's damage is carried: the old one, to which is added
 -- the difference of the contents, with its EDC and its parity.
-use Rattle.std.proofs.Common.{◌≡◌, ℕ, ◌+◌, ◌-◌, ◌<◌, ◌≤◌, inl, inr, List, ◌++◌, length, map, get_or, take, drop, bit_xor, refl, sym, ap, ◌∙◌, arith, lit<, lit≤}
+use Rattle.std.proofs.Common.{◌≡◌, ℕ, ◌+◌, ◌-◌, ◌<◌, ◌≤◌, inl, inr, List, ◌++◌, length, map, get_or, take, drop, bit_xor, sym, ap, ◌∙◌, arith, lit<, lit≤}
 use Rattle.std.specs.List.{range_with_len, slice_range}
 use Rattle.std.specs.Int.Bits.{xor_zero_r}
 use Rattle.std.proofs.lemmas.Bool.{cases_lt}
@@ -13,7 +13,6 @@ use Rattle.cd_code.proofs.ByteLemmas.{AreBytes-append, AreBytes-drop, AreBytes-t
 use Rattle.cd_code.proofs.XorLemmas.{xor_twice_left}
 use Rattle.cd_sector.specs.Carried.{IsCarried, sync_of}
 use Rattle.cd_sector.specs.Consistent.{header_of, user_of}
-use Rattle.cd_sector.specs.Defect.{defect_of}
 use Rattle.cd_sector.proofs.CarriedLemmas.{defect-same}
 use Rattle.cd_sector.proofs.DefectLemmas.{length-range, range-byte}
 use Rattle.cd_sector.proofs.ExistenceLemmas.{Checked, WithWords, checked, with_columns, with_diagonals}
