@@ -1,23 +1,20 @@
 -- A sector by its content and its defect: why there is one carried sector and no other.
-use Rattle.std.proofs.Common.{◌≡◌, ℕ, ◌+◌, ◌-◌, ◌*◌, ◌/◌, ◌%◌, ◌<◌, ◌≤◌, ◌⊎◌, inl, inr, Bool, true, ◌&&◌, Decides, List, ◌++◌, length, map, get_or, take, drop, bit_xor, refl, sym, ap, ◌∙◌, arith, lit<, lit≤}
-use Rattle.std.specs.Bool.{◌==◌}
-use Rattle.std.specs.List.{count_by, list_all, range_with_len, slice_range}
-use Rattle.std.specs.Int.Bits.{xor_self, xor_zero_r}
+use Rattle.std.proofs.Common.{◌≡◌, ℕ, ◌+◌, ◌*◌, ◌/◌, ◌%◌, ◌<◌, ◌≤◌, inl, inr, Bool, Decides, List, ◌++◌, length, map, get_or, take, drop, bit_xor, refl, sym, ap, ◌∙◌, arith, lit<, lit≤}
+use Rattle.std.specs.List.{range_with_len, slice_range}
+use Rattle.std.specs.Int.Bits.{xor_self}
 use Rattle.std.proofs.lemmas.Bool.{cases_lt}
 use Rattle.std.proofs.lemmas.Bool.Decides.{Decides-at, Decides-like}
-use Rattle.std.proofs.lemmas.List.{ext_get_or, get_or-take, get_or_append_left, take-append-drop}
+use Rattle.std.proofs.lemmas.List.{ext_get_or, get_or-take, take-append-drop}
 use Rattle.std.proofs.lemmas.List.FromFn.{get_or-map-range_with_len, length-map-range_with_len}
 use Rattle.cd_code.specs.Edc.{bits, remainder}
 use Rattle.cd_code.specs.Field.{AreBytes, IsSum}
 use Rattle.cd_code.specs.Syndrome.{SameSums, first_syndrome, second_syndrome}
-use Rattle.cd_code.proofs.ByteLemmas.{front-same}
 use Rattle.cd_code.proofs.XorLemmas.{same_from_xor}
 use Rattle.cd_sector.specs.Carried.{IsCarried, sync_of}
-use Rattle.cd_sector.specs.CodeWords.{AllCodeWords, SameSyndromes, column_of, diagonal_of}
+use Rattle.cd_sector.specs.CodeWords.{SameSyndromes, column_of, diagonal_of}
 use Rattle.cd_sector.specs.Consistent.{IsConsistent, header_of, user_of}
 use Rattle.cd_sector.specs.Defect.{Defect, all_syndromes, defect_of, is_sound}
-use Rattle.cd_sector.specs.Kind.{kind_of, sync_field}
-use Rattle.cd_sector.specs.declared.kinds.SectorKind.TheVariants.{Mode1}
+use Rattle.cd_sector.specs.Kind.{sync_field}
 use Rattle.cd_sector.proofs.DefectLemmas.{IsWhole, sound_told, defect-columns, defect-diagonals, defect-rest, defect-zeros, length-range, range-byte}
 use Rattle.cd_sector.proofs.ParityLemmas.{AllCodeWords-by_number}
 use Rattle.cd_sector.proofs.SectorLemmas.{Agree, SameSyndromes-code_words, mode1-from, mode1-parts, range-agree, sector_same}
