@@ -7,7 +7,7 @@ _cdpatch_files() {
 }
 
 _cdpatch() {
-    local word=${COMP_WORDS[COMP_CWORD]} before command='' texts=0 options='--base --help'
+    local word=${COMP_WORDS[COMP_CWORD]} before command='' texts=0 options='--base --carry --help'
     local in_base='' is_closed='' place
     COMPREPLY=()
     for ((place = 1; place < COMP_CWORD; place++)); do
@@ -25,6 +25,7 @@ _cdpatch() {
                 --) is_closed=1 ;;
                 --base) in_base=1 options=${options/--base/} ;;
                 --base=*) options=${options/--base/} ;;
+                --carry) options=${options/--carry/} ;;
                 *) return ;;
             esac
         fi
@@ -32,6 +33,7 @@ _cdpatch() {
     [[ $in_base ]] && return
     if [[ ! $is_closed && $word = -?* ]]; then
         [[ $command ]] || options='--help'
+        [[ $command = check || $command = apply ]] || options=${options/--carry/}
         mapfile -t COMPREPLY < <(compgen -W "$options" -- "$word")
         return
     fi

@@ -37,6 +37,7 @@ complete -c cdpatch -n __cdpatch_begins -a check -d 'Report what a script\'s pat
 complete -c cdpatch -n __cdpatch_begins -a apply -d 'Patch an image by a script, into a new file'
 complete -c cdpatch -s h -l help -d 'Print help'
 complete -c cdpatch -n 'not __cdpatch_begins; and not __fish_contains_opt base' -l base -x -d 'The number of the first block'
+complete -c cdpatch -n '__fish_seen_subcommand_from check apply; and not __fish_contains_opt carry' -l carry -d 'Patch damaged sectors too, and keep their damage'
 complete -c cdpatch -n '__cdpatch_at 0 list audit check apply' -F
 complete -c cdpatch -n '__cdpatch_at 1 check apply' -F
 complete -c cdpatch -n '__cdpatch_at 2 apply' -a '(__fish_complete_directories)'

@@ -89,6 +89,16 @@ rm out
 run check image script --base 2
 judge 'the base of a check counts' ended_without_output 1 'line 2: refused: no block 1\napplied 0 refused 1\n'
 
+{ head -c 2351 image; printf '\377'; tail -c 4704 image; } > damaged
+printf 'cdpatch 1\nset 0 0 41\n' > first
+run check damaged first
+judge 'a damaged sector is refused' ended_without_output 1 'line 2: refused: block 0 is damaged\napplied 0 refused 1\n'
+run apply damaged first out --carry
+judge 'and is patched where damage is carried' ended 0 "$applied"
+run audit out
+judge 'its damage stays' ended 1 '0 q=1\nsectors 3 mode1 3 damaged 1 tail 0\n'
+rm out
+
 run apply blank script out
 judge 'a refused patch has status 1' ended 1 'line 2: refused: block 1 is not mode 1\napplied 0 refused 1\n'
 rm out

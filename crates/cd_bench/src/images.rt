@@ -122,7 +122,7 @@ fn apply_text(alloc: Global, text: &[u8], count: u32) -> Result<u32, AllocError>
     let mut out = nowhere();
     let mut log = nowhere();
     match parse(alloc, text) {
-        Ok(script) => match apply(&mut image_of(count), &script, 0, &mut out, &mut log) {
+        Ok(script) => match apply(&mut image_of(count), &script, 0, false, &mut out, &mut log) {
             Ok(tally) => Ok(tally.applied.wrapping_add(tally.sectors)),
             Err(_) => Ok(0),
         },

@@ -22,7 +22,7 @@ use Rattle.clap.specs.declared.error.kind.ErrorKind.TheVariants.{DisplayHelp, Va
 use Rattle.clap.specs.declared.parser.matches.ValueSource.{ValueSource}
 use Rattle.clap.specs.declared.parser.matches.ValueSource.TheVariants.{DefaultValue}
 use Rattle.clap.proofs.ValueTestLemmas.{accepts-Accepts}
-use Rattle.cd_command.specs.CommandLine.{HasBase, IsComplete, apply_shape, base_rule, check_shape, command_line, image_shape, max_base, program_shape, text_rule}
+use Rattle.cd_command.specs.CommandLine.{HasBase, IsComplete, apply_shape, base_rule, carry_rule, check_shape, command_line, image_shape, max_base, program_shape, text_rule}
 use Rattle.cd_command.proofs.WalkLemmas.{AllStart, Each, Each-find, IsUsedBy, Starts, Uses, level_parts, level_starts, neither}
 
 -- ---- the row of an argument with a default
@@ -121,6 +121,9 @@ text_built index id = with_index index (filled (text_rule id))
 abbrev base_built : Rule
 base_built = filled base_rule
 
+abbrev carry_built : Rule
+carry_built = filled carry_rule
+
 abbrev help_built : Rule
 help_built = filled help_rule
 
@@ -128,6 +131,18 @@ text_use : (index : ℕ) (id : Text) → (id ≡ codes "base" → ⊥) → (agai
     → use_fault again (text_built index id) values rows ≡ [] → Uses IsBaseText (text_built index id) values
 text_use index id other again [] rows e = cc
 text_use index id other again (v ∷ vs) rows e = record { replacing = refl; first = v; is_first = refl; holds = λ is. absurd (other is) }
+
+-- texts that begin with other bytes
+differ : (a b : ℕ) (s t : Text) → (a ≡ b → ⊥) → a ∷ s ≡ b ∷ t → ⊥
+differ a b s t other e = other (ap (λ (l : List ℕ). slice_index l 0) e)
+
+-- a flag's text is none of `--base`
+not_base : codes "carry" ≡ codes "base" → ⊥
+not_base is = differ 99 98 _ _ (λ e. omega arith) is
+
+carry_use : (again : Bool) (values : List Text) (rows : List Row) → use_fault again carry_built values rows ≡ [] → Uses IsBaseText carry_built values
+carry_use again [] rows e = record { replacing = refl; first = codes "true"; is_first = refl; holds = λ is. absurd (not_base is) }
+carry_use again (v ∷ vs) rows e = record { replacing = refl; first = v; is_first = refl; holds = λ is. absurd (not_base is) }
 
 base_use : (again : Bool) (values : List Text) (rows : List Row) → use_fault again base_built values rows ≡ [] → Uses IsBaseText base_built values
 base_use again [] rows e = cc
@@ -149,10 +164,6 @@ base_default v vs e is =
 text_used : (index : ℕ) (id : Text) → (id ≡ codes "base" → ⊥) → IsUsedBy IsBaseText (text_built index id)
 text_used index id other = record { use_of = text_use index id other; default_of = λ v vs e. cc }
 
--- texts that begin with other bytes
-differ : (a b : ℕ) (s t : Text) → (a ≡ b → ⊥) → a ∷ s ≡ b ∷ t → ⊥
-differ a b s t other e = other (ap (λ (l : List ℕ). slice_index l 0) e)
-
 image_used : IsUsedBy IsBaseText (text_built 1 (codes "image"))
 image_used = text_used 1 (codes "image") (differ _ _ _ _ (λ e. omega arith))
 
@@ -165,6 +176,9 @@ out_used = text_used 3 (codes "out") (differ _ _ _ _ (λ e. omega arith))
 base_used : IsUsedBy IsBaseText base_built
 base_used = record { use_of = base_use; default_of = base_default }
 
+carry_used : IsUsedBy IsBaseText carry_built
+carry_used = record { use_of = carry_use; default_of = λ v vs e is. absurd (not_base is) }
+
 help_used : IsUsedBy IsBaseText help_built
 help_used = record { use_of = help_use; default_of = λ v vs e. cc }
 
@@ -172,10 +186,10 @@ image_rules : (name : Text) → Each (IsUsedBy IsBaseText) (leaf (image_shape na
 image_rules name = (image_used, (base_used, (help_used, tt)))
 
 check_rules : Each (IsUsedBy IsBaseText) (leaf check_shape).rules
-check_rules = (image_used, (script_used, (base_used, (help_used, tt))))
+check_rules = (image_used, (script_used, (carry_used, (base_used, (help_used, tt)))))
 
 apply_rules : Each (IsUsedBy IsBaseText) (leaf apply_shape).rules
-apply_rules = (image_used, (script_used, (out_used, (base_used, (help_used, tt)))))
+apply_rules = (image_used, (script_used, (out_used, (carry_used, (base_used, (help_used, tt))))))
 
 -- one that is required, and the others
 required_given : (b rest : Bool) → (not b || rest) ≡ false → (b ≡ true) × (rest ≡ false)
@@ -285,7 +299,7 @@ check_sound words e =
       image = first_given (codes "image") rows starts image.0;
       script = λ is. first_given (codes "script") rows starts script.0;
       out = λ e. absurd (differ 99 97 _ _ (λ e. omega arith) e);
-      base = base_read rows starts (based (with_default text (text_built 2 (codes "script"))));
+      base = base_read rows starts (based (with_default (with_default text (text_built 2 (codes "script"))) carry_built));
     }
 
 apply_sound : IsSound (leaf apply_shape)
@@ -302,7 +316,7 @@ apply_sound words e =
       image = first_given (codes "image") rows starts image.0;
       script = λ is. first_given (codes "script") rows starts script.0;
       out = λ is. first_given (codes "out") rows starts out.0;
-      base = base_read rows starts (based (with_default text (text_built 3 (codes "out"))));
+      base = base_read rows starts (based (with_default (with_default text (text_built 3 (codes "out"))) carry_built));
     }
 
 -- the command that the words name, with what its matches have

@@ -1,10 +1,12 @@
 -- The command line as `clap` defines it, and the job that it asks for.
-use Rattle.std.specs.Prelude.{◌≡◌, ◌⊎◌, ⊤, ℕ, true, false, List, [], ◌∷◌, Option, Some, codes, pos}
+use Rattle.std.specs.Prelude.{◌≡◌, ◌⊎◌, ⊤, ℕ, Bool, true, false, List, [], ◌∷◌, Option, Some, None, codes, pos}
 use Rattle.std.specs.Prelude.{IsSome, IsSomeAnd, option_map, string_bytes}
+use Rattle.std.specs.Str.{bytes_eq}
 use Rattle.std.specs.Str.Parse.{digits_value, without_leading_plus}
 use Rattle.clap.specs.Words.{App, IsSignedIn, Row, Rule, Shape, Text, first_of, new_rule, one_of}
 use Rattle.clap.specs.Words.{subcommand_of, takes, without_minus}
 use Rattle.clap.specs.Simple.{new_shape}
+use Rattle.clap.specs.declared.builder.action.ArgAction.TheVariants.{SetTrue}
 use Rattle.clap.specs.declared.builder.value_parser.ValueParser.TheVariants as vp
 use Rattle.cd_command.specs.declared.job.Job.{Job}
 use Rattle.cd_command.specs.declared.job.Job.TheVariants as job
@@ -26,20 +28,30 @@ base_rule = record (new_rule (codes "base")) {
   parser = Some (vp.Signed (pos 0) (pos max_base));
 }
 
+-- the flag `--carry`, which is not used where it is not there
+abbrev pub carry_rule : Rule
+carry_rule = record (new_rule (codes "carry")) { long = Some (codes "carry"); action = Some SetTrue }
+
 -- a command with the text IMAGE and the option `--base N`
 abbrev pub image_shape : Text → Shape
 image_shape name = record (new_shape name) { rules = text_rule (codes "image") ∷ base_rule ∷ [] }
 
--- `check`, with the texts IMAGE and SCRIPT
+-- `check`, with the texts IMAGE and SCRIPT, the flag and the option
 abbrev pub check_shape : Shape
 check_shape = record (new_shape (codes "check")) {
-  rules = text_rule (codes "image") ∷ text_rule (codes "script") ∷ base_rule ∷ [];
+  rules = text_rule (codes "image") ∷ text_rule (codes "script") ∷ carry_rule ∷ base_rule ∷ [];
 }
 
--- `apply`, with the texts IMAGE, SCRIPT and OUT
+-- `apply` with its texts alone
+abbrev pub apply_texts : Shape
+apply_texts = record (new_shape (codes "apply")) {
+  rules = text_rule (codes "image") ∷ text_rule (codes "script") ∷ text_rule (codes "out") ∷ [];
+}
+
+-- `apply`, with the texts IMAGE, SCRIPT and OUT, the flag and the option
 abbrev pub apply_shape : Shape
 apply_shape = record (new_shape (codes "apply")) {
-  rules = text_rule (codes "image") ∷ text_rule (codes "script") ∷ text_rule (codes "out") ∷ base_rule ∷ [];
+  rules = text_rule (codes "image") ∷ text_rule (codes "script") ∷ text_rule (codes "out") ∷ carry_rule ∷ base_rule ∷ [];
 }
 
 -- the program, of which a command is required
@@ -64,23 +76,32 @@ command_line = record {
 abbrev pub base_of : List Row → Option ℕ
 base_of rows = option_map (λ t. digits_value 10 (without_leading_plus t)) (one_of (codes "base") rows)
 
+-- a flag that is used has the text "true"
+abbrev pub is_set : Option Text → Bool
+is_set None = false
+is_set (Some text) = bytes_eq text (codes "true")
+
+-- whether a command's rows have the flag `--carry`
+abbrev pub carry_of : List Row → Bool
+carry_of rows = is_set (first_of (codes "carry") rows)
+
 -- a command's rows have this text
 abbrev pub HasText : Text → List Row → Text → Type 0
 HasText id rows text = first_of id rows ≡ Some text
 
--- the job has the name, the texts and the base of a command's matches
+-- the job has the name, the texts, the base and the flag of a command's matches
 abbrev pub HasMatches : Text × List Row → Job → Type 0
 HasMatches p (job.List image base) =
     (p.0 ≡ codes "list") × HasText (codes "image") p.1 (string_bytes image) × (base_of p.1 ≡ Some base)
 HasMatches p (job.Audit image base) =
     (p.0 ≡ codes "audit") × HasText (codes "image") p.1 (string_bytes image) × (base_of p.1 ≡ Some base)
-HasMatches p (job.Check image script base) =
+HasMatches p (job.Check image script base carry) =
     (p.0 ≡ codes "check") × HasText (codes "image") p.1 (string_bytes image)
-    × HasText (codes "script") p.1 (string_bytes script) × (base_of p.1 ≡ Some base)
-HasMatches p (job.Apply image script out base) =
+    × HasText (codes "script") p.1 (string_bytes script) × (base_of p.1 ≡ Some base) × (carry ≡ carry_of p.1)
+HasMatches p (job.Apply image script out base carry) =
     (p.0 ≡ codes "apply") × HasText (codes "image") p.1 (string_bytes image)
     × HasText (codes "script") p.1 (string_bytes script) × HasText (codes "out") p.1 (string_bytes out)
-    × (base_of p.1 ≡ Some base)
+    × (base_of p.1 ≡ Some base) × (carry ≡ carry_of p.1)
 
 -- the job is the listing of this image
 abbrev pub Lists : Text → ℕ → Job → Type 0
@@ -101,8 +122,8 @@ IsTaken (w ∷ ws) = takes command_line (w ∷ ws) ≡ true
 abbrev pub base_in : Job → ℕ
 base_in (job.List image base) = base
 base_in (job.Audit image base) = base
-base_in (job.Check image script base) = base
-base_in (job.Apply image script out base) = base
+base_in (job.Check image script base carry) = base
+base_in (job.Apply image script out base carry) = base
 
 -- ---- what the matches of words that are taken have
 

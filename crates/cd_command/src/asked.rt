@@ -2,7 +2,7 @@
 ghost use Rattle.std.specs.Prelude.{◌≡◌, ◌≤◌, IfOk, IfErr, IsSome, Some, map, string_bytes, codes};
 ghost use Rattle.clap.specs.Words.{first_of, found_of, rows_of};
 ghost use Rattle.cd_command.specs.CommandLine.{HasBase, HasMatches, IsComplete, IsJobOf, IsTaken};
-ghost use Rattle.cd_command.specs.CommandLine.{Lists, base_in, base_of};
+ghost use Rattle.cd_command.specs.CommandLine.{Lists, base_in, base_of, carry_of};
 ghost use Rattle.cd_command.specs.Fault.{HasKindOf};
 ghost use Rattle.cd_command.specs.declared.fault.LineFault.TheVariants.{NoMemory};
 
@@ -28,6 +28,16 @@ fn base_of(matches: &ArgMatches<'_>) -> u32
     ensures most { result ≤ MAX_BASE }
 {
     matches.get_one::<u32>("base").unwrap()
+}
+
+// Whether a command's matches have the flag `--carry`.
+fn carry_of(matches: &ArgMatches<'_>) -> bool
+    ensures { result ≡ carry_of (rows_of (found_of matches.now)) }
+{
+    match matches.get_str("carry") {
+        Some(text) => text == "true",
+        None => false,
+    }
 }
 
 fn list_job(alloc: Global, matches: &ArgMatches<'_>) -> Result<Job, AllocError>
@@ -62,10 +72,12 @@ fn check_job(alloc: Global, matches: &ArgMatches<'_>) -> Result<Job, AllocError>
     let image = text_of(alloc, matches, "image")?;
     let script = text_of(alloc, matches, "script")?;
     let base = base_of(matches);
+    let carry = carry_of(matches);
     Ok(Job::Check {
         image,
         script,
         base,
+        carry,
     })
 }
 
@@ -81,11 +93,13 @@ fn apply_job(alloc: Global, matches: &ArgMatches<'_>) -> Result<Job, AllocError>
     let script = text_of(alloc, matches, "script")?;
     let out = text_of(alloc, matches, "out")?;
     let base = base_of(matches);
+    let carry = carry_of(matches);
     Ok(Job::Apply {
         image,
         script,
         out,
         base,
+        carry,
     })
 }
 

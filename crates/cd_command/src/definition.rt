@@ -3,13 +3,13 @@ ghost use Rattle.std.specs.Prelude.{◌≡◌, IfOk, codes, false};
 ghost use Rattle.clap.specs.Simple.{new_shape};
 ghost use Rattle.clap.specs.Words.{app_of, rule_of, shape_of};
 ghost use Rattle.clap.specs.declared.builder.command.Command.TheViews.{out-Command};
-ghost use Rattle.cd_command.specs.CommandLine.{apply_shape, base_rule, check_shape, command_line, image_shape, text_rule};
+ghost use Rattle.cd_command.specs.CommandLine.{apply_shape, apply_texts, base_rule, carry_rule, check_shape, command_line, image_shape, text_rule};
 
 use crate::help::{
     APPLY_ABOUT, APPLY_MORE, AUDIT_ABOUT, AUDIT_MORE, CHECK_ABOUT, CHECK_MORE, LIST_ABOUT,
     LIST_MORE, PROGRAM_ABOUT, PROGRAM_MORE,
 };
-use clap::{Arg, Command, value_parser};
+use clap::{Arg, ArgAction, Command, value_parser};
 use std::alloc::{AllocError, Global};
 
 /// The largest block number that has an address, 99:59:74.
@@ -73,6 +73,17 @@ fn base_argument<'a>(alloc: Global) -> Arg<'a>
         .help("The number of the first block, at most 449849")
 }
 
+// The flag by which damage is carried.
+fn carry_argument<'a>(alloc: Global) -> Arg<'a>
+    ensures rule { rule_of result ≡ carry_rule }
+    ensures local { result.global ≡ false }
+{
+    Arg::new(alloc, "carry")
+        .long("carry")
+        .action(ArgAction::SetTrue)
+        .help("Patch damaged sectors too, and keep their damage")
+}
+
 // A command before its arguments, with the texts above and below them in its help.
 fn described<'a>(alloc: Global, name: &'a str, about: &'a str, more: &'a str) -> Command<'a>
     ensures shape { shape_of result ≡ new_shape name.now }
@@ -106,17 +117,27 @@ fn check_command<'a>(alloc: Global) -> Result<Command<'a>, AllocError>
     described(alloc, "check", CHECK_ABOUT, CHECK_MORE)
         .arg(image_argument(alloc))?
         .arg(script_argument(alloc))?
+        .arg(carry_argument(alloc))?
         .arg(base_argument(alloc))
+}
+
+// `apply` before its options.
+fn apply_texts<'a>(alloc: Global) -> Result<Command<'a>, AllocError>
+    ensures shape { IfOk result (λ c. shape_of c ≡ apply_texts) }
+    ensures local { IfOk result (λ c. (out-Command c).has_globals ≡ false) }
+{
+    described(alloc, "apply", APPLY_ABOUT, APPLY_MORE)
+        .arg(image_argument(alloc))?
+        .arg(script_argument(alloc))?
+        .arg(out_argument(alloc))
 }
 
 fn apply_command<'a>(alloc: Global) -> Result<Command<'a>, AllocError>
     ensures shape { IfOk result (λ c. shape_of c ≡ apply_shape) }
     ensures local { IfOk result (λ c. (out-Command c).has_globals ≡ false) }
 {
-    described(alloc, "apply", APPLY_ABOUT, APPLY_MORE)
-        .arg(image_argument(alloc))?
-        .arg(script_argument(alloc))?
-        .arg(out_argument(alloc))?
+    apply_texts(alloc)?
+        .arg(carry_argument(alloc))?
         .arg(base_argument(alloc))
 }
 

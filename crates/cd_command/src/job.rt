@@ -14,17 +14,19 @@ pub enum Job {
         image: String,
         base: u32,
     },
-    /// Decides each patch of a script on an image, and writes no image.
+    /// Decides each patch of a script on an image, and writes no image; damage is carried or refused.
     Check {
         image: String,
         script: String,
         base: u32,
+        carry: bool,
     },
-    /// Patches an image by a script, into a new file.
+    /// Patches an image by a script, into a new file; damage is carried or refused.
     Apply {
         image: String,
         script: String,
         out: String,
         base: u32,
+        carry: bool,
     },
 }

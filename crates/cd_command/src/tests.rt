@@ -10,7 +10,12 @@ fn words_of(alloc: Global, words: &[&str]) -> Result<Vec<String>, AllocError> {
     Ok(all)
 }
 
-// The job as a line: the command, its texts, and the base.
+// How a line ends where damage is carried.
+fn carried(carry: bool) -> &'static str {
+    if carry { ", carried" } else { "" }
+}
+
+// The job as a line: the command, its texts, the base, and whether damage is carried.
 fn shown(alloc: Global, job: &Job) -> Result<String, Fail> {
     let text = match job {
         Job::List { image, base } => format!(in alloc; "list {image} from {base}")?,
@@ -19,13 +24,21 @@ fn shown(alloc: Global, job: &Job) -> Result<String, Fail> {
             image,
             script,
             base,
-        } => format!(in alloc; "check {image} by {script} from {base}")?,
+            carry,
+        } => {
+            let end = carried(*carry);
+            format!(in alloc; "check {image} by {script} from {base}{end}")?
+        }
         Job::Apply {
             image,
             script,
             out,
             base,
-        } => format!(in alloc; "apply {image} by {script} to {out} from {base}")?,
+            carry,
+        } => {
+            let end = carried(*carry);
+            format!(in alloc; "apply {image} by {script} to {out} from {base}{end}")?
+        }
     };
     Ok(text)
 }
@@ -64,7 +77,7 @@ fn gives_listings_and_audits(rt: HostRuntime) -> Result<(), Fail> {
 
 #[test]
 fn gives_patchings(rt: HostRuntime) -> Result<(), Fail> {
-    let cases: [(&[&str], &str); 7] = [
+    let cases: [(&[&str], &str); 12] = [
         (&["check", "a", "b"], "check a by b from 0"),
         (
             &["check", "a", "b", "--base", "449849"],
@@ -87,6 +100,26 @@ fn gives_patchings(rt: HostRuntime) -> Result<(), Fail> {
             &["apply", "a", "a", "a", "--base", "0"],
             "apply a by a to a from 0",
         ),
+        (
+            &["check", "--carry", "a", "b"],
+            "check a by b from 0, carried",
+        ),
+        (
+            &["check", "a", "b", "--base", "7", "--carry"],
+            "check a by b from 7, carried",
+        ),
+        (
+            &["apply", "a", "--carry", "b", "c"],
+            "apply a by b to c from 0, carried",
+        ),
+        (
+            &["apply", "--base=1", "--carry", "a", "b", "c"],
+            "apply a by b to c from 1, carried",
+        ),
+        (
+            &["apply", "a", "b", "--", "--carry"],
+            "apply a by b to --carry from 0",
+        ),
     ];
     for (words, want) in cases {
         assert_eq!(rt; answer(rt.alloc(), words)?.as_str(), want);
@@ -96,7 +129,7 @@ fn gives_patchings(rt: HostRuntime) -> Result<(), Fail> {
 
 #[test]
 fn refuses_words(rt: HostRuntime) -> Result<(), Fail> {
-    let cases: [&[&str]; 23] = [
+    let cases: [&[&str]; 27] = [
         &["list", "-", "--base", "450000"],
         &["list", "-", "--base", "449850"],
         &["list", "-", "--base", "-1"],
@@ -115,6 +148,10 @@ fn refuses_words(rt: HostRuntime) -> Result<(), Fail> {
         &["apply", "a", "b", "c", "--base", "449850"],
         &["apply", "a", "b", "c", "--base"],
         &["list", "-", "--carry"],
+        &["audit", "-", "--carry"],
+        &["--carry"],
+        &["check", "a", "b", "--carry=true"],
+        &["check", "a", "b", "--carry", "--carry"],
         &["Apply", "a", "b", "c"],
         &["help"],
         &["--version"],

@@ -1,6 +1,6 @@
 -- How a pass ends by a fault before the image has ended: whatever the image may still be, what went out and what was told
 -- begins what belongs there.
-use Rattle.std.proofs.Common.{◌≡◌, ℕ, ◌+◌, ◌*◌, ◌/◌, ◌<◌, ◌≤◌, ◌⊎◌, inl, inr, List, [], ◌∷◌, ◌++◌, length, take, drop, Option, None, Err, sym, ap, ◌∙◌, subst, arith, append_assoc, append-nil, length-append, take-append-drop, take_at}
+use Rattle.std.proofs.Common.{◌≡◌, ℕ, ◌+◌, ◌*◌, ◌/◌, ◌<◌, ◌≤◌, ◌⊎◌, inl, inr, Bool, List, [], ◌∷◌, ◌++◌, length, take, drop, Option, None, Err, sym, ap, ◌∙◌, subst, arith, append_assoc, append-nil, length-append, take-append-drop, take_at}
 use Rattle.std.specs.Prelude.{All, IsSome}
 use Rattle.std.specs.Io.KnownBytes.{Appends, Consumes}
 use Rattle.std.proofs.KnownBytes.{Appends-trans, Consumes-trans}
@@ -28,7 +28,7 @@ use Rattle.cd_image.proofs.PatchLogLemmas.{bytes_before-within, lines_below-cut,
 
 -- ---- the source fails, or gives too much
 
-module _ (taken left : List Patch) (base : ℕ) (start now : Streams) (window : List (List ℕ)) (block sectors_read applied : ℕ) (g : Going taken left base start now window block sectors_read applied None) (image : Incoming) (came : List ℕ) (consumed : Consumes now.image.rest image.rest came) where
+module _ (carry : Bool) (taken left : List Patch) (base : ℕ) (start now : Streams) (window : List (List ℕ)) (block sectors_read applied : ℕ) (g : Going carry taken left base start now window block sectors_read applied None) (image : Incoming) (came : List ℕ) (consumed : Consumes now.image.rest image.rest came) where
   length_read : length (joined g.seen ++ came) ≡ 2352 * sectors_read + length came
   length_read = length-append (joined g.seen) came ∙ ap (λ n. n + length came) (length-joined g.seen g.seen_sizes ∙ ap (λ n. 2352 * n) (sym g.count))
 
@@ -39,7 +39,7 @@ module _ (taken left : List Patch) (base : ℕ) (start now : Streams) (window : 
   in_hand room short = omega (arith, length_read, length-joined g.done g.done_sizes, g.held, g.count)
 
   pub Applies-read : length window < 3 → length came < SECTOR_SIZE → SECTOR_SIZE * sectors_read + length came ≤ image_limit → image.failures ≡ now.image.failures + 1
-      → Applies (taken ++ left) base start (record now { image = image }) (Err Read)
+      → Applies carry (taken ++ left) base start (record now { image = image }) (Err Read)
   Applies-read room short few failed = record {
     read = joined g.seen ++ came;
     sent = joined g.done;
@@ -53,13 +53,13 @@ module _ (taken left : List Patch) (base : ℕ) (start now : Streams) (window : 
       within = omega (arith, length_read);
       begins = λ whole fits.
           let begins = Fits-begins (joined g.seen ++ came) whole (omega (arith, length_read)) fits in
-          begins_now taken left base start now window block sectors_read applied None g whole
+          begins_now carry taken left base start now window block sectors_read applied None g whole
           (Extends-begun g.seen whole (came ++ begins.0) g.seen_sizes (begins.1 ∙ append_assoc (joined g.seen) came begins.0));
     };
   }
 
   pub Applies-beyond : length window < 3 → length came ≡ 1 → SECTOR_SIZE * sectors_read ≡ image_limit → image.failures ≡ now.image.failures
-      → Applies (taken ++ left) base start (record now { image = image }) (Err TooLong)
+      → Applies carry (taken ++ left) base start (record now { image = image }) (Err TooLong)
   Applies-beyond room one full kept = record {
     read = joined g.seen ++ came;
     sent = joined g.done;
@@ -74,13 +74,13 @@ module _ (taken left : List Patch) (base : ℕ) (start now : Streams) (window : 
       begins = λ whole fits.
           let size : length (joined g.seen) ≡ image_limit = length-joined g.seen g.seen_sizes ∙ ap (λ n. 2352 * n) (sym g.count) ∙ full in
           let limited : take image_limit (joined g.seen ++ came) ≡ joined g.seen = take_at (joined g.seen) came image_limit size in
-          begins_now taken left base start now window block sectors_read applied None g whole
+          begins_now carry taken left base start now window block sectors_read applied None g whole
           (Extends-begun g.seen whole fits.begins.0 g.seen_sizes (fits.begins.1 ∙ ap (λ l. l ++ fits.begins.0) limited));
     };
   }
 
 -- what was read, in any state of a pass
-module _ (taken left : List Patch) (base : ℕ) (start now : Streams) (window : List (List ℕ)) (block sectors_read applied : ℕ) (end : Option (List ℕ)) (g : Going taken left base start now window block sectors_read applied end) where
+module _ (carry : Bool) (taken left : List Patch) (base : ℕ) (start now : Streams) (window : List (List ℕ)) (block sectors_read applied : ℕ) (end : Option (List ℕ)) (g : Going carry taken left base start now window block sectors_read applied end) where
   pub size_read : length (joined g.seen ++ tail_bytes end) ≡ 2352 * sectors_read + length (tail_bytes end)
   size_read = length-append (joined g.seen) (tail_bytes end) ∙ ap (λ n. n + length (tail_bytes end)) (length-joined g.seen g.seen_sizes ∙ ap (λ n. 2352 * n) (sym g.count))
 
@@ -88,16 +88,16 @@ module _ (taken left : List Patch) (base : ℕ) (start now : Streams) (window : 
   size_sent = length-joined g.done g.done_sizes
 
   pub extends : (whole : List ℕ) → FitsLeft now.image.rest (joined g.seen ++ tail_bytes end) whole → Extends g.seen end whole
-  extends whole fits = extends_left taken left base start now window block sectors_read applied end g whole fits (omega (arith, size_read, g.within))
+  extends whole fits = extends_left carry taken left base start now window block sectors_read applied end g whole fits (omega (arith, size_read, g.within))
 
 -- ---- the output fails in the first sector of the window
 
-module _ (taken left : List Patch) (base : ℕ) (start now : Streams) (sector : List ℕ) (window : List (List ℕ)) (block sectors_read applied : ℕ) (end : Option (List ℕ)) (g : Going taken left base start now (sector ∷ window) block sectors_read applied end) where
+module _ (carry : Bool) (taken left : List Patch) (base : ℕ) (start now : Streams) (sector : List ℕ) (window : List (List ℕ)) (block sectors_read applied : ℕ) (end : Option (List ℕ)) (g : Going carry taken left base start now (sector ∷ window) block sectors_read applied end) where
   settled : List (List ℕ)
   settled = g.done ++ sector ∷ []
 
   pub Applies-write : (out : Outgoing) (n : ℕ) → n < length sector → Appends now.out.written out.written (take n sector) → out.failures ≡ now.out.failures + 1 → length sector ≡ SECTOR_SIZE
-      → All (λ p. block < p.block) left → Applies (taken ++ left) base start (record now { out = out }) (Err Write)
+      → All (λ p. block < p.block) left → Applies carry (taken ++ left) base start (record now { out = out }) (Err Write)
   unfolding settled
   Applies-write out n inside went failed size ahead = record {
     read = joined g.seen ++ tail_bytes end;
@@ -129,10 +129,10 @@ module _ (taken left : List Patch) (base : ℕ) (start now : Streams) (sector : 
       sent = joined g.done ++ take n sector
 
       lengths : length g.outcomes ≡ length taken
-      lengths = told_lengths taken left base start now (sector ∷ window) block sectors_read applied end g
+      lengths = told_lengths carry taken left base start now (sector ∷ window) block sectors_read applied end g
 
       length_read : length (joined g.seen ++ tail_bytes end) ≡ 2352 * sectors_read + length (tail_bytes end)
-      length_read = size_read taken left base start now (sector ∷ window) block sectors_read applied end g
+      length_read = size_read carry taken left base start now (sector ∷ window) block sectors_read applied end g
 
       length_sent : length (joined g.done ++ take n sector) ≡ 2352 * length g.done + n
       length_sent = length-append (joined g.done) (take n sector) ∙ ap (λ m. m + length (take n sector)) (length-joined g.done g.done_sizes) ∙ ap (λ m. 2352 * length g.done + m) (length-take-le n sector (omega arith))
@@ -140,37 +140,37 @@ module _ (taken left : List Patch) (base : ℕ) (start now : Streams) (sector : 
       regrouped : joined (g.done ++ sector ∷ []) ≡ (joined g.done ++ take n sector) ++ drop n sector
       regrouped = joined-more g.done sector ∙ ap (λ l. joined g.done ++ l) (sym (take-append-drop n sector)) ∙ sym (append_assoc (joined g.done) (take n sector) (drop n sector))
 
-      knows : (whole : List ℕ) → FitsLeft now.image.rest (joined g.seen ++ tail_bytes end) whole → (os : List Outcome) (last : List ℕ) → IsPatched (taken ++ left) os base whole last → Known (g.done ++ sector ∷ []) g.outcomes os last
+      knows : (whole : List ℕ) → FitsLeft now.image.rest (joined g.seen ++ tail_bytes end) whole → (os : List Outcome) (last : List ℕ) → IsPatched carry (taken ++ left) os base whole last → Known (g.done ++ sector ∷ []) g.outcomes os last
       knows whole fits os last patched =
-          known taken left base start now (sector ∷ window) block sectors_read applied end g whole (extends taken left base start now (sector ∷ window) block sectors_read applied end g whole fits)
+          known carry taken left base start now (sector ∷ window) block sectors_read applied end g whole (extends carry taken left base start now (sector ∷ window) block sectors_read applied end g whole fits)
           (g.done ++ sector ∷ []) (λ more. window ++ more) (λ more. sym (append_assoc g.done (sector ∷ []) (window ++ more)))
           (λ i d here. let h = ahead i d here in let all = length-append g.done (sector ∷ []) in omega (arith, h, g.front, all)) os last patched
 
 -- ---- the log fails in the line of a patch at the front
 
-module _ (taken : List Patch) (p : Patch) (left : List Patch) (base : ℕ) (start now : Streams) (window : List (List ℕ)) (block sectors_read applied : ℕ) (end : Option (List ℕ)) (g : Going taken (p ∷ left) base start now window block sectors_read applied end) (o : Outcome) (decided : o ≡ outcome window block p) (at : p.block ≡ block) (some : 0 < length window)
+module _ (carry : Bool) (taken : List Patch) (p : Patch) (left : List Patch) (base : ℕ) (start now : Streams) (window : List (List ℕ)) (block sectors_read applied : ℕ) (end : Option (List ℕ)) (g : Going carry taken (p ∷ left) base start now window block sectors_read applied end) (o : Outcome) (decided : o ≡ outcome carry window block p) (at : p.block ≡ block) (some : 0 < length window)
     (reach : (block + blocks_met p ≤ block + length window) ⊎ IsSome end) where
   -- a run takes this patch next
   record Next (os : List Outcome) : Type 0 where
     back : List Outcome
     all : os ≡ g.outcomes ++ o ∷ back
 
-  next_of : (middle last : List (List ℕ)) (back : List Outcome) → o ≡ outcome middle base p → PatchRun (p ∷ left) back base middle last → (others : List Outcome) × (back ≡ o ∷ others)
+  next_of : (middle last : List (List ℕ)) (back : List Outcome) → o ≡ outcome carry middle base p → PatchRun carry (p ∷ left) back base middle last → (others : List Outcome) × (back ≡ o ∷ others)
   next_of middle last [] is run = elim run [ ]
   next_of middle last (u ∷ others) is run = (others, ap (λ v. v ∷ others) (run.0 ∙ sym is))
 
-  next : (whole : List ℕ) → Extends g.seen end whole → (os : List Outcome) (last : List ℕ) → IsPatched (taken ++ p ∷ left) os base whole last → Next os
+  next : (whole : List ℕ) → Extends g.seen end whole → (os : List Outcome) (last : List ℕ) → IsPatched carry (taken ++ p ∷ left) os base whole last → Next os
   next whole extended os last patched =
-      let run = subst (λ old. PatchRun (taken ++ p ∷ left) os base old (sectors last)) extended.cut patched.run in
-      let split = PatchRun-split taken (p ∷ left) os base (g.seen ++ extended.more) (sectors last) run in
-      let same = PatchRun-determined taken split.0 g.outcomes base (g.seen ++ extended.more) split.2 (g.done ++ (window ++ extended.more)) split.4 (g.run extended.more extended.unended) in
+      let run = subst (λ old. PatchRun carry (taken ++ p ∷ left) os base old (sectors last)) extended.cut patched.run in
+      let split = PatchRun-split carry taken (p ∷ left) os base (g.seen ++ extended.more) (sectors last) run in
+      let same = PatchRun-determined carry taken split.0 g.outcomes base (g.seen ++ extended.more) split.2 (g.done ++ (window ++ extended.more)) split.4 (g.run extended.more extended.unended) in
       let reaches : (p.block + blocks_met p ≤ block + length window) ⊎ (extended.more ≡ []) = elim reach [ inl within ↦ inl (omega arith) | inr ended ↦ inr (extended.unended ended) ] in
-      let is = decided ∙ sym (outcome-frame g.done window extended.more base block p g.front (omega arith) reaches) in
-      let found = next_of (g.done ++ (window ++ extended.more)) (sectors last) split.1 is (subst (λ m. PatchRun (p ∷ left) split.1 base m (sectors last)) same.1 split.5) in
+      let is = decided ∙ sym (outcome-frame carry g.done window extended.more base block p g.front (omega arith) reaches) in
+      let found = next_of (g.done ++ (window ++ extended.more)) (sectors last) split.1 is (subst (λ m. PatchRun carry (p ∷ left) split.1 base m (sectors last)) same.1 split.5) in
       record { back = found.0; all = split.3 ∙ ap (λ f. f ++ split.1) same.0 ∙ ap (λ b. g.outcomes ++ b) found.1 }
 
   pub Applies-log : (log : Outgoing) (n : ℕ) → n < length (log_line p o) → Appends now.log.written log.written (take n (log_line p o)) → log.failures ≡ now.log.failures + 1
-      → Applies (taken ++ p ∷ left) base start (record now { log = log }) (Err Log)
+      → Applies carry (taken ++ p ∷ left) base start (record now { log = log }) (Err Log)
   Applies-log log n inside went failed = record {
     read = joined g.seen ++ tail_bytes end;
     sent = joined g.done;
@@ -178,18 +178,18 @@ module _ (taken : List Patch) (p : Patch) (left : List Patch) (base : ℕ) (star
     consumes = g.consumes;
     appends = g.appends;
     logs = Appends-trans start.log.written now.log.written log.written _ _ g.logs went;
-    in_hand = omega (arith, size_read taken (p ∷ left) base start now window block sectors_read applied end g, length_sent, g.in_hand, g.held, g.count);
+    in_hand = omega (arith, size_read carry taken (p ∷ left) base start now window block sectors_read applied end g, length_sent, g.in_hand, g.held, g.count);
     answers = record {
       failed = record { reads = g.unfailed.reads; writes = g.unfailed.writes; logs = omega (arith, failed, g.unfailed.logs) };
-      within = omega (arith, size_read taken (p ∷ left) base start now window block sectors_read applied end g, g.within);
+      within = omega (arith, size_read carry taken (p ∷ left) base start now window block sectors_read applied end g, g.within);
       begins = λ whole fits os last patched.
-          let extended = extends taken (p ∷ left) base start now window block sectors_read applied end g whole fits in
+          let extended = extends carry taken (p ∷ left) base start now window block sectors_read applied end g whole fits in
           let n = next whole extended os last patched in (
-            (begins_now taken (p ∷ left) base start now window block sectors_read applied end g whole extended os last patched).0,
+            (begins_now carry taken (p ∷ left) base start now window block sectors_read applied end g whole extended os last patched).0,
             subst (λ u. IsBeginning told (log_text (taken ++ p ∷ left) u)) (sym n.all) (told_begins n.back),
           );
       beside = λ whole fits os last patched.
-          let extended = extends taken (p ∷ left) base start now window block sectors_read applied end g whole fits in
+          let extended = extends carry taken (p ∷ left) base start now window block sectors_read applied end g whole fits in
           let n = next whole extended os last patched in
           let cut = ap length extended.cut ∙ length-append g.seen extended.more in
           length_sent ∙ sym (ap (λ u. sent_beside (taken ++ p ∷ left) u base whole (length told)) n.all ∙ ap (sent_beside (taken ++ p ∷ left) (g.outcomes ++ o ∷ n.back) base whole) length_told
@@ -201,7 +201,7 @@ module _ (taken : List Patch) (p : Patch) (left : List Patch) (base : ℕ) (star
       told = log_lines taken g.outcomes ++ take n (log_line p o)
 
       lengths : length g.outcomes ≡ length taken
-      lengths = told_lengths taken (p ∷ left) base start now window block sectors_read applied end g
+      lengths = told_lengths carry taken (p ∷ left) base start now window block sectors_read applied end g
 
       length_sent : length (joined g.done) ≡ 2352 * length g.done
       length_sent = length-joined g.done g.done_sizes

@@ -1,16 +1,18 @@
 -- What has been done by `apply`, in plain clauses.
-use Rattle.std.proofs.Common.{◌≡◌, ◌≢◌, ◌↔◌, ℕ, ◌+◌, List, ◌++◌, Option, Some, Result, Ok, Err, IfOk, OnOk, length, refl, sym, ap, ◌∙◌, subst, arith, length-append}
+use Rattle.std.proofs.Common.{◌≡◌, ◌≢◌, ◌↔◌, ℕ, ◌+◌, Bool, true, List, ◌++◌, Option, Some, Result, Ok, Err, IfOk, OnOk, length, refl, sym, ap, ◌∙◌, subst, arith, length-append}
+use Rattle.std.specs.Prelude.{All}
+use Rattle.cd_script.specs.Patch.{IsPatch}
 use Rattle.std.specs.Io.KnownBytes.{Appends}
 use Rattle.cd_stream.specs.Stream.{Incoming, Outgoing}
 use Rattle.cd_script.specs.declared.patch.Patch.{Patch}
-use Rattle.cd_image.specs.Applying.{Applies, Checks, HoldsFew, Streams, WritesLog, WritesPatched}
+use Rattle.cd_image.specs.Applying.{Applies, Checks, HoldsFew, Streams, WritesCarried, WritesLog, WritesPatched}
 use Rattle.cd_image.specs.Patched.{IsPatched}
 use Rattle.cd_image.specs.PatchLog.{log_text, patch_tally}
 use Rattle.cd_image.specs.Report.{AnswersByLength, EndsWell, TellsTooLong}
 use Rattle.cd_image.specs.declared.fault.Fault.{Fault}
 use Rattle.cd_image.specs.declared.fault.Fault.TheVariants.{Log, Read, TooLong, Write}
 use Rattle.cd_image.specs.declared.patch_log.Tally.{Tally}
-use Rattle.cd_image.proofs.PatchedLemmas.{IsPatched-determined}
+use Rattle.cd_image.proofs.PatchedLemmas.{IsPatched-carries, IsPatched-determined}
 use Rattle.cd_image.proofs.ReportLemmas.{appended, beyond_by_length, consumed_all, consumed_length, ended_by_length, not_beyond, told_beyond}
 
 -- a sink that tells its bytes has these behind those that it had
@@ -20,79 +22,90 @@ appended_length old new sent earlier now went had has =
     let same : now ≡ earlier ++ sent = cc in
     ap length same ∙ length-append earlier sent
 
-module _ (patches : List Patch) (base : ℕ) (old new : Streams) where
-  pub Applies-output : (result : Result Tally Fault) → Applies patches base old new result → OnOk result (WritesPatched patches base old.image new.image old.out new.out)
+module _ (carry : Bool) (patches : List Patch) (base : ℕ) (old new : Streams) where
+  pub Applies-output : (result : Result Tally Fault) → Applies carry patches base old new result → OnOk result (WritesPatched carry patches base old.image new.image old.out new.out)
   Applies-output (Ok tally) a = λ bytes earlier gives holds.
       let all = consumed_all old.image.rest new.image.rest a.read bytes a.consumes a.answers.at_end gives in (
         all.0,
         λ os last patched.
-            let same = IsPatched-determined patches a.answers.outcomes os base bytes a.sent last (subst (λ b. IsPatched patches a.answers.outcomes base b a.sent) all.1 a.answers.patched) patched in
+            let same = IsPatched-determined carry patches a.answers.outcomes os base bytes a.sent last (subst (λ b. IsPatched carry patches a.answers.outcomes base b a.sent) all.1 a.answers.patched) patched in
             appended old.out.written new.out.written a.sent earlier a.appends holds ∙ ap (λ l. Some (earlier ++ l)) same.1,
       )
   Applies-output (Err fault) a = tt
 
-  pub Applies-told : (result : Result Tally Fault) → Applies patches base old new result → IfOk result (WritesLog patches base old.image old.log new.log)
+  pub Applies-carried : (result : Result Tally Fault) → Applies carry patches base old new result → All IsPatch patches → carry ≡ true → OnOk result (WritesCarried patches base old.image old.out new.out)
+  Applies-carried (Ok tally) a each carries = λ bytes earlier are gives holds.
+      let all = consumed_all old.image.rest new.image.rest a.read bytes a.consumes a.answers.at_end gives in
+      let patched = subst (λ b. IsPatched carry patches a.answers.outcomes base b a.sent) all.1 a.answers.patched in (
+        a.answers.outcomes,
+        a.sent,
+        appended old.out.written new.out.written a.sent earlier a.appends holds,
+        IsPatched-carries patches a.answers.outcomes base bytes a.sent each are (subst (λ t. IsPatched t patches a.answers.outcomes base bytes a.sent) carries patched),
+      )
+  Applies-carried (Err fault) a each carries = tt
+
+  pub Applies-told : (result : Result Tally Fault) → Applies carry patches base old new result → IfOk result (WritesLog carry patches base old.image old.log new.log)
   Applies-told (Ok tally) a = λ bytes earlier gives holds os last patched.
       let all = consumed_all old.image.rest new.image.rest a.read bytes a.consumes a.answers.at_end gives in
-      let same = IsPatched-determined patches a.answers.outcomes os base bytes a.sent last (subst (λ b. IsPatched patches a.answers.outcomes base b a.sent) all.1 a.answers.patched) patched in (
+      let same = IsPatched-determined carry patches a.answers.outcomes os base bytes a.sent last (subst (λ b. IsPatched carry patches a.answers.outcomes base b a.sent) all.1 a.answers.patched) patched in (
         appended old.log.written new.log.written a.told earlier a.logs holds ∙ ap (λ l. Some (earlier ++ l)) (a.answers.log_told ∙ ap (log_text patches) same.0),
         a.answers.tally_told ∙ ap (λ b. patch_tally b a.answers.outcomes) all.1 ∙ ap (patch_tally bytes) same.0,
       )
   Applies-told (Err fault) a = tt
 
-  pub Applies-ends_out : (result : Result Tally Fault) → Applies patches base old new result → OnOk result (EndsWell old.image new.image old.out new.out)
+  pub Applies-ends_out : (result : Result Tally Fault) → Applies carry patches base old new result → OnOk result (EndsWell old.image new.image old.out new.out)
   Applies-ends_out (Ok tally) a = record { reads = omega (arith, a.answers.failed.reads); writes = omega (arith, a.answers.failed.writes); finished = a.answers.out_finished }
   Applies-ends_out (Err fault) a = tt
 
-  pub Applies-ends_log : (result : Result Tally Fault) → Applies patches base old new result → OnOk result (EndsWell old.image new.image old.log new.log)
+  pub Applies-ends_log : (result : Result Tally Fault) → Applies carry patches base old new result → OnOk result (EndsWell old.image new.image old.log new.log)
   Applies-ends_log (Ok tally) a = record { reads = omega (arith, a.answers.failed.reads); writes = omega (arith, a.answers.failed.logs); finished = a.answers.log_finished }
   Applies-ends_log (Err fault) a = tt
 
-  pub Applies-read_failed : (result : Result Tally Fault) → Applies patches base old new result → (result ≡ Err Read) ↔ (new.image.failures ≡ old.image.failures + 1)
+  pub Applies-read_failed : (result : Result Tally Fault) → Applies carry patches base old new result → (result ≡ Err Read) ↔ (new.image.failures ≡ old.image.failures + 1)
   Applies-read_failed (Ok tally) a = (λ e. cc, λ h. absurd (omega (arith, a.answers.failed.reads)))
   Applies-read_failed (Err Read) a = (λ e. a.answers.failed.reads, λ h. refl)
   Applies-read_failed (Err Write) a = (λ e. cc, λ h. absurd (omega (arith, a.answers.failed.reads)))
   Applies-read_failed (Err Log) a = (λ e. cc, λ h. absurd (omega (arith, a.answers.failed.reads)))
   Applies-read_failed (Err TooLong) a = (λ e. cc, λ h. absurd (omega (arith, a.answers.failed.reads)))
 
-  pub Applies-write_failed : (result : Result Tally Fault) → Applies patches base old new result → (result ≡ Err Write) ↔ (new.out.failures ≡ old.out.failures + 1)
+  pub Applies-write_failed : (result : Result Tally Fault) → Applies carry patches base old new result → (result ≡ Err Write) ↔ (new.out.failures ≡ old.out.failures + 1)
   Applies-write_failed (Ok tally) a = (λ e. cc, λ h. absurd (omega (arith, a.answers.failed.writes)))
   Applies-write_failed (Err Read) a = (λ e. cc, λ h. absurd (omega (arith, a.answers.failed.writes)))
   Applies-write_failed (Err Write) a = (λ e. a.answers.failed.writes, λ h. refl)
   Applies-write_failed (Err Log) a = (λ e. cc, λ h. absurd (omega (arith, a.answers.failed.writes)))
   Applies-write_failed (Err TooLong) a = (λ e. cc, λ h. absurd (omega (arith, a.answers.failed.writes)))
 
-  pub Applies-log_failed : (result : Result Tally Fault) → Applies patches base old new result → (result ≡ Err Log) ↔ (new.log.failures ≡ old.log.failures + 1)
+  pub Applies-log_failed : (result : Result Tally Fault) → Applies carry patches base old new result → (result ≡ Err Log) ↔ (new.log.failures ≡ old.log.failures + 1)
   Applies-log_failed (Ok tally) a = (λ e. cc, λ h. absurd (omega (arith, a.answers.failed.logs)))
   Applies-log_failed (Err Read) a = (λ e. cc, λ h. absurd (omega (arith, a.answers.failed.logs)))
   Applies-log_failed (Err Write) a = (λ e. cc, λ h. absurd (omega (arith, a.answers.failed.logs)))
   Applies-log_failed (Err Log) a = (λ e. a.answers.failed.logs, λ h. refl)
   Applies-log_failed (Err TooLong) a = (λ e. cc, λ h. absurd (omega (arith, a.answers.failed.logs)))
 
-  pub Applies-too_long : (result : Result Tally Fault) → Applies patches base old new result → TellsTooLong old.image new.image result
+  pub Applies-too_long : (result : Result Tally Fault) → Applies carry patches base old new result → TellsTooLong old.image new.image result
   Applies-too_long (Ok tally) a = not_beyond old.image new.image (Ok tally) a.read a.consumes a.answers.within (λ e. cc)
   Applies-too_long (Err Read) a = not_beyond old.image new.image (Err Read) a.read a.consumes a.answers.within (λ e. cc)
   Applies-too_long (Err Write) a = not_beyond old.image new.image (Err Write) a.read a.consumes a.answers.within (λ e. cc)
   Applies-too_long (Err Log) a = not_beyond old.image new.image (Err Log) a.read a.consumes a.answers.within (λ e. cc)
   Applies-too_long (Err TooLong) a = told_beyond old.image new.image a.read a.consumes a.answers.beyond
 
-  pub Applies-by_length : (result : Result Tally Fault) → Applies patches base old new result → new.image.failures ≡ old.image.failures → new.out.failures ≡ old.out.failures → new.log.failures ≡ old.log.failures → AnswersByLength old.image result
+  pub Applies-by_length : (result : Result Tally Fault) → Applies carry patches base old new result → new.image.failures ≡ old.image.failures → new.out.failures ≡ old.out.failures → new.log.failures ≡ old.log.failures → AnswersByLength old.image result
   Applies-by_length (Ok tally) a no_read no_write no_log = ended_by_length old.image new.image tally a.read a.consumes a.answers.at_end a.answers.within
   Applies-by_length (Err Read) a no_read no_write no_log = absurd (omega (arith, a.answers.failed.reads, no_read))
   Applies-by_length (Err Write) a no_read no_write no_log = absurd (omega (arith, a.answers.failed.writes, no_write))
   Applies-by_length (Err Log) a no_read no_write no_log = absurd (omega (arith, a.answers.failed.logs, no_log))
   Applies-by_length (Err TooLong) a no_read no_write no_log = beyond_by_length old.image new.image a.read a.consumes a.answers.beyond
 
-  pub Applies-few : (result : Result Tally Fault) → Applies patches base old new result → HoldsFew old new
+  pub Applies-few : (result : Result Tally Fault) → Applies carry patches base old new result → HoldsFew old new
   Applies-few result a = λ given left earlier now gives leaves had has.
       let came = consumed_length old.image.rest new.image.rest a.read given left a.consumes gives leaves in
       let went = appended_length old.out.written new.out.written a.sent earlier now a.appends had has in
       omega (arith, came, went, a.in_hand)
 
 -- an output that keeps nothing does not fail
-pub Checks-no_output : (patches : List Patch) (base : ℕ) (image image' : Incoming) (log log' : Outgoing) (result : Result Tally Fault) → Checks patches base image image' log log' result → result ≢ Err Write
-Checks-no_output patches base image image' log log' (Ok tally) done = λ e. cc
-Checks-no_output patches base image image' log log' (Err Read) done = λ e. cc
-Checks-no_output patches base image image' log log' (Err Write) done = λ e. absurd (omega (arith, done.1.answers.failed.writes))
-Checks-no_output patches base image image' log log' (Err Log) done = λ e. cc
-Checks-no_output patches base image image' log log' (Err TooLong) done = λ e. cc
+pub Checks-no_output : (carry : Bool) (patches : List Patch) (base : ℕ) (image image' : Incoming) (log log' : Outgoing) (result : Result Tally Fault) → Checks carry patches base image image' log log' result → result ≢ Err Write
+Checks-no_output carry patches base image image' log log' (Ok tally) done = λ e. cc
+Checks-no_output carry patches base image image' log log' (Err Read) done = λ e. cc
+Checks-no_output carry patches base image image' log log' (Err Write) done = λ e. absurd (omega (arith, done.1.answers.failed.writes))
+Checks-no_output carry patches base image image' log log' (Err Log) done = λ e. cc
+Checks-no_output carry patches base image image' log log' (Err TooLong) done = λ e. cc

@@ -1,5 +1,5 @@
 -- How a call on patches ends before its first read, and behind the last sector of the image.
-use Rattle.std.proofs.Common.{◌≡◌, ℕ, ◌+◌, ◌*◌, ◌<◌, ◌≤◌, ◌⊎◌, inl, inr, List, [], ◌++◌, length, take, drop, Some, Ok, Err, true, refl, sym, ap, ◌∙◌, subst, arith, append_assoc, append-nil, length-append, take-append-drop, add-zero}
+use Rattle.std.proofs.Common.{◌≡◌, ℕ, ◌+◌, ◌*◌, ◌<◌, ◌≤◌, ◌⊎◌, inl, inr, Bool, List, [], ◌++◌, length, take, drop, Some, Ok, Err, true, refl, sym, ap, ◌∙◌, subst, arith, append_assoc, append-nil, length-append, take-append-drop, add-zero}
 use Rattle.std.specs.Prelude.{All}
 use Rattle.std.specs.Io.KnownBytes.{Appends, Consumes, Keeps}
 use Rattle.std.proofs.KnownBytes.{Appends-kept, Appends-nil, Appends-trans, Consumes-nil}
@@ -31,17 +31,17 @@ tally applied refused count left = record { applied = applied; refused = refused
 
 -- ---- the log fails before the first read, in the lines of the patches below the image's first block
 
-module _ (below left : List Patch) (base : ℕ) (start : Streams) (log : Outgoing) (under : All (λ p. p.block < base) below) where
+module _ (carry : Bool) (below left : List Patch) (base : ℕ) (start : Streams) (log : Outgoing) (under : All (λ p. p.block < base) below) where
   -- each run begins by refusing these
-  refuses : (os : List Outcome) (whole last : List ℕ) → IsPatched (below ++ left) os base whole last → (back : List Outcome) × (os ≡ missing below ++ back)
+  refuses : (os : List Outcome) (whole last : List ℕ) → IsPatched carry (below ++ left) os base whole last → (back : List Outcome) × (os ≡ missing below ++ back)
   refuses os whole last patched =
-      let split = PatchRun-split below left os base (sectors whole) (sectors last) patched.run in
-      let none = PatchRun-missing below (sectors whole) base (λ k d inside. inl (under k d inside)) in
-      let same = PatchRun-determined below split.0 (missing below) base (sectors whole) split.2 (sectors whole) split.4 none in
+      let split = PatchRun-split carry below left os base (sectors whole) (sectors last) patched.run in
+      let none = PatchRun-missing carry below (sectors whole) base (λ k d inside. inl (under k d inside)) in
+      let same = PatchRun-determined carry below split.0 (missing below) base (sectors whole) split.2 (sectors whole) split.4 none in
       (split.1, split.3 ∙ ap (λ f. f ++ split.1) same.0)
 
   pub Applies-below : (n : ℕ) → n < length (log_lines below (missing below)) → Appends start.log.written log.written (take n (log_lines below (missing below))) → log.failures ≡ start.log.failures + 1
-      → Applies (below ++ left) base start (record start { log = log }) (Err Log)
+      → Applies carry (below ++ left) base start (record start { log = log }) (Err Log)
   unfolding log_text
   Applies-below n inside went failed = record {
     read = [];
@@ -78,9 +78,9 @@ module _ (below left : List Patch) (base : ℕ) (start : Streams) (log : Outgoin
 
 -- ---- behind the last sector: what is left of the patches begins behind the image
 
-module _ (taken left : List Patch) (base : ℕ) (start now : Streams) (block count applied : ℕ) (end : List ℕ) (g : Going taken left base start now [] block count applied (Some end)) where
+module _ (carry : Bool) (taken left : List Patch) (base : ℕ) (start now : Streams) (block count applied : ℕ) (end : List ℕ) (g : Going carry taken left base start now [] block count applied (Some end)) where
   lengths : length g.outcomes ≡ length taken
-  lengths = told_lengths taken left base start now [] block count applied (Some end) g
+  lengths = told_lengths carry taken left base start now [] block count applied (Some end) g
 
   -- as many sectors have gone out as came
   same_count : length g.done ≡ length g.seen
@@ -115,15 +115,15 @@ module _ (taken left : List Patch) (base : ℕ) (start now : Streams) (block cou
   behind : All (λ p. (p.block < base) ⊎ (base + length g.done ≤ p.block)) left
   behind = λ k d here. let h = g.ahead k d here in inr (omega (arith, h, g.front))
 
-  patched : IsPatched (taken ++ left) all base read last
+  patched : IsPatched carry (taken ++ left) all base read last
   unfolding all read last
   patched =
-      let first = subst (λ old. PatchRun taken g.outcomes base old (g.done ++ [])) (append-nil g.seen) (g.run [] (λ some. refl)) in
-      let settled = subst (λ new. PatchRun taken g.outcomes base g.seen new) (append-nil g.done) first in
-      let run = PatchRun-append taken left g.outcomes (missing left) base g.seen g.done g.done settled (PatchRun-missing left g.done base behind) in
+      let first = subst (λ old. PatchRun carry taken g.outcomes base old (g.done ++ [])) (append-nil g.seen) (g.run [] (λ some. refl)) in
+      let settled = subst (λ new. PatchRun carry taken g.outcomes base g.seen new) (append-nil g.done) first in
+      let run = PatchRun-append carry taken left g.outcomes (missing left) base g.seen g.done g.done settled (PatchRun-missing carry left g.done base behind) in
       record {
-        run = subst (λ new. PatchRun (taken ++ left) (g.outcomes ++ missing left) base (sectors (joined g.seen ++ end)) new) (sym sectors_last)
-            (subst (λ old. PatchRun (taken ++ left) (g.outcomes ++ missing left) base old g.done) (sym sectors_read) run);
+        run = subst (λ new. PatchRun carry (taken ++ left) (g.outcomes ++ missing left) base (sectors (joined g.seen ++ end)) new) (sym sectors_last)
+            (subst (λ old. PatchRun carry (taken ++ left) (g.outcomes ++ missing left) base old g.done) (sym sectors_read) run);
         same_tail = sym (cut_of_joined g.done end g.done_sizes g.short).1 ∙ (cut_of_joined g.seen end g.seen_sizes g.short).1;
       }
 
@@ -133,10 +133,10 @@ module _ (taken left : List Patch) (base : ℕ) (start now : Streams) (block cou
 
   -- whatever holds of this run holds of each run on each image that fits
   by_run : (Holds : List ℕ → List Outcome → List ℕ → Type 0) → Holds read all last → (whole : List ℕ) → FitsLeft now.image.rest read whole
-      → (os : List Outcome) (new : List ℕ) → IsPatched (taken ++ left) os base whole new → Holds whole os new
+      → (os : List Outcome) (new : List ℕ) → IsPatched carry (taken ++ left) os base whole new → Holds whole os new
   by_run Holds h whole fits os new other =
       let is = FitsLeft-end now.image.rest read whole (g.ended refl) fits in
-      let same = IsPatched-determined (taken ++ left) os all base read new last (subst (λ w. IsPatched (taken ++ left) os base w new) is other) patched in
+      let same = IsPatched-determined carry (taken ++ left) os all base read new last (subst (λ w. IsPatched carry (taken ++ left) os base w new) is other) patched in
       subst (λ w. Holds w os new) (sym is) (subst (λ u. Holds read u new) (sym same.0) (subst (Holds read all) (sym same.1) h))
 
   consumed : Consumes start.image.rest now.image.rest read
@@ -148,7 +148,7 @@ module _ (taken left : List Patch) (base : ℕ) (start now : Streams) (block cou
 
   -- the output fails in the tail
   pub Applies-tail : (out : Outgoing) (n : ℕ) → n < length end → Appends now.out.written out.written (take n end) → out.failures ≡ now.out.failures + 1
-      → Applies (taken ++ left) base start (record now { out = out }) (Err Write)
+      → Applies carry (taken ++ left) base start (record now { out = out }) (Err Write)
   unfolding last all read
   Applies-tail out n inside went failed = record {
     read = read;
@@ -186,7 +186,7 @@ module _ (taken left : List Patch) (base : ℕ) (start now : Streams) (block cou
 
     -- the log fails in the lines of the patches behind the image
     pub Applies-behind : (log : Outgoing) (n : ℕ) → n < length (log_lines left (missing left)) → Appends now.log.written log.written (take n (log_lines left (missing left))) → log.failures ≡ now.log.failures + 1
-        → Applies (taken ++ left) base start (record now { out = out; log = log }) (Err Log)
+        → Applies carry (taken ++ left) base start (record now { out = out; log = log }) (Err Log)
     unfolding all
     Applies-behind log n inside went failed = record {
       read = read;
@@ -225,7 +225,7 @@ module _ (taken left : List Patch) (base : ℕ) (start now : Streams) (block cou
 
       -- the log fails in its last line
       pub Applies-counts : (log : Outgoing) (n : ℕ) → n < length counts → Appends lines.written log.written (take n counts) → log.failures ≡ lines.failures + 1
-          → Applies (taken ++ left) base start (record now { out = out; log = log }) (Err Log)
+          → Applies carry (taken ++ left) base start (record now { out = out; log = log }) (Err Log)
       unfolding counts log_text
       Applies-counts log n inside went failed = record {
         read = read;
@@ -260,7 +260,7 @@ module _ (taken left : List Patch) (base : ℕ) (start now : Streams) (block cou
 
         -- the output fails in its flush
         pub Applies-flush : (out' : Outgoing) → Keeps out.written out'.written → out'.failures ≡ out.failures + 1 → counted.failures ≡ lines.failures
-            → Applies (taken ++ left) base start (record now { out = out'; log = counted }) (Err Write)
+            → Applies carry (taken ++ left) base start (record now { out = out'; log = counted }) (Err Write)
         Applies-flush out' kept failed log_kept = record {
           read = read;
           sent = last;
@@ -284,7 +284,7 @@ module _ (taken left : List Patch) (base : ℕ) (start now : Streams) (block cou
 
           -- the log fails in its flush
           pub Applies-log_flush : (log : Outgoing) → Keeps counted.written log.written → counted.failures ≡ lines.failures → log.failures ≡ counted.failures + 1
-              → Applies (taken ++ left) base start (record now { out = out'; log = log }) (Err Log)
+              → Applies carry (taken ++ left) base start (record now { out = out'; log = log }) (Err Log)
           unfolding counts log_text
           Applies-log_flush log log_kept counts_kept failed = record {
             read = read;
@@ -305,7 +305,7 @@ module _ (taken left : List Patch) (base : ℕ) (start now : Streams) (block cou
 
           -- all has gone well
           pub Applies-ok : (log : Outgoing) (tally : Tally) → Keeps counted.written log.written → counted.failures ≡ lines.failures → log.failures ≡ counted.failures
-              → out'.finished ≡ true → log.finished ≡ true → tally ≡ patch_tally read all → Applies (taken ++ left) base start (record now { out = out'; log = log }) (Ok tally)
+              → out'.finished ≡ true → log.finished ≡ true → tally ≡ patch_tally read all → Applies carry (taken ++ left) base start (record now { out = out'; log = log }) (Ok tally)
           Applies-ok log tally log_kept counts_kept ended_well out_finished log_finished tally_told = record {
             read = read;
             sent = last;

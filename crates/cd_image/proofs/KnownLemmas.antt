@@ -1,5 +1,5 @@
 -- What a pass knows of each run on an image that may be the one that is being read.
-use Rattle.std.proofs.Common.{◌≡◌, ℕ, ◌+◌, ◌<◌, ◌≤◌, List, [], ◌++◌, length, take, drop, Option, None, Some, refl, sym, ap, ◌∙◌, subst, arith, append_assoc, append-nil, take-append-drop}
+use Rattle.std.proofs.Common.{◌≡◌, ℕ, ◌+◌, ◌<◌, ◌≤◌, Bool, List, [], ◌++◌, length, take, drop, Option, None, Some, refl, sym, ap, ◌∙◌, subst, arith, append_assoc, append-nil, take-append-drop}
 use Rattle.std.specs.Prelude.{All, IsSome}
 use Rattle.std.specs.Io.KnownBytes.{IsAtEnd}
 use Rattle.cd_script.specs.declared.patch.Patch.{Patch}
@@ -66,27 +66,27 @@ pub record Known (settled : List (List ℕ)) (outcomes os : List Outcome) (last 
   pub all : os ≡ outcomes ++ back
   pub cut : sectors last ≡ settled ++ others
 
-module _ (taken left : List Patch) (base : ℕ) (start now : Streams) (window : List (List ℕ)) (block sectors_read applied : ℕ) (end : Option (List ℕ)) (g : Going taken left base start now window block sectors_read applied end) where
+module _ (carry : Bool) (taken left : List Patch) (base : ℕ) (start now : Streams) (window : List (List ℕ)) (block sectors_read applied : ℕ) (end : Option (List ℕ)) (g : Going carry taken left base start now window block sectors_read applied end) where
   pub told_lengths : length g.outcomes ≡ length taken
-  told_lengths = PatchRun-lengths taken g.outcomes base (g.seen ++ []) (g.done ++ (window ++ [])) (g.run [] (λ some. refl))
+  told_lengths = PatchRun-lengths carry taken g.outcomes base (g.seen ++ []) (g.done ++ (window ++ [])) (g.run [] (λ some. refl))
 
   -- sectors at the front that no patch left begins in are settled
   pub known : (whole : List ℕ) → Extends g.seen end whole → (settled : List (List ℕ)) (behind : List (List ℕ) → List (List ℕ))
       → ((more : List (List ℕ)) → g.done ++ (window ++ more) ≡ settled ++ behind more) → All (λ p. base + length settled ≤ p.block) left
-      → (os : List Outcome) (last : List ℕ) → IsPatched (taken ++ left) os base whole last → Known settled g.outcomes os last
+      → (os : List Outcome) (last : List ℕ) → IsPatched carry (taken ++ left) os base whole last → Known settled g.outcomes os last
   known whole extends settled behind grouped ahead os last patched =
-      let run = subst (λ old. PatchRun (taken ++ left) os base old (sectors last)) extends.cut patched.run in
-      let split = PatchRun-split taken left os base (g.seen ++ extends.more) (sectors last) run in
-      let same = PatchRun-determined taken split.0 g.outcomes base (g.seen ++ extends.more) split.2 (g.done ++ (window ++ extends.more)) split.4 (g.run extends.more extends.unended) in
-      let from = subst (λ m. PatchRun left split.1 base m (sectors last)) (same.1 ∙ grouped extends.more) split.5 in
-      let rest = PatchRun-front left split.1 base settled (behind extends.more) (sectors last) ahead from in
+      let run = subst (λ old. PatchRun carry (taken ++ left) os base old (sectors last)) extends.cut patched.run in
+      let split = PatchRun-split carry taken left os base (g.seen ++ extends.more) (sectors last) run in
+      let same = PatchRun-determined carry taken split.0 g.outcomes base (g.seen ++ extends.more) split.2 (g.done ++ (window ++ extends.more)) split.4 (g.run extends.more extends.unended) in
+      let from = subst (λ m. PatchRun carry left split.1 base m (sectors last)) (same.1 ∙ grouped extends.more) split.5 in
+      let rest = PatchRun-front carry left split.1 base settled (behind extends.more) (sectors last) ahead from in
       record { back = split.1; others = rest.0; all = split.3 ∙ ap (λ f. f ++ split.1) same.0; cut = rest.1 }
 
   pub ahead_of_done : All (λ p. base + length g.done ≤ p.block) left
   ahead_of_done = λ k d inside. let h = g.ahead k d inside in omega (arith, h, g.front)
 
   -- what went out and what was told begin the patched image and its log
-  pub begins_now : (whole : List ℕ) → Extends g.seen end whole → (os : List Outcome) (last : List ℕ) → IsPatched (taken ++ left) os base whole last
+  pub begins_now : (whole : List ℕ) → Extends g.seen end whole → (os : List Outcome) (last : List ℕ) → IsPatched carry (taken ++ left) os base whole last
       → Begins (taken ++ left) (joined g.done) (log_lines taken g.outcomes) os last
   begins_now whole extends os last patched =
       let k = known whole extends g.done (λ more. window ++ more) (λ more. refl) ahead_of_done os last patched in (

@@ -1,5 +1,5 @@
 -- One step of a pass: a sector is read, or the end; a patch is taken; a sector goes out.
-use Rattle.std.proofs.Common.{◌≡◌, ℕ, ◌+◌, ◌*◌, ◌<◌, ◌≤◌, ◌⊎◌, inl, inr, List, [], ◌∷◌, ◌++◌, length, Option, None, Some, refl, sym, ap, ◌∙◌, subst, arith, append_assoc, append-nil, length-append}
+use Rattle.std.proofs.Common.{◌≡◌, ℕ, ◌+◌, ◌*◌, ◌<◌, ◌≤◌, ◌⊎◌, inl, inr, Bool, List, [], ◌∷◌, ◌++◌, length, Option, None, Some, refl, sym, ap, ◌∙◌, subst, arith, append_assoc, append-nil, length-append}
 use Rattle.std.specs.Prelude.{All, IsSome, cond}
 use Rattle.std.specs.Io.KnownBytes.{Appends, Consumes, IsAtEnd}
 use Rattle.std.proofs.KnownBytes.{Appends-nil, Appends-trans, Consumes-nil, Consumes-trans}
@@ -48,10 +48,10 @@ pub Failed-none : (start now after : Streams) → Failed start now 0 0 0 → (re
 Failed-none start now after before reads writes logs r w l = record { reads = omega arith; writes = omega arith; logs = omega arith }
 
 -- behind the patches whose first block is below the image's
-pub Going-start : (taken left : List Patch) (base : ℕ) (start : Streams) (log : Outgoing) → All (λ p. p.block < base) taken → All (λ p. base ≤ p.block) left
+pub Going-start : (carry : Bool) (taken left : List Patch) (base : ℕ) (start : Streams) (log : Outgoing) → All (λ p. p.block < base) taken → All (λ p. base ≤ p.block) left
     → Appends start.log.written log.written (log_lines taken (missing taken)) → log.failures ≡ start.log.failures
-    → Going taken left base start (record start { log = log }) [] base 0 0 None
-Going-start taken left base start log below ahead told kept = record {
+    → Going carry taken left base start (record start { log = log }) [] base 0 0 None
+Going-start carry taken left base start log below ahead told kept = record {
   seen = [];
   done = [];
   outcomes = missing taken;
@@ -65,7 +65,7 @@ Going-start taken left base start log below ahead told kept = record {
   within = omega arith;
   ended = λ never. cc;
   in_hand = omega arith;
-  run = λ more unended. PatchRun-missing taken more base (λ k d inside. inl (below k d inside));
+  run = λ more unended. PatchRun-missing carry taken more base (λ k d inside. inl (below k d inside));
   front = omega arith;
   count = refl;
   held = refl;
@@ -74,11 +74,11 @@ Going-start taken left base start log below ahead told kept = record {
   ahead = ahead;
 }
 
-module _ (taken left : List Patch) (base : ℕ) (start now : Streams) (window : List (List ℕ)) (block sectors applied : ℕ) where
+module _ (carry : Bool) (taken left : List Patch) (base : ℕ) (start now : Streams) (window : List (List ℕ)) (block sectors applied : ℕ) where
   -- a sector has come
-  pub Going-read : Going taken left base start now window block sectors applied None → (image : Incoming) (came : List ℕ) → Consumes now.image.rest image.rest came → image.failures ≡ now.image.failures
+  pub Going-read : Going carry taken left base start now window block sectors applied None → (image : Incoming) (came : List ℕ) → Consumes now.image.rest image.rest came → image.failures ≡ now.image.failures
       → length came ≡ SECTOR_SIZE → sectors < 1000000 → length window < 3
-      → Going taken left base start (record now { image = image }) (window ++ came ∷ []) block (sectors + 1) applied None
+      → Going carry taken left base start (record now { image = image }) (window ++ came ∷ []) block (sectors + 1) applied None
   Going-read g image came consumed kept size few room = record {
     seen = g.seen ++ came ∷ [];
     done = g.done;
@@ -97,8 +97,8 @@ module _ (taken left : List Patch) (base : ℕ) (start now : Streams) (window : 
     ended = λ never. cc;
     in_hand = let all = length-append window (came ∷ []) in omega arith;
     run = λ more unended.
-        subst (λ old. PatchRun taken g.outcomes base old (g.done ++ ((window ++ came ∷ []) ++ more))) (sym (append_assoc g.seen (came ∷ []) more))
-        (subst (λ new. PatchRun taken g.outcomes base (g.seen ++ (came ∷ more)) (g.done ++ new)) (sym (append_assoc window (came ∷ []) more))
+        subst (λ old. PatchRun carry taken g.outcomes base old (g.done ++ ((window ++ came ∷ []) ++ more))) (sym (append_assoc g.seen (came ∷ []) more))
+        (subst (λ new. PatchRun carry taken g.outcomes base (g.seen ++ (came ∷ more)) (g.done ++ new)) (sym (append_assoc window (came ∷ []) more))
         (g.run (came ∷ more) (λ never. cc)));
     front = g.front;
     count = let all = length-append g.seen (came ∷ []) in omega (arith, g.count);
@@ -109,9 +109,9 @@ module _ (taken left : List Patch) (base : ℕ) (start now : Streams) (window : 
   }
 
   -- less than a sector has come, and nothing is left
-  pub Going-end : Going taken left base start now window block sectors applied None → (image : Incoming) (came : List ℕ) → Consumes now.image.rest image.rest came → image.failures ≡ now.image.failures
+  pub Going-end : Going carry taken left base start now window block sectors applied None → (image : Incoming) (came : List ℕ) → Consumes now.image.rest image.rest came → image.failures ≡ now.image.failures
       → length came < SECTOR_SIZE → SECTOR_SIZE * sectors + length came ≤ image_limit → length window < 3 → IsAtEnd image.rest
-      → Going taken left base start (record now { image = image }) window block sectors applied (Some came)
+      → Going carry taken left base start (record now { image = image }) window block sectors applied (Some came)
   Going-end g image came consumed kept short within room end = record {
     seen = g.seen;
     done = g.done;
@@ -137,11 +137,11 @@ module _ (taken left : List Patch) (base : ℕ) (start now : Streams) (window : 
   }
 
 -- the first sector of the window has gone out, with no patch left that begins there
-pub Going-send : (taken left : List Patch) (base : ℕ) (start now : Streams) (sector : List ℕ) (window : List (List ℕ)) (block sectors applied : ℕ) (tail : Option (List ℕ))
-    → Going taken left base start now (sector ∷ window) block sectors applied tail → (out : Outgoing) → Appends now.out.written out.written sector → out.failures ≡ now.out.failures
+pub Going-send : (carry : Bool) (taken left : List Patch) (base : ℕ) (start now : Streams) (sector : List ℕ) (window : List (List ℕ)) (block sectors applied : ℕ) (tail : Option (List ℕ))
+    → Going carry taken left base start now (sector ∷ window) block sectors applied tail → (out : Outgoing) → Appends now.out.written out.written sector → out.failures ≡ now.out.failures
     → length sector ≡ SECTOR_SIZE → All (λ p. block < p.block) left
-    → Going taken left base start (record now { out = out }) window (block + 1) sectors applied tail
-Going-send taken left base start now sector window block sectors applied tail g out sent kept size ahead = record {
+    → Going carry taken left base start (record now { out = out }) window (block + 1) sectors applied tail
+Going-send carry taken left base start now sector window block sectors applied tail g out sent kept size ahead = record {
   seen = g.seen;
   done = g.done ++ sector ∷ [];
   outcomes = g.outcomes;
@@ -156,7 +156,7 @@ Going-send taken left base start now sector window block sectors applied tail g 
   within = g.within;
   ended = g.ended;
   in_hand = omega (arith, g.in_hand);
-  run = λ more unended. subst (PatchRun taken g.outcomes base (g.seen ++ more)) (sym (append_assoc g.done (sector ∷ []) (window ++ more))) (g.run more unended);
+  run = λ more unended. subst (PatchRun carry taken g.outcomes base (g.seen ++ more)) (sym (append_assoc g.done (sector ∷ []) (window ++ more))) (g.run more unended);
   front = let all = length-append g.done (sector ∷ []) in omega (arith, g.front);
   count = g.count;
   held = let all = length-append g.done (sector ∷ []) in omega (arith, g.held);
@@ -175,15 +175,15 @@ reaches block met count tail bytes (inl within) = inl (omega arith)
 reaches block met count tail bytes (inr ended) = inr (tail_read-some tail bytes ended)
 
 -- one patch alone
-PatchRun-one : (p : Patch) (o : Outcome) (base : ℕ) (old new : List (List ℕ)) → o ≡ outcome old base p → Effect base p old new → PatchRun (p ∷ []) (o ∷ []) base old new
-PatchRun-one p o base old new is effect = (is, (new, effect, refl))
+PatchRun-one : (carry : Bool) (p : Patch) (o : Outcome) (base : ℕ) (old new : List (List ℕ)) → o ≡ outcome carry old base p → Effect carry base p old new → PatchRun carry (p ∷ []) (o ∷ []) base old new
+PatchRun-one carry p o base old new is effect = (is, (new, effect, refl))
 
 -- a patch that begins at the first sector of the window was taken: all that it meets is in the window, or nothing follows
-module _ (taken : List Patch) (p : Patch) (left : List Patch) (base : ℕ) (start now : Streams) (window window' : List (List ℕ)) (block sectors applied : ℕ) (tail : Option (List ℕ)) where
-  pub Going-take : Going taken (p ∷ left) base start now window block sectors applied tail → (log : Outgoing) (o : Outcome) → o ≡ outcome window block p → Effect block p window window'
+module _ (carry : Bool) (taken : List Patch) (p : Patch) (left : List Patch) (base : ℕ) (start now : Streams) (window window' : List (List ℕ)) (block sectors applied : ℕ) (tail : Option (List ℕ)) where
+  pub Going-take : Going carry taken (p ∷ left) base start now window block sectors applied tail → (log : Outgoing) (o : Outcome) → o ≡ outcome carry window block p → Effect carry block p window window'
       → Appends now.log.written log.written (log_line p o) → log.failures ≡ now.log.failures → p.block ≡ block → 0 < length window
       → (block + blocks_met p ≤ block + length window) ⊎ IsSome tail
-      → Going (taken ++ p ∷ []) left base start (record now { log = log }) window' block sectors (applied + cond (is_applied o) 1 0) tail
+      → Going carry (taken ++ p ∷ []) left base start (record now { log = log }) window' block sectors (applied + cond (is_applied o) 1 0) tail
   Going-take g log o decided effect told kept at some reach = record {
     seen = g.seen;
     done = g.done;
@@ -201,7 +201,7 @@ module _ (taken : List Patch) (p : Patch) (left : List Patch) (base : ℕ) (star
     within = g.within;
     ended = g.ended;
     in_hand = omega (arith, g.in_hand, same_length);
-    run = λ more unended. PatchRun-append taken (p ∷ []) g.outcomes (o ∷ []) base _ (g.done ++ (window ++ more)) _ (g.run more unended) (last more unended);
+    run = λ more unended. PatchRun-append carry taken (p ∷ []) g.outcomes (o ∷ []) base _ (g.done ++ (window ++ more)) _ (g.run more unended) (last more unended);
     front = g.front;
     count = g.count;
     held = omega (arith, g.held, same_length);
@@ -213,10 +213,10 @@ module _ (taken : List Patch) (p : Patch) (left : List Patch) (base : ℕ) (star
   }
     where
       same_length : length window' ≡ length window
-      same_length = Effect-length block p window window' effect
+      same_length = Effect-length carry block p window window' effect
 
       lengths : length g.outcomes ≡ length taken
-      lengths = PatchRun-lengths taken g.outcomes base (g.seen ++ []) (g.done ++ (window ++ [])) (g.run [] (λ some. refl))
+      lengths = PatchRun-lengths carry taken g.outcomes base (g.seen ++ []) (g.done ++ (window ++ [])) (g.run [] (λ some. refl))
 
       reaches : (more : List (List ℕ)) → (IsSome tail → more ≡ []) → (p.block + blocks_met p ≤ block + length window) ⊎ (more ≡ [])
       reaches more unended = elim reach [
@@ -224,7 +224,7 @@ module _ (taken : List Patch) (p : Patch) (left : List Patch) (base : ℕ) (star
         | inr some ↦ inr (unended some)
       ]
 
-      last : (more : List (List ℕ)) → (IsSome tail → more ≡ []) → PatchRun (p ∷ []) (o ∷ []) base (g.done ++ (window ++ more)) (g.done ++ (window' ++ more))
+      last : (more : List (List ℕ)) → (IsSome tail → more ≡ []) → PatchRun carry (p ∷ []) (o ∷ []) base (g.done ++ (window ++ more)) (g.done ++ (window' ++ more))
       last more unended =
-          PatchRun-one p o base _ _ (decided ∙ sym (outcome-frame g.done window more base block p g.front (omega arith) (reaches more unended)))
-          (Effect-frame g.done window window' more base block p g.front (omega arith) (reaches more unended) effect)
+          PatchRun-one carry p o base _ _ (decided ∙ sym (outcome-frame carry g.done window more base block p g.front (omega arith) (reaches more unended)))
+          (Effect-frame carry g.done window window' more base block p g.front (omega arith) (reaches more unended) effect)

@@ -147,11 +147,11 @@ module _ (image : List ℕ) (base : ℕ) where
 abbrev pub AreMissing : List (List ℕ) → ℕ → List Patch → Type 0
 AreMissing whole base ps = All (λ p. (p.block < base) ⊎ (base + length whole ≤ p.block)) ps
 
-pub PatchRun-missing : (ps : List Patch) (whole : List (List ℕ)) (base : ℕ) → AreMissing whole base ps → PatchRun ps (missing ps) base whole whole
-PatchRun-missing [] whole base none = refl
-PatchRun-missing (p ∷ ps) whole base none =
+pub PatchRun-missing : (carry : Bool) (ps : List Patch) (whole : List (List ℕ)) (base : ℕ) → AreMissing whole base ps → PatchRun carry ps (missing ps) base whole whole
+PatchRun-missing carry [] whole base none = refl
+PatchRun-missing carry (p ∷ ps) whole base none =
     let here = All-head (λ q. (q.block < base) ⊎ (base + length whole ≤ q.block)) p ps none in
-    (sym (outcome-missing whole base p here), (whole, Effect-missing whole base p here, PatchRun-missing ps whole base (All-tail (λ q. (q.block < base) ⊎ (base + length whole ≤ q.block)) p ps none)))
+    (sym (outcome-missing carry whole base p here), (whole, Effect-missing carry whole base p here, PatchRun-missing carry ps whole base (All-tail (λ q. (q.block < base) ⊎ (base + length whole ≤ q.block)) p ps none)))
 
 pub length-missing : (ps : List Patch) → length (missing ps) ≡ length ps
 length-missing [] = refl

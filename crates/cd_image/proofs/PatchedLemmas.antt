@@ -1,5 +1,5 @@
 -- What patches make of an image.
-use Rattle.std.proofs.Common.{◌≡◌, ℕ, ◌*◌, ◌/◌, ◌≤◌, zero, suc, List, ◌++◌, length, take, drop, sym, ap, ◌∙◌, subst, arith}
+use Rattle.std.proofs.Common.{◌≡◌, ◌≢◌, ℕ, ◌*◌, ◌/◌, ◌≤◌, zero, suc, Bool, true, List, [], ◌∷◌, ◌++◌, length, take, drop, sym, ap, ◌∙◌, subst, arith}
 use Rattle.std.specs.Prelude.{All}
 use Rattle.std.specs.Simd.{first_chunks}
 use Rattle.std.proofs.lemmas.List.{length-drop, length-take-le}
@@ -11,17 +11,20 @@ use Rattle.cd_patch.specs.Run.{PatchRun}
 use Rattle.cd_script.specs.declared.patch.Patch.{Patch}
 use Rattle.cd_patch.specs.declared.outcome.Outcome.{Outcome}
 use Rattle.cd_code.proofs.ByteLemmas.{AreBytes-drop, AreBytes-take}
+use Rattle.cd_patch.specs.declared.outcome.Outcome.TheVariants.{Damaged}
+use Rattle.cd_patch.proofs.CarryLemmas.{never-damaged}
 use Rattle.cd_patch.proofs.ExistenceLemmas.{run-exists}
+use Rattle.cd_patch.proofs.LeavesLemmas.{run-leaves_others}
 use Rattle.cd_patch.proofs.RunLemmas.{PatchRun-determined}
 use Rattle.cd_image.specs.Image.{sectors, tail}
-use Rattle.cd_image.specs.Patched.{IsPatched}
+use Rattle.cd_image.specs.Patched.{CarriesDamage, IsPatched}
 use Rattle.cd_image.specs.Passing.{joined}
 use Rattle.cd_image.proofs.ImageLemmas.{IsCut-sectors, cut_of_joined}
 
-pub IsPatched-determined : (patches : List Patch) (os os' : List Outcome) (base : ℕ) (image last last' : List ℕ) → IsPatched patches os base image last → IsPatched patches os' base image last'
+pub IsPatched-determined : (carry : Bool) (patches : List Patch) (os os' : List Outcome) (base : ℕ) (image last last' : List ℕ) → IsPatched carry patches os base image last → IsPatched carry patches os' base image last'
     → (os ≡ os') × (last ≡ last')
-IsPatched-determined patches os os' base image last last' one other =
-    let same = PatchRun-determined patches os os' base (sectors image) (sectors last) (sectors last') one.run other.run in (
+IsPatched-determined carry patches os os' base image last last' one other =
+    let same = PatchRun-determined carry patches os os' base (sectors image) (sectors last) (sectors last') one.run other.run in (
       same.0,
       sym (IsCut-sectors last).joined ∙ ap (λ ss. joined ss ++ tail last) same.1 ∙ ap (λ t. joined (sectors last') ++ t) (one.same_tail ∙ sym other.same_tail) ∙ (IsCut-sectors last').joined,
     )
@@ -40,8 +43,26 @@ sectors-are : (image : List ℕ) → AreBytes image → All IsSector (sectors im
 unfolding sectors
 sectors-are image each = chunks-sectors (length image / 2352) image (omega arith) each
 
-pub IsPatched-exists : (patches : List Patch) (base : ℕ) (image : List ℕ) → All IsPatch patches → AreBytes image → (os : List Outcome) × (last : List ℕ) × IsPatched patches os base image last
-IsPatched-exists patches base image each bytes =
-    let run = run-exists patches base (sectors image) each (sectors-are image bytes) in
+pub IsPatched-exists : (carry : Bool) (patches : List Patch) (base : ℕ) (image : List ℕ) → All IsPatch patches → AreBytes image → (os : List Outcome) × (last : List ℕ) × IsPatched carry patches os base image last
+IsPatched-exists carry patches base image each bytes =
+    let run = run-exists carry patches base (sectors image) each (sectors-are image bytes) in
     let cut = cut_of_joined run.1 (tail image) (λ k d inside. (run.3 k d inside).size) (IsCut-sectors image).short in
-    (run.0, joined run.1 ++ tail image, record { run = subst (PatchRun patches run.0 base (sectors image)) cut.0 run.2; same_tail = sym cut.1 })
+    (run.0, joined run.1 ++ tail image, record { run = subst (PatchRun carry patches run.0 base (sectors image)) cut.0 run.2; same_tail = sym cut.1 })
+
+-- ---- damage carried
+
+-- no outcome of a run that carries damage is a refusal for it
+never_refused : (ps : List Patch) (os : List Outcome) (base : ℕ) (old last : List (List ℕ)) → PatchRun true ps os base old last → All (λ o. (block : ℕ) → o ≢ Damaged block) os
+never_refused [] [] base old last h = All-nil (λ o. (block : ℕ) → o ≢ Damaged block)
+never_refused [] (o ∷ os) base old last h = elim h [ ]
+never_refused (p ∷ ps) [] base old last h = elim h [ ]
+never_refused (p ∷ ps) (o ∷ os) base old last h =
+    All-cons (λ o. (block : ℕ) → o ≢ Damaged block) o os (λ block e. never-damaged base block p old (sym h.0 ∙ e)) (never_refused ps os base h.1.0 last h.1.2)
+
+pub IsPatched-carries : (patches : List Patch) (os : List Outcome) (base : ℕ) (image last : List ℕ) → All IsPatch patches → AreBytes image → IsPatched true patches os base image last
+    → CarriesDamage patches os base image last
+IsPatched-carries patches os base image last each bytes patched = record {
+  unrefused = never_refused patches os base (sectors image) (sectors last) patched.run;
+  leaves = run-leaves_others true patches os base (sectors image) (sectors last) each (sectors-are image bytes) patched.run;
+  same_tail = patched.same_tail;
+}

@@ -27,60 +27,60 @@ use Rattle.cd_image.proofs.KnownLemmas.{told_lengths}
 use Rattle.cd_image.proofs.PatchLogLemmas.{missing_lines}
 use Rattle.cd_image.proofs.PassingLemmas.{Going-end, Going-read, Going-send, Going-start}
 
-module _ (taken left : List Patch) (base : ℕ) (start now : Streams) (pass : Pass) (bytes : List ℕ) (image : Incoming) (unended : pass.tail ≡ None) (room : length pass.window < 3) (g : GoesOn taken left base start now pass) where
-  begun : Going taken left base start now pass.window pass.block pass.sectors pass.applied None
-  begun = subst (λ t. Going taken left base start now pass.window pass.block pass.sectors pass.applied (tail_read t pass.bytes)) unended g
+module _ (carry : Bool) (taken left : List Patch) (base : ℕ) (start now : Streams) (pass : Pass) (bytes : List ℕ) (image : Incoming) (unended : pass.tail ≡ None) (room : length pass.window < 3) (g : GoesOn carry taken left base start now pass) where
+  begun : Going carry taken left base start now pass.window pass.block pass.sectors pass.applied None
+  begun = subst (λ t. Going carry taken left base start now pass.window pass.block pass.sectors pass.applied (tail_read t pass.bytes)) unended g
 
-  pub Steps-unread : (fault : Fault) → ReadsSector pass.sectors bytes now.image image (Err fault) → Applies (taken ++ left) base start (record now { image = image }) (Err fault)
-  Steps-unread Read r = Applies-read taken left base start now pass.window pass.block pass.sectors pass.applied begun image r.came r.consumes room r.short r.within r.rose
-  Steps-unread TooLong r = Applies-beyond taken left base start now pass.window pass.block pass.sectors pass.applied begun image r.came r.consumes room r.one r.full r.kept
+  pub Steps-unread : (fault : Fault) → ReadsSector pass.sectors bytes now.image image (Err fault) → Applies carry (taken ++ left) base start (record now { image = image }) (Err fault)
+  Steps-unread Read r = Applies-read carry taken left base start now pass.window pass.block pass.sectors pass.applied begun image r.came r.consumes room r.short r.within r.rose
+  Steps-unread TooLong r = Applies-beyond carry taken left base start now pass.window pass.block pass.sectors pass.applied begun image r.came r.consumes room r.one r.full r.kept
   Steps-unread Write r = elim r [ ]
   Steps-unread Log r = elim r [ ]
 
   pub Steps-ended : (count : ℕ) → EndComes pass.sectors count bytes now.image image
-      → Going taken left base start (record now { image = image }) pass.window pass.block pass.sectors pass.applied (Some (take count bytes))
+      → Going carry taken left base start (record now { image = image }) pass.window pass.block pass.sectors pass.applied (Some (take count bytes))
   Steps-ended count r =
-      Going-end taken left base start now pass.window pass.block pass.sectors pass.applied begun image (take count bytes) r.consumes r.kept (omega (arith, r.size, r.short)) (omega (arith, r.size, r.within)) room r.at_end
+      Going-end carry taken left base start now pass.window pass.block pass.sectors pass.applied begun image (take count bytes) r.consumes r.kept (omega (arith, r.size, r.short)) (omega (arith, r.size, r.within)) room r.at_end
 
   module _ (r : SectorComes pass.sectors bytes now.image image) where
-    came : Going taken left base start (record now { image = image }) (pass.window ++ bytes ∷ []) pass.block (pass.sectors + 1) pass.applied None
-    came = Going-read taken left base start now pass.window pass.block pass.sectors pass.applied begun image bytes r.consumes r.kept r.size r.few room
+    came : Going carry taken left base start (record now { image = image }) (pass.window ++ bytes ∷ []) pass.block (pass.sectors + 1) pass.applied None
+    came = Going-read carry taken left base start now pass.window pass.block pass.sectors pass.applied begun image bytes r.consumes r.kept r.size r.few room
 
     pub Steps-ahead : (items : List (List ℕ)) → items ≡ pass.window ++ bytes ∷ []
-        → Going taken left base start (record now { image = image }) items pass.block (pass.sectors + 1) pass.applied (tail_read pass.tail bytes)
+        → Going carry taken left base start (record now { image = image }) items pass.block (pass.sectors + 1) pass.applied (tail_read pass.tail bytes)
     Steps-ahead items grown =
-        subst (λ t. Going taken left base start (record now { image = image }) items pass.block (pass.sectors + 1) pass.applied (tail_read t bytes)) (sym unended)
-        (subst (λ ws. Going taken left base start (record now { image = image }) ws pass.block (pass.sectors + 1) pass.applied None) (sym grown) came)
+        subst (λ t. Going carry taken left base start (record now { image = image }) items pass.block (pass.sectors + 1) pass.applied (tail_read t bytes)) (sym unended)
+        (subst (λ ws. Going carry taken left base start (record now { image = image }) ws pass.block (pass.sectors + 1) pass.applied None) (sym grown) came)
 
     module _ (empty : pass.window ≡ []) (ahead : All (λ p. pass.block < p.block) left) (out : Outgoing) where
-      alone : Going taken left base start (record now { image = image }) (bytes ∷ []) pass.block (pass.sectors + 1) pass.applied None
-      alone = subst (λ ws. Going taken left base start (record now { image = image }) (ws ++ bytes ∷ []) pass.block (pass.sectors + 1) pass.applied None) empty came
+      alone : Going carry taken left base start (record now { image = image }) (bytes ∷ []) pass.block (pass.sectors + 1) pass.applied None
+      alone = subst (λ ws. Going carry taken left base start (record now { image = image }) (ws ++ bytes ∷ []) pass.block (pass.sectors + 1) pass.applied None) empty came
 
       pub Steps-passed : Appends now.out.written out.written bytes → out.failures ≡ now.out.failures
-          → Going taken left base start (record now { image = image; out = out }) pass.window (pass.block + 1) (pass.sectors + 1) pass.applied (tail_read pass.tail bytes)
+          → Going carry taken left base start (record now { image = image; out = out }) pass.window (pass.block + 1) (pass.sectors + 1) pass.applied (tail_read pass.tail bytes)
       Steps-passed sent kept =
-          subst (λ t. Going taken left base start (record now { image = image; out = out }) pass.window (pass.block + 1) (pass.sectors + 1) pass.applied (tail_read t bytes)) (sym unended)
-          (subst (λ ws. Going taken left base start (record now { image = image; out = out }) ws (pass.block + 1) (pass.sectors + 1) pass.applied None) (sym empty)
-          (Going-send taken left base start (record now { image = image }) bytes [] pass.block (pass.sectors + 1) pass.applied None alone out sent kept r.size ahead))
+          subst (λ t. Going carry taken left base start (record now { image = image; out = out }) pass.window (pass.block + 1) (pass.sectors + 1) pass.applied (tail_read t bytes)) (sym unended)
+          (subst (λ ws. Going carry taken left base start (record now { image = image; out = out }) ws (pass.block + 1) (pass.sectors + 1) pass.applied None) (sym empty)
+          (Going-send carry taken left base start (record now { image = image }) bytes [] pass.block (pass.sectors + 1) pass.applied None alone out sent kept r.size ahead))
 
       pub Steps-unpassed : (n : ℕ) → n < length bytes → Appends now.out.written out.written (take n bytes) → out.failures ≡ now.out.failures + 1
-          → Applies (taken ++ left) base start (record now { image = image; out = out }) (Err Write)
+          → Applies carry (taken ++ left) base start (record now { image = image; out = out }) (Err Write)
       Steps-unpassed n inside went failed =
-          Applies-write taken left base start (record now { image = image }) bytes [] pass.block (pass.sectors + 1) pass.applied None alone out n inside went failed r.size ahead
+          Applies-write carry taken left base start (record now { image = image }) bytes [] pass.block (pass.sectors + 1) pass.applied None alone out n inside went failed r.size ahead
 
 -- the first sector of a window goes out
-module _ (taken left : List Patch) (base : ℕ) (start now : Streams) (block count applied : ℕ) (end : Option (List ℕ)) (ahead : All (λ p. block < p.block) left) (out : Outgoing) where
-  pub Steps-sent : (window : List (List ℕ)) → 0 < length window → Going taken left base start now window block count applied end → (sector other : List ℕ) → sector ≡ get_or window 0 other → length sector ≡ SECTOR_SIZE
-      → Appends now.out.written out.written sector → out.failures ≡ now.out.failures → Going taken left base start (record now { out = out }) (remove window 0) (block + 1) count applied end
+module _ (carry : Bool) (taken left : List Patch) (base : ℕ) (start now : Streams) (block count applied : ℕ) (end : Option (List ℕ)) (ahead : All (λ p. block < p.block) left) (out : Outgoing) where
+  pub Steps-sent : (window : List (List ℕ)) → 0 < length window → Going carry taken left base start now window block count applied end → (sector other : List ℕ) → sector ≡ get_or window 0 other → length sector ≡ SECTOR_SIZE
+      → Appends now.out.written out.written sector → out.failures ≡ now.out.failures → Going carry taken left base start (record now { out = out }) (remove window 0) (block + 1) count applied end
   Steps-sent [] some g sector other is size sent kept = absurd (omega arith)
   Steps-sent (s ∷ window) some g sector other is size sent kept =
-      Going-send taken left base start now s window block count applied end g out (subst (Appends now.out.written out.written) is sent) kept (ap length (sym is) ∙ size) ahead
+      Going-send carry taken left base start now s window block count applied end g out (subst (Appends now.out.written out.written) is sent) kept (ap length (sym is) ∙ size) ahead
 
-  pub Steps-unsent : (window : List (List ℕ)) → 0 < length window → Going taken left base start now window block count applied end → (sector other : List ℕ) → sector ≡ get_or window 0 other → length sector ≡ SECTOR_SIZE
-      → (n : ℕ) → n < length sector → Appends now.out.written out.written (take n sector) → out.failures ≡ now.out.failures + 1 → Applies (taken ++ left) base start (record now { out = out }) (Err Write)
+  pub Steps-unsent : (window : List (List ℕ)) → 0 < length window → Going carry taken left base start now window block count applied end → (sector other : List ℕ) → sector ≡ get_or window 0 other → length sector ≡ SECTOR_SIZE
+      → (n : ℕ) → n < length sector → Appends now.out.written out.written (take n sector) → out.failures ≡ now.out.failures + 1 → Applies carry (taken ++ left) base start (record now { out = out }) (Err Write)
   Steps-unsent [] some g sector other is size n inside sent failed = absurd (omega arith)
   Steps-unsent (s ∷ window) some g sector other is size n inside sent failed =
-      Applies-write taken left base start now s window block count applied end g out n (subst (λ t. n < length t) is inside) (subst (λ t. Appends now.out.written out.written (take n t)) is sent) failed (ap length (sym is) ∙ size) ahead
+      Applies-write carry taken left base start now s window block count applied end g out n (subst (λ t. n < length t) is inside) (subst (λ t. Appends now.out.written out.written (take n t)) is sent) failed (ap length (sym is) ∙ size) ahead
 
 -- ---- turns among all patches
 
@@ -91,23 +91,23 @@ next_first ps d p is = drop-cons ps d p (slice_get_within ps d p is) ∙ ap (λ 
 next_taken : (ps : List Patch) (d : ℕ) (p : Patch) → slice_get ps d ≡ Some p → take (suc d) ps ≡ take d ps ++ p ∷ []
 next_taken ps d p is = take-suc ps d p (slice_get_within ps d p is) ∙ ap (λ q. take d ps ++ q ∷ []) (get_or_from_slice_get ps d p p is)
 
-module _ (ps : List Patch) (d : ℕ) (base : ℕ) (start : Streams) where
+module _ (carry : Bool) (ps : List Patch) (d : ℕ) (base : ℕ) (start : Streams) where
   -- where the next patch begins at the front block
-  pub before_next : (p : Patch) → slice_get ps d ≡ Some p → (now : Streams) (pass : Pass) → GoesOn (take d ps) (drop d ps) base start now pass → GoesOn (take d ps) (p ∷ drop (suc d) ps) base start now pass
-  before_next p is now pass = subst (λ left. GoesOn (take d ps) left base start now pass) (next_first ps d p is)
+  pub before_next : (p : Patch) → slice_get ps d ≡ Some p → (now : Streams) (pass : Pass) → GoesOn carry (take d ps) (drop d ps) base start now pass → GoesOn carry (take d ps) (p ∷ drop (suc d) ps) base start now pass
+  before_next p is now pass = subst (λ left. GoesOn carry (take d ps) left base start now pass) (next_first ps d p is)
 
-  pub Turns-at : (p : Patch) → slice_get ps d ≡ Some p → (now : Streams) (pass : Pass) (result : Result Bool Fault) → StepsOrTakes (take d ps) p (drop (suc d) ps) base start d now pass result → Turns ps base start now pass result
+  pub Turns-at : (p : Patch) → slice_get ps d ≡ Some p → (now : Streams) (pass : Pass) (result : Result Bool Fault) → StepsOrTakes carry (take d ps) p (drop (suc d) ps) base start d now pass result → Turns carry ps base start now pass result
   Turns-at p is now pass (Ok x) (inl (same, goes)) =
-      subst (λ n. GoesOn (take n ps) (drop n ps) base start now pass) (sym same) (subst (λ left. GoesOn (take d ps) left base start now pass) (sym (next_first ps d p is)) goes)
+      subst (λ n. GoesOn carry (take n ps) (drop n ps) base start now pass) (sym same) (subst (λ left. GoesOn carry (take d ps) left base start now pass) (sym (next_first ps d p is)) goes)
   Turns-at p is now pass (Ok x) (inr (more, goes)) =
-      subst (λ n. GoesOn (take n ps) (drop n ps) base start now pass) (sym (more ∙ add-one d)) (subst (λ taken. GoesOn taken (drop (suc d) ps) base start now pass) (sym (next_taken ps d p is)) goes)
+      subst (λ n. GoesOn carry (take n ps) (drop n ps) base start now pass) (sym (more ∙ add-one d)) (subst (λ taken. GoesOn carry taken (drop (suc d) ps) base start now pass) (sym (next_taken ps d p is)) goes)
   Turns-at p is now pass (Err fault) applies =
-      subst (λ all. Applies all base start now (Err fault)) (ap (λ left. take d ps ++ left) (sym (next_first ps d p is)) ∙ take-append-drop d ps) applies
+      subst (λ all. Applies carry all base start now (Err fault)) (ap (λ left. take d ps ++ left) (sym (next_first ps d p is)) ∙ take-append-drop d ps) applies
 
   -- where it does not
-  pub Turns-behind : (now : Streams) (pass : Pass) (result : Result Bool Fault) → OnOk result (pass.decided ≡ d) → Steps (take d ps) (drop d ps) (take d ps) (drop d ps) base start now pass result → Turns ps base start now pass result
-  Turns-behind now pass (Ok x) same goes = subst (λ n. GoesOn (take n ps) (drop n ps) base start now pass) (sym same) goes
-  Turns-behind now pass (Err fault) same applies = subst (λ all. Applies all base start now (Err fault)) (take-append-drop d ps) applies
+  pub Turns-behind : (now : Streams) (pass : Pass) (result : Result Bool Fault) → OnOk result (pass.decided ≡ d) → Steps carry (take d ps) (drop d ps) (take d ps) (drop d ps) base start now pass result → Turns carry ps base start now pass result
+  Turns-behind now pass (Ok x) same goes = subst (λ n. GoesOn carry (take n ps) (drop n ps) base start now pass) (sym same) goes
+  Turns-behind now pass (Err fault) same applies = subst (λ all. Applies carry all base start now (Err fault)) (take-append-drop d ps) applies
 
 -- what holds of each count above holds of this one
 pub at_count : (result : Result Bool Fault) (d count : ℕ) (after before : ℕ → ℕ) → IfOk result (λ more. (n : ℕ) → d < n → after n + cond more 1 0 ≤ before n) → d < count
@@ -134,43 +134,43 @@ strictly_ahead ps d block rising ahead other = λ k e inside.
 pub rest_from : (ps : List Patch) (d : ℕ) → take (length ps - d) (drop d ps) ≡ drop d ps
 rest_from ps d = take_all (length ps - d) (drop d ps) (omega (arith, length-drop d ps))
 
-closed_by : (taken left : List Patch) (base : ℕ) (start now : Streams) (window : List (List ℕ)) (block sectors applied : ℕ) (bytes : List ℕ) (n : ℕ) (tail : Option ℕ) → IsSome tail → n ≡ unwrap_or tail 0
-    → Going taken left base start now window block sectors applied (tail_read tail bytes) → Going taken left base start now window block sectors applied (Some (take n bytes))
-closed_by taken left base start now window block sectors applied bytes n None never is g = cc
-closed_by taken left base start now window block sectors applied bytes n (Some m) some is g = subst (λ k. Going taken left base start now window block sectors applied (Some (take k bytes))) (sym is) g
+closed_by : (carry : Bool) (taken left : List Patch) (base : ℕ) (start now : Streams) (window : List (List ℕ)) (block sectors applied : ℕ) (bytes : List ℕ) (n : ℕ) (tail : Option ℕ) → IsSome tail → n ≡ unwrap_or tail 0
+    → Going carry taken left base start now window block sectors applied (tail_read tail bytes) → Going carry taken left base start now window block sectors applied (Some (take n bytes))
+closed_by carry taken left base start now window block sectors applied bytes n None never is g = cc
+closed_by carry taken left base start now window block sectors applied bytes n (Some m) some is g = subst (λ k. Going carry taken left base start now window block sectors applied (Some (take k bytes))) (sym is) g
 
 -- nothing waits, and the tail is known
-pub closed : (taken left : List Patch) (base : ℕ) (start now : Streams) (pass : Pass) (n : ℕ) → IsEnded pass → n ≡ unwrap_or pass.tail 0 → GoesOn taken left base start now pass
-    → Going taken left base start now [] pass.block pass.sectors pass.applied (Some (take n pass.bytes))
-closed taken left base start now pass n ended is g =
-    subst (λ (ws : List (List ℕ)). Going taken left base start now ws pass.block pass.sectors pass.applied (Some (take n pass.bytes))) ended.empty
-    (closed_by taken left base start now pass.window pass.block pass.sectors pass.applied pass.bytes n pass.tail ended.ended is g)
+pub closed : (carry : Bool) (taken left : List Patch) (base : ℕ) (start now : Streams) (pass : Pass) (n : ℕ) → IsEnded pass → n ≡ unwrap_or pass.tail 0 → GoesOn carry taken left base start now pass
+    → Going carry taken left base start now [] pass.block pass.sectors pass.applied (Some (take n pass.bytes))
+closed carry taken left base start now pass n ended is g =
+    subst (λ (ws : List (List ℕ)). Going carry taken left base start now ws pass.block pass.sectors pass.applied (Some (take n pass.bytes))) ended.empty
+    (closed_by carry taken left base start now pass.window pass.block pass.sectors pass.applied pass.bytes n pass.tail ended.ended is g)
 
 pub short_tail : (tail : Option ℕ) → IfSome tail (λ left. left < 2352) → unwrap_or tail 0 ≤ 2352
 short_tail None short = omega arith
 short_tail (Some left) short = omega arith
 
-module _ (ps : List Patch) (base : ℕ) (start now : Streams) (pass : Pass) (n : ℕ) (ended : IsEnded pass) (is : n ≡ unwrap_or pass.tail 0) (g : GoesOn (take pass.decided ps) (drop pass.decided ps) base start now pass) where
+module _ (carry : Bool) (ps : List Patch) (base : ℕ) (start now : Streams) (pass : Pass) (n : ℕ) (ended : IsEnded pass) (is : n ≡ unwrap_or pass.tail 0) (g : GoesOn carry (take pass.decided ps) (drop pass.decided ps) base start now pass) where
   -- the whole of it, behind the last sector
-  whole : Going (take pass.decided ps) (drop pass.decided ps) base start now [] pass.block pass.sectors pass.applied (Some (take n pass.bytes))
-  whole = closed (take pass.decided ps) (drop pass.decided ps) base start now pass n ended is g
+  whole : Going carry (take pass.decided ps) (drop pass.decided ps) base start now [] pass.block pass.sectors pass.applied (Some (take n pass.bytes))
+  whole = closed carry (take pass.decided ps) (drop pass.decided ps) base start now pass n ended is g
 
-  of_all : (after : Streams) (result : Result Tally Fault) → Applies (take pass.decided ps ++ drop pass.decided ps) base start after result → Applies ps base start after result
-  of_all after result = subst (λ all. Applies all base start after result) (take-append-drop pass.decided ps)
+  of_all : (after : Streams) (result : Result Tally Fault) → Applies carry (take pass.decided ps ++ drop pass.decided ps) base start after result → Applies carry ps base start after result
+  of_all after result = subst (λ all. Applies carry all base start after result) (take-append-drop pass.decided ps)
 
   pub Closes-tail : (out : Outgoing) (m : ℕ) → m < length (take n pass.bytes) → Appends now.out.written out.written (take m (take n pass.bytes)) → out.failures ≡ now.out.failures + 1
-      → Applies ps base start (record now { out = out }) (Err Write)
+      → Applies carry ps base start (record now { out = out }) (Err Write)
   Closes-tail out m inside went failed =
       of_all (record now { out = out }) (Err Write)
-      (Applies-tail (take pass.decided ps) (drop pass.decided ps) base start now pass.block pass.sectors pass.applied (take n pass.bytes) whole out m inside went failed)
+      (Applies-tail carry (take pass.decided ps) (drop pass.decided ps) base start now pass.block pass.sectors pass.applied (take n pass.bytes) whole out m inside went failed)
 
   -- the patches that are left are told
   module _ (out : Outgoing) (sent : Appends now.out.written out.written (take n pass.bytes)) (out_kept : out.failures ≡ now.out.failures) (rest : List Patch) (rest_is : rest ≡ drop pass.decided ps) where
     pub Closes-behind : (log : Outgoing) (m : ℕ) → m < length (missing_lines rest) → Appends now.log.written log.written (take m (missing_lines rest)) → log.failures ≡ now.log.failures + 1
-        → Applies ps base start (record now { out = out; log = log }) (Err Log)
+        → Applies carry ps base start (record now { out = out; log = log }) (Err Log)
     Closes-behind log m inside went failed =
         of_all (record now { out = out; log = log }) (Err Log)
-        (Applies-behind (take pass.decided ps) (drop pass.decided ps) base start now pass.block pass.sectors pass.applied (take n pass.bytes) whole out sent out_kept log m
+        (Applies-behind carry (take pass.decided ps) (drop pass.decided ps) base start now pass.block pass.sectors pass.applied (take n pass.bytes) whole out sent out_kept log m
         (subst (λ left. m < length (missing_lines left)) rest_is inside) (subst (λ left. Appends now.log.written log.written (take m (missing_lines left))) rest_is went) failed)
 
     module _ (lines : Outgoing) (told_rest : Appends now.log.written lines.written (missing_lines rest)) (lines_kept : lines.failures ≡ now.log.failures) (refused : ℕ) (sum : pass.applied + refused ≡ length ps) where
@@ -180,38 +180,38 @@ module _ (ps : List Patch) (base : ℕ) (start now : Streams) (pass : Pass) (n :
       all_sum : pass.applied + refused ≡ length (take pass.decided ps ++ drop pass.decided ps)
       all_sum = sum ∙ sym (ap length (take-append-drop pass.decided ps))
 
-      last_line : log_end pass.applied refused ≡ counts (take pass.decided ps) (drop pass.decided ps) base start now pass.block pass.sectors pass.applied (take n pass.bytes) whole
-      last_line = counts_are (take pass.decided ps) (drop pass.decided ps) base start now pass.block pass.sectors pass.applied (take n pass.bytes) whole refused all_sum
+      last_line : log_end pass.applied refused ≡ counts carry (take pass.decided ps) (drop pass.decided ps) base start now pass.block pass.sectors pass.applied (take n pass.bytes) whole
+      last_line = counts_are carry (take pass.decided ps) (drop pass.decided ps) base start now pass.block pass.sectors pass.applied (take n pass.bytes) whole refused all_sum
 
       pub Closes-counts : (log : Outgoing) (m : ℕ) → m < length (log_end pass.applied refused) → Appends lines.written log.written (take m (log_end pass.applied refused)) → log.failures ≡ lines.failures + 1
-          → Applies ps base start (record now { out = out; log = log }) (Err Log)
+          → Applies carry ps base start (record now { out = out; log = log }) (Err Log)
       Closes-counts log m inside went failed =
           of_all (record now { out = out; log = log }) (Err Log)
-          (Applies-counts (take pass.decided ps) (drop pass.decided ps) base start now pass.block pass.sectors pass.applied (take n pass.bytes) whole out sent out_kept lines told lines_kept log m
+          (Applies-counts carry (take pass.decided ps) (drop pass.decided ps) base start now pass.block pass.sectors pass.applied (take n pass.bytes) whole out sent out_kept lines told lines_kept log m
           (subst (λ l. m < length l) last_line inside) (subst (λ l. Appends lines.written log.written (take m l)) last_line went) failed)
 
       module _ (counted : Outgoing) (ended_lines : Appends lines.written counted.written (log_end pass.applied refused)) (counts_kept : counted.failures ≡ lines.failures) where
-        whole_lines : Appends lines.written counted.written (counts (take pass.decided ps) (drop pass.decided ps) base start now pass.block pass.sectors pass.applied (take n pass.bytes) whole)
+        whole_lines : Appends lines.written counted.written (counts carry (take pass.decided ps) (drop pass.decided ps) base start now pass.block pass.sectors pass.applied (take n pass.bytes) whole)
         whole_lines = subst (Appends lines.written counted.written) last_line ended_lines
 
-        pub Closes-flush : (out' : Outgoing) → Keeps out.written out'.written → out'.failures ≡ out.failures + 1 → Applies ps base start (record now { out = out'; log = counted }) (Err Write)
+        pub Closes-flush : (out' : Outgoing) → Keeps out.written out'.written → out'.failures ≡ out.failures + 1 → Applies carry ps base start (record now { out = out'; log = counted }) (Err Write)
         Closes-flush out' kept failed =
             of_all (record now { out = out'; log = counted }) (Err Write)
-            (Applies-flush (take pass.decided ps) (drop pass.decided ps) base start now pass.block pass.sectors pass.applied (take n pass.bytes) whole out sent out_kept lines told lines_kept counted whole_lines out' kept failed counts_kept)
+            (Applies-flush carry (take pass.decided ps) (drop pass.decided ps) base start now pass.block pass.sectors pass.applied (take n pass.bytes) whole out sent out_kept lines told lines_kept counted whole_lines out' kept failed counts_kept)
 
         module _ (out' : Outgoing) (kept : Keeps out.written out'.written) (flushed : out'.failures ≡ out.failures) (log : Outgoing) (log_kept : Keeps counted.written log.written) where
-          pub Closes-log_flush : log.failures ≡ counted.failures + 1 → Applies ps base start (record now { out = out'; log = log }) (Err Log)
+          pub Closes-log_flush : log.failures ≡ counted.failures + 1 → Applies carry ps base start (record now { out = out'; log = log }) (Err Log)
           Closes-log_flush failed =
               of_all (record now { out = out'; log = log }) (Err Log)
-              (Applies-log_flush (take pass.decided ps) (drop pass.decided ps) base start now pass.block pass.sectors pass.applied (take n pass.bytes) whole out sent out_kept lines told lines_kept counted whole_lines out' kept flushed log log_kept counts_kept failed)
+              (Applies-log_flush carry (take pass.decided ps) (drop pass.decided ps) base start now pass.block pass.sectors pass.applied (take n pass.bytes) whole out sent out_kept lines told lines_kept counted whole_lines out' kept flushed log log_kept counts_kept failed)
 
           pub Closes-ok : log.failures ≡ counted.failures → out'.finished ≡ true → log.finished ≡ true → n ≤ length pass.bytes
-              → Applies ps base start (record now { out = out'; log = log }) (Ok (record { applied = pass.applied; refused = refused; sectors = pass.sectors; tail = n }))
+              → Applies carry ps base start (record now { out = out'; log = log }) (Ok (record { applied = pass.applied; refused = refused; sectors = pass.sectors; tail = n }))
           Closes-ok log_well out_finished log_finished short =
               of_all (record now { out = out'; log = log }) (Ok (record { applied = pass.applied; refused = refused; sectors = pass.sectors; tail = n }))
-              (Applies-ok (take pass.decided ps) (drop pass.decided ps) base start now pass.block pass.sectors pass.applied (take n pass.bytes) whole out sent out_kept lines told lines_kept counted whole_lines out' kept flushed log _ log_kept counts_kept log_well out_finished log_finished
+              (Applies-ok carry (take pass.decided ps) (drop pass.decided ps) base start now pass.block pass.sectors pass.applied (take n pass.bytes) whole out sent out_kept lines told lines_kept counted whole_lines out' kept flushed log _ log_kept counts_kept log_well out_finished log_finished
               (ap (λ (m : ℕ). tally pass.applied refused pass.sectors m) (sym (length-take-le n pass.bytes short))
-              ∙ tally_of_all (take pass.decided ps) (drop pass.decided ps) base start now pass.block pass.sectors pass.applied (take n pass.bytes) whole refused all_sum))
+              ∙ tally_of_all carry (take pass.decided ps) (drop pass.decided ps) base start now pass.block pass.sectors pass.applied (take n pass.bytes) whole refused all_sum))
 
 -- ---- how large the numbers of a pass are
 
@@ -223,9 +223,9 @@ pub record Bounds (start now : Streams) (pass : Pass) : Type 0 where
   pub block : pass.block ≤ 1449849
   pub applied : pass.applied ≤ pass.decided
 
-pub bounds : (ps : List Patch) (base : ℕ) (start now : Streams) (pass : Pass) → base ≤ 449849 → GoesOn (take pass.decided ps) (drop pass.decided ps) base start now pass → Bounds start now pass
-bounds ps base start now pass low g =
-    let told = told_lengths (take pass.decided ps) (drop pass.decided ps) base start now pass.window pass.block pass.sectors pass.applied (tail_read pass.tail pass.bytes) g in
+pub bounds : (carry : Bool) (ps : List Patch) (base : ℕ) (start now : Streams) (pass : Pass) → base ≤ 449849 → GoesOn carry (take pass.decided ps) (drop pass.decided ps) base start now pass → Bounds start now pass
+bounds carry ps base start now pass low g =
+    let told = told_lengths carry (take pass.decided ps) (drop pass.decided ps) base start now pass.window pass.block pass.sectors pass.applied (tail_read pass.tail pass.bytes) g in
     let few = count_by-le-length is_applied g.outcomes in
     let taken = length-take pass.decided ps in
     record {
@@ -241,21 +241,21 @@ pub no_tail : (pass : Pass) → pass.tail ≡ None → HasShortTail pass
 no_tail pass none = subst (λ t. IfSome t (λ left. left < SECTOR_SIZE)) (sym none) tt
 
 -- a new pass, behind the patches that begin below the image
-pub begun_pass : (ps : List Patch) (base : ℕ) (start : Streams) (log : Outgoing) (below : ℕ) (pass : Pass) → pass.window ≡ [] → pass.block ≡ base → pass.sectors ≡ 0 → pass.decided ≡ below → pass.applied ≡ 0 → pass.tail ≡ None
+pub begun_pass : (carry : Bool) (ps : List Patch) (base : ℕ) (start : Streams) (log : Outgoing) (below : ℕ) (pass : Pass) → pass.window ≡ [] → pass.block ≡ base → pass.sectors ≡ 0 → pass.decided ≡ below → pass.applied ≡ 0 → pass.tail ≡ None
     → All (λ p. p.block < base) (take below ps) → All (λ p. base ≤ p.block) (drop below ps) → Appends start.log.written log.written (missing_lines (take below ps)) → log.failures ≡ start.log.failures
-    → GoesOn (take pass.decided ps) (drop pass.decided ps) base start (record start { log = log }) pass
-begun_pass ps base start log below pass window block sectors decided applied tail under ahead told kept =
-    subst (λ n. GoesOn (take n ps) (drop n ps) base start (record start { log = log }) pass) (sym decided)
-    (subst (λ (ws : List (List ℕ)). Going (take below ps) (drop below ps) base start (record start { log = log }) ws pass.block pass.sectors pass.applied (tail_read pass.tail pass.bytes)) (sym window)
-    (subst (λ b. Going (take below ps) (drop below ps) base start (record start { log = log }) [] b pass.sectors pass.applied (tail_read pass.tail pass.bytes)) (sym block)
-    (subst (λ n. Going (take below ps) (drop below ps) base start (record start { log = log }) [] base n pass.applied (tail_read pass.tail pass.bytes)) (sym sectors)
-    (subst (λ n. Going (take below ps) (drop below ps) base start (record start { log = log }) [] base 0 n (tail_read pass.tail pass.bytes)) (sym applied)
-    (subst (λ t. Going (take below ps) (drop below ps) base start (record start { log = log }) [] base 0 0 (tail_read t pass.bytes)) (sym tail)
-    (Going-start (take below ps) (drop below ps) base start log under ahead told kept))))))
+    → GoesOn carry (take pass.decided ps) (drop pass.decided ps) base start (record start { log = log }) pass
+begun_pass carry ps base start log below pass window block sectors decided applied tail under ahead told kept =
+    subst (λ n. GoesOn carry (take n ps) (drop n ps) base start (record start { log = log }) pass) (sym decided)
+    (subst (λ (ws : List (List ℕ)). Going carry (take below ps) (drop below ps) base start (record start { log = log }) ws pass.block pass.sectors pass.applied (tail_read pass.tail pass.bytes)) (sym window)
+    (subst (λ b. Going carry (take below ps) (drop below ps) base start (record start { log = log }) [] b pass.sectors pass.applied (tail_read pass.tail pass.bytes)) (sym block)
+    (subst (λ n. Going carry (take below ps) (drop below ps) base start (record start { log = log }) [] base n pass.applied (tail_read pass.tail pass.bytes)) (sym sectors)
+    (subst (λ n. Going carry (take below ps) (drop below ps) base start (record start { log = log }) [] base 0 n (tail_read pass.tail pass.bytes)) (sym applied)
+    (subst (λ t. Going carry (take below ps) (drop below ps) base start (record start { log = log }) [] base 0 0 (tail_read t pass.bytes)) (sym tail)
+    (Going-start carry (take below ps) (drop below ps) base start log under ahead told kept))))))
 
 -- the log fails before the first read
-pub Applies-first : (ps : List Patch) (base : ℕ) (start : Streams) (log : Outgoing) (below : ℕ) → All (λ p. p.block < base) (take below ps) → (n : ℕ) → n < length (missing_lines (take below ps))
-    → Appends start.log.written log.written (take n (missing_lines (take below ps))) → log.failures ≡ start.log.failures + 1 → Applies ps base start (record start { log = log }) (Err Log)
-Applies-first ps base start log below under n inside went failed =
-    subst (λ all. Applies all base start (record start { log = log }) (Err Log)) (take-append-drop below ps)
-    (Applies-below (take below ps) (drop below ps) base start log under n inside went failed)
+pub Applies-first : (carry : Bool) (ps : List Patch) (base : ℕ) (start : Streams) (log : Outgoing) (below : ℕ) → All (λ p. p.block < base) (take below ps) → (n : ℕ) → n < length (missing_lines (take below ps))
+    → Appends start.log.written log.written (take n (missing_lines (take below ps))) → log.failures ≡ start.log.failures + 1 → Applies carry ps base start (record start { log = log }) (Err Log)
+Applies-first carry ps base start log below under n inside went failed =
+    subst (λ all. Applies carry all base start (record start { log = log }) (Err Log)) (take-append-drop below ps)
+    (Applies-below carry (take below ps) (drop below ps) base start log under n inside went failed)

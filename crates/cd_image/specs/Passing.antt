@@ -1,5 +1,5 @@
 -- How far a pass over an image has come that takes patches on its way: inner words of `apply` and `check`.
-use Rattle.std.specs.Prelude.{◌≡◌, ℕ, ◌+◌, ◌-◌, ◌*◌, ◌<◌, ◌≤◌, ◌⊎◌, List, [], ◌∷◌, ◌++◌, All, length, take, drop, map, Option, None, Some, IfSome, IsSome, Result, Ok, Err}
+use Rattle.std.specs.Prelude.{◌≡◌, ℕ, ◌+◌, ◌-◌, ◌*◌, ◌<◌, ◌≤◌, ◌⊎◌, Bool, List, [], ◌∷◌, ◌++◌, All, length, take, drop, map, Option, None, Some, IfSome, IsSome, Result, Ok, Err}
 use Rattle.std.specs.Io.KnownBytes.{Appends, Consumes, IsAtEnd}
 use Rattle.std.specs.List.{flat_map}
 use Rattle.cd_script.specs.declared.patch.Patch.{Patch}
@@ -32,7 +32,7 @@ missing ps = map (λ p. NoBlock p.block) ps
 
 -- since `start` the sectors `seen` were read, `done` have gone out and `window` waits; the patches `taken` were decided and
 -- told; whatever may still come, they lead from what was read to what went out, the window, and that
-pub record Going (taken left : List Patch) (base : ℕ) (start now : Streams) (window : List (List ℕ)) (block sectors applied : ℕ) (tail : Option (List ℕ)) : Type 0 where
+pub record Going (carry : Bool) (taken left : List Patch) (base : ℕ) (start now : Streams) (window : List (List ℕ)) (block sectors applied : ℕ) (tail : Option (List ℕ)) : Type 0 where
   pub seen : List (List ℕ)
   pub done : List (List ℕ)
   pub outcomes : List Outcome
@@ -46,7 +46,7 @@ pub record Going (taken left : List Patch) (base : ℕ) (start now : Streams) (w
   pub within : SECTOR_SIZE * sectors + length (tail_bytes tail) ≤ image_limit
   pub ended : IsSome tail → IsAtEnd now.image.rest
   pub in_hand : SECTOR_SIZE * length window + length (tail_bytes tail) ≤ 7056
-  pub run : (more : List (List ℕ)) → (IsSome tail → more ≡ []) → PatchRun taken outcomes base (seen ++ more) (done ++ (window ++ more))
+  pub run : (more : List (List ℕ)) → (IsSome tail → more ≡ []) → PatchRun carry taken outcomes base (seen ++ more) (done ++ (window ++ more))
   pub front : block ≡ base + length done
   pub count : sectors ≡ length seen
   pub held : length done + length window ≡ length seen
@@ -59,20 +59,20 @@ abbrev pub HasShortTail : Pass → Type 0
 HasShortTail pass = IfSome pass.tail (λ left. left < SECTOR_SIZE)
 
 -- the same of a pass
-abbrev pub GoesOn : List Patch → List Patch → ℕ → Streams → Streams → Pass → Type 0
-GoesOn taken left base start now pass =
-    Going taken left base start now pass.window pass.block pass.sectors pass.applied (tail_read pass.tail pass.bytes)
+abbrev pub GoesOn : Bool → List Patch → List Patch → ℕ → Streams → Streams → Pass → Type 0
+GoesOn carry taken left base start now pass =
+    Going carry taken left base start now pass.window pass.block pass.sectors pass.applied (tail_read pass.tail pass.bytes)
 
 -- a step has gone well, or the call ends by its fault
-abbrev pub Steps : {X : Type 0} → List Patch → List Patch → List Patch → List Patch → ℕ → Streams → Streams → Pass → Result X Fault → Type 0
-Steps taken left taken' left' base start now pass (Ok x) = GoesOn taken' left' base start now pass
-Steps taken left taken' left' base start now pass (Err fault) = Applies (taken ++ left) base start now (Err fault)
+abbrev pub Steps : {X : Type 0} → Bool → List Patch → List Patch → List Patch → List Patch → ℕ → Streams → Streams → Pass → Result X Fault → Type 0
+Steps carry taken left taken' left' base start now pass (Ok x) = GoesOn carry taken' left' base start now pass
+Steps carry taken left taken' left' base start now pass (Err fault) = Applies carry (taken ++ left) base start now (Err fault)
 
 -- the same, where a patch was taken or not, as the number of decided ones tells
-abbrev pub StepsOrTakes : {X : Type 0} → List Patch → Patch → List Patch → ℕ → Streams → ℕ → Streams → Pass → Result X Fault → Type 0
-StepsOrTakes taken p left base start decided now pass (Ok x) =
-    ((pass.decided ≡ decided) × GoesOn taken (p ∷ left) base start now pass) ⊎ ((pass.decided ≡ decided + 1) × GoesOn (taken ++ p ∷ []) left base start now pass)
-StepsOrTakes taken p left base start decided now pass (Err fault) = Applies (taken ++ p ∷ left) base start now (Err fault)
+abbrev pub StepsOrTakes : {X : Type 0} → Bool → List Patch → Patch → List Patch → ℕ → Streams → ℕ → Streams → Pass → Result X Fault → Type 0
+StepsOrTakes carry taken p left base start decided now pass (Ok x) =
+    ((pass.decided ≡ decided) × GoesOn carry taken (p ∷ left) base start now pass) ⊎ ((pass.decided ≡ decided + 1) × GoesOn carry (taken ++ p ∷ []) left base start now pass)
+StepsOrTakes carry taken p left base start decided now pass (Err fault) = Applies carry (taken ++ p ∷ left) base start now (Err fault)
 
 -- ---- how much is left to do, of so many patches: each turn leaves less
 
@@ -89,6 +89,6 @@ pub record IsEnded (pass : Pass) : Type 0 where
   pub ended : IsSome pass.tail
 
 -- a turn has gone well, or the call ends by its fault
-abbrev pub Turns : {X : Type 0} → List Patch → ℕ → Streams → Streams → Pass → Result X Fault → Type 0
-Turns patches base start now pass (Ok x) = GoesOn (take pass.decided patches) (drop pass.decided patches) base start now pass
-Turns patches base start now pass (Err fault) = Applies patches base start now (Err fault)
+abbrev pub Turns : {X : Type 0} → Bool → List Patch → ℕ → Streams → Streams → Pass → Result X Fault → Type 0
+Turns carry patches base start now pass (Ok x) = GoesOn carry (take pass.decided patches) (drop pass.decided patches) base start now pass
+Turns carry patches base start now pass (Err fault) = Applies carry patches base start now (Err fault)

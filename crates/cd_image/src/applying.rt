@@ -1,10 +1,10 @@
 //! Patching an image, and what a script of patches would do to it.
 
-ghost use Rattle.std.specs.Prelude.{◌≡◌, ◌≢◌, ◌+◌, ◌<◌, ◌≤◌, ◌↔◌, All, IfOk, OnOk, drop, length, take};
+ghost use Rattle.std.specs.Prelude.{◌≡◌, ◌≢◌, ◌+◌, ◌<◌, ◌≤◌, ◌↔◌, All, IfOk, OnOk, drop, length, take, true};
 ghost use Rattle.std.specs.List.Sorted.{IsNonDecreasingBy};
 ghost use Rattle.cd_script.specs.Patch.{IsPatch};
 ghost use Rattle.cd_image.specs.Report.{AnswersByLength, EndsWell, TellsTooLong};
-ghost use Rattle.cd_image.specs.Applying.{Applies, Checks, HoldsFew, WritesLog, WritesPatched, streams};
+ghost use Rattle.cd_image.specs.Applying.{Applies, Checks, HoldsFew, WritesCarried, WritesLog, WritesPatched, streams};
 
 use crate::MAX_BASE;
 use crate::discard::Discard;
@@ -19,12 +19,14 @@ use cd_stream::{Sink, Source};
 ///
 /// `base` is the number of the first block. It goes once through the image, holds at most three sectors and takes no
 /// memory. An accepted patch leaves each sector that it meets as the one consistent sector with its old header and
-/// the patched user data; a refused one changes nothing. `Read`, `Write` and `Log` come where the image, `out` or
+/// the patched user data; with `carry` each sector that it does not rebuild keeps its old damage, and none is refused
+/// for it. A refused patch changes nothing. `Read`, `Write` and `Log` come where the image, `out` or
 /// `log` has failed, `TooLong` where a byte was read behind the millionth sector.
 pub fn apply<I: Source, O: Sink, L: Sink>(
     image: &mut I,
     script: &Script,
     base: u32,
+    carry: bool,
     out: &mut O,
     log: &mut L,
 ) -> Result<Tally, Fault>
@@ -34,12 +36,13 @@ pub fn apply<I: Source, O: Sink, L: Sink>(
     requires log_countable { (L.seen log.old).failures < 4294967295 }
 
     // The whole of it, also what stands after a fault, and where one sink stands when the other fails.
-    ensures report { Applies script.now base (streams (I.seen image.old) (O.seen out.old) (L.seen log.old))
+    ensures report { Applies carry script.now base (streams (I.seen image.old) (O.seen out.old) (L.seen log.old))
         (streams (I.seen image.new) (O.seen out.new) (L.seen log.new)) result }
 
     // What it says where nothing failed, when each fault comes, and how much it holds.
-    ensures output { OnOk result (WritesPatched script.now base (I.seen image.old) (I.seen image.new) (O.seen out.old) (O.seen out.new)) }
-    ensures log { IfOk result (WritesLog script.now base (I.seen image.old) (L.seen log.old) (L.seen log.new)) }
+    ensures output { OnOk result (WritesPatched carry script.now base (I.seen image.old) (I.seen image.new) (O.seen out.old) (O.seen out.new)) }
+    ensures carried { carry ≡ true → OnOk result (WritesCarried script.now base (I.seen image.old) (O.seen out.old) (O.seen out.new)) }
+    ensures log { IfOk result (WritesLog carry script.now base (I.seen image.old) (L.seen log.old) (L.seen log.new)) }
     ensures output_ends_well { OnOk result (EndsWell (I.seen image.old) (I.seen image.new) (O.seen out.old) (O.seen out.new)) }
     ensures log_ends_well { OnOk result (EndsWell (I.seen image.old) (I.seen image.new) (L.seen log.old) (L.seen log.new)) }
     ensures read_failed { (result ≡ Err Fault.Read) ↔ ((I.seen image.new).failures ≡ (I.seen image.old).failures + 1) }
@@ -51,7 +54,7 @@ pub fn apply<I: Source, O: Sink, L: Sink>(
     ensures holds_few { HoldsFew (streams (I.seen image.old) (O.seen out.old) (L.seen log.old))
         (streams (I.seen image.new) (O.seen out.new) (L.seen log.new)) }
 {
-    apply_whole(image, script.patches(), base, out, log)
+    apply_whole(image, script.patches(), base, carry, out, log)
 }
 
 /// The same outcomes and log as those of `apply`, and no output.
@@ -59,6 +62,7 @@ pub fn check<I: Source, L: Sink>(
     image: &mut I,
     script: &Script,
     base: u32,
+    carry: bool,
     log: &mut L,
 ) -> Result<Tally, Fault>
     requires base { base ≤ MAX_BASE }
@@ -66,10 +70,10 @@ pub fn check<I: Source, L: Sink>(
     requires log_countable { (L.seen log.old).failures < 4294967295 }
 
     // The whole of it, also what stands after a fault: what `apply` does with an output that keeps nothing.
-    ensures report { Checks script.now base (I.seen image.old) (I.seen image.new) (L.seen log.old) (L.seen log.new) result }
+    ensures report { Checks carry script.now base (I.seen image.old) (I.seen image.new) (L.seen log.old) (L.seen log.new) result }
 
     // What it says where nothing failed, and when each fault comes.
-    ensures log { IfOk result (WritesLog script.now base (I.seen image.old) (L.seen log.old) (L.seen log.new)) }
+    ensures log { IfOk result (WritesLog carry script.now base (I.seen image.old) (L.seen log.old) (L.seen log.new)) }
     ensures ends_well { OnOk result (EndsWell (I.seen image.old) (I.seen image.new) (L.seen log.old) (L.seen log.new)) }
     ensures read_failed { (result ≡ Err Fault.Read) ↔ ((I.seen image.new).failures ≡ (I.seen image.old).failures + 1) }
     ensures log_failed { (result ≡ Err Fault.Log) ↔ ((L.seen log.new).failures ≡ (L.seen log.old).failures + 1) }
@@ -78,7 +82,7 @@ pub fn check<I: Source, L: Sink>(
         → AnswersByLength (I.seen image.old) result }
     ensures no_output { result ≢ Err Fault.Write }
 {
-    check_whole(image, script.patches(), base, log)
+    check_whole(image, script.patches(), base, carry, log)
 }
 
 /// What `check` does with patches in their order, as one fact.
@@ -86,6 +90,7 @@ fn check_whole<I: Source, L: Sink>(
     image: &mut I,
     patches: &[Patch],
     base: u32,
+    carry: bool,
     log: &mut L,
 ) -> Result<Tally, Fault>
     requires base { base ≤ MAX_BASE }
@@ -94,10 +99,10 @@ fn check_whole<I: Source, L: Sink>(
     requires each { All IsPatch patches.now }
     requires count { length patches.now ≤ 65535 }
     requires rising { IsNonDecreasingBy (λ p. p.block) patches.now }
-    ensures { Checks patches.now base (I.seen image.old) (I.seen image.new) (L.seen log.old) (L.seen log.new) result }
+    ensures { Checks carry patches.now base (I.seen image.old) (I.seen image.new) (L.seen log.old) (L.seen log.new) result }
 {
     let mut nothing = Discard::new();
-    apply_whole(image, patches, base, &mut nothing, log)
+    apply_whole(image, patches, base, carry, &mut nothing, log)
 }
 
 /// What `apply` does with patches in their order, as one fact.
@@ -105,6 +110,7 @@ fn apply_whole<I: Source, O: Sink, L: Sink>(
     image: &mut I,
     patches: &[Patch],
     base: u32,
+    carry: bool,
     out: &mut O,
     log: &mut L,
 ) -> Result<Tally, Fault>
@@ -115,7 +121,7 @@ fn apply_whole<I: Source, O: Sink, L: Sink>(
     requires each { All IsPatch patches.now }
     requires count { length patches.now ≤ 65535 }
     requires rising { IsNonDecreasingBy (λ p. p.block) patches.now }
-    ensures { Applies patches.now base (streams (I.seen image.old) (O.seen out.old) (L.seen log.old))
+    ensures { Applies carry patches.now base (streams (I.seen image.old) (O.seen out.old) (L.seen log.old))
         (streams (I.seen image.new) (O.seen out.new) (L.seen log.new)) result }
 {
     let below = count_below(patches, base);
@@ -123,7 +129,7 @@ fn apply_whole<I: Source, O: Sink, L: Sink>(
     let mut pass = Pass::new(base, below);
     let mut more = true;
     while more {
-        more = pass.turn(image, patches, out, log)?;
+        more = pass.turn(image, patches, carry, out, log)?;
     }
     pass.close(patches, out, log)
 }

@@ -2,7 +2,7 @@
 
 ghost use Rattle.cd_image.specs.AuditText.{AuditCountsLines};
 ghost use Rattle.cd_image.specs.Image.{ImagesAreCut};
-ghost use Rattle.cd_image.specs.Patched.{PatchedExists, PatchedIsDetermined};
+ghost use Rattle.cd_image.specs.Patched.{PatchedCarries, PatchedExists, PatchedIsDetermined};
 ghost use Rattle.cd_image.specs.Runs.{RunsSpellKinds};
 
 /// Each list of bytes is its whole sectors and then its tail, and is cut so in one way alone.
@@ -29,4 +29,9 @@ pub fn patched_is_determined()
 /// Each list of patches can be taken on each image of bytes.
 pub fn patched_exists()
     ensures { PatchedExists }
+{}
+
+/// With damage carried no patch is refused for damage, and each sector that no patch has rebuilt keeps its own.
+pub fn patched_carries()
+    ensures { PatchedCarries }
 {}

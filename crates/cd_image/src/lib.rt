@@ -23,7 +23,8 @@ pub use cd_stream::{
 };
 pub use fault::Fault;
 pub use laws::{
-    audit_counts_lines, images_are_cut, patched_exists, patched_is_determined, runs_spell_kinds,
+    audit_counts_lines, images_are_cut, patched_carries, patched_exists, patched_is_determined,
+    runs_spell_kinds,
 };
 pub use listing::{ListTally, list};
 pub use patch_log::Tally;

@@ -1,6 +1,6 @@
 //! One pass over an image that takes patches on its way: at most three sectors are in hand.
 
-ghost use Rattle.std.specs.Prelude.{◌≡◌, ◌≢◌, ℕ, ◌+◌, ◌-◌, ◌<◌, ◌≤◌, ◌⊎◌, ◌++◌, [], ◌∷◌, true, false, All, List, cond, None, OnOk, IfOk, IfSome, IfNone, IsSome, length, take, drop, slice_get};
+ghost use Rattle.std.specs.Prelude.{◌≡◌, ◌≢◌, ℕ, ◌+◌, ◌-◌, ◌<◌, ◌≤◌, ◌⊎◌, ◌++◌, [], ◌∷◌, true, false, All, Bool, List, cond, None, OnOk, IfOk, IfSome, IfNone, IsSome, length, take, drop, slice_get};
 ghost use Rattle.std.specs.List.Sorted.{IsNonDecreasingBy};
 ghost use Rattle.cd_script.specs.Patch.{IsPatch};
 ghost use Rattle.cd_script.specs.declared.patch.Patch.{Patch};
@@ -66,9 +66,9 @@ impl Pass {
         requires few { self.old.sectors ≤ 1000000 }
         requires room { length self.old.window < 3 }
         requires unended { self.old.tail ≡ None }
-        ensures goes { (taken left : List Patch) (base : ℕ) (start : Streams) (out log : Outgoing)
-            → GoesOn taken left base start (streams (I.seen image.old) out log) self.old
-            → Steps taken left taken left base start (streams (I.seen image.new) out log) self.new result }
+        ensures goes { (carry : Bool) (taken left : List Patch) (base : ℕ) (start : Streams) (out log : Outgoing)
+            → GoesOn carry taken left base start (streams (I.seen image.old) out log) self.old
+            → Steps carry taken left taken left base start (streams (I.seen image.new) out log) self.new result }
         ensures decided { OnOk result (self.new.decided ≡ self.old.decided) }
         ensures short { HasShortTail self.old → HasShortTail self.new }
         ensures nearer { OnOk result ((count : ℕ) → left_to_do count self.new < left_to_do count self.old) }
@@ -91,10 +91,10 @@ impl Pass {
         requires small { self.old.block < 4294967295 }
         requires empty { self.old.window ≡ [] }
         requires unended { self.old.tail ≡ None }
-        ensures goes { (taken left : List Patch) (base : ℕ) (start : Streams) (log : Outgoing)
+        ensures goes { (carry : Bool) (taken left : List Patch) (base : ℕ) (start : Streams) (log : Outgoing)
             → All (λ p. self.old.block < p.block) left
-            → GoesOn taken left base start (streams (I.seen image.old) (O.seen out.old) log) self.old
-            → Steps taken left taken left base start (streams (I.seen image.new) (O.seen out.new) log) self.new result }
+            → GoesOn carry taken left base start (streams (I.seen image.old) (O.seen out.old) log) self.old
+            → Steps carry taken left taken left base start (streams (I.seen image.new) (O.seen out.new) log) self.new result }
         ensures decided { OnOk result (self.new.decided ≡ self.old.decided) }
         ensures short { HasShortTail self.old → HasShortTail self.new }
         ensures nearer { OnOk result ((count : ℕ) → left_to_do count self.new < left_to_do count self.old) }
@@ -115,10 +115,10 @@ impl Pass {
         requires countable { (O.seen out.old).failures < 4294967295 }
         requires small { self.old.block < 4294967295 }
         requires some { 0 < length self.old.window }
-        ensures goes { (taken left : List Patch) (base : ℕ) (start : Streams) (image : Incoming) (log : Outgoing)
+        ensures goes { (carry : Bool) (taken left : List Patch) (base : ℕ) (start : Streams) (image : Incoming) (log : Outgoing)
             → All (λ p. self.old.block < p.block) left
-            → GoesOn taken left base start (streams image (O.seen out.old) log) self.old
-            → Steps taken left taken left base start (streams image (O.seen out.new) log) self.new result }
+            → GoesOn carry taken left base start (streams image (O.seen out.old) log) self.old
+            → Steps carry taken left taken left base start (streams image (O.seen out.new) log) self.new result }
         ensures decided { OnOk result (self.new.decided ≡ self.old.decided) }
         ensures short { HasShortTail self.old → HasShortTail self.new }
         ensures nearer { OnOk result ((count : ℕ) → left_to_do count self.new < left_to_do count self.old) }
@@ -131,7 +131,12 @@ impl Pass {
 
     /// Takes a patch that begins at the first sector of the window. All that it meets is in the window, or the image
     /// has ended.
-    fn take_front<L: Sink>(&mut self, patch: &Patch, log: &mut L) -> Result<(), Fault>
+    fn take_front<L: Sink>(
+        &mut self,
+        patch: &Patch,
+        carry: bool,
+        log: &mut L,
+    ) -> Result<(), Fault>
         requires countable { (L.seen log.old).failures < 4294967295 }
         requires patch { IsPatch patch.now }
         requires at { patch.now.block ≡ self.old.block }
@@ -140,13 +145,13 @@ impl Pass {
         requires few { self.old.decided < 65535 }
         requires small { self.old.applied ≤ self.old.decided }
         ensures goes { (taken left : List Patch) (base : ℕ) (start : Streams) (image : Incoming) (out : Outgoing)
-            → GoesOn taken (patch.now ∷ left) base start (streams image out (L.seen log.old)) self.old
-            → Steps taken (patch.now ∷ left) (taken ++ patch.now ∷ []) left base start (streams image out (L.seen log.new)) self.new result }
+            → GoesOn carry taken (patch.now ∷ left) base start (streams image out (L.seen log.old)) self.old
+            → Steps carry taken (patch.now ∷ left) (taken ++ patch.now ∷ []) left base start (streams image out (L.seen log.new)) self.new result }
         ensures decided { OnOk result (self.new.decided ≡ self.old.decided + 1) }
         ensures short { HasShortTail self.old → HasShortTail self.new }
         ensures nearer { OnOk result ((count : ℕ) → self.old.decided < count → left_to_do count self.new < left_to_do count self.old) }
     {
-        let outcome = self.window.take(patch);
+        let outcome = self.window.take(patch, carry);
         send_outcome(patch, outcome, log)?;
         self.decided += 1;
         self.applied += one_if_applied(outcome);
@@ -170,6 +175,7 @@ impl Pass {
         &mut self,
         image: &mut I,
         patches: &[Patch],
+        carry: bool,
         out: &mut O,
         log: &mut L,
     ) -> Result<bool, Fault>
@@ -183,16 +189,16 @@ impl Pass {
         requires small { self.old.block < 4294967295 }
         requires applied { self.old.applied ≤ self.old.decided }
         ensures goes { (base : ℕ) (start : Streams)
-            → GoesOn (take self.old.decided patches.now) (drop self.old.decided patches.now) base start
+            → GoesOn carry (take self.old.decided patches.now) (drop self.old.decided patches.now) base start
             (streams (I.seen image.old) (O.seen out.old) (L.seen log.old)) self.old
-            → Turns patches.now base start (streams (I.seen image.new) (O.seen out.new) (L.seen log.new)) self.new result }
+            → Turns carry patches.now base start (streams (I.seen image.new) (O.seen out.new) (L.seen log.new)) self.new result }
         ensures known { OnOk result (self.old.decided ≤ length patches.now → self.new.decided ≤ length patches.now) }
         ensures short { HasShortTail self.old → HasShortTail self.new }
         ensures ended { IfOk result (λ more. more ≡ false → IsEnded self.new) }
         ensures nearer { IfOk result (λ more. left_to_do (length patches.now) self.new + cond more 1 0 ≤ left_to_do (length patches.now) self.old) }
     {
         match self.patch_at_front(patches) {
-            Some(patch) => self.turn_at(image, patch, log),
+            Some(patch) => self.turn_at(image, patch, carry, log),
             None => self.turn_behind(image, out),
         }
     }
@@ -202,6 +208,7 @@ impl Pass {
         &mut self,
         image: &mut I,
         patch: &Patch,
+        carry: bool,
         log: &mut L,
     ) -> Result<bool, Fault>
         requires image_countable { (I.seen image.old).failures < 4294967295 }
@@ -212,8 +219,8 @@ impl Pass {
         requires decided { self.old.decided < 65535 }
         requires applied { self.old.applied ≤ self.old.decided }
         ensures goes { (taken left : List Patch) (base : ℕ) (start : Streams) (out : Outgoing)
-            → GoesOn taken (patch.now ∷ left) base start (streams (I.seen image.old) out (L.seen log.old)) self.old
-            → StepsOrTakes taken patch.now left base start self.old.decided (streams (I.seen image.new) out (L.seen log.new)) self.new result }
+            → GoesOn carry taken (patch.now ∷ left) base start (streams (I.seen image.old) out (L.seen log.old)) self.old
+            → StepsOrTakes carry taken patch.now left base start self.old.decided (streams (I.seen image.new) out (L.seen log.new)) self.new result }
         ensures decided { OnOk result (self.new.decided ≤ self.old.decided + 1) }
         ensures short { HasShortTail self.old → HasShortTail self.new }
         ensures ended { IfOk result (λ more. more ≡ false → IsEnded self.new) }
@@ -222,7 +229,7 @@ impl Pass {
         if self.tail.is_none() && self.window.len() < blocks_met(patch) {
             self.read_ahead(image)?;
         } else if !self.window.is_empty() {
-            self.take_front(patch, log)?;
+            self.take_front(patch, carry, log)?;
         } else {
             return Ok(false);
         }
@@ -235,10 +242,10 @@ impl Pass {
         requires out_countable { (O.seen out.old).failures < 4294967295 }
         requires few { self.old.sectors ≤ 1000000 }
         requires small { self.old.block < 4294967295 }
-        ensures goes { (taken left : List Patch) (base : ℕ) (start : Streams) (log : Outgoing)
+        ensures goes { (carry : Bool) (taken left : List Patch) (base : ℕ) (start : Streams) (log : Outgoing)
             → All (λ p. self.old.block < p.block) left
-            → GoesOn taken left base start (streams (I.seen image.old) (O.seen out.old) log) self.old
-            → Steps taken left taken left base start (streams (I.seen image.new) (O.seen out.new) log) self.new result }
+            → GoesOn carry taken left base start (streams (I.seen image.old) (O.seen out.old) log) self.old
+            → Steps carry taken left taken left base start (streams (I.seen image.new) (O.seen out.new) log) self.new result }
         ensures decided { OnOk result (self.new.decided ≡ self.old.decided) }
         ensures short { HasShortTail self.old → HasShortTail self.new }
         ensures ended { IfOk result (λ more. more ≡ false → IsEnded self.new) }
@@ -268,9 +275,9 @@ impl Pass {
         requires short { HasShortTail self }
         requires decided { self.decided ≤ length patches.now }
         requires applied { self.applied ≤ self.decided }
-        ensures { (base : ℕ) (start : Streams) (image : Incoming)
-            → GoesOn (take self.decided patches.now) (drop self.decided patches.now) base start (streams image (O.seen out.old) (L.seen log.old)) self
-            → Applies patches.now base start (streams image (O.seen out.new) (L.seen log.new)) result }
+        ensures { (carry : Bool) (base : ℕ) (start : Streams) (image : Incoming)
+            → GoesOn carry (take self.decided patches.now) (drop self.decided patches.now) base start (streams image (O.seen out.old) (L.seen log.old)) self
+            → Applies carry patches.now base start (streams image (O.seen out.new) (L.seen log.new)) result }
     {
         let tail = self.tail.unwrap_or(0);
         let tally = Tally {

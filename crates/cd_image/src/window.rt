@@ -90,13 +90,13 @@ impl Window {
         }
     }
 
-    /// Takes a patch that begins at the first of the sectors.
-    pub(crate) fn take(&mut self, patch: &Patch) -> Outcome
+    /// Takes a patch that begins at the first of the sectors; damage may be carried.
+    pub(crate) fn take(&mut self, patch: &Patch, carry: bool) -> Outcome
         requires patch { IsPatch patch.now }
         requires some { 0 < length self.old }
-        ensures outcome { result ≡ outcome self.old patch.now.block patch.now }
-        ensures effect { Effect patch.now.block patch.now self.old self.new }
+        ensures outcome { result ≡ outcome carry self.old patch.now.block patch.now }
+        ensures effect { Effect carry patch.now.block patch.now self.old self.new }
     {
-        take_patch(self.sectors.as_mut_slice(), patch)
+        take_patch(self.sectors.as_mut_slice(), patch, carry)
     }
 }

@@ -23,10 +23,10 @@ met-there : (asks : Bool) (s : Option (List ℕ)) → IsMet asks s → (sector :
 met-there asks None h = elim h [ ]
 met-there asks (Some sector) h = (sector, refl, h.0)
 
-pub accepted-there : (sectors : List (List ℕ)) (base : ℕ) (p : Patch) → outcome sectors base p ≡ Applied → AreThere sectors base p
+pub accepted-there : (carry : Bool) (sectors : List (List ℕ)) (base : ℕ) (p : Patch) → outcome carry sectors base p ≡ Applied → AreThere sectors base p
 unfolding outcome
-accepted-there sectors base p e = λ block from to.
-    let asks = asks_sound p.edit in
+accepted-there carry sectors base p e = λ block from to.
+    let asks = asks_sound carry p.edit in
     let otherwise = by_difference p.block (first_difference p.offset (drop p.offset (user_met sectors base p)) (old_bytes p.edit)) in
     let none = applied-told (first_refusal sectors base asks p.block (blocks_met p)) otherwise (first_refusal-told sectors base asks p.block (blocks_met p)) e in
     let at : p.block + (block - p.block) ≡ block = omega arith in

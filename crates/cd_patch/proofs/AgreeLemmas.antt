@@ -1,5 +1,5 @@
 -- Where the first sectors are equal, the patches that begin there have equal outcomes, and leave equal sectors.
-use Rattle.std.proofs.Common.{◌≡◌, ℕ, zero, suc, ◌+◌, ◌<◌, ◌≤◌, inl, inr, List, [], ◌∷◌, get_or, take, Some, refl, sym, ap, ◌∙◌, arith}
+use Rattle.std.proofs.Common.{◌≡◌, ℕ, zero, suc, ◌+◌, ◌<◌, ◌≤◌, inl, inr, Bool, List, [], ◌∷◌, get_or, take, Some, refl, sym, ap, ◌∙◌, arith}
 use Rattle.std.specs.List.{All, slice_get}
 use Rattle.std.specs.List.Sorted.{IsNonDecreasingBy}
 use Rattle.std.proofs.lemmas.Bool.{cases_lt}
@@ -24,38 +24,38 @@ SameBelow sectors others base bound = (block : ℕ) → block < bound → sector
 abbrev SameUpTo : List Patch → List Outcome → List Outcome → ℕ → Type 0
 SameUpTo ps os os' block = (k : ℕ) (p : Patch) → slice_get ps k ≡ Some p → p.block ≤ block → slice_get os k ≡ slice_get os' k
 
-agree_behind : (ps : List Patch) (os os' : List Outcome) (base block : ℕ) (old old' last last' : List (List ℕ)) → All (λ q. block + 1 ≤ q.block) ps
-    → SameBelow old old' base (block + 1) → PatchRun ps os base old last → PatchRun ps os' base old' last' → SameUpTo ps os os' block × SameBelow last last' base (block + 1)
-agree_behind ps os os' base block old old' last last' from same h h' = (
+agree_behind : (carry : Bool) (ps : List Patch) (os os' : List Outcome) (base block : ℕ) (old old' last last' : List (List ℕ)) → All (λ q. block + 1 ≤ q.block) ps
+    → SameBelow old old' base (block + 1) → PatchRun carry ps os base old last → PatchRun carry ps os' base old' last' → SameUpTo ps os os' block × SameBelow last last' base (block + 1)
+agree_behind carry ps os os' base block old old' last last' from same h h' = (
   λ k p is up_to.
       let here : get_or ps k p ≡ p = get_or_from_slice_get ps k p p is in
       let low : block + 1 ≤ (get_or ps k p).block = from k p (slice_get_within ps k p is) in
       absurd (omega (arith, ap (λ (q : Patch). q.block) here)),
   λ b below.
-      PatchRun-keeps ps os base (block + 1) old last from h b below
+      PatchRun-keeps carry ps os base (block + 1) old last from h b below
       ∙ same b below
-      ∙ sym (PatchRun-keeps ps os' base (block + 1) old' last' from h' b below),
+      ∙ sym (PatchRun-keeps carry ps os' base (block + 1) old' last' from h' b below),
 )
 
-agree : (i base : ℕ) (ps : List Patch) (os os' : List Outcome) (old old' last last' : List (List ℕ)) → All IsPatch ps → IsNonDecreasingBy (λ p. p.block) ps
-    → SameBelow old old' base (base + (i + 3)) → PatchRun ps os base old last → PatchRun ps os' base old' last'
+agree : (carry : Bool) (i base : ℕ) (ps : List Patch) (os os' : List Outcome) (old old' last last' : List (List ℕ)) → All IsPatch ps → IsNonDecreasingBy (λ p. p.block) ps
+    → SameBelow old old' base (base + (i + 3)) → PatchRun carry ps os base old last → PatchRun carry ps os' base old' last'
     → SameUpTo ps os os' (base + i) × SameBelow last last' base (base + i + 1)
-agree i base [] [] [] old old' last last' each rises same h h' = (
+agree carry i base [] [] [] old old' last last' each rises same h h' = (
   λ k p is up_to. refl,
   λ b below. ap (λ l. sector_at l base b) h ∙ same b (omega arith) ∙ ap (λ l. sector_at l base b) (sym h'),
 )
-agree i base [] [] (o ∷ os') old old' last last' each rises same h h' = elim h' [ ]
-agree i base [] (o ∷ os) os' old old' last last' each rises same h h' = elim h [ ]
-agree i base (p ∷ ps) [] os' old old' last last' each rises same h h' = elim h [ ]
-agree i base (p ∷ ps) (o ∷ os) [] old old' last last' each rises same h h' = elim h' [ ]
-agree i base (p ∷ ps) (o ∷ os) (o' ∷ os') old old' last last' each rises same h h' = elim (cases_lt (base + i) p.block) [
+agree carry i base [] [] (o ∷ os') old old' last last' each rises same h h' = elim h' [ ]
+agree carry i base [] (o ∷ os) os' old old' last last' each rises same h h' = elim h [ ]
+agree carry i base (p ∷ ps) [] os' old old' last last' each rises same h h' = elim h [ ]
+agree carry i base (p ∷ ps) (o ∷ os) [] old old' last last' each rises same h h' = elim h' [ ]
+agree carry i base (p ∷ ps) (o ∷ os) (o' ∷ os') old old' last last' each rises same h h' = elim (cases_lt (base + i) p.block) [
   | inl behind ↦
-      agree_behind (p ∷ ps) (o ∷ os) (o' ∷ os') base (base + i) old old' last last' (rising-from p ps (base + i + 1) rises (omega arith)) (λ b below. same b (omega arith)) h h'
+      agree_behind carry (p ∷ ps) (o ∷ os) (o' ∷ os') base (base + i) old old' last last' (rising-from p ps (base + i + 1) rises (omega arith)) (λ b below. same b (omega arith)) h h'
   | inr here ↦
       let most = blocks_met-most p (All-head IsPatch p ps each) in
-      let next : SameBelow h.1.0 h'.1.0 base (base + (i + 3)) = Effects-agree (base + (i + 3)) base p old old' h.1.0 h'.1.0 (omega arith) same h.1.1 h'.1.1 in
-      let equal : o ≡ o' = h.0 ∙ outcome-same old old' base base p (λ b low high. same b (omega arith)) ∙ sym h'.0 in
-      let rest = agree i base ps os os' h.1.0 h'.1.0 last last' (All-tail IsPatch p ps each) (rising-tail p ps rises) next h.1.2 h'.1.2 in
+      let next : SameBelow h.1.0 h'.1.0 base (base + (i + 3)) = Effects-agree carry (base + (i + 3)) base p old old' h.1.0 h'.1.0 (omega arith) same h.1.1 h'.1.1 in
+      let equal : o ≡ o' = h.0 ∙ outcome-same carry old old' base base p (λ b low high. same b (omega arith)) ∙ sym h'.0 in
+      let rest = agree carry i base ps os os' h.1.0 h'.1.0 last last' (All-tail IsPatch p ps each) (rising-tail p ps rises) next h.1.2 h'.1.2 in
       (first_equal p ps o o' os os' (base + i) equal rest.0, rest.1)
 ]
   where
@@ -63,9 +63,9 @@ agree i base (p ∷ ps) (o ∷ os) (o' ∷ os') old old' last last' each rises s
     first_equal p ps o o' os os' block equal rest zero q is up_to = ap (λ x. Some x) equal
     first_equal p ps o o' os os' block equal rest (suc k) q is up_to = rest k q is up_to
 
-pub runs-agree : (i base : ℕ) (ps : List Patch) (os os' : List Outcome) (old old' last last' : List (List ℕ)) → All IsPatch ps → IsNonDecreasingBy (λ p. p.block) ps
-    → take (i + 3) old ≡ take (i + 3) old' → PatchRun ps os base old last → PatchRun ps os' base old' last'
+pub runs-agree : (carry : Bool) (i base : ℕ) (ps : List Patch) (os os' : List Outcome) (old old' last last' : List (List ℕ)) → All IsPatch ps → IsNonDecreasingBy (λ p. p.block) ps
+    → take (i + 3) old ≡ take (i + 3) old' → PatchRun carry ps os base old last → PatchRun carry ps os' base old' last'
     → ((k : ℕ) (p : Patch) → slice_get ps k ≡ Some p → p.block ≤ base + i → slice_get os k ≡ slice_get os' k) × (take (i + 1) last ≡ take (i + 1) last')
-runs-agree i base ps os os' old old' last last' each rises same h h' =
-    let both = agree i base ps os os' old old' last last' each rises (same_front-at old' old base (i + 3) same) h h' in
+runs-agree carry i base ps os os' old old' last last' each rises same h h' =
+    let both = agree carry i base ps os os' old old' last last' each rises (same_front-at old' old base (i + 3) same) h h' in
     (both.0, same_front last' last base (i + 1) (λ b below. both.1 b (omega arith)))

@@ -41,7 +41,7 @@ refusal_at-none asks block (Some sector) h =
     let both = no_refusal (is_mode1 (kind_of sector)) asks (consistent sector) block h in
     ((mode1_told (kind_of sector)).0 both.0, both.1)
 
-first_of-none : (a b : Option Outcome) → first_of a b ≡ None → (a ≡ None) × (b ≡ None)
+pub first_of-none : (a b : Option Outcome) → first_of a b ≡ None → (a ≡ None) × (b ≡ None)
 first_of-none None b h = (refl, h)
 first_of-none (Some x) b h = cc
 
@@ -266,9 +266,6 @@ AreMet-from ss base asks count none =
       sound = λ asked k below. (consistent-told (get_or ss k [])).0 ((one k below).1 asked);
     }
 
-pub users-met : (ss : List (List ℕ)) (count : ℕ) → AreMet true ss count → HaveUsers ss count
-users-met ss count met k below = length-user (get_or ss k []) ((met.sound refl k below).size)
-
 -- ---- edits
 
 old-fits_at : (offset : ℕ) (edit : Edit) → offset ≤ 2047 → IsEditAt offset edit
@@ -279,70 +276,56 @@ old-fits_at offset (Fill count value) low h = (omega arith, omega arith)
 old-fits_at offset Rebuild low h = (omega arith, omega arith)
 old-fits_at offset (Address bcd) low h = (omega arith, omega arith)
 
--- an edit that names old bytes asks for consistent sectors
-old-asked : (edit : Edit) → (length (old_bytes edit) ≡ 0) ⊎ (asks_sound edit ≡ true)
-old-asked (Put bytes was) = inr refl
-old-asked (Fill count value) = inr refl
-old-asked Rebuild = inl refl
-old-asked (Address bcd) = inl refl
-
 pub old-fits : (p : Patch) → IsPatch p → (p.offset + length (old_bytes p.edit) ≤ 2048 * blocks_met p) × (length (old_bytes p.edit) ≤ 4096)
 unfolding blocks_met
 old-fits p h = old-fits_at p.offset p.edit h.offset h.edit
 
 -- ---- the outcome
 
-pub outcome-refused : (ss : List (List ℕ)) (base : ℕ) (p : Patch) (refusal : Outcome)
-    → first_refusal ss base (asks_sound p.edit) p.block (blocks_met p) ≡ Some refusal → outcome ss base p ≡ refusal
+pub outcome-refused : (carry : Bool) (ss : List (List ℕ)) (base : ℕ) (p : Patch) (refusal : Outcome)
+    → first_refusal ss base (asks_sound carry p.edit) p.block (blocks_met p) ≡ Some refusal → outcome carry ss base p ≡ refusal
 unfolding outcome
-outcome-refused ss base p refusal h =
+outcome-refused carry ss base p refusal h =
     ap (λ r. unwrap_or r (by_difference p.block (first_difference p.offset (drop p.offset (user_met ss base p)) (old_bytes p.edit)))) h
 
-outcome-decided : (ss : List (List ℕ)) (base : ℕ) (p : Patch) (place : Option ℕ)
-    → first_refusal ss base (asks_sound p.edit) p.block (blocks_met p) ≡ None
+outcome-decided : (carry : Bool) (ss : List (List ℕ)) (base : ℕ) (p : Patch) (place : Option ℕ)
+    → first_refusal ss base (asks_sound carry p.edit) p.block (blocks_met p) ≡ None
     → place ≡ first_difference p.offset (drop p.offset (user_met ss base p)) (old_bytes p.edit)
-    → outcome ss base p ≡ by_difference p.block place
+    → outcome carry ss base p ≡ by_difference p.block place
 unfolding outcome
-outcome-decided ss base p place none told =
+outcome-decided carry ss base p place none told =
     ap (λ r. unwrap_or r (by_difference p.block (first_difference p.offset (drop p.offset (user_met ss base p)) (old_bytes p.edit)))) none
     ∙ ap (by_difference p.block) (sym told)
 
-nothing-differs : (place : ℕ) (bytes old : List ℕ) → length old ≡ 0 → first_difference place bytes old ≡ None
-nothing-differs place bytes old none = first_difference-none place bytes old (omega arith) (λ k below. absurd (omega arith))
-
 -- what was found in the sectors is what the patch's blocks have
 difference-told : (ss : List (List ℕ)) (p : Patch) (old : List ℕ) (place : Option ℕ) → IsPatch p → old ≡ old_bytes p.edit
-    → AreMet (asks_sound p.edit) ss (blocks_met p)
+    → HaveUsers ss (blocks_met p) → blocks_met p ≤ length ss
     → ((base count : ℕ) → HaveUsers ss count → count ≤ length ss → p.offset + length old ≤ 2048 * count
     → place ≡ first_difference p.offset (drop p.offset (joined_user ss base base count)) old)
-    → (length old ≡ 0 → place ≡ None)
     → place ≡ first_difference p.offset (drop p.offset (user_met ss p.block p)) (old_bytes p.edit)
 unfolding user_met
-difference-told ss p old place patch is met value none =
+difference-told ss p old place patch is users enough value =
     let fits = old-fits p patch in
-    elim (old-asked p.edit) [
-      | inl nothing ↦
-          none (ap length is ∙ nothing)
-          ∙ sym (nothing-differs p.offset (drop p.offset (joined_user ss p.block p.block (blocks_met p))) (old_bytes p.edit) nothing)
-      | inr asked ↦
-          let size = ap length is in
-          let sound = subst (λ a. AreMet a ss (blocks_met p)) asked met in
-          value p.block (blocks_met p) (users-met ss (blocks_met p) sound) sound.enough (omega (arith, fits.0))
-          ∙ ap (first_difference p.offset (drop p.offset (joined_user ss p.block p.block (blocks_met p)))) is
-    ]
+    let size = ap length is in
+    value p.block (blocks_met p) users enough (omega (arith, fits.0))
+    ∙ ap (first_difference p.offset (drop p.offset (joined_user ss p.block p.block (blocks_met p)))) is
 
 -- where no block refuses, the difference that was found decides
-pub outcome-told : (ss : List (List ℕ)) (p : Patch) (old : List ℕ) (place : Option ℕ) → IsPatch p
-    → first_refusal ss p.block (asks_sound p.edit) p.block (blocks_met p) ≡ None → old ≡ old_bytes p.edit
+pub outcome-told : (carry : Bool) (ss : List (List ℕ)) (p : Patch) (old : List ℕ) (place : Option ℕ) → IsPatch p
+    → first_refusal ss p.block (asks_sound carry p.edit) p.block (blocks_met p) ≡ None → old ≡ old_bytes p.edit → HaveUsers ss (blocks_met p)
     → ((base count : ℕ) → HaveUsers ss count → count ≤ length ss → p.offset + length old ≤ 2048 * count
     → place ≡ first_difference p.offset (drop p.offset (joined_user ss base base count)) old)
-    → (length old ≡ 0 → place ≡ None) → outcome ss p.block p ≡ by_difference p.block place
-outcome-told ss p old place patch accepted is value none =
-    let met = AreMet-from ss p.block (asks_sound p.edit) (blocks_met p) accepted in
-    outcome-decided ss p.block p place accepted (difference-told ss p old place patch is met value none)
+    → outcome carry ss p.block p ≡ by_difference p.block place
+outcome-told carry ss p old place patch accepted is users value =
+    let met = AreMet-from ss p.block (asks_sound carry p.edit) (blocks_met p) accepted in
+    outcome-decided carry ss p.block p place accepted (difference-told ss p old place patch is users met.enough value)
 
 pub Differs-same : (block offset block' offset' : ℕ) → block ≡ block' → offset ≡ offset' → Differs block offset ≡ Differs block' offset'
 Differs-same block offset block' offset' one two = ap (λ b. Differs b offset) one ∙ ap (Differs block') two
 
 pub Some-same : (i j : ℕ) → i ≡ j → Some i ≡ Some j
 Some-same i j same = ap (λ n. Some n) same
+
+pub none-told : (refusal : Option Outcome) → is_some refusal ≡ false → refusal ≡ None
+none-told None none = refl
+none-told (Some r) none = cc

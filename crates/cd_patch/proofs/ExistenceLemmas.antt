@@ -1,12 +1,13 @@
 -- Each patch makes some sectors of any sectors, and so each list of patches has a run.
-use Rattle.std.proofs.Common.{◌≡◌, ℕ, zero, suc, ◌+◌, ◌-◌, ◌<◌, ◌≤◌, ◌⊎◌, inl, inr, List, [], ◌∷◌, ◌++◌, length, get_or, take, drop, Some, refl, sym, ap, subst, ◌∙◌, arith, lit≤}
+use Rattle.std.proofs.Common.{◌≡◌, ℕ, zero, suc, ◌+◌, ◌-◌, ◌<◌, ◌≤◌, ◌⊎◌, inl, inr, Bool, true, false, List, [], ◌∷◌, ◌++◌, length, get_or, take, drop, Some, refl, sym, ap, subst, ◌∙◌, arith, lit<, lit≤}
 use Rattle.std.specs.Prelude.{slice_range}
 use Rattle.std.specs.List.{All, slice_get}
 use Rattle.std.proofs.Math.Seq.{drop-append_seam}
-use Rattle.std.proofs.lemmas.List.{get_or-drop, length-drop, take_more}
-use Rattle.std.proofs.lemmas.List.Elements.{All-head, All-tail}
+use Rattle.std.proofs.lemmas.List.{get_or-drop, length-append, length-drop, take_more}
+use Rattle.std.proofs.lemmas.List.Elements.{All-cons, All-head, All-nil, All-tail}
 use Rattle.std.proofs.lemmas.Option.{none-some, same_Some, slice_get-get_or}
 use Rattle.cd_code.specs.Field.{AreBytes}
+use Rattle.cd_code.proofs.ByteLemmas.{AreBytes-append}
 use Rattle.cd_script.specs.Patch.{IsEditAt, IsPatch}
 use Rattle.cd_script.specs.declared.patch.Edit.{Edit}
 use Rattle.cd_script.specs.declared.patch.Edit.TheVariants.{Put, Fill, Rebuild, Address}
@@ -15,12 +16,13 @@ use Rattle.cd_sector.specs.Consistent.{header_of}
 use Rattle.cd_sector.specs.Kind.{kind_of}
 use Rattle.cd_sector.specs.declared.kinds.SectorKind.TheVariants.{Mode1}
 use Rattle.cd_sector.specs.declared.sector.TheConstants.{USER_SIZE}
+use Rattle.cd_sector.proofs.CarriedExistence.{carried_found}
 use Rattle.cd_sector.proofs.DefectLemmas.{length-range}
 use Rattle.cd_sector.proofs.ExistenceLemmas.{sector_found}
 use Rattle.cd_sector.proofs.SectorLemmas.{mode1-parts}
-use Rattle.cd_patch.specs.Blocks.{blocks_met, new_header, sector_at}
+use Rattle.cd_patch.specs.Blocks.{blocks_met, keeps_defect, new_header, sector_at}
 use Rattle.cd_patch.specs.Deciding.{outcome}
-use Rattle.cd_patch.specs.Effect.{Effect, EffectOf, IsApplied, IsRemade, patched_user, user_part}
+use Rattle.cd_patch.specs.Effect.{Effect, EffectOf, IsApplied, IsMade, IsRemade, MadeBy, patched_user, user_part}
 use Rattle.cd_patch.specs.Laws.{IsSector}
 use Rattle.cd_patch.specs.Run.{PatchRun}
 use Rattle.cd_patch.specs.declared.outcome.Outcome.{Outcome}
@@ -29,7 +31,7 @@ use Rattle.cd_patch.proofs.AcceptedLemmas.{AreThere, accepted-there}
 use Rattle.cd_patch.proofs.ElementLemmas.{option_cases}
 use Rattle.cd_patch.proofs.LeavesLemmas.{Effect-sectors, meets-cases}
 use Rattle.cd_patch.proofs.SectorAtLemmas.{sector_at-add, sector_at-from, sector_at-none, sector_at-within}
-use Rattle.cd_patch.proofs.UserLemmas.{AreBytes-address, AreBytes-range, AreBytes-user_part, IsSector-at, length-user_part}
+use Rattle.cd_patch.proofs.UserLemmas.{AreBytes-address, AreBytes-all, AreBytes-range, AreBytes-user_part, IsSector-at, length-user_part}
 
 -- where each index has an element with a property, there is a list of such elements
 chosen : {X : Type 0} (P : ℕ → X → Type 0) (n : ℕ) → ((i : ℕ) → i < n → (x : X) × P i x) → (xs : List X) × (length xs ≡ n) × ((i : ℕ) (x : X) → slice_get xs i ≡ Some x → P i x)
@@ -94,27 +96,36 @@ sector_remade header user h bytes size =
       },
     )
 
+-- by either rule
+sector_made : (carried : Bool) (old header user : List ℕ) → IsSector old → IsHeader header → AreBytes user → length user ≡ USER_SIZE → (after : List ℕ) × MadeBy carried old header user after
+sector_made false old header user h k bytes size = sector_remade header user k bytes size
+sector_made true old header user h k bytes size =
+    let four = length-append k.address (1 ∷ []) in
+    carried_found old header user h.size h.bytes
+    (subst AreBytes k.whole (AreBytes-append k.address (1 ∷ []) k.bytes (AreBytes-all (1 ∷ []) (All-cons (λ b. b < 256) 1 [] (lit< tt) (All-nil (λ b. b < 256))))))
+    (omega (arith, ap length k.whole, k.size, four)) bytes size
+
 -- ---- the sectors that an accepted patch makes
 
 -- what stands in a block behind an accepted patch
-record Follows (base : ℕ) (p : Patch) (old : List (List ℕ)) (block : ℕ) (after : List ℕ) : Type 0 where
+record Follows (carry : Bool) (base : ℕ) (p : Patch) (old : List (List ℕ)) (block : ℕ) (after : List ℕ) : Type 0 where
   met : (before : List ℕ) → p.block ≤ block → block < p.block + blocks_met p → sector_at old base block ≡ Some before
-      → IsRemade (new_header p.edit (header_of before)) (user_part (patched_user old base p) (block - p.block)) after
+      → IsMade carry p.edit before (user_part (patched_user old base p) (block - p.block)) after
   others : (block < p.block) ⊎ (p.block + blocks_met p ≤ block) → sector_at old base block ≡ Some after
 
-followed : (base : ℕ) (p : Patch) (old : List (List ℕ)) → IsPatch p → All IsSector old → AreThere old base p → (block : ℕ) (before : List ℕ) → sector_at old base block ≡ Some before
-    → (after : List ℕ) × Follows base p old block after
-followed base p old kept each there block before is = elim (meets-cases p block) [
+followed : (carry : Bool) (base : ℕ) (p : Patch) (old : List (List ℕ)) → IsPatch p → All IsSector old → AreThere old base p → (block : ℕ) (before : List ℕ) → sector_at old base block ≡ Some before
+    → (after : List ℕ) × Follows carry base p old block after
+followed carry base p old kept each there block before is = elim (meets-cases p block) [
   | inl met ↦
       let t = there block met.0 met.1 in
       let same : before ≡ t.sector = same_Some before t.sector (sym is ∙ t.is) in
       let made =
-      sector_remade (new_header p.edit (header_of before)) (user_part (patched_user old base p) (block - p.block))
+      sector_made (keeps_defect carry p.edit) before (new_header p.edit (header_of before)) (user_part (patched_user old base p) (block - p.block)) (IsSector-at old base block before each is)
       (IsHeader-new p.offset p.edit (header_of before) kept.edit (IsHeader-of before (IsSector-at old base block before each is) (ap kind_of same ∙ t.mode)))
       (AreBytes-user_part old base p each there kept (block - p.block)) (length-user_part old base p each there kept (block - p.block) (omega (arith, met.0, met.1))) in (
         made.0,
         record {
-          met = λ b from to was. let e = same_Some before b (sym is ∙ was) in subst (λ s. IsRemade (new_header p.edit (header_of s)) (user_part (patched_user old base p) (block - p.block)) made.0) e made.1;
+          met = λ b from to was. let e = same_Some before b (sym is ∙ was) in subst (λ s. IsMade carry p.edit s (user_part (patched_user old base p) (block - p.block)) made.0) e made.1;
           others = λ side. elim side [ inl below ↦ absurd (omega (arith, met.0)) | inr behind ↦ absurd (omega (arith, met.1)) ];
         },
       )
@@ -127,44 +138,44 @@ followed base p old kept each there block before is = elim (meets-cases p block)
   )
 ]
 
-applied_to : (base : ℕ) (p : Patch) (old : List (List ℕ)) → IsPatch p → All IsSector old → AreThere old base p → (new : List (List ℕ)) × IsApplied base p old new
-applied_to base p old kept each there =
-    let all = chosen (λ i. Follows base p old (base + i)) (length old)
-    (λ i below. followed base p old kept each there (base + i) (get_or old i []) (sector_at-add old base i ∙ slice_get-get_or old i [] below)) in
+applied_to : (carry : Bool) (base : ℕ) (p : Patch) (old : List (List ℕ)) → IsPatch p → All IsSector old → AreThere old base p → (new : List (List ℕ)) × IsApplied carry base p old new
+applied_to carry base p old kept each there =
+    let all = chosen (λ i. Follows carry base p old (base + i)) (length old)
+    (λ i below. followed carry base p old kept each there (base + i) (get_or old i []) (sector_at-add old base i ∙ slice_get-get_or old i [] below)) in
     (all.0, is_applied_to all.0 all.1 all.2)
   where
-    is_applied_to : (new : List (List ℕ)) → length new ≡ length old → ((i : ℕ) (after : List ℕ) → slice_get new i ≡ Some after → Follows base p old (base + i) after) → IsApplied base p old new
+    is_applied_to : (new : List (List ℕ)) → length new ≡ length old → ((i : ℕ) (after : List ℕ) → slice_get new i ≡ Some after → Follows carry base p old (base + i) after) → IsApplied carry base p old new
     is_applied_to new count follows =
-        let at : (block : ℕ) (after : List ℕ) → sector_at new base block ≡ Some after → Follows base p old block after =
+        let at : (block : ℕ) (after : List ℕ) → sector_at new base block ≡ Some after → Follows carry base p old block after =
         (λ block after was.
         let within = sector_at-within new base block after was in
         let e : base + (block - base) ≡ block = omega (arith, within.0) in
-        subst (λ b. Follows base p old b after) e (follows (block - base) after (sym (sector_at-from new base block within.0) ∙ was))) in
+        subst (λ b. Follows carry base p old b after) e (follows (block - base) after (sym (sector_at-from new base block within.0) ∙ was))) in
         record {
           count = count;
           met = λ k before after inside is was.
               let e : p.block + k - p.block ≡ k = omega arith in
-              subst (λ n. IsRemade (new_header p.edit (header_of before)) (user_part (patched_user old base p) n) after) e ((at (p.block + k) after was).met before (omega arith) (omega arith) is);
+              subst (λ n. IsMade carry p.edit before (user_part (patched_user old base p) n) after) e ((at (p.block + k) after was).met before (omega arith) (omega arith) is);
           others = λ block side. elim (option_cases (sector_at new base block)) [
             | inl none ↦ none ∙ sym (sector_at-none new old base block (sym count) none)
             | inr some ↦ some.1 ∙ sym ((at block some.0 some.1).others side)
           ];
         }
 
-pub Effect-exists : (base : ℕ) (p : Patch) (old : List (List ℕ)) → IsPatch p → All IsSector old → (new : List (List ℕ)) × Effect base p old new
-Effect-exists base p old kept each = by_outcome (outcome old base p) refl
+pub Effect-exists : (carry : Bool) (base : ℕ) (p : Patch) (old : List (List ℕ)) → IsPatch p → All IsSector old → (new : List (List ℕ)) × Effect carry base p old new
+Effect-exists carry base p old kept each = by_outcome (outcome carry old base p) refl
   where
-    by_outcome : (o : Outcome) → outcome old base p ≡ o → (new : List (List ℕ)) × EffectOf o base p old new
-    by_outcome Applied e = applied_to base p old kept each (accepted-there old base p e)
+    by_outcome : (o : Outcome) → outcome carry old base p ≡ o → (new : List (List ℕ)) × EffectOf carry o base p old new
+    by_outcome Applied e = applied_to carry base p old kept each (accepted-there carry old base p e)
     by_outcome (NoBlock b) e = (old, refl)
     by_outcome (NotMode1 b) e = (old, refl)
     by_outcome (Damaged b) e = (old, refl)
     by_outcome (Differs b offset) e = (old, refl)
 
-pub run-exists : (ps : List Patch) (base : ℕ) (old : List (List ℕ)) → All IsPatch ps → All IsSector old
-    → (os : List Outcome) × (last : List (List ℕ)) × PatchRun ps os base old last × All IsSector last
-run-exists [] base old kept each = ([], old, refl, each)
-run-exists (p ∷ ps) base old kept each =
-    let made = Effect-exists base p old (All-head IsPatch p ps kept) each in
-    let rest = run-exists ps base made.0 (All-tail IsPatch p ps kept) (Effect-sectors base p old made.0 (All-head IsPatch p ps kept) each made.1) in
-    (outcome old base p ∷ rest.0, rest.1, (refl, (made.0, made.1, rest.2)), rest.3)
+pub run-exists : (carry : Bool) (ps : List Patch) (base : ℕ) (old : List (List ℕ)) → All IsPatch ps → All IsSector old
+    → (os : List Outcome) × (last : List (List ℕ)) × PatchRun carry ps os base old last × All IsSector last
+run-exists carry [] base old kept each = ([], old, refl, each)
+run-exists carry (p ∷ ps) base old kept each =
+    let made = Effect-exists carry base p old (All-head IsPatch p ps kept) each in
+    let rest = run-exists carry ps base made.0 (All-tail IsPatch p ps kept) (Effect-sectors carry base p old made.0 (All-head IsPatch p ps kept) each made.1) in
+    (outcome carry old base p ∷ rest.0, rest.1, (refl, (made.0, made.1, rest.2)), rest.3)

@@ -6,12 +6,11 @@ use Rattle.std.proofs.lemmas.List.{length-append}
 use Rattle.cd_script.specs.declared.patch.Edit.{Edit}
 use Rattle.cd_script.specs.declared.patch.Edit.TheVariants.{Put, Fill, Rebuild, Address}
 use Rattle.cd_script.specs.declared.patch.Patch.{Patch}
-use Rattle.cd_sector.specs.Consistent.{header_of}
 use Rattle.cd_sector.specs.declared.sector.TheConstants.{USER_SIZE}
 use Rattle.cd_delta.specs.Writing.{written}
-use Rattle.cd_patch.specs.Blocks.{asks_sound, blocks_met, blocks_of, new_bytes, new_header, old_bytes, sector_at}
+use Rattle.cd_patch.specs.Blocks.{asks_sound, blocks_met, blocks_of, new_bytes, old_bytes, sector_at}
 use Rattle.cd_patch.specs.Deciding.{by_difference, first_difference, first_of, first_refusal, joined_user, outcome, refusal_at, user_at, user_met}
-use Rattle.cd_patch.specs.Effect.{Effect, EffectOf, IsApplied, IsRemade, patched_user, user_part}
+use Rattle.cd_patch.specs.Effect.{Effect, EffectOf, IsApplied, IsMade, patched_user, user_part}
 use Rattle.cd_patch.specs.declared.outcome.Outcome.{Outcome}
 use Rattle.cd_patch.specs.declared.outcome.Outcome.TheVariants.{Applied, Damaged, Differs, NoBlock, NotMode1}
 use Rattle.cd_patch.proofs.SectorAtLemmas.{sector_at-back, sector_at-frame, sector_at-front, sector_at-missing}
@@ -44,13 +43,13 @@ pub patched_user-same : (sectors others : List (List ℕ)) (base middle : ℕ) (
 unfolding patched_user
 patched_user-same sectors others base middle p h = ap (λ user. written user p.offset (new_bytes p.edit)) (user_met-same sectors others base middle p h)
 
-pub outcome-same : (sectors others : List (List ℕ)) (base middle : ℕ) (p : Patch) → HaveSame sectors base others middle p.block (blocks_met p)
-    → outcome sectors base p ≡ outcome others middle p
+pub outcome-same : (carry : Bool) (sectors others : List (List ℕ)) (base middle : ℕ) (p : Patch) → HaveSame sectors base others middle p.block (blocks_met p)
+    → outcome carry sectors base p ≡ outcome carry others middle p
 unfolding outcome
-outcome-same sectors others base middle p h =
+outcome-same carry sectors others base middle p h =
     ap (λ r. unwrap_or r (by_difference p.block (first_difference p.offset (drop p.offset (user_met sectors base p)) (old_bytes p.edit))))
-    (first_refusal-same sectors others base middle (asks_sound p.edit) p.block (blocks_met p) h)
-    ∙ ap (λ user. unwrap_or (first_refusal others middle (asks_sound p.edit) p.block (blocks_met p)) (by_difference p.block (first_difference p.offset (drop p.offset user) (old_bytes p.edit))))
+    (first_refusal-same sectors others base middle (asks_sound carry p.edit) p.block (blocks_met p) h)
+    ∙ ap (λ user. unwrap_or (first_refusal others middle (asks_sound carry p.edit) p.block (blocks_met p)) (by_difference p.block (first_difference p.offset (drop p.offset user) (old_bytes p.edit))))
     (user_met-same sectors others base middle p h)
 
 -- ---- a patch whose first block is missing
@@ -65,17 +64,17 @@ pub blocks_met-some : (p : Patch) → (n : ℕ) × (blocks_met p ≡ suc n)
 unfolding blocks_met
 blocks_met-some p = blocks_of-some p.offset p.edit
 
-pub outcome-missing : (sectors : List (List ℕ)) (base : ℕ) (p : Patch) → (p.block < base) ⊎ (base + length sectors ≤ p.block) → outcome sectors base p ≡ NoBlock p.block
+pub outcome-missing : (carry : Bool) (sectors : List (List ℕ)) (base : ℕ) (p : Patch) → (p.block < base) ⊎ (base + length sectors ≤ p.block) → outcome carry sectors base p ≡ NoBlock p.block
 unfolding outcome
-outcome-missing sectors base p missing =
+outcome-missing carry sectors base p missing =
     let met = blocks_met-some p in
     let otherwise = by_difference p.block (first_difference p.offset (drop p.offset (user_met sectors base p)) (old_bytes p.edit)) in
-    ap (λ n. unwrap_or (first_refusal sectors base (asks_sound p.edit) p.block n) otherwise) met.1
-    ∙ ap (λ s. unwrap_or (first_of (refusal_at (asks_sound p.edit) p.block s) (first_refusal sectors base (asks_sound p.edit) (p.block + 1) met.0)) otherwise)
+    ap (λ n. unwrap_or (first_refusal sectors base (asks_sound carry p.edit) p.block n) otherwise) met.1
+    ∙ ap (λ s. unwrap_or (first_of (refusal_at (asks_sound carry p.edit) p.block s) (first_refusal sectors base (asks_sound carry p.edit) (p.block + 1) met.0)) otherwise)
     (sector_at-missing sectors base p.block missing)
 
-pub Effect-missing : (sectors : List (List ℕ)) (base : ℕ) (p : Patch) → (p.block < base) ⊎ (base + length sectors ≤ p.block) → Effect base p sectors sectors
-Effect-missing sectors base p missing = subst (λ o. EffectOf o base p sectors sectors) (sym (outcome-missing sectors base p missing)) refl
+pub Effect-missing : (carry : Bool) (sectors : List (List ℕ)) (base : ℕ) (p : Patch) → (p.block < base) ⊎ (base + length sectors ≤ p.block) → Effect carry base p sectors sectors
+Effect-missing carry sectors base p missing = subst (λ o. EffectOf carry o base p sectors sectors) (sym (outcome-missing carry sectors base p missing)) refl
 
 -- ---- a part of the sectors
 
@@ -84,30 +83,30 @@ HaveSame-frame : (front window more : List (List ℕ)) (base block first count :
 HaveSame-frame front window more base block first count e from (inl inside) = λ b low high. sector_at-frame front window more base block b e (omega arith) (inl (omega arith))
 HaveSame-frame front window more base block first count e from (inr none) = λ b low high. sector_at-frame front window more base block b e (omega arith) (inr none)
 
-pub outcome-frame : (front window more : List (List ℕ)) (base block : ℕ) (p : Patch) → block ≡ base + length front → block ≤ p.block
-    → (p.block + blocks_met p ≤ block + length window) ⊎ (more ≡ []) → outcome (front ++ (window ++ more)) base p ≡ outcome window block p
-outcome-frame front window more base block p e from room =
-    outcome-same (front ++ (window ++ more)) window base block p (HaveSame-frame front window more base block p.block (blocks_met p) e from room)
+pub outcome-frame : (carry : Bool) (front window more : List (List ℕ)) (base block : ℕ) (p : Patch) → block ≡ base + length front → block ≤ p.block
+    → (p.block + blocks_met p ≤ block + length window) ⊎ (more ≡ []) → outcome carry (front ++ (window ++ more)) base p ≡ outcome carry window block p
+outcome-frame carry front window more base block p e from room =
+    outcome-same carry (front ++ (window ++ more)) window base block p (HaveSame-frame front window more base block p.block (blocks_met p) e from room)
 
-pub Effect-length : (base : ℕ) (p : Patch) (old new : List (List ℕ)) → Effect base p old new → length new ≡ length old
-Effect-length base p old new h = by_outcome (outcome old base p) h
+pub Effect-length : (carry : Bool) (base : ℕ) (p : Patch) (old new : List (List ℕ)) → Effect carry base p old new → length new ≡ length old
+Effect-length carry base p old new h = by_outcome (outcome carry old base p) h
   where
-    by_outcome : (o : Outcome) → EffectOf o base p old new → length new ≡ length old
+    by_outcome : (o : Outcome) → EffectOf carry o base p old new → length new ≡ length old
     by_outcome Applied h = h.count
     by_outcome (NoBlock block) h = ap length h
     by_outcome (NotMode1 block) h = ap length h
     by_outcome (Damaged block) h = ap length h
     by_outcome (Differs block offset) h = ap length h
 
-IsApplied-frame : (front window window' more : List (List ℕ)) (base block : ℕ) (p : Patch) → block ≡ base + length front → block ≤ p.block
-    → (p.block + blocks_met p ≤ block + length window) ⊎ (more ≡ []) → IsApplied block p window window' → IsApplied base p (front ++ (window ++ more)) (front ++ (window' ++ more))
-IsApplied-frame front window window' more base block p e from room h =
+IsApplied-frame : (carry : Bool) (front window window' more : List (List ℕ)) (base block : ℕ) (p : Patch) → block ≡ base + length front → block ≤ p.block
+    → (p.block + blocks_met p ≤ block + length window) ⊎ (more ≡ []) → IsApplied carry block p window window' → IsApplied carry base p (front ++ (window ++ more)) (front ++ (window' ++ more))
+IsApplied-frame carry front window window' more base block p e from room h =
     let same = HaveSame-frame front window more base block p.block (blocks_met p) e from room in
     let same' = HaveSame-frame front window' more base block p.block (blocks_met p) e from (room' room) in
     record {
       count = omega (arith, h.count, length-append front (window' ++ more), length-append front (window ++ more), length-append window' more, length-append window more);
       met = λ k before after inside is was.
-          subst (λ user. IsRemade (new_header p.edit (header_of before)) (user_part user k) after) (sym (patched_user-same (front ++ (window ++ more)) window base block p same))
+          subst (λ user. IsMade carry p.edit before (user_part user k) after) (sym (patched_user-same (front ++ (window ++ more)) window base block p same))
           (h.met k before after inside (sym (same (p.block + k) (omega arith) (omega arith)) ∙ is) (sym (same' (p.block + k) (omega arith) (omega arith)) ∙ was));
       others = λ b side. elim (cases_lt b block) [
         | inl below ↦
@@ -131,14 +130,14 @@ IsApplied-frame front window window' more base block p e from room h =
     room' (inl inside) = inl (omega (arith, h.count))
     room' (inr none) = inr none
 
-pub Effect-frame : (front window window' more : List (List ℕ)) (base block : ℕ) (p : Patch) → block ≡ base + length front → block ≤ p.block
-    → (p.block + blocks_met p ≤ block + length window) ⊎ (more ≡ []) → Effect block p window window' → Effect base p (front ++ (window ++ more)) (front ++ (window' ++ more))
-Effect-frame front window window' more base block p e from room h =
-    subst (λ o. EffectOf o base p (front ++ (window ++ more)) (front ++ (window' ++ more))) (sym (outcome-frame front window more base block p e from room))
-    (by_outcome (outcome window block p) h)
+pub Effect-frame : (carry : Bool) (front window window' more : List (List ℕ)) (base block : ℕ) (p : Patch) → block ≡ base + length front → block ≤ p.block
+    → (p.block + blocks_met p ≤ block + length window) ⊎ (more ≡ []) → Effect carry block p window window' → Effect carry base p (front ++ (window ++ more)) (front ++ (window' ++ more))
+Effect-frame carry front window window' more base block p e from room h =
+    subst (λ o. EffectOf carry o base p (front ++ (window ++ more)) (front ++ (window' ++ more))) (sym (outcome-frame carry front window more base block p e from room))
+    (by_outcome (outcome carry window block p) h)
   where
-    by_outcome : (o : Outcome) → EffectOf o block p window window' → EffectOf o base p (front ++ (window ++ more)) (front ++ (window' ++ more))
-    by_outcome Applied h = IsApplied-frame front window window' more base block p e from room h
+    by_outcome : (o : Outcome) → EffectOf carry o block p window window' → EffectOf carry o base p (front ++ (window ++ more)) (front ++ (window' ++ more))
+    by_outcome Applied h = IsApplied-frame carry front window window' more base block p e from room h
     by_outcome (NoBlock b) h = ap (λ l. front ++ (l ++ more)) h
     by_outcome (NotMode1 b) h = ap (λ l. front ++ (l ++ more)) h
     by_outcome (Damaged b) h = ap (λ l. front ++ (l ++ more)) h

@@ -1,10 +1,12 @@
 pub mod AcceptedLemmas
 pub mod AgreeLemmas
+pub mod CarryLemmas
 mod DecidingLemmas
 pub mod ElementLemmas
 pub mod ExistenceLemmas
 pub mod FrameLemmas
 pub mod LeavesLemmas
+pub mod MadeLemmas
 mod PartLemmas
 pub mod RangeLemmas
 pub mod RisingLemmas

@@ -1,5 +1,5 @@
 -- What the bytes of an edit make of the sectors in which they lie.
-use Rattle.std.proofs.Common.{◌≡◌, ◌≢◌, ℕ, ◌+◌, ◌-◌, ◌*◌, ◌<◌, ◌≤◌, ◌⊎◌, inl, inr, List, [], ◌∷◌, length, get_or, set, take, drop, replicate, refl, sym, ap, subst, ◌∙◌, below_more, arith}
+use Rattle.std.proofs.Common.{◌≡◌, ◌≢◌, ℕ, ◌+◌, ◌-◌, ◌*◌, ◌<◌, ◌≤◌, ◌⊎◌, inl, inr, Bool, List, [], ◌∷◌, length, get_or, set, take, drop, replicate, refl, sym, ap, subst, ◌∙◌, below_more, arith}
 use Rattle.std.specs.Prelude.{slice_range}
 use Rattle.std.proofs.lemmas.Bool.{cases_lt}
 use Rattle.std.proofs.lemmas.List.{ext_get_or, get_or_default, get_or-replicate, get_or-set_other, get_or-set_same, get_or-take, length-drop, length-replicate, length-set, length-take, length-take-le}
@@ -7,29 +7,29 @@ use Rattle.cd_delta.proofs.UserLemmas.{length-written, written-range, written-ot
 use Rattle.cd_delta.specs.Writing.{written}
 use Rattle.cd_sector.proofs.DefectLemmas.{length-range, range-byte}
 use Rattle.cd_sector.proofs.SectorLemmas.{mode1-parts}
-use Rattle.cd_sector.specs.Consistent.{IsConsistent, header_of, user_of}
+use Rattle.cd_sector.specs.Consistent.{header_of, user_of}
 use Rattle.cd_sector.specs.Kind.{kind_of}
 use Rattle.cd_sector.specs.declared.kinds.SectorKind.TheVariants.{Mode1}
-use Rattle.cd_patch.specs.Effect.{user_part}
+use Rattle.cd_patch.specs.Effect.{MadeBy, user_part}
 use Rattle.cd_patch.specs.Parts.{EachMade, HasPart, IsPart}
+use Rattle.cd_patch.proofs.MadeLemmas.{MadeBy-user}
 
 -- ---- one sector
 
 -- the part of the bytes that lies in a sector, written there
-pub HasPart-written : (k offset place first end : ℕ) (bytes part header before after : List ℕ) → IsPart k offset (length bytes) place first end
+pub HasPart-written : (carried : Bool) (k offset place first end : ℕ) (bytes part header before after : List ℕ) → IsPart k offset (length bytes) place first end
     → length (user_of before) ≡ 2048 → first + length part ≡ end
     → ((i : ℕ) → i < length part → get_or part i 0 ≡ get_or bytes (first + i) 0)
-    → IsConsistent after → header_of after ≡ header → user_of after ≡ written (user_of before) place part
-    → HasPart k offset bytes header before after
-HasPart-written k offset place first end bytes part header before after at size long same sound is_header user =
+    → MadeBy carried before header (written (user_of before) place part) after → HasPart carried k offset bytes header before after
+HasPart-written carried k offset place first end bytes part header before after at size long same is_made =
     let rises = at.rises in
     let within = at.within in
     let fits = at.fits in
     let lies = at.lies in
     let room : place + length part ≤ length (user_of before) = omega arith in
+    let user = MadeBy-user carried before header (written (user_of before) place part) after is_made in
     record {
-      is_consistent = sound;
-      has_header = is_header;
+      made = subst (λ u. MadeBy carried before header u after) (sym user) is_made;
       inside = λ i j below inside there.
           let from : first ≤ i = elim at.from_start [ inl e ↦ omega arith | inr e ↦ omega arith ] in
           let to : i < end = elim at.to_end [ inl e ↦ omega arith | inr e ↦ omega arith ] in
@@ -48,22 +48,23 @@ HasPart-written k offset place first end bytes part header before after at size 
     }
 
 -- a sector in which nothing is written
-pub HasPart-nothing : (k offset : ℕ) (bytes header before after : List ℕ) → length bytes ≡ 0 → IsConsistent after → header_of after ≡ header
-    → user_of after ≡ user_of before → HasPart k offset bytes header before after
-HasPart-nothing k offset bytes header before after none sound is_header user = record {
-  is_consistent = sound;
-  has_header = is_header;
-  inside = λ i j below inside there. absurd (omega arith);
-  outside = λ j below out. ap (λ u. get_or u j 0) user;
-}
+pub HasPart-nothing : (carried : Bool) (k offset : ℕ) (bytes header before after : List ℕ) → length bytes ≡ 0 → MadeBy carried before header (user_of before) after
+    → HasPart carried k offset bytes header before after
+HasPart-nothing carried k offset bytes header before after none is_made =
+    let user = MadeBy-user carried before header (user_of before) after is_made in
+    record {
+      made = subst (λ u. MadeBy carried before header u after) (sym user) is_made;
+      inside = λ i j below inside there. absurd (omega arith);
+      outside = λ j below out. ap (λ u. get_or u j 0) user;
+    }
 
 -- its user data is its part of the joined user data with the bytes in their range
-pub user_part-of : (k count offset : ℕ) (bytes joined header before after : List ℕ) → k < count → length joined ≡ 2048 * count
+pub user_part-of : (carried : Bool) (k count offset : ℕ) (bytes joined header before after : List ℕ) → k < count → length joined ≡ 2048 * count
     → offset + length bytes ≤ 2048 * count → length (user_of after) ≡ 2048
     → ((j : ℕ) → j < 2048 → get_or joined (2048 * k + j) 0 ≡ get_or (user_of before) j 0)
-    → HasPart k offset bytes header before after → user_of after ≡ user_part (written joined offset bytes) k
+    → HasPart carried k offset bytes header before after → user_of after ≡ user_part (written joined offset bytes) k
 unfolding user_part
-user_part-of k count offset bytes joined header before after inside size fits after_size same part =
+user_part-of carried k count offset bytes joined header before after inside size fits after_size same part =
     let whole = written joined offset bytes in
     let room : offset + length bytes ≤ length joined = omega arith in
     let long = length-written joined offset bytes room in
@@ -138,23 +139,23 @@ EachMade-one Rule old after one here = record {
 -- ---- equal bytes, and the header of a sector made anew
 
 -- any bytes of a filled range are the first of as many equal ones
-pub HasPart-filled : (k offset place first end count value n : ℕ) (bytes header before after : List ℕ) → IsPart k offset count place first end
+pub HasPart-filled : (carried : Bool) (k offset place first end count value n : ℕ) (bytes header before after : List ℕ) → IsPart k offset count place first end
     → length (user_of before) ≡ 2048 → bytes ≡ replicate 2048 value
-    → IsConsistent after → header_of after ≡ header → user_of after ≡ written (user_of before) place (take n bytes)
-    → first + n ≡ end → HasPart k offset (replicate count value) header before after
-HasPart-filled k offset place first end count value n bytes header before after at size filled sound is_header user part =
+    → MadeBy carried before header (written (user_of before) place (take n bytes)) after
+    → first + n ≡ end → HasPart carried k offset (replicate count value) header before after
+HasPart-filled carried k offset place first end count value n bytes header before after at size filled is_made part =
     let fits = at.fits in
     let within = at.within in
     let long : length bytes ≡ 2048 = ap length filled ∙ length-replicate 2048 value in
     let cut = length-take-le n bytes (omega arith) in
     let whole = subst (λ m. IsPart k offset m place first end) (sym (length-replicate count value)) at in
-    HasPart-written k offset place first end (replicate count value) (take n bytes) header before after whole size (omega arith)
+    HasPart-written carried k offset place first end (replicate count value) (take n bytes) header before after whole size (omega arith)
     (λ i below.
     get_or-take n bytes i 0 (omega arith)
     ∙ ap (λ v. get_or v i 0) filled
     ∙ get_or-replicate 2048 i value 0 (omega arith)
     ∙ sym (get_or-replicate count (first + i) value 0 (omega arith)))
-    sound is_header user
+    is_made
 
 four_bytes : (v : List ℕ) → length v ≡ 4 → v ≡ get_or v 0 0 ∷ get_or v 1 0 ∷ get_or v 2 0 ∷ get_or v 3 0 ∷ []
 four_bytes [] size = absurd (omega arith)

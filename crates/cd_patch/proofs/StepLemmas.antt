@@ -1,5 +1,5 @@
 -- A run grows by one patch, decided in a part of the sectors; and what stands when the others are still to come.
-use Rattle.std.proofs.Common.{◌≡◌, ℕ, ◌+◌, ◌<◌, ◌≤◌, ◌⊎◌, List, [], ◌∷◌, ◌++◌, length, take, drop, Some, refl, sym, ap, subst, ◌∙◌}
+use Rattle.std.proofs.Common.{◌≡◌, ℕ, ◌+◌, ◌<◌, ◌≤◌, ◌⊎◌, Bool, List, [], ◌∷◌, ◌++◌, length, take, drop, Some, refl, sym, ap, subst, ◌∙◌}
 use Rattle.std.specs.List.{All, slice_get}
 use Rattle.std.proofs.lemmas.List.{take-append-drop, take_more}
 use Rattle.std.proofs.lemmas.Option.{get_or_from_slice_get, slice_get_within}
@@ -13,34 +13,34 @@ use Rattle.cd_patch.specs.declared.outcome.Outcome.TheVariants.{NoBlock}
 use Rattle.cd_patch.proofs.FrameLemmas.{Effect-frame, Effect-missing, outcome-frame, outcome-missing}
 use Rattle.cd_patch.proofs.RunLemmas.{PatchRun-append, PatchRun-determined, PatchRun-front, PatchRun-split}
 
-module _ (ps : List Patch) (n : ℕ) (p : Patch) (os : List Outcome) (base : ℕ) (old : List (List ℕ)) (is : slice_get ps n ≡ Some p) where
+module _ (carry : Bool) (ps : List Patch) (n : ℕ) (p : Patch) (os : List Outcome) (base : ℕ) (old : List (List ℕ)) (is : slice_get ps n ≡ Some p) where
   one_more : take (n + 1) ps ≡ take n ps ++ p ∷ []
   one_more = take_more ps n p (slice_get_within ps n p is) ∙ ap (λ q. take n ps ++ q ∷ []) (get_or_from_slice_get ps n p p is)
 
-  pub PatchRun-more : (o : Outcome) (middle last : List (List ℕ)) → o ≡ outcome middle base p → PatchRun (take n ps) os base old middle → Effect base p middle last
-      → PatchRun (take (n + 1) ps) (os ++ o ∷ []) base old last
+  pub PatchRun-more : (o : Outcome) (middle last : List (List ℕ)) → o ≡ outcome carry middle base p → PatchRun carry (take n ps) os base old middle → Effect carry base p middle last
+      → PatchRun carry (take (n + 1) ps) (os ++ o ∷ []) base old last
   PatchRun-more o middle last told run effect =
-      subst (λ l. PatchRun l (os ++ o ∷ []) base old last) (sym one_more)
-      (PatchRun-append (take n ps) (p ∷ []) os (o ∷ []) base old middle last run (told, (last, effect, refl)))
+      subst (λ l. PatchRun carry l (os ++ o ∷ []) base old last) (sym one_more)
+      (PatchRun-append carry (take n ps) (p ∷ []) os (o ∷ []) base old middle last run (told, (last, effect, refl)))
 
   -- the patch is taken in a window
   pub PatchRun-more_window : (o : Outcome) (block : ℕ) (front window window' more : List (List ℕ)) → block ≡ base + length front → block ≤ p.block
-      → (p.block + blocks_met p ≤ block + length window) ⊎ (more ≡ []) → PatchRun (take n ps) os base old (front ++ (window ++ more)) → o ≡ outcome window block p → Effect block p window window'
-      → PatchRun (take (n + 1) ps) (os ++ o ∷ []) base old (front ++ (window' ++ more))
+      → (p.block + blocks_met p ≤ block + length window) ⊎ (more ≡ []) → PatchRun carry (take n ps) os base old (front ++ (window ++ more)) → o ≡ outcome carry window block p → Effect carry block p window window'
+      → PatchRun carry (take (n + 1) ps) (os ++ o ∷ []) base old (front ++ (window' ++ more))
   PatchRun-more_window o block front window window' more e from room run told effect =
-      PatchRun-more o (front ++ (window ++ more)) (front ++ (window' ++ more)) (told ∙ sym (outcome-frame front window more base block p e from room)) run
-      (Effect-frame front window window' more base block p e from room effect)
+      PatchRun-more o (front ++ (window ++ more)) (front ++ (window' ++ more)) (told ∙ sym (outcome-frame carry front window more base block p e from room)) run
+      (Effect-frame carry front window window' more base block p e from room effect)
 
   -- its first block is missing
-  pub PatchRun-more_missing : (middle : List (List ℕ)) → (p.block < base) ⊎ (base + length middle ≤ p.block) → PatchRun (take n ps) os base old middle
-      → PatchRun (take (n + 1) ps) (os ++ NoBlock p.block ∷ []) base old middle
-  PatchRun-more_missing middle missing run = PatchRun-more (NoBlock p.block) middle middle (sym (outcome-missing middle base p missing)) run (Effect-missing middle base p missing)
+  pub PatchRun-more_missing : (middle : List (List ℕ)) → (p.block < base) ⊎ (base + length middle ≤ p.block) → PatchRun carry (take n ps) os base old middle
+      → PatchRun carry (take (n + 1) ps) (os ++ NoBlock p.block ∷ []) base old middle
+  PatchRun-more_missing middle missing run = PatchRun-more (NoBlock p.block) middle middle (sym (outcome-missing carry middle base p missing)) run (Effect-missing carry middle base p missing)
 
 -- the first outcomes are told, and the front is what it will be, where the other patches begin behind it
-pub PatchRun-begins : (ps : List Patch) (n : ℕ) (os done : List Outcome) (base : ℕ) (old front rest last : List (List ℕ)) → All (λ p. base + length front ≤ p.block) (drop n ps)
-    → PatchRun (take n ps) done base old (front ++ rest) → PatchRun ps os base old last → (back : List Outcome) × (rest' : List (List ℕ)) × (os ≡ done ++ back) × (last ≡ front ++ rest')
-PatchRun-begins ps n os done base old front rest last behind first whole =
-    let cut = PatchRun-split (take n ps) (drop n ps) os base old last (subst (λ l. PatchRun l os base old last) (sym (take-append-drop n ps)) whole) in
-    let same = PatchRun-determined (take n ps) done cut.0 base old (front ++ rest) cut.2 first cut.4 in
-    let end = PatchRun-front (drop n ps) cut.1 base front rest last behind (subst (λ l. PatchRun (drop n ps) cut.1 base l last) (sym same.1) cut.5) in
+pub PatchRun-begins : (carry : Bool) (ps : List Patch) (n : ℕ) (os done : List Outcome) (base : ℕ) (old front rest last : List (List ℕ)) → All (λ p. base + length front ≤ p.block) (drop n ps)
+    → PatchRun carry (take n ps) done base old (front ++ rest) → PatchRun carry ps os base old last → (back : List Outcome) × (rest' : List (List ℕ)) × (os ≡ done ++ back) × (last ≡ front ++ rest')
+PatchRun-begins carry ps n os done base old front rest last behind first whole =
+    let cut = PatchRun-split carry (take n ps) (drop n ps) os base old last (subst (λ l. PatchRun carry l os base old last) (sym (take-append-drop n ps)) whole) in
+    let same = PatchRun-determined carry (take n ps) done cut.0 base old (front ++ rest) cut.2 first cut.4 in
+    let end = PatchRun-front carry (drop n ps) cut.1 base front rest last behind (subst (λ l. PatchRun carry (drop n ps) cut.1 base l last) (sym same.1) cut.5) in
     (cut.1, end.0, cut.3 ∙ ap (λ l. l ++ cut.1) (sym same.0), end.1)

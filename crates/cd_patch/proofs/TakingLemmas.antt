@@ -11,14 +11,16 @@ use Rattle.cd_script.specs.declared.patch.Edit.TheVariants.{Put, Fill, Rebuild, 
 use Rattle.cd_script.specs.declared.patch.Patch.{Patch}
 use Rattle.cd_sector.specs.Consistent.{IsConsistent, consistent, header_of, is_mode1, user_of}
 use Rattle.cd_sector.specs.Kind.{kind_of}
+use Rattle.cd_delta.specs.Writing.{written}
 use Rattle.cd_sector.specs.declared.kinds.SectorKind.TheVariants.{Mode1}
-use Rattle.cd_patch.specs.Blocks.{asks_sound, blocks_met, blocks_of, blocks_spanned, new_bytes, new_header, old_bytes, sector_at}
+use Rattle.cd_patch.specs.Blocks.{asks_sound, blocks_met, blocks_of, blocks_spanned, keeps_defect, new_bytes, new_header, old_bytes, sector_at}
 use Rattle.cd_patch.specs.Deciding.{by_difference, first_difference, first_of, first_refusal, joined_user, outcome, refusal_at, user_met}
-use Rattle.cd_patch.specs.Effect.{Effect, EffectOf, IsApplied, patched_user}
+use Rattle.cd_patch.specs.Effect.{Effect, EffectOf, IsApplied, MadeBy, patched_user, user_part}
 use Rattle.cd_patch.specs.Parts.{EachMade, HasPart, HaveUsers}
 use Rattle.cd_patch.specs.declared.outcome.Outcome.{Outcome}
 use Rattle.cd_patch.specs.declared.outcome.Outcome.TheVariants.{Applied, Damaged, NotMode1}
 use Rattle.cd_patch.proofs.DecidingLemmas.{AreMet, AreMet-from, BlocksHaveUsers-from, joined-byte, length-joined, user_at-sector}
+use Rattle.cd_patch.proofs.MadeLemmas.{MadeBy-sector}
 use Rattle.cd_patch.proofs.SectorAtLemmas.{sector_at-add}
 use Rattle.cd_patch.proofs.PartLemmas.{length-user, user_part-of}
 
@@ -54,9 +56,6 @@ pub address-alone : (p : Patch) (bcd : List ℕ) → p.edit ≡ Address bcd → 
 unfolding blocks_met
 address-alone p bcd is = ap (blocks_of p.offset) is
 
-pub users-consistent : (ss : List (List ℕ)) → All IsConsistent ss → HaveUsers ss (length ss)
-users-consistent ss h k below = length-user (get_or ss k []) ((All-get_or IsConsistent ss k [] below h).size)
-
 -- ---- no refusal is an acceptance
 
 refusal-told : (mode asks sound : Bool) (block : ℕ)
@@ -84,13 +83,13 @@ pub applied-told : (refusal : Option Outcome) (other : Outcome) → (refusal ≡
 applied-told None other real h = refl
 applied-told (Some r) other real h = absurd (real (ap (λ o. Some o) h))
 
-pub met-where-applied : (ss : List (List ℕ)) (p : Patch) → outcome ss p.block p ≡ Applied → AreMet (asks_sound p.edit) ss (blocks_met p)
+pub met-where-applied : (carry : Bool) (ss : List (List ℕ)) (p : Patch) → outcome carry ss p.block p ≡ Applied → AreMet (asks_sound carry p.edit) ss (blocks_met p)
 unfolding outcome
-met-where-applied ss p h =
-    let found = first_refusal ss p.block (asks_sound p.edit) p.block (blocks_met p) in
-    AreMet-from ss p.block (asks_sound p.edit) (blocks_met p)
+met-where-applied carry ss p h =
+    let found = first_refusal ss p.block (asks_sound carry p.edit) p.block (blocks_met p) in
+    AreMet-from ss p.block (asks_sound carry p.edit) (blocks_met p)
     (applied-told found (by_difference p.block (first_difference p.offset (drop p.offset (user_met ss p.block p)) (old_bytes p.edit)))
-    (first_refusal-told ss p.block (asks_sound p.edit) p.block (blocks_met p)) h)
+    (first_refusal-told ss p.block (asks_sound carry p.edit) p.block (blocks_met p)) h)
 
 -- ---- the sectors in front and those behind them
 
@@ -108,12 +107,6 @@ pub sound-front : (asks : Bool) (ss : List (List ℕ)) (n : ℕ) → AreMet asks
 sound-front asks ss n met asked k d inside =
     let size = length-take-le n ss met.enough in
     subst IsConsistent (sym (get_or-front ss n k d met.enough inside)) (met.sound asked k (omega arith))
-
-users-front : (ss : List (List ℕ)) (n : ℕ) → n ≤ length ss → HaveUsers (take n ss) (length (take n ss)) → HaveUsers ss n
-users-front ss n room users k below =
-    let size = length-take-le n ss room in
-    let inside : k < length (take n ss) = omega arith in
-    ap (λ s. length (user_of s)) (sym (get_or-front ss n k [] room inside)) ∙ users k inside
 
 slice_get-behind : (front ss : List (List ℕ)) (n k : ℕ) → length front ≡ n → n ≤ length ss → n ≤ k → slice_get (front ++ drop n ss) k ≡ slice_get ss k
 slice_get-behind front ss n k long room behind =
@@ -134,13 +127,14 @@ sector_at-below ss base block below = ap (λ b. cond b None (slice_get ss (block
 
 -- ---- the effect
 
-pub IsApplied-from : (p : Patch) (ss front : List (List ℕ)) → p.offset + length (new_bytes p.edit) ≤ 2048 * blocks_met p → blocks_met p ≤ length ss
-    → HaveUsers (take (blocks_met p) ss) (length (take (blocks_met p) ss))
-    → EachMade (λ k before after. HasPart k p.offset (new_bytes p.edit) (new_header p.edit (header_of before)) before after) (take (blocks_met p) ss) front
-    → IsApplied p.block p ss (front ++ drop (blocks_met p) ss)
+pub IsApplied-from : (carry : Bool) (p : Patch) (ss front : List (List ℕ)) → p.offset + length (new_bytes p.edit) ≤ 2048 * blocks_met p → blocks_met p ≤ length ss
+    → HaveUsers ss (blocks_met p)
+    → EachMade (λ k before after. HasPart (keeps_defect carry p.edit) k p.offset (new_bytes p.edit) (new_header p.edit (header_of before)) before after) (take (blocks_met p) ss) front
+    → IsApplied carry p.block p ss (front ++ drop (blocks_met p) ss)
 unfolding patched_user user_met
-IsApplied-from p ss front fits room front_users each =
+IsApplied-from carry p ss front fits room users each =
     let n = blocks_met p in
+    let carried = keeps_defect carry p.edit in
     let bytes = new_bytes p.edit in
     let joined = joined_user ss p.block p.block n in
     let new = front ++ drop n ss in
@@ -148,7 +142,6 @@ IsApplied-from p ss front fits room front_users each =
     let long : length front ≡ n = each.size ∙ cut in
     let rest = length-drop n ss in
     let whole = length-append front (drop n ss) in
-    let users = users-front ss n room front_users in
     let all = BlocksHaveUsers-from ss p.block n users room in
     record {
       count = omega arith;
@@ -159,19 +152,18 @@ IsApplied-from p ss front fits room front_users each =
           let is : get_or front k [] ≡ after =
           sym (get_or_append_left front (drop n ss) [] k (omega arith))
           ∙ get_or_from_slice_get new k after [] (sym (sector_at-add new p.block k) ∙ new_at) in
-          let old_part = subst (λ s. HasPart k p.offset bytes (new_header p.edit (header_of s)) s (get_or front k [])) (get_or-front ss n k [] room inside ∙ was) (each.each k inside) in
+          let old_part = subst (λ s. HasPart carried k p.offset bytes (new_header p.edit (header_of s)) s (get_or front k [])) (get_or-front ss n k [] room inside ∙ was) (each.each k inside) in
           let header = new_header p.edit (header_of before) in
-          let part : HasPart k p.offset bytes header before after = subst (HasPart k p.offset bytes header before) is old_part in
-          record {
-            is_consistent = part.is_consistent;
-            has_header = part.has_header;
-            has_user = user_part-of k n p.offset bytes joined header before after below (length-joined 2048 ss p.block p.block n all) fits
-                (length-user after part.is_consistent.size)
-                (λ j in_block.
-                joined-byte 2048 ss p.block p.block n all k j below in_block
-                ∙ ap (λ u. get_or u j 0) (user_at-sector ss p.block k (omega arith) ∙ ap user_of was))
-                part;
-          };
+          let part : HasPart carried k p.offset bytes header before after = subst (HasPart carried k p.offset bytes header before) is old_part in
+          let sector = MadeBy-sector carried before header (user_of after) after part.made in
+          let user : user_of after ≡ user_part (written joined p.offset bytes) k =
+          user_part-of carried k n p.offset bytes joined header before after below (length-joined 2048 ss p.block p.block n all) fits
+          (length-user after sector.size)
+          (λ j in_block.
+          joined-byte 2048 ss p.block p.block n all k j below in_block
+          ∙ ap (λ u. get_or u j 0) (user_at-sector ss p.block k (omega arith) ∙ ap user_of was))
+          part in
+          subst (λ u. MadeBy carried before header u after) user part.made;
       others = λ block out.
           elim out [
             | inl below ↦ sector_at-below new p.block block below ∙ sym (sector_at-below ss p.block block below)
@@ -193,5 +185,5 @@ pub new-fits : (p : Patch) → IsPatch p → p.offset + length (new_bytes p.edit
 unfolding blocks_met
 new-fits p patch = new-fits_at p.offset p.edit patch.offset patch.edit
 
-pub Effect-applied : (p : Patch) (old new : List (List ℕ)) → outcome old p.block p ≡ Applied → IsApplied p.block p old new → Effect p.block p old new
-Effect-applied p old new is h = subst (λ o. EffectOf o p.block p old new) (sym is) h
+pub Effect-applied : (carry : Bool) (p : Patch) (old new : List (List ℕ)) → outcome carry old p.block p ≡ Applied → IsApplied carry p.block p old new → Effect carry p.block p old new
+Effect-applied carry p old new is h = subst (λ o. EffectOf carry o p.block p old new) (sym is) h

@@ -44,7 +44,7 @@ pub AreBytes-user : (sector : List ℕ) → IsSector sector → AreBytes (user_o
 unfolding user_of
 AreBytes-user sector h = AreBytes-range sector 16 2064 h.bytes
 
-AreBytes-all : (v : List ℕ) → All (λ b. b < 256) v → AreBytes v
+pub AreBytes-all : (v : List ℕ) → All (λ b. b < 256) v → AreBytes v
 AreBytes-all v h = λ i. elim (cases_lt i (length v)) [
   | inl inside ↦ h i 0 inside
   | inr past ↦ let none : get_or v i 0 ≡ 0 = get_or_past v i 0 past in rw none (lit< tt)

@@ -1,5 +1,5 @@
 -- The blocks that a patch meets, and the bytes that it names in them.
-use Rattle.std.specs.Prelude.{ℕ, ◌+◌, ◌-◌, ◌/◌, nat_lt, Bool, true, false, if◌then◌else◌, List, [], ◌++◌, drop, length, replicate, slice_get, Option, Some, None}
+use Rattle.std.specs.Prelude.{ℕ, ◌+◌, ◌-◌, ◌/◌, nat_lt, Bool, true, false, not, ◌&&◌, if◌then◌else◌, List, [], ◌++◌, drop, length, replicate, slice_get, Option, Some, None}
 use Rattle.cd_script.specs.declared.patch.Edit.{Edit}
 use Rattle.cd_script.specs.declared.patch.Edit.TheVariants.{Put, Fill, Rebuild, Address}
 use Rattle.cd_script.specs.declared.patch.Patch.{Patch}
@@ -27,12 +27,20 @@ old_bytes (Fill count value) = []
 old_bytes Rebuild = []
 old_bytes (Address bcd) = []
 
--- whether an edit is refused where a sector is damaged
-abbrev pub asks_sound : Edit → Bool
-asks_sound (Put bytes was) = true
-asks_sound (Fill count value) = true
-asks_sound Rebuild = false
-asks_sound (Address bcd) = true
+-- whether an edit builds on the sector as it is, and does not make it anew
+abbrev pub asks_consistent : Edit → Bool
+asks_consistent (Put bytes was) = true
+asks_consistent (Fill count value) = true
+asks_consistent Rebuild = false
+asks_consistent (Address bcd) = true
+
+-- whether an edit is refused where a sector is damaged: not where damage is carried
+abbrev pub asks_sound : Bool → Edit → Bool
+asks_sound carry edit = asks_consistent edit && not carry
+
+-- whether an edit leaves a sector's damage as it was
+abbrev pub keeps_defect : Bool → Edit → Bool
+keeps_defect carry edit = asks_consistent edit && carry
 
 -- the number of blocks that so many bytes from an offset on lie in
 abbrev pub blocks_spanned : ℕ → ℕ → ℕ

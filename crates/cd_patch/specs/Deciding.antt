@@ -52,8 +52,8 @@ abbrev pub by_difference : ℕ → Option ℕ → Outcome
 by_difference block None = Applied
 by_difference block (Some place) = Differs (block + place / USER_SIZE) (place % USER_SIZE)
 
--- what becomes of a patch
-unfoldable pub outcome : List (List ℕ) → ℕ → Patch → Outcome
-outcome sectors base p =
-    unwrap_or (first_refusal sectors base (asks_sound p.edit) p.block (blocks_met p))
+-- what becomes of a patch, where damage is carried or not
+unfoldable pub outcome : Bool → List (List ℕ) → ℕ → Patch → Outcome
+outcome carry sectors base p =
+    unwrap_or (first_refusal sectors base (asks_sound carry p.edit) p.block (blocks_met p))
     (by_difference p.block (first_difference p.offset (drop p.offset (user_met sectors base p)) (old_bytes p.edit)))

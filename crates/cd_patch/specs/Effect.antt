@@ -1,10 +1,12 @@
 -- What a patch makes of the sectors, as a relation between those before and those after.
-use Rattle.std.specs.Prelude.{◌≡◌, ℕ, ◌+◌, ◌*◌, ◌<◌, ◌≤◌, ◌⊎◌, List, length, slice_range, Some}
+use Rattle.std.specs.Prelude.{◌≡◌, ℕ, ◌+◌, ◌*◌, ◌<◌, ◌≤◌, ◌⊎◌, Bool, true, false, List, length, slice_range, Some}
+use Rattle.cd_script.specs.declared.patch.Edit.{Edit}
 use Rattle.cd_script.specs.declared.patch.Patch.{Patch}
+use Rattle.cd_sector.specs.Carried.{IsCarried}
 use Rattle.cd_sector.specs.Consistent.{IsConsistent, header_of, user_of}
 use Rattle.cd_sector.specs.declared.sector.TheConstants.{USER_SIZE}
 use Rattle.cd_delta.specs.Writing.{written}
-use Rattle.cd_patch.specs.Blocks.{blocks_met, new_bytes, new_header, sector_at}
+use Rattle.cd_patch.specs.Blocks.{blocks_met, keeps_defect, new_bytes, new_header, sector_at}
 use Rattle.cd_patch.specs.Deciding.{outcome, user_met}
 use Rattle.cd_patch.specs.declared.outcome.Outcome.{Outcome}
 use Rattle.cd_patch.specs.declared.outcome.Outcome.TheVariants.{Applied, Damaged, Differs, NoBlock, NotMode1}
@@ -15,6 +17,16 @@ pub record IsRemade (header user sector : List ℕ) : Type 0 where
   pub has_header : header_of sector ≡ header
   pub has_user : user_of sector ≡ user
 
+-- the same, or the sector with this content, the old sync and the old defect
+abbrev pub MadeBy : Bool → List ℕ → List ℕ → List ℕ → List ℕ → Type 0
+MadeBy false old header user new = IsRemade header user new
+MadeBy true old header user new = IsCarried old header user new
+
+-- what an edit makes of a sector to which it gives this user data: where damage is carried, each edit but `rebuild` keeps
+-- the old defect; else the consistent sector
+abbrev pub IsMade : Bool → Edit → List ℕ → List ℕ → List ℕ → Type 0
+IsMade carry edit old user new = MadeBy (keeps_defect carry edit) old (new_header edit (header_of old)) user new
+
 -- the user data of the blocks that a patch meets, joined, with the new bytes in the patch's range
 unfoldable pub patched_user : List (List ℕ) → ℕ → Patch → List ℕ
 patched_user sectors base p = written (user_met sectors base p) p.offset (new_bytes p.edit)
@@ -24,21 +36,21 @@ unfoldable pub user_part : List ℕ → ℕ → List ℕ
 user_part user k = slice_range user (USER_SIZE * k) (USER_SIZE * (k + 1))
 
 -- an accepted patch: each block that it meets has the header that the patch makes of its old one and its part of the
--- patched user data, and is consistent; every other is as it was
-pub record IsApplied (base : ℕ) (p : Patch) (old new : List (List ℕ)) : Type 0 where
+-- patched user data, and is consistent, or has the old defect where that is carried; every other is as it was
+pub record IsApplied (carry : Bool) (base : ℕ) (p : Patch) (old new : List (List ℕ)) : Type 0 where
   pub count : length new ≡ length old
   pub met : (k : ℕ) (before after : List ℕ) → k < blocks_met p → sector_at old base (p.block + k) ≡ Some before → sector_at new base (p.block + k) ≡ Some after
-      → IsRemade (new_header p.edit (header_of before)) (user_part (patched_user old base p) k) after
+      → IsMade carry p.edit before (user_part (patched_user old base p) k) after
   pub others : (block : ℕ) → (block < p.block) ⊎ (p.block + blocks_met p ≤ block) → sector_at new base block ≡ sector_at old base block
 
 -- a refused patch changes nothing
-abbrev pub EffectOf : Outcome → ℕ → Patch → List (List ℕ) → List (List ℕ) → Type 0
-EffectOf Applied base p old new = IsApplied base p old new
-EffectOf (NoBlock block) base p old new = new ≡ old
-EffectOf (NotMode1 block) base p old new = new ≡ old
-EffectOf (Damaged block) base p old new = new ≡ old
-EffectOf (Differs block offset) base p old new = new ≡ old
+abbrev pub EffectOf : Bool → Outcome → ℕ → Patch → List (List ℕ) → List (List ℕ) → Type 0
+EffectOf carry Applied base p old new = IsApplied carry base p old new
+EffectOf carry (NoBlock block) base p old new = new ≡ old
+EffectOf carry (NotMode1 block) base p old new = new ≡ old
+EffectOf carry (Damaged block) base p old new = new ≡ old
+EffectOf carry (Differs block offset) base p old new = new ≡ old
 
 -- what a patch makes of the sectors `old`, the first of which is block `base`
-abbrev pub Effect : ℕ → Patch → List (List ℕ) → List (List ℕ) → Type 0
-Effect base p old new = EffectOf (outcome old base p) base p old new
+abbrev pub Effect : Bool → ℕ → Patch → List (List ℕ) → List (List ℕ) → Type 0
+Effect carry base p old new = EffectOf carry (outcome carry old base p) base p old new

@@ -1,12 +1,16 @@
 -- What follows from the definitions alone; each is the contract of a function of `laws.rt`.
-use Rattle.std.specs.Prelude.{◌≡◌, ℕ, ◌+◌, ◌-◌, ◌*◌, ◌<◌, ◌≤◌, nat_lt, nat_le, Bool, true, false, ◌&&◌, ◌||◌, if◌then◌else◌, List, [], ◌∷◌, All, length, take, slice_get, slice_index, Some}
+use Rattle.std.specs.Prelude.{◌≡◌, ℕ, ◌+◌, ◌-◌, ◌*◌, ◌<◌, ◌≤◌, ◌≢◌, nat_lt, nat_le, Bool, true, false, not, ◌&&◌, ◌||◌, if◌then◌else◌, List, [], ◌∷◌, All, length, take, slice_get, slice_index, Some}
 use Rattle.std.specs.List.Sorted.{IsNonDecreasingBy}
 use Rattle.cd_code.specs.Field.{AreBytes}
 use Rattle.cd_script.specs.Patch.{IsPatch}
 use Rattle.cd_script.specs.declared.patch.Patch.{Patch}
+use Rattle.cd_sector.specs.Carried.{sync_of}
 use Rattle.cd_sector.specs.Consistent.{IsConsistent, header_of, user_of}
+use Rattle.cd_sector.specs.Defect.{defect_of}
 use Rattle.cd_sector.specs.declared.sector.TheConstants.{SECTOR_SIZE, USER_SIZE}
-use Rattle.cd_patch.specs.Blocks.{blocks_met, new_bytes, new_header, sector_at}
+use Rattle.cd_patch.specs.Blocks.{asks_consistent, blocks_met, new_bytes, new_header, sector_at}
+use Rattle.cd_patch.specs.Deciding.{outcome}
+use Rattle.cd_patch.specs.Effect.{Effect}
 use Rattle.cd_patch.specs.Run.{PatchRun}
 use Rattle.cd_patch.specs.declared.outcome.Outcome.{Outcome}
 use Rattle.cd_patch.specs.declared.outcome.Outcome.TheVariants.{Applied, Damaged, Differs, NoBlock, NotMode1}
@@ -19,22 +23,22 @@ pub record IsSector (sector : List ℕ) : Type 0 where
 -- a run's outcomes and last sectors follow from the patches and the sectors
 abbrev pub RunIsDetermined : Type 0
 RunIsDetermined =
-    (ps : List Patch) (os os' : List Outcome) (base : ℕ) (old last last' : List (List ℕ))
-    → PatchRun ps os base old last → PatchRun ps os' base old last' → (os ≡ os') × (last ≡ last')
+    (carry : Bool) (ps : List Patch) (os os' : List Outcome) (base : ℕ) (old last last' : List (List ℕ))
+    → PatchRun carry ps os base old last → PatchRun carry ps os' base old last' → (os ≡ os') × (last ≡ last')
 
 -- each list of patches has a run on each list of sectors
 abbrev pub RunExists : Type 0
 RunExists =
-    (ps : List Patch) (base : ℕ) (old : List (List ℕ)) → All IsPatch ps → All IsSector old
-    → (os : List Outcome) × (last : List (List ℕ)) × PatchRun ps os base old last × All IsSector last
+    (carry : Bool) (ps : List Patch) (base : ℕ) (old : List (List ℕ)) → All IsPatch ps → All IsSector old
+    → (os : List Outcome) × (last : List (List ℕ)) × PatchRun carry ps os base old last × All IsSector last
 
 -- where the first i + 3 sectors are equal, the patches up to block base + i have equal outcomes, and leave equal sectors
 -- 0 to i
 abbrev pub RunsAgree : Type 0
 RunsAgree =
-    (i base : ℕ) (ps : List Patch) (os os' : List Outcome) (old old' last last' : List (List ℕ))
+    (carry : Bool) (i base : ℕ) (ps : List Patch) (os os' : List Outcome) (old old' last last' : List (List ℕ))
     → All IsPatch ps → IsNonDecreasingBy (λ p. p.block) ps → take (i + 3) old ≡ take (i + 3) old'
-    → PatchRun ps os base old last → PatchRun ps os' base old' last'
+    → PatchRun carry ps os base old last → PatchRun carry ps os' base old' last'
     → ((k : ℕ) (p : Patch) → slice_get ps k ≡ Some p → p.block ≤ base + i → slice_get os k ≡ slice_get os' k)
     × (take (i + 1) last ≡ take (i + 1) last')
 
@@ -78,12 +82,29 @@ header_left (p ∷ ps) [] block before = before
 header_left (p ∷ ps) (o ∷ os) block before =
     header_left ps os block (if is_applied o && meets p block then new_header p.edit before else before)
 
--- a sector that no accepted patch meets is the old one; each other one is consistent, with the header and the user bytes
--- that the accepted patches leave in order
-pub record LeavesOthers (ps : List Patch) (os : List Outcome) (base : ℕ) (old last : List (List ℕ)) : Type 0 where
+-- an accepted patch that makes its sectors anew, a rebuild, meets the block
+abbrev pub is_rebuilt : List Patch → List Outcome → ℕ → Bool
+is_rebuilt [] os block = false
+is_rebuilt (p ∷ ps) [] block = false
+is_rebuilt (p ∷ ps) (o ∷ os) block = ((is_applied o && meets p block) && not (asks_consistent p.edit)) || is_rebuilt ps os block
+
+-- the damage of one sector is that of the other
+pub record SameDamage (before after : List ℕ) : Type 0 where
+  pub sync : sync_of after ≡ sync_of before
+  pub defect : defect_of after ≡ defect_of before
+
+-- a sector that no accepted patch meets is the old one; each other one has the header and the user bytes that the accepted
+-- patches leave in order. Where no damage is carried it is consistent; where damage is carried it has the sync field and
+-- the defect of the old one, or is consistent where it was rebuilt. A consistent one stays consistent
+pub record LeavesOthers (carry : Bool) (ps : List Patch) (os : List Outcome) (base : ℕ) (old last : List (List ℕ)) : Type 0 where
   pub count : length last ≡ length old
+  pub sectors : All IsSector last
   pub others : (block : ℕ) → is_touched ps os block ≡ false → sector_at last base block ≡ sector_at old base block
-  pub consistent : (block : ℕ) (before after : List ℕ) → is_touched ps os block ≡ true → sector_at old base block ≡ Some before → sector_at last base block ≡ Some after → IsConsistent after
+  pub consistent : (block : ℕ) (before after : List ℕ) → carry ≡ false → is_touched ps os block ≡ true → sector_at old base block ≡ Some before → sector_at last base block ≡ Some after → IsConsistent after
+  pub rebuilt : (block : ℕ) (before after : List ℕ) → is_rebuilt ps os block ≡ true → sector_at old base block ≡ Some before → sector_at last base block ≡ Some after → IsConsistent after
+  pub carried : (block : ℕ) (before after : List ℕ) → carry ≡ true → is_rebuilt ps os block ≡ false → sector_at old base block ≡ Some before → sector_at last base block ≡ Some after
+      → SameDamage before after
+  pub stays : (block : ℕ) (before after : List ℕ) → IsConsistent before → sector_at old base block ≡ Some before → sector_at last base block ≡ Some after → IsConsistent after
   pub header : (block : ℕ) (before after : List ℕ) → sector_at old base block ≡ Some before → sector_at last base block ≡ Some after
       → header_of after ≡ header_left ps os block (header_of before)
   pub user : (block offset : ℕ) (before after : List ℕ) → offset < USER_SIZE → sector_at old base block ≡ Some before → sector_at last base block ≡ Some after
@@ -91,5 +112,17 @@ pub record LeavesOthers (ps : List Patch) (os : List Outcome) (base : ℕ) (old 
 
 abbrev pub RunLeavesOthers : Type 0
 RunLeavesOthers =
-    (ps : List Patch) (os : List Outcome) (base : ℕ) (old last : List (List ℕ)) → All IsPatch ps → All IsSector old
-    → PatchRun ps os base old last → LeavesOthers ps os base old last
+    (carry : Bool) (ps : List Patch) (os : List Outcome) (base : ℕ) (old last : List (List ℕ)) → All IsPatch ps → All IsSector old
+    → PatchRun carry ps os base old last → LeavesOthers carry ps os base old last
+
+-- ---- where there is nothing to carry
+
+-- a patch that is accepted where no damage is carried is accepted where it is, and makes the same
+abbrev pub NothingToCarry : Type 0
+NothingToCarry =
+    (base : ℕ) (p : Patch) (old new : List (List ℕ)) → outcome false old base p ≡ Applied → Effect false base p old new
+    → (outcome true old base p ≡ Applied) × Effect true base p old new
+
+-- where damage is carried no patch is refused for it
+abbrev pub NeverDamaged : Type 0
+NeverDamaged = (base block : ℕ) (p : Patch) (sectors : List (List ℕ)) → outcome true sectors base p ≢ Damaged block

@@ -1,7 +1,8 @@
 -- What an edit makes of one sector after the other, among those that its patch meets.
-use Rattle.std.specs.Prelude.{◌≡◌, ℕ, ◌+◌, ◌*◌, ◌<◌, ◌≤◌, ◌⊎◌, List, [], length, slice_index, slice_index_or}
-use Rattle.cd_sector.specs.Consistent.{IsConsistent, header_of, user_of}
+use Rattle.std.specs.Prelude.{◌≡◌, ℕ, ◌+◌, ◌*◌, ◌<◌, ◌≤◌, ◌⊎◌, Bool, List, [], length, slice_index, slice_index_or}
+use Rattle.cd_sector.specs.Consistent.{user_of}
 use Rattle.cd_sector.specs.declared.sector.TheConstants.{USER_SIZE}
+use Rattle.cd_patch.specs.Effect.{MadeBy}
 
 -- each of the first `count` sectors has its 2048 bytes of user data
 abbrev pub HaveUsers : List (List ℕ) → ℕ → Type 0
@@ -17,10 +18,10 @@ pub record IsPart (k offset count place first end : ℕ) : Type 0 where
   pub from_start : (first ≡ 0) ⊎ (place ≡ 0)
   pub to_end : (end ≡ count) ⊎ (place + end ≡ USER_SIZE + first)
 
--- the sector at number k is consistent, with this header, and has those of the bytes that lie in it
-pub record HasPart (k offset : ℕ) (bytes header before after : List ℕ) : Type 0 where
-  pub is_consistent : IsConsistent after
-  pub has_header : header_of after ≡ header
+-- the sector at number k has this header and those of the bytes that lie in it, and is consistent or has the defect of the
+-- one before
+pub record HasPart (carried : Bool) (k offset : ℕ) (bytes header before after : List ℕ) : Type 0 where
+  pub made : MadeBy carried before header (user_of after) after
   pub inside : (i j : ℕ) → i < length bytes → j < USER_SIZE → USER_SIZE * k + j ≡ offset + i → slice_index (user_of after) j ≡ slice_index bytes i
   pub outside : (j : ℕ) → j < USER_SIZE → (USER_SIZE * k + j < offset) ⊎ (offset + length bytes ≤ USER_SIZE * k + j) → slice_index (user_of after) j ≡ slice_index (user_of before) j
 

@@ -1,10 +1,12 @@
 //! Whether a patch is accepted: the blocks that it meets are asked upwards, then the old bytes that it names.
 
-ghost use Rattle.std.specs.Prelude.{◌≡◌, ℕ, ◌+◌, ◌*◌, ◌<◌, ◌≤◌, drop, IfSome, length, None, slice_get};
+ghost use Rattle.std.specs.Prelude.{◌≡◌, ℕ, ◌+◌, ◌*◌, ◌<◌, ◌≤◌, drop, IfSome, length, None, [], slice_get, slice_index_or};
 ghost use Rattle.cd_script.specs.Patch.{IsPatch};
+ghost use Rattle.cd_sector.specs.Consistent.{user_of};
 ghost use Rattle.cd_patch.specs.Blocks.{asks_sound, blocks_met, blocks_spanned, old_bytes};
 ghost use Rattle.cd_patch.specs.Deciding.{first_difference, first_refusal, joined_user, outcome, refusal_at};
 ghost use Rattle.cd_patch.specs.Parts.{HaveUsers};
+ghost use Rattle.cd_patch.specs.declared.outcome.Outcome.TheVariants.{Applied};
 
 use crate::outcome::Outcome;
 use cd_script::{Edit, Patch};
@@ -36,14 +38,16 @@ fn blocks_spanned(offset: u16, count: usize) -> usize
     (offset as usize + count - 1) / USER_SIZE + 1
 }
 
-/// What becomes of a patch, which meets `count` blocks, on the sectors from its first block on.
-pub(crate) fn decide(sectors: &[Sector], patch: &Patch, count: usize) -> Outcome
+/// What becomes of a patch, which meets `count` blocks, on the sectors from its first block on; damage may be carried.
+pub(crate) fn decide(sectors: &[Sector], patch: &Patch, count: usize, carry: bool) -> Outcome
     requires patch { IsPatch patch.now }
     requires count { count ≡ blocks_met patch.now }
     requires few { count ≤ 3 }
-    ensures { result ≡ outcome sectors.now patch.now.block patch.now }
+    ensures outcome { result ≡ outcome carry sectors.now patch.now.block patch.now }
+    ensures users { result ≡ Applied → HaveUsers sectors.now count }
 {
-    if let Some(refusal) = first_refusal(sectors, patch.block, count, asks_sound(&patch.edit)) {
+    let asks = asks_sound(&patch.edit, carry);
+    if let Some(refusal) = first_refusal(sectors, patch.block, count, asks) {
         return refusal;
     }
     match first_difference(sectors, patch.offset, old_bytes(&patch.edit)) {
@@ -55,12 +59,12 @@ pub(crate) fn decide(sectors: &[Sector], patch: &Patch, count: usize) -> Outcome
     }
 }
 
-/// Whether an edit is refused where a sector is damaged.
-fn asks_sound(edit: &Edit) -> bool
-    ensures { result ≡ asks_sound edit.now }
+/// Whether an edit is refused where a sector is damaged: not where damage is carried.
+fn asks_sound(edit: &Edit, carry: bool) -> bool
+    ensures { result ≡ asks_sound carry edit.now }
 {
     match edit {
-        Edit::Put { .. } | Edit::Fill { .. } | Edit::Address { .. } => true,
+        Edit::Put { .. } | Edit::Fill { .. } | Edit::Address { .. } => !carry,
         Edit::Rebuild => false,
     }
 }
@@ -82,7 +86,8 @@ fn old_bytes(edit: &Edit) -> &[u8]
 fn first_refusal(sectors: &[Sector], block: u32, count: usize, asks: bool) -> Option<Outcome>
     requires block { block ≤ 999999999 }
     requires count { count ≤ 3 }
-    ensures { result ≡ first_refusal sectors.now block asks block count }
+    ensures refusal { result ≡ first_refusal sectors.now block asks block count }
+    ensures users { result ≡ None → HaveUsers sectors.now count }
 {
     for k in 0..count {
         let refusal = refusal_at(sectors, k, block + k as u32, asks);
@@ -96,11 +101,13 @@ fn first_refusal(sectors: &[Sector], block: u32, count: usize, asks: bool) -> Op
 /// Why the block whose sector is that at `k` refuses a patch, which may ask for a consistent sector; none where it
 /// doesn't refuse.
 fn refusal_at(sectors: &[Sector], k: usize, block: u32, asks: bool) -> Option<Outcome>
-    ensures { result ≡ refusal_at asks block (slice_get sectors.now k) }
+    ensures refusal { result ≡ refusal_at asks block (slice_get sectors.now k) }
+    ensures user { result ≡ None → length (user_of (slice_index_or sectors.now k [])) ≡ USER_SIZE }
 {
     let Some(sector) = sectors.get(k) else {
         return Some(Outcome::NoBlock(block));
     };
+    has_user(sector);
     match kind(sector) {
         SectorKind::Mode1 => {
             if asks && !is_consistent(sector) {
@@ -115,12 +122,18 @@ fn refusal_at(sectors: &[Sector], k: usize, block: u32, asks: bool) -> Option<Ou
     }
 }
 
+/// A sector has 2048 bytes of user data.
+pub(crate) fn has_user(sector: &Sector)
+    ensures { length (user_of sector.now) ≡ USER_SIZE }
+{
+    sector.user();
+}
+
 /// The place, in the joined user data of the sectors, of the first byte from `offset` on that is not the old one.
 fn first_difference(sectors: &[Sector], offset: u16, old: &[u8]) -> Option<usize>
     requires { offset + length old.now ≤ 2048 * length sectors.now }
     ensures value { (base count : ℕ) → HaveUsers sectors.now count → count ≤ length sectors.now → offset + length old.now ≤ 2048 * count
         → result ≡ first_difference offset (drop offset (joined_user sectors.now base base count)) old.now }
-    ensures none { length old.now ≡ 0 → result ≡ None }
     ensures within { IfSome result (λ place. place < offset + length old.now) }
 {
     for (i, byte) in old.iter().enumerate() {

@@ -1,6 +1,6 @@
 //! Laws of the definitions, each the contract of a function that does nothing.
 
-ghost use Rattle.cd_patch.specs.Laws.{RunExists, RunIsDetermined, RunLeavesOthers, RunsAgree};
+ghost use Rattle.cd_patch.specs.Laws.{NeverDamaged, NothingToCarry, RunExists, RunIsDetermined, RunLeavesOthers, RunsAgree};
 
 /// A run's outcomes and last sectors follow from the patches and the sectors.
 pub fn run_is_determined()
@@ -18,8 +18,19 @@ pub fn runs_agree()
     ensures { RunsAgree }
 {}
 
-/// A sector that no accepted patch meets is the old one; each other one is consistent, with the header and the
-/// user data that the accepted patches leave in order.
+/// A sector that no accepted patch meets is the old one; each other one has the header and the user data that the
+/// accepted patches leave in order. It is consistent, or has the old damage where that is carried and no patch has made
+/// the sector anew.
 pub fn run_leaves_others()
     ensures { RunLeavesOthers }
+{}
+
+/// A patch that is accepted where no damage is carried is accepted where it is, and makes the same.
+pub fn nothing_to_carry()
+    ensures { NothingToCarry }
+{}
+
+/// Where damage is carried no patch is refused for it.
+pub fn never_damaged()
+    ensures { NeverDamaged }
 {}

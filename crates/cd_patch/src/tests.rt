@@ -4,6 +4,7 @@ ghost use Rattle.std.specs.Prelude.{◌+◌, ◌≤◌, length};
 
 mod accepted;
 mod addressed;
+mod carried;
 mod refused;
 mod spans;
 
@@ -90,12 +91,25 @@ fn assert_script_taken(
     expected: Outcome,
     after: &[Sector],
 ) -> Result<(), Fail> {
+    assert_taken_by(rt, alloc, text, false, sectors, expected, after)
+}
+
+/// The same, where damage is carried or not.
+fn assert_taken_by(
+    rt: &impl Abort,
+    alloc: Global,
+    text: &str,
+    carry: bool,
+    sectors: &mut [Sector],
+    expected: Outcome,
+    after: &[Sector],
+) -> Result<(), Fail> {
     let bytes = text.as_bytes();
     assert!(rt; bytes.len() <= MAX_TEXT);
     let script = parse(alloc, bytes)?;
     let patches = script.patches();
     assert!(rt; patches.len() == 1);
-    let outcome = take_patch(sectors, &patches[0]);
+    let outcome = take_patch(sectors, &patches[0], carry);
     assert_eq!(rt; outcome, expected, "{text}");
     assert_eq!(rt; sectors.len(), after.len());
     for (sector, wanted) in sectors.iter().zip(after) {

@@ -1,5 +1,5 @@
 -- What the program does for a job: which files it asks for, by which names and in which order, and what it does with them.
-use Rattle.std.specs.Prelude.{◌≡◌, ◌≢◌, ℕ, ◌⊎◌, List, Option, None, Result, Ok, Err, codes, if◌then◌else◌, is_some, string_bytes}
+use Rattle.std.specs.Prelude.{◌≡◌, ◌≢◌, ℕ, ◌⊎◌, Bool, List, Option, None, Result, Ok, Err, codes, if◌then◌else◌, is_some, string_bytes}
 use Rattle.std.specs.Io.KnownBytes.{Consumes}
 use Rattle.cd_command.specs.CommandLine.{IsJobOf, IsTaken}
 use Rattle.cd_command.specs.Fault.{HasKindOf, printed, status_of}
@@ -131,49 +131,49 @@ pub record ByScript {H I O : Type 0} (on : Hosting H I O) (name : List ℕ) (Don
   pub done : Taken (λ patches. Done patches middle said) middle host' said after status result
 
 -- the script was taken on the image, and no output made
-pub record ChecksOn {H I O : Type 0} (on : Hosting H I O) (base : ℕ) (patches : List Patch) (host' : H) (before after : Outgoing) (status : ℕ) (image : I) (middle : H) : Type 0 where
+pub record ChecksOn (carry : Bool) {H I O : Type 0} (on : Hosting H I O) (base : ℕ) (patches : List Patch) (host' : H) (before after : Outgoing) (status : ℕ) (image : I) (middle : H) : Type 0 where
   pub unchanged : host' ≡ middle
   pub left : I
-  pub runs : Runs (λ log' answer. Checks patches base (on.come image) (on.come left) before log' answer) Log script_status after status
+  pub runs : Runs (λ log' answer. Checks carry patches base (on.come image) (on.come left) before log' answer) Log script_status after status
 
 -- the image was patched into the new file
-pub record AppliesInto {H I O : Type 0} (on : Hosting H I O) (base : ℕ) (patches : List Patch) (before after : Outgoing) (status : ℕ) (image : I) (out : O) : Type 0 where
+pub record AppliesInto (carry : Bool) {H I O : Type 0} (on : Hosting H I O) (base : ℕ) (patches : List Patch) (before after : Outgoing) (status : ℕ) (image : I) (out : O) : Type 0 where
   pub left : I
   pub made : O
-  pub runs : Runs (λ log' answer. Applies patches base (streams (on.come image) (on.gone out) before) (streams (on.come left) (on.gone made) log') answer)
+  pub runs : Runs (λ log' answer. Applies carry patches base (streams (on.come image) (on.gone out) before) (streams (on.come left) (on.gone made) log') answer)
       Log script_status after status
 
 -- the file of this name was made, and the image was patched into it
-pub record AppliesOn {H I O : Type 0} (on : Hosting H I O) (path : List ℕ) (base : ℕ) (patches : List Patch) (host' : H) (before after : Outgoing) (status : ℕ) (image : I) (middle : H) : Type 0 where
+pub record AppliesOn (carry : Bool) {H I O : Type 0} (on : Hosting H I O) (path : List ℕ) (base : ℕ) (patches : List Patch) (host' : H) (before after : Outgoing) (status : ℕ) (image : I) (middle : H) : Type 0 where
   pub answer : Result O NoFile
   pub asked : on.gives_output middle path answer host'
-  pub done : With no_output (AppliesInto on base patches before after status image) host' host' before after status answer
+  pub done : With no_output (AppliesInto carry on base patches before after status image) host' host' before after status answer
 
-abbrev pub ChecksImage : {H I O : Type 0} → Hosting H I O → List ℕ → ℕ → List Patch → H → H → Outgoing → Outgoing → ℕ → Type 0
-ChecksImage on name base patches host host' before after status =
-    OnImage on name (ChecksOn on base patches host' before after status) host host' before after status
+abbrev pub ChecksImage : Bool → {H I O : Type 0} → Hosting H I O → List ℕ → ℕ → List Patch → H → H → Outgoing → Outgoing → ℕ → Type 0
+ChecksImage carry on name base patches host host' before after status =
+    OnImage on name (ChecksOn carry on base patches host' before after status) host host' before after status
 
-abbrev pub AppliesImage : {H I O : Type 0} → Hosting H I O → List ℕ → List ℕ → ℕ → List Patch → H → H → Outgoing → Outgoing → ℕ → Type 0
-AppliesImage on name path base patches host host' before after status =
-    OnImage on name (AppliesOn on path base patches host' before after status) host host' before after status
+abbrev pub AppliesImage : Bool → {H I O : Type 0} → Hosting H I O → List ℕ → List ℕ → ℕ → List Patch → H → H → Outgoing → Outgoing → ℕ → Type 0
+AppliesImage carry on name path base patches host host' before after status =
+    OnImage on name (AppliesOn carry on path base patches host' before after status) host host' before after status
 
-abbrev pub ChecksBy : {H I O : Type 0} → Hosting H I O → List ℕ → List ℕ → ℕ → H → H → Outgoing → Outgoing → ℕ → Type 0
-ChecksBy on image script base host host' before after status =
-    ByScript on script (λ patches middle said. ChecksImage on image base patches middle host' said after status) host host' before after status
+abbrev pub ChecksBy : Bool → {H I O : Type 0} → Hosting H I O → List ℕ → List ℕ → ℕ → H → H → Outgoing → Outgoing → ℕ → Type 0
+ChecksBy carry on image script base host host' before after status =
+    ByScript on script (λ patches middle said. ChecksImage carry on image base patches middle host' said after status) host host' before after status
 
-abbrev pub AppliesBy : {H I O : Type 0} → Hosting H I O → List ℕ → List ℕ → List ℕ → ℕ → H → H → Outgoing → Outgoing → ℕ → Type 0
-AppliesBy on image script path base host host' before after status =
-    ByScript on script (λ patches middle said. AppliesImage on image path base patches middle host' said after status) host host' before after status
+abbrev pub AppliesBy : Bool → {H I O : Type 0} → Hosting H I O → List ℕ → List ℕ → List ℕ → ℕ → H → H → Outgoing → Outgoing → ℕ → Type 0
+AppliesBy carry on image script path base host host' before after status =
+    ByScript on script (λ patches middle said. AppliesImage carry on image path base patches middle host' said after status) host host' before after status
 
 -- ---- jobs and words
 
--- each job is the command of its name, with its texts and its base: the script is read first, then the image is asked for, and
+-- each job is the command of its name, with its texts, its base and its flag: the script is read first, then the image is asked for, and
 -- then the output is made
 abbrev pub DoesJob : {H I O : Type 0} → Hosting H I O → Job → H → H → Outgoing → Outgoing → ℕ → Type 0
 DoesJob on (job.List image base) = TellsImage on (listing base) (λ _. 0) (string_bytes image)
 DoesJob on (job.Audit image base) = TellsImage on (auditing base) audit_status (string_bytes image)
-DoesJob on (job.Check image script base) = ChecksBy on (string_bytes image) (string_bytes script) base
-DoesJob on (job.Apply image script out base) = AppliesBy on (string_bytes image) (string_bytes script) (string_bytes out) base
+DoesJob on (job.Check image script base carry) = ChecksBy carry on (string_bytes image) (string_bytes script) base
+DoesJob on (job.Apply image script out base carry) = AppliesBy carry on (string_bytes image) (string_bytes script) (string_bytes out) base
 
 -- the status of words that ask for no job: that of the fault where its text went out whole
 abbrev pub refused_status : LineFault → Option (List ℕ) → ℕ

@@ -1,5 +1,5 @@
 -- What the program does with the answer of a call on an image: the fault's line, and the status.
-use Rattle.std.specs.Prelude.{◌≡◌, ◌≢◌, ℕ, ◌==◌, ◌+◌, ◌<◌, ◌⊎◌, if◌then◌else◌, List, [], ◌++◌, length, Some, true, codes, Result, Ok, Err}
+use Rattle.std.specs.Prelude.{◌≡◌, ◌≢◌, ℕ, ◌==◌, ◌+◌, ◌<◌, ◌⊎◌, if◌then◌else◌, Bool, List, [], ◌++◌, length, Some, true, codes, Result, Ok, Err}
 use Rattle.std.specs.Io.KnownBytes.{Appends}
 use Rattle.cd_stream.specs.Stream.{Incoming, IsBeginning, Outgoing}
 use Rattle.cd_script.specs.declared.patch.Patch.{Patch}
@@ -63,10 +63,10 @@ TellsText telling status_of image image' out out' status =
 
 -- where the image and the log tell their bytes: the log has got the log of the patches behind what it had, and the status is that
 -- of its counts
-abbrev pub TellsPatches : List Patch → ℕ → Incoming → Outgoing → Outgoing → ℕ → Type 0
-TellsPatches patches base image log log' status =
+abbrev pub TellsPatches : Bool → List Patch → ℕ → Incoming → Outgoing → Outgoing → ℕ → Type 0
+TellsPatches carry patches base image log log' status =
     (bytes earlier : List ℕ) → image.rest ≡ Some bytes → log.written ≡ Some earlier
-    → EachRun patches base bytes (λ outcomes last.
+    → EachRun carry patches base bytes (λ outcomes last.
     (log'.written ≡ Some (earlier ++ log_text patches outcomes)) × (status ≡ script_status (patch_tally bytes outcomes)))
 
 -- where the image tells its bytes, a byte was read behind the millionth sector

@@ -92,15 +92,16 @@ fn check_at<H: Host, L: Sink>(
     image: &str,
     script: &Script,
     base: u32,
+    carry: bool,
     log: &mut L,
 ) -> u8
     requires base { base ≤ MAX_BASE }
     requires countable { (L.seen log.old).failures < 4294967295 }
-    ensures { ChecksImage (hosting H.Input.seen H.Output.seen H.gives_input H.gives_standard_input H.gives_output)
+    ensures { ChecksImage carry (hosting H.Input.seen H.Output.seen H.gives_input H.gives_standard_input H.gives_output)
         image.now base script.now host.old host.new (L.seen log.old) (L.seen log.new) result }
 {
     match image_at(host, image) {
-        Ok(mut image) => run_check(&mut image, script, base, log),
+        Ok(mut image) => run_check(&mut image, script, base, carry, log),
         Err(fault) => fail_without(fault, NO_IMAGE, log),
     }
 }
@@ -112,16 +113,17 @@ fn apply_into<H: Host, L: Sink>(
     script: &Script,
     path: &str,
     base: u32,
+    carry: bool,
     log: &mut L,
 ) -> u8
     requires base { base ≤ MAX_BASE }
     requires image_countable { (H.Input.seen image).failures < 4294967295 }
     requires countable { (L.seen log.old).failures < 4294967295 }
-    ensures { AppliesOn (hosting H.Input.seen H.Output.seen H.gives_input H.gives_standard_input H.gives_output)
+    ensures { AppliesOn carry (hosting H.Input.seen H.Output.seen H.gives_input H.gives_standard_input H.gives_output)
         path.now base script.now host.new (L.seen log.old) (L.seen log.new) result image host.old }
 {
     match host.output_at(path) {
-        Ok(mut out) => run_apply(&mut image, script, base, &mut out, log),
+        Ok(mut out) => run_apply(&mut image, script, base, carry, &mut out, log),
         Err(fault) => fail_without(fault, NO_OUTPUT, log),
     }
 }
@@ -133,15 +135,16 @@ fn apply_at<H: Host, L: Sink>(
     script: &Script,
     path: &str,
     base: u32,
+    carry: bool,
     log: &mut L,
 ) -> u8
     requires base { base ≤ MAX_BASE }
     requires countable { (L.seen log.old).failures < 4294967295 }
-    ensures { AppliesImage (hosting H.Input.seen H.Output.seen H.gives_input H.gives_standard_input H.gives_output)
+    ensures { AppliesImage carry (hosting H.Input.seen H.Output.seen H.gives_input H.gives_standard_input H.gives_output)
         image.now path.now base script.now host.old host.new (L.seen log.old) (L.seen log.new) result }
 {
     match image_at(host, image) {
-        Ok(image) => apply_into(host, image, script, path, base, log),
+        Ok(image) => apply_into(host, image, script, path, base, carry, log),
         Err(fault) => fail_without(fault, NO_IMAGE, log),
     }
 }
@@ -171,15 +174,16 @@ fn check_by<H: Host, L: Sink>(
     image: &str,
     script: &str,
     base: u32,
+    carry: bool,
     log: &mut L,
 ) -> u8
     requires base { base ≤ MAX_BASE }
     requires countable { (L.seen log.old).failures < 4294967295 }
-    ensures { ChecksBy (hosting H.Input.seen H.Output.seen H.gives_input H.gives_standard_input H.gives_output)
+    ensures { ChecksBy carry (hosting H.Input.seen H.Output.seen H.gives_input H.gives_standard_input H.gives_output)
         image.now script.now base host.old host.new (L.seen log.old) (L.seen log.new) result }
 {
     match script_at(alloc, host, script, log) {
-        Ok(script) => check_at(host, image, &script, base, log),
+        Ok(script) => check_at(host, image, &script, base, carry, log),
         Err(status) => status,
     }
 }
@@ -192,15 +196,16 @@ fn apply_by<H: Host, L: Sink>(
     script: &str,
     path: &str,
     base: u32,
+    carry: bool,
     log: &mut L,
 ) -> u8
     requires base { base ≤ MAX_BASE }
     requires countable { (L.seen log.old).failures < 4294967295 }
-    ensures { AppliesBy (hosting H.Input.seen H.Output.seen H.gives_input H.gives_standard_input H.gives_output)
+    ensures { AppliesBy carry (hosting H.Input.seen H.Output.seen H.gives_input H.gives_standard_input H.gives_output)
         image.now script.now path.now base host.old host.new (L.seen log.old) (L.seen log.new) result }
 {
     match script_at(alloc, host, script, log) {
-        Ok(script) => apply_at(host, image, &script, path, base, log),
+        Ok(script) => apply_at(host, image, &script, path, base, carry, log),
         Err(status) => status,
     }
 }
@@ -219,15 +224,20 @@ fn do_job<H: Host, O: Sink>(alloc: Global, host: &mut H, job: &Job, out: &mut O)
             image,
             script,
             base,
-        } => { check_by(alloc, host, image.as_str(), script.as_str(), *base, out) }
+            carry,
+        } => {
+            let (image, script) = (image.as_str(), script.as_str());
+            check_by(alloc, host, image, script, *base, *carry, out)
+        }
         Job::Apply {
             image,
             script,
             out: path,
             base,
+            carry,
         } => {
             let (image, script) = (image.as_str(), script.as_str());
-            apply_by(alloc, host, image, script, path.as_str(), *base, out)
+            apply_by(alloc, host, image, script, path.as_str(), *base, *carry, out)
         }
     }
 }

@@ -1,7 +1,7 @@
 //! The commands: a call on an image, then the line of its fault, and the status.
 
-ghost use Rattle.std.specs.Prelude.{◌≡◌, ◌≢◌, ◌⊎◌, ◌<◌, ◌≤◌};
-ghost use Rattle.cd_image.specs.Applying.{Applies, Checks, HoldsFew, WritesPatched, streams};
+ghost use Rattle.std.specs.Prelude.{◌≡◌, ◌≢◌, ◌⊎◌, ◌<◌, ◌≤◌, true};
+ghost use Rattle.cd_image.specs.Applying.{Applies, Checks, HoldsFew, WritesCarried, WritesPatched, streams};
 ghost use Rattle.cd_image.specs.AuditText.{auditing};
 ghost use Rattle.cd_image.specs.ListText.{listing};
 ghost use Rattle.cd_image.specs.Report.{EndsWell, Reports};
@@ -119,21 +119,27 @@ fn status_of(tally: &Tally) -> u8
 }
 
 /// Decides each patch of a script on an image, and tells of it to `log`: the answer is the status, 0, 1 where a
-/// patch is refused, or 2 behind the line of a fault. A log that has failed gets no line.
-pub fn run_check<I: Source, L: Sink>(image: &mut I, script: &Script, base: u32, log: &mut L) -> u8
+/// patch is refused, or 2 behind the line of a fault. A log that has failed gets no line. Damage is carried or refused.
+pub fn run_check<I: Source, L: Sink>(
+    image: &mut I,
+    script: &Script,
+    base: u32,
+    carry: bool,
+    log: &mut L,
+) -> u8
     requires base { base ≤ MAX_BASE }
     requires image_countable { (I.seen image.old).failures < 4294967295 }
     requires log_countable { (L.seen log.old).failures < 4294967295 }
-    ensures report { Runs (λ log' answer. Checks script.now base (I.seen image.old) (I.seen image.new) (L.seen log.old) log' answer)
+    ensures report { Runs (λ log' answer. Checks carry script.now base (I.seen image.old) (I.seen image.new) (L.seen log.old) log' answer)
         Fault.Log script_status (L.seen log.new) result }
 
     // What it says where nothing failed, and when something has.
-    ensures log { result ≢ 2 → TellsPatches script.now base (I.seen image.old) (L.seen log.old) (L.seen log.new) result }
+    ensures log { result ≢ 2 → TellsPatches carry script.now base (I.seen image.old) (L.seen log.old) (L.seen log.new) result }
     ensures ends_well { result ≢ 2 → EndsWell (I.seen image.old) (I.seen image.new) (L.seen log.old) (L.seen log.new) }
     ensures failed { result ≡ 2 → ((I.seen image.new).failures ≢ (I.seen image.old).failures) ⊎ ((L.seen log.new).failures ≢ (L.seen log.old).failures)
         ⊎ IsTooLong (I.seen image.old) (I.seen image.new) }
 {
-    match check(image, script, base, log) {
+    match check(image, script, base, carry, log) {
         Ok(tally) => status_of(&tally),
         Err(fault) => end_by(fault, Fault::Log, log),
     }
@@ -145,6 +151,7 @@ pub fn run_apply<I: Source, O: Sink, L: Sink>(
     image: &mut I,
     script: &Script,
     base: u32,
+    carry: bool,
     out: &mut O,
     log: &mut L,
 ) -> u8
@@ -152,13 +159,14 @@ pub fn run_apply<I: Source, O: Sink, L: Sink>(
     requires image_countable { (I.seen image.old).failures < 4294967295 }
     requires out_countable { (O.seen out.old).failures < 4294967295 }
     requires log_countable { (L.seen log.old).failures < 4294967295 }
-    ensures report { Runs (λ log' answer. Applies script.now base (streams (I.seen image.old) (O.seen out.old) (L.seen log.old))
+    ensures report { Runs (λ log' answer. Applies carry script.now base (streams (I.seen image.old) (O.seen out.old) (L.seen log.old))
         (streams (I.seen image.new) (O.seen out.new) log') answer)
         Fault.Log script_status (L.seen log.new) result }
 
     // What it says where nothing failed, and when something has.
-    ensures output { result ≢ 2 → WritesPatched script.now base (I.seen image.old) (I.seen image.new) (O.seen out.old) (O.seen out.new) }
-    ensures log { result ≢ 2 → TellsPatches script.now base (I.seen image.old) (L.seen log.old) (L.seen log.new) result }
+    ensures output { result ≢ 2 → WritesPatched carry script.now base (I.seen image.old) (I.seen image.new) (O.seen out.old) (O.seen out.new) }
+    ensures carried { carry ≡ true → result ≢ 2 → WritesCarried script.now base (I.seen image.old) (O.seen out.old) (O.seen out.new) }
+    ensures log { result ≢ 2 → TellsPatches carry script.now base (I.seen image.old) (L.seen log.old) (L.seen log.new) result }
     ensures output_ends_well { result ≢ 2 → EndsWell (I.seen image.old) (I.seen image.new) (O.seen out.old) (O.seen out.new) }
     ensures log_ends_well { result ≢ 2 → EndsWell (I.seen image.old) (I.seen image.new) (L.seen log.old) (L.seen log.new) }
     ensures failed { result ≡ 2 → ((I.seen image.new).failures ≢ (I.seen image.old).failures) ⊎ ((O.seen out.new).failures ≢ (O.seen out.old).failures)
@@ -166,7 +174,7 @@ pub fn run_apply<I: Source, O: Sink, L: Sink>(
     ensures holds_few { HoldsFew (streams (I.seen image.old) (O.seen out.old) (L.seen log.old))
         (streams (I.seen image.new) (O.seen out.new) (L.seen log.new)) }
 {
-    match apply(image, script, base, out, log) {
+    match apply(image, script, base, carry, out, log) {
         Ok(tally) => status_of(&tally),
         Err(fault) => end_by(fault, Fault::Log, log),
     }

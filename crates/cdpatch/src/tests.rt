@@ -1,6 +1,7 @@
 //! Whole calls, at concrete sources and sinks.
 
 mod addresses;
+mod carrying;
 mod hosts;
 mod patching;
 mod run;

@@ -71,6 +71,7 @@ fn expect(
         &mut Short::new(SliceSource::new(&image), 97),
         &script,
         0,
+        false,
         &mut SliceSink::new(&mut out),
         &mut SliceSink::new(&mut told),
     );
@@ -79,7 +80,7 @@ fn expect(
     assert!(rt; out.as_slice() == after.as_slice(), "{lines}");
     let mut told = [0; 256];
     let mut source = SliceSource::new(&image);
-    let answer = check(&mut source, &script, 0, &mut SliceSink::new(&mut told));
+    let answer = check(&mut source, &script, 0, false, &mut SliceSink::new(&mut told));
     assert!(rt; answer.is_ok(), "{lines}");
     assert!(rt; is_text(&told, log.as_bytes()), "{lines}");
     Ok(())
@@ -210,6 +211,7 @@ fn mended(rt: HostRuntime) -> Result<(), Fail> {
         &mut SliceSource::new(&image),
         &script,
         0,
+        false,
         &mut SliceSink::new(&mut out),
         &mut SliceSink::new(&mut [0; 64]),
     );

@@ -80,7 +80,7 @@ pub fn apply_within(
     let mut out = Short::new(out, limits.out.a_call);
     let log = FailAfter::new(SliceSink::new(lines), limits.log.all);
     let mut log = Short::new(log, limits.log.a_call);
-    let answer = apply(&mut image, call.script, call.base, &mut out, &mut log);
+    let answer = apply(&mut image, call.script, call.base, false, &mut out, &mut log);
     Ending {
         answer,
         image_failures: image.failures(),
@@ -101,7 +101,7 @@ pub fn check_within(call: &Call, limits: &Limits, lines: &mut [u8], rest: &mut [
     let mut image = Short::new(image, limits.image.a_call);
     let log = FailAfter::new(SliceSink::new(lines), limits.log.all);
     let mut log = Short::new(log, limits.log.a_call);
-    let answer = check(&mut image, call.script, call.base, &mut log);
+    let answer = check(&mut image, call.script, call.base, false, &mut log);
     Ending {
         answer,
         image_failures: image.failures(),

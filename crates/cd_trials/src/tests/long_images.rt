@@ -51,7 +51,7 @@ fn expect_applied<I: Source>(
     let mut lines = [238; 128];
     let mut out = ToWrite::new(Unkept);
     let mut told = SliceSink::new(&mut lines);
-    let answer = apply(image, script, base, &mut out, &mut told);
+    let answer = apply(image, script, base, false, &mut out, &mut told);
     let is_done = (out.finished() && told.finished()) == want.is_ok();
     let failures = [image.failures(), out.failures(), told.failures()];
     assert!(rt; is_done && answer == want && failures == [0, 0, 0], "{log}");
@@ -72,7 +72,7 @@ fn expect_checked<I: Source>(
 {
     let mut lines = [238; 128];
     let mut told = SliceSink::new(&mut lines);
-    let answer = check(image, script, base, &mut told);
+    let answer = check(image, script, base, false, &mut told);
     let is_done = told.finished() == want.is_ok();
     let failures = [image.failures(), told.failures()];
     assert!(rt; is_done && answer == want && failures == [0, 0], "{log}");

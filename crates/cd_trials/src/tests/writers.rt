@@ -35,7 +35,7 @@ fn fault_of<O: Sink, L: Sink>(
     requires out { (O.seen out.old).failures < 4294967295 }
     requires log { (L.seen log.old).failures < 4294967295 }
 {
-    apply(&mut SliceSource::new(image), script, 0, out, log).err()
+    apply(&mut SliceSource::new(image), script, 0, false, out, log).err()
 }
 
 #[test]
@@ -73,7 +73,7 @@ fn a_log_of_a_check_that_takes_nothing(rt: HostRuntime) -> Result<(), Fail> {
     let image = zeros_from(rt.alloc(), 0, 3)?;
     let script = script_of(&rt, rt.alloc(), SCRIPT)?;
     let mut log = ToWrite::new(Full);
-    let answer = check(&mut SliceSource::new(&image), &script, 0, &mut log);
+    let answer = check(&mut SliceSource::new(&image), &script, 0, false, &mut log);
     assert_eq!(rt; answer, Err(Fault::Log));
     assert_eq!(rt; log.failures(), 1);
     Ok(())

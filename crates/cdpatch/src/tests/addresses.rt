@@ -84,7 +84,7 @@ fn statuses(rt: HostRuntime) -> Result<(), Fail> {
     ] {
         let mut lines = [0; 128];
         let mut image = SliceSource::new(sector.bytes());
-        let status = run_check(&mut image, &script, 0, &mut SliceSink::new(&mut lines));
+        let status = run_check(&mut image, &script, 0, false, &mut SliceSink::new(&mut lines));
         assert_eq!(rt; status, want, "{log}");
         expect(&rt, &lines, log, "");
     }
@@ -94,6 +94,7 @@ fn statuses(rt: HostRuntime) -> Result<(), Fail> {
         &mut SliceSource::new(zeros_at(1).bytes()),
         &script,
         0,
+        false,
         &mut SliceSink::new(&mut sent),
         &mut SliceSink::new(&mut lines),
     );

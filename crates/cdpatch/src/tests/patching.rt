@@ -39,6 +39,7 @@ pub fn expect_status(rt: &impl Abort, script: &Script, image: &[u8], base: u32, 
         &mut SliceSource::new(image),
         script,
         base,
+        false,
         &mut SliceSink::new(&mut sent),
         &mut SliceSink::new(&mut lines),
     );
@@ -47,7 +48,7 @@ pub fn expect_status(rt: &impl Abort, script: &Script, image: &[u8], base: u32, 
 
     let mut lines = [0; 128];
     let mut image = SliceSource::new(image);
-    let status = run_check(&mut image, script, base, &mut SliceSink::new(&mut lines));
+    let status = run_check(&mut image, script, base, false, &mut SliceSink::new(&mut lines));
     assert_eq!(rt; status, want, "{log}");
     expect(rt, &lines, log, "");
 }
@@ -148,7 +149,7 @@ fn the_image_fails_at_each_byte(rt: HostRuntime) -> Result<(), Fail> {
         let mut image = FailAfter::new(SliceSource::new(&images.given), count);
         let mut out = SliceSink::new(&mut sent);
         let mut log = SliceSink::new(&mut lines);
-        let status = run_apply(&mut image, &script, 0, &mut out, &mut log);
+        let status = run_apply(&mut image, &script, 0, false, &mut out, &mut log);
         assert_eq!(rt; status, 2, "{count}");
         assert!(rt; log.failures() == 0 && log.finished());
         let told = is_told(&lines, 0, READ_LINE) || count >= 4704 && is_told(&lines, 16, READ_LINE);
@@ -156,7 +157,7 @@ fn the_image_fails_at_each_byte(rt: HostRuntime) -> Result<(), Fail> {
 
         let mut lines = [0; 128];
         let mut image = FailAfter::new(SliceSource::new(&images.given), count);
-        let status = run_check(&mut image, &script, 0, &mut SliceSink::new(&mut lines));
+        let status = run_check(&mut image, &script, 0, false, &mut SliceSink::new(&mut lines));
         assert_eq!(rt; status, 2, "{count}");
         let told = is_told(&lines, 0, READ_LINE) || count >= 4704 && is_told(&lines, 16, READ_LINE);
         assert!(rt; told, "{count}");
@@ -174,7 +175,7 @@ fn the_output_fails_at_each_byte(rt: HostRuntime) -> Result<(), Fail> {
         let mut out = FailAfter::new(SliceSink::new(&mut sent), count);
         let mut log = SliceSink::new(&mut lines);
         let mut image = SliceSource::new(&images.given);
-        let status = run_apply(&mut image, &script, 0, &mut out, &mut log);
+        let status = run_apply(&mut image, &script, 0, false, &mut out, &mut log);
         assert_eq!(rt; status, 2, "{count}");
         let size = count as usize;
         assert!(rt; sent.get(..size) == images.patched.get(..size), "{count}");
@@ -198,7 +199,7 @@ fn the_log_fails_at_each_byte(rt: HostRuntime) -> Result<(), Fail> {
         let mut log = FailAfter::new(SliceSink::new(&mut lines), count);
         let mut image = SliceSource::new(&images.given);
         let mut out = SliceSink::new(&mut sent);
-        let status = run_apply(&mut image, &script, 0, &mut out, &mut log);
+        let status = run_apply(&mut image, &script, 0, false, &mut out, &mut log);
         assert_eq!(rt; status, 2, "{count}");
         assert!(rt; is_told(&lines, count as usize, ""), "{count}");
         let size = if count < 16 { 2352 } else { 7056 };
@@ -207,7 +208,7 @@ fn the_log_fails_at_each_byte(rt: HostRuntime) -> Result<(), Fail> {
         let mut lines = [0; 128];
         let mut log = FailAfter::new(SliceSink::new(&mut lines), count);
         let mut image = SliceSource::new(&images.given);
-        let status = run_check(&mut image, &script, 0, &mut log);
+        let status = run_check(&mut image, &script, 0, false, &mut log);
         assert_eq!(rt; status, 2, "{count}");
         assert!(rt; is_told(&lines, count as usize, ""), "{count}");
     }
@@ -223,7 +224,7 @@ fn none_fails_behind_the_last_byte(rt: HostRuntime) -> Result<(), Fail> {
     let mut image = FailAfter::new(SliceSource::new(&images.given), 7057);
     let mut out = FailAfter::new(SliceSink::new(&mut sent), 7057);
     let mut log = FailAfter::new(SliceSink::new(&mut lines), 37);
-    let status = run_apply(&mut image, &script, 0, &mut out, &mut log);
+    let status = run_apply(&mut image, &script, 0, false, &mut out, &mut log);
     assert_eq!(rt; status, 0);
     assert!(rt; out.finished() && log.finished());
     assert!(rt; is_told(&lines, 36, ""));
@@ -241,7 +242,7 @@ fn the_log_fails_in_the_line_of_a_fault(rt: HostRuntime) -> Result<(), Fail> {
         let mut out = FailAfter::new(SliceSink::new(&mut sent), 0);
         let mut log = FailAfter::new(SliceSink::new(&mut lines), count);
         let mut image = SliceSource::new(&images.given);
-        let status = run_apply(&mut image, &script, 0, &mut out, &mut log);
+        let status = run_apply(&mut image, &script, 0, false, &mut out, &mut log);
         assert_eq!(rt; status, 2, "{count}");
         let line = WRITE_LINE.get(..count as usize).unwrap_or("");
         expect(&rt, &lines, line, "");
@@ -275,7 +276,7 @@ fn the_longest_images(rt: HostRuntime) -> Result<(), Fail> {
         let script = script_of(&rt, rt.alloc(), text)?;
         let mut lines = [0; 128];
         let mut image = ZeroSource::new(size);
-        let status = run_check(&mut image, &script, 0, &mut SliceSink::new(&mut lines));
+        let status = run_check(&mut image, &script, 0, false, &mut SliceSink::new(&mut lines));
         assert_eq!(rt; status, want, "{log}");
         expect(&rt, &lines, log, "");
     }

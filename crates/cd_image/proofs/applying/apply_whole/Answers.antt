@@ -9,14 +9,14 @@ returns-in_err-send_missing g c =
     let failed = err_from_is_err_and c.from_residual.result c.from_residual.ensures.1 in
     let went = c.in_err-send_missing.ensures.bytes in
     rw (failed.1, failed.2)
-    (Applies-first c.args.patches.now c.args.base (streams (g.I.Source.seen c.args.image.now) (g.O.Sink.seen c.args.out.now) (g.L.Sink.seen c.args.log.now)) (g.L.Sink.seen c.send_missing.new.log) c.count_below-below.result c.count_below-below.ensures.below went.0 went.1 went.2 c.in_err-send_missing.ensures.count)
+    (Applies-first c.args.carry c.args.patches.now c.args.base (streams (g.I.Source.seen c.args.image.now) (g.O.Sink.seen c.args.out.now) (g.L.Sink.seen c.args.log.now)) (g.L.Sink.seen c.send_missing.new.log) c.count_below-below.result c.count_below-below.ensures.below went.0 went.1 went.2 c.in_err-send_missing.ensures.count)
 
 pub loop-more-init : goal.loop-more-init
 loop-more-init g c =
     let new = c.new-pass.ensures in
     record {
       goes =
-          begun_pass c.args.patches.now c.args.base (streams (g.I.Source.seen c.args.image.now) (g.O.Sink.seen c.args.out.now) (g.L.Sink.seen c.args.log.now)) (g.L.Sink.seen c.send_missing.new.log) c.count_below-below.result c.new-pass.result new.window new.block new.sectors new.decided new.applied new.tail
+          begun_pass c.args.carry c.args.patches.now c.args.base (streams (g.I.Source.seen c.args.image.now) (g.O.Sink.seen c.args.out.now) (g.L.Sink.seen c.args.log.now)) (g.L.Sink.seen c.send_missing.new.log) c.count_below-below.result c.new-pass.result new.window new.block new.sectors new.decided new.applied new.tail
           c.count_below-below.ensures.below c.count_below-below.ensures.others c.in_ok-send_missing.ensures.bytes c.in_ok-send_missing.ensures.count;
       known = omega (arith, new.decided, c.count_below-below.ensures.within);
       short = no_tail c.new-pass.result new.tail;
@@ -25,32 +25,32 @@ loop-more-init g c =
 
 pub turn-requires-clause-image_countable : goal.turn-requires-clause-image_countable
 turn-requires-clause-image_countable g c =
-    let b = bounds c.args.patches.now c.args.base (streams (g.I.Source.seen c.args.image.now) (g.O.Sink.seen c.args.out.now) (g.L.Sink.seen c.args.log.now)) (streams (g.I.Source.seen c.loop-more.image) (g.O.Sink.seen c.loop-more.out) (g.L.Sink.seen c.loop-more.log)) c.loop-more.pass c.requires.base c.loop-more.invariant.goes in
+    let b = bounds c.args.carry c.args.patches.now c.args.base (streams (g.I.Source.seen c.args.image.now) (g.O.Sink.seen c.args.out.now) (g.L.Sink.seen c.args.log.now)) (streams (g.I.Source.seen c.loop-more.image) (g.O.Sink.seen c.loop-more.out) (g.L.Sink.seen c.loop-more.log)) c.loop-more.pass c.requires.base c.loop-more.invariant.goes in
     omega (arith, b.reads)
 
 pub turn-requires-clause-out_countable : goal.turn-requires-clause-out_countable
 turn-requires-clause-out_countable g c =
-    let b = bounds c.args.patches.now c.args.base (streams (g.I.Source.seen c.args.image.now) (g.O.Sink.seen c.args.out.now) (g.L.Sink.seen c.args.log.now)) (streams (g.I.Source.seen c.loop-more.image) (g.O.Sink.seen c.loop-more.out) (g.L.Sink.seen c.loop-more.log)) c.loop-more.pass c.requires.base c.loop-more.invariant.goes in
+    let b = bounds c.args.carry c.args.patches.now c.args.base (streams (g.I.Source.seen c.args.image.now) (g.O.Sink.seen c.args.out.now) (g.L.Sink.seen c.args.log.now)) (streams (g.I.Source.seen c.loop-more.image) (g.O.Sink.seen c.loop-more.out) (g.L.Sink.seen c.loop-more.log)) c.loop-more.pass c.requires.base c.loop-more.invariant.goes in
     omega (arith, b.writes)
 
 pub turn-requires-clause-log_countable : goal.turn-requires-clause-log_countable
 turn-requires-clause-log_countable g c =
-    let b = bounds c.args.patches.now c.args.base (streams (g.I.Source.seen c.args.image.now) (g.O.Sink.seen c.args.out.now) (g.L.Sink.seen c.args.log.now)) (streams (g.I.Source.seen c.loop-more.image) (g.O.Sink.seen c.loop-more.out) (g.L.Sink.seen c.loop-more.log)) c.loop-more.pass c.requires.base c.loop-more.invariant.goes in
+    let b = bounds c.args.carry c.args.patches.now c.args.base (streams (g.I.Source.seen c.args.image.now) (g.O.Sink.seen c.args.out.now) (g.L.Sink.seen c.args.log.now)) (streams (g.I.Source.seen c.loop-more.image) (g.O.Sink.seen c.loop-more.out) (g.L.Sink.seen c.loop-more.log)) c.loop-more.pass c.requires.base c.loop-more.invariant.goes in
     omega (arith, b.logs)
 
 pub turn-requires-clause-few : goal.turn-requires-clause-few
 turn-requires-clause-few g c =
-    let b = bounds c.args.patches.now c.args.base (streams (g.I.Source.seen c.args.image.now) (g.O.Sink.seen c.args.out.now) (g.L.Sink.seen c.args.log.now)) (streams (g.I.Source.seen c.loop-more.image) (g.O.Sink.seen c.loop-more.out) (g.L.Sink.seen c.loop-more.log)) c.loop-more.pass c.requires.base c.loop-more.invariant.goes in
+    let b = bounds c.args.carry c.args.patches.now c.args.base (streams (g.I.Source.seen c.args.image.now) (g.O.Sink.seen c.args.out.now) (g.L.Sink.seen c.args.log.now)) (streams (g.I.Source.seen c.loop-more.image) (g.O.Sink.seen c.loop-more.out) (g.L.Sink.seen c.loop-more.log)) c.loop-more.pass c.requires.base c.loop-more.invariant.goes in
     b.sectors
 
 pub turn-requires-clause-small : goal.turn-requires-clause-small
 turn-requires-clause-small g c =
-    let b = bounds c.args.patches.now c.args.base (streams (g.I.Source.seen c.args.image.now) (g.O.Sink.seen c.args.out.now) (g.L.Sink.seen c.args.log.now)) (streams (g.I.Source.seen c.loop-more.image) (g.O.Sink.seen c.loop-more.out) (g.L.Sink.seen c.loop-more.log)) c.loop-more.pass c.requires.base c.loop-more.invariant.goes in
+    let b = bounds c.args.carry c.args.patches.now c.args.base (streams (g.I.Source.seen c.args.image.now) (g.O.Sink.seen c.args.out.now) (g.L.Sink.seen c.args.log.now)) (streams (g.I.Source.seen c.loop-more.image) (g.O.Sink.seen c.loop-more.out) (g.L.Sink.seen c.loop-more.log)) c.loop-more.pass c.requires.base c.loop-more.invariant.goes in
     omega (arith, b.block)
 
 pub turn-requires-clause-applied : goal.turn-requires-clause-applied
 turn-requires-clause-applied g c =
-    let b = bounds c.args.patches.now c.args.base (streams (g.I.Source.seen c.args.image.now) (g.O.Sink.seen c.args.out.now) (g.L.Sink.seen c.args.log.now)) (streams (g.I.Source.seen c.loop-more.image) (g.O.Sink.seen c.loop-more.out) (g.L.Sink.seen c.loop-more.log)) c.loop-more.pass c.requires.base c.loop-more.invariant.goes in
+    let b = bounds c.args.carry c.args.patches.now c.args.base (streams (g.I.Source.seen c.args.image.now) (g.O.Sink.seen c.args.out.now) (g.L.Sink.seen c.args.log.now)) (streams (g.I.Source.seen c.loop-more.image) (g.O.Sink.seen c.loop-more.out) (g.L.Sink.seen c.loop-more.log)) c.loop-more.pass c.requires.base c.loop-more.invariant.goes in
     b.applied
 
 pub returns-in_err-more : goal.returns-in_err-more
@@ -72,12 +72,12 @@ loop-more-preserved g c = record {
 
 pub close-requires-clause-out_countable : goal.close-requires-clause-out_countable
 close-requires-clause-out_countable g c =
-    let b = bounds c.args.patches.now c.args.base (streams (g.I.Source.seen c.args.image.now) (g.O.Sink.seen c.args.out.now) (g.L.Sink.seen c.args.log.now)) (streams (g.I.Source.seen c.loop-more.image) (g.O.Sink.seen c.loop-more.out) (g.L.Sink.seen c.loop-more.log)) c.loop-more.pass c.requires.base c.loop-more.invariant.goes in
+    let b = bounds c.args.carry c.args.patches.now c.args.base (streams (g.I.Source.seen c.args.image.now) (g.O.Sink.seen c.args.out.now) (g.L.Sink.seen c.args.log.now)) (streams (g.I.Source.seen c.loop-more.image) (g.O.Sink.seen c.loop-more.out) (g.L.Sink.seen c.loop-more.log)) c.loop-more.pass c.requires.base c.loop-more.invariant.goes in
     omega (arith, b.writes)
 
 pub close-requires-clause-log_countable : goal.close-requires-clause-log_countable
 close-requires-clause-log_countable g c =
-    let b = bounds c.args.patches.now c.args.base (streams (g.I.Source.seen c.args.image.now) (g.O.Sink.seen c.args.out.now) (g.L.Sink.seen c.args.log.now)) (streams (g.I.Source.seen c.loop-more.image) (g.O.Sink.seen c.loop-more.out) (g.L.Sink.seen c.loop-more.log)) c.loop-more.pass c.requires.base c.loop-more.invariant.goes in
+    let b = bounds c.args.carry c.args.patches.now c.args.base (streams (g.I.Source.seen c.args.image.now) (g.O.Sink.seen c.args.out.now) (g.L.Sink.seen c.args.log.now)) (streams (g.I.Source.seen c.loop-more.image) (g.O.Sink.seen c.loop-more.out) (g.L.Sink.seen c.loop-more.log)) c.loop-more.pass c.requires.base c.loop-more.invariant.goes in
     omega (arith, b.logs)
 
 pub close-requires-clause-ended : goal.close-requires-clause-ended
@@ -88,8 +88,8 @@ close-requires-clause-short g c = c.loop-more.invariant.short
 
 pub close-requires-clause-applied : goal.close-requires-clause-applied
 close-requires-clause-applied g c =
-    let b = bounds c.args.patches.now c.args.base (streams (g.I.Source.seen c.args.image.now) (g.O.Sink.seen c.args.out.now) (g.L.Sink.seen c.args.log.now)) (streams (g.I.Source.seen c.loop-more.image) (g.O.Sink.seen c.loop-more.out) (g.L.Sink.seen c.loop-more.log)) c.loop-more.pass c.requires.base c.loop-more.invariant.goes in
+    let b = bounds c.args.carry c.args.patches.now c.args.base (streams (g.I.Source.seen c.args.image.now) (g.O.Sink.seen c.args.out.now) (g.L.Sink.seen c.args.log.now)) (streams (g.I.Source.seen c.loop-more.image) (g.O.Sink.seen c.loop-more.out) (g.L.Sink.seen c.loop-more.log)) c.loop-more.pass c.requires.base c.loop-more.invariant.goes in
     b.applied
 
 pub returns : goal.returns
-returns g c = c.close.ensures c.args.base (streams (g.I.Source.seen c.args.image.now) (g.O.Sink.seen c.args.out.now) (g.L.Sink.seen c.args.log.now)) (g.I.Source.seen c.loop-more.image) c.loop-more.invariant.goes
+returns g c = c.close.ensures c.args.carry c.args.base (streams (g.I.Source.seen c.args.image.now) (g.O.Sink.seen c.args.out.now) (g.L.Sink.seen c.args.log.now)) (g.I.Source.seen c.loop-more.image) c.loop-more.invariant.goes

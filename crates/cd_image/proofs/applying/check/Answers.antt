@@ -5,35 +5,35 @@ use Rattle.cd_image.proofs.applying.check.Goals as goal
 
 pub returns-clause-log : goal.returns-clause-log
 returns-clause-log g c =
-    let done = subst (λ ps. Checks ps c.args.base (g.I.Source.seen c.args.image.now) (g.I.Source.seen c.check_whole.new.image) (g.L.Sink.seen c.args.log.now) (g.L.Sink.seen c.check_whole.new.log) c.check_whole.result) c.patches.ensures.patches c.check_whole.ensures in
-    Applies-told c.args.script.now c.args.base (streams (g.I.Source.seen c.args.image.now) (unkept false) (g.L.Sink.seen c.args.log.now)) (streams (g.I.Source.seen c.check_whole.new.image) (unkept done.0) (g.L.Sink.seen c.check_whole.new.log)) c.check_whole.result done.1
+    let done = subst (λ ps. Checks c.args.carry ps c.args.base (g.I.Source.seen c.args.image.now) (g.I.Source.seen c.check_whole.new.image) (g.L.Sink.seen c.args.log.now) (g.L.Sink.seen c.check_whole.new.log) c.check_whole.result) c.patches.ensures.patches c.check_whole.ensures in
+    Applies-told c.args.carry c.args.script.now c.args.base (streams (g.I.Source.seen c.args.image.now) (unkept false) (g.L.Sink.seen c.args.log.now)) (streams (g.I.Source.seen c.check_whole.new.image) (unkept done.0) (g.L.Sink.seen c.check_whole.new.log)) c.check_whole.result done.1
 
 pub returns-clause-ends_well : goal.returns-clause-ends_well
 returns-clause-ends_well g c =
-    let done = subst (λ ps. Checks ps c.args.base (g.I.Source.seen c.args.image.now) (g.I.Source.seen c.check_whole.new.image) (g.L.Sink.seen c.args.log.now) (g.L.Sink.seen c.check_whole.new.log) c.check_whole.result) c.patches.ensures.patches c.check_whole.ensures in
-    Applies-ends_log c.args.script.now c.args.base (streams (g.I.Source.seen c.args.image.now) (unkept false) (g.L.Sink.seen c.args.log.now)) (streams (g.I.Source.seen c.check_whole.new.image) (unkept done.0) (g.L.Sink.seen c.check_whole.new.log)) c.check_whole.result done.1
+    let done = subst (λ ps. Checks c.args.carry ps c.args.base (g.I.Source.seen c.args.image.now) (g.I.Source.seen c.check_whole.new.image) (g.L.Sink.seen c.args.log.now) (g.L.Sink.seen c.check_whole.new.log) c.check_whole.result) c.patches.ensures.patches c.check_whole.ensures in
+    Applies-ends_log c.args.carry c.args.script.now c.args.base (streams (g.I.Source.seen c.args.image.now) (unkept false) (g.L.Sink.seen c.args.log.now)) (streams (g.I.Source.seen c.check_whole.new.image) (unkept done.0) (g.L.Sink.seen c.check_whole.new.log)) c.check_whole.result done.1
 
 pub returns-clause-read_failed : goal.returns-clause-read_failed
 returns-clause-read_failed g c =
-    let done = subst (λ ps. Checks ps c.args.base (g.I.Source.seen c.args.image.now) (g.I.Source.seen c.check_whole.new.image) (g.L.Sink.seen c.args.log.now) (g.L.Sink.seen c.check_whole.new.log) c.check_whole.result) c.patches.ensures.patches c.check_whole.ensures in
-    Applies-read_failed c.args.script.now c.args.base (streams (g.I.Source.seen c.args.image.now) (unkept false) (g.L.Sink.seen c.args.log.now)) (streams (g.I.Source.seen c.check_whole.new.image) (unkept done.0) (g.L.Sink.seen c.check_whole.new.log)) c.check_whole.result done.1
+    let done = subst (λ ps. Checks c.args.carry ps c.args.base (g.I.Source.seen c.args.image.now) (g.I.Source.seen c.check_whole.new.image) (g.L.Sink.seen c.args.log.now) (g.L.Sink.seen c.check_whole.new.log) c.check_whole.result) c.patches.ensures.patches c.check_whole.ensures in
+    Applies-read_failed c.args.carry c.args.script.now c.args.base (streams (g.I.Source.seen c.args.image.now) (unkept false) (g.L.Sink.seen c.args.log.now)) (streams (g.I.Source.seen c.check_whole.new.image) (unkept done.0) (g.L.Sink.seen c.check_whole.new.log)) c.check_whole.result done.1
 
 pub returns-clause-log_failed : goal.returns-clause-log_failed
 returns-clause-log_failed g c =
-    let done = subst (λ ps. Checks ps c.args.base (g.I.Source.seen c.args.image.now) (g.I.Source.seen c.check_whole.new.image) (g.L.Sink.seen c.args.log.now) (g.L.Sink.seen c.check_whole.new.log) c.check_whole.result) c.patches.ensures.patches c.check_whole.ensures in
-    Applies-log_failed c.args.script.now c.args.base (streams (g.I.Source.seen c.args.image.now) (unkept false) (g.L.Sink.seen c.args.log.now)) (streams (g.I.Source.seen c.check_whole.new.image) (unkept done.0) (g.L.Sink.seen c.check_whole.new.log)) c.check_whole.result done.1
+    let done = subst (λ ps. Checks c.args.carry ps c.args.base (g.I.Source.seen c.args.image.now) (g.I.Source.seen c.check_whole.new.image) (g.L.Sink.seen c.args.log.now) (g.L.Sink.seen c.check_whole.new.log) c.check_whole.result) c.patches.ensures.patches c.check_whole.ensures in
+    Applies-log_failed c.args.carry c.args.script.now c.args.base (streams (g.I.Source.seen c.args.image.now) (unkept false) (g.L.Sink.seen c.args.log.now)) (streams (g.I.Source.seen c.check_whole.new.image) (unkept done.0) (g.L.Sink.seen c.check_whole.new.log)) c.check_whole.result done.1
 
 pub returns-clause-too_long : goal.returns-clause-too_long
 returns-clause-too_long g c =
-    let done = subst (λ ps. Checks ps c.args.base (g.I.Source.seen c.args.image.now) (g.I.Source.seen c.check_whole.new.image) (g.L.Sink.seen c.args.log.now) (g.L.Sink.seen c.check_whole.new.log) c.check_whole.result) c.patches.ensures.patches c.check_whole.ensures in
-    Applies-too_long c.args.script.now c.args.base (streams (g.I.Source.seen c.args.image.now) (unkept false) (g.L.Sink.seen c.args.log.now)) (streams (g.I.Source.seen c.check_whole.new.image) (unkept done.0) (g.L.Sink.seen c.check_whole.new.log)) c.check_whole.result done.1
+    let done = subst (λ ps. Checks c.args.carry ps c.args.base (g.I.Source.seen c.args.image.now) (g.I.Source.seen c.check_whole.new.image) (g.L.Sink.seen c.args.log.now) (g.L.Sink.seen c.check_whole.new.log) c.check_whole.result) c.patches.ensures.patches c.check_whole.ensures in
+    Applies-too_long c.args.carry c.args.script.now c.args.base (streams (g.I.Source.seen c.args.image.now) (unkept false) (g.L.Sink.seen c.args.log.now)) (streams (g.I.Source.seen c.check_whole.new.image) (unkept done.0) (g.L.Sink.seen c.check_whole.new.log)) c.check_whole.result done.1
 
 pub returns-clause-by_length : goal.returns-clause-by_length
 returns-clause-by_length g c = λ no_read no_log.
-    let done = subst (λ ps. Checks ps c.args.base (g.I.Source.seen c.args.image.now) (g.I.Source.seen c.check_whole.new.image) (g.L.Sink.seen c.args.log.now) (g.L.Sink.seen c.check_whole.new.log) c.check_whole.result) c.patches.ensures.patches c.check_whole.ensures in
-    Applies-by_length c.args.script.now c.args.base (streams (g.I.Source.seen c.args.image.now) (unkept false) (g.L.Sink.seen c.args.log.now)) (streams (g.I.Source.seen c.check_whole.new.image) (unkept done.0) (g.L.Sink.seen c.check_whole.new.log)) c.check_whole.result done.1 no_read refl no_log
+    let done = subst (λ ps. Checks c.args.carry ps c.args.base (g.I.Source.seen c.args.image.now) (g.I.Source.seen c.check_whole.new.image) (g.L.Sink.seen c.args.log.now) (g.L.Sink.seen c.check_whole.new.log) c.check_whole.result) c.patches.ensures.patches c.check_whole.ensures in
+    Applies-by_length c.args.carry c.args.script.now c.args.base (streams (g.I.Source.seen c.args.image.now) (unkept false) (g.L.Sink.seen c.args.log.now)) (streams (g.I.Source.seen c.check_whole.new.image) (unkept done.0) (g.L.Sink.seen c.check_whole.new.log)) c.check_whole.result done.1 no_read refl no_log
 
 pub returns-clause-no_output : goal.returns-clause-no_output
 returns-clause-no_output g c =
-    let done = subst (λ ps. Checks ps c.args.base (g.I.Source.seen c.args.image.now) (g.I.Source.seen c.check_whole.new.image) (g.L.Sink.seen c.args.log.now) (g.L.Sink.seen c.check_whole.new.log) c.check_whole.result) c.patches.ensures.patches c.check_whole.ensures in
-    Checks-no_output c.args.script.now c.args.base (g.I.Source.seen c.args.image.now) (g.I.Source.seen c.check_whole.new.image) (g.L.Sink.seen c.args.log.now) (g.L.Sink.seen c.check_whole.new.log) c.check_whole.result done
+    let done = subst (λ ps. Checks c.args.carry ps c.args.base (g.I.Source.seen c.args.image.now) (g.I.Source.seen c.check_whole.new.image) (g.L.Sink.seen c.args.log.now) (g.L.Sink.seen c.check_whole.new.log) c.check_whole.result) c.patches.ensures.patches c.check_whole.ensures in
+    Checks-no_output c.args.carry c.args.script.now c.args.base (g.I.Source.seen c.args.image.now) (g.I.Source.seen c.check_whole.new.image) (g.L.Sink.seen c.args.log.now) (g.L.Sink.seen c.check_whole.new.log) c.check_whole.result done

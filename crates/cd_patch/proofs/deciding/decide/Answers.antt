@@ -1,22 +1,31 @@
-use Rattle.std.proofs.Common.{◌≡◌, ◌+◌, ◌/◌, ◌%◌, Some, None, length, sym, ap, ◌∙◌, arith}
+use Rattle.std.proofs.Common.{◌≡◌, ◌+◌, ◌/◌, ◌%◌, Some, None, length, sym, ap, subst, ◌∙◌, arith}
 use Rattle.cd_patch.specs.Blocks.{asks_sound, blocks_met}
 use Rattle.cd_patch.specs.Deciding.{by_difference, first_refusal}
+use Rattle.cd_patch.specs.Parts.{HaveUsers}
 use Rattle.cd_patch.proofs.DecidingLemmas.{AreMet-from, Differs-same, outcome-refused, outcome-told, old-fits}
+use Rattle.cd_patch.proofs.TakingLemmas.{first_refusal-told}
 use Rattle.cd_patch.proofs.deciding.decide.Goals as goal
 
-pub returns-in-Some : goal.returns-in-Some
-returns-in-Some c =
+pub returns-in-Some-clause-outcome : goal.returns-in-Some-clause-outcome
+returns-in-Some-clause-outcome c =
     let p = c.args.patch.now in
     let ss = c.args.sectors.now in
-    let found : first_refusal ss p.block (asks_sound p.edit) p.block (blocks_met p) ≡ Some c.in-Some.refusal = cc in
-    sym (outcome-refused ss p.block p c.in-Some.refusal found)
+    let found : first_refusal ss p.block (asks_sound c.args.carry p.edit) p.block (blocks_met p) ≡ Some c.in-Some.refusal = cc in
+    sym (outcome-refused c.args.carry ss p.block p c.in-Some.refusal found)
+
+pub returns-in-Some-clause-users : goal.returns-in-Some-clause-users
+returns-in-Some-clause-users c = λ applied.
+    let p = c.args.patch.now in
+    let ss = c.args.sectors.now in
+    let found : first_refusal ss p.block (asks_sound c.args.carry p.edit) p.block (blocks_met p) ≡ Some c.in-Some.refusal = cc in
+    absurd (first_refusal-told ss p.block (asks_sound c.args.carry p.edit) p.block (blocks_met p) (found ∙ ap (λ o. Some o) applied))
 
 pub first_difference-requires : goal.first_difference-requires
 first_difference-requires c =
     let p = c.args.patch.now in
     let ss = c.args.sectors.now in
-    let none : first_refusal ss p.block (asks_sound p.edit) p.block (blocks_met p) ≡ None = cc in
-    let met = AreMet-from ss p.block (asks_sound p.edit) (blocks_met p) none in
+    let none : first_refusal ss p.block (asks_sound c.args.carry p.edit) p.block (blocks_met p) ≡ None = cc in
+    let met = AreMet-from ss p.block (asks_sound c.args.carry p.edit) (blocks_met p) none in
     let fits = old-fits p c.requires.patch in
     let size = ap length c.old_bytes.ensures in
     omega (arith, met.enough, fits.0)
@@ -36,22 +45,25 @@ overflow_add-result c =
     let block = c.requires.patch.block in
     omega (arith, c.in-Some-first_difference.ensures.within, fits.1)
 
-pub returns-in-None : goal.returns-in-None
-returns-in-None c =
+pub returns-in-None-clause-users : goal.returns-in-None-clause-users
+returns-in-None-clause-users c = λ applied. c.first_refusal.ensures.users cc
+
+pub returns-in-None-clause-outcome : goal.returns-in-None-clause-outcome
+returns-in-None-clause-outcome c =
     let p = c.args.patch.now in
     let ss = c.args.sectors.now in
-    let accepted : first_refusal ss p.block (asks_sound p.edit) p.block (blocks_met p) ≡ None = cc in
-    let told = outcome-told ss p c.old_bytes.result.now c.first_difference.result c.requires.patch accepted c.old_bytes.ensures
-    c.first_difference.ensures.value c.first_difference.ensures.none in
+    let accepted : first_refusal ss p.block (asks_sound c.args.carry p.edit) p.block (blocks_met p) ≡ None = cc in
+    let told = outcome-told c.args.carry ss p c.old_bytes.result.now c.first_difference.result c.requires.patch accepted c.old_bytes.ensures
+    (subst (HaveUsers ss) c.requires.count (c.first_refusal.ensures.users cc)) c.first_difference.ensures.value in
     sym (told ∙ ap (by_difference p.block) c.in-None.is)
 
-pub returns-in-Some-first_difference : goal.returns-in-Some-first_difference
-returns-in-Some-first_difference c =
+pub returns-in-Some-first_difference-clause-outcome : goal.returns-in-Some-first_difference-clause-outcome
+returns-in-Some-first_difference-clause-outcome c =
     let p = c.args.patch.now in
     let ss = c.args.sectors.now in
-    let accepted : first_refusal ss p.block (asks_sound p.edit) p.block (blocks_met p) ≡ None = cc in
-    let told = outcome-told ss p c.old_bytes.result.now c.first_difference.result c.requires.patch accepted c.old_bytes.ensures
-    c.first_difference.ensures.value c.first_difference.ensures.none in
+    let accepted : first_refusal ss p.block (asks_sound c.args.carry p.edit) p.block (blocks_met p) ≡ None = cc in
+    let told = outcome-told c.args.carry ss p c.old_bytes.result.now c.first_difference.result c.requires.patch accepted c.old_bytes.ensures
+    (subst (HaveUsers ss) c.requires.count (c.first_refusal.ensures.users cc)) c.first_difference.ensures.value in
     let place = c.in-Some-first_difference.place in
     Differs-same _ _ (p.block + place / 2048) (place % 2048) (omega arith) (omega arith)
     ∙ sym (told ∙ ap (by_difference p.block) c.in-Some-first_difference.is)

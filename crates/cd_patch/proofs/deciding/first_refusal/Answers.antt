@@ -1,29 +1,44 @@
-use Rattle.std.proofs.Common.{◌≡◌, suc, ◌+◌, ◌-◌, ap, sym, ◌∙◌, arith}
+use Rattle.std.proofs.Common.{◌≡◌, suc, ◌+◌, ◌-◌, ap, sym, ◌∙◌, below_more, arith}
+use Rattle.std.specs.Prelude.{is_some}
+use Rattle.std.proofs.lemmas.Bool.{false≢true}
 use Rattle.cd_patch.specs.Deciding.{first_refusal}
-use Rattle.cd_patch.proofs.DecidingLemmas.{asked_at, first_refusal-more, first_refusal-stop}
+use Rattle.cd_patch.proofs.DecidingLemmas.{asked_at, first_refusal-more, first_refusal-stop, none-told}
 use Rattle.cd_patch.proofs.deciding.first_refusal.Goals as goal
 
 pub loop-k-init : goal.loop-k-init
-loop-k-init c = λ count whole.
-    let here : c.args.block ≡ c.args.block + 0 = omega arith in
-    let all : c.args.count ≡ count = omega arith in
-    ap (λ n. first_refusal c.args.sectors.now c.args.block c.args.asks c.args.block n) all
-    ∙ ap (λ b. first_refusal c.args.sectors.now c.args.block c.args.asks b count) here
+loop-k-init c = (
+  λ count whole.
+      let here : c.args.block ≡ c.args.block + 0 = omega arith in
+      let all : c.args.count ≡ count = omega arith in
+      ap (λ n. first_refusal c.args.sectors.now c.args.block c.args.asks c.args.block n) all
+      ∙ ap (λ b. first_refusal c.args.sectors.now c.args.block c.args.asks b count) here,
+  λ k below. absurd (omega arith),
+)
 
 pub loop-k-preserved : goal.loop-k-preserved
-loop-k-preserved c = λ count whole.
-    c.loop-k.invariant (suc count) (omega arith)
-    ∙ first_refusal-more c.args.sectors.now c.args.block c.args.asks c.loop-k.k count c.refusal_at-refusal.result
-    (asked_at c.args.sectors.now c.args.block c.args.asks c.loop-k.k _ _ c.refusal_at-refusal.result c.refusal_at-refusal.ensures (omega arith) (omega arith))
-    (sym c.is_some.ensures ∙ c.if-is_some.false)
+loop-k-preserved c =
+    let none = sym c.is_some.ensures ∙ c.if-is_some.false in (
+      λ count whole.
+          c.loop-k.invariant.0 (suc count) (omega arith)
+          ∙ first_refusal-more c.args.sectors.now c.args.block c.args.asks c.loop-k.k count c.refusal_at-refusal.result
+          (asked_at c.args.sectors.now c.args.block c.args.asks c.loop-k.k _ _ c.refusal_at-refusal.result c.refusal_at-refusal.ensures.refusal (omega arith) (omega arith))
+          none,
+      below_more _ _ c.loop-k.invariant.1 (c.refusal_at-refusal.ensures.user (none-told c.refusal_at-refusal.result none)),
+    )
 
-pub returns-then-is_some : goal.returns-then-is_some
-returns-then-is_some c =
+pub returns-then-is_some-clause-refusal : goal.returns-then-is_some-clause-refusal
+returns-then-is_some-clause-refusal c =
     let count = c.args.count - c.loop-k.k - 1 in
-    sym (c.loop-k.invariant (suc count) (omega (arith, c.loop-k-test.true))
+    sym (c.loop-k.invariant.0 (suc count) (omega (arith, c.loop-k-test.true))
     ∙ first_refusal-stop c.args.sectors.now c.args.block c.args.asks c.loop-k.k count c.refusal_at-refusal.result
-    (asked_at c.args.sectors.now c.args.block c.args.asks c.loop-k.k _ _ c.refusal_at-refusal.result c.refusal_at-refusal.ensures (omega arith) (omega arith))
+    (asked_at c.args.sectors.now c.args.block c.args.asks c.loop-k.k _ _ c.refusal_at-refusal.result c.refusal_at-refusal.ensures.refusal (omega arith) (omega arith))
     (sym c.is_some.ensures ∙ c.if-is_some.true))
 
-pub returns : goal.returns
-returns c = sym (c.loop-k.invariant 0 (omega (arith, c.loop-k-test.false)))
+pub returns-then-is_some-clause-users : goal.returns-then-is_some-clause-users
+returns-then-is_some-clause-users c = λ none. absurd (false≢true (ap is_some (sym none) ∙ sym c.is_some.ensures ∙ c.if-is_some.true))
+
+pub returns-clause-refusal : goal.returns-clause-refusal
+returns-clause-refusal c = sym (c.loop-k.invariant.0 0 (omega (arith, c.loop-k-test.false)))
+
+pub returns-clause-users : goal.returns-clause-users
+returns-clause-users c = λ none k below. c.loop-k.invariant.1 k (omega (arith, c.loop-k-test.false))

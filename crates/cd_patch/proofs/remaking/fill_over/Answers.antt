@@ -1,24 +1,33 @@
-use Rattle.std.proofs.Common.{ℕ, List, [], replicate, refl, sym, subst}
+use Rattle.std.proofs.Common.{◌≡◌, ℕ, List, [], replicate, refl, sym, subst}
 use Rattle.std.proofs.lemmas.List.Elements.{All-get_or}
-use Rattle.cd_sector.specs.Consistent.{IsConsistent}
-use Rattle.cd_sector.specs.Consistent.{header_of}
+use Rattle.cd_sector.specs.Consistent.{IsConsistent, header_of}
+use Rattle.cd_sector.specs.Kind.{kind_of}
+use Rattle.cd_sector.specs.declared.kinds.SectorKind.TheVariants.{Mode1}
 use Rattle.cd_patch.specs.Parts.{HasPart}
 use Rattle.cd_patch.proofs.PartLemmas.{MadeBelow-more, read_old}
 use Rattle.cd_patch.proofs.remaking.fill_over.Goals as goal
 
-pub fill_part-requires-clause-consistent : goal.fill_part-requires-clause-consistent
-fill_part-requires-clause-consistent c =
+pub fill_part-requires-clause-mode : goal.fill_part-requires-clause-mode
+fill_part-requires-clause-mode c =
     let old = c.args.sectors.now in
     let k = c.loop-k.k in
-    let same = read_old (λ i before after. HasPart i c.args.offset (replicate c.args.count c.args.value) (header_of before) before after) k old c.loop-k.sectors
+    let same = read_old (λ i before after. HasPart c.args.carry i c.args.offset (replicate c.args.count c.args.value) (header_of before) before after) k old c.loop-k.sectors
     c.index-sectors-k.result c.loop-k.invariant c.loop-k-test.true in
-    subst IsConsistent (sym same) (All-get_or IsConsistent old k [] c.loop-k-test.true c.requires.consistent)
+    subst (λ s. kind_of s ≡ Mode1) (sym same) (All-get_or (λ s. kind_of s ≡ Mode1) old k [] c.loop-k-test.true c.requires.mode)
+
+pub fill_part-requires-clause-sound : goal.fill_part-requires-clause-sound
+fill_part-requires-clause-sound c = λ none.
+    let old = c.args.sectors.now in
+    let k = c.loop-k.k in
+    let same = read_old (λ i before after. HasPart c.args.carry i c.args.offset (replicate c.args.count c.args.value) (header_of before) before after) k old c.loop-k.sectors
+    c.index-sectors-k.result c.loop-k.invariant c.loop-k-test.true in
+    subst IsConsistent (sym same) (All-get_or IsConsistent old k [] c.loop-k-test.true (c.requires.sound none))
 
 pub loop-k-preserved : goal.loop-k-preserved
 loop-k-preserved c =
     let old = c.args.sectors.now in
     let k = c.loop-k.k in
-    let rule = λ (i : ℕ) (before after : List ℕ). HasPart i c.args.offset (replicate c.args.count c.args.value) (header_of before) before after in
+    let rule = λ (i : ℕ) (before after : List ℕ). HasPart c.args.carry i c.args.offset (replicate c.args.count c.args.value) (header_of before) before after in
     let same = read_old rule k old c.loop-k.sectors c.index-sectors-k.result c.loop-k.invariant c.loop-k-test.true in
     MadeBelow-more rule k old c.loop-k.sectors c.fill_part.new.sector c.loop-k.invariant c.loop-k-test.true
     (subst (λ before. rule k before c.fill_part.new.sector) same (c.fill_part.ensures c.args.value refl))

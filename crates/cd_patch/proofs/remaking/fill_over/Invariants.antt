@@ -6,4 +6,4 @@ use Rattle.cd_patch.proofs.remaking.fill_over.Given as goal
 
 abbrev pub invariant-loop-k : goal.invariant-loop-k
 invariant-loop-k l =
-    MadeBelow (λ i before after. HasPart i l.offset (replicate l.count l.value) (header_of before) before after) l.k l.initial.sectors l.sectors
+    MadeBelow (λ i before after. HasPart l.carry i l.offset (replicate l.count l.value) (header_of before) before after) l.k l.initial.sectors l.sectors

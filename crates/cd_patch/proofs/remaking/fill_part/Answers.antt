@@ -1,6 +1,6 @@
 use Rattle.std.proofs.Common.{arith}
 use Rattle.cd_sector.specs.Consistent.{header_of}
-use Rattle.cd_patch.proofs.PartLemmas.{HasPart-filled, length-user}
+use Rattle.cd_patch.proofs.PartLemmas.{HasPart-filled}
 use Rattle.cd_patch.proofs.remaking.fill_part.Goals as goal
 
 pub returns : goal.returns
@@ -10,6 +10,6 @@ returns c = λ value filled.
     let at = c.part_in-part.ensures in
     let rises = at.rises in
     let fits = at.fits in
-    HasPart-filled c.args.k c.args.offset part.place part.first part.end c.args.count value _ c.args.bytes.now (header_of before) before c.change_user.new.s
-    at (length-user before c.requires.consistent.size) filled
-    (c.change_user.ensures.consistent c.requires.consistent) c.change_user.ensures.header c.change_user.ensures.user (omega arith)
+    HasPart-filled c.args.carry c.args.k c.args.offset part.place part.first part.end c.args.count value _ c.args.bytes.now (header_of before) before c.write.new.sector
+    at c.write.ensures.size filled
+    c.write.ensures.made (omega arith)

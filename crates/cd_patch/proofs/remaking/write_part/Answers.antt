@@ -1,7 +1,7 @@
 use Rattle.std.proofs.Common.{◌-◌, drop, take, ◌∙◌, arith}
 use Rattle.std.proofs.lemmas.List.{get_or-drop, get_or-take, length-drop, length-take-le}
 use Rattle.cd_sector.specs.Consistent.{header_of}
-use Rattle.cd_patch.proofs.PartLemmas.{HasPart-written, length-user}
+use Rattle.cd_patch.proofs.PartLemmas.{HasPart-written}
 use Rattle.cd_patch.proofs.remaking.write_part.Goals as goal
 
 pub returns : goal.returns
@@ -15,7 +15,7 @@ returns c =
     let within = at.within in
     let rest = length-drop part.first bytes in
     let cut = length-take-le count (drop part.first bytes) (omega arith) in
-    HasPart-written c.args.k c.args.offset part.place part.first part.end bytes (take count (drop part.first bytes)) (header_of before) before c.change_user.new.s
-    at (length-user before c.requires.consistent.size) (omega arith)
+    HasPart-written c.args.carry c.args.k c.args.offset part.place part.first part.end bytes (take count (drop part.first bytes)) (header_of before) before c.write.new.sector
+    at c.write.ensures.size (omega arith)
     (λ i below. get_or-take count (drop part.first bytes) i 0 (omega arith) ∙ get_or-drop part.first bytes i 0)
-    (c.change_user.ensures.consistent c.requires.consistent) c.change_user.ensures.header c.change_user.ensures.user
+    c.write.ensures.made

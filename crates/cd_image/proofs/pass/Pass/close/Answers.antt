@@ -5,47 +5,47 @@ use Rattle.cd_image.proofs.TurnLemmas.{Closes-behind, Closes-counts, Closes-flus
 use Rattle.cd_image.proofs.pass.Pass.close.Goals as goal
 
 pub returns-in_err-write_all : goal.returns-in_err-write_all
-returns-in_err-write_all g c = λ base start image going.
+returns-in_err-write_all g c = λ carry base start image going.
     let failed = err_from_is_err_and c.from_residual.result c.from_residual.ensures.1 in
     let went = c.in_err-write_all.ensures.bytes in
     rw (failed.1, failed.2)
-    (Closes-tail c.args.patches.now base start (streams image (g.O.Sink.seen c.args.out.now) (g.L.Sink.seen c.args.log.now)) c.args.self c.unwrap_or-tail.result c.requires.ended c.unwrap_or-tail.ensures going
+    (Closes-tail carry c.args.patches.now base start (streams image (g.O.Sink.seen c.args.out.now) (g.L.Sink.seen c.args.log.now)) c.args.self c.unwrap_or-tail.result c.requires.ended c.unwrap_or-tail.ensures going
     (g.O.Sink.seen c.write_all.new.out) went.0 went.1 went.2 c.in_err-write_all.ensures.count)
 
 pub returns-in_err-send_missing : goal.returns-in_err-send_missing
-returns-in_err-send_missing g c = λ base start image going.
+returns-in_err-send_missing g c = λ carry base start image going.
     let failed = err_from_is_err_and c.from_residual-in_err-send_missing.result c.from_residual-in_err-send_missing.ensures.1 in
     let went = c.in_err-send_missing.ensures.bytes in
     rw (failed.1, failed.2)
-    (Closes-behind c.args.patches.now base start (streams image (g.O.Sink.seen c.args.out.now) (g.L.Sink.seen c.args.log.now)) c.args.self c.unwrap_or-tail.result c.requires.ended c.unwrap_or-tail.ensures going
+    (Closes-behind carry c.args.patches.now base start (streams image (g.O.Sink.seen c.args.out.now) (g.L.Sink.seen c.args.log.now)) c.args.self c.unwrap_or-tail.result c.requires.ended c.unwrap_or-tail.ensures going
     (g.O.Sink.seen c.write_all.new.out) c.in_ok-write_all.ensures.bytes c.in_ok-write_all.ensures.count _ (rest_from c.args.patches.now c.args.self.decided)
     (g.L.Sink.seen c.send_missing.new.log) went.0 went.1 went.2 c.in_err-send_missing.ensures.count)
 
 pub returns-in_err-send_counts : goal.returns-in_err-send_counts
-returns-in_err-send_counts g c = λ base start image going.
+returns-in_err-send_counts g c = λ carry base start image going.
     let failed = err_from_is_err_and c.from_residual-in_err-send_counts.result c.from_residual-in_err-send_counts.ensures.1 in
     let went = c.in_err-send_counts.ensures.bytes in
     rw (failed.1, failed.2)
-    (Closes-counts c.args.patches.now base start (streams image (g.O.Sink.seen c.args.out.now) (g.L.Sink.seen c.args.log.now)) c.args.self c.unwrap_or-tail.result c.requires.ended c.unwrap_or-tail.ensures going
+    (Closes-counts carry c.args.patches.now base start (streams image (g.O.Sink.seen c.args.out.now) (g.L.Sink.seen c.args.log.now)) c.args.self c.unwrap_or-tail.result c.requires.ended c.unwrap_or-tail.ensures going
     (g.O.Sink.seen c.write_all.new.out) c.in_ok-write_all.ensures.bytes c.in_ok-write_all.ensures.count _ (rest_from c.args.patches.now c.args.self.decided)
     (g.L.Sink.seen c.send_missing.new.log) c.in_ok-send_missing.ensures.bytes c.in_ok-send_missing.ensures.count (length c.args.patches.now - c.args.self.applied) (omega arith)
     (g.L.Sink.seen c.send_counts.new.log) went.0 went.1 went.2 c.in_err-send_counts.ensures.count)
 
 pub returns-in_err-finish_output : goal.returns-in_err-finish_output
-returns-in_err-finish_output g c = λ base start image going.
+returns-in_err-finish_output g c = λ carry base start image going.
     let failed = err_from_is_err_and c.from_residual-in_err-finish_output.result c.from_residual-in_err-finish_output.ensures.1 in
     rw (failed.1, failed.2)
-    (Closes-flush c.args.patches.now base start (streams image (g.O.Sink.seen c.args.out.now) (g.L.Sink.seen c.args.log.now)) c.args.self c.unwrap_or-tail.result c.requires.ended c.unwrap_or-tail.ensures going
+    (Closes-flush carry c.args.patches.now base start (streams image (g.O.Sink.seen c.args.out.now) (g.L.Sink.seen c.args.log.now)) c.args.self c.unwrap_or-tail.result c.requires.ended c.unwrap_or-tail.ensures going
     (g.O.Sink.seen c.write_all.new.out) c.in_ok-write_all.ensures.bytes c.in_ok-write_all.ensures.count _ (rest_from c.args.patches.now c.args.self.decided)
     (g.L.Sink.seen c.send_missing.new.log) c.in_ok-send_missing.ensures.bytes c.in_ok-send_missing.ensures.count (length c.args.patches.now - c.args.self.applied) (omega arith)
     (g.L.Sink.seen c.send_counts.new.log) c.in_ok-send_counts.ensures.bytes c.in_ok-send_counts.ensures.count
     (g.O.Sink.seen c.finish_output.new.out) c.in_err-finish_output.ensures.bytes c.in_err-finish_output.ensures.count)
 
 pub returns-in_err-finish_log : goal.returns-in_err-finish_log
-returns-in_err-finish_log g c = λ base start image going.
+returns-in_err-finish_log g c = λ carry base start image going.
     let failed = err_from_is_err_and c.from_residual-in_err-finish_log.result c.from_residual-in_err-finish_log.ensures.1 in
     rw (failed.1, failed.2)
-    (Closes-log_flush c.args.patches.now base start (streams image (g.O.Sink.seen c.args.out.now) (g.L.Sink.seen c.args.log.now)) c.args.self c.unwrap_or-tail.result c.requires.ended c.unwrap_or-tail.ensures going
+    (Closes-log_flush carry c.args.patches.now base start (streams image (g.O.Sink.seen c.args.out.now) (g.L.Sink.seen c.args.log.now)) c.args.self c.unwrap_or-tail.result c.requires.ended c.unwrap_or-tail.ensures going
     (g.O.Sink.seen c.write_all.new.out) c.in_ok-write_all.ensures.bytes c.in_ok-write_all.ensures.count _ (rest_from c.args.patches.now c.args.self.decided)
     (g.L.Sink.seen c.send_missing.new.log) c.in_ok-send_missing.ensures.bytes c.in_ok-send_missing.ensures.count (length c.args.patches.now - c.args.self.applied) (omega arith)
     (g.L.Sink.seen c.send_counts.new.log) c.in_ok-send_counts.ensures.bytes c.in_ok-send_counts.ensures.count
@@ -53,8 +53,8 @@ returns-in_err-finish_log g c = λ base start image going.
     (g.L.Sink.seen c.finish_log.new.log) c.in_err-finish_log.ensures.bytes c.in_err-finish_log.ensures.count)
 
 pub returns : goal.returns
-returns g c = λ base start image going.
-    Closes-ok c.args.patches.now base start (streams image (g.O.Sink.seen c.args.out.now) (g.L.Sink.seen c.args.log.now)) c.args.self c.unwrap_or-tail.result c.requires.ended c.unwrap_or-tail.ensures going
+returns g c = λ carry base start image going.
+    Closes-ok carry c.args.patches.now base start (streams image (g.O.Sink.seen c.args.out.now) (g.L.Sink.seen c.args.log.now)) c.args.self c.unwrap_or-tail.result c.requires.ended c.unwrap_or-tail.ensures going
     (g.O.Sink.seen c.write_all.new.out) c.in_ok-write_all.ensures.bytes c.in_ok-write_all.ensures.count _ (rest_from c.args.patches.now c.args.self.decided)
     (g.L.Sink.seen c.send_missing.new.log) c.in_ok-send_missing.ensures.bytes c.in_ok-send_missing.ensures.count (length c.args.patches.now - c.args.self.applied) (omega arith)
     (g.L.Sink.seen c.send_counts.new.log) c.in_ok-send_counts.ensures.bytes c.in_ok-send_counts.ensures.count

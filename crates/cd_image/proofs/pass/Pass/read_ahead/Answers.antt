@@ -4,7 +4,7 @@ use Rattle.cd_image.proofs.TurnLemmas.{Steps-unread}
 use Rattle.cd_image.proofs.pass.Pass.read_ahead.Goals as goal
 
 pub returns-in_err-read_sector-clause-goes : goal.returns-in_err-read_sector-clause-goes
-returns-in_err-read_sector-clause-goes g c = λ taken left base start out log going.
+returns-in_err-read_sector-clause-goes g c = λ carry taken left base start out log going.
     let failed = err_from_is_err_and c.from_residual.result c.from_residual.ensures.1 in
     rw (failed.1, failed.2)
-    (Steps-unread taken left base start (streams (g.I.Source.seen c.args.image.now) out log) c.args.self.now c.read_sector.new.bytes (g.I.Source.seen c.read_sector.new.image) c.requires.unended c.requires.room going _ c.in_err-read_sector.ensures)
+    (Steps-unread carry taken left base start (streams (g.I.Source.seen c.args.image.now) out log) c.args.self.now c.read_sector.new.bytes (g.I.Source.seen c.read_sector.new.image) c.requires.unended c.requires.room going _ c.in_err-read_sector.ensures)

@@ -1,0 +1,122 @@
+-- Where damage is carried: no patch is refused for it, and without damage it makes no difference.
+use Rattle.std.proofs.Common.{◌≡◌, ℕ, zero, suc, ◌+◌, ◌<◌, Bool, true, false, ◌&&◌, List, drop, Option, Some, None, refl, sym, ap, subst, ◌∙◌}
+use Rattle.std.specs.Prelude.{not, if◌then◌else◌, unwrap_or}
+use Rattle.std.proofs.lemmas.Bool.{and_from, and_parts, and_right}
+use Rattle.cd_script.specs.declared.patch.Patch.{Patch}
+use Rattle.cd_sector.specs.Consistent.{IsConsistent, consistent, header_of, is_mode1}
+use Rattle.cd_sector.specs.Kind.{kind_of}
+use Rattle.cd_sector.proofs.DefectLemmas.{consistent-told}
+use Rattle.cd_patch.specs.Blocks.{asks_consistent, asks_sound, blocks_met, keeps_defect, new_header, old_bytes, sector_at}
+use Rattle.cd_patch.specs.Deciding.{by_difference, first_difference, first_of, first_refusal, outcome, refusal_at, user_met}
+use Rattle.cd_patch.specs.Effect.{Effect, EffectOf, IsApplied, IsMade, MadeBy, patched_user, user_part}
+use Rattle.cd_patch.specs.declared.outcome.Outcome.{Outcome}
+use Rattle.cd_patch.specs.declared.outcome.Outcome.TheVariants.{Applied, Damaged, NotMode1}
+use Rattle.cd_patch.proofs.DecidingLemmas.{IsMet, first_of-none, first_refusal-none}
+use Rattle.cd_patch.proofs.MadeLemmas.{MadeBy-nothing, keeps-nothing}
+use Rattle.cd_patch.proofs.TakingLemmas.{applied-told, first_refusal-told}
+
+asks-nothing : (p : Patch) → asks_sound true p.edit ≡ false
+asks-nothing p = and_right (asks_consistent p.edit) (not true) refl
+
+-- ---- no refusal for damage
+
+unasked : (mode sound : Bool) (block other : ℕ)
+    → (if not mode then Some (NotMode1 block) else if false && not sound then Some (Damaged block) else None) ≡ Some (Damaged other) → ⊥
+unasked true sound block other h = cc
+unasked false sound block other h = cc
+
+refusal_at-unasked : (block other : ℕ) (sector : Option (List ℕ)) → refusal_at false block sector ≡ Some (Damaged other) → ⊥
+refusal_at-unasked block other None h = cc
+refusal_at-unasked block other (Some sector) h = unasked (is_mode1 (kind_of sector)) (consistent sector) block other h
+
+first_of-unasked : (a b : Option Outcome) (other : ℕ) → (a ≡ Some (Damaged other) → ⊥) → (b ≡ Some (Damaged other) → ⊥) → first_of a b ≡ Some (Damaged other) → ⊥
+first_of-unasked None b other one two h = two h
+first_of-unasked (Some x) b other one two h = one h
+
+first_refusal-unasked : (ss : List (List ℕ)) (base block count other : ℕ) → first_refusal ss base false block count ≡ Some (Damaged other) → ⊥
+first_refusal-unasked ss base block zero other h = cc
+first_refusal-unasked ss base block (suc count) other h =
+    first_of-unasked (refusal_at false block (sector_at ss base block)) (first_refusal ss base false (block + 1) count) other
+    (refusal_at-unasked block other (sector_at ss base block)) (first_refusal-unasked ss base (block + 1) count other) h
+
+by_difference-unasked : (block other : ℕ) (place : Option ℕ) → by_difference block place ≡ Damaged other → ⊥
+by_difference-unasked block other None h = cc
+by_difference-unasked block other (Some place) h = cc
+
+unwrapped : (r : Option Outcome) (o : Outcome) (other : ℕ) → (r ≡ Some (Damaged other) → ⊥) → (o ≡ Damaged other → ⊥) → unwrap_or r o ≡ Damaged other → ⊥
+unwrapped None o other one two h = two h
+unwrapped (Some r) o other one two h = one (ap (λ x. Some x) h)
+
+pub never-damaged : (base block : ℕ) (p : Patch) (ss : List (List ℕ)) → outcome true ss base p ≡ Damaged block → ⊥
+unfolding outcome
+never-damaged base block p ss h =
+    let place = first_difference p.offset (drop p.offset (user_met ss base p)) (old_bytes p.edit) in
+    unwrapped (first_refusal ss base (asks_sound true p.edit) p.block (blocks_met p)) (by_difference p.block place) block
+    (λ e. first_refusal-unasked ss base p.block (blocks_met p) block (subst (λ a. first_refusal ss base a p.block (blocks_met p) ≡ Some (Damaged block)) (asks-nothing p) e))
+    (by_difference-unasked p.block block place) h
+
+-- ---- where there is nothing to carry
+
+loose : (mode asks sound : Bool) (block : ℕ)
+    → (if not mode then Some (NotMode1 block) else if asks && not sound then Some (Damaged block) else None) ≡ None
+    → (if not mode then Some (NotMode1 block) else if false && not sound then Some (Damaged block) else None) ≡ None
+loose true asks sound block h = refl
+loose false asks sound block h = cc
+
+refusal_at-loose : (asks : Bool) (block : ℕ) (sector : Option (List ℕ)) → refusal_at asks block sector ≡ None → refusal_at false block sector ≡ None
+refusal_at-loose asks block None h = cc
+refusal_at-loose asks block (Some sector) h = loose (is_mode1 (kind_of sector)) asks (consistent sector) block h
+
+first_refusal-loose : (ss : List (List ℕ)) (base : ℕ) (asks : Bool) (block count : ℕ) → first_refusal ss base asks block count ≡ None → first_refusal ss base false block count ≡ None
+first_refusal-loose ss base asks block zero h = refl
+first_refusal-loose ss base asks block (suc count) h =
+    let both = first_of-none (refusal_at asks block (sector_at ss base block)) (first_refusal ss base asks (block + 1) count) h in
+    ap (λ r. first_of r (first_refusal ss base false (block + 1) count)) (refusal_at-loose asks block (sector_at ss base block) both.0)
+    ∙ first_refusal-loose ss base asks (block + 1) count both.1
+
+module _ (base : ℕ) (p : Patch) (old : List (List ℕ)) (accepted : outcome false old base p ≡ Applied) where
+  unrefused : first_refusal old base (asks_sound false p.edit) p.block (blocks_met p) ≡ None
+  unfolding outcome
+  unrefused =
+      applied-told (first_refusal old base (asks_sound false p.edit) p.block (blocks_met p)) (by_difference p.block (first_difference p.offset (drop p.offset (user_met old base p)) (old_bytes p.edit)))
+      (first_refusal-told old base (asks_sound false p.edit) p.block (blocks_met p)) accepted
+
+  accepted-carried : outcome true old base p ≡ Applied
+  unfolding outcome
+  accepted-carried =
+      let otherwise = by_difference p.block (first_difference p.offset (drop p.offset (user_met old base p)) (old_bytes p.edit)) in
+      let none : first_refusal old base (asks_sound true p.edit) p.block (blocks_met p) ≡ None =
+      subst (λ a. first_refusal old base a p.block (blocks_met p) ≡ None) (sym (asks-nothing p)) (first_refusal-loose old base (asks_sound false p.edit) p.block (blocks_met p) unrefused) in
+      ap (λ r. unwrap_or r otherwise) (none ∙ sym unrefused) ∙ accepted
+
+  -- a block that the patch meets, and whose defect it keeps, has none
+  sound : (k : ℕ) (before : List ℕ) → k < blocks_met p → sector_at old base (p.block + k) ≡ Some before → keeps_defect true p.edit ≡ true → IsConsistent before
+  sound k before below is keeps =
+      let asked = and_from (asks_consistent p.edit) (not false) (and_parts (asks_consistent p.edit) true keeps).0 refl in
+      let met = first_refusal-none old base (asks_sound false p.edit) p.block (blocks_met p) unrefused k below in
+      let here = subst (IsMet (asks_sound false p.edit)) is met in
+      (consistent-told before).0 (here.1 asked)
+
+  made : (k : ℕ) (before after : List ℕ) → k < blocks_met p → sector_at old base (p.block + k) ≡ Some before
+      → IsMade false p.edit before (user_part (patched_user old base p) k) after → IsMade true p.edit before (user_part (patched_user old base p) k) after
+  made k before after below is h =
+      let header = new_header p.edit (header_of before) in
+      let user = user_part (patched_user old base p) k in
+      MadeBy-nothing (keeps_defect true p.edit) before header user after (sound k before below is)
+      (subst (λ b. MadeBy b before header user after) (keeps-nothing false p.edit refl) h)
+
+  applied-carried : (new : List (List ℕ)) → IsApplied false base p old new → IsApplied true base p old new
+  applied-carried new h = record {
+    count = h.count;
+    met = λ k before after below is was. made k before after below is (h.met k before after below is was);
+    others = h.others;
+  }
+
+pub nothing-to_carry : (base : ℕ) (p : Patch) (old new : List (List ℕ)) → outcome false old base p ≡ Applied → Effect false base p old new
+    → (outcome true old base p ≡ Applied) × Effect true base p old new
+nothing-to_carry base p old new accepted effect =
+    let carried = accepted-carried base p old accepted in (
+      carried,
+      subst (λ o. EffectOf true o base p old new) (sym carried)
+      (applied-carried base p old accepted new (subst (λ o. EffectOf false o base p old new) accepted effect)),
+    )
