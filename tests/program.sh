@@ -42,7 +42,7 @@ run() {
 # The README's first example.
 cp "$top/crates/cd_vectors/data/cdrkit-8.bin" image
 cp image image.kept
-printf 'cdpatch 1\n# five user bytes of block 1, from the 16th on\nset 1 16 48454C4C4F\n' > script
+printf 'cdpatch 1\n# five user bytes of block 1, from offset 16 on\nset 1 16 48454C4C4F\n' > script
 cp script script.kept
 run apply image script out
 judge 'the first example' ended 0 'line 3: applied\napplied 1 refused 0\n'
