@@ -131,12 +131,7 @@ impl Pass {
 
     /// Takes a patch that begins at the first sector of the window. All that it meets is in the window, or the image
     /// has ended.
-    fn take_front<L: Sink>(
-        &mut self,
-        patch: &Patch,
-        carry: bool,
-        log: &mut L,
-    ) -> Result<(), Fault>
+    fn take_front<L: Sink>(&mut self, patch: &Patch, carry: bool, log: &mut L) -> Result<(), Fault>
         requires countable { (L.seen log.old).failures < 4294967295 }
         requires patch { IsPatch patch.now }
         requires at { patch.now.block ≡ self.old.block }

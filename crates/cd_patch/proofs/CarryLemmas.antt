@@ -118,5 +118,5 @@ nothing-to_carry base p old new accepted effect =
     let carried = accepted-carried base p old accepted in (
       carried,
       subst (λ o. EffectOf true o base p old new) (sym carried)
-      (applied-carried base p old accepted new (subst (λ o. EffectOf false o base p old new) accepted effect)),
+          (applied-carried base p old accepted new (subst (λ o. EffectOf false o base p old new) accepted effect)),
     )

@@ -236,8 +236,8 @@ fn do_job<H: Host, O: Sink>(alloc: Global, host: &mut H, job: &Job, out: &mut O)
             base,
             carry,
         } => {
-            let (image, script) = (image.as_str(), script.as_str());
-            apply_by(alloc, host, image, script, path.as_str(), *base, *carry, out)
+            let (image, script, path) = (image.as_str(), script.as_str(), path.as_str());
+            apply_by(alloc, host, image, script, path, *base, *carry, out)
         }
     }
 }

@@ -80,7 +80,13 @@ fn expect(
     assert!(rt; out.as_slice() == after.as_slice(), "{lines}");
     let mut told = [0; 256];
     let mut source = SliceSource::new(&image);
-    let answer = check(&mut source, &script, 0, false, &mut SliceSink::new(&mut told));
+    let answer = check(
+        &mut source,
+        &script,
+        0,
+        false,
+        &mut SliceSink::new(&mut told),
+    );
     assert!(rt; answer.is_ok(), "{lines}");
     assert!(rt; is_text(&told, log.as_bytes()), "{lines}");
     Ok(())

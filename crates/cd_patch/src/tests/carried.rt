@@ -187,7 +187,14 @@ fn damage_within_a_span(rt: HostRuntime) -> Result<(), Fail> {
             sector_with(6, &user_with(6, 0, &[0xCD])),
         ];
         let applied = Outcome::Applied;
-        assert_carried(&rt, rt.alloc(), line.as_str(), &mut sectors, applied, &after)?;
+        assert_carried(
+            &rt,
+            rt.alloc(),
+            line.as_str(),
+            &mut sectors,
+            applied,
+            &after,
+        )?;
     }
     Ok(())
 }
@@ -195,7 +202,12 @@ fn damage_within_a_span(rt: HostRuntime) -> Result<(), Fail> {
 /// Without damage the same sectors are made, and the next one is not asked.
 #[test]
 fn nothing_to_carry(rt: HostRuntime) -> Result<(), Fail> {
-    for line in ["set 4 500 ABCD", "fill 4 0 2048 E5", "rebuild 4", "address 4 12:34:56"] {
+    for line in [
+        "set 4 500 ABCD",
+        "fill 4 0 2048 E5",
+        "rebuild 4",
+        "address 4 12:34:56",
+    ] {
         let text = format!(in rt.alloc(); "cdpatch 2\n{line}\n")?;
         let mut carried = [sector_of(4), damaged(5)];
         let after = match line {
@@ -208,7 +220,14 @@ fn nothing_to_carry(rt: HostRuntime) -> Result<(), Fail> {
         let applied = Outcome::Applied;
         assert_carried(&rt, rt.alloc(), line, &mut carried, applied, &after)?;
         let mut sectors = [sector_of(4), damaged(5)];
-        assert_script_taken(&rt, rt.alloc(), text.as_str(), &mut sectors, applied, &after)?;
+        assert_script_taken(
+            &rt,
+            rt.alloc(),
+            text.as_str(),
+            &mut sectors,
+            applied,
+            &after,
+        )?;
     }
     Ok(())
 }

@@ -80,7 +80,14 @@ pub fn apply_within(
     let mut out = Short::new(out, limits.out.a_call);
     let log = FailAfter::new(SliceSink::new(lines), limits.log.all);
     let mut log = Short::new(log, limits.log.a_call);
-    let answer = apply(&mut image, call.script, call.base, false, &mut out, &mut log);
+    let answer = apply(
+        &mut image,
+        call.script,
+        call.base,
+        false,
+        &mut out,
+        &mut log,
+    );
     Ending {
         answer,
         image_failures: image.failures(),

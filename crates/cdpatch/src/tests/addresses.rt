@@ -84,7 +84,13 @@ fn statuses(rt: HostRuntime) -> Result<(), Fail> {
     ] {
         let mut lines = [0; 128];
         let mut image = SliceSource::new(sector.bytes());
-        let status = run_check(&mut image, &script, 0, false, &mut SliceSink::new(&mut lines));
+        let status = run_check(
+            &mut image,
+            &script,
+            0,
+            false,
+            &mut SliceSink::new(&mut lines),
+        );
         assert_eq!(rt; status, want, "{log}");
         expect(&rt, &lines, log, "");
     }

@@ -65,7 +65,13 @@ fn assert_taken(
     assert!(rt; sent.as_slice() == after.bytes().as_slice(), "{log}");
     let mut lines = [0; 128];
     let mut image = SliceSource::new(before.bytes());
-    let status = run_check(&mut image, script, 0, carry, &mut SliceSink::new(&mut lines));
+    let status = run_check(
+        &mut image,
+        script,
+        0,
+        carry,
+        &mut SliceSink::new(&mut lines),
+    );
     assert_eq!(rt; status, want, "{log}");
     expect(rt, &lines, log, "");
 }
@@ -103,10 +109,17 @@ fn a_damaged_user_byte_put_right(rt: HostRuntime) -> Result<(), Fail> {
     expect(&rt, &lines, APPLIED, "");
     let sound = zeros_at(0);
     let wanted = sound.bytes();
-    for (place, d) in [(2064usize, 0x00u8), (2065, 0x90), (2066, 0x01), (2067, 0x90)] {
+    for (place, d) in [
+        (2064usize, 0x00u8),
+        (2065, 0x90),
+        (2066, 0x01),
+        (2067, 0x90),
+    ] {
         assert_eq!(rt; sent[place], wanted[place] ^ d, "byte {place}");
     }
-    assert!(rt; sent[..2064] == wanted[..2064]);
+    for (place, (new, old)) in sent.iter().zip(wanted).enumerate().take(2064) {
+        assert_eq!(rt; *new, *old, "byte {place}");
+    }
     let mut told = [0; 128];
     let mut image = SliceSource::new(&sent);
     let status = run_audit(&mut image, 0, &mut SliceSink::new(&mut told));

@@ -48,7 +48,13 @@ pub fn expect_status(rt: &impl Abort, script: &Script, image: &[u8], base: u32, 
 
     let mut lines = [0; 128];
     let mut image = SliceSource::new(image);
-    let status = run_check(&mut image, script, base, false, &mut SliceSink::new(&mut lines));
+    let status = run_check(
+        &mut image,
+        script,
+        base,
+        false,
+        &mut SliceSink::new(&mut lines),
+    );
     assert_eq!(rt; status, want, "{log}");
     expect(rt, &lines, log, "");
 }
@@ -157,7 +163,13 @@ fn the_image_fails_at_each_byte(rt: HostRuntime) -> Result<(), Fail> {
 
         let mut lines = [0; 128];
         let mut image = FailAfter::new(SliceSource::new(&images.given), count);
-        let status = run_check(&mut image, &script, 0, false, &mut SliceSink::new(&mut lines));
+        let status = run_check(
+            &mut image,
+            &script,
+            0,
+            false,
+            &mut SliceSink::new(&mut lines),
+        );
         assert_eq!(rt; status, 2, "{count}");
         let told = is_told(&lines, 0, READ_LINE) || count >= 4704 && is_told(&lines, 16, READ_LINE);
         assert!(rt; told, "{count}");
@@ -276,7 +288,13 @@ fn the_longest_images(rt: HostRuntime) -> Result<(), Fail> {
         let script = script_of(&rt, rt.alloc(), text)?;
         let mut lines = [0; 128];
         let mut image = ZeroSource::new(size);
-        let status = run_check(&mut image, &script, 0, false, &mut SliceSink::new(&mut lines));
+        let status = run_check(
+            &mut image,
+            &script,
+            0,
+            false,
+            &mut SliceSink::new(&mut lines),
+        );
         assert_eq!(rt; status, want, "{log}");
         expect(&rt, &lines, log, "");
     }
