@@ -2,11 +2,9 @@
 
 ghost use Rattle.std.specs.Prelude.{◌<◌};
 
-use crate::jobs::do_words;
-use crate::run::fail;
-use crate::system::{BUFFER_SIZE, System};
 use cd_command::NO_MEMORY;
 use cd_image::{Sink, ToWrite};
+use cd_jobs::{BUFFER_SIZE, System, do_words, fail};
 use std::io::{self, BufWriter, ErrorKind};
 use std::{env, fs};
 

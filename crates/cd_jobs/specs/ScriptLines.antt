@@ -5,9 +5,9 @@ use Rattle.cd_stream.specs.Stream.{Incoming, Outgoing}
 use Rattle.cd_script.specs.declared.fault.ScriptFault.{ScriptFault}
 use Rattle.cd_script.specs.declared.fault.ScriptFault.TheVariants as script_fault
 use Rattle.cd_script.specs.declared.script.TheConstants.{MAX_TEXT}
-use Rattle.cdpatch.specs.Run.{SaysLine}
-use Rattle.cdpatch.specs.declared.script.LoadFault.{LoadFault}
-use Rattle.cdpatch.specs.declared.script.LoadFault.TheVariants.{Read, TooLong, NoMemory}
+use Rattle.cd_jobs.specs.Run.{SaysLine}
+use Rattle.cd_jobs.specs.declared.script.LoadFault.{LoadFault}
+use Rattle.cd_jobs.specs.declared.script.LoadFault.TheVariants.{Read, TooLong, NoMemory}
 
 -- ---- the text of a script
 

@@ -6,8 +6,8 @@ ghost use Rattle.cd_script.specs.Script.{script};
 ghost use Rattle.cd_script.specs.declared.fault.ScriptFault.{ScriptFault};
 ghost use Rattle.cd_script.specs.declared.fault.ScriptFault.TheVariants.{NoMemory};
 ghost use Rattle.cd_script.specs.declared.patch.Patch.{Patch};
-ghost use Rattle.cdpatch.specs.Run.{SaysLine};
-ghost use Rattle.cdpatch.specs.ScriptLines.{Gathers, Loads, TellsFailedReads, load_line, numbered_line, script_line};
+ghost use Rattle.cd_jobs.specs.Run.{SaysLine};
+ghost use Rattle.cd_jobs.specs.ScriptLines.{Gathers, Loads, TellsFailedReads, load_line, numbered_line, script_line};
 
 use crate::run::fail;
 use cd_image::{Line, Sink, Source, SourceFailed};
@@ -30,7 +30,7 @@ enum LoadFault {
 
 impl From<SourceFailed> for LoadFault {
     ghost use Rattle.std.specs.Prelude.{◌≡◌};
-    ghost use Rattle.cdpatch.specs.declared.script.LoadFault.TheVariants.{Read};
+    ghost use Rattle.cd_jobs.specs.declared.script.LoadFault.TheVariants.{Read};
 
     ghost from_gives = { λ _ fault. fault ≡ Read };
 
@@ -41,7 +41,7 @@ impl From<SourceFailed> for LoadFault {
 
 impl From<AllocError> for LoadFault {
     ghost use Rattle.std.specs.Prelude.{◌≡◌};
-    ghost use Rattle.cdpatch.specs.declared.script.LoadFault.TheVariants.{NoMemory};
+    ghost use Rattle.cd_jobs.specs.declared.script.LoadFault.TheVariants.{NoMemory};
 
     ghost from_gives = { λ _ fault. fault ≡ NoMemory };
 

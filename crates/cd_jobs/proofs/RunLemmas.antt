@@ -7,7 +7,7 @@ use Rattle.cd_stream.specs.Transfer.{Counts}
 use Rattle.cd_stream.specs.declared.sink.SinkFailed.{SinkFailed}
 use Rattle.cd_image.specs.declared.fault.Fault.{Fault}
 use Rattle.cd_image.specs.declared.fault.Fault.TheVariants.{Log, Read, TooLong, Write}
-use Rattle.cdpatch.specs.Run.{SaysLine}
+use Rattle.cd_jobs.specs.Run.{SaysLine}
 
 module _ (line : List ℕ) (before after : Outgoing) where
   -- a write of the line failed

@@ -4,9 +4,9 @@ ghost use Rattle.std.specs.Prelude.{◌≡◌, ◌<◌, ◌≤◌, IfOk, OnOk, m
 ghost use Rattle.cd_command.specs.CommandLine.{base_in};
 ghost use Rattle.cd_image.specs.AuditText.{auditing};
 ghost use Rattle.cd_image.specs.ListText.{listing};
-ghost use Rattle.cdpatch.specs.Program.{AppliesBy, AppliesImage, AppliesOn, ChecksBy, ChecksImage, DoesJob, DoesWords, Fails};
-ghost use Rattle.cdpatch.specs.Program.{ReadsScript, TakesImage, TakesScript, Tells, TellsImage, hosting, missing_line};
-ghost use Rattle.cdpatch.specs.Run.{audit_status};
+ghost use Rattle.cd_jobs.specs.Program.{AppliesBy, AppliesImage, AppliesOn, ChecksBy, ChecksImage, DoesJob, DoesWords, Fails};
+ghost use Rattle.cd_jobs.specs.Program.{ReadsScript, TakesImage, TakesScript, Tells, TellsImage, hosting, missing_line};
+ghost use Rattle.cd_jobs.specs.Run.{audit_status};
 
 use crate::host::{Host, NoFile};
 use crate::run::{FAILED, fail, run_apply, run_audit, run_check, run_list, say};

@@ -1,6 +1,6 @@
 use Rattle.std.proofs.Common.{ap, ◌∙◌}
-use Rattle.cdpatch.specs.Run.{script_status}
-use Rattle.cdpatch.proofs.run.run_check.Goals as goal
+use Rattle.cd_jobs.specs.Run.{script_status}
+use Rattle.cd_jobs.proofs.run.run_check.Goals as goal
 
 pub returns-in-Ok-clause-log : goal.returns-in-Ok-clause-log
 returns-in-Ok-clause-log g c = λ done bytes earlier coming had outcomes last patched.

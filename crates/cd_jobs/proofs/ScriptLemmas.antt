@@ -5,9 +5,9 @@ use Rattle.std.specs.Io.KnownBytes.{Consumes}
 use Rattle.std.specs.Result.{IsErrAnd}
 use Rattle.std.proofs.KnownBytes.{Consumes-trans}
 use Rattle.cd_stream.specs.Stream.{Incoming}
-use Rattle.cdpatch.specs.ScriptLines.{Gathers, Stops}
-use Rattle.cdpatch.specs.declared.script.LoadFault.{LoadFault}
-use Rattle.cdpatch.specs.declared.script.LoadFault.TheVariants.{NoMemory}
+use Rattle.cd_jobs.specs.ScriptLines.{Gathers, Stops}
+use Rattle.cd_jobs.specs.declared.script.LoadFault.{LoadFault}
+use Rattle.cd_jobs.specs.declared.script.LoadFault.TheVariants.{NoMemory}
 
 -- the bytes that had come, and those of the last read
 pub length-with_last : (earlier into : List ℕ) (n : ℕ) → n ≤ length into → length (earlier ++ take n into) ≡ length earlier + n

@@ -1,7 +1,7 @@
 use Rattle.std.proofs.Common.{◌≡◌, ◌-◌, ◌≤◌, length}
 use Rattle.std.specs.Io.KnownBytes.{Consumes}
 use Rattle.cd_script.specs.declared.script.TheConstants.{MAX_TEXT}
-use Rattle.cdpatch.proofs.script.read_all.Given as goal
+use Rattle.cd_jobs.proofs.script.read_all.Given as goal
 
 abbrev pub invariant-loop-bytes : goal.invariant-loop-bytes
 invariant-loop-bytes g l = record {

@@ -1,5 +1,5 @@
-use Rattle.cdpatch.proofs.RunLemmas.{SaysLine-cut, SaysLine-whole}
-use Rattle.cdpatch.proofs.run.say.Goals as goal
+use Rattle.cd_jobs.proofs.RunLemmas.{SaysLine-cut, SaysLine-whole}
+use Rattle.cd_jobs.proofs.run.say.Goals as goal
 
 pub returns-in_err-write_all-clause-line : goal.returns-in_err-write_all-clause-line
 returns-in_err-write_all-clause-line g c =

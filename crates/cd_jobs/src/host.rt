@@ -1,7 +1,7 @@
 //! Where images and scripts are read, and where outputs are made.
 
 ghost use Rattle.std.specs.Prelude.{◌≡◌, ℕ, List, Result, IfOk};
-ghost use Rattle.cdpatch.specs.declared.host.NoFile.{NoFile};
+ghost use Rattle.cd_jobs.specs.declared.host.NoFile.{NoFile};
 
 use cd_image::{Sink, Source};
 

@@ -18,11 +18,11 @@ use Rattle.cd_script.specs.declared.fault.ScriptFault.{ScriptFault}
 use Rattle.cd_script.specs.declared.fault.ScriptFault.TheVariants as script_fault
 use Rattle.cd_script.specs.declared.patch.Patch.{Patch}
 use Rattle.cd_stream.specs.Stream.{Incoming, Outgoing}
-use Rattle.cdpatch.specs.Run.{Runs, SaysLine, audit_status, script_status}
-use Rattle.cdpatch.specs.ScriptLines.{ReadsWhole, Stops, load_line, script_line}
-use Rattle.cdpatch.specs.declared.host.NoFile.{NoFile}
-use Rattle.cdpatch.specs.declared.host.NoFile.TheVariants.{Refused, NoMemory}
-use Rattle.cdpatch.specs.declared.script.LoadFault.{LoadFault}
+use Rattle.cd_jobs.specs.Run.{Runs, SaysLine, audit_status, script_status}
+use Rattle.cd_jobs.specs.ScriptLines.{ReadsWhole, Stops, load_line, script_line}
+use Rattle.cd_jobs.specs.declared.host.NoFile.{NoFile}
+use Rattle.cd_jobs.specs.declared.host.NoFile.TheVariants.{Refused, NoMemory}
+use Rattle.cd_jobs.specs.declared.script.LoadFault.{LoadFault}
 
 -- ---- the host, and its files
 

@@ -6,7 +6,7 @@ ghost use Rattle.cd_image.specs.AuditText.{auditing};
 ghost use Rattle.cd_image.specs.ListText.{listing};
 ghost use Rattle.cd_image.specs.Report.{EndsWell, Reports};
 ghost use Rattle.cd_stream.specs.Transfer.{Counts};
-ghost use Rattle.cdpatch.specs.Run.{IsTooLong, Runs, SaysFault, SaysLine, TellsPatches, TellsText, audit_status, fault_line, script_status};
+ghost use Rattle.cd_jobs.specs.Run.{IsTooLong, Runs, SaysFault, SaysLine, TellsPatches, TellsText, audit_status, fault_line, script_status};
 
 use cd_image::{
     Fault, MAX_BASE, Sink, SinkFailed, Source, Tally, apply, audit, check, list, write_all,

@@ -1,7 +1,7 @@
 use Rattle.std.proofs.Common.{Err, ap, ◌∙◌}
-use Rattle.cdpatch.specs.Run.{script_status}
-use Rattle.cdpatch.proofs.RunLemmas.{fault-counts, one-more}
-use Rattle.cdpatch.proofs.run.run_apply.Goals as goal
+use Rattle.cd_jobs.specs.Run.{script_status}
+use Rattle.cd_jobs.proofs.RunLemmas.{fault-counts, one-more}
+use Rattle.cd_jobs.proofs.run.run_apply.Goals as goal
 
 pub returns-in-Ok-clause-log : goal.returns-in-Ok-clause-log
 returns-in-Ok-clause-log g c = λ done bytes earlier coming had outcomes last patched.

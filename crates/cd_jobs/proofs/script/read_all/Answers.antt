@@ -1,8 +1,8 @@
 use Rattle.std.proofs.Common.{arith, take, ◌∙◌}
 use Rattle.std.proofs.Math.ListN.{length-take}
-use Rattle.cdpatch.specs.declared.script.LoadFault.TheVariants.{TooLong}
-use Rattle.cdpatch.proofs.ScriptLemmas.{Gathers-refused, Gathers-stopped, length-with_last}
-use Rattle.cdpatch.proofs.script.read_all.Goals as goal
+use Rattle.cd_jobs.specs.declared.script.LoadFault.TheVariants.{TooLong}
+use Rattle.cd_jobs.proofs.ScriptLemmas.{Gathers-refused, Gathers-stopped, length-with_last}
+use Rattle.cd_jobs.proofs.script.read_all.Goals as goal
 
 pub returns-then-n-left : goal.returns-then-n-left
 returns-then-n-left g c =
