@@ -11,6 +11,3 @@ pub use asked::job_of;
 pub use definition::MAX_BASE;
 pub use fault::{LineFault, NO_MEMORY, line_of};
 pub use job::Job;
-
-#[cfg(test)]
-mod tests;

@@ -16,6 +16,3 @@ pub use changes::{Change, parity_changes};
 pub use header::change_header;
 pub use laws::one_diagonal;
 pub use user_data::change_user;
-
-#[cfg(test)]
-mod tests;

@@ -34,6 +34,3 @@ pub const MAX_SECTORS: u32 = 1_000_000;
 
 /// The largest number that the first block of an image may have: the last block with an address.
 pub const MAX_BASE: u32 = 449_849;
-
-#[cfg(test)]
-mod tests;

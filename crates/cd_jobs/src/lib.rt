@@ -13,6 +13,3 @@ pub use jobs::do_words;
 pub use run::{DONE, FAILED, FOUND, REFUSED, fail, run_apply, run_audit, run_check, run_list, say};
 pub use script::{load_script, read_script};
 pub use system::{BUFFER_SIZE, System};
-
-#[cfg(test)]
-mod tests;

@@ -13,6 +13,3 @@ pub use laws::{
 };
 pub use outcome::Outcome;
 pub use remaking::take_patch;
-
-#[cfg(test)]
-mod tests;

@@ -39,6 +39,3 @@ pub use fault::ScriptFault;
 pub use patch::{Edit, Patch};
 pub use script::{MAX_TEXT, Script, parse};
 pub use version::Version;
-
-#[cfg(test)]
-mod tests;

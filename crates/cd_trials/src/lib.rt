@@ -1,4 +1,4 @@
-//! Tests of patching whole images: what goes out, and what is told of it.
+//! Tests of whole calls: changes of sectors, scripts, patches, listings, audits and patched images.
 #![tactic(auto)]
 
 #[cfg(test)]

@@ -14,6 +14,18 @@ pub fn sector(mode: u8) -> [u8; 2352] {
     bytes
 }
 
+/// Sectors of these modes, and then bytes `00`.
+pub fn image(alloc: Global, modes: &[u8], zeros: usize) -> Result<Vec<u8>, AllocError> {
+    let mut bytes = Vec::new(alloc);
+    for mode in modes {
+        bytes.extend_from_slice(&sector(*mode))?;
+    }
+    for _ in 0..zeros {
+        bytes.push(0)?;
+    }
+    Ok(bytes)
+}
+
 /// The consistent sector of a block with this user data.
 pub fn encoded_at(block: u32, user: &[u8; 2048]) -> Sector {
     encode(address_of(block).unwrap_or([0, 0, 0]), user)
