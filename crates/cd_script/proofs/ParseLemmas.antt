@@ -5,7 +5,9 @@ use Rattle.std.specs.Result.{result_err}
 use Rattle.std.specs.List.Sorted.{IsSortedByKey, IsStableByKey}
 use Rattle.std.specs.Ordering.{nat_cmp, is_lt}
 use Rattle.std.proofs.lemmas.Bool.Decides.{nat_tests}
-use Rattle.std.proofs.lemmas.List.Sorted.{IsNonDecreasingBy-from_sort, All-permutation, length_permutation}
+use Rattle.std.proofs.lemmas.List.Sorted.{answers_always, IsNonDecreasingBy-from_sort, All-permutation, length_permutation}
+use denote.Ref.{Bor}
+use Rattle.std.specs.Fn.{Called, ComputesKey, Mut}
 use Rattle.bstr.specs.Text.{lines_of, without_terminator}
 use Rattle.cd_script.specs.declared.fault.ScriptFault.{ScriptFault}
 use Rattle.cd_script.specs.declared.patch.Patch.{Patch}
@@ -32,6 +34,13 @@ sorted-order ps qs sorted stable =
     let test : Patch → Bool = λ p. not (is_lt (nat_cmp k p.block)) && not (is_lt (nat_cmp p.block k)) in
     let same : (x : Patch) → test x ≡ stands_in k x = λ x. tie k x.block in
     sym (filter-same test (stands_in k) same qs) ∙ stable (record { line = 0; block = k; offset = 0; edit = Rebuild }) ∙ filter-same test (stands_in k) same ps)
+
+-- what a stable sort by a closure that answers the block gives
+pub in_order : {F : Type 0} {g : Mut F (Bor Patch × Unit {0}) ℕ} {f : F} (ps qs : List Patch) → ((key : Patch → ℕ) → ComputesKey g key f → IsSortedByKey key nat_cmp qs) → ((key : Patch → ℕ) → ComputesKey g key f → IsStableByKey key nat_cmp ps qs)
+    → ((f : F) (a : Bor Patch × Unit {0}) (r : ℕ) (f' : F) → Called g f a r f' → r ≡ a.0.now.block) → qs ≡ order ps
+in_order {F} {g} {f} ps qs sorted stable each =
+    let computes = answers_always g (λ a r. r ≡ a.0.now.block) f each in
+    sorted-order ps qs (sorted (λ p. p.block) computes) (stable (λ p. p.block) computes)
 
 pub order-list : (ls : List (List ℕ)) (ps : List Patch) → script_from 1 ls ≡ Ok ps → IsPatchList (order ps)
 order-list ls ps e = record {

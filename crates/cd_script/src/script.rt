@@ -1,6 +1,7 @@
 //! Scripts, and how they are read.
 
 ghost use Rattle.std.specs.Prelude.{◌≡◌, ◌≢◌, ◌+◌, ◌≤◌, ◌++◌, List, length, map, option_map, vec_len, All, IsOk, IfOk, IfErr, OnOk};
+ghost use Rattle.std.specs.Fn.{Called};
 ghost use Rattle.std.specs.List.Sorted.{IsNonDecreasingBy};
 ghost use Rattle.std.specs.Option.{option_to_list};
 ghost use Rattle.std.specs.Result.{result_err};
@@ -207,6 +208,23 @@ fn patches_of(alloc: Global, head: Head, mut lines: Lines<'_>) -> Result<Vec<Pat
     Ok(patches)
 }
 
+/// Sorts patches by the block that a key answers of each, those of one block as they stand. A key that
+/// answers anything else is refused where it is passed.
+fn sort_by<F: FnMut(&Patch) -> u32>(patches: &mut Vec<Patch>, key: F) -> Result<(), AllocError>
+    requires callable { F.IsAlwaysCallable key }
+    requires block { (state : F) (patch : _) (block : _) (next : F) → Called F.FnMut state patch block next → block ≡ patch.0.now.block }
+    ensures { OnOk result (patches.new.items ≡ order patches.old.items) }
+{
+    patches.sort_by_key(key)
+}
+
+/// Puts patches in the order in which they are taken.
+fn put_in_order(patches: &mut Vec<Patch>) -> Result<(), AllocError>
+    ensures { OnOk result (patches.new.items ≡ order patches.old.items) }
+{
+    sort_by(patches, |patch| patch.block)
+}
+
 /// The script of a text of at most 64 MiB: its patches by first block, or its first fault. An error
 /// other than want of memory is the fault of the first faulty line, and nothing is kept of it. That
 /// fault is found before any memory is taken.
@@ -222,6 +240,6 @@ pub fn parse(alloc: Global, text: &[u8]) -> Result<Script, ScriptFault>
     let rest = lines.as_bytes();
     check_lines(head, rest.lines())?;
     let mut patches = patches_of(alloc, head, rest.lines())?;
-    patches.sort_by_key(|patch| patch.block)?;
+    put_in_order(&mut patches)?;
     Ok(Script { patches })
 }

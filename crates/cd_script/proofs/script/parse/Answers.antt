@@ -1,11 +1,10 @@
-use Rattle.std.proofs.Common.{Err, subst, sym, ap, ◌∙◌, rules}
+use Rattle.std.proofs.Common.{Err, subst, sym, ap, ◌∙◌}
 use Rattle.std.proofs.lemmas.Result.{err_from_is_err_and}
-use Rattle.std.proofs.lemmas.List.Sorted.{answers_always}
 use Rattle.cd_script.specs.declared.fault.ScriptFault.{ScriptFault}
 use Rattle.cd_script.specs.Patch.{IsPatchList}
 use Rattle.cd_script.specs.Script.{script_from}
 use Rattle.cd_script.proofs.Lines.{lines-is}
-use Rattle.cd_script.proofs.ParseLemmas.{fault_is, no_fault, order-list, script-rest, sorted-order}
+use Rattle.cd_script.proofs.ParseLemmas.{fault_is, no_fault, order-list, script-rest}
 use Rattle.cd_script.proofs.script.parse.Goals as goal
 
 pub returns-in_err-head-clause-err : goal.returns-in_err-head-clause-err
@@ -36,8 +35,8 @@ returns-in_err-patches-clause-refused c =
     let told = script-rest _ c.args.text.now c.as_bytes-rest.result.now _ _ _ _ c.lines-lines.ensures.value c.in_ok-head.ensures.ok c.as_bytes-rest.ensures c.lines.ensures.value in
     λ e is. absurd (no_fault _ e c.in_ok-check_lines.ensures (sym told ∙ is))
 
-pub returns-in_err-sort_by_key-clause-refused : goal.returns-in_err-sort_by_key-clause-refused
-returns-in_err-sort_by_key-clause-refused c =
+pub returns-in_err-put_in_order-clause-refused : goal.returns-in_err-put_in_order-clause-refused
+returns-in_err-put_in_order-clause-refused c =
     let told = script-rest _ c.args.text.now c.as_bytes-rest.result.now _ _ _ _ c.lines-lines.ensures.value c.in_ok-head.ensures.ok c.as_bytes-rest.ensures c.lines.ensures.value in
     λ e is. absurd (no_fault _ e c.in_ok-check_lines.ensures (sym told ∙ is))
 
@@ -49,12 +48,9 @@ returns-clause-refused c =
 pub invariant_of-result : goal.invariant_of-result
 invariant_of-result c =
     let told = script-rest _ c.args.text.now c.as_bytes-rest.result.now _ _ _ _ c.lines-lines.ensures.value c.in_ok-head.ensures.ok c.as_bytes-rest.ensures c.lines-2.ensures.value in
-    let computes = answers_always _ _ _ (λ f a r g h. search rules) in
-    let sorted = sorted-order _ _ (c.in_ok-sort_by_key.ensures.sorted (λ p. p.block) computes) (c.in_ok-sort_by_key.ensures.stable (λ p. p.block) computes) in
-    subst IsPatchList (sym sorted) (order-list _ _ (told ∙ c.in_ok-patches.ensures))
+    subst IsPatchList (sym c.in_ok-put_in_order.ensures) (order-list _ _ (told ∙ c.in_ok-patches.ensures))
 
 pub returns-clause-ok : goal.returns-clause-ok
 returns-clause-ok c =
     let told = script-rest _ c.args.text.now c.as_bytes-rest.result.now _ _ _ _ c.lines-lines.ensures.value c.in_ok-head.ensures.ok c.as_bytes-rest.ensures c.lines-2.ensures.value in
-    let computes = answers_always _ _ _ (λ f a r g h. search rules) in
-    (_, told ∙ c.in_ok-patches.ensures, sorted-order _ _ (c.in_ok-sort_by_key.ensures.sorted (λ p. p.block) computes) (c.in_ok-sort_by_key.ensures.stable (λ p. p.block) computes))
+    (_, told ∙ c.in_ok-patches.ensures, c.in_ok-put_in_order.ensures)
