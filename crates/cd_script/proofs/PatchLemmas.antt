@@ -13,7 +13,7 @@ use Rattle.std.proofs.Math.Nat.{pow-le-pow_right, mul-le-mul_right}
 use Rattle.hex.specs.Hex.{decode_of}
 use Rattle.hex.proofs.HexLemmas.{decode_of-ok}
 use Rattle.cd_script.specs.declared.fault.ScriptFault.{ScriptFault}
-use Rattle.cd_script.specs.declared.fault.ScriptFault.TheVariants.{Head, Verb, Address, Number, Hex, Length, Offset, Words, TooMany}
+use Rattle.cd_script.specs.declared.fault.ScriptFault.TheVariants.{Verb, Address, Number, Hex, Length, Offset, Words, TooMany}
 use Rattle.cd_script.specs.declared.patch.Patch.{Patch}
 use Rattle.cd_script.specs.declared.patch.Edit.TheVariants.{Put, Fill, Rebuild}
 use Rattle.cd_script.specs.declared.patch.Edit.TheVariants as edit

@@ -1,5 +1,5 @@
 -- The first version says what it said before there was a second, and the second extends it.
-use Rattle.std.proofs.Common.{◌≡◌, ◌≢◌, ℕ, ◌+◌, Bool, true, false, cond, List, [], ◌∷◌, length, Option, Some, None, Result, Ok, Err, refl, sym, ap, ◌∙◌}
+use Rattle.std.proofs.Common.{◌≡◌, ◌≢◌, ℕ, ◌+◌, Bool, true, false, cond, List, [], ◌∷◌, length, Option, Some, None, Result, Ok, Err, refl, ap}
 use Rattle.std.specs.Prelude.{All, codes, ◌&&◌}
 use Rattle.std.specs.List.{cons_option}
 use Rattle.std.specs.Option.{option_to_list}
@@ -14,7 +14,7 @@ use Rattle.cd_script.specs.declared.version.Version.{Version}
 use Rattle.cd_script.specs.declared.version.Version.TheVariants.{One, Two}
 use Rattle.cd_script.specs.Line.{address_line, patch_at, patch_by}
 use Rattle.cd_script.specs.Reading.{◌>>=◌}
-use Rattle.cd_script.specs.Script.{at_limit, head_version, named_version, is_passed_over, line_at, patches_behind, patches_from, script, script_from}
+use Rattle.cd_script.specs.Script.{at_limit, head_version, is_passed_over, line_at, patches_behind, patches_from, script, script_from}
 use Rattle.cd_script.specs.Versions.{is_first_head, first_line_at, first_patches_from, first_script_from, first_script, version_of, has_new_verb}
 use Rattle.cd_script.specs.Words.{words}
 

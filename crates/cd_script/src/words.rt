@@ -6,12 +6,55 @@ ghost use Rattle.cd_script.specs.Words.{is_space, is_word, words};
 
 use arrayvec::ArrayVec;
 use memchr::memchr2;
+use std::marker::Model;
 
 /// One more word than any form has: so many are told apart from fewer.
-pub(crate) const MOST_WORDS: usize = 7;
+const MOST_WORDS: usize = 7;
 
-/// The first words of a line, as many as are looked at.
-pub(crate) type FirstWords<'a> = ArrayVec<&'a [u8], MOST_WORDS>;
+/// The first words of a line, as many as are looked at, in their order. Contracts see the list of them.
+#[derive(Drop)]
+pub(crate) struct FirstWords<'a> {
+    parts: ArrayVec<&'a [u8], MOST_WORDS>,
+}
+
+impl<'a> Model for FirstWords<'a> {
+    ghost use Rattle.std.specs.Prelude.{List, map, ℕ};
+
+    ghost Value = { List (List ℕ) };
+
+    ghost view = { λ words. map (λ w. w.now) words.parts.items };
+}
+
+impl<'a> FirstWords<'a> {
+    /// Without a word.
+    fn new() -> Self
+        ensures { result ≡ [] }
+    {
+        FirstWords {
+            parts: ArrayVec::new(),
+        }
+    }
+
+    /// Puts a part of a line behind the words, where it is a word and there is room.
+    fn put(&mut self, part: &'a [u8])
+        ensures { self.new ≡ take MOST_WORDS (self.old ++ filter is_word (part.now ∷ [])) }
+    {
+        if self.parts.is_full() {
+            return;
+        }
+        if part.is_empty() {
+            return;
+        }
+        self.parts.push(part);
+    }
+
+    /// The words.
+    pub(crate) fn as_slice(&self) -> &[&'a [u8]]
+        ensures { map (λ w. w.now) result.now ≡ self.now }
+    {
+        self.parts.as_slice()
+    }
+}
 
 /// The place of the first space or tab.
 fn find_space(line: &[u8]) -> Option<usize>
@@ -20,31 +63,17 @@ fn find_space(line: &[u8]) -> Option<usize>
     memchr2(b' ', b'\t', line)
 }
 
-/// Puts a part of a line behind its words, where it is a word and there is room.
-fn put_part<'a>(words: &mut FirstWords<'a>, part: &'a [u8])
-    ensures { map (λ w. w.now) words.new.items
-        ≡ take MOST_WORDS (map (λ w. w.now) words.old.items ++ filter is_word (part.now ∷ [])) }
-{
-    if words.is_full() {
-        return;
-    }
-    if part.is_empty() {
-        return;
-    }
-    words.push(part);
-}
-
 /// The first words of a line.
 pub(crate) fn words<'a>(line: &'a [u8]) -> FirstWords<'a>
-    ensures { map (λ w. w.now) result.items ≡ take MOST_WORDS (words line.now) }
+    ensures { result ≡ take MOST_WORDS (words line.now) }
 {
-    let mut words = ArrayVec::new();
+    let mut words = FirstWords::new();
     let mut rest = line;
     while let Some(end) = find_space(rest) {
         let (part, behind) = rest.split_at(end);
-        put_part(&mut words, part);
+        words.put(part);
         rest = &behind[1..];
     }
-    put_part(&mut words, rest);
+    words.put(rest);
     words
 }
