@@ -1,7 +1,6 @@
 -- A script's patches, sorted.
-use Rattle.std.proofs.Common.{◌≡◌, ℕ, ◌+◌, Bool, cond, List, [], ◌∷◌, map, Some, None, Result, Ok, Err, refl, sym, ap, ◌∙◌, arith}
+use Rattle.std.proofs.Common.{◌≡◌, ℕ, ◌+◌, Bool, cond, List, [], ◌∷◌, map, Result, Ok, Err, refl, sym, ap, ◌∙◌, arith}
 use Rattle.std.specs.Prelude.{filter, not, ◌==◌, ◌&&◌}
-use Rattle.std.specs.Result.{result_err}
 use Rattle.std.specs.List.Sorted.{IsSortedByKey, IsStableByKey}
 use Rattle.std.specs.Ordering.{nat_cmp, is_lt}
 use Rattle.std.proofs.lemmas.Bool.Decides.{nat_tests}
@@ -50,15 +49,10 @@ order-list ls ps e = record {
 }
 
 -- the script of a text is what its lines behind the head line give
-pub script-rest : (version : Version) (text bytes : List ℕ) (all rest later : List (List ℕ)) (head : ℕ) → all ≡ map without_terminator (lines_of text) → script_from 1 all ≡ patches_from version (head + 1) 0 rest
-    → map without_terminator (lines_of bytes) ≡ rest → later ≡ map without_terminator (lines_of bytes) → script text ≡ patches_from version (head + 1) 0 later
-script-rest version text bytes all rest later head is_all read is_rest is_later =
-    ap (script_from 1) (sym (is_all ∙ lines-is text)) ∙ read ∙ ap (patches_from version (head + 1) 0) (sym (is_later ∙ is_rest))
+pub script-rest : (version : Version) (text bytes : List ℕ) (all rest : List (List ℕ)) (head : ℕ) → all ≡ map without_terminator (lines_of text) → script_from 1 all ≡ patches_from version (head + 1) 0 rest
+    → map without_terminator (lines_of bytes) ≡ rest → script text ≡ patches_from version (head + 1) 0 (map without_terminator (lines_of bytes))
+script-rest version text bytes all rest head is_all read is_rest =
+    ap (script_from 1) (sym (is_all ∙ lines-is text)) ∙ read ∙ ap (patches_from version (head + 1) 0) (sym is_rest)
 
-pub fault_is : (read : Result (List Patch) ScriptFault) (e : ScriptFault) → Some e ≡ result_err read → read ≡ Err e
-fault_is (Ok ps) e h = cc
-fault_is (Err f) e h = cc
-
-pub no_fault : (read : Result (List Patch) ScriptFault) (e : ScriptFault) → None ≡ result_err read → read ≡ Err e → ⊥
-no_fault (Ok ps) e h is = cc
-no_fault (Err f) e h is = cc
+pub no_fault : (read : Result (List Patch) ScriptFault) (ps : List Patch) (e : ScriptFault) → read ≡ Ok ps → read ≡ Err e → ⊥
+no_fault read ps e sound is = cc

@@ -5,6 +5,7 @@ ghost use Rattle.std.specs.Fn.{Called};
 ghost use Rattle.std.specs.List.Sorted.{IsNonDecreasingBy};
 ghost use Rattle.std.specs.Option.{option_to_list};
 ghost use Rattle.std.specs.Result.{result_err};
+ghost use Rattle.bstr.specs.Text.{lines_of, without_terminator};
 ghost use Rattle.cd_script.specs.declared.fault.ScriptFault.{ScriptFault};
 ghost use Rattle.cd_script.specs.declared.fault.ScriptFault.TheVariants.{NoMemory};
 ghost use Rattle.cd_script.specs.declared.patch.Patch.{Patch};
@@ -208,6 +209,22 @@ fn patches_of(alloc: Global, head: Head, mut lines: Lines<'_>) -> Result<Vec<Pat
     Ok(patches)
 }
 
+/// The patches of the lines behind the head line, which stand in this part of the text, or their first
+/// fault, which is found before any memory is taken.
+fn read_patches(alloc: Global, head: Head, rest: &[u8]) -> Result<Vec<Patch>, ScriptFault>
+    requires { head.line + length (lines_of rest.now) ≤ MAX_TEXT }
+    ensures ok { IfOk result (λ ps.
+        patches_from head.version (head.line + 1) 0 (map without_terminator (lines_of rest.now)) ≡ Ok ps.items) }
+    ensures err { IfErr result (λ e.
+        e ≢ NoMemory → patches_from head.version (head.line + 1) 0 (map without_terminator (lines_of rest.now)) ≡ Err e) }
+    ensures refused { (e : ScriptFault) →
+        patches_from head.version (head.line + 1) 0 (map without_terminator (lines_of rest.now)) ≡ Err e → result ≡ Err e }
+{
+    check_lines(head, rest.lines())?;
+    let patches = patches_of(alloc, head, rest.lines())?;
+    Ok(patches)
+}
+
 /// Sorts patches by the block that a key answers of each, those of one block as they stand. A key that
 /// answers anything else is refused where it is passed.
 fn sort_by<F: FnMut(&Patch) -> u32>(patches: &mut Vec<Patch>, key: F) -> Result<(), AllocError>
@@ -237,9 +254,7 @@ pub fn parse(alloc: Global, text: &[u8]) -> Result<Script, ScriptFault>
 {
     let mut lines = text.lines();
     let head = head_of(&mut lines)?;
-    let rest = lines.as_bytes();
-    check_lines(head, rest.lines())?;
-    let mut patches = patches_of(alloc, head, rest.lines())?;
+    let mut patches = read_patches(alloc, head, lines.as_bytes())?;
     put_in_order(&mut patches)?;
     Ok(Script { patches })
 }
