@@ -229,7 +229,8 @@ fn read_patches(alloc: Global, head: Head, rest: &[u8]) -> Result<Vec<Patch>, Sc
 /// answers anything else is refused where it is passed.
 fn sort_by<F: FnMut(&Patch) -> u32>(patches: &mut Vec<Patch>, key: F) -> Result<(), AllocError>
     requires callable { F.IsAlwaysCallable key }
-    requires block { (state : F) (patch : _) (block : _) (next : F) → Called F.FnMut state patch block next → block ≡ patch.0.now.block }
+    requires block { (before : F) (patch : _) (answer : _) (after : F) →
+        Called F.FnMut before patch answer after → answer ≡ patch.0.now.block }
     ensures { OnOk result (patches.new.items ≡ order patches.old.items) }
 {
     patches.sort_by_key(key)
