@@ -1,5 +1,5 @@
 -- A listing sector by sector, and that it tells what it should of the whole image.
-use Rattle.std.proofs.Common.{◌≡◌, ℕ, suc, ◌+◌, ◌≤◌, List, [], ◌∷◌, ◌++◌, length, map, Option, None, Some, Result, refl, sym, ap, ◌∙◌, subst, arith, add-zero, zero-add, append-nil, append_assoc, IfSome}
+use Rattle.std.proofs.Common.{◌≡◌, ℕ, suc, ◌+◌, ◌≤◌, List, [], ◌∷◌, ◌++◌, length, map, Option, None, Some, Result, Ok, Err, refl, sym, ap, ◌∙◌, subst, arith, add-zero, zero-add, append-nil, append_assoc, IfSome}
 use Rattle.cd_sector.specs.Kind.{kind_of}
 use Rattle.cd_stream.specs.Stream.{Outgoing}
 use Rattle.cd_stream.specs.declared.sink.SinkFailed.{SinkFailed}
@@ -8,7 +8,7 @@ use Rattle.cd_image.specs.Lines.{all_but_last, text_of}
 use Rattle.cd_image.specs.ListText.{list_end, listing, run_line, run_lines}
 use Rattle.cd_image.specs.OpenRun.{EndsBefore, open_first, open_kinds}
 use Rattle.cd_image.specs.Runs.{Run, runs}
-use Rattle.cd_image.specs.Telling.{Finishes, HasFailed, HasFailedKind, HasTaken, HasTakenKind, ended_lines, last_line, list_to_tell, telling_of}
+use Rattle.cd_image.specs.Telling.{Finishes, HasFailed, HasFailedKind, HasTaken, HasTakenKind, Takes, TakesKind, ended_lines, last_line, list_to_tell, telling_of}
 use Rattle.cd_image.specs.declared.listing.ListTally.{ListTally}
 use Rattle.cd_image.specs.declared.listing.OpenRun.{OpenRun}
 use Rattle.cd_image.proofs.OpenRunLemmas.{nothing_ended}
@@ -21,7 +21,7 @@ abbrev pub tally_of : ℕ → ℕ → ListTally
 tally_of count left = record { sectors = count; tail = left }
 
 module _ (base : ℕ) (run : Option OpenRun) (count : ℕ) (sector : List ℕ) (out out' : Outgoing) where
-  pub List-taken : (next : OpenRun) → HasTakenKind run next (base + count) (kind_of sector) out out' → HasTaken (list_to_tell base run count) (list_to_tell base (Some next) (count + 1)) sector out out'
+  List-taken : (next : OpenRun) → HasTakenKind run next (base + count) (kind_of sector) out out' → HasTaken (list_to_tell base run count) (list_to_tell base (Some next) (count + 1)) sector out out'
   List-taken next taken = record {
     sent = taken.sent;
     appends = taken.appends;
@@ -36,7 +36,7 @@ module _ (base : ℕ) (run : Option OpenRun) (count : ℕ) (sector : List ℕ) (
       further : (others : List (List ℕ)) → count + suc (length others) ≡ count + 1 + length others
       further others = omega arith
 
-  pub List-failed : HasFailedKind run (base + count) (kind_of sector) out out' → HasFailed (list_to_tell base run count) sector out out'
+  List-failed : HasFailedKind run (base + count) (kind_of sector) out out' → HasFailed (list_to_tell base run count) sector out out'
   List-failed failed = record {
     line = failed.line;
     count = failed.count;
@@ -45,6 +45,10 @@ module _ (base : ℕ) (run : Option OpenRun) (count : ℕ) (sector : List ℕ) (
     lines = λ others. failed.lines (map kind_of others);
     last = refl;
   }
+
+  pub List-takes : (run' : Option OpenRun) (result : Result (Unit {0}) SinkFailed) → TakesKind run run' (base + count) (kind_of sector) out out' result → Takes (list_to_tell base run count) (list_to_tell base run' (count + 1)) sector out out' result
+  List-takes run' (Ok x) taken = subst (λ r. HasTaken (list_to_tell base run count) (list_to_tell base r (count + 1)) sector out out') (sym taken.1) (List-taken taken.0 taken.2)
+  List-takes run' (Err e) failed = List-failed failed.1
 
 -- what goes out at the end, with no sector to follow
 list_end_is : (base : ℕ) (run : Option OpenRun) (count left : ℕ) → last_line (open_first run 0) (runs (open_kinds run)) ++ list_end (tally_of count left) ≡ (list_to_tell base run count).end [] left

@@ -94,9 +94,10 @@ pub record HasFailedKind (run : Option OpenRun) (block : ℕ) (kind : SectorKind
   pub appends : Appends out.written out'.written (take count line)
   pub lines : (others : List SectorKind) → ended_lines (open_first run block) (open_kinds run ++ kind ∷ others) ≡ line ∷ ended_lines block (kind ∷ others)
 
-abbrev pub TakesKind : {E : Type 0} → Option OpenRun → ℕ → SectorKind → Outgoing → Outgoing → Result OpenRun E → Type 0
-TakesKind run block kind out out' (Ok next) = HasTakenKind run next block kind out out'
-TakesKind run block kind out out' (Err e) = HasFailedKind run block kind out out'
+-- at Ok a run is open that has it; at Err the run is as it was
+abbrev pub TakesKind : {E : Type 0} → Option OpenRun → Option OpenRun → ℕ → SectorKind → Outgoing → Outgoing → Result (Unit {0}) E → Type 0
+TakesKind run run' block kind out out' (Ok x) = (next : OpenRun) × (run' ≡ Some next) × HasTakenKind run next block kind out out'
+TakesKind run run' block kind out out' (Err e) = (run' ≡ run) × HasFailedKind run block kind out out'
 
 -- ---- an audit
 

@@ -60,29 +60,32 @@ fn send_run<O: Sink>(run: OpenRun, out: &mut O) -> Result<(), SinkFailed>
     write_all(out, line.as_slice())
 }
 
-/// Takes the kind of one more sector into the run, or writes the run's line and begins another.
+/// Takes the kind of one more sector into the run, or writes the run's line and begins another. It does so where the run
+/// stands, so that a sector that goes on a run costs one store.
 fn take_kind<O: Sink>(
-    run: Option<OpenRun>,
+    run: &mut Option<OpenRun>,
     block: u32,
     kind: SectorKind,
     out: &mut O,
-) -> Result<OpenRun, SinkFailed>
+) -> Result<(), SinkFailed>
     requires countable { (O.seen out.old).failures < 4294967295 }
-    requires follows { EndsBefore run block }
-    ensures text { TakesKind run block kind (O.seen out.old) (O.seen out.new) result }
+    requires follows { EndsBefore run.old block }
+    ensures text { TakesKind run.old run.new block kind (O.seen out.old) (O.seen out.new) result }
     ensures count { Counts (O.seen out.old).failures (O.seen out.new).failures result }
 {
-    if let Some(run) = run {
-        if run.kind == kind {
-            return Ok(OpenRun { last: block, ..run });
+    if let Some(open_run) = run {
+        if open_run.kind == kind {
+            open_run.last = block;
+            return Ok(());
         }
-        send_run(run, out)?;
+        send_run(*open_run, out)?;
     }
-    Ok(OpenRun {
+    *run = Some(OpenRun {
         first: block,
         last: block,
         kind,
-    })
+    });
+    Ok(())
 }
 
 #[tactic(auto, unfolding(crate::specs::ListText::list_end))]
@@ -136,8 +139,7 @@ impl Teller for Lister {
         sector: &Sector,
         out: &mut O,
     ) -> Result<(), SinkFailed> {
-        self.run = Some(take_kind(self.run, self.base + count, kind(sector), out)?);
-        Ok(())
+        take_kind(&mut self.run, self.base + count, kind(sector), out)
     }
 
     fn close<O: Sink>(
