@@ -4,12 +4,13 @@ ghost use Rattle.std.specs.Prelude.{◌≡◌, ⊤, IfOk};
 
 use crate::host::{Host, NoFile};
 use cd_image::{FromRead, Source, ToWrite};
+use cd_sector::SECTOR_SIZE;
 use std::fs;
 use std::fs::File;
 use std::io::{self, BufReader, BufWriter, Read, Stdin};
 
-/// The number of bytes that are read or written at a time.
-pub const BUFFER_SIZE: usize = 65_536;
+/// The number of bytes that are read or written at a time: 64 KiB as near as whole sectors come, so that none lies in two reads.
+pub const BUFFER_SIZE: usize = 28 * SECTOR_SIZE;
 
 /// Where the bytes of an image or a script come from.
 #[derive(Drop)]
@@ -19,6 +20,9 @@ pub enum Reader {
 }
 
 impl Read for Reader {
+    // Called once in 28 sectors. In line it would keep what is done for each sector from being put in line.
+    #[cold]
+    #[inline(never)]
     fn read(&mut self, buf: &mut [u8]) -> io::Result<usize> {
         match self {
             Reader::File(file) => file.read(buf),
