@@ -12,7 +12,7 @@ use Rattle.cd_code.proofs.XorLemmas.{xor_swap, xor_twice_left}
 use Rattle.cd_sector.specs.Carried.{IsCarried, sync_of}
 use Rattle.cd_sector.specs.Consistent.{IsConsistent, header_of, user_of}
 use Rattle.cd_sector.specs.Kind.{kind_of}
-use Rattle.cd_sector.proofs.CarriedLemmas.{carried_unique, defect-same}
+use Rattle.cd_sector.proofs.CarriedLemmas.{defect-same}
 use Rattle.cd_delta.specs.Writing.{IsChanged, StoresEdc}
 use Rattle.cd_delta.proofs.UserLemmas.{IsConsistent-of, StoresEdc-remainder}
 
@@ -72,9 +72,6 @@ carried-of {old} {new} h stored from header user same_header same_user =
           (part-same new old 2068 8 (omega arith) (omega arith) (λ i low high. h.zeros i low (omega arith)))
           (StoresEdc-remainder h.edc ∙ sym (StoresEdc-remainder stored)) h.syndromes;
     }
-
-pub carried-alone : (old header user new : List ℕ) → IsCarried old header user new → (t : List ℕ) → IsCarried old header user t → t ≡ new
-carried-alone old header user new h t k = carried_unique old header user t new k h
 
 pub carried-consistent : {old new : List ℕ} {place : ℕ} {bytes : List ℕ} {error : ℕ} → IsChanged old new place bytes error → StoresEdc old error
     → kind_of new ≡ kind_of old → IsConsistent old → IsConsistent new

@@ -1,12 +1,13 @@
 -- An audit sector by sector, and that it tells what it should of the whole image.
 use Rattle.std.proofs.Common.{◌≡◌, ℕ, ◌+◌, ◌<◌, ◌≤◌, ◌==◌, Bool, true, false, not, ◌&&◌, ◌||◌, cond, count_by, List, [], ◌∷◌, ◌++◌, length, take, Option, None, Some, Result, refl, sym, ap, ◌∙◌, subst, arith, add-zero, zero-add, add_assoc, append-nil}
-use Rattle.std.specs.List.{list_all, list_any}
+use Rattle.std.specs.List.{list_all}
 use Rattle.std.specs.Io.KnownBytes.{Appends}
 use Rattle.std.proofs.lemmas.Bool.Decides.{nat_tests}
 use Rattle.std.proofs.lemmas.List.Sums.{sum_by-append, sum_by-cons}
 use Rattle.cd_sector.specs.Consistent.{is_mode1}
 use Rattle.cd_sector.specs.Defect.{defect_of, is_broken, is_nonzero, is_sound}
 use Rattle.cd_sector.specs.Kind.{kind_of}
+use Rattle.cd_sector.proofs.DefectLemmas.{some_nonzero}
 use Rattle.cd_stream.specs.Stream.{Outgoing}
 use Rattle.cd_stream.specs.declared.sink.SinkFailed.{SinkFailed}
 use Rattle.cd_image.specs.AuditText.{audit_end, audit_lines, auditing, finding_count, finding_line, found_of, findings_of, is_any, is_damage, is_damaged, line_of, report_of}
@@ -17,14 +18,6 @@ use Rattle.cd_image.specs.declared.auditing.AuditTally.{AuditTally}
 use Rattle.cd_image.specs.declared.findings.Findings.{Findings}
 
 -- ---- a sector is damaged where its report tells of a defect
-
-not-and : (a b : Bool) → not (a && b) ≡ (not a || not b)
-not-and true b = refl
-not-and false b = refl
-
-any_nonzero : (bytes : List ℕ) → list_any is_nonzero bytes ≡ not (list_all (λ b. b == 0) bytes)
-any_nonzero [] = refl
-any_nonzero (x ∷ xs) = ap (λ t. not (x == 0) || t) (any_nonzero xs) ∙ sym (not-and (x == 0) (list_all (λ b. b == 0) xs))
 
 pub count_by-first : {X : Type 0} (p : X → Bool) (x : X) (xs : List X) → count_by p (x ∷ xs) ≡ cond (p x) 1 0 + count_by p xs
 count_by-first p x xs = sum_by-cons (λ y. cond (p y) 1 0) x xs
@@ -58,7 +51,7 @@ is_damage-report sector =
     let all_zeros = list_all (λ b. b == 0) d.zeros in
     let columns = list_all (λ w. not (is_broken w)) d.columns in
     let diagonals = list_all (λ w. not (is_broken w)) d.diagonals in
-    ap (λ t. ((t || is_nonzero d.rest) || is_nonzero (count_by is_broken d.columns)) || is_nonzero (count_by is_broken d.diagonals)) (any_nonzero d.zeros)
+    ap (λ t. ((t || is_nonzero d.rest) || is_nonzero (count_by is_broken d.columns)) || is_nonzero (count_by is_broken d.diagonals)) (sym (some_nonzero d.zeros))
     ∙ ap (λ t. ((not all_zeros || is_nonzero d.rest) || t) || is_nonzero (count_by is_broken d.diagonals)) (any_broken d.columns)
     ∙ ap (λ t. ((not all_zeros || is_nonzero d.rest) || not columns) || t) (any_broken d.diagonals)
     ∙ not-four all_zeros (d.rest == 0) columns diagonals

@@ -1,10 +1,11 @@
 -- An image's sectors and its tail.
 use Rattle.std.proofs.Common.{◌≡◌, ℕ, zero, suc, ◌+◌, ◌*◌, ◌/◌, ◌<◌, ◌≤◌, List, [], ◌∷◌, ◌++◌, length, take, drop, sym, ap, ◌∙◌, subst, arith, append_assoc, length-append, take_at, drop_at, take-append-drop, refl}
-use Rattle.std.specs.List.{All, flat_map}
+use Rattle.std.specs.List.{All}
 use Rattle.std.specs.Simd.{first_chunks}
 use Rattle.std.proofs.lemmas.List.{drop-drop, length-drop, length-take-le}
 use Rattle.std.proofs.lemmas.List.Elements.{All-cons, All-head, All-tail}
 use Rattle.cd_image.specs.Image.{IsCut, sectors, tail}
+use Rattle.cd_image.specs.Passing.{joined}
 
 -- a sector in front of more
 pub sectors-sector : (sector more : List ℕ) → length sector ≡ 2352 → sectors (sector ++ more) ≡ sector ∷ sectors more
@@ -44,9 +45,6 @@ unfolding tail
 length-tail-le image = omega (arith, length-drop (2352 * (length image / 2352)) image)
 
 -- ---- the cut
-
-abbrev joined : List (List ℕ) → List ℕ
-joined whole = flat_map (λ sector. sector) whole
 
 first_chunks-joined : (n k : ℕ) (xs : List ℕ) → joined (first_chunks n k xs) ++ drop (n * k) xs ≡ xs
 first_chunks-joined n zero xs = let none : n * 0 ≡ 0 = omega arith in ap (λ m. drop m xs) none
@@ -103,7 +101,7 @@ IsCut-only image whole rest cut =
     subst (λ bytes. (whole ≡ sectors bytes) × (rest ≡ tail bytes)) cut.joined (cut_of_joined whole rest cut.each cut.short)
 
 -- sectors in front of more bytes
-pub sectors-joined : (whole : List (List ℕ)) (more : List ℕ) → All (λ sector. length sector ≡ 2352) whole → sectors (flat_map (λ sector. sector) whole ++ more) ≡ whole ++ sectors more
+pub sectors-joined : (whole : List (List ℕ)) (more : List ℕ) → All (λ sector. length sector ≡ 2352) whole → sectors (joined whole ++ more) ≡ whole ++ sectors more
 sectors-joined [] more each = refl
 sectors-joined (sector ∷ others) more each =
     ap sectors (append_assoc sector (joined others) more)

@@ -1,7 +1,7 @@
 -- What an accepted patch makes of the sectors, and the ranges of edits.
-use Rattle.std.proofs.Common.{◌≡◌, ℕ, zero, suc, ◌+◌, ◌-◌, ◌*◌, ◌<◌, ◌≤◌, inl, inr, Bool, true, false, cond, List, [], ◌++◌, length, get_or, take, drop, Option, Some, None, refl, sym, ap, subst, ◌∙◌, arith}
+use Rattle.std.proofs.Common.{◌≡◌, ℕ, zero, suc, ◌+◌, ◌-◌, ◌*◌, ◌<◌, ◌≤◌, inl, inr, Bool, true, false, List, [], ◌++◌, length, get_or, take, drop, Option, Some, None, refl, sym, ap, subst, ◌∙◌, arith}
 use Rattle.std.specs.Prelude.{All, not, ◌&&◌, if◌then◌else◌, slice_get, unwrap_or}
-use Rattle.std.proofs.lemmas.Bool.{cases_lt, lt-ltb}
+use Rattle.std.proofs.lemmas.Bool.{cases_lt}
 use Rattle.std.proofs.lemmas.List.{get_or_append_left, get_or-append_right, get_or_default, get_or-drop, get_or-take, length-append, length-drop, length-replicate, length-take-le}
 use Rattle.std.proofs.lemmas.List.Elements.{All-get_or}
 use Rattle.std.proofs.lemmas.Option.{get_or_from_slice_get, slice_get-get_or, slice_get_past}
@@ -21,7 +21,7 @@ use Rattle.cd_patch.specs.declared.outcome.Outcome.{Outcome}
 use Rattle.cd_patch.specs.declared.outcome.Outcome.TheVariants.{Applied, Damaged, NotMode1}
 use Rattle.cd_patch.proofs.DecidingLemmas.{AreMet, AreMet-from, BlocksHaveUsers-from, joined-byte, length-joined, user_at-sector}
 use Rattle.cd_patch.proofs.MadeLemmas.{MadeBy-sector}
-use Rattle.cd_patch.proofs.SectorAtLemmas.{sector_at-add}
+use Rattle.cd_patch.proofs.SectorAtLemmas.{sector_at-add, sector_at-below}
 use Rattle.cd_patch.proofs.PartLemmas.{length-user, user_part-of}
 
 -- ---- the range of an edit
@@ -120,10 +120,6 @@ slice_get-behind front ss n k long room behind =
           ∙ sym (slice_get-get_or ss k [] inside)
       | inr past ↦ slice_get_past (front ++ drop n ss) k (omega arith) ∙ sym (slice_get_past ss k past)
     ]
-
-sector_at-below : (ss : List (List ℕ)) (base block : ℕ) → block < base → sector_at ss base block ≡ None
-unfolding sector_at
-sector_at-below ss base block below = ap (λ b. cond b None (slice_get ss (block - base))) (lt-ltb block base below)
 
 -- ---- the effect
 

@@ -2,8 +2,9 @@ use Rattle.std.proofs.Common.{rules, lit≤}
 use Rattle.std.specs.Prelude.{◌≡◌, ◌++◌, drop, length}
 use Rattle.cd_sector.specs.Carried.{IsCarried}
 use Rattle.cd_sector.specs.Consistent.{header_of, user_of}
+use Rattle.cd_sector.proofs.CarriedLemmas.{carried_unique}
 use Rattle.cd_delta.specs.Writing.{IsChanged}
-use Rattle.cd_delta.proofs.CarryLemmas.{carried-alone, carried-consistent, carried-of, stored-sum}
+use Rattle.cd_delta.proofs.CarryLemmas.{carried-consistent, carried-of, stored-sum}
 use Rattle.cd_delta.proofs.UserLemmas.{header-kind, header-of, header-user}
 use Rattle.cd_delta.proofs.carrying.carry_header.Goals as goal
 
@@ -20,7 +21,7 @@ returns c =
     carried-of changed stored (lit≤ tt) (bcd ++ drop 3 (header_of old)) (user_of old) (header-of changed three) (header-user changed three) in
     record {
       carried = carried;
-      alone = carried-alone old (bcd ++ drop 3 (header_of old)) (user_of old) new carried;
+      alone = λ t other. carried_unique old (bcd ++ drop 3 (header_of old)) (user_of old) t new other carried;
       kind = kind;
       edc = stored-sum stored changed.edc;
       consistent = carried-consistent changed stored kind;

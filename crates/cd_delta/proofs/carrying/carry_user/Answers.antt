@@ -1,8 +1,9 @@
 use Rattle.std.proofs.Common.{◌+◌, arith}
 use Rattle.cd_sector.specs.Carried.{IsCarried}
 use Rattle.cd_sector.specs.Consistent.{header_of, user_of}
+use Rattle.cd_sector.proofs.CarriedLemmas.{carried_unique}
 use Rattle.cd_delta.specs.Writing.{IsChanged, written}
-use Rattle.cd_delta.proofs.CarryLemmas.{carried-alone, carried-consistent, carried-of, stored-sum}
+use Rattle.cd_delta.proofs.CarryLemmas.{carried-consistent, carried-of, stored-sum}
 use Rattle.cd_delta.proofs.UserLemmas.{user-header, user-kind, user-of}
 use Rattle.cd_delta.proofs.carrying.carry_user.Goals as goal
 
@@ -19,7 +20,7 @@ returns c =
     carried-of changed stored (omega arith) (header_of old) (written (user_of old) offset bytes) (user-header offset changed) (user-of offset changed) in
     record {
       carried = carried;
-      alone = carried-alone old (header_of old) (written (user_of old) offset bytes) new carried;
+      alone = λ t other. carried_unique old (header_of old) (written (user_of old) offset bytes) t new other carried;
       kind = kind;
       edc = stored-sum stored changed.edc;
       consistent = carried-consistent changed stored kind;
