@@ -5,6 +5,7 @@ mod applied;
 mod audits;
 mod bounds;
 mod calls;
+mod carried;
 mod changes;
 mod cut_images;
 mod failing_listings;

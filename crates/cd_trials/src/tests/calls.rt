@@ -35,12 +35,13 @@ pub const NO_LIMITS: Limits = Limits {
     log: NO_LIMIT,
 };
 
-/// A script on an image whose first block is `base`.
+/// A script on an image whose first block is `base`; damage is carried or not.
 #[derive(Clone, Copy)]
 pub struct Call<'a> {
     pub image: &'a [u8],
     pub script: &'a Script,
     pub base: u32,
+    pub carry: bool,
 }
 
 /// How a call ended.
@@ -84,7 +85,7 @@ pub fn apply_within(
         &mut image,
         call.script,
         call.base,
-        false,
+        call.carry,
         &mut out,
         &mut log,
     );
@@ -108,7 +109,7 @@ pub fn check_within(call: &Call, limits: &Limits, lines: &mut [u8], rest: &mut [
     let mut image = Short::new(image, limits.image.a_call);
     let log = FailAfter::new(SliceSink::new(lines), limits.log.all);
     let mut log = Short::new(log, limits.log.a_call);
-    let answer = check(&mut image, call.script, call.base, false, &mut log);
+    let answer = check(&mut image, call.script, call.base, call.carry, &mut log);
     Ending {
         answer,
         image_failures: image.failures(),

@@ -1,7 +1,7 @@
 //! One of an image, an output and a log fails at each byte of a patched image: what went to the others is known.
 
 use super::calls::{Call, Ending, Limit, Limits, NO_LIMITS, apply_within, check_within};
-use super::images::{filled_at, joined, zeros_at, zeros_from};
+use super::images::{filled_at, flip, joined, zeros_at, zeros_from};
 use super::patching::{has_failed, has_front, memory, script_of, written};
 use cd_image::{Fault, Tally};
 use cd_script::Script;
@@ -18,11 +18,12 @@ const TALLY: Tally = Tally {
     tail: 0,
 };
 
-/// An image, its script, and the patched image.
+/// An image, its script, whether damage is carried, and the patched image.
 #[derive(Drop)]
 struct Parts {
     image: Vec<u8>,
     script: Script,
+    carry: bool,
     whole: Vec<u8>,
 }
 
@@ -30,6 +31,7 @@ fn make_parts(rt: &impl Abort, alloc: Global) -> Result<Parts, Fail> {
     Ok(Parts {
         image: zeros_from(alloc, 0, 3)?,
         script: script_of(rt, alloc, "cdpatch 1\nset 1 0 41\n")?,
+        carry: false,
         whole: joined(alloc, &[zeros_at(0), filled_at(1, 0, 1, 65), zeros_at(2)])?,
     })
 }
@@ -39,6 +41,7 @@ fn applies(parts: &Parts, limits: &Limits, space: &mut [u8], lines: &mut [u8]) -
         image: &parts.image,
         script: &parts.script,
         base: 0,
+        carry: parts.carry,
     };
     apply_within(&call, limits, space, lines, &mut [0])
 }
@@ -48,6 +51,7 @@ fn checks(parts: &Parts, limits: &Limits, lines: &mut [u8]) -> Ending {
         image: &parts.image,
         script: &parts.script,
         base: 0,
+        carry: parts.carry,
     };
     check_within(&call, limits, lines, &mut [0])
 }
@@ -254,4 +258,39 @@ fn an_output_that_fails_in_a_patched_sector(rt: HostRuntime) -> Result<(), Fail>
     assert!(rt; has_front(&space, &parts.image, 2353));
     assert!(rt; space.get(2352) == Some(&0));
     Ok(())
+}
+
+/// The same of an image whose patched sector is damaged, where that is carried.
+fn make_carried_parts(rt: &impl Abort, alloc: Global) -> Result<Parts, Fail> {
+    let (mut damaged, mut patched) = (zeros_at(1), filled_at(1, 0, 1, 65));
+    flip(&mut damaged, 2351);
+    flip(&mut patched, 2351);
+    Ok(Parts {
+        image: joined(alloc, &[zeros_at(0), damaged, zeros_at(2)])?,
+        script: script_of(rt, alloc, "cdpatch 1\nset 1 0 41\n")?,
+        carry: true,
+        whole: joined(alloc, &[zeros_at(0), patched, zeros_at(2)])?,
+    })
+}
+
+/// One of the three fails at a border of a sector, within one, or where the patch is told, and damage is carried.
+#[test]
+fn failures_where_damage_is_carried(rt: HostRuntime) -> Result<(), Fail> {
+    let parts = make_carried_parts(&rt, rt.alloc())?;
+    for count in [0, 1, 2351, 2352, 2353, 3000, 4703, 4704, 4705, 7055, 7056] {
+        let mut space = memory(rt.alloc(), 7056)?;
+        image_fails(&rt, &parts, &mut space, count);
+        let mut space = memory(rt.alloc(), 7056)?;
+        output_fails(&rt, &parts, &mut space, count);
+    }
+    for count in 0..37u64 {
+        let mut space = memory(rt.alloc(), 7056)?;
+        log_fails(&rt, &parts, &mut space, count);
+    }
+    let limits = Limits {
+        image: passing(7057),
+        out: passing(7057),
+        log: passing(37),
+    };
+    nothing_fails(&rt, rt.alloc(), &parts, &limits)
 }

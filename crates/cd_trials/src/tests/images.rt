@@ -77,3 +77,13 @@ pub fn flip(sector: &mut Sector, place: usize) {
         sector.put(place, byte ^ 1);
     }
 }
+
+/// The sector that a sector's header and user data are encoded to.
+pub fn encoded_anew(sector: &Sector) -> Sector {
+    let [minute, second, fraction, _] = sector.header();
+    let mut user = [0; 2048];
+    for (new, old) in user.iter_mut().zip(sector.user()) {
+        *new = *old;
+    }
+    encode([minute, second, fraction], &user)
+}

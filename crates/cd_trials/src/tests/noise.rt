@@ -1,9 +1,9 @@
 //! Sectors of noise with a sync field and a mode byte.
 
-use super::images::joined;
+use super::images::{encoded_anew, joined};
 use super::patching::{Case, expect, memory};
 use cd_image::{SliceSink, SliceSource, audit};
-use cd_sector::{Sector, defect, encode};
+use cd_sector::{Sector, defect};
 use std::alloc::Global;
 use std::test::Fail;
 
@@ -37,16 +37,6 @@ fn patches_on_noise_are_refused(rt: HostRuntime) -> Result<(), Fail> {
         out: &image,
     };
     expect(&rt, rt.alloc(), &case)
-}
-
-/// The sector that a sector's header and user data are encoded to.
-fn encoded_anew(sector: &Sector) -> Sector {
-    let [minute, second, fraction, _] = sector.header();
-    let mut user = [0; 2048];
-    for (new, old) in user.iter_mut().zip(sector.user()) {
-        *new = *old;
-    }
-    encode([minute, second, fraction], &user)
 }
 
 #[test]

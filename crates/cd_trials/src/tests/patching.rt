@@ -77,10 +77,29 @@ pub fn written(rt: &impl Abort, space: &[u8], whole: &[u8]) -> usize {
 pub fn expect(rt: &impl Abort, alloc: Global, case: &Case) -> Result<(), Fail>
     requires { case.now.base ≤ MAX_BASE }
 {
+    expect_by(rt, alloc, case, false)
+}
+
+/// The same where damage is carried.
+pub fn expect_carried(rt: &impl Abort, alloc: Global, case: &Case) -> Result<(), Fail>
+    requires { case.now.base ≤ MAX_BASE }
+{
+    expect_by(rt, alloc, case, true)
+}
+
+fn expect_by(rt: &impl Abort, alloc: Global, case: &Case, carry: bool) -> Result<(), Fail>
+    requires { case.now.base ≤ MAX_BASE }
+{
     let script = script_of(rt, alloc, case.script)?;
+    let call = Call {
+        image: case.image,
+        script: &script,
+        base: case.base,
+        carry,
+    };
     for a_call in [1, 2, 2351, 2353, 10_000_000] {
-        applies(rt, alloc, case, &script, a_call)?;
-        checks(rt, alloc, case, &script, a_call)?;
+        applies(rt, alloc, case, &call, a_call)?;
+        checks(rt, alloc, case, &call, a_call)?;
     }
     Ok(())
 }
@@ -102,19 +121,14 @@ fn applies(
     rt: &impl Abort,
     alloc: Global,
     case: &Case,
-    script: &Script,
+    call: &Call,
     a_call: usize,
 ) -> Result<(), Fail>
-    requires { case.now.base ≤ MAX_BASE }
+    requires { call.now.base ≤ MAX_BASE }
 {
-    let call = Call {
-        image: case.image,
-        script,
-        base: case.base,
-    };
     let mut space = memory(alloc, case.out.len())?;
     let mut lines = memory(alloc, case.log.len())?;
-    let ending = apply_within(&call, &by_parts(a_call), &mut space, &mut lines, &mut [0]);
+    let ending = apply_within(call, &by_parts(a_call), &mut space, &mut lines, &mut [0]);
     assert!(rt; space.as_slice() == case.out, "{}", case.log);
     ends_well(rt, alloc, &ending, case, &lines)
 }
@@ -123,18 +137,13 @@ fn checks(
     rt: &impl Abort,
     alloc: Global,
     case: &Case,
-    script: &Script,
+    call: &Call,
     a_call: usize,
 ) -> Result<(), Fail>
-    requires { case.now.base ≤ MAX_BASE }
+    requires { call.now.base ≤ MAX_BASE }
 {
-    let call = Call {
-        image: case.image,
-        script,
-        base: case.base,
-    };
     let mut lines = memory(alloc, case.log.len())?;
-    let ending = check_within(&call, &by_parts(a_call), &mut lines, &mut [0]);
+    let ending = check_within(call, &by_parts(a_call), &mut lines, &mut [0]);
     ends_well(rt, alloc, &ending, case, &lines)
 }
 

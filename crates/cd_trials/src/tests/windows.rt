@@ -46,6 +46,7 @@ fn reads_ahead(
         image,
         script,
         base: 0,
+        carry: false,
     };
     let mut space = memory(alloc, image.len())?;
     let mut lines = [238; 128];
