@@ -1,5 +1,5 @@
 -- A sector into whose user data bytes were written, and then the EDC.
-use Rattle.std.proofs.Common.{◌≡◌, ◌⊎◌, ℕ, ◌+◌, ◌-◌, ◌^◌, ◌<◌, ◌≤◌, inl, inr, List, ◌++◌, length, get_or, take, drop, bit_xor, refl, sym, ap, ◌∙◌, arith, lit<}
+use Rattle.std.proofs.Common.{◌≡◌, ◌⊎◌, ℕ, ◌+◌, ◌-◌, ◌^◌, ◌<◌, ◌≤◌, inl, inr, List, ◌++◌, length, get_or, take, drop, bit_xor, refl, sym, ap, subst, ◌∙◌, arith, lit<}
 use lib.Pointwise.{pointwise}
 use Rattle.std.specs.Prelude.{nat_eq, if◌then◌else◌, slice_range}
 use Rattle.std.specs.Int.{from_le_bytes, to_le_bytes, w32}
@@ -218,6 +218,12 @@ IsChanged-front old front new place bytes error fits old_size front_size same_si
 
 long-of : {old new : List ℕ} {place : ℕ} {bytes : List ℕ} {error : ℕ} → IsChanged old new place bytes error → length old ≡ 2352
 long-of h = sym h.same_size ∙ h.size
+
+-- with the bytes and the error in other words
+pub IsChanged-same : {old new : List ℕ} {place : ℕ} {bytes others : List ℕ} {error other : ℕ} → IsChanged old new place bytes error
+    → bytes ≡ others → error ≡ other → IsChanged old new place others other
+IsChanged-same {old} {new} {place} {bytes} {others} {error} {other} h same equal =
+    subst (λ e. IsChanged old new place others e) equal (subst (λ b. IsChanged old new place b error) same h)
 
 -- without an error
 pub edc-of : {old new : List ℕ} {place : ℕ} {bytes : List ℕ} → IsChanged old new place bytes 0

@@ -46,3 +46,9 @@ pub record IsChanged (old new : List ℕ) (place : ℕ) (bytes : List ℕ) (erro
   pub zeros : (i : ℕ) → 2068 ≤ i → i < 2076 → slice_index new i ≡ slice_index old i
   pub edc : StoresEdc new error
   pub syndromes : SameSyndromes new old
+
+-- the same, where `error` is what the EDC was wrong by before
+pub record KeepsError (old new : List ℕ) (place : ℕ) (bytes : List ℕ) : Type 0 where
+  pub error : ℕ
+  pub before : StoresEdc old error
+  pub changed : IsChanged old new place bytes error

@@ -8,7 +8,7 @@ ghost use Rattle.cd_sector.specs.Carried.{IsCarried};
 ghost use Rattle.cd_sector.specs.Consistent.{IsConsistent, header_of, user_of};
 ghost use Rattle.cd_sector.specs.Kind.{kind_of};
 ghost use Rattle.cd_sector.specs.declared.kinds.SectorKind.TheVariants.{Mode1};
-ghost use Rattle.cd_delta.specs.Writing.{StoresEdc, written};
+ghost use Rattle.cd_delta.specs.Writing.{KeepsError, StoresEdc, written};
 
 use crate::user_data::change;
 use cd_code::edc_of;
@@ -28,8 +28,7 @@ pub fn carry_user(s: &mut Sector, offset: u16, bytes: &[u8])
         ≡ bit_xor (from_le_bytes w32 (slice_range s.old 2064 2068)) (bit_xor before after) }
     ensures consistent { IsConsistent s.old → IsConsistent s.new }
 {
-    let error = edc_error(s);
-    change(s, USER_DATA + offset as usize, bytes, error);
+    carry(s, USER_DATA + offset as usize, bytes);
 }
 
 /// Makes `bcd` bytes 12 to 14 of a Mode 1 sector, which are its address (three bytes, BCD or not), and carries the
@@ -45,8 +44,18 @@ pub fn carry_header(s: &mut Sector, bcd: [u8; 3])
         ≡ bit_xor (from_le_bytes w32 (slice_range s.old 2064 2068)) (bit_xor before after) }
     ensures consistent { IsConsistent s.old → IsConsistent s.new }
 {
+    carry(s, HEADER, &bcd);
+}
+
+/// Writes bytes behind the sync field and in front of the EDC, then the EDC with the error that it had, and carries both
+/// into the parity.
+fn carry(s: &mut Sector, place: usize, bytes: &[u8])
+    requires from { 12 ≤ place }
+    requires below { place + length bytes.now ≤ 2064 }
+    ensures { KeepsError s.old s.new place bytes.now }
+{
     let error = edc_error(s);
-    change(s, HEADER, &bcd, error);
+    change(s, place, bytes, error);
 }
 
 /// What is added to the EDC of a sector's bytes 0 to 2063 in the four bytes behind them; 0 where these are right.

@@ -8,6 +8,7 @@ ghost use Rattle.cd_sector.specs.CodeWords.{SameSyndromes};
 ghost use Rattle.cd_sector.specs.Consistent.{IsConsistent, header_of, user_of};
 ghost use Rattle.cd_sector.specs.Kind.{kind_of};
 ghost use Rattle.cd_sector.specs.declared.kinds.SectorKind.TheVariants.{Mode1};
+ghost use Rattle.cd_delta.specs.Writing.{IsChanged};
 
 use crate::user_data::change;
 use cd_sector::{HEADER, Sector};
@@ -26,6 +27,13 @@ pub fn change_header(s: &mut Sector, bcd: [u8; 3])
         → slice_index s.new i ≡ slice_index s.old i }
     ensures syndromes { SameSyndromes s.new s.old }
     ensures consistent { IsConsistent s.old → IsConsistent s.new }
+{
+    put_address(s, bcd);
+}
+
+/// Makes `bcd` the first three bytes of the header, then writes the EDC, and carries both into the parity.
+fn put_address(s: &mut Sector, bcd: [u8; 3])
+    ensures { IsChanged s.old s.new 12 bcd 0 }
 {
     change(s, HEADER, &bcd, 0);
 }

@@ -3,7 +3,7 @@ use Rattle.std.specs.Prelude.{◌≡◌, ◌++◌, drop, length}
 use Rattle.cd_sector.specs.Carried.{IsCarried}
 use Rattle.cd_sector.specs.Consistent.{header_of, user_of}
 use Rattle.cd_sector.proofs.CarriedLemmas.{carried_unique}
-use Rattle.cd_delta.specs.Writing.{IsChanged}
+use Rattle.cd_delta.specs.Writing.{KeepsError}
 use Rattle.cd_delta.proofs.CarryLemmas.{carried-consistent, carried-of, stored-sum}
 use Rattle.cd_delta.proofs.UserLemmas.{header-kind, header-of, header-user}
 use Rattle.cd_delta.proofs.carrying.carry_header.Goals as goal
@@ -11,10 +11,11 @@ use Rattle.cd_delta.proofs.carrying.carry_header.Goals as goal
 pub returns : goal.returns
 returns c =
     let old = c.args.s.now in
-    let new = c.change.new.s in
+    let new = c.carry.new.s in
     let bcd = c.args.bcd in
-    let stored = c.edc_error-error.ensures in
-    let changed : IsChanged old new 12 bcd c.edc_error-error.result = c.change.ensures in
+    let kept : KeepsError old new 12 bcd = c.carry.ensures in
+    let stored = kept.before in
+    let changed = kept.changed in
     let three : length bcd ≡ 3 = search rules in
     let kind = header-kind changed three in
     let carried : IsCarried old (bcd ++ drop 3 (header_of old)) (user_of old) new =

@@ -2,7 +2,7 @@ use Rattle.std.proofs.Common.{◌+◌, arith}
 use Rattle.cd_sector.specs.Carried.{IsCarried}
 use Rattle.cd_sector.specs.Consistent.{header_of, user_of}
 use Rattle.cd_sector.proofs.CarriedLemmas.{carried_unique}
-use Rattle.cd_delta.specs.Writing.{IsChanged, written}
+use Rattle.cd_delta.specs.Writing.{KeepsError, written}
 use Rattle.cd_delta.proofs.CarryLemmas.{carried-consistent, carried-of, stored-sum}
 use Rattle.cd_delta.proofs.UserLemmas.{user-header, user-kind, user-of}
 use Rattle.cd_delta.proofs.carrying.carry_user.Goals as goal
@@ -10,11 +10,12 @@ use Rattle.cd_delta.proofs.carrying.carry_user.Goals as goal
 pub returns : goal.returns
 returns c =
     let old = c.args.s.now in
-    let new = c.change.new.s in
+    let new = c.carry.new.s in
     let offset = c.args.offset in
     let bytes = c.args.bytes.now in
-    let stored = c.edc_error-error.ensures in
-    let changed : IsChanged old new (16 + offset) bytes c.edc_error-error.result = c.change.ensures in
+    let kept : KeepsError old new (16 + offset) bytes = c.carry.ensures in
+    let stored = kept.before in
+    let changed = kept.changed in
     let kind = user-kind offset changed in
     let carried : IsCarried old (header_of old) (written (user_of old) offset bytes) new =
     carried-of changed stored (omega arith) (header_of old) (written (user_of old) offset bytes) (user-header offset changed) (user-of offset changed) in
