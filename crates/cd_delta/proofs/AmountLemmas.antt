@@ -1,5 +1,5 @@
 -- The amounts of the eight changes: none is 0 unless the change is, and no others keep the syndromes (ECMA-130, Annex A).
-use Rattle.std.proofs.Common.{◌≡◌, ◌≢◌, ℕ, zero, suc, ◌+◌, ◌<◌, ◌≤◌, All, Contains, false, List, [], ◌∷◌, length, get_or, nat_eq, bit_xor, refl, sym, ap, ◌∙◌, arith}
+use Rattle.std.proofs.Common.{◌≡◌, ◌≢◌, ℕ, zero, suc, ◌<◌, ◌≤◌, All, Contains, false, List, [], ◌∷◌, length, get_or, nat_eq, bit_xor, refl, sym, ap, ◌∙◌, arith}
 use Rattle.std.specs.Prelude.{take}
 use Rattle.std.specs.List.{AllByRecursion, IsDistinct}
 use Rattle.std.proofs.lemmas.Bool.{eqb-false}
