@@ -1,8 +1,8 @@
 //! The job that the words ask for.
-ghost use Rattle.std.specs.Prelude.{◌≡◌, ◌≤◌, IfOk, IfErr, IsSome, Some, map, string_bytes, codes};
+ghost use Rattle.std.specs.Prelude.{◌≡◌, ◌≤◌, IfOk, IfErr, IsSome, Some, map, option_map, string_bytes, codes};
 ghost use Rattle.clap.specs.Words.{first_of, found_of, rows_of};
 ghost use Rattle.cd_command.specs.CommandLine.{HasBase, HasMatches, IsComplete, IsJobOf, IsTaken};
-ghost use Rattle.cd_command.specs.CommandLine.{Lists, base_in, base_of, carry_of};
+ghost use Rattle.cd_command.specs.CommandLine.{Lists, base_in, base_of, carry_of, is_set};
 ghost use Rattle.cd_command.specs.Fault.{HasKindOf};
 ghost use Rattle.cd_command.specs.declared.fault.LineFault.TheVariants.{NoMemory};
 
@@ -30,14 +30,21 @@ fn base_of(matches: &ArgMatches<'_>) -> u32
     matches.get_one::<u32>("base").unwrap()
 }
 
+// Whether a flag with this text is used.
+fn is_set(text: Option<&str>) -> bool
+    ensures { result ≡ is_set (option_map (λ text. text.now) text.entry) }
+{
+    match text {
+        Some(text) => text == "true",
+        None => false,
+    }
+}
+
 // Whether a command's matches have the flag `--carry`.
 fn carry_of(matches: &ArgMatches<'_>) -> bool
     ensures { result ≡ carry_of (rows_of (found_of matches.now)) }
 {
-    match matches.get_str("carry") {
-        Some(text) => text == "true",
-        None => false,
-    }
+    is_set(matches.get_str("carry"))
 }
 
 fn list_job(alloc: Global, matches: &ArgMatches<'_>) -> Result<Job, AllocError>
