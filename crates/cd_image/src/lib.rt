@@ -17,6 +17,7 @@ mod window;
 pub use applying::{apply, check};
 pub use auditing::{AuditTally, audit};
 pub use cd_patch::Outcome;
+use cd_sector::MAX_BLOCK;
 pub use cd_stream::{
     FailAfter, FromRead, LINE_SIZE, Line, Short, Sink, SinkFailed, SliceSink, SliceSource, Source,
     SourceFailed, ToWrite, ZeroSource, fill, write_all,
@@ -33,4 +34,4 @@ pub use patch_log::Tally;
 pub const MAX_SECTORS: u32 = 1_000_000;
 
 /// The largest number that the first block of an image may have: the last block with an address.
-pub const MAX_BASE: u32 = 449_849;
+pub const MAX_BASE: u32 = MAX_BLOCK;

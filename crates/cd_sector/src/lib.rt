@@ -13,7 +13,7 @@ mod parity;
 mod sector;
 mod sums;
 
-pub use addresses::address_of;
+pub use addresses::{MAX_BLOCK, address_of};
 pub use defects::{DefectReport, defect, is_consistent, same_defect};
 pub use encoding::encode;
 pub use kinds::{SectorKind, kind};

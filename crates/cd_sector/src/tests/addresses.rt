@@ -1,4 +1,4 @@
-use crate::address_of;
+use crate::{MAX_BLOCK, address_of};
 
 #[test]
 fn addresses(rt: HostRuntime) {
@@ -11,6 +11,7 @@ fn addresses(rt: HostRuntime) {
         (449_850, None),
         (4_294_967_295, None),
     ];
+    assert_eq!(rt; MAX_BLOCK, 449_849);
     for (block, expected) in rows {
         assert!(rt; address_of(block) == expected);
     }
