@@ -76,6 +76,10 @@ For each patch it prints 'line L: applied' or 'line L: refused: WHY', ordered by
 blocks, and then 'applied A refused R'. No file is written.
 'cdpatch --help' has an example of a script.
 
+With --carry no sector is refused for its damage, and each one that is not
+rebuilt keeps the damage it had. Use it where the damage must stay to be seen,
+not where a sector should be sound in the end: 'rebuild' is for that.
+
 Status: 0 all applied, 1 a patch refused, 2 a fault or a fault of the script.";
 
 /// What `apply` does.
@@ -87,5 +91,9 @@ For each patch it prints 'line L: applied' or 'line L: refused: WHY', ordered by
 blocks, and then 'applied A refused R'. A refused patch changes nothing. OUT is
 as long as the image. After a fault OUT stays, and begins the patched image.
 'cdpatch --help' has an example of a script.
+
+With --carry no sector is refused for its damage, and each one that is not
+rebuilt keeps the damage it had. Use it where the damage must stay to be seen,
+not where a sector should be sound in the end: 'rebuild' is for that.
 
 Status: 0 all applied, 1 a patch refused, 2 a fault or a fault of the script.";

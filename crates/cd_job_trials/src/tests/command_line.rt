@@ -1,4 +1,4 @@
-use cd_command::{Job, LineFault, NO_MEMORY, job_of, line_of};
+use cd_command::{Job, LineFault, MAX_BASE, NO_MEMORY, job_of, line_of};
 use std::alloc::{AllocError, Global};
 use std::test::Fail;
 
@@ -164,18 +164,23 @@ fn refuses_words(rt: HostRuntime) -> Result<(), Fail> {
     Ok(())
 }
 
-// Whether the words are answered by help.
-fn is_help(alloc: Global, words: &[&str]) -> Result<bool, AllocError> {
+// Whether the words are answered by help that has this text.
+fn help_has(alloc: Global, words: &[&str], part: &str) -> Result<bool, AllocError> {
     let words = words_of(alloc, words)?;
     match job_of(alloc, words) {
         Err(fault) => {
             let text = fault.parser_text(alloc);
             let line = line_of(text.as_deref());
             let ends_well = fault.status() == 0 && fault.status_with(text.as_deref()) == 0;
-            Ok(ends_well && line.contains("Usage: cdpatch"))
+            Ok(ends_well && line.contains("Usage: cdpatch") && line.contains(part))
         }
         Ok(_) => Ok(false),
     }
+}
+
+// Whether the words are answered by help.
+fn is_help(alloc: Global, words: &[&str]) -> Result<bool, AllocError> {
+    help_has(alloc, words, "")
 }
 
 #[test]
@@ -188,6 +193,20 @@ fn answers_by_help(rt: HostRuntime) -> Result<(), Fail> {
     assert!(rt; is_help(alloc, &["apply", "-h"])?);
     assert!(rt; is_help(alloc, &["-h"])?);
     assert!(rt; !is_help(alloc, &["list"])?);
+    Ok(())
+}
+
+#[test]
+fn help_tells_of_the_options(rt: HostRuntime) -> Result<(), Fail> {
+    let alloc = rt.alloc();
+    let most = format!(in alloc; "at most {MAX_BASE}")?;
+    for command in ["list", "audit", "check", "apply"] {
+        assert!(rt; help_has(alloc, &[command, "--help"], most.as_str())?);
+    }
+    for (command, carries) in [("list", false), ("check", true), ("apply", true)] {
+        let has = help_has(alloc, &[command, "--help"], "With --carry no sector")?;
+        assert!(rt; has == carries);
+    }
     Ok(())
 }
 
