@@ -1,11 +1,12 @@
 -- Sixteen diagonals of both planes side by side: the bytes that their lanes take, and the sums in their order.
-use Rattle.std.proofs.Common.{◌≡◌, ℕ, ◌+◌, ◌-◌, ◌*◌, ◌/◌, ◌%◌, ◌<◌, ◌≤◌, ◌⊎◌, inl, inr, Bool, true, nat_lt, List, [], ◌∷◌, ◌++◌, length, get_or, set, replicate, take, bit_xor, refl, sym, ap, ◌∙◌, arith, lit≤, append_assoc}
+use Rattle.std.proofs.Common.{◌≡◌, ℕ, ◌+◌, ◌-◌, ◌*◌, ◌/◌, ◌%◌, ◌<◌, ◌≤◌, ◌⊎◌, inl, inr, Bool, true, nat_lt, List, [], ◌∷◌, ◌++◌, length, get_or, set, replicate, take, bit_and, bit_xor, refl, sym, ap, ◌∙◌, arith, lit≤, append_assoc}
 use Rattle.std.specs.Int.Bits.{xor_zero_r}
 use Rattle.std.specs.Bool.{◌==◌, if◌then◌else◌}
-use Rattle.std.specs.Simd.Lanes.{pick_l}
+use Rattle.std.specs.Simd.Lanes.{Each1, pick_l, zip2}
 use Rattle.std.proofs.lemmas.Bool.{agree_below, agree_below_at, cases_lt, cond-false, cond-true, eqb-true, le-ltb, lt-ltb}
 use Rattle.std.proofs.lemmas.List.{get_or-map, get_or-set_other, get_or_append_left, take_all}
-use Rattle.std.proofs.lemmas.Simd.{get_or-replicate}
+use Rattle.std.proofs.lemmas.Nat.{and_mask}
+use Rattle.std.proofs.lemmas.Simd.{below_from_Fits, Each1-get_or, get_or-replicate, get_or-zip2}
 use Rattle.cd_code.specs.Field.{AreBytes, double}
 use Rattle.cd_code.specs.Syndrome.{first_syndrome, second_syndrome}
 use Rattle.cd_code.proofs.FieldLemmas.{double-zero}
@@ -14,6 +15,8 @@ use Rattle.cd_sector.specs.CodeWords.{SumsOf, place_of, bytes_at, diagonal_input
 use Rattle.cd_sector.specs.DiagonalSteps.{HasTaken, bytes_taken, lane_place}
 use Rattle.cd_sector.specs.declared.diagonals.TheConstants.{RISING, TAKING}
 use Rattle.cd_sector.proofs.ParityLemmas.{SumsOf-more, take-row}
+use mir.Syntax.{w8}
+use mir.Val.{Fits}
 use Rattle.cd_sector.proofs.PlaceLemmas.{length-bytes_at, bytes_at-byte, length-diagonal_input, diagonal_input_place, diagonal_bytes-parts}
 
 -- ---- the bytes of a lane
@@ -66,6 +69,13 @@ HasTaken-none s top step h =
       first = λ i k. get_or-replicate 32 i 0 0 k ∙ sym (ap first_syndrome (none i k) ∙ first_syndrome-nil);
       second = λ i k. get_or-replicate 32 i 0 0 k ∙ sym (ap second_syndrome (none i k) ∙ second_syndrome-nil);
     }
+
+-- the weighted sum of a lane that has not begun
+pub weighted-unbegun : (s : List ℕ) (top step : ℕ) (plain weighted : List ℕ) → HasTaken s top step plain weighted
+    → (i : ℕ) → i < 32 → step + i / 2 < top → get_or weighted i 0 ≡ 0
+weighted-unbegun s top step plain weighted sums i h before =
+    let none : step - (top - i / 2) ≡ 0 = omega arith in
+    sums.second i h ∙ ap (λ n. second_syndrome (take n (bytes_at s (diagonal_input (i % 2) (top - i / 2))))) none ∙ second_syndrome-nil
 
 -- one step: a lane takes its byte, or stays
 pub HasTaken-step : (s : List ℕ) (top step : ℕ) (plain weighted next next_weighted : List ℕ) → AreBytes s → 15 ≤ top
@@ -252,6 +262,26 @@ taking-no k h (inr past) =
     taking-entry k h
     ∙ cond-false (nat_lt k 30) 0 (if nat_lt k 116 then 255 else 0) (le-ltb k 30 (omega arith))
     ∙ cond-false (nat_lt k 116) 255 0 (le-ltb k 116 past)
+
+-- lanes under a mask
+masked_lane : (lanes taking : List ℕ) → length lanes ≡ 32 → length taking ≡ 32 → (i : ℕ) → i < 32
+    → get_or (zip2 bit_and lanes taking) i 0 ≡ bit_and (get_or lanes i 0) (get_or taking i 0)
+masked_lane lanes taking hl ht i h = get_or-zip2 bit_and lanes taking i 0 0 0 (omega arith) (omega arith)
+
+pub masked-takes : (lanes taking : List ℕ) → length lanes ≡ 32 → length taking ≡ 32 → Each1 (Fits w8) lanes
+    → (i : ℕ) → i < 32 → get_or taking i 0 ≡ 255 → get_or (zip2 bit_and lanes taking) i 0 ≡ get_or lanes i 0
+masked-takes lanes taking hl ht fits i h e =
+    let x = get_or lanes i 0 in
+    let small : x < 256 = Each1-get_or (λ n. n < 256) lanes i 0 (omega arith) (below_from_Fits w8 lanes fits) in
+    let whole : x % 256 ≡ x = omega arith in
+    masked_lane lanes taking hl ht i h ∙ ap (bit_and x) e ∙ and_mask x 8 ∙ whole
+
+pub masked-leaves : (lanes taking : List ℕ) → length lanes ≡ 32 → length taking ≡ 32
+    → (i : ℕ) → i < 32 → get_or taking i 0 ≡ 0 → get_or (zip2 bit_and lanes taking) i 0 ≡ 0
+masked-leaves lanes taking hl ht i h e =
+    let x = get_or lanes i 0 in
+    let none : x % 1 ≡ 0 = omega arith in
+    masked_lane lanes taking hl ht i h ∙ ap (bit_and x) e ∙ and_mask x 0 ∙ none
 
 abbrev is_rising : ℕ → Bool
 is_rising i = get_or RISING i 0 == 2 * (15 - i / 2) + i % 2

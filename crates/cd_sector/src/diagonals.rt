@@ -71,12 +71,13 @@ impl Diagonals {
         }
     }
 
-    /// The steps up to `end` within a turn of 26 rows, at which some diagonals have not begun or have ended.
+    /// The steps up to `end` within a turn of 26 rows, at which some diagonals have not begun and none has ended. The
+    /// sums of those that have not begun are `00`, which a step with a byte `00` leaves as they are.
     #[inline(always)]
-    fn at_the_ends(self, bytes: &[u8; SECTOR_SIZE], end: usize) -> Self
+    fn at_the_beginning(self, bytes: &[u8; SECTOR_SIZE], end: usize) -> Self
         requires forward { self.step ≤ end }
         requires turn { end ≤ 26 * (self.step / 26) + 26 }
-        requires most { end ≤ self.top + 43 }
+        requires running { end ≤ self.top + 28 }
         requires taken { HasTaken bytes.now self.top self.step self.sums.plain self.sums.weighted }
         ensures top { result.top ≡ self.top }
         ensures step { result.step ≡ end }
@@ -86,7 +87,7 @@ impl Diagonals {
         let mut sums = self.sums;
         for step in self.step..end {
             let lanes = window(bytes, self.top, step, step - 26 * turn);
-            sums = sums.with_lanes_where(lanes, taking(step + 15 - self.top));
+            sums = sums.with_lanes(masked(lanes, taking(step + 15 - self.top)));
         }
         Diagonals {
             top: self.top,
@@ -111,6 +112,31 @@ impl Diagonals {
         let mut sums = self.sums;
         for step in self.step..end {
             sums = sums.with_lanes(window(bytes, self.top, step, step - 26 * turn));
+        }
+        Diagonals {
+            top: self.top,
+            step: end,
+            sums,
+        }
+    }
+
+    /// The steps up to `end` within a turn of 26 rows, at which some diagonals have not begun or have ended. The sums of
+    /// those that have ended stay as they are.
+    #[inline(always)]
+    fn at_the_end(self, bytes: &[u8; SECTOR_SIZE], end: usize) -> Self
+        requires forward { self.step ≤ end }
+        requires turn { end ≤ 26 * (self.step / 26) + 26 }
+        requires most { end ≤ self.top + 43 }
+        requires taken { HasTaken bytes.now self.top self.step self.sums.plain self.sums.weighted }
+        ensures top { result.top ≡ self.top }
+        ensures step { result.step ≡ end }
+        ensures taken { HasTaken bytes.now result.top end result.sums.plain result.sums.weighted }
+    {
+        let turn = self.step / 26;
+        let mut sums = self.sums;
+        for step in self.step..end {
+            let lanes = window(bytes, self.top, step, step - 26 * turn);
+            sums = sums.with_lanes_where(lanes, taking(step + 15 - self.top));
         }
         Diagonals {
             top: self.top,
@@ -155,6 +181,15 @@ fn taking(k: usize) -> u8x32
     lanes_at(&TAKING, 2 * k)
 }
 
+/// Lanes, and `00` where `taking` is `00`; elsewhere it is `FF`.
+#[inline(always)]
+fn masked(lanes: u8x32, taking: u8x32) -> u8x32
+    ensures takes { (i : ℕ) → i < 32 → slice_index taking i ≡ 255 → slice_index result i ≡ slice_index lanes i }
+    ensures leaves { (i : ℕ) → i < 32 → slice_index taking i ≡ 0 → slice_index result i ≡ 0 }
+{
+    lanes & taking
+}
+
 /// Sixteen pairs of lanes, the last one first.
 fn turned(v: u8x32) -> u8x32
     ensures { (i : ℕ) → i < 32 → slice_index result i ≡ slice_index v (2 * (15 - i / 2) + i % 2) }
@@ -163,13 +198,18 @@ fn turned(v: u8x32) -> u8x32
 }
 
 /// The syndromes of the first 43 bytes of diagonals 0 to 15. Those of diagonals 10 to 15 are left unfinished.
+///
+/// Where few diagonals take a byte the steps are parted in two, here and below: a loop so short is written out, with
+/// its masks as constants, and a register of which no lane takes a byte is left out.
 pub(crate) fn low_input_sums(bytes: &[u8; SECTOR_SIZE]) -> LaneSums
     ensures { SumsOf (λ i. bytes_at bytes.now (diagonal_input (i % 2) (i / 2))) 20 result.plain result.weighted }
 {
     Diagonals::low(bytes)
-        .at_the_ends(bytes, 26)
+        .at_the_beginning(bytes, 8)
+        .at_the_beginning(bytes, 15)
+        .in_the_middle(bytes, 26)
         .in_the_middle(bytes, 43)
-        .at_the_ends(bytes, 52)
+        .at_the_end(bytes, 52)
         .rising()
 }
 
@@ -178,9 +218,13 @@ pub(crate) fn high_input_sums(bytes: &[u8; SECTOR_SIZE]) -> LaneSums
     ensures { SumsOf (λ i. bytes_at bytes.now (diagonal_input ((20 + i) % 2) ((20 + i) / 2))) 32 result.plain result.weighted }
 {
     Diagonals::high(bytes)
-        .at_the_ends(bytes, 26)
+        .at_the_beginning(bytes, 18)
+        .at_the_beginning(bytes, 25)
+        .in_the_middle(bytes, 26)
         .in_the_middle(bytes, 52)
-        .at_the_ends(bytes, 68)
+        .in_the_middle(bytes, 53)
+        .at_the_end(bytes, 61)
+        .at_the_end(bytes, 68)
         .rising()
 }
 

@@ -1,5 +1,5 @@
 use Rattle.cd_sector.specs.DiagonalSteps.{HasTaken}
-use Rattle.cd_sector.proofs.diagonals.Diagonals.at_the_ends.Given as goal
+use Rattle.cd_sector.proofs.diagonals.Diagonals.at_the_beginning.Given as goal
 
 abbrev pub invariant-loop-step : goal.invariant-loop-step
 invariant-loop-step l = HasTaken l.bytes l.self.top l.step l.sums.plain l.sums.weighted

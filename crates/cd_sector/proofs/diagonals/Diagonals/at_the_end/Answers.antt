@@ -1,7 +1,7 @@
 use Rattle.std.proofs.Common.{◌+◌, ◌-◌, ◌/◌, ◌<◌, ◌≤◌, ◌⊎◌, inl, inr, get_or, bit_xor, ap, ◌∙◌, arith}
 use Rattle.cd_code.specs.Field.{double}
 use Rattle.cd_sector.proofs.DiagonalLemmas.{HasTaken-step}
-use Rattle.cd_sector.proofs.diagonals.Diagonals.at_the_ends.Goals as goal
+use Rattle.cd_sector.proofs.diagonals.Diagonals.at_the_end.Goals as goal
 
 pub loop-step-preserved : goal.loop-step-preserved
 loop-step-preserved c =
