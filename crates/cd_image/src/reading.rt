@@ -5,7 +5,7 @@ ghost use Rattle.cd_image.specs.Reading.{ReadsSector};
 
 use crate::MAX_SECTORS;
 use crate::fault::Fault;
-use cd_sector::SECTOR_SIZE;
+use cd_sector::{SECTOR_SIZE, Sector};
 use cd_stream::{Source, fill};
 
 /// Reads the next sector of an image, behind `count` others, to `bytes`. Where the image has ended, the answer is the
@@ -28,6 +28,19 @@ pub(crate) fn read_sector<I: Source>(
         return Ok(Some(length));
     }
     Ok(None)
+}
+
+/// The same to a sector, in the place of its bytes. Where the image has ended or failed, some of them are another's.
+pub(crate) fn read_into<I: Source>(
+    image: &mut I,
+    count: u32,
+    sector: &mut Sector,
+) -> Result<Option<usize>, Fault>
+    requires countable { (I.seen image.old).failures < 4294967295 }
+    requires few { count ≤ MAX_SECTORS }
+    ensures { ReadsSector count sector.new (I.seen image.old) (I.seen image.new) result }
+{
+    sector.read_with(image, |image, bytes| read_sector(image, count, bytes))
 }
 
 /// Behind the last sector that an image may have: reads a byte more, which must not come.

@@ -7,8 +7,8 @@ ghost use Rattle.cd_stream.specs.Transfer.{Counts};
 
 use crate::MAX_SECTORS;
 use crate::fault::Fault;
-use crate::reading::read_sector;
-use cd_sector::{SECTOR_SIZE, Sector};
+use crate::reading::read_into;
+use cd_sector::Sector;
 use cd_stream::{Sink, SinkFailed, Source};
 
 /// What is told of an image while its sectors are read.
@@ -64,11 +64,11 @@ pub(crate) fn tell<I: Source, T: Teller, O: Sink>(
     requires nothing_due { (T.to_tell teller.old 0).lines [] ≡ [] }
     ensures { Reports (telling_of (T.to_tell teller.old 0)) (I.seen image.old) (I.seen image.new) (O.seen out.old) (O.seen out.new) result }
 {
-    let mut bytes = [0; SECTOR_SIZE];
+    let mut sector = Sector::default();
     let mut count = 0;
     loop {
-        match read_sector(image, count, &mut bytes)? {
-            None => teller.take_sector(count, &Sector::from_bytes(bytes), out)?,
+        match read_into(image, count, &mut sector)? {
+            None => teller.take_sector(count, &sector, out)?,
             Some(length) => return Ok(teller.close(count, length as u16, out)?),
         }
         count += 1;

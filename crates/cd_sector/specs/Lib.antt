@@ -6,3 +6,4 @@ pub mod Defect
 pub mod DiagonalSteps
 pub mod Kind
 pub mod Laws
+pub mod Reads

@@ -4,6 +4,7 @@
 ghost use Rattle.std.specs.Prelude.{◌≡◌, ◌<◌, List, ℕ, length, replicate, slice_index, slice_set};
 ghost use Rattle.cd_code.specs.Field.{AreBytes};
 ghost use Rattle.cd_sector.specs.Consistent.{header_of, user_of};
+ghost use Rattle.cd_sector.specs.Reads.{CanRead, Reads};
 
 use std::marker::Model;
 
@@ -90,6 +91,22 @@ impl Sector {
         self.bytes[place] = b;
     }
 
+    /// Has `read` read the 2352 bytes from a source, in the place where they stand, with no array beside the sector. The
+    /// answer is that of `read`.
+    #[inline(always)]
+    pub fn read_with<S, R, F: FnOnce(&mut S, &mut [u8; SECTOR_SIZE]) -> R>(
+        &mut self,
+        source: &mut S,
+        read: F,
+    ) -> R
+        requires { CanRead F.FnOnce read source.old self.old }
+        ensures { Reads F.FnOnce read source.old self.old result source.new self.new }
+    {
+        let result = read(source, &mut self.bytes);
+        are_bytes(&self.bytes);
+        result
+    }
+
     /// The 4 bytes of the header, bytes 12 to 15: minute, second and fraction in BCD, and the mode (ECMA-130, the
     /// clause on the digital data structure of sectors).
     pub fn header(&self) -> [u8; 4]
@@ -121,4 +138,12 @@ impl Default for Sector {
     {
         Sector::from_bytes([0; SECTOR_SIZE])
     }
+}
+
+/// Does nothing: its contract says of an array of bytes that each is below 256, whoever has written them.
+#[inline(always)]
+fn are_bytes(bytes: &[u8; SECTOR_SIZE])
+    ensures { AreBytes bytes.now }
+{
+    let _first = bytes[0];
 }

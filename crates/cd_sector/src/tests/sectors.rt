@@ -113,3 +113,18 @@ fn parity_of_a_foreign_front(rt: HostRuntime) {
     ];
     expect_parity(&rt, 2075, last);
 }
+
+#[test]
+fn a_sector_that_is_read_into(rt: HostRuntime) {
+    let mut sector = noise();
+    let mut source = 0x5A;
+    let first = sector.read_with(&mut source, |source, bytes| {
+        let first = bytes[12];
+        bytes[2351] = *source;
+        *source = 0xA5;
+        first
+    });
+    assert!(rt; first == 0x12 && source == 0xA5);
+    assert!(rt; sector.byte(2351) == 0x5A && sector.byte(2350) == noise().byte(2350));
+    assert_eq!(rt; sector.user(), noise().user());
+}
