@@ -2,9 +2,8 @@
 
 use super::run::expect;
 use super::script::is_line;
-use cd_jobs::{run_apply, run_audit, run_check};
-use cd_jobs::read_script;
 use cd_image::{SliceSink, SliceSource};
+use cd_jobs::{read_script, run_apply, run_audit, run_check};
 use cd_script::MAX_TEXT;
 use cd_sector::{Sector, address_of, encode};
 use std::process::Abort;

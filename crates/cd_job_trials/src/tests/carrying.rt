@@ -2,8 +2,8 @@
 
 use super::run::expect;
 use super::statuses::zeros_at;
-use cd_jobs::{run_apply, run_audit, run_check};
 use cd_image::{SliceSink, SliceSource};
+use cd_jobs::{run_apply, run_audit, run_check};
 use cd_script::{MAX_TEXT, Script, parse};
 use cd_sector::{Sector, encode};
 use std::alloc::Global;

@@ -4,9 +4,8 @@ ghost use Rattle.std.specs.Prelude.{⊤};
 
 use super::script::is_line;
 use super::statuses::{Unflushed, joined, zeros_at};
-use cd_jobs::{Host, NoFile};
-use cd_jobs::do_words;
 use cd_image::{SliceSink, SliceSource, ToWrite};
+use cd_jobs::{Host, NoFile, do_words};
 use std::test::Fail;
 
 /// Has an image and a script, makes a file that cannot pass anything on, and writes down what it is asked for. The

@@ -1,7 +1,7 @@
 //! The statuses of commands, and the lines of faults behind what went out.
 
-use cd_jobs::{run_audit, run_list};
 use cd_image::{FailAfter, SliceSink, SliceSource, ZeroSource};
+use cd_jobs::{run_audit, run_list};
 use cd_sector::{Sector, encode};
 use std::process::Abort;
 

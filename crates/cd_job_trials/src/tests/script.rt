@@ -1,7 +1,7 @@
 //! Scripts: the lines of their faults, and how a script's file is read.
 
-use cd_jobs::{load_script, read_script};
 use cd_image::{FailAfter, Short, Sink, SliceSink, SliceSource, Source, ZeroSource};
+use cd_jobs::{load_script, read_script};
 use cd_script::MAX_TEXT;
 use std::alloc::{AllocError, Global};
 use std::process::Abort;

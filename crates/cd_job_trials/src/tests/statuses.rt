@@ -3,8 +3,8 @@
 ghost use Rattle.std.specs.Prelude.{◌≤◌};
 
 use super::run::expect;
-use cd_jobs::{run_audit, run_list};
 use cd_image::{FailAfter, FromRead, MAX_BASE, SliceSink, SliceSource, ToWrite, ZeroSource};
+use cd_jobs::{run_audit, run_list};
 use cd_sector::{Sector, address_of, encode};
 use std::alloc::{AllocError, Global};
 use std::io::{self, ErrorKind, Read, Write};

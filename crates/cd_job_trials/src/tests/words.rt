@@ -2,9 +2,8 @@
 
 use super::script::{is_line, repeated};
 use super::statuses::{joined, mode2, zeros_at};
-use cd_jobs::do_words;
-use cd_jobs::System;
 use cd_image::SliceSink;
+use cd_jobs::{System, do_words};
 use cd_sector::{address_of, encode};
 use std::alloc::{AllocError, Global};
 use std::fs::{self, File};

@@ -3,8 +3,8 @@
 use super::patching::{expect_status, script_of};
 use super::run::expect;
 use super::statuses::{joined, zeros_at};
-use cd_jobs::run_list;
 use cd_image::{SliceSink, ZeroSource};
+use cd_jobs::run_list;
 use cd_sector::Sector;
 use std::test::Fail;
 

@@ -3,7 +3,9 @@
 ghost use Rattle.std.specs.Prelude.{◌≤◌};
 
 use super::images::sector;
-use cd_image::{AuditTally, FailAfter, Fault, MAX_BASE, Short, SliceSink, SliceSource, audit, list};
+use cd_image::{
+    AuditTally, FailAfter, Fault, MAX_BASE, Short, SliceSink, SliceSource, audit, list,
+};
 use cd_sector::{Sector, address_of, encode};
 use std::alloc::{AllocError, Global};
 use std::process::Abort;
