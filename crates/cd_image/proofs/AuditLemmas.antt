@@ -1,5 +1,5 @@
 -- An audit sector by sector, and that it tells what it should of the whole image.
-use Rattle.std.proofs.Common.{◌≡◌, ℕ, ◌+◌, ◌<◌, ◌≤◌, ◌==◌, Bool, true, false, not, ◌&&◌, ◌||◌, cond, count_by, List, [], ◌∷◌, ◌++◌, length, take, Option, None, Some, Result, refl, sym, ap, ◌∙◌, subst, arith, add-zero, zero-add, add_assoc, append-nil}
+use Rattle.std.proofs.Common.{◌≡◌, ℕ, ◌+◌, ◌<◌, ◌==◌, Bool, true, false, not, ◌&&◌, ◌||◌, cond, count_by, List, [], ◌∷◌, ◌++◌, length, take, Option, None, Some, Result, refl, sym, ap, ◌∙◌, subst, arith, add-zero, zero-add, add_assoc, append-nil}
 use Rattle.std.specs.List.{list_all}
 use Rattle.std.specs.Io.KnownBytes.{Appends}
 use Rattle.std.proofs.lemmas.Bool.Decides.{nat_tests}
@@ -104,24 +104,6 @@ counted_all-step tally block s others left =
 counted-sectors : (tally : AuditTally) (found : Option Findings) → (counted tally found).sectors ≡ tally.sectors + 1
 counted-sectors tally None = refl
 counted-sectors tally (Some found) = refl
-
-cond-le : (b : Bool) → cond b 1 0 ≤ 1
-cond-le true = omega arith
-cond-le false = omega arith
-
-pub IsTallyOf-counted : (tally : AuditTally) (found : Option Findings) (count : ℕ) → IsTallyOf tally count → IsTallyOf (counted tally found) (count + 1)
-IsTallyOf-counted tally None count is = record {
-  sectors = ap (λ n. n + 1) is.sectors;
-  mode1 = omega (arith, is.mode1);
-  damaged = omega (arith, is.damaged);
-  findings = omega (arith, is.findings);
-}
-IsTallyOf-counted tally (Some found) count is = record {
-  sectors = ap (λ n. n + 1) is.sectors;
-  mode1 = omega (arith, is.mode1);
-  damaged = omega (arith, is.damaged, cond-le (is_damage found.defect));
-  findings = omega (arith, is.findings, cond-le (is_any (Some found)));
-}
 
 -- a sector has one line at most
 one_line : (block : ℕ) (found : Option Findings) → 0 < length (text_of (line_of block found)) → (line : List ℕ) × (line_of block found ≡ line ∷ [])

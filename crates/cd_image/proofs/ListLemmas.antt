@@ -1,21 +1,17 @@
 -- A listing sector by sector, and that it tells what it should of the whole image.
-use Rattle.std.proofs.Common.{◌≡◌, ℕ, suc, ◌+◌, ◌≤◌, List, [], ◌∷◌, ◌++◌, length, map, Option, None, Some, Result, Ok, Err, refl, sym, ap, ◌∙◌, subst, arith, add-zero, zero-add, append-nil, append_assoc, IfSome}
+use Rattle.std.proofs.Common.{◌≡◌, ℕ, suc, ◌+◌, List, [], ◌∷◌, ◌++◌, length, map, Option, None, Some, Result, Ok, Err, refl, sym, ap, ◌∙◌, subst, arith, add-zero, zero-add, append-nil, append_assoc}
 use Rattle.cd_sector.specs.Kind.{kind_of}
 use Rattle.cd_stream.specs.Stream.{Outgoing}
 use Rattle.cd_stream.specs.declared.sink.SinkFailed.{SinkFailed}
 use Rattle.cd_image.specs.Image.{sectors, tail}
 use Rattle.cd_image.specs.Lines.{all_but_last, text_of}
 use Rattle.cd_image.specs.ListText.{list_end, listing, run_line, run_lines}
-use Rattle.cd_image.specs.OpenRun.{EndsBefore, open_first, open_kinds}
+use Rattle.cd_image.specs.OpenRun.{open_first, open_kinds}
 use Rattle.cd_image.specs.Runs.{Run, runs}
 use Rattle.cd_image.specs.Telling.{Finishes, HasFailed, HasFailedKind, HasTaken, HasTakenKind, Takes, TakesKind, ended_lines, last_line, list_to_tell, telling_of}
 use Rattle.cd_image.specs.declared.listing.ListTally.{ListTally}
 use Rattle.cd_image.specs.declared.listing.OpenRun.{OpenRun}
 use Rattle.cd_image.proofs.OpenRunLemmas.{nothing_ended}
-
-pub ordered_if_open : (run : Option OpenRun) (block : ℕ) → EndsBefore run block → IfSome run (λ r. r.first ≤ r.last)
-ordered_if_open None block ends = tt
-ordered_if_open (Some run) block ends = ends.0
 
 abbrev pub tally_of : ℕ → ℕ → ListTally
 tally_of count left = record { sectors = count; tail = left }

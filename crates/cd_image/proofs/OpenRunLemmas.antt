@@ -1,5 +1,5 @@
 -- What an open run and the kinds behind it make of the text.
-use Rattle.std.proofs.Common.{◌≡◌, ℕ, zero, suc, ◌+◌, ◌-◌, ◌<◌, ◌≤◌, List, [], ◌∷◌, ◌++◌, length, replicate, take, Option, None, Some, refl, sym, ap, ◌∙◌, subst, arith, append-nil}
+use Rattle.std.proofs.Common.{◌≡◌, ℕ, zero, suc, ◌+◌, ◌-◌, ◌<◌, ◌≤◌, List, [], ◌∷◌, ◌++◌, length, replicate, take, Option, Some, refl, sym, ap, ◌∙◌, subst, arith, append-nil}
 use Rattle.std.specs.Io.KnownBytes.{Appends}
 use Rattle.std.proofs.KnownBytes.{Appends-nil}
 use Rattle.cd_sector.specs.declared.kinds.SectorKind.{SectorKind}
@@ -115,13 +115,3 @@ module _ (given : Option OpenRun) (run : OpenRun) (is : given ≡ Some run) wher
 
       pub TakesKind-failed : (n : ℕ) × (n < length (line_of run)) × Appends old.written new.written (take n (line_of run)) → HasFailedKind given block kind old new
       TakesKind-failed went = subst (λ r. HasFailedKind r block kind old new) (sym is) (other_kind_failed run block kind ends old new other went)
-
--- the first sector
-pub TakesKind-first : (block : ℕ) (kind : SectorKind) (out : Outgoing) → HasTakenKind None (record { first = block; last = block; kind = kind }) block kind out out
-TakesKind-first block kind out = record {
-  sent = [];
-  appends = Appends-nil out.written;
-  ends = (omega arith, refl);
-  lines = λ others. ap (ended_lines block) (kinds-new block kind others);
-  end = λ others. ap (λ ks. last_line block (runs ks)) (kinds-new block kind others);
-}

@@ -1,7 +1,7 @@
 -- Beginnings of texts and of images, and how the end of a text goes out.
 use Rattle.std.proofs.Common.{◌≡◌, ℕ, ◌<◌, ◌≤◌, List, [], ◌∷◌, ◌++◌, length, drop, take, Option, None, Some, Ok, Err, true, sym, ap, ◌∙◌, append_assoc, append-nil, take-append-drop, take_all}
-use Rattle.std.specs.Io.KnownBytes.{Appends, Consumes, IsAtEnd, Keeps}
-use Rattle.std.proofs.KnownBytes.{Appends-kept, Appends-trans, Consumes-kept, Consumes-nil}
+use Rattle.std.specs.Io.KnownBytes.{Appends, IsAtEnd, Keeps}
+use Rattle.std.proofs.KnownBytes.{Appends-kept, Appends-trans}
 use Rattle.cd_image.specs.Image.{image_limit}
 use Rattle.cd_image.specs.Report.{Fits, FitsLeft}
 use Rattle.cd_image.specs.Telling.{Finishes}
@@ -38,10 +38,6 @@ module _ (X : Type 0) (rest last : List ℕ) where
 
     pub Finishes-whole : (x : X) → out'.finished ≡ true → Finishes {X = X} {E = SinkFailed} (rest ++ last) out out' (Ok x)
     Finishes-whole x done = (done, all_went)
-
--- a failed read has given nothing
-pub Consumes-none : (old new : Option (List ℕ)) → Keeps old new → Consumes old new []
-Consumes-none old new kept = Consumes-kept old old new [] (Consumes-nil old) kept
 
 -- a beginning of what comes behind
 pub IsBeginning-behind : (front part whole : List ℕ) → IsBeginning part whole → IsBeginning (front ++ part) (front ++ whole)

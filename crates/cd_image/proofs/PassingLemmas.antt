@@ -15,7 +15,7 @@ use Rattle.cd_patch.specs.Run.{PatchRun}
 use Rattle.cd_patch.specs.declared.outcome.Outcome.{Outcome}
 use Rattle.cd_patch.proofs.FrameLemmas.{Effect-frame, Effect-length, outcome-frame}
 use Rattle.cd_patch.proofs.RunLemmas.{PatchRun-append, PatchRun-lengths}
-use Rattle.cd_image.specs.Applying.{Failed, Streams}
+use Rattle.cd_image.specs.Applying.{Streams}
 use Rattle.cd_image.specs.Image.{image_limit}
 use Rattle.cd_image.specs.Passing.{Going, joined, missing, tail_read}
 use Rattle.cd_image.specs.PatchLog.{log_line, log_lines}
@@ -42,10 +42,6 @@ length-joined (s ∷ ss) each =
 
 AreSized-more : (whole : List (List ℕ)) (sector : List ℕ) → AreSized whole → length sector ≡ SECTOR_SIZE → AreSized (whole ++ sector ∷ [])
 AreSized-more whole sector each size = All-append (λ t. length t ≡ SECTOR_SIZE) whole (sector ∷ []) each (All-cons (λ t. length t ≡ SECTOR_SIZE) sector [] size (All-nil (λ t. length t ≡ SECTOR_SIZE)))
-
-pub Failed-none : (start now after : Streams) → Failed start now 0 0 0 → (reads writes logs : ℕ) → after.image.failures ≡ now.image.failures + reads → after.out.failures ≡ now.out.failures + writes
-    → after.log.failures ≡ now.log.failures + logs → Failed start after reads writes logs
-Failed-none start now after before reads writes logs r w l = record { reads = omega arith; writes = omega arith; logs = omega arith }
 
 -- behind the patches whose first block is below the image's
 pub Going-start : (carry : Bool) (taken left : List Patch) (base : ℕ) (start : Streams) (log : Outgoing) → All (λ p. p.block < base) taken → All (λ p. base ≤ p.block) left
