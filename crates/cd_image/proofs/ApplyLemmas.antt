@@ -15,14 +15,14 @@ use Rattle.cd_patch.specs.declared.outcome.Outcome.{Outcome}
 use Rattle.cd_patch.proofs.FrameLemmas.{outcome-frame}
 use Rattle.cd_patch.proofs.RunLemmas.{PatchRun-determined, PatchRun-split}
 use Rattle.cd_image.specs.Applying.{Applies, Streams}
-use Rattle.cd_image.specs.Image.{image_limit, sectors}
-use Rattle.cd_image.specs.Passing.{Going, joined, tail_bytes}
+use Rattle.cd_report.specs.Image.{image_limit, joined, sectors}
+use Rattle.cd_image.specs.Passing.{Going, tail_bytes}
 use Rattle.cd_image.specs.Patched.{IsPatched}
 use Rattle.cd_image.specs.PatchLog.{lines_below, log_line, log_lines, log_text, sent_beside}
-use Rattle.cd_image.specs.Report.{FitsLeft}
-use Rattle.cd_image.specs.declared.fault.Fault.TheVariants.{Log, Read, TooLong, Write}
+use Rattle.cd_report.specs.Report.{FitsLeft}
+use Rattle.cd_report.specs.declared.fault.Fault.TheVariants.{Log, Read, TooLong, Write}
 use Rattle.cd_image.proofs.KnownLemmas.{Extends, Extends-begun, IsBeginning-front, Known, begins_now, extends_left, joined-begins, known, lines-begin, lines-begin_within, told_lengths}
-use Rattle.cd_image.proofs.PassLemmas.{Fits-begins}
+use Rattle.cd_report.proofs.PassLemmas.{Fits-begins}
 use Rattle.cd_image.proofs.PassingLemmas.{joined-more, length-joined}
 use Rattle.cd_image.proofs.PatchLogLemmas.{bytes_before-within, lines_below-cut, log_beside-sector, sent_beside-behind, sent_beside-line}
 

@@ -8,12 +8,12 @@ use Rattle.cd_script.specs.declared.patch.Patch.{Patch}
 use Rattle.cd_image.specs.Applying.{Applies, Checks, HoldsFew, Streams, WritesCarried, WritesLog, WritesPatched}
 use Rattle.cd_image.specs.Patched.{IsPatched}
 use Rattle.cd_image.specs.PatchLog.{log_text, patch_tally}
-use Rattle.cd_image.specs.Report.{AnswersByLength, EndsWell, TellsTooLong}
-use Rattle.cd_image.specs.declared.fault.Fault.{Fault}
-use Rattle.cd_image.specs.declared.fault.Fault.TheVariants.{Log, Read, TooLong, Write}
+use Rattle.cd_report.specs.Report.{AnswersByLength, EndsWell, TellsTooLong}
+use Rattle.cd_report.specs.declared.fault.Fault.{Fault}
+use Rattle.cd_report.specs.declared.fault.Fault.TheVariants.{Log, Read, TooLong, Write}
 use Rattle.cd_image.specs.declared.patch_log.Tally.{Tally}
 use Rattle.cd_image.proofs.PatchedLemmas.{IsPatched-carries, IsPatched-determined}
-use Rattle.cd_image.proofs.ReportLemmas.{appended, beyond_by_length, consumed_all, consumed_length, ended_by_length, not_beyond, told_beyond}
+use Rattle.cd_report.proofs.ReportLemmas.{appended, beyond_by_length, consumed_all, consumed_length, ended_by_length, not_beyond, told_beyond}
 
 -- a sink that tells its bytes has these behind those that it had
 appended_length : (old new : Option (List ℕ)) (sent earlier now : List ℕ) → Appends old new sent → old ≡ Some earlier → new ≡ Some now → length now ≡ length earlier + length sent

@@ -10,20 +10,21 @@ use Rattle.cd_patch.specs.Run.{PatchRun}
 use Rattle.cd_patch.specs.declared.outcome.Outcome.{Outcome}
 use Rattle.cd_patch.proofs.RunLemmas.{PatchRun-append, PatchRun-determined, PatchRun-split}
 use Rattle.cd_image.specs.Applying.{Applies, Begins, Streams}
-use Rattle.cd_image.specs.Image.{image_limit, sectors, tail}
-use Rattle.cd_image.specs.Passing.{Going, joined, missing}
+use Rattle.cd_report.specs.Image.{image_limit, joined, sectors, tail}
+use Rattle.cd_image.specs.Passing.{Going, missing}
 use Rattle.cd_image.specs.Patched.{IsPatched}
 use Rattle.cd_image.specs.PatchLog.{applied_count, log_beside, log_end, log_lines, log_text, patch_tally, refused_count, sent_beside}
-use Rattle.cd_image.specs.Report.{FitsLeft}
-use Rattle.cd_image.specs.declared.fault.Fault.TheVariants.{Log, Write}
+use Rattle.cd_report.specs.Report.{FitsLeft}
+use Rattle.cd_report.specs.declared.fault.Fault.TheVariants.{Log, Write}
 use Rattle.cd_image.specs.declared.patch_log.Tally.{Tally}
 use Rattle.cd_patch.specs.Laws.{is_applied}
-use Rattle.cd_image.proofs.ImageLemmas.{cut_of_joined}
+use Rattle.cd_report.proofs.CountLemmas.{count_by-append}
+use Rattle.cd_report.proofs.ImageLemmas.{cut_of_joined}
 use Rattle.cd_image.proofs.KnownLemmas.{lines-begin_within, told_lengths}
-use Rattle.cd_image.proofs.PassLemmas.{FitsLeft-end}
+use Rattle.cd_report.proofs.PassLemmas.{FitsLeft-end}
 use Rattle.cd_image.proofs.PassingLemmas.{length-joined}
 use Rattle.cd_image.proofs.PatchedLemmas.{IsPatched-determined}
-use Rattle.cd_image.proofs.PatchLogLemmas.{PatchRun-missing, applied_count-missing, bytes_before-behind, bytes_before-below, count_by-append, counts-all, length-missing, lines_below-cut, log_beside-end, log_beside-tail, log_lines-append, sent_beside-alike, sent_beside-behind, sent_beside-end}
+use Rattle.cd_image.proofs.PatchLogLemmas.{PatchRun-missing, applied_count-missing, bytes_before-behind, bytes_before-below, counts-all, length-missing, lines_below-cut, log_beside-end, log_beside-tail, log_lines-append, sent_beside-alike, sent_beside-behind, sent_beside-end}
 
 -- a tally by its four numbers
 abbrev pub tally : ℕ → ℕ → ℕ → ℕ → Tally

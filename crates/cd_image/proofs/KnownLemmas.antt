@@ -8,14 +8,14 @@ use Rattle.cd_patch.specs.Run.{PatchRun}
 use Rattle.cd_patch.specs.declared.outcome.Outcome.{Outcome}
 use Rattle.cd_patch.proofs.RunLemmas.{PatchRun-determined, PatchRun-front, PatchRun-lengths, PatchRun-split}
 use Rattle.cd_image.specs.Applying.{Begins, Streams}
-use Rattle.cd_image.specs.Image.{image_limit, sectors, tail}
-use Rattle.cd_image.specs.Passing.{Going, joined, tail_bytes}
+use Rattle.cd_report.specs.Image.{image_limit, joined, sectors, tail}
+use Rattle.cd_image.specs.Passing.{Going, tail_bytes}
 use Rattle.cd_image.specs.Patched.{IsPatched}
 use Rattle.cd_image.specs.PatchLog.{applied_count, log_end, log_lines, log_text, refused_count}
 use Rattle.cd_stream.specs.Stream.{IsBeginning}
-use Rattle.cd_image.specs.Report.{FitsLeft}
-use Rattle.cd_image.proofs.ImageLemmas.{IsCut-sectors, sectors-joined, sectors-short}
-use Rattle.cd_image.proofs.PassLemmas.{FitsLeft-begins, FitsLeft-end}
+use Rattle.cd_report.specs.Report.{FitsLeft}
+use Rattle.cd_report.proofs.ImageLemmas.{IsCut-sectors, sectors-joined, sectors-short}
+use Rattle.cd_report.proofs.PassLemmas.{FitsLeft-begins, FitsLeft-end}
 use Rattle.cd_image.proofs.PassingLemmas.{AreSized, joined-append}
 use Rattle.cd_image.proofs.PatchLogLemmas.{log_lines-append}
 

@@ -1,17 +1,8 @@
 pub mod ApplyLemmas
 pub mod ApplyReportLemmas
-pub mod AuditLemmas
 pub mod CloseLemmas
-pub mod ImageLemmas
 pub mod KnownLemmas
-pub mod LineCountLemmas
-pub mod ListLemmas
-pub mod OpenRunLemmas
-pub mod PassLemmas
 pub mod PassingLemmas
 pub mod PatchLogLemmas
 pub mod PatchedLemmas
-pub mod ReportLemmas
-pub mod RunLemmas
-pub mod TellingLemmas
 pub mod TurnLemmas

@@ -16,11 +16,11 @@ use Rattle.cd_patch.specs.declared.outcome.Outcome.{Outcome}
 use Rattle.cd_patch.proofs.FrameLemmas.{Effect-frame, Effect-length, outcome-frame}
 use Rattle.cd_patch.proofs.RunLemmas.{PatchRun-append, PatchRun-lengths}
 use Rattle.cd_image.specs.Applying.{Streams}
-use Rattle.cd_image.specs.Image.{image_limit}
-use Rattle.cd_image.specs.Passing.{Going, joined, missing, tail_read}
+use Rattle.cd_report.specs.Image.{image_limit, joined}
+use Rattle.cd_image.specs.Passing.{Going, missing, tail_read}
 use Rattle.cd_image.specs.PatchLog.{log_line, log_lines}
 use Rattle.cd_stream.specs.Stream.{Incoming, Outgoing}
-use Rattle.cd_image.proofs.AuditLemmas.{count_by-behind}
+use Rattle.cd_report.proofs.CountLemmas.{count_by-behind}
 use Rattle.cd_image.proofs.PatchLogLemmas.{PatchRun-missing, applied_count-missing, log_lines-append}
 
 pub joined-append : (front back : List (List ℕ)) → joined (front ++ back) ≡ joined front ++ joined back

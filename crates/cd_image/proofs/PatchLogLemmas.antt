@@ -17,10 +17,10 @@ use Rattle.cd_patch.specs.Run.{PatchRun}
 use Rattle.cd_patch.specs.declared.outcome.Outcome.{Outcome}
 use Rattle.cd_patch.specs.declared.outcome.Outcome.TheVariants.{NoBlock}
 use Rattle.cd_patch.proofs.FrameLemmas.{Effect-missing, outcome-missing}
-use Rattle.cd_image.specs.Image.{sectors}
+use Rattle.cd_report.specs.Image.{sectors}
 use Rattle.cd_image.specs.Passing.{missing}
 use Rattle.cd_image.specs.PatchLog.{applied_count, bytes_before, lines_below, log_beside, log_line, log_lines, log_text, refused_count, sent_beside}
-use Rattle.cd_image.proofs.AuditLemmas.{count_by-first}
+use Rattle.cd_report.proofs.CountLemmas.{count_by-first}
 
 pub log_lines-append : (ps qs : List Patch) (os us : List Outcome) → length os ≡ length ps → log_lines (ps ++ qs) (os ++ us) ≡ log_lines ps os ++ log_lines qs us
 log_lines-append [] qs [] us same = refl
@@ -160,9 +160,6 @@ length-missing (p ∷ ps) = ap suc (length-missing ps)
 pub applied_count-missing : (ps : List Patch) → applied_count (missing ps) ≡ 0
 applied_count-missing [] = refl
 applied_count-missing (p ∷ ps) = applied_count-missing ps
-
-pub count_by-append : {X : Type 0} (p : X → Bool) (xs ys : List X) → count_by p (xs ++ ys) ≡ count_by p xs + count_by p ys
-count_by-append p xs ys = sum_by-append (λ x. cond (p x) 1 0) xs ys
 
 -- each outcome is an acceptance or a refusal
 pub counts-all : (os : List Outcome) → applied_count os + refused_count os ≡ length os

@@ -16,10 +16,9 @@ use Rattle.cd_patch.proofs.CarryLemmas.{never-damaged}
 use Rattle.cd_patch.proofs.ExistenceLemmas.{run-exists}
 use Rattle.cd_patch.proofs.LeavesLemmas.{run-leaves_others}
 use Rattle.cd_patch.proofs.RunLemmas.{PatchRun-determined}
-use Rattle.cd_image.specs.Image.{sectors, tail}
+use Rattle.cd_report.specs.Image.{joined, sectors, tail}
 use Rattle.cd_image.specs.Patched.{CarriesDamage, IsPatched}
-use Rattle.cd_image.specs.Passing.{joined}
-use Rattle.cd_image.proofs.ImageLemmas.{IsCut-sectors, cut_of_joined}
+use Rattle.cd_report.proofs.ImageLemmas.{IsCut-sectors, cut_of_joined}
 
 pub IsPatched-determined : (carry : Bool) (patches : List Patch) (os os' : List Outcome) (base : ℕ) (image last last' : List ℕ) → IsPatched carry patches os base image last → IsPatched carry patches os' base image last'
     → (os ≡ os') × (last ≡ last')

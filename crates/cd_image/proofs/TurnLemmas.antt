@@ -13,9 +13,9 @@ use Rattle.cd_script.specs.declared.patch.Patch.{Patch}
 use Rattle.cd_sector.specs.declared.sector.TheConstants.{SECTOR_SIZE}
 use Rattle.cd_image.specs.Applying.{Applies, Streams}
 use Rattle.cd_image.specs.Passing.{GoesOn, Going, HasShortTail, IsEnded, Steps, StepsOrTakes, Turns, tail_read}
-use Rattle.cd_image.specs.Reading.{EndComes, ReadsSector, SectorComes}
-use Rattle.cd_image.specs.declared.fault.Fault.{Fault}
-use Rattle.cd_image.specs.declared.fault.Fault.TheVariants.{Log, Read, TooLong, Write}
+use Rattle.cd_report.specs.Reading.{EndComes, ReadsSector, SectorComes}
+use Rattle.cd_report.specs.declared.fault.Fault.{Fault}
+use Rattle.cd_report.specs.declared.fault.Fault.TheVariants.{Log, Read, TooLong, Write}
 use Rattle.cd_image.specs.declared.pass.Pass.{Pass}
 use Rattle.cd_image.proofs.ApplyLemmas.{Applies-beyond, Applies-read, Applies-write}
 use Rattle.cd_image.specs.PatchLog.{log_end}

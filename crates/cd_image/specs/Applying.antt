@@ -4,13 +4,13 @@ use Rattle.std.specs.Io.KnownBytes.{Appends, Consumes, IsAtEnd}
 use Rattle.cd_code.specs.Field.{AreBytes}
 use Rattle.cd_script.specs.declared.patch.Patch.{Patch}
 use Rattle.cd_patch.specs.declared.outcome.Outcome.{Outcome}
-use Rattle.cd_image.specs.Image.{image_limit}
+use Rattle.cd_report.specs.Image.{image_limit}
 use Rattle.cd_image.specs.PatchLog.{log_beside, log_text, patch_tally, sent_beside}
 use Rattle.cd_image.specs.Patched.{CarriesDamage, EachRun, IsPatched}
 use Rattle.cd_stream.specs.Stream.{Incoming, IsBeginning, Outgoing}
-use Rattle.cd_image.specs.Report.{Fits, FitsLeft}
-use Rattle.cd_image.specs.declared.fault.Fault.{Fault}
-use Rattle.cd_image.specs.declared.fault.Fault.TheVariants.{Log, Read, TooLong, Write}
+use Rattle.cd_report.specs.Report.{Fits, FitsLeft}
+use Rattle.cd_report.specs.declared.fault.Fault.{Fault}
+use Rattle.cd_report.specs.declared.fault.Fault.TheVariants.{Log, Read, TooLong, Write}
 use Rattle.cd_image.specs.declared.patch_log.Tally.{Tally}
 
 -- what a contract sees of an image, an output and a log

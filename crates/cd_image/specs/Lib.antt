@@ -1,13 +1,4 @@
 pub mod Applying
-pub mod AuditText
-pub mod Image
-pub mod Lines
-pub mod ListText
-pub mod OpenRun
 pub mod Passing
 pub mod PatchLog
 pub mod Patched
-pub mod Reading
-pub mod Report
-pub mod Runs
-pub mod Telling

@@ -1,21 +1,16 @@
 -- How far a pass over an image has come that takes patches on its way: inner words of `apply` and `check`.
 use Rattle.std.specs.Prelude.{◌≡◌, ℕ, ◌+◌, ◌-◌, ◌*◌, ◌<◌, ◌≤◌, ◌⊎◌, Bool, List, [], ◌∷◌, ◌++◌, All, length, take, drop, map, Option, None, Some, IfSome, IsSome, Result, Ok, Err}
 use Rattle.std.specs.Io.KnownBytes.{Appends, Consumes, IsAtEnd}
-use Rattle.std.specs.List.{flat_map}
 use Rattle.cd_script.specs.declared.patch.Patch.{Patch}
 use Rattle.cd_sector.specs.declared.sector.TheConstants.{SECTOR_SIZE}
 use Rattle.cd_patch.specs.Run.{PatchRun}
 use Rattle.cd_patch.specs.declared.outcome.Outcome.{Outcome}
 use Rattle.cd_patch.specs.declared.outcome.Outcome.TheVariants.{NoBlock}
 use Rattle.cd_image.specs.Applying.{Applies, Failed, Streams}
-use Rattle.cd_image.specs.Image.{image_limit}
+use Rattle.cd_report.specs.Image.{image_limit, joined}
 use Rattle.cd_image.specs.PatchLog.{applied_count, log_lines}
-use Rattle.cd_image.specs.declared.fault.Fault.{Fault}
+use Rattle.cd_report.specs.declared.fault.Fault.{Fault}
 use Rattle.cd_image.specs.declared.pass.Pass.{Pass}
-
--- the bytes of sectors
-abbrev pub joined : List (List ℕ) → List ℕ
-joined whole = flat_map (λ sector. sector) whole
 
 -- the tail, once it was read
 abbrev pub tail_bytes : Option (List ℕ) → List ℕ

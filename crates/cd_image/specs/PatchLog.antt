@@ -5,7 +5,7 @@ use Rattle.cd_sector.specs.declared.sector.TheConstants.{SECTOR_SIZE}
 use Rattle.cd_patch.specs.Laws.{is_applied}
 use Rattle.cd_patch.specs.declared.outcome.Outcome.{Outcome}
 use Rattle.cd_patch.specs.declared.outcome.Outcome.TheVariants.{Applied, Damaged, Differs, NoBlock, NotMode1}
-use Rattle.cd_image.specs.Image.{sectors, tail}
+use Rattle.cd_report.specs.Image.{sectors, tail}
 use Rattle.cd_image.specs.declared.patch_log.Tally.{Tally}
 
 unfoldable pub outcome_text : Outcome → List ℕ

@@ -7,7 +7,7 @@ use Rattle.cd_patch.specs.Laws.{LeavesOthers}
 use Rattle.cd_patch.specs.Run.{PatchRun}
 use Rattle.cd_patch.specs.declared.outcome.Outcome.{Outcome}
 use Rattle.cd_patch.specs.declared.outcome.Outcome.TheVariants.{Damaged}
-use Rattle.cd_image.specs.Image.{sectors, tail}
+use Rattle.cd_report.specs.Image.{sectors, tail}
 
 -- taken in order on an image whose first block is `base`, with damage carried or not, the patches have these outcomes and leave the image `last`
 pub record IsPatched (carry : Bool) (patches : List Patch) (outcomes : List Outcome) (base : ℕ) (image last : List ℕ) : Type 0 where

@@ -3,14 +3,13 @@
 ghost use Rattle.std.specs.Prelude.{◌≡◌, ◌≢◌, ◌+◌, ◌<◌, ◌≤◌, ◌↔◌, All, IfOk, OnOk, drop, length, take, true};
 ghost use Rattle.std.specs.List.Sorted.{IsNonDecreasingBy};
 ghost use Rattle.cd_script.specs.Patch.{IsPatch};
-ghost use Rattle.cd_image.specs.Report.{AnswersByLength, EndsWell, TellsTooLong};
+ghost use Rattle.cd_report.specs.Report.{AnswersByLength, EndsWell, TellsTooLong};
 ghost use Rattle.cd_image.specs.Applying.{Applies, Checks, HoldsFew, WritesCarried, WritesLog, WritesPatched, streams};
 
-use crate::MAX_BASE;
 use crate::discard::Discard;
-use crate::fault::Fault;
 use crate::pass::Pass;
 use crate::patch_log::{Tally, send_missing};
+use cd_report::{Fault, MAX_BASE};
 use cd_script::{Patch, Script};
 use cd_stream::{Sink, Source};
 

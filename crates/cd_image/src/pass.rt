@@ -11,11 +11,10 @@ ghost use Rattle.cd_stream.specs.Transfer.{Flushes};
 ghost use Rattle.cd_image.specs.Applying.{Applies, Streams, streams};
 ghost use Rattle.cd_image.specs.Passing.{GoesOn, HasShortTail, IsEnded, Steps, StepsOrTakes, Turns, left_to_do};
 
-use crate::fault::Fault;
 use crate::patch_log::{Tally, finish_log, send_counts, send_missing, send_outcome};
-use crate::reading::read_sector;
 use crate::window::Window;
 use cd_patch::{Outcome, blocks_met};
+use cd_report::{Fault, read_sector};
 use cd_script::Patch;
 use cd_sector::{SECTOR_SIZE, Sector};
 use cd_stream::{Sink, SinkFailed, Source, write_all};

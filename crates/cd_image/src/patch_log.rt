@@ -2,13 +2,14 @@
 
 ghost use Rattle.std.specs.Prelude.{◌≡◌, ◌+◌, ◌<◌, ◌≤◌, ◌++◌, length};
 ghost use Rattle.cd_stream.specs.Transfer.{Flushes, Sends};
+ghost use Rattle.cd_report.specs.declared.fault.Fault.TheVariants.{Log};
 ghost use Rattle.cd_image.specs.Passing.{missing};
 ghost use Rattle.cd_image.specs.PatchLog.{log_end, log_line, log_lines, outcome_text};
 
-use crate::fault::LogFailed;
 use cd_patch::Outcome;
+use cd_report::Fault;
 use cd_script::Patch;
-use cd_stream::{Line, Sink, write_all};
+use cd_stream::{Line, Sink, SinkFailed, write_all};
 
 /// What became of the patches of a script, and what the image is.
 #[derive(Clone, Copy, Debug, PartialEq, Eq)]
@@ -21,6 +22,24 @@ pub struct Tally {
     pub sectors: u32,
     /// Bytes behind the last whole sector.
     pub tail: u16,
+}
+
+/// A write to the log failed, or its flush. The sink has counted it.
+#[derive(Clone, Copy, Debug)]
+pub(crate) struct LogFailed;
+
+impl From<SinkFailed> for LogFailed {
+    fn from(_: SinkFailed) -> Self {
+        LogFailed
+    }
+}
+
+impl From<LogFailed> for Fault {
+    ghost from_gives = { λ _ fault. fault ≡ Log };
+
+    fn from(_: LogFailed) -> Self {
+        Fault::Log
+    }
 }
 
 /// Puts what became of a patch behind the beginning of a line.

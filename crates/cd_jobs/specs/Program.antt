@@ -8,10 +8,10 @@ use Rattle.cd_command.specs.declared.fault.LineFault.TheVariants as line_fault
 use Rattle.cd_command.specs.declared.job.Job.{Job}
 use Rattle.cd_command.specs.declared.job.Job.TheVariants as job
 use Rattle.cd_image.specs.Applying.{Applies, Checks, streams}
-use Rattle.cd_image.specs.AuditText.{auditing}
-use Rattle.cd_image.specs.ListText.{listing}
-use Rattle.cd_image.specs.Report.{Reports, Telling}
-use Rattle.cd_image.specs.declared.fault.Fault.TheVariants.{Log, Write}
+use Rattle.cd_report.specs.AuditText.{auditing}
+use Rattle.cd_report.specs.ListText.{listing}
+use Rattle.cd_report.specs.Report.{Reports, Telling}
+use Rattle.cd_report.specs.declared.fault.Fault.TheVariants.{Log, Write}
 use Rattle.cd_script.specs.Order.{order}
 use Rattle.cd_script.specs.Script.{script}
 use Rattle.cd_script.specs.declared.fault.ScriptFault.{ScriptFault}

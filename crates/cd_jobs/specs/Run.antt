@@ -3,13 +3,13 @@ use Rattle.std.specs.Prelude.{◌≡◌, ◌≢◌, ℕ, ◌==◌, ◌+◌, ◌<
 use Rattle.std.specs.Io.KnownBytes.{Appends}
 use Rattle.cd_stream.specs.Stream.{Incoming, IsBeginning, Outgoing}
 use Rattle.cd_script.specs.declared.patch.Patch.{Patch}
-use Rattle.cd_image.specs.Image.{image_limit}
+use Rattle.cd_report.specs.Image.{image_limit}
 use Rattle.cd_image.specs.PatchLog.{log_text, patch_tally}
 use Rattle.cd_image.specs.Patched.{EachRun}
-use Rattle.cd_image.specs.Report.{Telling}
-use Rattle.cd_image.specs.declared.auditing.AuditTally.{AuditTally}
-use Rattle.cd_image.specs.declared.fault.Fault.{Fault}
-use Rattle.cd_image.specs.declared.fault.Fault.TheVariants.{Log, Read, TooLong, Write}
+use Rattle.cd_report.specs.Report.{Telling}
+use Rattle.cd_report.specs.declared.auditing.AuditTally.{AuditTally}
+use Rattle.cd_report.specs.declared.fault.Fault.{Fault}
+use Rattle.cd_report.specs.declared.fault.Fault.TheVariants.{Log, Read, TooLong, Write}
 use Rattle.cd_image.specs.declared.patch_log.Tally.{Tally}
 
 -- the line of a fault; a log that failed has none

@@ -2,8 +2,8 @@
 
 ghost use Rattle.std.specs.Prelude.{◌≡◌, ◌<◌, ◌≤◌, IfOk, OnOk, map, string_bytes};
 ghost use Rattle.cd_command.specs.CommandLine.{base_in};
-ghost use Rattle.cd_image.specs.AuditText.{auditing};
-ghost use Rattle.cd_image.specs.ListText.{listing};
+ghost use Rattle.cd_report.specs.AuditText.{auditing};
+ghost use Rattle.cd_report.specs.ListText.{listing};
 ghost use Rattle.cd_jobs.specs.Program.{AppliesBy, AppliesImage, AppliesOn, ChecksBy, ChecksImage, DoesJob, DoesWords, Fails};
 ghost use Rattle.cd_jobs.specs.Program.{ReadsScript, TakesImage, TakesScript, Tells, TellsImage, hosting, missing_line};
 ghost use Rattle.cd_jobs.specs.Run.{audit_status};

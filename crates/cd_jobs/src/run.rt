@@ -2,9 +2,9 @@
 
 ghost use Rattle.std.specs.Prelude.{◌≡◌, ◌≢◌, ◌⊎◌, ◌<◌, ◌≤◌, true};
 ghost use Rattle.cd_image.specs.Applying.{Applies, Checks, HoldsFew, WritesCarried, WritesPatched, streams};
-ghost use Rattle.cd_image.specs.AuditText.{auditing};
-ghost use Rattle.cd_image.specs.ListText.{listing};
-ghost use Rattle.cd_image.specs.Report.{EndsWell, Reports};
+ghost use Rattle.cd_report.specs.AuditText.{auditing};
+ghost use Rattle.cd_report.specs.ListText.{listing};
+ghost use Rattle.cd_report.specs.Report.{EndsWell, Reports};
 ghost use Rattle.cd_stream.specs.Transfer.{Counts};
 ghost use Rattle.cd_jobs.specs.Run.{IsTooLong, Runs, SaysFault, SaysLine, TellsPatches, TellsText, audit_status, fault_line, script_status};
 

@@ -1,5 +1,0 @@
-use Rattle.cd_image.proofs.LineCountLemmas.{line_count-audit}
-use Rattle.cd_image.proofs.laws.audit_counts_lines.Goals as goal
-
-pub returns : goal.returns
-returns c = λ base image low few. line_count-audit base image low few

@@ -1,5 +1,0 @@
-use Rattle.cd_image.proofs.RunLemmas.{AreMaximal-runs, runs-only, spelled-runs}
-use Rattle.cd_image.proofs.laws.runs_spell_kinds.Goals as goal
-
-pub returns : goal.returns
-returns c = λ kinds. (spelled-runs kinds, AreMaximal-runs kinds, runs-only kinds)

@@ -1,0 +1,130 @@
+-- Runs of equal kinds.
+use Rattle.std.proofs.Common.{◌≡◌, ◌≢◌, ℕ, zero, suc, ◌+◌, true, false, List, [], ◌∷◌, ◌++◌, replicate, refl, sym, ap, ◌∙◌, subst, arith, add-one, cond, ◌<◌}
+use Rattle.std.proofs.lemmas.Bool.Decides.{nat_tests}
+use Rattle.cd_sector.specs.declared.kinds.SectorKind.{SectorKind}
+use Rattle.cd_sector.specs.declared.kinds.SectorKind.TheVariants.{NoSync, Mode0, Mode1, Mode2, Other}
+use Rattle.cd_report.specs.Runs.{Run, AreMaximal, number_of, put_before, runs, same_kind, spelled}
+
+-- the kind of a number
+kind_at : ℕ → SectorKind
+kind_at zero = NoSync
+kind_at (suc zero) = Mode0
+kind_at (suc (suc zero)) = Mode1
+kind_at (suc (suc (suc zero))) = Mode2
+kind_at (suc (suc (suc (suc n)))) = Other
+
+kind_at-number_of : (kind : SectorKind) → kind_at (number_of kind) ≡ kind
+unfolding kind_at
+kind_at-number_of NoSync = refl
+kind_at-number_of Mode0 = refl
+kind_at-number_of Mode1 = refl
+kind_at-number_of Mode2 = refl
+kind_at-number_of Other = refl
+
+pub same_kind-refl : (kind : SectorKind) → same_kind kind kind ≡ true
+same_kind-refl NoSync = refl
+same_kind-refl Mode0 = refl
+same_kind-refl Mode1 = refl
+same_kind-refl Mode2 = refl
+same_kind-refl Other = refl
+
+pub same_kind-true : (a b : SectorKind) → same_kind a b ≡ true → a ≡ b
+same_kind-true a b e =
+    let numbers : number_of a ≡ number_of b = grind (arith, nat_tests) in
+    sym (kind_at-number_of a) ∙ ap kind_at numbers ∙ kind_at-number_of b
+
+pub same_kind-false : (a b : SectorKind) → a ≢ b → same_kind a b ≡ false
+same_kind-false a b differ =
+    elim (same_kind a b) as (λ t. (same_kind a b ≡ t → t ≡ false)) [
+      | true ↦ λ e. absurd (differ (same_kind-true a b e))
+      | false ↦ λ _. refl
+    ] refl
+
+-- runs with one more kind before them begin with a run of that kind
+pub put_before-begins : (kind : SectorKind) (rs : List Run) → (count : ℕ) × (others : List Run) × (put_before kind rs ≡ record { kind = kind; count = count } ∷ others)
+put_before-begins kind [] = (1, [], refl)
+put_before-begins kind (run ∷ others) =
+    elim (same_kind kind run.kind) as (λ t. (count : ℕ) × (left : List Run) × (cond t (record { kind = kind; count = run.count + 1 } ∷ others) (record { kind = kind; count = 1 } ∷ run ∷ others) ≡ record { kind = kind; count = count } ∷ left)) [
+      | true ↦ (run.count + 1, others, refl)
+      | false ↦ (1, run ∷ others, refl)
+    ]
+
+-- kinds that don't go on with this one
+abbrev pub IsOther : SectorKind → List SectorKind → Type 0
+IsOther kind [] = Unit {0}
+IsOther kind (next ∷ others) = kind ≢ next
+
+put_before-other : (kind : SectorKind) (others : List SectorKind) → IsOther kind others → put_before kind (runs others) ≡ record { kind = kind; count = 1 } ∷ runs others
+put_before-other kind [] other = refl
+put_before-other kind (next ∷ others) other =
+    let begins = put_before-begins next (runs others) in
+    let joined : same_kind kind next ≡ false = same_kind-false kind next other in
+    subst (λ rs. put_before kind rs ≡ record { kind = kind; count = 1 } ∷ rs) (sym begins.2)
+    (ap (λ t. cond t (record { kind = kind; count = begins.0 + 1 } ∷ begins.1) (record { kind = kind; count = 1 } ∷ record { kind = next; count = begins.0 } ∷ begins.1)) joined)
+
+-- kinds of one run, and others behind it
+pub runs-run : (count : ℕ) (kind : SectorKind) (others : List SectorKind) → IsOther kind others
+    → runs (replicate (suc count) kind ++ others) ≡ record { kind = kind; count = suc count } ∷ runs others
+runs-run zero kind others other = put_before-other kind others other
+runs-run (suc count) kind others other =
+    ap (put_before kind) (runs-run count kind others other)
+    ∙ ap (λ t. cond t (record { kind = kind; count = suc count + 1 } ∷ runs others) (record { kind = kind; count = 1 } ∷ record { kind = kind; count = suc count } ∷ runs others)) (same_kind-refl kind)
+    ∙ ap (λ n. record { kind = kind; count = n } ∷ runs others) (add-one (suc count))
+
+spelled-put_before : (kind : SectorKind) (rs : List Run) → spelled (put_before kind rs) ≡ kind ∷ spelled rs
+spelled-put_before kind [] = refl
+spelled-put_before kind (run ∷ others) =
+    elim (same_kind kind run.kind) as (λ t. same_kind kind run.kind ≡ t
+    → spelled (cond t (record { kind = kind; count = run.count + 1 } ∷ others) (record { kind = kind; count = 1 } ∷ run ∷ others)) ≡ kind ∷ spelled (run ∷ others)) [
+      | true ↦ λ e. ap (λ n. replicate n kind ++ spelled others) (add-one run.count) ∙ ap (λ k. kind ∷ (replicate run.count k ++ spelled others)) (same_kind-true kind run.kind e)
+      | false ↦ λ _. refl
+    ] refl
+
+AreMaximal-put_before : (kind : SectorKind) (rs : List Run) → AreMaximal rs → AreMaximal (put_before kind rs)
+AreMaximal-put_before kind [] maximal = omega arith
+AreMaximal-put_before kind (run ∷ others) maximal =
+    elim (same_kind kind run.kind) as (λ t. same_kind kind run.kind ≡ t
+    → AreMaximal (cond t (record { kind = kind; count = run.count + 1 } ∷ others) (record { kind = kind; count = 1 } ∷ run ∷ others))) [
+      | true ↦ λ e. longer kind run others (same_kind-true kind run.kind e) maximal
+      | false ↦ λ e. (omega arith, λ same. absurd (differs kind run.kind e same), maximal)
+    ] refl
+  where
+    differs : (a b : SectorKind) → same_kind a b ≡ false → a ≡ b → ⊥
+    differs a b e same = let f : same_kind a a ≡ false = subst (λ k. same_kind a k ≡ false) (sym same) e in let g = same_kind-refl a in cc
+
+    longer : (kind : SectorKind) (run : Run) (others : List Run) → kind ≡ run.kind → AreMaximal (run ∷ others) → AreMaximal (record { kind = kind; count = run.count + 1 } ∷ others)
+    longer kind run [] e maximal = omega arith
+    longer kind run (next ∷ others) e maximal = (omega arith, subst (λ k. k ≢ next.kind) (sym e) maximal.1, maximal.2)
+
+pub spelled-runs : (kinds : List SectorKind) → spelled (runs kinds) ≡ kinds
+spelled-runs [] = refl
+spelled-runs (kind ∷ others) = spelled-put_before kind (runs others) ∙ ap (λ ks. kind ∷ ks) (spelled-runs others)
+
+pub AreMaximal-runs : (kinds : List SectorKind) → AreMaximal (runs kinds)
+AreMaximal-runs [] = tt
+AreMaximal-runs (kind ∷ others) = AreMaximal-put_before kind (runs others) (AreMaximal-runs others)
+
+-- ---- no other runs
+
+runs-one : (count : ℕ) (kind : SectorKind) (others : List SectorKind) → 0 < count → IsOther kind others → runs (replicate count kind ++ others) ≡ record { kind = kind; count = count } ∷ runs others
+runs-one zero kind others some other = absurd (omega arith)
+runs-one (suc count) kind others some other = runs-run count kind others other
+
+IsOther-replicate : (count : ℕ) (kind next : SectorKind) (others : List SectorKind) → 0 < count → kind ≢ next → IsOther kind (replicate count next ++ others)
+IsOther-replicate zero kind next others some differ = absurd (omega arith)
+IsOther-replicate (suc count) kind next others some differ = differ
+
+first_count : (run : Run) (others : List Run) → AreMaximal (run ∷ others) → 0 < run.count
+first_count run [] maximal = maximal
+first_count run (next ∷ others) maximal = maximal.0
+
+runs-spelled : (rs : List Run) → AreMaximal rs → runs (spelled rs) ≡ rs
+runs-spelled [] maximal = refl
+runs-spelled (run ∷ []) maximal = runs-one run.count run.kind [] maximal tt
+runs-spelled (run ∷ next ∷ others) maximal =
+    runs-one run.count run.kind (spelled (next ∷ others)) maximal.0
+    (IsOther-replicate next.count run.kind next.kind (spelled others) (first_count next others maximal.2) maximal.1)
+    ∙ ap (λ rs. run ∷ rs) (runs-spelled (next ∷ others) maximal.2)
+
+pub runs-only : (kinds : List SectorKind) (rs : List Run) → spelled rs ≡ kinds → AreMaximal rs → rs ≡ runs kinds
+runs-only kinds rs same maximal = sym (runs-spelled rs maximal) ∙ ap runs same

@@ -1,0 +1,9 @@
+pub mod AuditText
+pub mod Image
+pub mod Lines
+pub mod ListText
+pub mod OpenRun
+pub mod Reading
+pub mod Report
+pub mod Runs
+pub mod Telling

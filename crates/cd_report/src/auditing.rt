@@ -1,0 +1,160 @@
+//! The audit of an image: what is wrong with its Mode 1 sectors.
+
+ghost use Rattle.std.specs.Prelude.{◌≡◌, ◌+◌, ◌<◌, ◌≤◌, ◌↔◌, [], IfOk, OnOk};
+ghost use Rattle.cd_report.specs.AuditText.{audit_end, auditing};
+ghost use Rattle.cd_report.specs.Report.{AnswersByLength, EndsWell, Reports, TellsTooLong, WritesText};
+ghost use Rattle.cd_report.specs.Telling.{counted};
+ghost use Rattle.cd_stream.specs.Transfer.{Sends};
+
+use crate::fault::Fault;
+use crate::findings::{Findings, findings_of, is_any, is_damage, send_findings};
+use crate::telling::{Teller, tell};
+use crate::{MAX_BASE, MAX_SECTORS};
+use cd_sector::Sector;
+use cd_stream::{Line, Sink, SinkFailed, Source, write_all};
+
+/// What an audit has counted.
+#[derive(Clone, Copy, Debug, PartialEq, Eq)]
+pub struct AuditTally {
+    /// Whole sectors.
+    pub sectors: u32,
+    /// Sectors of Mode 1.
+    pub mode1: u32,
+    /// Sectors of Mode 1 with a defect.
+    pub damaged: u32,
+    /// Sectors of Mode 1 of which anything was told.
+    pub findings: u32,
+    /// Bytes behind the last whole sector.
+    pub tail: u16,
+}
+
+fn with_sector(tally: AuditTally, found: Option<Findings>) -> AuditTally
+    requires sectors { tally.sectors < MAX_SECTORS }
+    requires mode1 { tally.mode1 < MAX_SECTORS }
+    requires damaged { tally.damaged < MAX_SECTORS }
+    requires findings { tally.findings < MAX_SECTORS }
+    ensures { result ≡ counted tally found }
+{
+    match found {
+        None => AuditTally {
+            sectors: tally.sectors + 1,
+            ..tally
+        },
+        Some(found) => AuditTally {
+            sectors: tally.sectors + 1,
+            mode1: tally.mode1 + 1,
+            damaged: tally.damaged + u32::from(is_damage(&found.defect)),
+            findings: tally.findings + u32::from(is_any(&found)),
+            tail: tally.tail,
+        },
+    }
+}
+
+#[tactic(auto, unfolding(crate::specs::AuditText::audit_end))]
+fn send_end<O: Sink>(tally: AuditTally, out: &mut O) -> Result<(), SinkFailed>
+    requires { (O.seen out.old).failures < 4294967295 }
+    ensures { Sends (O.seen out.old) (O.seen out.new) (audit_end tally) result }
+{
+    let mut line = Line::new();
+    line.push_text(b"sectors ");
+    line.push_number(tally.sectors);
+    line.push_text(b" mode1 ");
+    line.push_number(tally.mode1);
+    line.push_text(b" damaged ");
+    line.push_number(tally.damaged);
+    line.push_text(b" tail ");
+    line.push_number(u32::from(tally.tail));
+    line.push_text(b"\n");
+    write_all(out, line.as_slice())
+}
+
+/// Audits an image whose first block is `base`.
+#[derive(Drop)]
+struct Auditor {
+    base: u32,
+    tally: AuditTally,
+}
+
+impl Teller for Auditor {
+    ghost use Rattle.std.specs.Prelude.{◌≤◌};
+    ghost use Rattle.cd_report.specs.Telling.{IsTallyOf, audit_to_tell};
+    ghost use Rattle.cd_report.specs.declared.TheConstants.{MAX_BASE};
+
+    type Tally = AuditTally;
+
+    ghost to_tell = { λ s count. audit_to_tell s.base s.tally };
+
+    ghost has_taken = { λ s count. (s.base ≤ MAX_BASE) × IsTallyOf s.tally count };
+
+    fn take_sector<O: Sink>(
+        &mut self,
+        count: u32,
+        sector: &Sector,
+        out: &mut O,
+    ) -> Result<(), SinkFailed> {
+        let block = self.base + count;
+        let found = findings_of(sector, block);
+        send_findings(block, found, out)?;
+        self.tally = with_sector(self.tally, found);
+        Ok(())
+    }
+
+    fn close<O: Sink>(
+        &mut self,
+        _count: u32,
+        tail: u16,
+        out: &mut O,
+    ) -> Result<AuditTally, SinkFailed> {
+        let tally = AuditTally { tail, ..self.tally };
+        send_end(tally, out)?;
+        out.finish()?;
+        Ok(tally)
+    }
+}
+
+// What `audit` does, as one fact.
+fn audit_whole<I: Source, O: Sink>(
+    image: &mut I,
+    base: u32,
+    out: &mut O,
+) -> Result<AuditTally, Fault>
+    requires base { base ≤ MAX_BASE }
+    requires image_countable { (I.seen image.old).failures < 4294967295 }
+    requires out_countable { (O.seen out.old).failures < 4294967295 }
+    ensures { Reports (auditing base) (I.seen image.old) (I.seen image.new) (O.seen out.old) (O.seen out.new) result }
+{
+    let tally = AuditTally {
+        sectors: 0,
+        mode1: 0,
+        damaged: 0,
+        findings: 0,
+        tail: 0,
+    };
+    tell(image, &mut Auditor { base, tally }, out)
+}
+
+/// Writes a line for each Mode 1 sector whose address or content is wrong, and a last line with the numbers of
+/// sectors, of Mode 1 sectors, of damaged ones and of bytes behind them.
+///
+/// `base` is the number of the first block. It holds one sector at a time and takes no memory. `Read` and
+/// `Write` come where the image or `out` has failed, `TooLong` where a byte was read behind the millionth
+/// sector.
+pub fn audit<I: Source, O: Sink>(image: &mut I, base: u32, out: &mut O) -> Result<AuditTally, Fault>
+    requires base { base ≤ MAX_BASE }
+    requires image_countable { (I.seen image.old).failures < 4294967295 }
+    requires out_countable { (O.seen out.old).failures < 4294967295 }
+
+    // The whole of it, also what stands after a fault.
+    ensures report { Reports (auditing base) (I.seen image.old) (I.seen image.new) (O.seen out.old) (O.seen out.new) result }
+
+    // What it says where nothing failed, and when each fault comes.
+    ensures text { IfOk result (WritesText (auditing base) (I.seen image.old) (I.seen image.new) (O.seen out.old) (O.seen out.new)) }
+    ensures ends_well { OnOk result (EndsWell (I.seen image.old) (I.seen image.new) (O.seen out.old) (O.seen out.new)) }
+    ensures read_failed { (result ≡ Err Fault.Read) ↔ ((I.seen image.new).failures ≡ (I.seen image.old).failures + 1) }
+    ensures write_failed { (result ≡ Err Fault.Write) ↔ ((O.seen out.new).failures ≡ (O.seen out.old).failures + 1) }
+    ensures too_long { TellsTooLong (I.seen image.old) (I.seen image.new) result }
+    ensures by_length { (I.seen image.new).failures ≡ (I.seen image.old).failures → (O.seen out.new).failures ≡ (O.seen out.old).failures
+        → AnswersByLength (I.seen image.old) result }
+{
+    audit_whole(image, base, out)
+}

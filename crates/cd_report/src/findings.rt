@@ -1,0 +1,115 @@
+//! What is found of one sector of an image, and its line.
+
+ghost use Rattle.std.specs.Prelude.{◌≡◌, ◌+◌, ◌<◌, ◌≤◌, ◌++◌, Some, length};
+ghost use Rattle.cd_sector.specs.Address.{address};
+ghost use Rattle.cd_sector.specs.Consistent.{header_of};
+ghost use Rattle.cd_report.specs.AuditText.{count_if, finding_line, findings_of, is_any, is_damage, is_other_address, line_of, name_if, report_of};
+ghost use Rattle.cd_report.specs.Lines.{text_of};
+ghost use Rattle.cd_stream.specs.Transfer.{Counts, Sends};
+
+use cd_sector::{DefectReport, Sector, SectorKind, address_of, defect, kind};
+use cd_stream::{LINE_SIZE, Line, Sink, SinkFailed, write_all};
+
+/// What is found of a Mode 1 sector.
+#[derive(Clone, Copy, Debug, PartialEq, Eq)]
+pub(crate) struct Findings {
+    /// The header's address is another than that of the block.
+    pub address: bool,
+    /// What is wrong with the sector.
+    pub defect: DefectReport,
+}
+
+/// What is found of the sector of a block; None where it is not of Mode 1.
+#[tactic(auto, unfolding(crate::specs::AuditText::findings_of))]
+pub(crate) fn findings_of(sector: &Sector, block: u32) -> Option<Findings>
+    ensures { result ≡ findings_of block sector.now }
+{
+    if kind(sector) != SectorKind::Mode1 {
+        return None;
+    }
+    Some(Findings {
+        address: has_other_address(sector, block),
+        defect: report_of(sector),
+    })
+}
+
+#[tactic(auto, unfolding(crate::specs::AuditText::report_of))]
+fn report_of(sector: &Sector) -> DefectReport
+    ensures { result ≡ report_of sector.now }
+{
+    defect(sector)
+}
+
+fn has_other_address(sector: &Sector, block: u32) -> bool
+    ensures { result ≡ is_other_address (address block) (header_of sector.now) }
+{
+    match address_of(block) {
+        Some(due) => !sector.header().starts_with(&due),
+        None => false,
+    }
+}
+
+/// Whether anything of a defect is told.
+pub(crate) fn is_damage(report: &DefectReport) -> bool
+    ensures { result ≡ is_damage report.now }
+{
+    report.zeros || report.edc || report.p != 0 || report.q != 0
+}
+
+/// Whether there is anything to tell.
+pub(crate) fn is_any(found: &Findings) -> bool
+    ensures { result ≡ is_any (Some found.now) }
+{
+    found.address || is_damage(&found.defect)
+}
+
+fn push_name(line: &mut Line, found: bool, name: &[u8])
+    requires { length line.old + length name.now ≤ LINE_SIZE }
+    ensures name { line.new ≡ line.old ++ name_if found name.now }
+    ensures size { length line.new ≤ length line.old + length name.now }
+{
+    if found {
+        line.push_text(name);
+    }
+}
+
+fn push_count(line: &mut Line, name: &[u8], count: u8)
+    requires { length line.old + length name.now + 10 ≤ LINE_SIZE }
+    ensures count { line.new ≡ line.old ++ count_if name.now count }
+    ensures size { length line.new ≤ length line.old + length name.now + 10 }
+{
+    if count != 0 {
+        line.push_text(name);
+        line.push_number(u32::from(count));
+    }
+}
+
+#[tactic(auto, unfolding(crate::specs::AuditText::finding_line))]
+fn finding_line(block: u32, found: &Findings) -> Line
+    ensures { result ≡ finding_line block found.now }
+{
+    let mut line = Line::new();
+    line.push_number(block);
+    push_name(&mut line, found.address, b" address");
+    push_name(&mut line, found.defect.zeros, b" zeros");
+    push_name(&mut line, found.defect.edc, b" edc");
+    push_count(&mut line, b" p=", found.defect.p);
+    push_count(&mut line, b" q=", found.defect.q);
+    line.push_text(b"\n");
+    line
+}
+
+/// Writes the line of a sector, where there is anything to tell.
+pub(crate) fn send_findings<O: Sink>(
+    block: u32,
+    found: Option<Findings>,
+    out: &mut O,
+) -> Result<(), SinkFailed>
+    requires { (O.seen out.old).failures < 4294967295 }
+    ensures { Sends (O.seen out.old) (O.seen out.new) (text_of (line_of block found)) result }
+{
+    match found {
+        Some(found) if is_any(&found) => write_all(out, finding_line(block, &found).as_slice()),
+        _ => Ok(()),
+    }
+}

@@ -1,0 +1,196 @@
+//! The listing of an image: its runs of sectors of equal kind.
+
+ghost use Rattle.std.specs.Prelude.{◌≡◌, ◌+◌, ◌-◌, ◌<◌, ◌≤◌, ◌↔◌, [], IfOk, IfSome, OnOk, length};
+ghost use Rattle.cd_report.specs.ListText.{kind_name, list_end, listing, run_line};
+ghost use Rattle.cd_report.specs.OpenRun.{EndsBefore, open_first, open_kinds};
+ghost use Rattle.cd_report.specs.Report.{AnswersByLength, EndsWell, Reports, TellsTooLong, WritesText};
+ghost use Rattle.cd_report.specs.Runs.{runs};
+ghost use Rattle.cd_report.specs.Telling.{TakesKind, last_line};
+ghost use Rattle.cd_stream.specs.Transfer.{Counts, Sends};
+
+use crate::MAX_BASE;
+use crate::fault::Fault;
+use crate::telling::{Teller, tell};
+use cd_sector::{Sector, SectorKind, kind};
+use cd_stream::{Line, Sink, SinkFailed, Source, write_all};
+
+/// What a listing has counted: whole sectors, and the bytes behind them.
+#[derive(Clone, Copy, Debug, PartialEq, Eq)]
+pub struct ListTally {
+    pub sectors: u32,
+    pub tail: u16,
+}
+
+/// Neighbouring sectors of one kind, by block numbers, as far as they have been read.
+#[derive(Clone, Copy)]
+pub(crate) struct OpenRun {
+    first: u32,
+    last: u32,
+    kind: SectorKind,
+}
+
+#[tactic(auto, unfolding(crate::specs::ListText::kind_name))]
+fn name_of(kind: SectorKind) -> &'static [u8]
+    ensures name { result.now ≡ kind_name kind }
+    ensures short { length result.now ≤ 6 }
+{
+    match kind {
+        SectorKind::NoSync => b"nosync",
+        SectorKind::Mode0 => b"mode0",
+        SectorKind::Mode1 => b"mode1",
+        SectorKind::Mode2 => b"mode2",
+        SectorKind::Other => b"other",
+    }
+}
+
+#[tactic(auto, unfolding(crate::specs::ListText::run_line))]
+fn send_run<O: Sink>(run: OpenRun, out: &mut O) -> Result<(), SinkFailed>
+    requires countable { (O.seen out.old).failures < 4294967295 }
+    requires ordered { run.first ≤ run.last }
+    ensures { Sends (O.seen out.old) (O.seen out.new)
+        (run_line run.first (record { kind = run.kind; count = run.last + 1 - run.first })) result }
+{
+    let mut line = Line::new();
+    line.push_number(run.first);
+    line.push_text(b"-");
+    line.push_number(run.last);
+    line.push_text(b" ");
+    line.push_text(name_of(run.kind));
+    line.push_text(b"\n");
+    write_all(out, line.as_slice())
+}
+
+/// Takes the kind of one more sector into the run, or writes the run's line and begins another. It does so where the run
+/// stands, so that a sector that goes on a run costs one store.
+fn take_kind<O: Sink>(
+    run: &mut Option<OpenRun>,
+    block: u32,
+    kind: SectorKind,
+    out: &mut O,
+) -> Result<(), SinkFailed>
+    requires countable { (O.seen out.old).failures < 4294967295 }
+    requires follows { EndsBefore run.old block }
+    ensures text { TakesKind run.old run.new block kind (O.seen out.old) (O.seen out.new) result }
+    ensures count { Counts (O.seen out.old).failures (O.seen out.new).failures result }
+{
+    if let Some(open_run) = run {
+        if open_run.kind == kind {
+            open_run.last = block;
+            return Ok(());
+        }
+        send_run(*open_run, out)?;
+    }
+    *run = Some(OpenRun {
+        first: block,
+        last: block,
+        kind,
+    });
+    Ok(())
+}
+
+#[tactic(auto, unfolding(crate::specs::ListText::list_end))]
+fn send_end<O: Sink>(tally: ListTally, out: &mut O) -> Result<(), SinkFailed>
+    requires { (O.seen out.old).failures < 4294967295 }
+    ensures { Sends (O.seen out.old) (O.seen out.new) (list_end tally) result }
+{
+    let mut line = Line::new();
+    line.push_text(b"sectors ");
+    line.push_number(tally.sectors);
+    line.push_text(b" tail ");
+    line.push_number(u32::from(tally.tail));
+    line.push_text(b"\n");
+    write_all(out, line.as_slice())
+}
+
+/// Writes the line of the last run, where there is one.
+fn send_last<O: Sink>(run: Option<OpenRun>, out: &mut O) -> Result<(), SinkFailed>
+    requires countable { (O.seen out.old).failures < 4294967295 }
+    requires ordered { IfSome run (λ run. run.first ≤ run.last) }
+    ensures { Sends (O.seen out.old) (O.seen out.new) (last_line (open_first run 0) (runs (open_kinds run))) result }
+{
+    match run {
+        Some(run) => send_run(run, out),
+        None => Ok(()),
+    }
+}
+
+/// Lists an image whose first block is `base`.
+#[derive(Drop)]
+struct Lister {
+    base: u32,
+    run: Option<OpenRun>,
+}
+
+impl Teller for Lister {
+    ghost use Rattle.std.specs.Prelude.{◌+◌, ◌≤◌};
+    ghost use Rattle.cd_report.specs.OpenRun.{EndsBefore};
+    ghost use Rattle.cd_report.specs.Telling.{list_to_tell};
+    ghost use Rattle.cd_report.specs.declared.TheConstants.{MAX_BASE};
+
+    type Tally = ListTally;
+
+    ghost to_tell = { λ s count. list_to_tell s.base s.run count };
+
+    ghost has_taken = { λ s count. (s.base ≤ MAX_BASE) × EndsBefore s.run (s.base + count) };
+
+    fn take_sector<O: Sink>(
+        &mut self,
+        count: u32,
+        sector: &Sector,
+        out: &mut O,
+    ) -> Result<(), SinkFailed> {
+        take_kind(&mut self.run, self.base + count, kind(sector), out)
+    }
+
+    fn close<O: Sink>(
+        &mut self,
+        count: u32,
+        tail: u16,
+        out: &mut O,
+    ) -> Result<ListTally, SinkFailed> {
+        let tally = ListTally {
+            sectors: count,
+            tail,
+        };
+        send_last(self.run, out)?;
+        send_end(tally, out)?;
+        out.finish()?;
+        Ok(tally)
+    }
+}
+
+// What `list` does, as one fact.
+fn list_whole<I: Source, O: Sink>(image: &mut I, base: u32, out: &mut O) -> Result<ListTally, Fault>
+    requires base { base ≤ MAX_BASE }
+    requires image_countable { (I.seen image.old).failures < 4294967295 }
+    requires out_countable { (O.seen out.old).failures < 4294967295 }
+    ensures { Reports (listing base) (I.seen image.old) (I.seen image.new) (O.seen out.old) (O.seen out.new) result }
+{
+    tell(image, &mut Lister { base, run: None }, out)
+}
+
+/// Writes a line for each maximal run of neighbouring sectors of equal kind, and a last line with the
+/// numbers of sectors and of bytes behind them.
+///
+/// `base` is the number of the first block. It holds one sector at a time and takes no memory. `Read` and
+/// `Write` come where the image or `out` has failed, `TooLong` where a byte was read behind the millionth
+/// sector.
+pub fn list<I: Source, O: Sink>(image: &mut I, base: u32, out: &mut O) -> Result<ListTally, Fault>
+    requires base { base ≤ MAX_BASE }
+    requires image_countable { (I.seen image.old).failures < 4294967295 }
+    requires out_countable { (O.seen out.old).failures < 4294967295 }
+
+    // The whole of it, also what stands after a fault.
+    ensures report { Reports (listing base) (I.seen image.old) (I.seen image.new) (O.seen out.old) (O.seen out.new) result }
+
+    // What it says where nothing failed, and when each fault comes.
+    ensures text { IfOk result (WritesText (listing base) (I.seen image.old) (I.seen image.new) (O.seen out.old) (O.seen out.new)) }
+    ensures ends_well { OnOk result (EndsWell (I.seen image.old) (I.seen image.new) (O.seen out.old) (O.seen out.new)) }
+    ensures read_failed { (result ≡ Err Fault.Read) ↔ ((I.seen image.new).failures ≡ (I.seen image.old).failures + 1) }
+    ensures write_failed { (result ≡ Err Fault.Write) ↔ ((O.seen out.new).failures ≡ (O.seen out.old).failures + 1) }
+    ensures too_long { TellsTooLong (I.seen image.old) (I.seen image.new) result }
+    ensures by_length { (I.seen image.new).failures ≡ (I.seen image.old).failures → (O.seen out.new).failures ≡ (O.seen out.old).failures
+        → AnswersByLength (I.seen image.old) result }
+{
+    list_whole(image, base, out)
+}
