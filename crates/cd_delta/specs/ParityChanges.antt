@@ -2,7 +2,7 @@
 -- and column n % 43; the P parity makes rows 24 and 25.
 use Rattle.std.specs.Prelude.{ℕ, ◌+◌, ◌-◌, ◌/◌, ◌%◌, List, [], ◌∷◌, ◌++◌, fold}
 use Rattle.cd_code.specs.Syndrome.{added}
-use Rattle.cd_sector.specs.CodeWords.{place_of}
+use Rattle.cd_sector.specs.CodeWords.{diagonal_pair, place_of}
 use Rattle.cd_delta.specs.declared.changes.Change.{Change}
 
 -- the sector with each change's `d` added to the byte at its place
@@ -16,10 +16,6 @@ diagonal_at row column = (row + 52 - column) % 26
 -- the two parity bytes of a column
 abbrev pub column_pair : ℕ → ℕ → List ℕ
 column_pair plane n = place_of plane (1032 + n) ∷ place_of plane (1075 + n) ∷ []
-
--- the two parity bytes of a diagonal
-abbrev pub diagonal_pair : ℕ → ℕ → List ℕ
-diagonal_pair plane n = place_of plane (1118 + n) ∷ place_of plane (1144 + n) ∷ []
 
 -- the parity bytes of a byte's column, and of the diagonals through the byte and through these two
 abbrev pub parity_places_at : ℕ → ℕ → ℕ → List ℕ

@@ -263,8 +263,8 @@ PatchRun-sectors carry (p ∷ ps) (o ∷ os) base old last kept each h =
 
 -- ---- these words leave no choice
 
-pub leaves-alone : (carry : Bool) (ps : List Patch) (os : List Outcome) (base : ℕ) (old last last' : List (List ℕ)) → LeavesOthers carry ps os base old last → LeavesOthers carry ps os base old last' → last ≡ last'
-leaves-alone carry ps os base old last last' h h' =
+pub leaves-one : (carry : Bool) (ps : List Patch) (os : List Outcome) (base : ℕ) (old last last' : List (List ℕ)) → LeavesOthers carry ps os base old last → LeavesOthers carry ps os base old last' → last ≡ last'
+leaves-one carry ps os base old last last' h h' =
     same_sectors last' last base
     (λ block. elim (cases_Bool (is_touched ps os block)) [
       | inr left ↦ h.others block left ∙ sym (h'.others block left)

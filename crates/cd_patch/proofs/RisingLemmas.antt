@@ -15,24 +15,6 @@ rising-tail p ps rises = λ i j d le inside. rises (suc i) (suc j) d (omega arit
 pub rising-from : (p : Patch) (ps : List Patch) (bound : ℕ) → IsNonDecreasingBy (λ q. q.block) (p ∷ ps) → bound ≤ p.block → All (λ q. bound ≤ q.block) (p ∷ ps)
 rising-from p ps bound rises from = λ k d inside. let low : p.block ≤ (get_or (p ∷ ps) k d).block = rises 0 k d (omega arith) inside in omega arith
 
--- a patch and those behind it begin at its block or later
-pub rising-behind : (ps : List Patch) (n : ℕ) (p : Patch) → IsNonDecreasingBy (λ q. q.block) ps → slice_get ps n ≡ Some p → All (λ q. p.block ≤ q.block) (drop n ps)
-rising-behind ps n p rises is = λ k d inside.
-    let here : get_or ps n d ≡ p = get_or_from_slice_get ps n p d is in
-    let there : get_or (drop n ps) k d ≡ get_or ps (n + k) d = get_or-drop n ps k d in
-    let low : (get_or ps n d).block ≤ (get_or ps (n + k) d).block = rises n (n + k) d (omega arith) (omega (arith, length-drop n ps)) in
-    omega (arith, ap (λ (q : Patch). q.block) here, ap (λ (q : Patch). q.block) there)
-
--- those before it begin at its block or earlier
-pub rising-before : (ps : List Patch) (n : ℕ) (p : Patch) → IsNonDecreasingBy (λ q. q.block) ps → slice_get ps n ≡ Some p → All (λ q. q.block ≤ p.block) (take n ps)
-rising-before ps n p rises is = λ k d inside.
-    let within = slice_get_within ps n p is in
-    let before : k < n = omega (arith, length-take n ps) in
-    let here : get_or ps n d ≡ p = get_or_from_slice_get ps n p d is in
-    let there : get_or (take n ps) k d ≡ get_or ps k d = get_or-take n ps k d before in
-    let low : (get_or ps k d).block ≤ (get_or ps n d).block = rises k n d (omega arith) within in
-    omega (arith, ap (λ (q : Patch). q.block) here, ap (λ (q : Patch). q.block) there)
-
 -- where a block cuts the patches: those that begin below it come first
 pub rising-cut : (ps : List Patch) (block : ℕ) → IsNonDecreasingBy (λ q. q.block) ps
     → (n : ℕ) × (n ≤ length ps) × All (λ q. q.block < block) (take n ps) × All (λ q. block ≤ q.block) (drop n ps)

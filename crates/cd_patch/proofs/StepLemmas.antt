@@ -35,12 +35,3 @@ module _ (carry : Bool) (ps : List Patch) (n : ℕ) (p : Patch) (os : List Outco
   pub PatchRun-more_missing : (middle : List (List ℕ)) → (p.block < base) ⊎ (base + length middle ≤ p.block) → PatchRun carry (take n ps) os base old middle
       → PatchRun carry (take (n + 1) ps) (os ++ NoBlock p.block ∷ []) base old middle
   PatchRun-more_missing middle missing run = PatchRun-more (NoBlock p.block) middle middle (sym (outcome-missing carry middle base p missing)) run (Effect-missing carry middle base p missing)
-
--- the first outcomes are told, and the front is what it will be, where the other patches begin behind it
-pub PatchRun-begins : (carry : Bool) (ps : List Patch) (n : ℕ) (os done : List Outcome) (base : ℕ) (old front rest last : List (List ℕ)) → All (λ p. base + length front ≤ p.block) (drop n ps)
-    → PatchRun carry (take n ps) done base old (front ++ rest) → PatchRun carry ps os base old last → (back : List Outcome) × (rest' : List (List ℕ)) × (os ≡ done ++ back) × (last ≡ front ++ rest')
-PatchRun-begins carry ps n os done base old front rest last behind first whole =
-    let cut = PatchRun-split carry (take n ps) (drop n ps) os base old last (subst (λ l. PatchRun carry l os base old last) (sym (take-append-drop n ps)) whole) in
-    let same = PatchRun-determined carry (take n ps) done cut.0 base old (front ++ rest) cut.2 first cut.4 in
-    let end = PatchRun-front carry (drop n ps) cut.1 base front rest last behind (subst (λ l. PatchRun carry (drop n ps) cut.1 base l last) (sym same.1) cut.5) in
-    (cut.1, end.0, cut.3 ∙ ap (λ l. l ++ cut.1) (sym same.0), end.1)

@@ -115,6 +115,12 @@ RunLeavesOthers =
     (carry : Bool) (ps : List Patch) (os : List Outcome) (base : ℕ) (old last : List (List ℕ)) → All IsPatch ps → All IsSector old
     → PatchRun carry ps os base old last → LeavesOthers carry ps os base old last
 
+-- these words leave one result
+abbrev pub LeavesOne : Type 0
+LeavesOne =
+    (carry : Bool) (ps : List Patch) (os : List Outcome) (base : ℕ) (old last last' : List (List ℕ))
+    → LeavesOthers carry ps os base old last → LeavesOthers carry ps os base old last' → last ≡ last'
+
 -- ---- where there is nothing to carry
 
 -- a patch that is accepted where no damage is carried is accepted where it is, and makes the same

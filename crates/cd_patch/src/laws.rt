@@ -1,6 +1,6 @@
 //! Laws of the definitions, each the contract of a function that does nothing.
 
-ghost use Rattle.cd_patch.specs.Laws.{NeverDamaged, NothingToCarry, RunExists, RunIsDetermined, RunLeavesOthers, RunsAgree};
+ghost use Rattle.cd_patch.specs.Laws.{LeavesOne, NeverDamaged, NothingToCarry, RunExists, RunIsDetermined, RunLeavesOthers, RunsAgree};
 
 /// A run's outcomes and last sectors follow from the patches and the sectors.
 pub fn run_is_determined()
@@ -23,6 +23,11 @@ pub fn runs_agree()
 /// the sector anew.
 pub fn run_leaves_others()
     ensures { RunLeavesOthers }
+{}
+
+/// What `run_leaves_others` says leaves one result: sectors of which it holds are those of the run.
+pub fn leaves_one()
+    ensures { LeavesOne }
 {}
 
 /// A patch that is accepted where no damage is carried is accepted where it is, and makes the same.

@@ -9,7 +9,8 @@ mod remaking;
 
 pub use deciding::blocks_met;
 pub use laws::{
-    never_damaged, nothing_to_carry, run_exists, run_is_determined, run_leaves_others, runs_agree,
+    leaves_one, never_damaged, nothing_to_carry, run_exists, run_is_determined, run_leaves_others,
+    runs_agree,
 };
 pub use outcome::Outcome;
 pub use remaking::take_patch;

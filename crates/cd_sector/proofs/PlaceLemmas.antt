@@ -4,7 +4,7 @@ use Rattle.std.proofs.lemmas.Bool.{cases_lt}
 use Rattle.std.proofs.lemmas.List.{ext_get_or, get_or-map, get_or_append_left, get_or_past, length-map, map-append}
 use Rattle.std.proofs.lemmas.List.FromFn.{get_or-map-range_with_len}
 use Rattle.cd_code.specs.Field.{AreBytes}
-use Rattle.cd_sector.specs.CodeWords.{place_of, column_places, column_input, diagonal_places, diagonal_input, bytes_at}
+use Rattle.cd_sector.specs.CodeWords.{place_of, column_places, column_input, diagonal_pair, diagonal_places, diagonal_input, bytes_at}
 
 -- ---- the places
 
@@ -22,7 +22,7 @@ unfolding column_input
 column_input_place plane n m h = get_or-map-range_with_len (λ k. place_of plane (43 * k + n)) 0 24 m m 0 h (omega arith)
 
 pub diagonal_places-parts : (plane n : ℕ)
-    → diagonal_places plane n ≡ diagonal_input plane n ++ place_of plane (1118 + n) ∷ place_of plane (1144 + n) ∷ []
+    → diagonal_places plane n ≡ diagonal_input plane n ++ diagonal_pair plane n
 unfolding diagonal_places
 diagonal_places-parts plane n = refl
 

@@ -21,9 +21,13 @@ column_input plane n = map (λ m. place_of plane (43 * m + n)) (range_with_len 0
 unfoldable pub diagonal_input : ℕ → ℕ → List ℕ
 diagonal_input plane n = map (λ m. place_of plane ((44 * m + 43 * n) % 1118)) (range_with_len 0 43)
 
--- the same with its two parity bytes last
+-- its two parity bytes
+abbrev pub diagonal_pair : ℕ → ℕ → List ℕ
+diagonal_pair plane n = place_of plane (1118 + n) ∷ place_of plane (1144 + n) ∷ []
+
+-- the whole diagonal, its parity last
 unfoldable pub diagonal_places : ℕ → ℕ → List ℕ
-diagonal_places plane n = diagonal_input plane n ++ place_of plane (1118 + n) ∷ place_of plane (1144 + n) ∷ []
+diagonal_places plane n = diagonal_input plane n ++ diagonal_pair plane n
 
 -- the bytes of a sector at places
 unfoldable pub bytes_at : List ℕ → List ℕ → List ℕ
