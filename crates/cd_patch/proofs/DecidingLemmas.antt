@@ -1,5 +1,5 @@
 -- Which blocks a patch meets, what an accepted one has found there, and the bytes of joined user data.
-use Rattle.std.proofs.Common.{◌≡◌, ℕ, zero, suc, ◌+◌, ◌-◌, ◌*◌, ◌/◌, ◌%◌, ◌<◌, ◌≤◌, ◌⊎◌, inl, inr, Bool, true, false, cond, List, [], ◌∷◌, ◌++◌, length, get_or, drop, Option, Some, None, refl, sym, ap, subst, ◌∙◌, eq-eqb, arith}
+use Rattle.std.proofs.Common.{◌≡◌, ℕ, zero, suc, ◌+◌, ◌-◌, ◌*◌, ◌/◌, ◌%◌, ◌<◌, ◌≤◌, inl, inr, Bool, true, false, cond, List, [], ◌∷◌, ◌++◌, length, get_or, drop, Option, Some, None, refl, sym, ap, subst, ◌∙◌, eq-eqb, arith}
 use Rattle.std.specs.Prelude.{not, ◌&&◌, if◌then◌else◌, is_some, slice_get, unwrap_or}
 use Rattle.std.proofs.lemmas.Bool.{cases_lt, ne_eqb}
 use Rattle.std.proofs.lemmas.List.{get_or_append_left, get_or-append_right, get_or-drop, get_or_read, length-append, length-drop}
@@ -15,7 +15,6 @@ use Rattle.cd_sector.specs.declared.kinds.SectorKind.TheVariants.{Mode1}
 use Rattle.cd_patch.specs.Blocks.{asks_sound, blocks_met, blocks_of, old_bytes, sector_at}
 use Rattle.cd_patch.specs.Deciding.{by_difference, first_difference, first_of, first_refusal, joined_user, outcome, refusal_at, user_at, user_met}
 use Rattle.cd_patch.specs.Parts.{HaveUsers}
-use Rattle.cd_patch.proofs.PartLemmas.{length-user}
 use Rattle.cd_patch.proofs.SectorAtLemmas.{sector_at-add}
 use Rattle.cd_patch.specs.declared.outcome.Outcome.{Outcome}
 use Rattle.cd_patch.specs.declared.outcome.Outcome.TheVariants.{Damaged, Differs, NotMode1}

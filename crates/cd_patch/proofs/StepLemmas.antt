@@ -1,7 +1,7 @@
 -- A run grows by one patch, decided in a part of the sectors; and what stands when the others are still to come.
-use Rattle.std.proofs.Common.{◌≡◌, ℕ, ◌+◌, ◌<◌, ◌≤◌, ◌⊎◌, Bool, List, [], ◌∷◌, ◌++◌, length, take, drop, Some, refl, sym, ap, subst, ◌∙◌}
-use Rattle.std.specs.List.{All, slice_get}
-use Rattle.std.proofs.lemmas.List.{take-append-drop, take_more}
+use Rattle.std.proofs.Common.{◌≡◌, ℕ, ◌+◌, ◌<◌, ◌≤◌, ◌⊎◌, Bool, List, [], ◌∷◌, ◌++◌, length, take, Some, refl, sym, ap, subst, ◌∙◌}
+use Rattle.std.specs.List.{slice_get}
+use Rattle.std.proofs.lemmas.List.{take_more}
 use Rattle.std.proofs.lemmas.Option.{get_or_from_slice_get, slice_get_within}
 use Rattle.cd_script.specs.declared.patch.Patch.{Patch}
 use Rattle.cd_patch.specs.Blocks.{blocks_met}
@@ -11,7 +11,7 @@ use Rattle.cd_patch.specs.Run.{PatchRun}
 use Rattle.cd_patch.specs.declared.outcome.Outcome.{Outcome}
 use Rattle.cd_patch.specs.declared.outcome.Outcome.TheVariants.{NoBlock}
 use Rattle.cd_patch.proofs.FrameLemmas.{Effect-frame, Effect-missing, outcome-frame, outcome-missing}
-use Rattle.cd_patch.proofs.RunLemmas.{PatchRun-append, PatchRun-determined, PatchRun-front, PatchRun-split}
+use Rattle.cd_patch.proofs.RunLemmas.{PatchRun-append}
 
 module _ (carry : Bool) (ps : List Patch) (n : ℕ) (p : Patch) (os : List Outcome) (base : ℕ) (old : List (List ℕ)) (is : slice_get ps n ≡ Some p) where
   one_more : take (n + 1) ps ≡ take n ps ++ p ∷ []

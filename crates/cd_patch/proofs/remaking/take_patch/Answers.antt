@@ -1,4 +1,4 @@
-use Rattle.std.proofs.Common.{◌++◌, length, drop, take, sym, subst, ◌∙◌, arith}
+use Rattle.std.proofs.Common.{◌++◌, drop, take, sym, subst, ◌∙◌, arith}
 use Rattle.std.proofs.lemmas.List.{length-take-le}
 use Rattle.cd_patch.specs.Blocks.{asks_sound, keeps_defect, new_bytes, new_header}
 use Rattle.cd_sector.specs.Consistent.{header_of}
