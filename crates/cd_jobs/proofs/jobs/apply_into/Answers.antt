@@ -1,0 +1,9 @@
+use Rattle.std.proofs.Common.{Ok}
+use Rattle.cd_jobs.proofs.jobs.apply_into.Goals as goal
+
+pub returns-in-Ok : goal.returns-in-Ok
+returns-in-Ok g c = record {
+  answer = Ok c.in-Ok.out;
+  asked = c.in-Ok.ensures.gives;
+  done = record { left = c.run_apply.new.image; made = c.run_apply.new.out; runs = c.run_apply.ensures.report };
+}

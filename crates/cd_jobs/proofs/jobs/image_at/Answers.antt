@@ -1,0 +1,5 @@
+use Rattle.std.proofs.Common.{rules}
+use Rattle.cd_jobs.proofs.jobs.image_at.Goals as goal
+
+pub returns-else-eq-clause-asked : goal.returns-else-eq-clause-asked
+returns-else-eq-clause-asked g c = record { standard = search rules; file = λ _. c.input_at.ensures.gives }
