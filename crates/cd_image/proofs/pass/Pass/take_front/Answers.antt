@@ -1,8 +1,9 @@
-use Rattle.std.proofs.Common.{◌+◌, ◌++◌, ◌∷◌, [], ℕ, length, sym, ap, ◌∙◌, subst}
+use Rattle.std.proofs.Common.{◌+◌, ◌++◌, ◌∷◌, [], ℕ, length, refl, arith, sym, ap, ◌∙◌, subst}
 use Rattle.std.proofs.lemmas.Result.{err_from_is_err_and}
 use Rattle.cd_patch.specs.Blocks.{blocks_met}
 use Rattle.cd_patch.specs.Deciding.{outcome}
 use Rattle.cd_patch.specs.Effect.{Effect}
+use Rattle.cd_patch.proofs.FrameLemmas.{Effect-length}
 use Rattle.cd_image.specs.Applying.{streams}
 use Rattle.cd_image.specs.Passing.{Going, tail_read}
 use Rattle.cd_image.proofs.ApplyLemmas.{Applies-log}
@@ -31,3 +32,10 @@ returns-clause-goes g c = λ taken left base start image out going.
     (Going-take c.args.carry taken p left base start (streams image out (g.L.Sink.seen c.args.log.now)) pass.window c.take-outcome.new.self pass.block pass.sectors pass.applied (tail_read pass.tail pass.bytes) going
     (g.L.Sink.seen c.send_outcome.new.log) c.take-outcome.result decided effect c.in_ok-send_outcome.ensures.bytes c.in_ok-send_outcome.ensures.count c.requires.at c.requires.some
     (reaches pass.block (blocks_met p) (length pass.window) pass.tail pass.bytes c.requires.reach))
+
+pub returns-clause-decided : goal.returns-clause-decided
+returns-clause-decided g c = refl
+
+pub returns-clause-nearer : goal.returns-clause-nearer
+returns-clause-nearer g c = λ count more.
+    omega (arith, more, Effect-length c.args.carry c.args.patch.now.block c.args.patch.now c.args.self.now.window c.take-outcome.new.self c.take-outcome.ensures.effect)
