@@ -1,4 +1,4 @@
-use Rattle.std.proofs.Common.{◌++◌, ◌∷◌, [], length, ap, ◌∙◌, arith, length-append}
+use Rattle.std.proofs.Common.{ℕ, List, ◌++◌, ◌∷◌, [], length, ap, ◌∙◌, arith, length-append}
 use Rattle.std.proofs.lemmas.Result.{err_from_is_err_and}
 use Rattle.cd_image.specs.Applying.{streams}
 use Rattle.cd_image.proofs.TurnLemmas.{Steps-ahead, Steps-unread}
@@ -20,4 +20,4 @@ returns-in-None-clause-goes g c = λ carry taken left base start out log going.
 pub returns-in-None-clause-nearer : goal.returns-in-None-clause-nearer
 returns-in-None-clause-nearer g c = λ count.
     let came = rw c.in-None.is at c.in_ok-read_sector.ensures in
-    omega (arith, came.few, ap length c.push.ensures, length-append c.args.self.now.window (c.from_bytes.result ∷ []))
+    omega (arith, came.few, ap length c.push.ensures, length-append {A = List ℕ})
