@@ -84,9 +84,6 @@ module _ (carry : Bool) (taken left : List Patch) (base : ℕ) (start now : Stre
   pub size_read : length (joined g.seen ++ tail_bytes end) ≡ 2352 * sectors_read + length (tail_bytes end)
   size_read = length-append (joined g.seen) (tail_bytes end) ∙ ap (λ n. n + length (tail_bytes end)) (length-joined g.seen g.seen_sizes ∙ ap (λ n. 2352 * n) (sym g.count))
 
-  pub size_sent : length (joined g.done) ≡ 2352 * length g.done
-  size_sent = length-joined g.done g.done_sizes
-
   pub extends : (whole : List ℕ) → FitsLeft now.image.rest (joined g.seen ++ tail_bytes end) whole → Extends g.seen end whole
   extends whole fits = extends_left carry taken left base start now window block sectors_read applied end g whole fits (omega (arith, size_read, g.within))
 

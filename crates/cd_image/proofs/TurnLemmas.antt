@@ -13,7 +13,7 @@ use Rattle.cd_script.specs.declared.patch.Patch.{Patch}
 use Rattle.cd_sector.specs.declared.sector.TheConstants.{SECTOR_SIZE}
 use Rattle.cd_image.specs.Applying.{Applies, Streams}
 use Rattle.cd_image.specs.Passing.{GoesOn, Going, HasShortTail, IsEnded, Steps, StepsOrTakes, Turns, tail_read}
-use Rattle.cd_report.specs.Reading.{EndComes, ReadsSector, SectorComes}
+use Rattle.cd_report.specs.Reading.{ReadsSector, SectorComes}
 use Rattle.cd_report.specs.declared.fault.Fault.{Fault}
 use Rattle.cd_report.specs.declared.fault.Fault.TheVariants.{Log, Read, TooLong, Write}
 use Rattle.cd_image.specs.declared.pass.Pass.{Pass}
@@ -25,7 +25,7 @@ use Rattle.std.proofs.lemmas.List.Sums.{count_by-le-length}
 use Rattle.cd_patch.specs.Laws.{is_applied}
 use Rattle.cd_image.proofs.KnownLemmas.{told_lengths}
 use Rattle.cd_image.proofs.PatchLogLemmas.{missing_lines}
-use Rattle.cd_image.proofs.PassingLemmas.{Going-end, Going-read, Going-send, Going-start}
+use Rattle.cd_image.proofs.PassingLemmas.{Going-read, Going-send, Going-start}
 
 module _ (carry : Bool) (taken left : List Patch) (base : ℕ) (start now : Streams) (pass : Pass) (bytes : List ℕ) (image : Incoming) (unended : pass.tail ≡ None) (room : length pass.window < 3) (g : GoesOn carry taken left base start now pass) where
   begun : Going carry taken left base start now pass.window pass.block pass.sectors pass.applied None
@@ -36,11 +36,6 @@ module _ (carry : Bool) (taken left : List Patch) (base : ℕ) (start now : Stre
   Steps-unread TooLong r = Applies-beyond carry taken left base start now pass.window pass.block pass.sectors pass.applied begun image r.came r.consumes room r.one r.full r.kept
   Steps-unread Write r = elim r [ ]
   Steps-unread Log r = elim r [ ]
-
-  pub Steps-ended : (count : ℕ) → EndComes pass.sectors count bytes now.image image
-      → Going carry taken left base start (record now { image = image }) pass.window pass.block pass.sectors pass.applied (Some (take count bytes))
-  Steps-ended count r =
-      Going-end carry taken left base start now pass.window pass.block pass.sectors pass.applied begun image (take count bytes) r.consumes r.kept (omega (arith, r.size, r.short)) (omega (arith, r.size, r.within)) room r.at_end
 
   module _ (r : SectorComes pass.sectors bytes now.image image) where
     came : Going carry taken left base start (record now { image = image }) (pass.window ++ bytes ∷ []) pass.block (pass.sectors + 1) pass.applied None

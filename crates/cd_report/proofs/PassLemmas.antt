@@ -1,5 +1,5 @@
 -- Beginnings of texts and of images, and how the end of a text goes out.
-use Rattle.std.proofs.Common.{◌≡◌, ℕ, ◌<◌, ◌≤◌, List, [], ◌∷◌, ◌++◌, length, drop, take, Option, None, Some, Ok, Err, true, sym, ap, ◌∙◌, append_assoc, append-nil, take-append-drop, take_all}
+use Rattle.std.proofs.Common.{◌≡◌, ℕ, ◌<◌, ◌≤◌, List, [], ◌∷◌, ◌++◌, length, drop, take, Option, None, Some, Err, sym, ap, ◌∙◌, append_assoc, append-nil, take-append-drop, take_all}
 use Rattle.std.specs.Io.KnownBytes.{Appends, IsAtEnd, Keeps}
 use Rattle.std.proofs.KnownBytes.{Appends-kept, Appends-trans}
 use Rattle.cd_report.specs.Image.{image_limit}
@@ -35,9 +35,6 @@ module _ (X : Type 0) (rest last : List ℕ) where
 
     pub Finishes-at_flush : (e : SinkFailed) → Finishes {X = X} (rest ++ last) out out' (Err e)
     Finishes-at_flush e = (rest ++ last, all_went, ([], sym (append-nil _)))
-
-    pub Finishes-whole : (x : X) → out'.finished ≡ true → Finishes {X = X} {E = SinkFailed} (rest ++ last) out out' (Ok x)
-    Finishes-whole x done = (done, all_went)
 
 -- a beginning of what comes behind
 pub IsBeginning-behind : (front part whole : List ℕ) → IsBeginning part whole → IsBeginning (front ++ part) (front ++ whole)
