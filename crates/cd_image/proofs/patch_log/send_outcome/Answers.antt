@@ -1,11 +1,32 @@
-use Rattle.std.proofs.Common.{rules}
-use Rattle.cd_image.specs.PatchLog.{log_line}
+use Rattle.std.proofs.Common.{◌≡◌, ◌++◌, ◌<◌, List, ℕ, length, take, ap, ◌∙◌, subst}
+use Rattle.std.proofs.lemmas.Result.{err_from_is_err_and}
+use Rattle.std.specs.Io.KnownBytes.{Appends}
+use Rattle.std.specs.Prelude.{codes, decimal}
+use Rattle.cd_script.specs.declared.patch.Patch.{Patch}
+use Rattle.cd_patch.specs.declared.outcome.Outcome.{Outcome}
+use Rattle.cd_image.specs.PatchLog.{log_line, outcome_text}
 use Rattle.cd_image.proofs.patch_log.send_outcome.Goals as goal
 
-pub returns : goal.returns
+-- a line, part by part
+put_together : (p : Patch) (o : Outcome) (first number colon told all sent : List ℕ) → first ≡ codes "line " → number ≡ first ++ decimal p.line → colon ≡ number ++ codes ": "
+    → told ≡ colon ++ outcome_text o → all ≡ told ++ codes "\n" → sent ≡ all → sent ≡ log_line p o
 unfolding log_line
-returns g c = search rules
+put_together p o first number colon told all sent a b d e f h = cc
+
+pub returns : goal.returns
+returns g c =
+    let line = put_together c.args.patch.now c.args.outcome _ _ _ _ _ _ (c.push_text.ensures ∙ ap (λ l. l ++ codes "line ") c.new-line.ensures) c.push_number.ensures.line c.push_text-2.ensures c.push_outcome.ensures.text c.push_text-3.ensures c.as_slice.ensures in
+    record {
+      bytes = subst (Appends (g.L.Sink.seen c.args.log.now).written (g.L.Sink.seen c.write_all.new.out).written) line c.in_ok-write_all.ensures.bytes;
+      count = c.in_ok-write_all.ensures.count;
+    }
 
 pub returns-in_err-write_all : goal.returns-in_err-write_all
-unfolding log_line
-returns-in_err-write_all g c = search rules
+returns-in_err-write_all g c =
+    let line = put_together c.args.patch.now c.args.outcome _ _ _ _ _ _ (c.push_text.ensures ∙ ap (λ l. l ++ codes "line ") c.new-line.ensures) c.push_number.ensures.line c.push_text-2.ensures c.push_outcome.ensures.text c.push_text-3.ensures c.as_slice.ensures in
+    let went = c.in_err-write_all.ensures.bytes in
+    rw (err_from_is_err_and c.from_residual.result c.from_residual.ensures.1).1
+    record {
+      bytes = (went.0, subst (λ text. went.0 < length text) line went.1, subst (λ text. Appends (g.L.Sink.seen c.args.log.now).written (g.L.Sink.seen c.write_all.new.out).written (take went.0 text)) line went.2);
+      count = c.in_err-write_all.ensures.count;
+    }
