@@ -1,4 +1,4 @@
-use Rattle.std.proofs.Common.{[], ◌+◌, Err}
+use Rattle.std.proofs.Common.{[], ◌+◌, Err, rules}
 use Rattle.std.proofs.KnownBytes.{Appends-nil}
 use Rattle.std.proofs.lemmas.Result.{err_from_is_err_and}
 use Rattle.cd_report.specs.AuditText.{audit_end}
@@ -13,3 +13,9 @@ returns-in_err-send_end-clause-text g c =
     let tally = c.args.self.now.tally in
     rw failed.1 (Audit-closes tally (c.args.self.now.base + tally.sectors) c.args.tail (g.O.Sink.seen c.args.out.now) (g.O.Sink.seen c.send_end.new.out) (Err _) (Finishes-at_last AuditTally [] (audit_end (record tally { tail = c.args.tail }))
     (g.O.Sink.seen c.args.out.now) _ (g.O.Sink.seen c.send_end.new.out) _ (Appends-nil (g.O.Sink.seen c.args.out.now).written) c.in_err-send_end.ensures.bytes))
+
+pub returns-clause-text : goal.returns-clause-text
+returns-clause-text g c = search rules
+
+pub returns-clause-count : goal.returns-clause-count
+returns-clause-count g c = search rules

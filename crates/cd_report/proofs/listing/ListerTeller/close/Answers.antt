@@ -1,4 +1,5 @@
-use Rattle.std.proofs.Common.{Err}
+use Rattle.std.proofs.Common.{Err, arith, rules}
+use Rattle.std.proofs.lemmas.Grind.{common_steps}
 use Rattle.std.proofs.lemmas.Result.{err_from_is_err_and}
 use Rattle.cd_report.specs.ListText.{list_end}
 use Rattle.cd_report.specs.OpenRun.{open_first, open_kinds}
@@ -26,3 +27,9 @@ returns-in_err-finish-clause-text g c =
     let failed = err_from_is_err_and c.from_residual-in_err-finish.result c.from_residual-in_err-finish.ensures.1 in
     rw failed.1 (List-closes c.args.self.now.base c.args.self.now.run c.args.count c.args.tail (g.O.Sink.seen c.args.out.now) (g.O.Sink.seen c.finish.new.self) (Err _) (Finishes-at_flush ListTally (last_line (open_first c.args.self.now.run 0) (runs (open_kinds c.args.self.now.run))) (list_end (tally_of c.args.count c.args.tail))
     (g.O.Sink.seen c.args.out.now) _ _ (g.O.Sink.seen c.finish.new.self) c.in_ok-send_last.ensures.bytes c.in_ok-send_end.ensures.bytes c.in_err-finish.ensures.bytes _))
+
+pub returns-clause-text : goal.returns-clause-text
+returns-clause-text g c = grind (arith, common_steps)
+
+pub returns-clause-count : goal.returns-clause-count
+returns-clause-count g c = search rules
