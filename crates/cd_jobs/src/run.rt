@@ -9,7 +9,8 @@ ghost use Rattle.cd_stream.specs.Transfer.{Counts};
 ghost use Rattle.cd_jobs.specs.Run.{IsTooLong, Runs, SaysFault, SaysLine, TellsPatches, TellsText, audit_status, fault_line, script_status};
 
 use cd_image::{
-    Fault, MAX_BASE, Sink, SinkFailed, Source, Tally, apply, audit, check, list, write_all,
+    AuditTally, Fault, MAX_BASE, Sink, SinkFailed, Source, Tally, apply, audit, check, list,
+    write_all,
 };
 use cd_script::Script;
 
@@ -90,6 +91,13 @@ pub fn run_list<I: Source, O: Sink>(image: &mut I, base: u32, out: &mut O) -> u8
     }
 }
 
+/// The status of an audit that came to its end.
+fn audit_status_of(tally: &AuditTally) -> u8
+    ensures { result ≡ audit_status tally.now }
+{
+    if tally.findings == 0 { DONE } else { FOUND }
+}
+
 /// Audits an image to `out`, of which the first block has the number `base`, and answers the status: 0, 1 where
 /// it told of a sector, or 2 behind the line of a fault.
 pub fn run_audit<I: Source, O: Sink>(image: &mut I, base: u32, out: &mut O) -> u8
@@ -106,7 +114,7 @@ pub fn run_audit<I: Source, O: Sink>(image: &mut I, base: u32, out: &mut O) -> u
         ⊎ IsTooLong (I.seen image.old) (I.seen image.new) }
 {
     match audit(image, base, out) {
-        Ok(tally) => { if tally.findings == 0 { DONE } else { FOUND } }
+        Ok(tally) => audit_status_of(&tally),
         Err(fault) => end_by(fault, Fault::Write, out),
     }
 }

@@ -1,4 +1,4 @@
-use Rattle.std.proofs.Common.{Err, ap, ◌∙◌}
+use Rattle.std.proofs.Common.{Ok, Err, ap, refl, ◌∙◌}
 use Rattle.cd_jobs.specs.Run.{script_status}
 use Rattle.cd_jobs.proofs.RunLemmas.{fault-counts, one-more}
 use Rattle.cd_jobs.proofs.run.run_apply.Goals as goal
@@ -15,3 +15,26 @@ returns-in-Err-clause-failed g c = λ failed.
     (λ is. one-more (c.in-Err.ensures.write_failed.0 (ap Err is)))
     (λ is. one-more (ap (λ o. o.failures) (c.end_by.ensures.line.0 is) ∙ c.in-Err.ensures.log_failed.0 (ap Err is)))
     (λ is bytes left coming stays. (c.in-Err.ensures.too_long bytes left coming stays).0 (ap Err is))
+
+pub returns-in-Ok-clause-report : goal.returns-in-Ok-clause-report
+returns-in-Ok-clause-report g c =
+    record { result = Ok c.in-Ok.tally; middle = _; does = c.in-Ok.ensures.report; ends = (refl, c.status_of.ensures) }
+
+pub returns-in-Err-clause-report : goal.returns-in-Err-clause-report
+returns-in-Err-clause-report g c =
+    record { result = Err c.in-Err.fault; middle = _; does = c.in-Err.ensures.report; ends = (c.end_by.ensures.line, c.end_by.ensures.status) }
+
+pub returns-in-Ok-clause-holds_few : goal.returns-in-Ok-clause-holds_few
+returns-in-Ok-clause-holds_few g c = c.in-Ok.ensures.holds_few
+
+pub returns-in-Err-clause-holds_few : goal.returns-in-Err-clause-holds_few
+returns-in-Err-clause-holds_few g c = c.in-Err.ensures.holds_few
+
+pub returns-in-Ok-clause-output : goal.returns-in-Ok-clause-output
+returns-in-Ok-clause-output g c = λ done. c.in-Ok.ensures.output
+
+pub returns-in-Ok-clause-carried : goal.returns-in-Ok-clause-carried
+returns-in-Ok-clause-carried g c = λ carried done. c.in-Ok.ensures.carried carried
+
+pub returns-in-Ok-clause-output_ends_well : goal.returns-in-Ok-clause-output_ends_well
+returns-in-Ok-clause-output_ends_well g c = λ done. c.in-Ok.ensures.output_ends_well

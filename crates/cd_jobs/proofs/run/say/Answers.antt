@@ -9,3 +9,6 @@ pub returns-clause-line : goal.returns-clause-line
 returns-clause-line g c =
     SaysLine-whole c.args.line.now _ _ (g.O.Sink.seen c.write_all.new.out) c.finish.result
     c.in_ok-write_all.ensures.bytes c.in_ok-write_all.ensures.count c.finish.ensures.bytes c.finish.ensures.count c.finish.ensures.finished
+
+pub returns-clause-count : goal.returns-clause-count
+returns-clause-count g c = rw (← c.in_ok-write_all.ensures.count) c.finish.ensures.count

@@ -1,0 +1,7 @@
+use Rattle.cd_jobs.proofs.script.read_script.Goals as goal
+
+pub returns-in-Ok-clause-script : goal.returns-in-Ok-clause-script
+returns-in-Ok-clause-script g c = assumption c.in-Ok.ensures
+
+pub returns-in-Err-clause-status : goal.returns-in-Err-clause-status
+returns-in-Err-clause-status g c = c.fail.ensures.status
