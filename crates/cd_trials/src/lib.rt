@@ -1,4 +1,4 @@
-//! Tests of whole calls: changes of sectors, scripts, patches, listings, audits and patched images.
+//! Tests of listings, audits and patched images.
 #![tactic(auto)]
 
 #[cfg(test)]

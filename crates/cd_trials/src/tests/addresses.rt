@@ -1,9 +1,10 @@
 //! Patches of header addresses, in scripts of version 2.
 
-use cd_image::{Short, SliceSink, SliceSource, apply, audit, check};
-use cd_script::{MAX_TEXT, Script, parse};
-use cd_sector::{Sector, address_of, encode};
-use std::alloc::{AllocError, Global};
+use super::patching::{Row, expect_rows, expect_rows_left, memory};
+use cd_image::{SliceSink, SliceSource, apply, audit};
+use cd_samples::Sample::{self, Addressed, Damaged, Filled, Zeros};
+use cd_samples::{image_of, is_text, script_of};
+use std::alloc::Global;
 use std::process::Abort;
 use std::test::Fail;
 
@@ -11,155 +12,88 @@ const APPLIED: &str = "line 2: applied\napplied 1 refused 0\n";
 
 const BOTH_APPLIED: &str = "line 2: applied\nline 3: applied\napplied 2 refused 0\n";
 
-/// The consistent sector of a block with this byte and 2047 bytes `00` of user data.
-fn begun_at(block: u32, first: u8) -> Sector {
-    let mut user = [0; 2048];
-    user[0] = first;
-    encode(address_of(block).unwrap_or([0, 0, 0]), &user)
-}
-
-/// The consistent sector of a block, its user data all `00`.
-fn zeros_at(block: u32) -> Sector {
-    begun_at(block, 0)
-}
-
-/// The sector with the lowest bit of a byte changed.
-fn flipped(sector: Sector, place: usize) -> Sector {
-    let mut other = sector;
-    if place < 2352 {
-        other.put(place, sector.byte(place) ^ 1);
-    }
-    other
-}
-
-/// The bytes of sectors, one behind the other.
-fn joined(alloc: Global, sectors: &[Sector]) -> Result<Vec<u8>, AllocError> {
-    let mut bytes = Vec::new(alloc);
-    for sector in sectors {
-        bytes.extend_from_slice(sector.bytes())?;
-    }
-    Ok(bytes)
-}
-
-/// The script of these lines behind the head line of version 2.
-fn script_of(rt: &impl Abort, alloc: Global, lines: &str) -> Result<Script, Fail> {
-    let text = format!(in alloc; "cdpatch 2\n{lines}\n")?;
-    let bytes = text.as_bytes();
-    assert!(rt; bytes.len() <= MAX_TEXT);
-    Ok(parse(alloc, bytes)?)
-}
-
-/// Whether the memory begins with these bytes, and has `00` behind them.
-fn is_text(space: &[u8], text: &[u8]) -> bool {
-    space.starts_with(text) && space.iter().skip(text.len()).all(|byte| *byte == 0)
-}
-
-/// Takes lines on an image by both calls: the log, and the sectors that are left.
-fn expect(
-    rt: &impl Abort,
-    alloc: Global,
-    lines: &str,
-    image: &[Sector],
-    log: &str,
-    after: &[Sector],
-) -> Result<(), Fail> {
-    let script = script_of(rt, alloc, lines)?;
-    let (image, after) = (joined(alloc, image)?, joined(alloc, after)?);
-    let mut out = vec![in alloc; 0; after.len()]?;
-    let mut told = [0; 256];
-    let answer = apply(
-        &mut Short::new(SliceSource::new(&image), 97),
-        &script,
-        0,
-        false,
-        &mut SliceSink::new(&mut out),
-        &mut SliceSink::new(&mut told),
-    );
-    assert!(rt; answer.is_ok(), "{lines}");
-    assert!(rt; is_text(&told, log.as_bytes()), "{lines}");
-    assert!(rt; out.as_slice() == after.as_slice(), "{lines}");
-    let mut told = [0; 256];
-    let mut source = SliceSource::new(&image);
-    let answer = check(
-        &mut source,
-        &script,
-        0,
-        false,
-        &mut SliceSink::new(&mut told),
-    );
-    assert!(rt; answer.is_ok(), "{lines}");
-    assert!(rt; is_text(&told, log.as_bytes()), "{lines}");
-    Ok(())
-}
-
-/// The text of an audit of an image.
-fn expect_audit(rt: &impl Abort, image: &[u8], text: &str) {
-    let mut told = [0; 256];
-    let mut source = SliceSource::new(image);
-    let answer = audit(&mut source, 0, &mut SliceSink::new(&mut told));
-    assert!(rt; answer.is_ok(), "{text}");
-    assert!(rt; is_text(&told, text.as_bytes()), "{text}");
-}
-
 #[test]
 fn one_address(rt: HostRuntime) -> Result<(), Fail> {
-    let alloc = rt.alloc();
-    for (word, before, after) in [
-        ("00:02:00", zeros_at(1), zeros_at(0)),
-        ("00:02:00", zeros_at(0), zeros_at(0)),
-        ("99:59:74", zeros_at(0), zeros_at(449_849)),
-        ("00:00:00", zeros_at(0), encode([0, 0, 0], &[0; 2048])),
+    for (script, image, out) in &[
+        ("cdpatch 2\naddress 0 00:02:00\n", Zeros(1), Zeros(0)),
+        ("cdpatch 2\naddress 0 00:02:00\n", Zeros(0), Zeros(0)),
+        ("cdpatch 2\naddress 0 99:59:74\n", Zeros(0), Zeros(449_849)),
         (
-            "12:34:56",
-            encode([0xFF; 3], &[7; 2048]),
-            encode([0x12, 0x34, 0x56], &[7; 2048]),
+            "cdpatch 2\naddress 0 00:00:00\n",
+            Zeros(0),
+            Addressed([0x00, 0x00, 0x00], 0, 0, 0),
+        ),
+        (
+            "cdpatch 2\naddress 0 12:34:56\n",
+            Addressed([0xFF, 0xFF, 0xFF], 0, 2048, 7),
+            Addressed([0x12, 0x34, 0x56], 0, 2048, 7),
         ),
     ] {
-        let line = format!(in alloc; "address 0 {word}")?;
-        expect(&rt, alloc, &line, &[before], APPLIED, &[after])?;
+        let row = Row {
+            script,
+            image: &[*image],
+            log: APPLIED,
+            out: &[*out],
+        };
+        expect_rows(&rt, rt.alloc(), &[row])?;
     }
     Ok(())
 }
 
 #[test]
 fn refused(rt: HostRuntime) -> Result<(), Fail> {
-    let alloc = rt.alloc();
-    let line = "address 0 00:02:01";
-    let mode2 = {
-        let mut sector = zeros_at(0);
-        sector.put(15, 2);
-        sector
+    const FIRST: &str = "cdpatch 2\naddress 0 00:02:01\n";
+    const SECOND: &str = "cdpatch 2\naddress 1 00:02:01\n";
+    const DAMAGED: &str = "line 2: refused: block 0 is damaged\napplied 0 refused 1\n";
+    const OTHER: &str = "line 2: refused: block 0 is not mode 1\napplied 0 refused 1\n";
+    const NO_FIRST: &str = "line 2: refused: no block 0\napplied 0 refused 1\n";
+    const NO_SECOND: &str = "line 2: refused: no block 1\napplied 0 refused 1\n";
+    expect_rows_left(
+        &rt,
+        rt.alloc(),
+        &[
+            (FIRST, &[Damaged(0, 16, 1)], DAMAGED),
+            (FIRST, &[Damaged(0, 2064, 1)], DAMAGED),
+            (FIRST, &[Damaged(0, 2068, 1)], DAMAGED),
+            (FIRST, &[Damaged(0, 2076, 1)], DAMAGED),
+            (FIRST, &[Damaged(0, 2351, 1)], DAMAGED),
+            (FIRST, &[Damaged(0, 15, 1 ^ 2)], OTHER),
+            (FIRST, &[], NO_FIRST),
+            (SECOND, &[Zeros(0)], NO_SECOND),
+        ],
+    )
+}
+
+/// Two lines that make one sector of block 0 of its sector of zeros.
+fn in_order(
+    rt: &impl Abort,
+    alloc: Global,
+    first: &str,
+    second: &str,
+    after: Sample,
+) -> Result<(), Fail> {
+    let script = format!(in alloc; "cdpatch 2\n{first}\n{second}\n")?;
+    let row = Row {
+        script: &script,
+        image: &[Zeros(0)],
+        log: BOTH_APPLIED,
+        out: &[after],
     };
-    let log = "line 2: refused: block 0 is damaged\napplied 0 refused 1\n";
-    for place in [16, 2064, 2068, 2076, 2351] {
-        let damaged = flipped(zeros_at(0), place);
-        expect(&rt, alloc, line, &[damaged], log, &[damaged])?;
-    }
-    let log = "line 2: refused: block 0 is not mode 1\napplied 0 refused 1\n";
-    expect(&rt, alloc, line, &[mode2], log, &[mode2])?;
-    let log = "line 2: refused: no block 0\napplied 0 refused 1\n";
-    expect(&rt, alloc, line, &[], log, &[])?;
-    let log = "line 2: refused: no block 1\napplied 0 refused 1\n";
-    let one = [zeros_at(0)];
-    expect(&rt, alloc, "address 1 00:02:01", &one, log, &one)
+    expect_rows(rt, alloc, &[row])
 }
 
 /// An address in front of a `set` or a `rebuild` of its block, and behind it.
 #[test]
 fn beside_others(rt: HostRuntime) -> Result<(), Fail> {
-    let alloc = rt.alloc();
-    let address = "address 0 00:02:01";
-    for (other, before, after) in [
-        ("set 0 0 41", zeros_at(0), begun_at(1, 65)),
-        ("set 0 0 41 was 00", zeros_at(0), begun_at(1, 65)),
-        ("fill 0 0 1 41", zeros_at(0), begun_at(1, 65)),
-        ("rebuild 0", zeros_at(0), zeros_at(1)),
-        ("address 0 00:02:01", zeros_at(0), zeros_at(1)),
+    for (other, after) in &[
+        ("set 0 0 41", Filled(1, 0, 1, 65)),
+        ("set 0 0 41 was 00", Filled(1, 0, 1, 65)),
+        ("fill 0 0 1 41", Filled(1, 0, 1, 65)),
+        ("rebuild 0", Zeros(1)),
+        ("address 0 00:02:01", Zeros(1)),
     ] {
-        let lines = format!(in alloc; "{address}\n{other}")?;
-        expect(&rt, alloc, &lines, &[before], BOTH_APPLIED, &[after])?;
-        let lines = format!(in alloc; "{other}\n{address}")?;
-        expect(&rt, alloc, &lines, &[before], BOTH_APPLIED, &[after])?;
+        in_order(&rt, rt.alloc(), "address 0 00:02:01", other, *after)?;
+        in_order(&rt, rt.alloc(), other, "address 0 00:02:01", *after)?;
     }
     Ok(())
 }
@@ -167,52 +101,72 @@ fn beside_others(rt: HostRuntime) -> Result<(), Fail> {
 /// A damaged block takes an address only behind the line that rebuilds it.
 #[test]
 fn behind_a_rebuild(rt: HostRuntime) -> Result<(), Fail> {
-    let alloc = rt.alloc();
-    let image = [flipped(zeros_at(0), 2351)];
-    let lines = "rebuild 0\naddress 0 00:02:01";
-    expect(&rt, alloc, lines, &image, BOTH_APPLIED, &[zeros_at(1)])?;
-    let lines = "address 0 00:02:01\nrebuild 0";
-    let log = "line 2: refused: block 0 is damaged\nline 3: applied\napplied 1 refused 1\n";
-    expect(&rt, alloc, lines, &image, log, &[zeros_at(0)])
+    expect_rows(
+        &rt,
+        rt.alloc(),
+        &[
+            Row {
+                script: "cdpatch 2\nrebuild 0\naddress 0 00:02:01\n",
+                image: &[Damaged(0, 2351, 1)],
+                log: BOTH_APPLIED,
+                out: &[Zeros(1)],
+            },
+            Row {
+                script: "cdpatch 2\naddress 0 00:02:01\nrebuild 0\n",
+                image: &[Damaged(0, 2351, 1)],
+                log: "line 2: refused: block 0 is damaged\nline 3: applied\napplied 1 refused 1\n",
+                out: &[Zeros(0)],
+            },
+        ],
+    )
 }
 
 /// Of patches on one block the last address stays, and a range over three blocks leaves their addresses.
 #[test]
 fn in_the_order_of_blocks(rt: HostRuntime) -> Result<(), Fail> {
-    let alloc = rt.alloc();
-    let lines = "address 0 00:02:05\naddress 0 00:02:07";
-    expect(
+    expect_rows(
         &rt,
-        alloc,
-        lines,
-        &[zeros_at(0)],
-        BOTH_APPLIED,
-        &[zeros_at(7)],
-    )?;
-    let image = [zeros_at(5), zeros_at(5), zeros_at(5), zeros_at(5)];
-    let lines = "address 2 00:02:02\naddress 0 00:02:00\naddress 1 00:02:01\nfill 0 2047 2050 41";
-    let log =
-        "line 3: applied\nline 5: applied\nline 4: applied\nline 2: applied\napplied 4 refused 0\n";
-    let mut last = [0; 2048];
-    last[2047] = 65;
-    let after = [
-        encode([0x00, 0x02, 0x00], &last),
-        encode([0x00, 0x02, 0x01], &[65; 2048]),
-        begun_at(2, 65),
-        zeros_at(5),
-    ];
-    expect(&rt, alloc, lines, &image, log, &after)
+        rt.alloc(),
+        &[
+            Row {
+                script: "cdpatch 2\naddress 0 00:02:05\naddress 0 00:02:07\n",
+                image: &[Zeros(0)],
+                log: BOTH_APPLIED,
+                out: &[Zeros(7)],
+            },
+            Row {
+                script: "cdpatch 2\naddress 2 00:02:02\naddress 0 00:02:00\n\
+                    address 1 00:02:01\nfill 0 2047 2050 41\n",
+                image: &[Zeros(5), Zeros(5), Zeros(5), Zeros(5)],
+                log: "line 3: applied\nline 5: applied\nline 4: applied\n\
+                    line 2: applied\napplied 4 refused 0\n",
+                out: &[
+                    Filled(0, 2047, 2048, 65),
+                    Filled(1, 0, 2048, 65),
+                    Filled(2, 0, 1, 65),
+                    Zeros(5),
+                ],
+            },
+        ],
+    )
+}
+
+/// The text of an audit of an image.
+fn expect_audit(rt: &impl Abort, image: &[u8], text: &str) {
+    let mut told = [0; 256];
+    let mut source = SliceSource::new(image);
+    let answer = audit(&mut source, 0, &mut SliceSink::new(&mut told));
+    assert!(rt; answer.is_ok() && is_text(&told, text), "{text}");
 }
 
 /// What an audit finds of an address is mended by it, and then it finds nothing.
 #[test]
 fn mended(rt: HostRuntime) -> Result<(), Fail> {
-    let alloc = rt.alloc();
-    let image = joined(alloc, &[zeros_at(0), zeros_at(9), zeros_at(2)])?;
+    let image = image_of(rt.alloc(), &[Zeros(0), Zeros(9), Zeros(2)])?;
     let text = "1 address\nsectors 3 mode1 3 damaged 0 tail 0\n";
     expect_audit(&rt, &image, text);
-    let script = script_of(&rt, alloc, "address 1 00:02:01")?;
-    let mut out = vec![in alloc; 0; image.len()]?;
+    let script = script_of(rt.alloc(), "cdpatch 2\naddress 1 00:02:01\n")?;
+    let mut out = memory(rt.alloc(), image.len())?;
     let answer = apply(
         &mut SliceSource::new(&image),
         &script,

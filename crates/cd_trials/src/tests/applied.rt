@@ -1,10 +1,8 @@
 //! Patches that are accepted: each sector that they meet is the one that the encoding from scratch gives.
 
-use super::images::{
-    encoded_at, filled_at, flip, joined, sector, user_filled, zeros_at, zeros_from,
-};
-use super::patching::{Case, expect, repeated};
-use cd_sector::{Sector, encode};
+use super::patching::{Case, Row, expect, expect_left, expect_row_from, expect_rows};
+use cd_samples::Sample::{Addressed, Blank, Damaged, Filled, Mode, Zeros};
+use cd_samples::{cut_image, encoded_at, image_of, joined, repeated, sector_of};
 use std::alloc::{AllocError, Global};
 use std::process::Abort;
 use std::test::Fail;
@@ -13,61 +11,52 @@ const ONE: &str = "line 2: applied\napplied 1 refused 0\n";
 
 const TWO: &str = "line 2: applied\nline 3: applied\napplied 2 refused 0\n";
 
-/// The sectors of so many blocks, the joined user bytes `first` to `end` of which are `41`.
-fn range_filled(
-    alloc: Global,
-    count: u32,
-    first: usize,
-    end: usize,
-) -> Result<Vec<u8>, AllocError> {
+#[test]
+fn bytes_over_three_blocks(rt: HostRuntime) -> Result<(), Fail> {
+    let set = repeated(rt.alloc(), "cdpatch 1\nset 0 2047 ", "41", 4096, "\n")?;
+    for script in [set.as_str(), "cdpatch 1\nfill 0 2047 4096 41\n"] {
+        let row = Row {
+            script,
+            image: &[Zeros(0), Zeros(1), Zeros(2)],
+            log: ONE,
+            out: &[
+                Filled(0, 2047, 2048, 65),
+                Filled(1, 0, 2048, 65),
+                Filled(2, 0, 2047, 65),
+            ],
+        };
+        expect_row_from(&rt, rt.alloc(), 0, &row)?;
+    }
+    Ok(())
+}
+
+/// The sectors of three blocks, the joined user bytes `first` to `end` of which are `41`.
+fn range_filled(alloc: Global, first: usize, end: usize) -> Result<Vec<u8>, AllocError> {
     let mut bytes = Vec::new(alloc);
     let mut before: usize = 0;
-    for block in 0..count {
+    for block in 0..3u32 {
         let from = first.saturating_sub(before);
         let to = end.saturating_sub(before);
-        bytes.extend_from_slice(filled_at(block, from, to, 65).bytes())?;
+        bytes.extend_from_slice(sector_of(&Filled(block, from, to, 65)).bytes())?;
         before = before.saturating_add(2048);
     }
     Ok(bytes)
-}
-
-#[test]
-fn bytes_over_three_blocks(rt: HostRuntime) -> Result<(), Fail> {
-    let image = zeros_from(rt.alloc(), 0, 3)?;
-    let sectors = [
-        filled_at(0, 2047, 2048, 65),
-        filled_at(1, 0, 2048, 65),
-        filled_at(2, 0, 2047, 65),
-    ];
-    let out = joined(rt.alloc(), &sectors)?;
-    let set = repeated(rt.alloc(), "cdpatch 1\nset 0 2047 ", "41", 4096, "\n")?;
-    for script in [set.as_str(), "cdpatch 1\nfill 0 2047 4096 41\n"] {
-        let case = Case {
-            script,
-            image: &image,
-            base: 0,
-            log: ONE,
-            out: &out,
-        };
-        expect(&rt, rt.alloc(), &case)?;
-    }
-    Ok(())
 }
 
 /// Fills these joined user bytes of three sectors with `41`.
 fn fills(
     rt: &impl Abort,
     alloc: Global,
-    image: &[u8],
     patch: &str,
     first: usize,
     end: usize,
 ) -> Result<(), Fail> {
-    let out = range_filled(alloc, 3, first, end)?;
-    let script = repeated(alloc, "cdpatch 1\nfill ", patch, 1, " 41")?;
+    let image = image_of(alloc, &[Zeros(0), Zeros(1), Zeros(2)])?;
+    let out = range_filled(alloc, first, end)?;
+    let script = format!(in alloc; "cdpatch 1\nfill {patch} 41")?;
     let case = Case {
-        script: script.as_str(),
-        image,
+        script: &script,
+        image: &image,
         base: 0,
         log: ONE,
         out: &out,
@@ -77,8 +66,7 @@ fn fills(
 
 #[test]
 fn ranges_at_the_borders_of_blocks(rt: HostRuntime) -> Result<(), Fail> {
-    let image = zeros_from(rt.alloc(), 0, 3)?;
-    for (patch, first, end) in [
+    for (patch, first, end) in &[
         ("0 0 1", 0, 1),
         ("0 0 2048", 0, 2048),
         ("0 0 2049", 0, 2049),
@@ -98,42 +86,48 @@ fn ranges_at_the_borders_of_blocks(rt: HostRuntime) -> Result<(), Fail> {
         ("2 2047 1", 6143, 6144),
         ("2 0 2048", 4096, 6144),
     ] {
-        fills(&rt, rt.alloc(), &image, patch, first, end)?;
+        fills(&rt, rt.alloc(), patch, *first, *end)?;
     }
     Ok(())
 }
 
 #[test]
 fn the_lowest_block_first(rt: HostRuntime) -> Result<(), Fail> {
-    let image = zeros_from(rt.alloc(), 0, 6)?;
-    let mut out = zeros_from(rt.alloc(), 0, 4)?;
-    out.extend_from_slice(filled_at(4, 2047, 2048, 66).bytes())?;
-    out.extend_from_slice(filled_at(5, 0, 1, 65).bytes())?;
-    let case = Case {
-        script: "cdpatch 1\nset 5 0 41\nset 4 2047 4242\n",
-        image: &image,
-        base: 0,
-        log: "line 3: applied\nline 2: applied\napplied 2 refused 0\n",
-        out: &out,
-    };
-    expect(&rt, rt.alloc(), &case)
+    expect_rows(
+        &rt,
+        rt.alloc(),
+        &[Row {
+            script: "cdpatch 1\nset 5 0 41\nset 4 2047 4242\n",
+            image: &[Zeros(0), Zeros(1), Zeros(2), Zeros(3), Zeros(4), Zeros(5)],
+            log: "line 3: applied\nline 2: applied\napplied 2 refused 0\n",
+            out: &[
+                Zeros(0),
+                Zeros(1),
+                Zeros(2),
+                Zeros(3),
+                Filled(4, 2047, 2048, 66),
+                Filled(5, 0, 1, 65),
+            ],
+        }],
+    )
 }
 
 /// Each patch meets three blocks, and the next one writes over the end of its bytes.
 #[test]
 fn overlapping_ranges(rt: HostRuntime) -> Result<(), Fail> {
-    let image = zeros_from(rt.alloc(), 0, 6)?;
-    let mut first = user_filled(0, 2048, 65);
+    let samples = [Zeros(0), Zeros(1), Zeros(2), Zeros(3), Zeros(4), Zeros(5)];
+    let image = image_of(rt.alloc(), &samples)?;
+    let mut first = [65; 2048];
     first[2047] = 66;
-    let mut second = user_filled(0, 2048, 66);
+    let mut second = [66; 2048];
     second[2047] = 67;
     let sectors = [
-        filled_at(0, 2047, 2048, 65),
+        sector_of(&Filled(0, 2047, 2048, 65)),
         encoded_at(1, &first),
         encoded_at(2, &second),
-        filled_at(3, 0, 2048, 67),
-        filled_at(4, 0, 2047, 67),
-        zeros_at(5),
+        sector_of(&Filled(3, 0, 2048, 67)),
+        sector_of(&Filled(4, 0, 2047, 67)),
+        sector_of(&Zeros(5)),
     ];
     let out = joined(rt.alloc(), &sectors)?;
     let case = Case {
@@ -146,146 +140,151 @@ fn overlapping_ranges(rt: HostRuntime) -> Result<(), Fail> {
     expect(&rt, rt.alloc(), &case)
 }
 
-/// What a script of patches must make of one sector.
-fn makes(
-    rt: &impl Abort,
-    alloc: Global,
-    script: &str,
-    image: &Sector,
-    log: &str,
-    out: &Sector,
-) -> Result<(), Fail> {
-    let case = Case {
-        script,
-        image: image.bytes(),
-        base: 0,
-        log,
-        out: out.bytes(),
-    };
-    expect(rt, alloc, &case)
-}
-
 #[test]
 fn one_sector(rt: HostRuntime) -> Result<(), Fail> {
-    let zeros = zeros_at(0);
-    let undone = "cdpatch 1\nset 0 0 41 was 00\nset 0 0 00 was 41\n";
-    makes(&rt, rt.alloc(), undone, &zeros, TWO, &zeros)?;
-    let fill = "cdpatch 1\nfill 0 0 2048 FF\n";
-    let filled = filled_at(0, 0, 2048, 255);
-    makes(&rt, rt.alloc(), fill, &zeros, ONE, &filled)?;
-    let same = "cdpatch 1\nset 0 0 00\n";
-    makes(&rt, rt.alloc(), same, &zeros, ONE, &zeros)?;
-
-    let spaced = "# x\r\n\tcdpatch  1\r\n\r\nset 000 0 aB";
-    let log = "line 4: applied\napplied 1 refused 0\n";
-    let patched = filled_at(0, 0, 1, 171);
-    makes(&rt, rt.alloc(), spaced, &zeros, log, &patched)
+    expect_rows(
+        &rt,
+        rt.alloc(),
+        &[
+            Row {
+                script: "cdpatch 1\nset 0 0 41 was 00\nset 0 0 00 was 41\n",
+                image: &[Zeros(0)],
+                log: TWO,
+                out: &[Zeros(0)],
+            },
+            Row {
+                script: "cdpatch 1\nfill 0 0 2048 FF\n",
+                image: &[Zeros(0)],
+                log: ONE,
+                out: &[Filled(0, 0, 2048, 255)],
+            },
+            Row {
+                script: "cdpatch 1\nset 0 0 00\n",
+                image: &[Zeros(0)],
+                log: ONE,
+                out: &[Zeros(0)],
+            },
+            Row {
+                script: "# x\r\n\tcdpatch  1\r\n\r\nset 000 0 aB",
+                image: &[Zeros(0)],
+                log: "line 4: applied\napplied 1 refused 0\n",
+                out: &[Filled(0, 0, 1, 171)],
+            },
+        ],
+    )
 }
 
 #[test]
 fn headers_that_are_no_address(rt: HostRuntime) -> Result<(), Fail> {
-    let odd = encode([255, 0, 171], &[0; 2048]);
-    let patched = encode([255, 0, 171], &user_filled(2047, 2048, 65));
-    let set = "cdpatch 1\nset 0 2047 41\n";
-    makes(&rt, rt.alloc(), set, &odd, ONE, &patched)?;
-    let rebuild = "cdpatch 1\nrebuild 0\n";
-    makes(&rt, rt.alloc(), rebuild, &odd, ONE, &odd)
+    expect_rows(
+        &rt,
+        rt.alloc(),
+        &[
+            Row {
+                script: "cdpatch 1\nset 0 2047 41\n",
+                image: &[Addressed([255, 0, 171], 0, 0, 0)],
+                log: ONE,
+                out: &[Addressed([255, 0, 171], 2047, 2048, 65)],
+            },
+            Row {
+                script: "cdpatch 1\nrebuild 0\n",
+                image: &[Addressed([255, 0, 171], 0, 0, 0)],
+                log: ONE,
+                out: &[Addressed([255, 0, 171], 0, 0, 0)],
+            },
+        ],
+    )
 }
 
 #[test]
 fn sectors_made_anew(rt: HostRuntime) -> Result<(), Fail> {
-    let rebuild = "cdpatch 1\nrebuild 0\n";
-    let zeros = zeros_at(0);
+    expect_rows(
+        &rt,
+        rt.alloc(),
+        &[
+            Row {
+                script: "cdpatch 1\nrebuild 0\n",
+                image: &[Damaged(0, 16, 65)],
+                log: ONE,
+                out: &[Filled(0, 0, 1, 65)],
+            },
+            Row {
+                script: "cdpatch 1\nrebuild 0\n",
+                image: &[Filled(0, 0, 1, 65)],
+                log: ONE,
+                out: &[Filled(0, 0, 1, 65)],
+            },
+            Row {
+                script: "cdpatch 1\nrebuild 1\nset 1 0 41\n",
+                image: &[Mode(2), Damaged(1, 2351, 1)],
+                log: TWO,
+                out: &[Mode(2), Filled(1, 0, 1, 65)],
+            },
+        ],
+    )
+}
+
+/// All 288 bytes behind the user data are `FF`.
+#[test]
+fn codes_made_anew(rt: HostRuntime) -> Result<(), Fail> {
+    let zeros = sector_of(&Zeros(0));
     let mut damaged = zeros;
-    for place in 2064..2352 {
+    for place in 2064..2352usize {
         damaged.put(place, 255);
     }
-    makes(&rt, rt.alloc(), rebuild, &damaged, ONE, &zeros)?;
-    let mut damaged = zeros;
-    damaged.put(16, 65);
-    let whole = filled_at(0, 0, 1, 65);
-    makes(&rt, rt.alloc(), rebuild, &damaged, ONE, &whole)?;
-    makes(&rt, rt.alloc(), rebuild, &whole, ONE, &whole)?;
-
-    let mut broken = zeros_at(1);
-    flip(&mut broken, 2351);
-    let mode2 = Sector::from_bytes(sector(2));
-    let image = joined(rt.alloc(), &[mode2, broken])?;
-    let out = joined(rt.alloc(), &[mode2, filled_at(1, 0, 1, 65)])?;
     let case = Case {
-        script: "cdpatch 1\nrebuild 1\nset 1 0 41\n",
-        image: &image,
+        script: "cdpatch 1\nrebuild 0\n",
+        image: damaged.bytes(),
         base: 0,
-        log: TWO,
-        out: &out,
+        log: ONE,
+        out: zeros.bytes(),
     };
     expect(&rt, rt.alloc(), &case)
 }
 
 #[test]
 fn no_patches(rt: HostRuntime) -> Result<(), Fail> {
-    let mut damaged = zeros_at(7);
-    flip(&mut damaged, 20);
-    let kinds = [
-        Sector::from_bytes(sector(0)),
-        Sector::from_bytes(sector(2)),
-        Sector::from_bytes(sector(3)),
-        Sector::default(),
-        zeros_at(0),
-        damaged,
-    ];
-    let image = joined(rt.alloc(), &kinds)?;
-    for size in [0, 1, 2351, 2352, 4704, 9_408, 14_111, 14_112] {
-        let cut = image.get(..size).ok_or("too few bytes")?;
+    for size in &[0, 1, 2351, 2352, 4704, 9_408, 14_111, 14_112] {
+        let samples = [
+            Mode(0),
+            Mode(2),
+            Mode(3),
+            Blank,
+            Zeros(0),
+            Damaged(7, 20, 1),
+        ];
+        let image = cut_image(rt.alloc(), &samples, *size)?;
+        let log = "applied 0 refused 0\n";
+        expect_left(&rt, rt.alloc(), 449_849, "cdpatch 1\n", &image, log)?;
+    }
+    Ok(())
+}
+
+/// A sector that a patch fills, and a tail of so many bytes.
+#[test]
+fn a_tail_behind_patched_sectors(rt: HostRuntime) -> Result<(), Fail> {
+    for size in &[2353, 4399, 4703] {
+        let image = cut_image(rt.alloc(), &[Zeros(0), Zeros(1)], *size)?;
+        let out = cut_image(rt.alloc(), &[Filled(0, 0, 2048, 65), Zeros(1)], *size)?;
         let case = Case {
-            script: "cdpatch 1\n",
-            image: cut,
-            base: 449_849,
-            log: "applied 0 refused 0\n",
-            out: cut,
+            script: "cdpatch 1\nfill 0 0 2048 41\n",
+            image: &image,
+            base: 0,
+            log: ONE,
+            out: &out,
         };
         expect(&rt, rt.alloc(), &case)?;
     }
     Ok(())
 }
 
-/// A sector that a patch fills, and a tail of so many bytes.
-fn keeps_a_tail(rt: &impl Abort, alloc: Global, size: usize) -> Result<(), Fail> {
-    let tail = zeros_at(1);
-    let tail = tail.bytes().get(..size).ok_or("too few bytes")?;
-    let mut image = zeros_from(alloc, 0, 1)?;
-    image.extend_from_slice(tail)?;
-    let mut out = joined(alloc, &[filled_at(0, 0, 2048, 65)])?;
-    out.extend_from_slice(tail)?;
-    let case = Case {
-        script: "cdpatch 1\nfill 0 0 2048 41\n",
-        image: &image,
-        base: 0,
-        log: ONE,
-        out: &out,
-    };
-    expect(rt, alloc, &case)
-}
-
-#[test]
-fn a_tail_behind_patched_sectors(rt: HostRuntime) -> Result<(), Fail> {
-    for size in [1, 2047, 2351] {
-        keeps_a_tail(&rt, rt.alloc(), size)?;
-    }
-    Ok(())
-}
-
 #[test]
 fn the_largest_base(rt: HostRuntime) -> Result<(), Fail> {
-    let image = joined(rt.alloc(), &[zeros_at(449_849), zeros_at(0)])?;
-    let sectors = [filled_at(449_849, 2047, 2048, 65), filled_at(0, 0, 2, 65)];
-    let out = joined(rt.alloc(), &sectors)?;
-    let case = Case {
+    let row = Row {
         script: "cdpatch 1\nset 449850 1 41\nset 449849 2047 4141\n",
-        image: &image,
-        base: 449_849,
+        image: &[Zeros(449_849), Zeros(0)],
         log: "line 3: applied\nline 2: applied\napplied 2 refused 0\n",
-        out: &out,
+        out: &[Filled(449_849, 2047, 2048, 65), Filled(0, 0, 2, 65)],
     };
-    expect(&rt, rt.alloc(), &case)
+    expect_row_from(&rt, rt.alloc(), 449_849, &row)
 }

@@ -20,6 +20,14 @@ const NO_LIMIT: Limit = Limit {
     a_call: usize::MAX,
 };
 
+/// So many bytes pass in all.
+pub fn passing(all: u64) -> Limit {
+    Limit {
+        all,
+        a_call: usize::MAX,
+    }
+}
+
 /// What may pass from the image, to the output and to the log.
 #[derive(Clone, Copy)]
 pub struct Limits {

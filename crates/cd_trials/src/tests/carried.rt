@@ -1,11 +1,10 @@
 //! Images with damaged sectors, of which the damage is carried: what goes out is damaged as it was, and nowhere else.
 
-use super::images::{
-    encoded_anew, encoded_at, filled_at, flip, joined, sector, user_filled, zeros_at,
-};
-use super::patching::{Case, expect, expect_carried};
-use cd_sector::{Sector, defect, encode, same_defect, sum_of};
-use std::alloc::Global;
+use super::patching::{Case, Row, expect, expect_carried, expect_left, expect_rows_carried};
+use cd_samples::Sample::{self, Addressed, Blank, Damaged, Filled, Mode, Zeros};
+use cd_samples::{carried, encoded_anew, encoded_at, flipped, joined, sector_of, with_added};
+use cd_sector::{Sector, defect, encode, same_defect};
+use std::alloc::{AllocError, Global};
 use std::process::Abort;
 use std::test::Fail;
 
@@ -15,19 +14,6 @@ const TWO: &str = "line 2: applied\nline 3: applied\napplied 2 refused 0\n";
 
 /// Places in the header, the user data, the EDC, the Intermediate field, and the P and Q parity.
 const PLACES: [usize; 9] = [13, 16, 516, 2063, 2064, 2068, 2076, 2248, 2351];
-
-/// A sector with the lowest bit of a byte flipped.
-fn flipped(whole: Sector, place: usize) -> Sector {
-    let mut damaged = whole;
-    flip(&mut damaged, place);
-    damaged
-}
-
-/// What a sector is carried to: to it is added what two consistent sectors differ in, the one with its old content and
-/// the one with the new.
-fn carried(old: &Sector, new: &Sector) -> Sector {
-    sum_of(old, &sum_of(&encoded_anew(old), new))
-}
 
 /// What a script makes of one sector where its damage is carried.
 fn carries(
@@ -48,61 +34,92 @@ fn carries(
     expect_carried(rt, alloc, &case)
 }
 
-/// The same where it is not.
-fn refuses(
-    rt: &impl Abort,
-    alloc: Global,
-    script: &str,
-    image: &Sector,
-    log: &str,
-) -> Result<(), Fail> {
-    let case = Case {
-        script,
-        image: image.bytes(),
-        base: 0,
-        log,
-        out: image.bytes(),
-    };
-    expect(rt, alloc, &case)
+/// The damage of the parity stays where it is carried, and else the patch is refused.
+#[test]
+fn a_damaged_byte_of_the_parity(rt: HostRuntime) -> Result<(), Fail> {
+    let image = sector_of(&Damaged(0, 2351, 1));
+    let set = "cdpatch 1\nset 0 0 41\n";
+    let whole = flipped(&sector_of(&Filled(0, 0, 1, 65)), 2351);
+    carries(&rt, rt.alloc(), set, &image, ONE, &whole)?;
+    let log = "line 2: refused: block 0 is damaged\napplied 0 refused 1\n";
+    expect_left(&rt, rt.alloc(), 0, set, image.bytes(), log)
 }
 
 #[test]
-fn a_damaged_byte_of_the_parity(rt: HostRuntime) -> Result<(), Fail> {
-    let alloc = rt.alloc();
-    let image = flipped(zeros_at(0), 2351);
-    let set = "cdpatch 1\nset 0 0 41\n";
-    let whole = filled_at(0, 0, 1, 65);
-    carries(&rt, alloc, set, &image, ONE, &flipped(whole, 2351))?;
-    let log = "line 2: refused: block 0 is damaged\napplied 0 refused 1\n";
-    refuses(&rt, alloc, set, &image, log)?;
-    carries(&rt, alloc, set, &zeros_at(0), ONE, &whole)?;
-    let fill = "cdpatch 1\nfill 0 1 2048 FF\n";
-    let log = "line 2: refused: no block 1\napplied 0 refused 1\n";
-    carries(&rt, alloc, fill, &image, log, &image)
+fn nothing_to_carry_and_no_block(rt: HostRuntime) -> Result<(), Fail> {
+    expect_rows_carried(
+        &rt,
+        rt.alloc(),
+        &[
+            Row {
+                script: "cdpatch 1\nset 0 0 41\n",
+                image: &[Zeros(0)],
+                log: ONE,
+                out: &[Filled(0, 0, 1, 65)],
+            },
+            Row {
+                script: "cdpatch 1\nfill 0 1 2048 FF\n",
+                image: &[Damaged(0, 2351, 1)],
+                log: "line 2: refused: no block 1\napplied 0 refused 1\n",
+                out: &[Damaged(0, 2351, 1)],
+            },
+        ],
+    )
+}
+
+/// The damaged byte is put right, and what it had made wrong stays so.
+#[test]
+fn a_damaged_user_byte_put_right(rt: HostRuntime) -> Result<(), Fail> {
+    let image = sector_of(&Damaged(0, 2062, 1));
+    let mut right = sector_of(&Zeros(0));
+    for (place, d) in &[(2065, 0x90), (2066, 0x01), (2067, 0x90)] {
+        right = with_added(&right, *place, *d);
+    }
+    let out = carried(&image, &sector_of(&Zeros(0)));
+    assert!(rt; out.bytes()[..2076] == right.bytes()[..2076]);
+    let set = "cdpatch 1\nset 0 2046 00\n";
+    carries(&rt, rt.alloc(), set, &image, ONE, &out)
 }
 
 #[test]
 fn a_damaged_user_byte(rt: HostRuntime) -> Result<(), Fail> {
-    let alloc = rt.alloc();
-    let image = flipped(zeros_at(0), 2062);
-    let mut right = zeros_at(0);
-    for (place, d) in [(2065, 0x90), (2066, 0x01), (2067, 0x90)] {
-        right.put(place, right.byte(place) ^ d);
-    }
-    let set = "cdpatch 1\nset 0 2046 00\n";
-    let out = carried(&image, &zeros_at(0));
-    for place in 0..2076usize {
-        assert_eq!(rt; out.byte(place), right.byte(place), "byte {place}");
-    }
-    carries(&rt, alloc, set, &image, ONE, &out)?;
-    let back = "cdpatch 1\nset 0 2046 00\nset 0 2046 01\n";
-    carries(&rt, alloc, back, &image, TWO, &image)?;
-    let was = "cdpatch 1\nset 0 2046 41 was 00\n";
-    let log = "line 2: refused: old bytes differ at block 0 offset 2046\napplied 0 refused 1\n";
-    carries(&rt, alloc, was, &image, log, &image)?;
-    let rebuild = "cdpatch 1\nrebuild 0\n";
-    let whole = filled_at(0, 2046, 2047, 1);
-    carries(&rt, alloc, rebuild, &image, ONE, &whole)
+    expect_rows_carried(
+        &rt,
+        rt.alloc(),
+        &[
+            Row {
+                script: "cdpatch 1\nset 0 2046 00\nset 0 2046 01\n",
+                image: &[Damaged(0, 2062, 1)],
+                log: TWO,
+                out: &[Damaged(0, 2062, 1)],
+            },
+            Row {
+                script: "cdpatch 1\nset 0 2046 41 was 00\n",
+                image: &[Damaged(0, 2062, 1)],
+                log: "line 2: refused: old bytes differ at block 0 offset 2046\napplied 0 refused 1\n",
+                out: &[Damaged(0, 2062, 1)],
+            },
+            Row {
+                script: "cdpatch 1\nrebuild 0\n",
+                image: &[Damaged(0, 2062, 1)],
+                log: ONE,
+                out: &[Filled(0, 2046, 2047, 1)],
+            },
+        ],
+    )
+}
+
+/// What lines of version 2 make of one sector where its damage is carried.
+fn lines_carry(
+    rt: &impl Abort,
+    alloc: Global,
+    lines: &str,
+    image: &Sector,
+    log: &str,
+    out: &Sector,
+) -> Result<(), Fail> {
+    let script = format!(in alloc; "cdpatch 2\n{lines}\n")?;
+    carries(rt, alloc, &script, image, log, out)
 }
 
 /// A line that makes `new` of the consistent sector with the content of `old`: what goes out has the damage of `old`.
@@ -114,30 +131,28 @@ fn keeps_damage(
     new: &Sector,
 ) -> Result<(), Fail> {
     let out = carried(old, new);
-    assert!(rt; same_defect(&out, old), "{line}");
-    assert_eq!(rt; defect(&out), defect(old), "{line}");
-    let script = format!(in alloc; "cdpatch 2\n{line}\n")?;
-    carries(rt, alloc, &script, old, ONE, &out)
+    assert!(rt;
+        same_defect(&out, old) && defect(&out) == defect(old),
+        "{line}"
+    );
+    lines_carry(rt, alloc, line, old, ONE, &out)
 }
 
 /// A damaged byte in each region, with a patch over it and beside it.
 #[test]
 fn damage_in_each_region(rt: HostRuntime) -> Result<(), Fail> {
-    let alloc = rt.alloc();
-    for place in PLACES {
-        let image = flipped(zeros_at(0), place);
+    for place in &PLACES {
+        let image = sector_of(&Damaged(0, *place, 1));
         let [minute, second, fraction, _] = image.header();
         let mut user = [0; 2048];
-        for (new, old) in user.iter_mut().zip(image.user()) {
-            *new = *old;
-        }
+        user.copy_from_slice(image.user());
         let other = encode([0x12, 0x34, 0x56], &user);
-        keeps_damage(&rt, alloc, "address 0 12:34:56", &image, &other)?;
+        keeps_damage(&rt, rt.alloc(), "address 0 12:34:56", &image, &other)?;
         let filled = encode([minute, second, fraction], &[255; 2048]);
-        keeps_damage(&rt, alloc, "fill 0 0 2048 FF", &image, &filled)?;
+        keeps_damage(&rt, rt.alloc(), "fill 0 0 2048 FF", &image, &filled)?;
         user[500] = 65;
         let over = encode([minute, second, fraction], &user);
-        keeps_damage(&rt, alloc, "set 0 500 41", &image, &over)?;
+        keeps_damage(&rt, rt.alloc(), "set 0 500 41", &image, &over)?;
     }
     Ok(())
 }
@@ -145,56 +160,58 @@ fn damage_in_each_region(rt: HostRuntime) -> Result<(), Fail> {
 /// A patch and then its inverse give the image back.
 #[test]
 fn there_and_back(rt: HostRuntime) -> Result<(), Fail> {
-    let alloc = rt.alloc();
-    for place in PLACES {
-        let image = flipped(encoded_at(0, &[7; 2048]), place);
-        let second = if place == 13 { 3 } else { 2 };
-        let address = format!(in alloc; "address 0 12:34:56\naddress 0 00:0{second}:00")?;
-        for lines in [
-            "set 0 505 4142 was 0707\nset 0 505 0707 was 4142",
-            "fill 0 501 1546 FF\nfill 0 501 1546 07",
-            address.as_str(),
-        ] {
-            let script = format!(in alloc; "cdpatch 2\n{lines}\n")?;
-            carries(&rt, alloc, &script, &image, TWO, &image)?;
-        }
+    let whole = encoded_at(0, &[7; 2048]);
+    for place in &PLACES {
+        let image = flipped(&whole, *place);
+        let set = "set 0 505 4142 was 0707\nset 0 505 0707 was 4142";
+        lines_carry(&rt, rt.alloc(), set, &image, TWO, &image)?;
+        let fill = "fill 0 501 1546 FF\nfill 0 501 1546 07";
+        lines_carry(&rt, rt.alloc(), fill, &image, TWO, &image)?;
+        let address = if *place == 13 {
+            "address 0 12:34:56\naddress 0 00:03:00"
+        } else {
+            "address 0 12:34:56\naddress 0 00:02:00"
+        };
+        lines_carry(&rt, rt.alloc(), address, &image, TWO, &image)?;
     }
     Ok(())
 }
 
+/// Four sectors and a tail of three bytes.
+fn with_tail(alloc: Global, sectors: [Sector; 4]) -> Result<Vec<u8>, AllocError> {
+    let mut bytes = joined(alloc, &sectors)?;
+    bytes.extend_from_slice(&[1, 2, 3])?;
+    Ok(bytes)
+}
+
 /// The range of a patch begins in one block and ends in the third; the second is damaged, and so is one behind them.
+fn carries_the_middle(rt: &impl Abort, alloc: Global, place: usize) -> Result<(), Fail> {
+    let second = sector_of(&Damaged(8, place, 1));
+    let behind = sector_of(&Damaged(10, place, 1));
+    let [minute, frame, fraction, _] = second.header();
+    let filled = encode([minute, frame, fraction], &[65; 2048]);
+    let sectors = [sector_of(&Zeros(7)), second, sector_of(&Zeros(9)), behind];
+    let image = with_tail(alloc, sectors)?;
+    let first = sector_of(&Filled(7, 2047, 2048, 65));
+    let third = sector_of(&Filled(9, 0, 1, 65));
+    let sectors = [first, carried(&second, &filled), third, behind];
+    let out = with_tail(alloc, sectors)?;
+    let case = Case {
+        script: "cdpatch 1\nfill 7 2047 2050 41\n",
+        image: &image,
+        base: 7,
+        log: ONE,
+        out: &out,
+    };
+    expect_carried(rt, alloc, &case)?;
+    let log = "line 2: refused: block 8 is damaged\napplied 0 refused 1\n";
+    expect_left(rt, alloc, 7, case.script, &image, log)
+}
+
 #[test]
 fn a_damaged_sector_in_the_middle(rt: HostRuntime) -> Result<(), Fail> {
-    let alloc = rt.alloc();
-    for place in PLACES {
-        let second = flipped(zeros_at(8), place);
-        let behind = flipped(zeros_at(10), place);
-        let mut image = joined(alloc, &[zeros_at(7), second, zeros_at(9), behind])?;
-        image.extend_from_slice(&[1, 2, 3])?;
-        let [minute, frame, fraction, _] = second.header();
-        let filled = encode([minute, frame, fraction], &[65; 2048]);
-        let sectors = [
-            filled_at(7, 2047, 2048, 65),
-            carried(&second, &filled),
-            filled_at(9, 0, 1, 65),
-            behind,
-        ];
-        let mut out = joined(alloc, &sectors)?;
-        out.extend_from_slice(&[1, 2, 3])?;
-        let case = Case {
-            script: "cdpatch 1\nfill 7 2047 2050 41\n",
-            image: &image,
-            base: 7,
-            log: ONE,
-            out: &out,
-        };
-        expect_carried(&rt, alloc, &case)?;
-        let case = Case {
-            log: "line 2: refused: block 8 is damaged\napplied 0 refused 1\n",
-            out: &image,
-            ..case
-        };
-        expect(&rt, alloc, &case)?;
+    for place in &PLACES {
+        carries_the_middle(&rt, rt.alloc(), *place)?;
     }
     Ok(())
 }
@@ -202,48 +219,52 @@ fn a_damaged_sector_in_the_middle(rt: HostRuntime) -> Result<(), Fail> {
 /// All but the damage is asked: the sync field, the mode, the block and the old bytes, each in its turn.
 #[test]
 fn refusals_that_stay(rt: HostRuntime) -> Result<(), Fail> {
-    let alloc = rt.alloc();
     let log = "line 2: refused: block 0 is not mode 1\napplied 0 refused 1\n";
-    for image in [
-        flipped(zeros_at(0), 0),
-        flipped(zeros_at(0), 11),
-        flipped(zeros_at(0), 15),
-        Sector::from_bytes(sector(2)),
-        Sector::default(),
+    for sample in &[
+        Damaged(0, 0, 1),
+        Damaged(0, 11, 1),
+        Damaged(0, 15, 1),
+        Mode(2),
+        Blank,
     ] {
-        for script in [
+        let image = sector_of(sample);
+        for script in &[
             "cdpatch 2\nset 0 0 41\n",
             "cdpatch 2\nfill 0 1 2048 FF\n",
             "cdpatch 2\nrebuild 0\n",
             "cdpatch 2\naddress 0 00:02:00\n",
         ] {
-            carries(&rt, alloc, script, &image, log, &image)?;
+            carries(&rt, rt.alloc(), script, &image, log, &image)?;
         }
     }
-    let damaged = flipped(zeros_at(0), 2351);
-    let image = joined(alloc, &[damaged, Sector::default()])?;
-    let case = Case {
-        script: "cdpatch 1\nset 0 2047 4141 was 0100\nset 0 0 41 was 01\nset 2 0 41\n",
-        image: &image,
-        base: 0,
-        log: "line 2: refused: block 1 is not mode 1\n\
+    Ok(())
+}
+
+#[test]
+fn refusals_in_their_turn(rt: HostRuntime) -> Result<(), Fail> {
+    expect_rows_carried(
+        &rt,
+        rt.alloc(),
+        &[Row {
+            script: "cdpatch 1\nset 0 2047 4141 was 0100\nset 0 0 41 was 01\nset 2 0 41\n",
+            image: &[Damaged(0, 2351, 1), Blank],
+            log: "line 2: refused: block 1 is not mode 1\n\
             line 3: refused: old bytes differ at block 0 offset 0\n\
             line 4: refused: no block 2\napplied 0 refused 3\n",
-        out: &image,
-    };
-    expect_carried(&rt, alloc, &case)
+            out: &[Damaged(0, 2351, 1), Blank],
+        }],
+    )
 }
 
 /// A rebuild between two patches: what stands behind it has no damage to carry.
 #[test]
 fn a_rebuild_between_patches(rt: HostRuntime) -> Result<(), Fail> {
-    let alloc = rt.alloc();
-    let log = "line 2: applied\nline 3: applied\nline 4: applied\napplied 3 refused 0\n";
-    let script = "cdpatch 2\nset 0 0 41\nrebuild 0\naddress 0 00:02:01\n";
-    let other = encode([0x00, 0x02, 0x01], &user_filled(0, 1, 65));
-    for place in [2064usize, 2068, 2076, 2351] {
-        let image = flipped(zeros_at(0), place);
-        carries(&rt, alloc, script, &image, log, &other)?;
+    let other = sector_of(&Addressed([0x00, 0x02, 0x01], 0, 1, 65));
+    for place in &[2064, 2068, 2076, 2351] {
+        let image = sector_of(&Damaged(0, *place, 1));
+        let script = "cdpatch 2\nset 0 0 41\nrebuild 0\naddress 0 00:02:01\n";
+        let log = "line 2: applied\nline 3: applied\nline 4: applied\napplied 3 refused 0\n";
+        carries(&rt, rt.alloc(), script, &image, log, &other)?;
     }
     Ok(())
 }

@@ -1,46 +1,44 @@
 //! Images cut in their first bytes and about the ends of their sectors.
 
-use super::images::{filled_at, joined, zeros_from};
-use super::patching::{Case, expect};
+use super::patching::{Row, expect_left, expect_rows};
+use cd_samples::Sample::{Filled, Zeros};
+use cd_samples::cut_image;
+use std::alloc::Global;
+use std::ops::Range;
+use std::process::Abort;
 use std::test::Fail;
 
 const SCRIPT: &str = "cdpatch 1\nset 0 2047 4142\n";
 
-#[test]
-fn cut_before_a_block_of_the_patch(rt: HostRuntime) -> Result<(), Fail> {
-    let whole = zeros_from(rt.alloc(), 0, 2)?;
-    for size in (0..13).chain(2340..2365).chain(4692..4704) {
-        let image = whole.get(..size).ok_or("too few bytes")?;
-        let log = if size < 2352 {
-            "line 2: refused: no block 0\napplied 0 refused 1\n"
-        } else {
-            "line 2: refused: no block 1\napplied 0 refused 1\n"
-        };
-        let case = Case {
-            script: SCRIPT,
-            image,
-            base: 0,
-            log,
-            out: image,
-        };
-        expect(&rt, rt.alloc(), &case)?;
+/// The script leaves two sectors that are cut to these sizes as they are.
+fn leaves_cut(rt: &impl Abort, alloc: Global, sizes: Range<usize>, log: &str) -> Result<(), Fail> {
+    for size in sizes {
+        let image = cut_image(alloc, &[Zeros(0), Zeros(1)], size)?;
+        expect_left(rt, alloc, 0, SCRIPT, &image, log)?;
     }
     Ok(())
 }
 
 #[test]
+fn cut_before_a_block_of_the_patch(rt: HostRuntime) -> Result<(), Fail> {
+    let log = "line 2: refused: no block 0\napplied 0 refused 1\n";
+    leaves_cut(&rt, rt.alloc(), 0..13, log)?;
+    leaves_cut(&rt, rt.alloc(), 2340..2352, log)?;
+    let log = "line 2: refused: no block 1\napplied 0 refused 1\n";
+    leaves_cut(&rt, rt.alloc(), 2352..2365, log)?;
+    leaves_cut(&rt, rt.alloc(), 4692..4704, log)
+}
+
+#[test]
 fn cut_behind_the_last_block_of_the_patch(rt: HostRuntime) -> Result<(), Fail> {
-    let image = zeros_from(rt.alloc(), 0, 2)?;
-    let out = joined(
+    expect_rows(
+        &rt,
         rt.alloc(),
-        &[filled_at(0, 2047, 2048, 65), filled_at(1, 0, 1, 66)],
-    )?;
-    let case = Case {
-        script: SCRIPT,
-        image: &image,
-        base: 0,
-        log: "line 2: applied\napplied 1 refused 0\n",
-        out: &out,
-    };
-    expect(&rt, rt.alloc(), &case)
+        &[Row {
+            script: SCRIPT,
+            image: &[Zeros(0), Zeros(1)],
+            log: "line 2: applied\napplied 1 refused 0\n",
+            out: &[Filled(0, 2047, 2048, 65), Filled(1, 0, 1, 66)],
+        }],
+    )
 }

@@ -1,90 +1,74 @@
 //! Sources and sinks that fail at each byte: what went out is a beginning of the text.
 
-use super::images::{image, sector};
 use cd_image::{FailAfter, Fault, SliceSink, SliceSource, list};
+use cd_samples::Sample::{Blank, Mode};
+use cd_samples::{cut_image, flipped, image_of, is_front, sector_of};
+use std::alloc::AllocError;
 use std::process::Abort;
-use std::test::Fail;
 
-/// How many bytes of a text the memory holds, which has nothing behind them.
-fn sent(rt: &impl Abort, space: &[u8], text: &str) -> usize {
-    let sent = space.iter().take_while(|byte| **byte != 0).count();
-    assert!(rt; space.iter().skip(sent).all(|byte| *byte == 0), "{text}");
-    assert!(rt;
-        space
-            .iter()
-            .zip(text.as_bytes())
-            .take(sent)
-            .all(|(a, b)| *a == *b),
-        "{text}"
-    );
-    sent
+/// Lists an image whose read fails behind so many bytes. So many bytes of the text are out then.
+fn image_fails(rt: &impl Abort, bytes: &[u8], base: u8, text: &str, count: usize, out: usize) {
+    let mut space = [0; 128];
+    let mut source = FailAfter::new(SliceSource::new(bytes), count as u64);
+    let mut sink = SliceSink::new(&mut space);
+    let answer = list(&mut source, u32::from(base), &mut sink);
+    let ends_so = if count <= bytes.len() {
+        answer == Err(Fault::Read)
+    } else {
+        answer.is_ok()
+    };
+    assert!(rt; ends_so && is_front(&space, text, out), "{count}");
 }
 
-/// Lists an image of which each byte in turn is the first that cannot be read. Behind each number of bytes in
-/// `due` so many bytes of the text have to be out.
-fn the_image_fails(rt: &impl Abort, bytes: &[u8], base: u8, text: &str, due: &[(u64, usize)]) {
-    let size = bytes.len() as u64;
-    for count in 0..10_000u64 {
-        let mut space = [0; 128];
-        let mut source = FailAfter::new(SliceSource::new(bytes), count);
-        let answer = list(
-            &mut source,
-            u32::from(base),
-            &mut SliceSink::new(&mut space),
-        );
-        let now = sent(rt, &space, text);
-        if count <= size {
-            assert_eq!(rt; answer, Err(Fault::Read), "{count}");
-            let mut out = 0;
-            for (read, size) in due {
-                if *read <= count {
-                    out = *size;
-                }
+/// Lists an image to a sink that fails behind so many bytes.
+fn sink_fails(rt: &impl Abort, bytes: &[u8], base: u8, text: &str, count: usize) {
+    let mut space = [0; 128];
+    let mut sink = FailAfter::new(SliceSink::new(&mut space), count as u64);
+    let answer = list(&mut SliceSource::new(bytes), u32::from(base), &mut sink);
+    let ends_so = if text.len() < count {
+        answer.is_ok()
+    } else {
+        answer == Err(Fault::Write)
+    };
+    let out = text.len().min(count);
+    assert!(rt; ends_so && is_front(&space, text, out), "{count}");
+}
+
+/// Lists an image of which each byte in turn is the first that cannot be read, and then to a sink that takes each number
+/// of bytes in turn. Behind each number of bytes in `due` so many bytes of the text have to be out.
+fn fails_everywhere(rt: &impl Abort, bytes: &[u8], base: u8, text: &str, due: &[(usize, usize)]) {
+    for count in 0..bytes.len().saturating_add(2) {
+        let mut out = if count <= bytes.len() { 0 } else { text.len() };
+        for (read, size) in due {
+            if *read <= count && count <= bytes.len() {
+                out = *size;
             }
-            assert_eq!(rt; now, out, "{count}");
-        } else {
-            assert!(rt; answer.is_ok(), "{count}");
-            assert_eq!(rt; now, text.len(), "{count}");
-            return;
         }
+        image_fails(rt, bytes, base, text, count, out);
     }
-}
-
-/// Lists an image to a sink that takes each number of bytes in turn.
-fn the_sink_fails(rt: &impl Abort, bytes: &[u8], base: u8, text: &str) {
-    for count in 0..128u64 {
-        let mut space = [0; 128];
-        let mut sink = FailAfter::new(SliceSink::new(&mut space), count);
-        let answer = list(&mut SliceSource::new(bytes), u32::from(base), &mut sink);
-        let is_whole = text.len() < count as usize;
-        assert_eq!(rt; answer.is_ok(), is_whole, "{count}");
-        assert!(rt; is_whole || answer == Err(Fault::Write), "{count}");
-        assert_eq!(rt;
-            sent(rt, &space, text),
-            text.len().min(count as usize),
-            "{count}"
-        );
+    for count in 0..128usize {
+        sink_fails(rt, bytes, base, text, count);
     }
 }
 
 #[test]
-fn at_each_byte(rt: HostRuntime) -> Result<(), Fail> {
-    let alloc = rt.alloc();
-    let kinds = image(alloc, &[1, 2, 2], 2352)?;
+fn at_each_byte_of_runs(rt: HostRuntime) -> Result<(), AllocError> {
+    let kinds = image_of(rt.alloc(), &[Mode(1), Mode(2), Mode(2), Blank])?;
     let text = "0-0 mode1\n1-2 mode2\n3-3 nosync\nsectors 4 tail 0\n";
-    the_image_fails(&rt, kinds.as_slice(), 0, text, &[(4704, 10), (9408, 20)]);
-    the_sink_fails(&rt, kinds.as_slice(), 0, text);
-    let cut = image(alloc, &[0, 3, 1, 1], 2351)?;
+    fails_everywhere(&rt, &kinds, 0, text, &[(4704, 10), (9408, 20)]);
+    let samples = [Mode(0), Mode(3), Mode(1), Mode(1), Blank];
+    let cut = cut_image(rt.alloc(), &samples, 11_759)?;
     let text = "0-0 mode0\n1-1 other\n2-3 mode1\nsectors 4 tail 2351\n";
-    the_image_fails(&rt, cut.as_slice(), 0, text, &[(4704, 10), (7056, 20)]);
-    the_sink_fails(&rt, cut.as_slice(), 0, text);
-    let text = "7-7 mode1\nsectors 1 tail 0\n";
-    the_image_fails(&rt, &sector(1), 7, text, &[]);
-    the_sink_fails(&rt, &sector(1), 7, text);
-    let mut broken = sector(1);
-    broken[11] = 1;
-    let text = "0-0 nosync\nsectors 1 tail 0\n";
-    the_image_fails(&rt, &broken, 0, text, &[]);
-    the_sink_fails(&rt, &broken, 0, text);
+    fails_everywhere(&rt, &cut, 0, text, &[(4704, 10), (7056, 20)]);
     Ok(())
+}
+
+#[test]
+fn at_each_byte_of_one_sector(rt: HostRuntime) {
+    let whole = sector_of(&Mode(1));
+    let text = "7-7 mode1\nsectors 1 tail 0\n";
+    fails_everywhere(&rt, whole.bytes(), 7, text, &[]);
+    let broken = flipped(&whole, 11);
+    let text = "0-0 nosync\nsectors 1 tail 0\n";
+    fails_everywhere(&rt, broken.bytes(), 0, text, &[]);
 }

@@ -1,9 +1,10 @@
 //! One of an image, an output and a log fails at each byte of a patched image: what went to the others is known.
 
-use super::calls::{Call, Ending, Limit, Limits, NO_LIMITS, apply_within, check_within};
-use super::images::{filled_at, flip, joined, zeros_at, zeros_from};
-use super::patching::{has_failed, has_front, memory, script_of, written};
+use super::calls::{Call, Ending, Limit, Limits, NO_LIMITS, apply_within, check_within, passing};
+use super::patching::{has_failed, has_front, memory, written};
 use cd_image::{Fault, Tally};
+use cd_samples::Sample::{Filled, Zeros};
+use cd_samples::{image_of, script_of};
 use cd_script::Script;
 use std::alloc::Global;
 use std::process::Abort;
@@ -27,12 +28,12 @@ struct Parts {
     whole: Vec<u8>,
 }
 
-fn make_parts(rt: &impl Abort, alloc: Global) -> Result<Parts, Fail> {
+fn make_parts(alloc: Global) -> Result<Parts, Fail> {
     Ok(Parts {
-        image: zeros_from(alloc, 0, 3)?,
-        script: script_of(rt, alloc, "cdpatch 1\nset 1 0 41\n")?,
+        image: image_of(alloc, &[Zeros(0), Zeros(1), Zeros(2)])?,
+        script: script_of(alloc, "cdpatch 1\nset 1 0 41\n")?,
         carry: false,
-        whole: joined(alloc, &[zeros_at(0), filled_at(1, 0, 1, 65), zeros_at(2)])?,
+        whole: image_of(alloc, &[Zeros(0), Filled(1, 0, 1, 65), Zeros(2)])?,
     })
 }
 
@@ -54,14 +55,6 @@ fn checks(parts: &Parts, limits: &Limits, lines: &mut [u8]) -> Ending {
         carry: parts.carry,
     };
     check_within(&call, limits, lines, &mut [0])
-}
-
-/// So many bytes pass in all.
-fn passing(all: u64) -> Limit {
-    Limit {
-        all,
-        a_call: usize::MAX,
-    }
 }
 
 /// Asserts the answer, and that what it names has failed once and nothing else has.
@@ -101,7 +94,7 @@ fn image_fails(rt: &impl Abort, parts: &Parts, space: &mut [u8], count: u64) {
 
 #[test]
 fn the_image_fails_at_each_byte(rt: HostRuntime) -> Result<(), Fail> {
-    let parts = make_parts(&rt, rt.alloc())?;
+    let parts = make_parts(rt.alloc())?;
     let mut space = memory(rt.alloc(), 7056)?;
     for count in 0..7057u64 {
         image_fails(&rt, &parts, &mut space, count);
@@ -132,7 +125,7 @@ fn output_fails(rt: &impl Abort, parts: &Parts, space: &mut [u8], count: u64) {
 /// The memory is the same each time: what lies behind the bytes that pass was never written to.
 #[test]
 fn the_output_fails_at_each_byte(rt: HostRuntime) -> Result<(), Fail> {
-    let parts = make_parts(&rt, rt.alloc())?;
+    let parts = make_parts(rt.alloc())?;
     let mut space = memory(rt.alloc(), 7056)?;
     for count in 0..7057u64 {
         output_fails(&rt, &parts, &mut space, count);
@@ -166,7 +159,7 @@ fn log_fails(rt: &impl Abort, parts: &Parts, space: &mut [u8], count: u64) {
 
 #[test]
 fn the_log_fails_at_each_byte(rt: HostRuntime) -> Result<(), Fail> {
-    let parts = make_parts(&rt, rt.alloc())?;
+    let parts = make_parts(rt.alloc())?;
     let mut space = memory(rt.alloc(), 7056)?;
     for count in 0..37u64 {
         log_fails(&rt, &parts, &mut space, count);
@@ -202,7 +195,7 @@ fn nothing_fails(
 /// Each of the three alone, and then all of them, may pass one byte more than the whole.
 #[test]
 fn none_fails_behind_the_last_byte(rt: HostRuntime) -> Result<(), Fail> {
-    let parts = make_parts(&rt, rt.alloc())?;
+    let parts = make_parts(rt.alloc())?;
     for (image, out, log) in [
         (7057, u64::MAX, u64::MAX),
         (u64::MAX, 7057, u64::MAX),
@@ -237,7 +230,7 @@ fn in_parts(number: u32) -> Limit {
 /// Few bytes a call on each of the three, in every mixture.
 #[test]
 fn few_bytes_a_call(rt: HostRuntime) -> Result<(), Fail> {
-    let parts = make_parts(&rt, rt.alloc())?;
+    let parts = make_parts(rt.alloc())?;
     for mixture in 0..125u32 {
         let limits = Limits {
             image: in_parts(mixture),
@@ -252,7 +245,7 @@ fn few_bytes_a_call(rt: HostRuntime) -> Result<(), Fail> {
 /// The output ends in the second of three sectors: the first byte of that is still that of the sync field.
 #[test]
 fn an_output_that_fails_in_a_patched_sector(rt: HostRuntime) -> Result<(), Fail> {
-    let parts = make_parts(&rt, rt.alloc())?;
+    let parts = make_parts(rt.alloc())?;
     let mut space = memory(rt.alloc(), 7056)?;
     output_fails(&rt, &parts, &mut space, 2353);
     assert!(rt; has_front(&space, &parts.image, 2353));
@@ -260,23 +253,26 @@ fn an_output_that_fails_in_a_patched_sector(rt: HostRuntime) -> Result<(), Fail>
     Ok(())
 }
 
-/// The same of an image whose patched sector is damaged, where that is carried.
-fn make_carried_parts(rt: &impl Abort, alloc: Global) -> Result<Parts, Fail> {
-    let (mut damaged, mut patched) = (zeros_at(1), filled_at(1, 0, 1, 65));
-    flip(&mut damaged, 2351);
-    flip(&mut patched, 2351);
-    Ok(Parts {
-        image: joined(alloc, &[zeros_at(0), damaged, zeros_at(2)])?,
-        script: script_of(rt, alloc, "cdpatch 1\nset 1 0 41\n")?,
-        carry: true,
-        whole: joined(alloc, &[zeros_at(0), patched, zeros_at(2)])?,
-    })
+/// Flips the lowest bit of a byte.
+fn flip(bytes: &mut [u8], place: usize) {
+    if place < bytes.len() {
+        bytes[place] ^= 1;
+    }
+}
+
+/// The same with the last byte of the patched sector damaged, where that is carried.
+fn make_carried_parts(alloc: Global) -> Result<Parts, Fail> {
+    let mut parts = make_parts(alloc)?;
+    parts.carry = true;
+    flip(&mut parts.image, 4703);
+    flip(&mut parts.whole, 4703);
+    Ok(parts)
 }
 
 /// One of the three fails at a border of a sector, within one, or where the patch is told, and damage is carried.
 #[test]
 fn failures_where_damage_is_carried(rt: HostRuntime) -> Result<(), Fail> {
-    let parts = make_carried_parts(&rt, rt.alloc())?;
+    let parts = make_carried_parts(rt.alloc())?;
     for count in [0, 1, 2351, 2352, 2353, 3000, 4703, 4704, 4705, 7055, 7056] {
         let mut space = memory(rt.alloc(), 7056)?;
         image_fails(&rt, &parts, &mut space, count);

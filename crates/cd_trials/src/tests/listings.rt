@@ -2,13 +2,14 @@
 
 ghost use Rattle.std.specs.Prelude.{◌≤◌};
 
-use super::images::{image, sector};
 use cd_image::{ListTally, MAX_BASE, Short, SliceSink, SliceSource, list};
+use cd_samples::Sample::{self, Blank, Mode, Zeros};
+use cd_samples::{cut_image, flipped, image_of, is_text, sector_of};
+use std::alloc::{AllocError, Global};
 use std::process::Abort;
-use std::test::Fail;
 
 /// Lists an image by as many bytes a call as it has, and by few.
-fn expect(rt: &impl Abort, bytes: &[u8], base: u32, text: &str, tally: ListTally)
+fn expect(rt: &impl Abort, bytes: &[u8], base: u32, text: &str, sectors: u32, tail: u16)
     requires { base ≤ MAX_BASE }
 {
     for most in [1, 2, 2351, 2353, 1_000_000] {
@@ -16,87 +17,94 @@ fn expect(rt: &impl Abort, bytes: &[u8], base: u32, text: &str, tally: ListTally
         let mut source = Short::new(SliceSource::new(bytes), most);
         let mut sink = Short::new(SliceSink::new(&mut space), most);
         let answer = list(&mut source, base, &mut sink);
-        assert_eq!(rt; answer, Ok(tally), "{text}");
-        let got = space.as_slice();
-        assert!(rt; got.starts_with(text.as_bytes()), "{text}");
-        assert!(rt;
-            got.iter().skip(text.len()).all(|byte| *byte == 0),
-            "{text}"
-        );
+        let is_counted = answer == Ok(ListTally { sectors, tail });
+        assert!(rt; is_counted && is_text(&space, text), "{text}");
     }
 }
 
-#[test]
-fn no_bytes(rt: HostRuntime) {
-    let tally = ListTally {
-        sectors: 0,
-        tail: 0,
-    };
-    expect(&rt, &[], 0, "sectors 0 tail 0\n", tally);
-}
-
-#[test]
-fn bytes_without_sync(rt: HostRuntime) {
-    let tally = ListTally {
-        sectors: 2,
-        tail: 1,
-    };
-    expect(&rt, &[65; 4705], 0, "0-1 nosync\nsectors 2 tail 1\n", tally);
-}
-
-#[test]
-fn runs_of_kinds(rt: HostRuntime) -> Result<(), Fail> {
-    let bytes = image(rt.alloc(), &[1, 2, 2], 2352)?;
-    let tally = ListTally {
-        sectors: 4,
-        tail: 0,
-    };
-    let text = "0-0 mode1\n1-2 mode2\n3-3 nosync\nsectors 4 tail 0\n";
-    expect(&rt, bytes.as_slice(), 0, text, tally);
-
-    let bytes = image(rt.alloc(), &[0, 3, 1, 1], 2351)?;
-    let tally = ListTally {
-        sectors: 4,
-        tail: 2351,
-    };
-    let text = "0-0 mode0\n1-1 other\n2-3 mode1\nsectors 4 tail 2351\n";
-    expect(&rt, bytes.as_slice(), 0, text, tally);
+/// The same of images that are told in short, each with its base, its text and the number of its sectors.
+fn expect_rows(
+    rt: &impl Abort,
+    alloc: Global,
+    rows: &[(&[Sample], u32, &str, u32)],
+) -> Result<(), AllocError> {
+    for (image, base, text, sectors) in rows {
+        let bytes = image_of(alloc, image)?;
+        assert!(rt; *base <= MAX_BASE);
+        expect(rt, &bytes, *base, text, *sectors, 0);
+    }
     Ok(())
 }
 
 #[test]
-fn one_sector(rt: HostRuntime) {
-    let tally = ListTally {
-        sectors: 1,
-        tail: 0,
-    };
-    expect(&rt, &sector(1), 7, "7-7 mode1\nsectors 1 tail 0\n", tally);
-    let mut broken = sector(1);
-    broken[11] = 1;
-    expect(&rt, &broken, 0, "0-0 nosync\nsectors 1 tail 0\n", tally);
-    for (mode, name) in [
-        (0, "mode0"),
-        (1, "mode1"),
-        (2, "mode2"),
-        (3, "other"),
-        (255, "other"),
-    ] {
-        let mut space = [0; 64];
-        let bytes = sector(mode);
-        let answer = list(
-            &mut SliceSource::new(&bytes),
-            449_849,
-            &mut SliceSink::new(&mut space),
-        );
-        assert_eq!(rt; answer, Ok(tally));
-        let got = space.as_slice();
-        assert!(rt; got.starts_with(b"449849-449849 "));
-        assert!(rt;
-            got.iter()
-                .skip(14)
-                .zip(name.as_bytes())
-                .all(|(a, b)| *a == *b),
-            "{name}"
-        );
-    }
+fn no_sectors_and_no_kinds(rt: HostRuntime) {
+    expect(&rt, &[], 0, "sectors 0 tail 0\n", 0, 0);
+    let text = "0-1 nosync\nsectors 2 tail 1\n";
+    expect(&rt, &[65; 4705], 0, text, 2, 1);
+    let broken = flipped(&sector_of(&Mode(1)), 11);
+    let text = "0-0 nosync\nsectors 1 tail 0\n";
+    expect(&rt, broken.bytes(), 0, text, 1, 0);
+}
+
+#[test]
+fn runs_of_kinds(rt: HostRuntime) -> Result<(), AllocError> {
+    const TEXT: &str = "0-0 mode1\n1-2 mode2\n3-3 nosync\nsectors 4 tail 0\n";
+    expect_rows(
+        &rt,
+        rt.alloc(),
+        &[
+            (&[Mode(1), Mode(2), Mode(2), Blank], 0, TEXT, 4),
+            (&[Zeros(0), Mode(2), Mode(2), Blank], 0, TEXT, 4),
+        ],
+    )
+}
+
+#[test]
+fn a_tail_behind_runs(rt: HostRuntime) -> Result<(), AllocError> {
+    let samples = [Mode(0), Mode(3), Mode(1), Mode(1), Blank];
+    let cut = cut_image(rt.alloc(), &samples, 11_759)?;
+    let text = "0-0 mode0\n1-1 other\n2-3 mode1\nsectors 4 tail 2351\n";
+    expect(&rt, &cut, 0, text, 4, 2351);
+    Ok(())
+}
+
+#[test]
+fn one_sector(rt: HostRuntime) -> Result<(), AllocError> {
+    expect_rows(
+        &rt,
+        rt.alloc(),
+        &[
+            (&[Mode(1)], 7, "7-7 mode1\nsectors 1 tail 0\n", 1),
+            (
+                &[Mode(0)],
+                449_849,
+                "449849-449849 mode0\nsectors 1 tail 0\n",
+                1,
+            ),
+            (
+                &[Mode(1)],
+                449_849,
+                "449849-449849 mode1\nsectors 1 tail 0\n",
+                1,
+            ),
+            (
+                &[Mode(2)],
+                449_849,
+                "449849-449849 mode2\nsectors 1 tail 0\n",
+                1,
+            ),
+            (
+                &[Mode(3)],
+                449_849,
+                "449849-449849 other\nsectors 1 tail 0\n",
+                1,
+            ),
+            (
+                &[Mode(255)],
+                449_849,
+                "449849-449849 other\nsectors 1 tail 0\n",
+                1,
+            ),
+        ],
+    )
 }

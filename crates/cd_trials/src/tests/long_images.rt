@@ -2,10 +2,11 @@
 
 ghost use Rattle.std.specs.Prelude.{◌<◌, ◌≤◌};
 
-use super::patching::{has_front, repeated, script_of};
+use super::patching::has_front;
 use cd_image::{
     Fault, FromRead, MAX_BASE, Sink, SliceSink, Source, Tally, ToWrite, ZeroSource, apply, check,
 };
+use cd_samples::{repeated, script_of};
 use cd_script::Script;
 use std::alloc::Global;
 use std::io::{self, Write};
@@ -53,9 +54,12 @@ fn expect_applied<I: Source>(
     let mut told = SliceSink::new(&mut lines);
     let answer = apply(image, script, base, false, &mut out, &mut told);
     let is_done = (out.finished() && told.finished()) == want.is_ok();
-    let failures = [image.failures(), out.failures(), told.failures()];
-    assert!(rt; is_done && answer == want && failures == [0, 0, 0], "{log}");
-    assert!(rt; has_front(&lines, log.as_bytes(), log.len()), "{log}");
+    let failures = (image.failures(), out.failures(), told.failures());
+    let ends_so = is_done && answer == want && failures == (0, 0, 0);
+    assert!(rt;
+        ends_so && has_front(&lines, log.as_bytes(), log.len()),
+        "{log}"
+    );
 }
 
 /// Checks a script.
@@ -74,9 +78,12 @@ fn expect_checked<I: Source>(
     let mut told = SliceSink::new(&mut lines);
     let answer = check(image, script, base, false, &mut told);
     let is_done = told.finished() == want.is_ok();
-    let failures = [image.failures(), told.failures()];
-    assert!(rt; is_done && answer == want && failures == [0, 0], "{log}");
-    assert!(rt; has_front(&lines, log.as_bytes(), log.len()), "{log}");
+    let failures = (image.failures(), told.failures());
+    let ends_so = is_done && answer == want && failures == (0, 0);
+    assert!(rt;
+        ends_so && has_front(&lines, log.as_bytes(), log.len()),
+        "{log}"
+    );
 }
 
 /// Applies and checks a script on so many bytes `00`.
@@ -91,7 +98,7 @@ fn expect(
 ) -> Result<(), Fail>
     requires { base ≤ MAX_BASE }
 {
-    let script = script_of(rt, alloc, text)?;
+    let script = script_of(alloc, text)?;
     expect_applied(rt, &mut ZeroSource::new(size), &script, base, want, log);
     expect_checked(rt, &mut ZeroSource::new(size), &script, base, want, log);
     Ok(())
@@ -158,7 +165,7 @@ fn patches_at_the_end_of_a_million_sectors(rt: HostRuntime) -> Result<(), Fail> 
 
 #[test]
 fn an_endless_reader_of_a_patched_image(rt: HostRuntime) -> Result<(), Fail> {
-    let script = script_of(&rt, rt.alloc(), "cdpatch 1\nset 1000000 0 41\nset 7 0 41\n")?;
+    let script = script_of(rt.alloc(), "cdpatch 1\nset 1000000 0 41\nset 7 0 41\n")?;
     let log = "line 3: refused: block 7 is not mode 1\n";
     let mut image = FromRead::new(io::repeat(0));
     expect_applied(&rt, &mut image, &script, 0, Err(Fault::TooLong), log);

@@ -1,33 +1,30 @@
 //! Sectors of noise with a sync field and a mode byte.
 
-use super::images::{encoded_anew, joined};
 use super::patching::{Case, expect, memory};
-use cd_image::{SliceSink, SliceSource, audit};
-use cd_sector::{Sector, defect};
-use std::alloc::Global;
+use cd_image::{AuditTally, SliceSink, SliceSource, audit};
+use cd_samples::Sample::Mode;
+use cd_samples::{encoded_anew, joined, sector_of};
+use cd_sector::{DefectReport, Sector, defect};
+use std::alloc::{AllocError, Global};
+use std::process::Abort;
 use std::test::Fail;
 
 /// A sector of noise that is of Mode 1.
-fn noise(number: usize) -> Sector {
-    let mut sector = Sector::default();
-    let seed = number.min(2) * 3;
-    for place in 0..2352usize {
-        let square = place.wrapping_mul(place);
-        let value = square.wrapping_add(7 * place + seed);
-        sector.put(place, (value % 256) as u8);
+fn noise(seed: u8) -> Sector {
+    let mut bytes = *sector_of(&Mode(1)).bytes();
+    for (place, byte) in bytes.iter_mut().enumerate() {
+        let low = (place % 256) as u8;
+        let value = low.wrapping_mul(low.wrapping_add(7)).wrapping_add(seed);
+        if place > 11 && place != 15 {
+            *byte = value;
+        }
     }
-    sector.put(0, 0);
-    for place in 1..11 {
-        sector.put(place, 255);
-    }
-    sector.put(11, 0);
-    sector.put(15, 1);
-    sector
+    Sector::from_bytes(bytes)
 }
 
 #[test]
 fn patches_on_noise_are_refused(rt: HostRuntime) -> Result<(), Fail> {
-    let image = joined(rt.alloc(), &[noise(0), noise(1), noise(2)])?;
+    let image = joined(rt.alloc(), &[noise(0), noise(3), noise(6)])?;
     let case = Case {
         script: "cdpatch 1\nset 0 0 41\nset 1 0 41\nset 2 0 41\n",
         image: &image,
@@ -41,12 +38,12 @@ fn patches_on_noise_are_refused(rt: HostRuntime) -> Result<(), Fail> {
 
 #[test]
 fn noise_is_made_anew(rt: HostRuntime) -> Result<(), Fail> {
-    let sectors = [noise(0), noise(1), noise(2)];
+    let sectors = [noise(0), noise(3), noise(6)];
     let image = joined(rt.alloc(), &sectors)?;
     let whole = [
         encoded_anew(&noise(0)),
-        encoded_anew(&noise(1)),
-        encoded_anew(&noise(2)),
+        encoded_anew(&noise(3)),
+        encoded_anew(&noise(6)),
     ];
     let out = joined(rt.alloc(), &whole)?;
     let case = Case {
@@ -60,31 +57,40 @@ fn noise_is_made_anew(rt: HostRuntime) -> Result<(), Fail> {
 }
 
 /// The line of an audit for a block whose address is another and whose EDC or parity is damaged.
-fn audit_line(alloc: Global, block: usize, sector: &Sector) -> Result<String, Fail> {
-    let found = defect(sector);
+fn audit_line(alloc: Global, block: usize, found: &DefectReport) -> Result<String, AllocError> {
     let zeros = if found.zeros { " zeros" } else { "" };
     let edc = if found.edc { " edc" } else { "" };
     let (p, q) = (found.p, found.q);
-    Ok(format!(in alloc; "{block} address{zeros}{edc} p={p} q={q}\n")?)
+    format!(in alloc; "{block} address{zeros}{edc} p={p} q={q}\n")
+}
+
+/// The text of an audit of such sectors, whose P and Q are damaged all.
+fn audit_text(rt: &impl Abort, alloc: Global, sectors: &[Sector]) -> Result<String, AllocError> {
+    let mut text = String::new(alloc);
+    for (block, sector) in sectors.iter().enumerate() {
+        let found = defect(sector);
+        assert!(rt; found.p > 0 && found.q > 0, "{block}");
+        text.push_str(&audit_line(alloc, block, &found)?)?;
+    }
+    text.push_str("sectors 3 mode1 3 damaged 3 tail 0\n")?;
+    Ok(text)
 }
 
 #[test]
-fn an_audit_of_noise(rt: HostRuntime) -> Result<(), Fail> {
-    let sectors = [noise(0), noise(1), noise(2)];
-    let mut text = String::new(rt.alloc());
-    for (block, sector) in sectors.iter().enumerate() {
-        assert!(rt; defect(sector).p > 0 && defect(sector).q > 0, "{block}");
-        text.push_str(audit_line(rt.alloc(), block, sector)?.as_str())?;
-    }
-    text.push_str("sectors 3 mode1 3 damaged 3 tail 0\n")?;
+fn an_audit_of_noise(rt: HostRuntime) -> Result<(), AllocError> {
+    let sectors = [noise(0), noise(3), noise(6)];
+    let text = audit_text(&rt, rt.alloc(), &sectors)?;
     let image = joined(rt.alloc(), &sectors)?;
     let mut space = memory(rt.alloc(), text.len())?;
-    let answer = audit(
-        &mut SliceSource::new(&image),
-        0,
-        &mut SliceSink::new(&mut space),
-    );
-    assert!(rt; answer.is_ok_and(|tally| tally.findings == 3));
-    assert!(rt; space.as_slice() == text.as_bytes());
+    let mut sink = SliceSink::new(&mut space);
+    let answer = audit(&mut SliceSource::new(&image), 0, &mut sink);
+    let wanted = AuditTally {
+        sectors: 3,
+        mode1: 3,
+        damaged: 3,
+        findings: 3,
+        tail: 0,
+    };
+    assert!(rt; answer == Ok(wanted) && space.as_slice() == text.as_bytes());
     Ok(())
 }

@@ -1,265 +1,265 @@
 //! Patches that are refused: they change nothing, and the log says why.
 
-use super::images::{
-    encoded_at, filled_at, flip, joined, sector, user_filled, zeros_at, zeros_from,
-};
-use super::patching::{Case, expect, repeated};
-use cd_sector::Sector;
-use std::alloc::Global;
-use std::process::Abort;
+use super::patching::{Row, expect_left, expect_row_from, expect_rows, expect_rows_left};
+use cd_samples::Sample::{Blank, Damaged, Filled, Mode, Zeros};
+use cd_samples::{cut_image, image_of, repeated};
 use std::test::Fail;
 
 const NO_BLOCK_1: &str = "line 2: refused: no block 1\napplied 0 refused 1\n";
 
-/// A script that leaves an image from block 0 on as it is, and its log.
-fn leaves(
-    rt: &impl Abort,
-    alloc: Global,
-    script: &str,
-    image: &[u8],
-    log: &str,
-) -> Result<(), Fail> {
-    let case = Case {
-        script,
-        image,
-        base: 0,
-        log,
-        out: image,
-    };
-    expect(rt, alloc, &case)
-}
+const NO_BLOCK_2: &str = "line 2: refused: no block 2\napplied 0 refused 1\n";
+
+const NOT_MODE_1: &str = "line 2: refused: block 0 is not mode 1\napplied 0 refused 1\n";
+
+const DAMAGED: &str = "line 2: refused: block 0 is damaged\napplied 0 refused 1\n";
 
 #[test]
 fn blocks_past_the_end(rt: HostRuntime) -> Result<(), Fail> {
-    let image = zeros_from(rt.alloc(), 0, 2)?;
-    let set = repeated(rt.alloc(), "cdpatch 1\nset 0 2047 ", "41", 4096, "\n")?;
-    let log = "line 2: refused: no block 2\napplied 0 refused 1\n";
-    leaves(&rt, rt.alloc(), set.as_str(), &image, log)?;
-
-    let set = "cdpatch 1\nset 1 2047 4141\n";
-    leaves(&rt, rt.alloc(), set, &image, log)?;
-    let set = "cdpatch 1\nset 2 0 41\n";
-    leaves(&rt, rt.alloc(), set, &image, log)?;
-
-    let rebuild = "cdpatch 1\nrebuild 999999999\n";
-    let log = "line 2: refused: no block 999999999\napplied 0 refused 1\n";
-    leaves(&rt, rt.alloc(), rebuild, zeros_at(0).bytes(), log)?;
-
-    let all = "cdpatch 1\nrebuild 999999999\nfill 999999999 2047 4096 FF\nset 2 2047 4141\n";
-    let log = "line 4: refused: no block 2\nline 2: refused: no block 999999999\n\
+    const ALL: &str =
+        "cdpatch 1\nrebuild 999999999\nfill 999999999 2047 4096 FF\nset 2 2047 4141\n";
+    const LOG: &str = "line 4: refused: no block 2\nline 2: refused: no block 999999999\n\
         line 3: refused: no block 999999999\napplied 0 refused 3\n";
-    leaves(&rt, rt.alloc(), all, &image, log)?;
-    leaves(&rt, rt.alloc(), all, &[], log)
+    expect_rows_left(
+        &rt,
+        rt.alloc(),
+        &[
+            (
+                "cdpatch 1\nset 1 2047 4141\n",
+                &[Zeros(0), Zeros(1)],
+                NO_BLOCK_2,
+            ),
+            ("cdpatch 1\nset 2 0 41\n", &[Zeros(0), Zeros(1)], NO_BLOCK_2),
+            (
+                "cdpatch 1\nrebuild 999999999\n",
+                &[Zeros(0)],
+                "line 2: refused: no block 999999999\napplied 0 refused 1\n",
+            ),
+            (ALL, &[Zeros(0), Zeros(1)], LOG),
+            (ALL, &[], LOG),
+        ],
+    )
+}
+
+#[test]
+fn a_range_past_the_end(rt: HostRuntime) -> Result<(), Fail> {
+    let set = repeated(rt.alloc(), "cdpatch 1\nset 0 2047 ", "41", 4096, "\n")?;
+    expect_rows_left(
+        &rt,
+        rt.alloc(),
+        &[(&set, &[Zeros(0), Zeros(1)], NO_BLOCK_2)],
+    )
 }
 
 #[test]
 fn blocks_in_the_tail(rt: HostRuntime) -> Result<(), Fail> {
-    let zeros = [0; 2351];
     let log = "line 2: refused: no block 0\napplied 0 refused 1\n";
-    leaves(&rt, rt.alloc(), "cdpatch 1\nset 0 5 41\n", &zeros, log)?;
-
-    let image = zeros_from(rt.alloc(), 0, 2)?;
-    let cut = image.get(..4703).ok_or("too few bytes")?;
-    for script in [
+    expect_left(
+        &rt,
+        rt.alloc(),
+        0,
+        "cdpatch 1\nset 0 5 41\n",
+        &[0; 2351],
+        log,
+    )?;
+    let cut = cut_image(rt.alloc(), &[Zeros(0), Zeros(1)], 4703)?;
+    for script in &[
         "cdpatch 1\nset 0 2047 4141\n",
         "cdpatch 1\nfill 0 1 4096 41\n",
         "cdpatch 1\nset 1 0 41\n",
         "cdpatch 1\nrebuild 1\n",
     ] {
-        leaves(&rt, rt.alloc(), script, cut, NO_BLOCK_1)?;
+        expect_left(&rt, rt.alloc(), 0, script, &cut, NO_BLOCK_1)?;
     }
     Ok(())
 }
 
 #[test]
 fn blocks_below_the_base(rt: HostRuntime) -> Result<(), Fail> {
-    let image = zeros_from(rt.alloc(), 10, 2)?;
-    let out = joined(rt.alloc(), &[filled_at(10, 0, 1, 65), zeros_at(11)])?;
-    let case = Case {
-        script: "cdpatch 1\nset 9 2047 4141\nset 10 0 41\n",
-        image: &image,
-        base: 10,
-        log: "line 2: refused: no block 9\nline 3: applied\napplied 1 refused 1\n",
-        out: &out,
-    };
-    expect(&rt, rt.alloc(), &case)?;
-
-    let case = Case {
-        script: "cdpatch 1\nset 12 0 41\nset 10 0 41\nset 0 0 41\nset 9 0 41\nrebuild 10\n",
-        image: &image,
-        base: 10,
-        log: "line 4: refused: no block 0\nline 5: refused: no block 9\nline 3: applied\n\
+    for (script, log) in &[
+        (
+            "cdpatch 1\nset 9 2047 4141\nset 10 0 41\n",
+            "line 2: refused: no block 9\nline 3: applied\napplied 1 refused 1\n",
+        ),
+        (
+            "cdpatch 1\nset 12 0 41\nset 10 0 41\nset 0 0 41\nset 9 0 41\nrebuild 10\n",
+            "line 4: refused: no block 0\nline 5: refused: no block 9\nline 3: applied\n\
             line 6: applied\nline 2: refused: no block 12\napplied 2 refused 3\n",
-        out: &out,
-    };
-    expect(&rt, rt.alloc(), &case)
+        ),
+    ] {
+        let row = Row {
+            script,
+            image: &[Zeros(10), Zeros(11)],
+            log,
+            out: &[Filled(10, 0, 1, 65), Zeros(11)],
+        };
+        expect_row_from(&rt, rt.alloc(), 10, &row)?;
+    }
+    Ok(())
 }
 
 #[test]
 fn a_tail_alone_behind_the_base(rt: HostRuntime) -> Result<(), Fail> {
-    for size in [0, 1, 2351] {
-        let whole = zeros_at(10);
-        let image = whole.bytes().get(..size).ok_or("too few bytes")?;
-        let case = Case {
-            script: "cdpatch 1\nset 9 0 41\n",
-            image,
-            base: 10,
-            log: "line 2: refused: no block 9\napplied 0 refused 1\n",
-            out: image,
-        };
-        expect(&rt, rt.alloc(), &case)?;
-        let case = Case {
-            script: "cdpatch 1\nset 10 0 41\nset 9 2047 4141\n",
-            image,
-            base: 10,
-            log: "line 3: refused: no block 9\nline 2: refused: no block 10\n\
+    for size in &[0, 1, 2351] {
+        for (script, log) in &[
+            (
+                "cdpatch 1\nset 9 0 41\n",
+                "line 2: refused: no block 9\napplied 0 refused 1\n",
+            ),
+            (
+                "cdpatch 1\nset 10 0 41\nset 9 2047 4141\n",
+                "line 3: refused: no block 9\nline 2: refused: no block 10\n\
                 applied 0 refused 2\n",
-            out: image,
-        };
-        expect(&rt, rt.alloc(), &case)?;
+            ),
+        ] {
+            let image = cut_image(rt.alloc(), &[Zeros(10)], *size)?;
+            expect_left(&rt, rt.alloc(), 10, script, &image, log)?;
+        }
     }
     Ok(())
 }
 
 #[test]
 fn other_kinds_and_damage(rt: HostRuntime) -> Result<(), Fail> {
-    let mut damaged = zeros_at(1);
-    flip(&mut damaged, 2351);
-    let image = joined(rt.alloc(), &[Sector::from_bytes(sector(2)), damaged])?;
-    let log = "line 2: refused: block 0 is not mode 1\nline 3: refused: block 1 is damaged\n\
-        applied 0 refused 2\n";
-    let script = "cdpatch 1\nset 0 0 41\nset 1 0 41\n";
-    leaves(&rt, rt.alloc(), script, &image, log)?;
-
-    let log = "line 2: refused: block 0 is not mode 1\napplied 0 refused 1\n";
-    let mut unsynced = zeros_at(0);
-    flip(&mut unsynced, 11);
-    for image in [
-        Sector::default(),
-        Sector::from_bytes(sector(0)),
-        Sector::from_bytes(sector(2)),
-        Sector::from_bytes(sector(3)),
-        Sector::from_bytes(sector(255)),
-        unsynced,
-    ] {
-        let rebuild = "cdpatch 1\nrebuild 0\n";
-        leaves(&rt, rt.alloc(), rebuild, image.bytes(), log)?;
-        let fill = "cdpatch 1\nfill 0 0 1 00\n";
-        leaves(&rt, rt.alloc(), fill, image.bytes(), log)?;
-    }
-    Ok(())
+    const SET: &str = "cdpatch 1\nset 0 0 41\nset 1 0 41\n";
+    const LOG: &str = "line 2: refused: block 0 is not mode 1\n\
+        line 3: refused: block 1 is damaged\napplied 0 refused 2\n";
+    const REBUILD: &str = "cdpatch 1\nrebuild 0\n";
+    const FILL: &str = "cdpatch 1\nfill 0 0 1 00\n";
+    expect_rows_left(
+        &rt,
+        rt.alloc(),
+        &[
+            (SET, &[Mode(2), Damaged(1, 2351, 1)], LOG),
+            (REBUILD, &[Blank], NOT_MODE_1),
+            (REBUILD, &[Mode(0)], NOT_MODE_1),
+            (REBUILD, &[Mode(2)], NOT_MODE_1),
+            (REBUILD, &[Mode(3)], NOT_MODE_1),
+            (REBUILD, &[Mode(255)], NOT_MODE_1),
+            (REBUILD, &[Damaged(0, 11, 1)], NOT_MODE_1),
+            (FILL, &[Blank], NOT_MODE_1),
+            (FILL, &[Mode(0)], NOT_MODE_1),
+            (FILL, &[Mode(2)], NOT_MODE_1),
+            (FILL, &[Mode(3)], NOT_MODE_1),
+            (FILL, &[Mode(255)], NOT_MODE_1),
+            (FILL, &[Damaged(0, 11, 1)], NOT_MODE_1),
+        ],
+    )
 }
 
 /// Damage in each field of a sector.
 #[test]
 fn damage_in_each_field(rt: HostRuntime) -> Result<(), Fail> {
-    let log = "line 2: refused: block 0 is damaged\napplied 0 refused 1\n";
-    for place in [
+    for place in &[
         12, 14, 16, 2063, 2064, 2067, 2068, 2075, 2076, 2247, 2248, 2351,
     ] {
-        let mut damaged = zeros_at(0);
-        flip(&mut damaged, place);
-        let set = "cdpatch 1\nset 0 0 41\n";
-        leaves(&rt, rt.alloc(), set, damaged.bytes(), log)?;
+        let image = image_of(rt.alloc(), &[Damaged(0, *place, 1)])?;
+        expect_left(
+            &rt,
+            rt.alloc(),
+            0,
+            "cdpatch 1\nset 0 0 41\n",
+            &image,
+            DAMAGED,
+        )?;
     }
     Ok(())
 }
 
 #[test]
 fn the_first_block_decides(rt: HostRuntime) -> Result<(), Fail> {
-    let mut damaged = zeros_at(0);
-    flip(&mut damaged, 2351);
-    let log = "line 2: refused: block 0 is damaged\napplied 0 refused 1\n";
-    let fill = "cdpatch 1\nfill 0 1 2048 FF\n";
-    leaves(&rt, rt.alloc(), fill, damaged.bytes(), log)?;
-
-    let mode2 = Sector::from_bytes(sector(2));
-    let image = joined(rt.alloc(), &[damaged, mode2])?;
-    leaves(&rt, rt.alloc(), fill, &image, log)?;
-    let image = joined(rt.alloc(), &[zeros_at(0), mode2, damaged])?;
-    let log = "line 2: refused: block 1 is not mode 1\napplied 0 refused 1\n";
-    let fill = "cdpatch 1\nfill 0 2047 4096 FF\n";
-    leaves(&rt, rt.alloc(), fill, &image, log)?;
-    let image = joined(rt.alloc(), &[zeros_at(0), mode2])?;
-    leaves(&rt, rt.alloc(), fill, &image, log)
+    const TWO: &str = "cdpatch 1\nfill 0 1 2048 FF\n";
+    const THREE: &str = "cdpatch 1\nfill 0 2047 4096 FF\n";
+    const LOG: &str = "line 2: refused: block 1 is not mode 1\napplied 0 refused 1\n";
+    expect_rows_left(
+        &rt,
+        rt.alloc(),
+        &[
+            (TWO, &[Damaged(0, 2351, 1)], DAMAGED),
+            (TWO, &[Damaged(0, 2351, 1), Mode(2)], DAMAGED),
+            (THREE, &[Zeros(0), Mode(2), Damaged(0, 2351, 1)], LOG),
+            (THREE, &[Zeros(0), Mode(2)], LOG),
+        ],
+    )
 }
 
 /// The first two sectors are sound, and the third one is not: both stay as they were, for the next patch too.
 #[test]
 fn a_range_that_ends_in_a_bad_sector(rt: HostRuntime) -> Result<(), Fail> {
-    let mut damaged = zeros_at(2);
-    flip(&mut damaged, 2076);
-    for (third, why) in [
-        (damaged, "damaged"),
-        (Sector::from_bytes(sector(2)), "not mode 1"),
-    ] {
-        let image = joined(rt.alloc(), &[zeros_at(0), zeros_at(1), third])?;
-        let mut user = user_filled(1, 2, 66);
-        user[0] = 66;
-        let out = joined(rt.alloc(), &[zeros_at(0), encoded_at(1, &user), third])?;
-        let end = "\nline 3: applied\napplied 1 refused 1\n";
-        let log = repeated(rt.alloc(), "line 2: refused: block 2 is ", why, 1, end)?;
-        let case = Case {
-            script: "cdpatch 1\nfill 0 2047 4096 41\nset 1 0 4242 was 0000\n",
-            image: &image,
-            base: 0,
-            log: log.as_str(),
-            out: &out,
-        };
-        expect(&rt, rt.alloc(), &case)?;
-    }
-    Ok(())
+    const SCRIPT: &str = "cdpatch 1\nfill 0 2047 4096 41\nset 1 0 4242 was 0000\n";
+    expect_rows(
+        &rt,
+        rt.alloc(),
+        &[
+            Row {
+                script: SCRIPT,
+                image: &[Zeros(0), Zeros(1), Damaged(2, 2076, 1)],
+                log: "line 2: refused: block 2 is damaged\nline 3: applied\napplied 1 refused 1\n",
+                out: &[Zeros(0), Filled(1, 0, 2, 66), Damaged(2, 2076, 1)],
+            },
+            Row {
+                script: SCRIPT,
+                image: &[Zeros(0), Zeros(1), Mode(2)],
+                log: "line 2: refused: block 2 is not mode 1\nline 3: applied\napplied 1 refused 1\n",
+                out: &[Zeros(0), Filled(1, 0, 2, 66), Mode(2)],
+            },
+        ],
+    )
 }
 
 #[test]
 fn old_bytes_that_differ(rt: HostRuntime) -> Result<(), Fail> {
-    let image = zeros_from(rt.alloc(), 0, 1)?;
-    let set = "cdpatch 1\nset 0 0 41 was 01\n";
-    let log = "line 2: refused: old bytes differ at block 0 offset 0\napplied 0 refused 1\n";
-    leaves(&rt, rt.alloc(), set, &image, log)?;
-
-    let image = zeros_from(rt.alloc(), 0, 2)?;
-    for (script, log) in [
-        (set, log),
-        (
-            "cdpatch 1\nset 0 2047 4142 was 0001\n",
-            "line 2: refused: old bytes differ at block 1 offset 0\napplied 0 refused 1\n",
-        ),
-        (
-            "cdpatch 1\nset 0 2046 414243 was 000101\n",
-            "line 2: refused: old bytes differ at block 0 offset 2047\napplied 0 refused 1\n",
-        ),
-        (
-            "cdpatch 1\nset 1 2044 41424344 was 00000001\n",
-            "line 2: refused: old bytes differ at block 1 offset 2047\napplied 0 refused 1\n",
-        ),
-    ] {
-        leaves(&rt, rt.alloc(), script, &image, log)?;
-    }
-    Ok(())
+    const SET: &str = "cdpatch 1\nset 0 0 41 was 01\n";
+    const LOG: &str =
+        "line 2: refused: old bytes differ at block 0 offset 0\napplied 0 refused 1\n";
+    expect_rows_left(
+        &rt,
+        rt.alloc(),
+        &[
+            (SET, &[Zeros(0)], LOG),
+            (SET, &[Zeros(0), Zeros(1)], LOG),
+            (
+                "cdpatch 1\nset 0 2047 4142 was 0001\n",
+                &[Zeros(0), Zeros(1)],
+                "line 2: refused: old bytes differ at block 1 offset 0\napplied 0 refused 1\n",
+            ),
+            (
+                "cdpatch 1\nset 0 2046 414243 was 000101\n",
+                &[Zeros(0), Zeros(1)],
+                "line 2: refused: old bytes differ at block 0 offset 2047\napplied 0 refused 1\n",
+            ),
+            (
+                "cdpatch 1\nset 1 2044 41424344 was 00000001\n",
+                &[Zeros(0), Zeros(1)],
+                "line 2: refused: old bytes differ at block 1 offset 2047\napplied 0 refused 1\n",
+            ),
+        ],
+    )
 }
 
 /// Old bytes over three blocks, of which the last alone differs.
 #[test]
 fn old_bytes_over_three_blocks(rt: HostRuntime) -> Result<(), Fail> {
-    let image = zeros_from(rt.alloc(), 0, 3)?;
     let set = repeated(rt.alloc(), "cdpatch 1\nset 0 2047 ", "41", 4096, " was ")?;
-    let set = repeated(rt.alloc(), set.as_str(), "00", 4095, "01\n")?;
+    let set = repeated(rt.alloc(), &set, "00", 4095, "01\n")?;
     let log = "line 2: refused: old bytes differ at block 2 offset 2046\napplied 0 refused 1\n";
-    leaves(&rt, rt.alloc(), set.as_str(), &image, log)
+    expect_rows_left(
+        &rt,
+        rt.alloc(),
+        &[(&set, &[Zeros(0), Zeros(1), Zeros(2)], log)],
+    )
 }
 
 #[test]
 fn old_bytes_are_those_of_earlier_patches(rt: HostRuntime) -> Result<(), Fail> {
-    let image = zeros_at(0);
-    let out = filled_at(0, 0, 1, 66);
-    let case = Case {
-        script: "cdpatch 1\nset 0 0 41\nset 0 0 43 was 00\nset 0 0 42 was 41\n",
-        image: image.bytes(),
-        base: 0,
-        log: "line 2: applied\nline 3: refused: old bytes differ at block 0 offset 0\n\
+    expect_rows(
+        &rt,
+        rt.alloc(),
+        &[Row {
+            script: "cdpatch 1\nset 0 0 41\nset 0 0 43 was 00\nset 0 0 42 was 41\n",
+            image: &[Zeros(0)],
+            log: "line 2: applied\nline 3: refused: old bytes differ at block 0 offset 0\n\
             line 4: applied\napplied 2 refused 1\n",
-        out: out.bytes(),
-    };
-    expect(&rt, rt.alloc(), &case)
+            out: &[Filled(0, 0, 1, 66)],
+        }],
+    )
 }

@@ -1,9 +1,10 @@
 //! How far an image is read ahead of what goes out.
 
-use super::calls::{Call, Ending, Limit, Limits, NO_LIMITS, apply_within};
-use super::images::zeros_from;
-use super::patching::{has_failed, has_front, memory, script_of};
+use super::calls::{Call, Ending, Limits, NO_LIMITS, apply_within, passing};
+use super::patching::{count_written, has_failed, has_front, memory};
 use cd_image::Fault;
+use cd_samples::Sample::Zeros;
+use cd_samples::{Sample, image_of, script_of};
 use cd_script::Script;
 use std::alloc::Global;
 use std::process::Abort;
@@ -16,13 +17,8 @@ const SCRIPT: &str = "cdpatch 1\nfill 0 2047 4096 41\nfill 1 2047 4096 42\nfill 
 const LOG: &[u8] = b"line 2: applied\nline 3: applied\nline 4: applied\nline 5: applied\n\
     line 6: applied\napplied 5 refused 0\n";
 
-/// So many bytes pass in all.
-fn passing(all: u64) -> Limit {
-    Limit {
-        all,
-        a_call: usize::MAX,
-    }
-}
+/// The image of those patches.
+const SIX: [Sample; 6] = [Zeros(0), Zeros(1), Zeros(2), Zeros(3), Zeros(4), Zeros(5)];
 
 /// How a call ended, how many bytes it had sent by then, and how many of the image it had not read.
 #[derive(Clone, Copy)]
@@ -53,25 +49,30 @@ fn reads_ahead(
     let mut rest = memory(alloc, image.len())?;
     let ending = apply_within(&call, limits, &mut space, &mut lines, &mut rest);
     assert!(rt; has_front(&lines, LOG, told), "{told}");
-    let unsent = space.iter().rev().take_while(|byte| **byte == 238).count();
-    let sent = image.len().saturating_sub(unsent);
+    let sent = count_written(&space);
     let left = ending.left.ok_or("the image has failed")?;
     let first = image.len().saturating_sub(left);
     let is_last = image.get(first..) == rest.get(..left);
-    assert!(rt; is_last && unsent <= left.saturating_add(7056), "{unsent}");
+    assert!(rt;
+        is_last && image.len() <= sent.saturating_add(left).saturating_add(7056),
+        "{sent}"
+    );
     Ok(Ahead { ending, sent, left })
 }
 
 #[test]
 fn an_output_that_takes_nothing(rt: HostRuntime) -> Result<(), Fail> {
-    let image = zeros_from(rt.alloc(), 0, 5)?;
+    let image = image_of(
+        rt.alloc(),
+        &[Zeros(0), Zeros(1), Zeros(2), Zeros(3), Zeros(4)],
+    )?;
     let limits = Limits {
         image: NO_LIMITS.image,
         out: passing(0),
         log: NO_LIMITS.log,
     };
     for text in ["cdpatch 1\n", "cdpatch 1\nset 4 0 41\n"] {
-        let script = script_of(&rt, rt.alloc(), text)?;
+        let script = script_of(rt.alloc(), text)?;
         let ahead = reads_ahead(&rt, rt.alloc(), &image, &script, &limits, 0)?;
         let is_left = ahead.sent == 0 && ahead.left >= 4704;
         assert!(rt; is_left && ahead.ending.answer == Err(Fault::Write));
@@ -81,8 +82,8 @@ fn an_output_that_takes_nothing(rt: HostRuntime) -> Result<(), Fail> {
 
 #[test]
 fn three_sectors_are_in_hand_where_the_output_fails(rt: HostRuntime) -> Result<(), Fail> {
-    let image = zeros_from(rt.alloc(), 0, 6)?;
-    let script = script_of(&rt, rt.alloc(), SCRIPT)?;
+    let image = image_of(rt.alloc(), &SIX)?;
+    let script = script_of(rt.alloc(), SCRIPT)?;
     for count in 0..56usize {
         let sent = count * 252;
         let limits = Limits {
@@ -103,8 +104,8 @@ fn three_sectors_are_in_hand_where_the_output_fails(rt: HostRuntime) -> Result<(
 
 #[test]
 fn three_sectors_are_in_hand_where_the_log_fails(rt: HostRuntime) -> Result<(), Fail> {
-    let image = zeros_from(rt.alloc(), 0, 6)?;
-    let script = script_of(&rt, rt.alloc(), SCRIPT)?;
+    let image = image_of(rt.alloc(), &SIX)?;
+    let script = script_of(rt.alloc(), SCRIPT)?;
     for count in 0..100usize {
         let limits = Limits {
             image: NO_LIMITS.image,

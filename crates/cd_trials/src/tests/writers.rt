@@ -2,79 +2,60 @@
 
 ghost use Rattle.std.specs.Prelude.{◌<◌};
 
-use super::images::{filled_at, joined, zeros_at, zeros_from};
-use super::patching::{has_front, memory, script_of};
+use super::patching::has_front;
 use cd_image::{Fault, Sink, SliceSink, SliceSource, ToWrite, apply, check};
-use cd_script::Script;
-use std::io::{self, Write};
+use cd_samples::Sample::Zeros;
+use cd_samples::{Full, image_of, script_of, sector_of};
+use std::alloc::Global;
 use std::test::Fail;
 
 const SCRIPT: &str = "cdpatch 1\nset 1 0 41\n";
 
-/// A writer that takes no bytes.
-#[derive(Drop)]
-struct Full;
-
-impl Write for Full {
-    fn write(&mut self, _buf: &[u8]) -> io::Result<usize> {
-        Ok(0)
-    }
-
-    fn flush(&mut self) -> io::Result<()> {
-        Ok(())
-    }
-}
-
-/// The fault that applying the script ends with.
+/// The fault that applying the script to three sectors ends with.
 fn fault_of<O: Sink, L: Sink>(
-    image: &[u8],
-    script: &Script,
+    alloc: Global,
     out: &mut O,
     log: &mut L,
-) -> Option<Fault>
+) -> Result<Option<Fault>, Fail>
     requires out { (O.seen out.old).failures < 4294967295 }
     requires log { (L.seen log.old).failures < 4294967295 }
 {
-    apply(&mut SliceSource::new(image), script, 0, false, out, log).err()
+    let image = image_of(alloc, &[Zeros(0), Zeros(1), Zeros(2)])?;
+    let script = script_of(alloc, SCRIPT)?;
+    let answer = apply(&mut SliceSource::new(&image), &script, 0, false, out, log);
+    Ok(answer.err())
 }
 
 #[test]
 fn an_output_that_takes_nothing(rt: HostRuntime) -> Result<(), Fail> {
-    let image = zeros_from(rt.alloc(), 0, 3)?;
-    let script = script_of(&rt, rt.alloc(), SCRIPT)?;
     let mut lines = [238; 36];
     let mut out = ToWrite::new(Full);
     let mut log = SliceSink::new(&mut lines);
-    let fault = fault_of(&image, &script, &mut out, &mut log);
-    assert_eq!(rt; fault, Some(Fault::Write));
-    assert_eq!(rt; out.failures(), 1);
-    assert_eq!(rt; log.failures(), 0);
+    let fault = fault_of(rt.alloc(), &mut out, &mut log)?;
+    let failures = (out.failures(), log.failures());
+    assert!(rt; fault == Some(Fault::Write) && failures == (1, 0));
     assert!(rt; has_front(&lines, b"", 0));
     Ok(())
 }
 
 #[test]
 fn a_log_that_takes_nothing(rt: HostRuntime) -> Result<(), Fail> {
-    let image = zeros_from(rt.alloc(), 0, 3)?;
-    let script = script_of(&rt, rt.alloc(), SCRIPT)?;
-    let mut space = memory(rt.alloc(), 7056)?;
+    let mut space = [238; 7056];
     let mut out = SliceSink::new(&mut space);
     let mut log = ToWrite::new(Full);
-    let fault = fault_of(&image, &script, &mut out, &mut log);
-    assert_eq!(rt; fault, Some(Fault::Log));
-    assert_eq!(rt; out.failures(), 0);
-    assert_eq!(rt; log.failures(), 1);
-    assert!(rt; has_front(&space, &image, 2352));
+    let fault = fault_of(rt.alloc(), &mut out, &mut log)?;
+    let failures = (out.failures(), log.failures());
+    assert!(rt; fault == Some(Fault::Log) && failures == (0, 1));
+    assert!(rt; has_front(&space, sector_of(&Zeros(0)).bytes(), 2352));
     Ok(())
 }
 
 #[test]
 fn a_log_of_a_check_that_takes_nothing(rt: HostRuntime) -> Result<(), Fail> {
-    let image = zeros_from(rt.alloc(), 0, 3)?;
-    let script = script_of(&rt, rt.alloc(), SCRIPT)?;
+    let image = image_of(rt.alloc(), &[Zeros(0), Zeros(1), Zeros(2)])?;
+    let script = script_of(rt.alloc(), SCRIPT)?;
     let mut log = ToWrite::new(Full);
     let answer = check(&mut SliceSource::new(&image), &script, 0, false, &mut log);
-    assert_eq!(rt; answer, Err(Fault::Log));
-    assert_eq!(rt; log.failures(), 1);
+    assert!(rt; answer == Err(Fault::Log) && log.failures() == 1);
     Ok(())
 }

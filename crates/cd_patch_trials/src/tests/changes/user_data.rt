@@ -1,11 +1,8 @@
-ghost use Rattle.std.specs.Prelude.{◌+◌, ◌<◌, ◌≤◌, length};
+ghost use Rattle.std.specs.Prelude.{◌+◌, ◌<◌, ◌≤◌};
 
-use cd_delta::change_user;
-use cd_sector::{DefectReport, Sector, SectorKind, defect, encode, kind};
-use std::process::Abort;
-
-/// The header of block 0 but for its mode byte.
-const HEADER: [u8; 3] = [0x00, 0x02, 0x00];
+use super::*;
+use cd_samples::flipped;
+use cd_sector::{DefectReport, defect, encode};
 
 /// A xorshift generator.
 #[derive(Clone, Copy)]
@@ -42,41 +39,28 @@ impl Random {
     }
 }
 
-/// Changes the user data of a sector that is of Mode 1.
-fn change(rt: &impl Abort, s: &mut Sector, offset: u16, bytes: &[u8])
-    requires { offset + length bytes.now ≤ 2048 }
-{
-    match kind(s) {
-        SectorKind::Mode1 => change_user(s, offset, bytes),
-        _ => assert!(rt; false, "of Mode 1"),
-    }
-}
-
 #[test]
 fn only_the_edc_of_a_damaged_sector(rt: HostRuntime) {
-    let sound = encode(HEADER, &[0; 2048]);
-    let mut s = sound;
-    s.put(2064, s.byte(2064) ^ 0x01);
+    let sound = encode(ADDRESS, &[0; 2048]);
+    let mut s = flipped(&sound, 2064);
     change(&rt, &mut s, 0, &[]);
-    for place in 0..2068usize {
-        assert_eq!(rt; s.byte(place), sound.byte(place), "byte {place}");
-    }
+    assert!(rt; s.bytes()[..2068] == sound.bytes()[..2068]);
     let wanted = DefectReport {
         zeros: false,
         edc: false,
         p: 1,
         q: 1,
     };
-    assert_eq!(rt; defect(&s), wanted);
+    assert!(rt; defect(&s) == wanted);
 }
 
 #[test]
 fn the_last_user_byte(rt: HostRuntime) {
     let mut user = [0; 2048];
-    let mut s = encode(HEADER, &user);
+    let mut s = encode(ADDRESS, &user);
     change(&rt, &mut s, 2047, &[0x41]);
     user[2047] = 0x41;
-    assert!(rt; s == encode(HEADER, &user));
+    assert!(rt; s == encode(ADDRESS, &user));
 }
 
 /// A range of the user data, of which half are short.
@@ -99,10 +83,10 @@ fn ranges_of_encoded_sectors(rt: HostRuntime) {
     for _round in 0..60u8 {
         let (offset, len) = range(&mut random);
         let new = random.bytes();
-        let mut s = encode(HEADER, &user);
+        let mut s = encode(ADDRESS, &user);
         change(&rt, &mut s, offset as u16, &new[..len]);
         user[offset..offset + len].copy_from_slice(&new[..len]);
-        assert!(rt; s == encode(HEADER, &user), "{len} bytes from {offset}");
+        assert!(rt; s == encode(ADDRESS, &user), "{len} bytes from {offset}");
     }
 }
 
@@ -112,9 +96,9 @@ fn change_against_encode(rt: &impl Abort, old: &[u8; 2048], new: &[u8; 2048], le
 {
     let mut user = *old;
     user[1..1 + len].copy_from_slice(&new[..len]);
-    let mut s = encode(HEADER, old);
+    let mut s = encode(ADDRESS, old);
     change(rt, &mut s, 1, &new[..len]);
-    assert!(rt; s == encode(HEADER, &user), "{len} bytes");
+    assert!(rt; s == encode(ADDRESS, &user), "{len} bytes");
 }
 
 #[test]
@@ -131,27 +115,30 @@ fn lengths_near_the_one_that_takes_a_difference_sector(rt: HostRuntime) {
     change_against_encode(&rt, &old, &new, 2047);
 }
 
+/// The sector with so many bytes behind its header damaged.
+fn with_damage(sound: &Sector, random: &mut Random, count: usize) -> Sector {
+    let mut s = *sound;
+    for _damage in 0..count {
+        let place = 16 + random.below(2336);
+        s.put(place, s.byte(place) ^ random.byte());
+    }
+    s
+}
+
 #[test]
 fn ranges_of_damaged_sectors(rt: HostRuntime) {
     let mut random = Random { state: 0x9E37_79B9 };
-    let user = random.bytes();
+    let sound = encode(ADDRESS, &random.bytes());
     for round in 0..60usize {
-        let mut s = encode(HEADER, &user);
-        for _damage in 0..round {
-            let place = 16 + random.below(2336);
-            let d = random.byte();
-            s.put(place, s.byte(place) ^ d);
-        }
+        let mut s = with_damage(&sound, &mut random, round);
         let before = defect(&s);
         let (offset, len) = range(&mut random);
         let new = random.bytes();
         change(&rt, &mut s, offset as u16, &new[..len]);
-        let after = defect(&s);
-        assert!(rt; !after.edc, "round {round}");
-        assert_eq!(rt;
-            (after.zeros, after.p, after.q),
-            (before.zeros, before.p, before.q),
-            "round {round}"
-        );
+        let wanted = DefectReport {
+            edc: false,
+            ..before
+        };
+        assert!(rt; defect(&s) == wanted, "round {round}");
     }
 }

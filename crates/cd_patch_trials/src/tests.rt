@@ -1,0 +1,5 @@
+//! Changes, texts of scripts, and their patches.
+
+mod changes;
+mod patches;
+mod scripts;

@@ -1,0 +1,57 @@
+//! Sectors made of user data and of other sectors.
+
+use cd_sector::{Sector, address_of, encode, sum_of};
+use std::alloc::{AllocError, Global};
+
+/// User data that hangs on a number, no two bytes in a row alike.
+pub fn mixed_user(number: u8) -> [u8; 2048] {
+    let mut user = [0; 2048];
+    let mut byte = number;
+    for place in user.iter_mut() {
+        byte = byte.wrapping_mul(77).wrapping_add(29) ^ (byte >> 5);
+        *place = byte;
+    }
+    user
+}
+
+/// The consistent sector of a block with this user data.
+pub fn encoded_at(block: u32, user: &[u8; 2048]) -> Sector {
+    encode(address_of(block).unwrap_or([0, 0, 0]), user)
+}
+
+/// The sector that a sector's header and user data are encoded to.
+pub fn encoded_anew(sector: &Sector) -> Sector {
+    let [minute, second, fraction, _] = sector.header();
+    let mut user = [0; 2048];
+    user.copy_from_slice(sector.user());
+    encode([minute, second, fraction], &user)
+}
+
+/// The sector with a difference added to the byte at a place.
+pub fn with_added(sector: &Sector, place: usize, difference: u8) -> Sector {
+    let mut other = *sector;
+    if place < 2352 {
+        other.put(place, sector.byte(place) ^ difference);
+    }
+    other
+}
+
+/// The sector with the lowest bit of the byte at a place flipped.
+pub fn flipped(sector: &Sector, place: usize) -> Sector {
+    with_added(sector, place, 1)
+}
+
+/// What a sector is carried to: to it is added what two consistent sectors differ in, the one with its content and the
+/// one with that of another.
+pub fn carried(old: &Sector, new: &Sector) -> Sector {
+    sum_of(old, &sum_of(&encoded_anew(old), &encoded_anew(new)))
+}
+
+/// The bytes of sectors, one behind the other.
+pub fn joined(alloc: Global, sectors: &[Sector]) -> Result<Vec<u8>, AllocError> {
+    let mut bytes = Vec::new(alloc);
+    for sector in sectors {
+        bytes.extend_from_slice(sector.bytes())?;
+    }
+    Ok(bytes)
+}
