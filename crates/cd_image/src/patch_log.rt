@@ -110,13 +110,13 @@ pub(crate) fn send_counts<L: Sink>(applied: u32, refused: u32, log: &mut L) -> R
     requires { (L.seen log.old).failures < 4294967295 }
     ensures { Sends (L.seen log.old) (L.seen log.new) (log_end applied refused) result }
 {
-    let mut line = Line::new();
-    line.push_text(b"applied ");
-    line.push_number(applied);
-    line.push_text(b" refused ");
-    line.push_number(refused);
-    line.push_text(b"\n");
-    Ok(write_all(log, line.as_slice())?)
+    let mut last = Line::new();
+    last.push_text(b"applied ");
+    last.push_number(applied);
+    last.push_text(b" refused ");
+    last.push_number(refused);
+    last.push_text(b"\n");
+    Ok(write_all(log, last.as_slice())?)
 }
 
 /// Passes on all that the log still holds back.

@@ -34,12 +34,13 @@ returns-in_err-send_counts g c = λ carry base start image going.
 pub returns-in_err-finish_output : goal.returns-in_err-finish_output
 returns-in_err-finish_output g c = λ carry base start image going.
     let failed = err_from_is_err_and c.from_residual-in_err-finish_output.result c.from_residual-in_err-finish_output.ensures.1 in
+    let ended = rw c.in_err-finish_output.was at c.finish_output.ensures in
     rw (failed.1, failed.2)
     (Closes-flush carry c.args.patches.now base start (streams image (g.O.Sink.seen c.args.out.now) (g.L.Sink.seen c.args.log.now)) c.args.self c.unwrap_or-tail.result c.requires.ended c.unwrap_or-tail.ensures going
     (g.O.Sink.seen c.write_all.new.out) c.in_ok-write_all.ensures.bytes c.in_ok-write_all.ensures.count _ (rest_from c.args.patches.now c.args.self.decided)
     (g.L.Sink.seen c.send_missing.new.log) c.in_ok-send_missing.ensures.bytes c.in_ok-send_missing.ensures.count (length c.args.patches.now - c.args.self.applied) (omega arith)
     (g.L.Sink.seen c.send_counts.new.log) c.in_ok-send_counts.ensures.bytes c.in_ok-send_counts.ensures.count
-    (g.O.Sink.seen c.finish_output.new.out) c.in_err-finish_output.ensures.bytes c.in_err-finish_output.ensures.count)
+    (g.O.Sink.seen c.finish_output.new.out) ended.bytes ended.count)
 
 pub returns-in_err-finish_log : goal.returns-in_err-finish_log
 returns-in_err-finish_log g c = λ carry base start image going.

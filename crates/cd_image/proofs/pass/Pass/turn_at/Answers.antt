@@ -2,6 +2,9 @@ use Rattle.std.proofs.Common.{◌∷◌, arith, inl, inr, rules}
 use Rattle.std.proofs.lemmas.Result.{err_from_is_err_and}
 use Rattle.cd_image.proofs.pass.Pass.turn_at.Goals as goal
 
+pub read_ahead-requires-clause-room : goal.read_ahead-requires-clause-room
+read_ahead-requires-clause-room g c = omega arith
+
 pub returns-in_err-read_ahead : goal.returns-in_err-read_ahead
 returns-in_err-read_ahead g c =
     let failed = err_from_is_err_and c.from_residual.result c.from_residual.ensures.1 in
