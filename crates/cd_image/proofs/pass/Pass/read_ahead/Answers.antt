@@ -4,11 +4,17 @@ use Rattle.cd_image.specs.Applying.{streams}
 use Rattle.cd_image.proofs.TurnLemmas.{Steps-ahead, Steps-unread}
 use Rattle.cd_image.proofs.pass.Pass.read_ahead.Goals as goal
 
-pub returns-in_err-read_sector-clause-goes : goal.returns-in_err-read_sector-clause-goes
-returns-in_err-read_sector-clause-goes g c = λ carry taken left base start out log going.
+pub returns-in_err-read_sector : goal.returns-in_err-read_sector
+returns-in_err-read_sector g c =
     let failed = err_from_is_err_and c.from_residual.result c.from_residual.ensures.1 in
     rw (failed.1, failed.2)
-    (Steps-unread carry taken left base start (streams (g.I.Source.seen c.args.image.now) out log) c.args.self.now c.read_sector.new.bytes (g.I.Source.seen c.read_sector.new.image) c.requires.unended c.requires.room going _ c.in_err-read_sector.ensures)
+    record {
+      goes = λ carry taken left base start out log going.
+          Steps-unread carry taken left base start (streams (g.I.Source.seen c.args.image.now) out log) c.args.self.now c.read_sector.new.bytes (g.I.Source.seen c.read_sector.new.image) c.requires.unended c.requires.room going _ c.in_err-read_sector.ensures;
+      decided = tt;
+      short = λ short. short;
+      nearer = tt;
+    }
 
 pub returns-in-None-clause-goes : goal.returns-in-None-clause-goes
 returns-in-None-clause-goes g c = λ carry taken left base start out log going.
