@@ -23,35 +23,20 @@ loop-more-init g c =
       ended = λ never. cc;
     }
 
-pub turn-requires-clause-image_countable : goal.turn-requires-clause-image_countable
-turn-requires-clause-image_countable g c =
+pub turn-requires : goal.turn-requires
+turn-requires g c =
     let b = bounds c.args.carry c.args.patches.now c.args.base (streams (g.I.Source.seen c.args.image.now) (g.O.Sink.seen c.args.out.now) (g.L.Sink.seen c.args.log.now)) (streams (g.I.Source.seen c.loop-more.image) (g.O.Sink.seen c.loop-more.out) (g.L.Sink.seen c.loop-more.log)) c.loop-more.pass c.requires.base c.loop-more.invariant.goes in
-    omega (arith, b.reads)
-
-pub turn-requires-clause-out_countable : goal.turn-requires-clause-out_countable
-turn-requires-clause-out_countable g c =
-    let b = bounds c.args.carry c.args.patches.now c.args.base (streams (g.I.Source.seen c.args.image.now) (g.O.Sink.seen c.args.out.now) (g.L.Sink.seen c.args.log.now)) (streams (g.I.Source.seen c.loop-more.image) (g.O.Sink.seen c.loop-more.out) (g.L.Sink.seen c.loop-more.log)) c.loop-more.pass c.requires.base c.loop-more.invariant.goes in
-    omega (arith, b.writes)
-
-pub turn-requires-clause-log_countable : goal.turn-requires-clause-log_countable
-turn-requires-clause-log_countable g c =
-    let b = bounds c.args.carry c.args.patches.now c.args.base (streams (g.I.Source.seen c.args.image.now) (g.O.Sink.seen c.args.out.now) (g.L.Sink.seen c.args.log.now)) (streams (g.I.Source.seen c.loop-more.image) (g.O.Sink.seen c.loop-more.out) (g.L.Sink.seen c.loop-more.log)) c.loop-more.pass c.requires.base c.loop-more.invariant.goes in
-    omega (arith, b.logs)
-
-pub turn-requires-clause-few : goal.turn-requires-clause-few
-turn-requires-clause-few g c =
-    let b = bounds c.args.carry c.args.patches.now c.args.base (streams (g.I.Source.seen c.args.image.now) (g.O.Sink.seen c.args.out.now) (g.L.Sink.seen c.args.log.now)) (streams (g.I.Source.seen c.loop-more.image) (g.O.Sink.seen c.loop-more.out) (g.L.Sink.seen c.loop-more.log)) c.loop-more.pass c.requires.base c.loop-more.invariant.goes in
-    b.sectors
-
-pub turn-requires-clause-small : goal.turn-requires-clause-small
-turn-requires-clause-small g c =
-    let b = bounds c.args.carry c.args.patches.now c.args.base (streams (g.I.Source.seen c.args.image.now) (g.O.Sink.seen c.args.out.now) (g.L.Sink.seen c.args.log.now)) (streams (g.I.Source.seen c.loop-more.image) (g.O.Sink.seen c.loop-more.out) (g.L.Sink.seen c.loop-more.log)) c.loop-more.pass c.requires.base c.loop-more.invariant.goes in
-    omega (arith, b.block)
-
-pub turn-requires-clause-applied : goal.turn-requires-clause-applied
-turn-requires-clause-applied g c =
-    let b = bounds c.args.carry c.args.patches.now c.args.base (streams (g.I.Source.seen c.args.image.now) (g.O.Sink.seen c.args.out.now) (g.L.Sink.seen c.args.log.now)) (streams (g.I.Source.seen c.loop-more.image) (g.O.Sink.seen c.loop-more.out) (g.L.Sink.seen c.loop-more.log)) c.loop-more.pass c.requires.base c.loop-more.invariant.goes in
-    b.applied
+    record {
+      image_countable = omega (arith, b.reads);
+      out_countable = omega (arith, b.writes);
+      log_countable = omega (arith, b.logs);
+      each = c.requires.each;
+      rising = c.requires.rising;
+      count = c.requires.count;
+      few = b.sectors;
+      small = omega (arith, b.block);
+      applied = b.applied;
+    }
 
 pub returns-in_err-more : goal.returns-in_err-more
 returns-in_err-more g c =
@@ -70,26 +55,18 @@ loop-more-preserved g c = record {
   ended = c.in_ok-more.ensures.ended;
 }
 
-pub close-requires-clause-out_countable : goal.close-requires-clause-out_countable
-close-requires-clause-out_countable g c =
+pub close-requires : goal.close-requires
+close-requires g c =
     let b = bounds c.args.carry c.args.patches.now c.args.base (streams (g.I.Source.seen c.args.image.now) (g.O.Sink.seen c.args.out.now) (g.L.Sink.seen c.args.log.now)) (streams (g.I.Source.seen c.loop-more.image) (g.O.Sink.seen c.loop-more.out) (g.L.Sink.seen c.loop-more.log)) c.loop-more.pass c.requires.base c.loop-more.invariant.goes in
-    omega (arith, b.writes)
-
-pub close-requires-clause-log_countable : goal.close-requires-clause-log_countable
-close-requires-clause-log_countable g c =
-    let b = bounds c.args.carry c.args.patches.now c.args.base (streams (g.I.Source.seen c.args.image.now) (g.O.Sink.seen c.args.out.now) (g.L.Sink.seen c.args.log.now)) (streams (g.I.Source.seen c.loop-more.image) (g.O.Sink.seen c.loop-more.out) (g.L.Sink.seen c.loop-more.log)) c.loop-more.pass c.requires.base c.loop-more.invariant.goes in
-    omega (arith, b.logs)
-
-pub close-requires-clause-ended : goal.close-requires-clause-ended
-close-requires-clause-ended g c = c.loop-more.invariant.ended c.loop-more-test.false
-
-pub close-requires-clause-short : goal.close-requires-clause-short
-close-requires-clause-short g c = c.loop-more.invariant.short
-
-pub close-requires-clause-applied : goal.close-requires-clause-applied
-close-requires-clause-applied g c =
-    let b = bounds c.args.carry c.args.patches.now c.args.base (streams (g.I.Source.seen c.args.image.now) (g.O.Sink.seen c.args.out.now) (g.L.Sink.seen c.args.log.now)) (streams (g.I.Source.seen c.loop-more.image) (g.O.Sink.seen c.loop-more.out) (g.L.Sink.seen c.loop-more.log)) c.loop-more.pass c.requires.base c.loop-more.invariant.goes in
-    b.applied
+    record {
+      out_countable = omega (arith, b.writes);
+      log_countable = omega (arith, b.logs);
+      count = c.requires.count;
+      ended = c.loop-more.invariant.ended c.loop-more-test.false;
+      short = c.loop-more.invariant.short;
+      decided = c.loop-more.invariant.known;
+      applied = b.applied;
+    }
 
 pub returns : goal.returns
 returns g c = c.close.ensures c.args.carry c.args.base (streams (g.I.Source.seen c.args.image.now) (g.O.Sink.seen c.args.out.now) (g.L.Sink.seen c.args.log.now)) (g.I.Source.seen c.loop-more.image) c.loop-more.invariant.goes
