@@ -1,7 +1,10 @@
-use Rattle.std.proofs.Common.{List, ℕ, length, sym, ap, ◌∙◌, arith}
+use Rattle.std.proofs.Common.{List, ℕ, length, refl, sym, ap, ◌∙◌, arith}
 use Rattle.cd_script.specs.Script.{script_from}
 use Rattle.cd_script.proofs.LineLemmas.{head_passed, head_read, head_absent}
 use Rattle.cd_script.proofs.script.head_of.Goals as goal
+
+pub loop-text-init : goal.loop-text-init
+loop-text-init c = (refl, omega arith)
 
 pub returns-in_default-head_version-clause-err : goal.returns-in_default-head_version-clause-err
 returns-in_default-head_version-clause-err c =
