@@ -1,4 +1,4 @@
-use Rattle.std.proofs.Common.{Err, arith, rules}
+use Rattle.std.proofs.Common.{Err, add-zero, ap, arith, rules, sym}
 use Rattle.std.proofs.lemmas.Grind.{common_steps}
 use Rattle.std.proofs.lemmas.Result.{err_from_is_err_and}
 use Rattle.cd_report.specs.ListText.{list_end}
@@ -30,6 +30,9 @@ returns-in_err-finish-clause-text g c =
 
 pub returns-clause-text : goal.returns-clause-text
 returns-clause-text g c = grind (arith, common_steps)
+
+pub returns-clause-tally : goal.returns-clause-tally
+returns-clause-tally g c = ap (λ n. tally_of n c.args.tail) (sym (add-zero c.args.count))
 
 pub returns-clause-count : goal.returns-clause-count
 returns-clause-count g c = search rules

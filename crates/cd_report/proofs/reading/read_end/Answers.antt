@@ -1,0 +1,29 @@
+use Rattle.std.proofs.Common.{◌≡◌, arith, refl, rules, subst, take}
+use Rattle.std.specs.Io.KnownBytes.{Consumes}
+use Rattle.cd_report.specs.Reading.{TooMuchComes}
+use Rattle.cd_report.proofs.reading.read_end.Goals as goal
+
+pub returns-then-branch-gt0 : goal.returns-then-branch-gt0
+returns-then-branch-gt0 g c =
+    let came = c.in_ok-read.ensures in
+    let too_much : TooMuchComes 1000000 (g.I.Source.seen c.args.image.now) (g.I.Source.seen c.read.new.self) = record {
+      came = take c.in_ok-read.field-0 c.read.new.into;
+      one = search rules;
+      consumes = came.bytes.1;
+      kept = came.count;
+      full = refl;
+    } in
+    too_much
+
+pub returns : goal.returns
+returns g c =
+    let came = c.in_ok-read.ensures in
+    let none : c.in_ok-read.field-0 ≡ 0 = omega arith in
+    record {
+      short = omega arith;
+      consumes = subst (λ n. Consumes (g.I.Source.seen c.args.image.now).rest (g.I.Source.seen c.read.new.self).rest (take n c.read.new.into)) none came.bytes.1;
+      size = refl;
+      kept = came.count;
+      at_end = came.bytes.2 none;
+      within = omega arith;
+    }
