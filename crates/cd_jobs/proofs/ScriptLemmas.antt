@@ -1,13 +1,14 @@
 -- What came of a script's file before a fault.
-use Rattle.std.proofs.Common.{◌≡◌, ℕ, ◌+◌, ◌≤◌, List, ◌++◌, length, take, Result, Ok, Err, sym, subst, arith, length-append}
+use Rattle.std.proofs.Common.{◌≡◌, ℕ, ◌+◌, ◌≤◌, List, ◌++◌, length, take, Result, Ok, Err, inl, inr, ap, sym, subst, arith, length-append}
 use Rattle.std.proofs.lemmas.List.{length-take-le}
 use Rattle.std.specs.Io.KnownBytes.{Consumes}
 use Rattle.std.specs.Result.{IsErrAnd}
 use Rattle.std.proofs.KnownBytes.{Consumes-trans}
-use Rattle.cd_stream.specs.Stream.{Incoming}
-use Rattle.cd_jobs.specs.ScriptLines.{Gathers, Stops}
+use Rattle.cd_stream.specs.Stream.{Incoming, Outgoing}
+use Rattle.cd_jobs.specs.Run.{SaysLine}
+use Rattle.cd_jobs.specs.ScriptLines.{Gathers, Stops, TellsFailedReads, load_line}
 use Rattle.cd_jobs.specs.declared.script.LoadFault.{LoadFault}
-use Rattle.cd_jobs.specs.declared.script.LoadFault.TheVariants.{NoMemory}
+use Rattle.cd_jobs.specs.declared.script.LoadFault.TheVariants.{NoMemory, Read, TooLong}
 
 -- the bytes that had come, and those of the last read
 pub length-with_last : (earlier into : List ℕ) (n : ℕ) → n ≤ length into → length (earlier ++ take n into) ≡ length earlier + n
@@ -29,3 +30,10 @@ pub Gathers-refused : {T : Type 0} (bytes_of : T → List ℕ) (file middle file
 Gathers-refused bytes_of file middle file' (Ok text) earlier came refused first last stops = absurd refused
 Gathers-refused bytes_of file middle file' (Err fault) earlier came refused first last stops =
     Gathers-stopped bytes_of file middle file' fault earlier came first last (subst (λ f. Stops f (earlier ++ came) file file') (sym refused) stops)
+
+-- a fault and its line tell whether a read failed
+pub Stops-tells : {T : Type 0} (fault : LoadFault) (read : List ℕ) (file file' : Incoming) (log log' : Outgoing) (status : ℕ)
+    → status ≡ 2 → Stops fault read file file' → SaysLine (load_line fault) log log' → TellsFailedReads {T = T} file file' log log' (Err status)
+Stops-tells Read read file file' log log' status is stops says = record { failed = λ rose. (ap Err is, says); others = λ same. absurd (omega (arith, stops.0, same)) }
+Stops-tells TooLong read file file' log log' status is stops says = record { failed = λ rose. absurd (rose stops.0); others = λ same. inl (ap Err is, says) }
+Stops-tells NoMemory read file file' log log' status is stops says = record { failed = λ rose. absurd (rose stops.0); others = λ same. inr (ap Err is, says) }

@@ -6,5 +6,5 @@ returns-in-Ok g c = record {
   answer = Ok c.in-Ok.image;
   middle = c.image_at.new.host;
   asked = c.in-Ok.ensures.asked;
-  done = grind arith;
+  done = grind arith steps 60000;
 }

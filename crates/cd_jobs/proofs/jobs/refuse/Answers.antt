@@ -2,7 +2,7 @@ use Rattle.std.proofs.Common.{arith}
 use Rattle.cd_jobs.proofs.jobs.refuse.Goals as goal
 
 pub returns-then-is_ok : goal.returns-then-is_ok
-returns-then-is_ok g c = grind arith steps 400000
+returns-then-is_ok g c = grind arith steps 100000
 
 pub returns : goal.returns
-returns g c = grind arith steps 400000
+returns g c = grind arith steps 100000

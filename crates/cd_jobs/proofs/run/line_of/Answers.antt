@@ -4,7 +4,3 @@ use Rattle.cd_jobs.proofs.run.line_of.Goals as goal
 pub returns-in-Read : goal.returns-in-Read
 unfolding fault_line
 returns-in-Read c = rw c.in-Read.is
-
-pub returns-in-Write : goal.returns-in-Write
-unfolding fault_line
-returns-in-Write c = rw c.in-Write.is

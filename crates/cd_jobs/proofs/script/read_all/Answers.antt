@@ -1,8 +1,22 @@
-use Rattle.std.proofs.Common.{arith, take, ◌∙◌}
+use Rattle.std.proofs.Common.{◌≡◌, [], arith, refl, subst, take, ◌∙◌, append-nil}
+use Rattle.std.specs.Io.KnownBytes.{Consumes}
+use Rattle.std.proofs.KnownBytes.{Consumes-trans}
 use Rattle.std.proofs.Math.ListN.{length-take}
 use Rattle.cd_jobs.specs.declared.script.LoadFault.TheVariants.{TooLong}
 use Rattle.cd_jobs.proofs.ScriptLemmas.{Gathers-refused, Gathers-stopped, length-with_last}
 use Rattle.cd_jobs.proofs.script.read_all.Goals as goal
+
+pub returns-then-n-eq0 : goal.returns-then-n-eq0
+returns-then-n-eq0 g c =
+    let before = c.loop-bytes.invariant in
+    let came = c.in_ok-n.ensures.bytes in
+    let none : c.in_ok-n.n ≡ 0 = omega arith in
+    let last = subst (λ n. Consumes ((g.I.Source.seen c.loop-bytes.file).rest) ((g.I.Source.seen c.read.new.self).rest) (take n c.read.new.into)) none came.1 in
+    record {
+      read = c.loop-bytes.bytes.items;
+      consumes = subst (Consumes _ _) (append-nil _) (Consumes-trans _ _ _ c.loop-bytes.bytes.items [] before.consumed last);
+      answers = (refl, record { reads = c.in_ok-n.ensures.count ∙ before.counted; at_end = came.2 none; within = before.within });
+    }
 
 pub returns-then-n-left : goal.returns-then-n-left
 returns-then-n-left g c =
