@@ -1,0 +1,5 @@
+use Rattle.std.proofs.Common.{rules}
+use Rattle.cd_sector.proofs.sector.Sector.read_with.Goals as goal
+
+pub returns : goal.returns
+returns g c = search rules
