@@ -1,0 +1,5 @@
+use Rattle.std.proofs.Common.{rules}
+use Rattle.cd_stream.proofs.forms.from_read.FromReadSource.read.Goals as goal
+
+pub returns-in-Err : goal.returns-in-Err
+returns-in-Err g c = search rules

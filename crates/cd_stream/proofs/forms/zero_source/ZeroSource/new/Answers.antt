@@ -1,0 +1,5 @@
+use Rattle.std.proofs.Common.{refl}
+use Rattle.cd_stream.proofs.forms.zero_source.ZeroSource.new.Goals as goal
+
+pub returns : goal.returns
+returns c = refl
