@@ -1,4 +1,5 @@
 mod AskedLemmas
+mod DefinitionLemmas
 mod GetterLemmas
 mod TakenLemmas
 mod WalkLemmas

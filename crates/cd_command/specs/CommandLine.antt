@@ -1,5 +1,5 @@
 -- The command line as `clap` defines it, and the job that it asks for.
-use Rattle.std.specs.Prelude.{◌≡◌, ◌⊎◌, ⊤, ℕ, Bool, true, false, List, [], ◌∷◌, Option, Some, None, codes, pos}
+use Rattle.std.specs.Prelude.{◌≡◌, ◌⊎◌, ⊤, ℕ, Bool, true, false, List, [], ◌∷◌, ◌++◌, Option, Some, None, codes, pos}
 use Rattle.std.specs.Prelude.{IsSome, IsSomeAnd, option_map, string_bytes}
 use Rattle.std.specs.Str.{bytes_eq}
 use Rattle.std.specs.Str.Parse.{digits_value, without_leading_plus}
@@ -42,17 +42,15 @@ check_shape = record (new_shape (codes "check")) {
   rules = text_rule (codes "image") ∷ text_rule (codes "script") ∷ carry_rule ∷ base_rule ∷ [];
 }
 
--- `apply` with its texts alone
-abbrev pub apply_texts : Shape
-apply_texts = record (new_shape (codes "apply")) {
-  rules = text_rule (codes "image") ∷ text_rule (codes "script") ∷ text_rule (codes "out") ∷ [];
-}
-
 -- `apply`, with the texts IMAGE, SCRIPT and OUT, the flag and the option
 abbrev pub apply_shape : Shape
 apply_shape = record (new_shape (codes "apply")) {
   rules = text_rule (codes "image") ∷ text_rule (codes "script") ∷ text_rule (codes "out") ∷ carry_rule ∷ base_rule ∷ [];
 }
+
+-- a command with one more argument
+abbrev pub with_rule : Shape → Rule → Shape
+with_rule s a = record s { rules = s.rules ++ a ∷ [] }
 
 -- the program, of which a command is required
 abbrev pub program_shape : Shape
@@ -62,6 +60,10 @@ program_shape = record (new_shape (codes "cdpatch")) {
   disable_help_subcommand = true;
   subcommand_required = true;
 }
+
+-- the program before its commands
+abbrev pub program_app : App
+program_app = record { top = record program_shape { is_leaf = true }; subs = [] }
 
 -- `list IMAGE`, `audit IMAGE`, `check IMAGE SCRIPT` and `apply IMAGE SCRIPT OUT`
 unfoldable pub command_line : App

@@ -1,9 +1,9 @@
 //! What the parser is told of the command line.
-ghost use Rattle.std.specs.Prelude.{◌≡◌, IfOk, codes, false};
+ghost use Rattle.std.specs.Prelude.{◌≡◌, IfOk, IsOkAnd, codes, false};
 ghost use Rattle.clap.specs.Simple.{new_shape};
-ghost use Rattle.clap.specs.Words.{app_of, rule_of, shape_of};
+ghost use Rattle.clap.specs.Words.{app_of, rule_of, shape_of, with_subcommand};
 ghost use Rattle.clap.specs.declared.builder.command.Command.TheViews.{out-Command};
-ghost use Rattle.cd_command.specs.CommandLine.{apply_shape, apply_texts, base_rule, carry_rule, check_shape, command_line, image_shape, text_rule};
+ghost use Rattle.cd_command.specs.CommandLine.{apply_shape, base_rule, carry_rule, check_shape, command_line, image_shape, program_app, text_rule, with_rule};
 
 use crate::help::{
     APPLY_ABOUT, APPLY_MORE, AUDIT_ABOUT, AUDIT_MORE, CHECK_ABOUT, CHECK_MORE, LIST_ABOUT,
@@ -93,68 +93,91 @@ fn described<'a>(alloc: Global, name: &'a str, about: &'a str, more: &'a str) ->
     Command::new(alloc, name).about(about).after_help(more)
 }
 
-fn list_command<'a>(alloc: Global) -> Result<Command<'a>, AllocError>
-    ensures shape { IfOk result (λ c. shape_of c ≡ image_shape (codes "list")) }
-    ensures local { IfOk result (λ c. (out-Command c).has_globals ≡ false) }
+// A command, where memory was found for it, with one more argument.
+fn with_argument<'a>(
+    command: Result<Command<'a>, AllocError>,
+    argument: Arg<'a>,
+) -> Result<Command<'a>, AllocError>
+    requires { argument.global ≡ false }
+    ensures shape { IfOk result (λ c. IsOkAnd command.entry (λ was.
+        shape_of c ≡ with_rule (shape_of was) (rule_of argument.entry))) }
+    ensures local { IfOk result (λ c. IsOkAnd command.entry (λ was.
+        (out-Command c).has_globals ≡ (out-Command was).has_globals)) }
 {
-    described(alloc, "list", LIST_ABOUT, LIST_MORE)
-        .arg(image_argument(alloc))?
-        .arg(base_argument(alloc))
+    command?.arg(argument)
 }
 
-fn audit_command<'a>(alloc: Global) -> Result<Command<'a>, AllocError>
-    ensures shape { IfOk result (λ c. shape_of c ≡ image_shape (codes "audit")) }
+// A command that reads an image: `list` or `audit`.
+fn image_command<'a>(
+    alloc: Global,
+    name: &'a str,
+    about: &'a str,
+    more: &'a str,
+) -> Result<Command<'a>, AllocError>
+    ensures shape { IfOk result (λ c. shape_of c ≡ image_shape name.now) }
     ensures local { IfOk result (λ c. (out-Command c).has_globals ≡ false) }
 {
-    described(alloc, "audit", AUDIT_ABOUT, AUDIT_MORE)
-        .arg(image_argument(alloc))?
-        .arg(base_argument(alloc))
+    let command = Ok(described(alloc, name, about, more));
+    let command = with_argument(command, image_argument(alloc));
+    with_argument(command, base_argument(alloc))
 }
 
 fn check_command<'a>(alloc: Global) -> Result<Command<'a>, AllocError>
     ensures shape { IfOk result (λ c. shape_of c ≡ check_shape) }
     ensures local { IfOk result (λ c. (out-Command c).has_globals ≡ false) }
 {
-    described(alloc, "check", CHECK_ABOUT, CHECK_MORE)
-        .arg(image_argument(alloc))?
-        .arg(script_argument(alloc))?
-        .arg(carry_argument(alloc))?
-        .arg(base_argument(alloc))
-}
-
-// `apply` before its options.
-fn apply_texts<'a>(alloc: Global) -> Result<Command<'a>, AllocError>
-    ensures shape { IfOk result (λ c. shape_of c ≡ apply_texts) }
-    ensures local { IfOk result (λ c. (out-Command c).has_globals ≡ false) }
-{
-    described(alloc, "apply", APPLY_ABOUT, APPLY_MORE)
-        .arg(image_argument(alloc))?
-        .arg(script_argument(alloc))?
-        .arg(out_argument(alloc))
+    let command = Ok(described(alloc, "check", CHECK_ABOUT, CHECK_MORE));
+    let command = with_argument(command, image_argument(alloc));
+    let command = with_argument(command, script_argument(alloc));
+    let command = with_argument(command, carry_argument(alloc));
+    with_argument(command, base_argument(alloc))
 }
 
 fn apply_command<'a>(alloc: Global) -> Result<Command<'a>, AllocError>
     ensures shape { IfOk result (λ c. shape_of c ≡ apply_shape) }
     ensures local { IfOk result (λ c. (out-Command c).has_globals ≡ false) }
 {
-    apply_texts(alloc)?
-        .arg(carry_argument(alloc))?
-        .arg(base_argument(alloc))
+    let command = Ok(described(alloc, "apply", APPLY_ABOUT, APPLY_MORE));
+    let command = with_argument(command, image_argument(alloc));
+    let command = with_argument(command, script_argument(alloc));
+    let command = with_argument(command, out_argument(alloc));
+    let command = with_argument(command, carry_argument(alloc));
+    with_argument(command, base_argument(alloc))
+}
+
+// The program before its commands, of which one is required.
+fn program<'a>(alloc: Global) -> Result<Command<'a>, AllocError>
+    ensures { IfOk result (λ c. app_of c ≡ program_app) }
+{
+    Command::new(alloc, "cdpatch")
+        .about(PROGRAM_ABOUT)
+        .after_help(PROGRAM_MORE)
+        .no_binary_name(true)
+        .disable_help_subcommand(true)
+        .subcommand_required(true)
+        .bin_name("cdpatch")
+}
+
+// The program, where memory was found for it and for the command, with one more command.
+fn with_command<'a>(
+    program: Result<Command<'a>, AllocError>,
+    command: Result<Command<'a>, AllocError>,
+) -> Result<Command<'a>, AllocError>
+    requires { IfOk command (λ sub. (out-Command sub).has_globals ≡ false) }
+    ensures { IfOk result (λ c. IsOkAnd program.entry (λ was. IsOkAnd command.entry (λ sub.
+        app_of c ≡ with_subcommand (app_of was) (shape_of sub)))) }
+{
+    program?.subcommand(command?)
 }
 
 /// The parser of the command line.
 pub fn command_line<'a>(alloc: Global) -> Result<Command<'a>, AllocError>
     ensures { IfOk result (λ c. app_of c ≡ command_line) }
 {
-    Command::new(alloc, "cdpatch")
-        .about(PROGRAM_ABOUT)
-        .after_help(PROGRAM_MORE)
-        .bin_name("cdpatch")?
-        .no_binary_name(true)
-        .disable_help_subcommand(true)
-        .subcommand_required(true)
-        .subcommand(list_command(alloc)?)?
-        .subcommand(audit_command(alloc)?)?
-        .subcommand(check_command(alloc)?)?
-        .subcommand(apply_command(alloc)?)
+    let list = image_command(alloc, "list", LIST_ABOUT, LIST_MORE);
+    let audit = image_command(alloc, "audit", AUDIT_ABOUT, AUDIT_MORE);
+    let program = with_command(program(alloc), list);
+    let program = with_command(program, audit);
+    let program = with_command(program, check_command(alloc));
+    with_command(program, apply_command(alloc))
 }
