@@ -36,6 +36,19 @@ pub fn with_added(sector: &Sector, place: usize, difference: u8) -> Sector {
     other
 }
 
+/// The sector with these bytes from a place on, as far as it has places.
+pub fn with_bytes(sector: &Sector, place: usize, bytes: &[u8]) -> Sector {
+    let mut other = *sector;
+    let mut next = place;
+    for byte in bytes {
+        if next < 2352 {
+            other.put(next, *byte);
+            next += 1;
+        }
+    }
+    other
+}
+
 /// The sector with the lowest bit of the byte at a place flipped.
 pub fn flipped(sector: &Sector, place: usize) -> Sector {
     with_added(sector, place, 1)

@@ -1,122 +1,150 @@
 //! Patches that are accepted: each sector that they meet is the one that the encoding from scratch gives.
 
-use super::patching::{Case, Row, expect, expect_left, expect_row_from, expect_rows};
-use cd_samples::Sample::{Addressed, Blank, Damaged, Filled, Mode, Zeros};
-use cd_samples::{cut_image, encoded_at, image_of, joined, repeated, sector_of};
-use std::alloc::{AllocError, Global};
-use std::process::Abort;
+use super::patching::{Case, Row, expect, expect_left, expect_made, expect_rows, expect_rows_by};
+use cd_samples::Sample::{self, Addressed, Blank, Damaged, Filled, Mode, Zeros};
+use cd_samples::{cut_image, encoded_at, image_of, joined, repeated, sector_of, with_bytes};
 use std::test::Fail;
 
 const ONE: &str = "line 2: applied\napplied 1 refused 0\n";
 
 const TWO: &str = "line 2: applied\nline 3: applied\napplied 2 refused 0\n";
 
+/// The sectors of three blocks.
+const THREE: &[Sample] = &[Zeros(0), Zeros(1), Zeros(2)];
+
+/// The same, their user data `41` from the last byte of the first to the last but one of the third.
+const THREE_FILLED: &[Sample] = &[
+    Filled(0, 2047, 2048, 65),
+    Filled(1, 0, 2048, 65),
+    Filled(2, 0, 2047, 65),
+];
+
 #[test]
 fn bytes_over_three_blocks(rt: HostRuntime) -> Result<(), Fail> {
     let set = repeated(rt.alloc(), "cdpatch 1\nset 0 2047 ", "41", 4096, "\n")?;
-    for script in [set.as_str(), "cdpatch 1\nfill 0 2047 4096 41\n"] {
-        let row = Row {
-            script,
-            image: &[Zeros(0), Zeros(1), Zeros(2)],
-            log: ONE,
-            out: &[
-                Filled(0, 2047, 2048, 65),
-                Filled(1, 0, 2048, 65),
-                Filled(2, 0, 2047, 65),
-            ],
-        };
-        expect_row_from(&rt, rt.alloc(), 0, &row)?;
-    }
-    Ok(())
+    let fill = "cdpatch 1\nfill 0 2047 4096 41\n";
+    let rows = &[(set.as_str(), THREE_FILLED), (fill, THREE_FILLED)];
+    expect_made(&rt, rt.alloc(), THREE, ONE, rows)
 }
 
-/// The sectors of three blocks, the joined user bytes `first` to `end` of which are `41`.
-fn range_filled(alloc: Global, first: usize, end: usize) -> Result<Vec<u8>, AllocError> {
-    let mut bytes = Vec::new(alloc);
-    let mut before: usize = 0;
-    for block in 0..3u32 {
-        let from = first.saturating_sub(before);
-        let to = end.saturating_sub(before);
-        bytes.extend_from_slice(sector_of(&Filled(block, from, to, 65)).bytes())?;
-        before = before.saturating_add(2048);
-    }
-    Ok(bytes)
-}
-
-/// Fills these joined user bytes of three sectors with `41`.
-fn fills(
-    rt: &impl Abort,
-    alloc: Global,
-    patch: &str,
-    first: usize,
-    end: usize,
-) -> Result<(), Fail> {
-    let image = image_of(alloc, &[Zeros(0), Zeros(1), Zeros(2)])?;
-    let out = range_filled(alloc, first, end)?;
-    let script = format!(in alloc; "cdpatch 1\nfill {patch} 41")?;
-    let case = Case {
-        script: &script,
-        image: &image,
-        base: 0,
-        log: ONE,
-        out: &out,
-    };
-    expect(rt, alloc, &case)
-}
+const AT_BORDERS: &[(&str, &[Sample])] = &[
+    (
+        "cdpatch 1\nfill 0 0 1 41",
+        &[Filled(0, 0, 1, 65), Zeros(1), Zeros(2)],
+    ),
+    (
+        "cdpatch 1\nfill 0 0 2048 41",
+        &[Filled(0, 0, 2048, 65), Zeros(1), Zeros(2)],
+    ),
+    (
+        "cdpatch 1\nfill 0 0 2049 41",
+        &[Filled(0, 0, 2048, 65), Filled(1, 0, 1, 65), Zeros(2)],
+    ),
+    (
+        "cdpatch 1\nfill 0 0 4096 41",
+        &[Filled(0, 0, 2048, 65), Filled(1, 0, 2048, 65), Zeros(2)],
+    ),
+    (
+        "cdpatch 1\nfill 0 1 2047 41",
+        &[Filled(0, 1, 2048, 65), Zeros(1), Zeros(2)],
+    ),
+    (
+        "cdpatch 1\nfill 0 1 2048 41",
+        &[Filled(0, 1, 2048, 65), Filled(1, 0, 1, 65), Zeros(2)],
+    ),
+    (
+        "cdpatch 1\nfill 0 1 4095 41",
+        &[Filled(0, 1, 2048, 65), Filled(1, 0, 2048, 65), Zeros(2)],
+    ),
+    (
+        "cdpatch 1\nfill 0 1 4096 41",
+        &[
+            Filled(0, 1, 2048, 65),
+            Filled(1, 0, 2048, 65),
+            Filled(2, 0, 1, 65),
+        ],
+    ),
+    (
+        "cdpatch 1\nfill 0 2046 2 41",
+        &[Filled(0, 2046, 2048, 65), Zeros(1), Zeros(2)],
+    ),
+    (
+        "cdpatch 1\nfill 0 2046 3 41",
+        &[Filled(0, 2046, 2048, 65), Filled(1, 0, 1, 65), Zeros(2)],
+    ),
+    (
+        "cdpatch 1\nfill 0 2047 1 41",
+        &[Filled(0, 2047, 2048, 65), Zeros(1), Zeros(2)],
+    ),
+    (
+        "cdpatch 1\nfill 0 2047 2 41",
+        &[Filled(0, 2047, 2048, 65), Filled(1, 0, 1, 65), Zeros(2)],
+    ),
+    (
+        "cdpatch 1\nfill 0 2047 2049 41",
+        &[Filled(0, 2047, 2048, 65), Filled(1, 0, 2048, 65), Zeros(2)],
+    ),
+    (
+        "cdpatch 1\nfill 0 2047 2050 41",
+        &[
+            Filled(0, 2047, 2048, 65),
+            Filled(1, 0, 2048, 65),
+            Filled(2, 0, 1, 65),
+        ],
+    ),
+    (
+        "cdpatch 1\nfill 1 2047 1 41",
+        &[Zeros(0), Filled(1, 2047, 2048, 65), Zeros(2)],
+    ),
+    (
+        "cdpatch 1\nfill 1 2047 2049 41",
+        &[Zeros(0), Filled(1, 2047, 2048, 65), Filled(2, 0, 2048, 65)],
+    ),
+    (
+        "cdpatch 1\nfill 2 2047 1 41",
+        &[Zeros(0), Zeros(1), Filled(2, 2047, 2048, 65)],
+    ),
+    (
+        "cdpatch 1\nfill 2 0 2048 41",
+        &[Zeros(0), Zeros(1), Filled(2, 0, 2048, 65)],
+    ),
+];
 
 #[test]
 fn ranges_at_the_borders_of_blocks(rt: HostRuntime) -> Result<(), Fail> {
-    for (patch, first, end) in &[
-        ("0 0 1", 0, 1),
-        ("0 0 2048", 0, 2048),
-        ("0 0 2049", 0, 2049),
-        ("0 0 4096", 0, 4096),
-        ("0 1 2047", 1, 2048),
-        ("0 1 2048", 1, 2049),
-        ("0 1 4095", 1, 4096),
-        ("0 1 4096", 1, 4097),
-        ("0 2046 2", 2046, 2048),
-        ("0 2046 3", 2046, 2049),
-        ("0 2047 1", 2047, 2048),
-        ("0 2047 2", 2047, 2049),
-        ("0 2047 2049", 2047, 4096),
-        ("0 2047 2050", 2047, 4097),
-        ("1 2047 1", 4095, 4096),
-        ("1 2047 2049", 4095, 6144),
-        ("2 2047 1", 6143, 6144),
-        ("2 0 2048", 4096, 6144),
-    ] {
-        fills(&rt, rt.alloc(), patch, *first, *end)?;
-    }
-    Ok(())
+    expect_made(&rt, rt.alloc(), THREE, ONE, AT_BORDERS)
 }
+
+const LOWEST_FIRST: &[Row] = &[Row {
+    script: "cdpatch 1\nset 5 0 41\nset 4 2047 4242\n",
+    image: SIX,
+    log: "line 3: applied\nline 2: applied\napplied 2 refused 0\n",
+    out: &[
+        Zeros(0),
+        Zeros(1),
+        Zeros(2),
+        Zeros(3),
+        Filled(4, 2047, 2048, 66),
+        Filled(5, 0, 1, 65),
+    ],
+}];
 
 #[test]
 fn the_lowest_block_first(rt: HostRuntime) -> Result<(), Fail> {
-    expect_rows(
-        &rt,
-        rt.alloc(),
-        &[Row {
-            script: "cdpatch 1\nset 5 0 41\nset 4 2047 4242\n",
-            image: &[Zeros(0), Zeros(1), Zeros(2), Zeros(3), Zeros(4), Zeros(5)],
-            log: "line 3: applied\nline 2: applied\napplied 2 refused 0\n",
-            out: &[
-                Zeros(0),
-                Zeros(1),
-                Zeros(2),
-                Zeros(3),
-                Filled(4, 2047, 2048, 66),
-                Filled(5, 0, 1, 65),
-            ],
-        }],
-    )
+    expect_rows(&rt, rt.alloc(), LOWEST_FIRST)
 }
+
+const OVERLAPPING: &str =
+    "cdpatch 1\nfill 0 2047 4096 41\nfill 1 2047 4096 42\nfill 2 2047 4096 43\n";
+
+const ALL_THREE: &str = "line 2: applied\nline 3: applied\nline 4: applied\napplied 3 refused 0\n";
+
+const SIX: &[Sample] = &[Zeros(0), Zeros(1), Zeros(2), Zeros(3), Zeros(4), Zeros(5)];
 
 /// Each patch meets three blocks, and the next one writes over the end of its bytes.
 #[test]
 fn overlapping_ranges(rt: HostRuntime) -> Result<(), Fail> {
-    let samples = [Zeros(0), Zeros(1), Zeros(2), Zeros(3), Zeros(4), Zeros(5)];
-    let image = image_of(rt.alloc(), &samples)?;
+    let image = image_of(rt.alloc(), SIX)?;
     let mut first = [65; 2048];
     first[2047] = 66;
     let mut second = [66; 2048];
@@ -131,107 +159,98 @@ fn overlapping_ranges(rt: HostRuntime) -> Result<(), Fail> {
     ];
     let out = joined(rt.alloc(), &sectors)?;
     let case = Case {
-        script: "cdpatch 1\nfill 0 2047 4096 41\nfill 1 2047 4096 42\nfill 2 2047 4096 43\n",
+        script: OVERLAPPING,
         image: &image,
         base: 0,
-        log: "line 2: applied\nline 3: applied\nline 4: applied\napplied 3 refused 0\n",
+        log: ALL_THREE,
         out: &out,
     };
-    expect(&rt, rt.alloc(), &case)
+    expect(&rt, rt.alloc(), &case, false)
 }
+
+const ONE_SECTOR: &[Row] = &[
+    Row {
+        script: "cdpatch 1\nset 0 0 41 was 00\nset 0 0 00 was 41\n",
+        image: &[Zeros(0)],
+        log: TWO,
+        out: &[Zeros(0)],
+    },
+    Row {
+        script: "cdpatch 1\nfill 0 0 2048 FF\n",
+        image: &[Zeros(0)],
+        log: ONE,
+        out: &[Filled(0, 0, 2048, 255)],
+    },
+    Row {
+        script: "cdpatch 1\nset 0 0 00\n",
+        image: &[Zeros(0)],
+        log: ONE,
+        out: &[Zeros(0)],
+    },
+    Row {
+        script: "# x\r\n\tcdpatch  1\r\n\r\nset 000 0 aB",
+        image: &[Zeros(0)],
+        log: "line 4: applied\napplied 1 refused 0\n",
+        out: &[Filled(0, 0, 1, 171)],
+    },
+];
 
 #[test]
 fn one_sector(rt: HostRuntime) -> Result<(), Fail> {
-    expect_rows(
-        &rt,
-        rt.alloc(),
-        &[
-            Row {
-                script: "cdpatch 1\nset 0 0 41 was 00\nset 0 0 00 was 41\n",
-                image: &[Zeros(0)],
-                log: TWO,
-                out: &[Zeros(0)],
-            },
-            Row {
-                script: "cdpatch 1\nfill 0 0 2048 FF\n",
-                image: &[Zeros(0)],
-                log: ONE,
-                out: &[Filled(0, 0, 2048, 255)],
-            },
-            Row {
-                script: "cdpatch 1\nset 0 0 00\n",
-                image: &[Zeros(0)],
-                log: ONE,
-                out: &[Zeros(0)],
-            },
-            Row {
-                script: "# x\r\n\tcdpatch  1\r\n\r\nset 000 0 aB",
-                image: &[Zeros(0)],
-                log: "line 4: applied\napplied 1 refused 0\n",
-                out: &[Filled(0, 0, 1, 171)],
-            },
-        ],
-    )
+    expect_rows(&rt, rt.alloc(), ONE_SECTOR)
 }
+
+const NO_ADDRESS: &[Row] = &[
+    Row {
+        script: "cdpatch 1\nset 0 2047 41\n",
+        image: &[Addressed([255, 0, 171], 0, 0, 0)],
+        log: ONE,
+        out: &[Addressed([255, 0, 171], 2047, 2048, 65)],
+    },
+    Row {
+        script: "cdpatch 1\nrebuild 0\n",
+        image: &[Addressed([255, 0, 171], 0, 0, 0)],
+        log: ONE,
+        out: &[Addressed([255, 0, 171], 0, 0, 0)],
+    },
+];
 
 #[test]
 fn headers_that_are_no_address(rt: HostRuntime) -> Result<(), Fail> {
-    expect_rows(
-        &rt,
-        rt.alloc(),
-        &[
-            Row {
-                script: "cdpatch 1\nset 0 2047 41\n",
-                image: &[Addressed([255, 0, 171], 0, 0, 0)],
-                log: ONE,
-                out: &[Addressed([255, 0, 171], 2047, 2048, 65)],
-            },
-            Row {
-                script: "cdpatch 1\nrebuild 0\n",
-                image: &[Addressed([255, 0, 171], 0, 0, 0)],
-                log: ONE,
-                out: &[Addressed([255, 0, 171], 0, 0, 0)],
-            },
-        ],
-    )
+    expect_rows(&rt, rt.alloc(), NO_ADDRESS)
 }
+
+const MADE_ANEW: &[Row] = &[
+    Row {
+        script: "cdpatch 1\nrebuild 0\n",
+        image: &[Damaged(0, 16, 65)],
+        log: ONE,
+        out: &[Filled(0, 0, 1, 65)],
+    },
+    Row {
+        script: "cdpatch 1\nrebuild 0\n",
+        image: &[Filled(0, 0, 1, 65)],
+        log: ONE,
+        out: &[Filled(0, 0, 1, 65)],
+    },
+    Row {
+        script: "cdpatch 1\nrebuild 1\nset 1 0 41\n",
+        image: &[Mode(2), Damaged(1, 2351, 1)],
+        log: TWO,
+        out: &[Mode(2), Filled(1, 0, 1, 65)],
+    },
+];
 
 #[test]
 fn sectors_made_anew(rt: HostRuntime) -> Result<(), Fail> {
-    expect_rows(
-        &rt,
-        rt.alloc(),
-        &[
-            Row {
-                script: "cdpatch 1\nrebuild 0\n",
-                image: &[Damaged(0, 16, 65)],
-                log: ONE,
-                out: &[Filled(0, 0, 1, 65)],
-            },
-            Row {
-                script: "cdpatch 1\nrebuild 0\n",
-                image: &[Filled(0, 0, 1, 65)],
-                log: ONE,
-                out: &[Filled(0, 0, 1, 65)],
-            },
-            Row {
-                script: "cdpatch 1\nrebuild 1\nset 1 0 41\n",
-                image: &[Mode(2), Damaged(1, 2351, 1)],
-                log: TWO,
-                out: &[Mode(2), Filled(1, 0, 1, 65)],
-            },
-        ],
-    )
+    expect_rows(&rt, rt.alloc(), MADE_ANEW)
 }
 
 /// All 288 bytes behind the user data are `FF`.
 #[test]
 fn codes_made_anew(rt: HostRuntime) -> Result<(), Fail> {
     let zeros = sector_of(&Zeros(0));
-    let mut damaged = zeros;
-    for place in 2064..2352usize {
-        damaged.put(place, 255);
-    }
+    let damaged = with_bytes(&zeros, 2064, &[255; 288]);
     let case = Case {
         script: "cdpatch 1\nrebuild 0\n",
         image: damaged.bytes(),
@@ -239,21 +258,22 @@ fn codes_made_anew(rt: HostRuntime) -> Result<(), Fail> {
         log: ONE,
         out: zeros.bytes(),
     };
-    expect(&rt, rt.alloc(), &case)
+    expect(&rt, rt.alloc(), &case, false)
 }
+
+const OF_ALL_KINDS: &[Sample] = &[
+    Mode(0),
+    Mode(2),
+    Mode(3),
+    Blank,
+    Zeros(0),
+    Damaged(7, 20, 1),
+];
 
 #[test]
 fn no_patches(rt: HostRuntime) -> Result<(), Fail> {
     for size in &[0, 1, 2351, 2352, 4704, 9_408, 14_111, 14_112] {
-        let samples = [
-            Mode(0),
-            Mode(2),
-            Mode(3),
-            Blank,
-            Zeros(0),
-            Damaged(7, 20, 1),
-        ];
-        let image = cut_image(rt.alloc(), &samples, *size)?;
+        let image = cut_image(rt.alloc(), OF_ALL_KINDS, *size)?;
         let log = "applied 0 refused 0\n";
         expect_left(&rt, rt.alloc(), 449_849, "cdpatch 1\n", &image, log)?;
     }
@@ -273,18 +293,19 @@ fn a_tail_behind_patched_sectors(rt: HostRuntime) -> Result<(), Fail> {
             log: ONE,
             out: &out,
         };
-        expect(&rt, rt.alloc(), &case)?;
+        expect(&rt, rt.alloc(), &case, false)?;
     }
     Ok(())
 }
 
+const LARGEST_BASE: &[Row] = &[Row {
+    script: "cdpatch 1\nset 449850 1 41\nset 449849 2047 4141\n",
+    image: &[Zeros(449_849), Zeros(0)],
+    log: "line 3: applied\nline 2: applied\napplied 2 refused 0\n",
+    out: &[Filled(449_849, 2047, 2048, 65), Filled(0, 0, 2, 65)],
+}];
+
 #[test]
 fn the_largest_base(rt: HostRuntime) -> Result<(), Fail> {
-    let row = Row {
-        script: "cdpatch 1\nset 449850 1 41\nset 449849 2047 4141\n",
-        image: &[Zeros(449_849), Zeros(0)],
-        log: "line 3: applied\nline 2: applied\napplied 2 refused 0\n",
-        out: &[Filled(449_849, 2047, 2048, 65), Filled(0, 0, 2, 65)],
-    };
-    expect_row_from(&rt, rt.alloc(), 449_849, &row)
+    expect_rows_by(&rt, rt.alloc(), LARGEST_BASE, 449_849, false)
 }

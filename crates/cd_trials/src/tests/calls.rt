@@ -1,10 +1,10 @@
-//! Calls of `apply` and `check` on memory, and how they end.
+//! Calls on memory of which so much passes, and how they end.
 
 ghost use Rattle.std.specs.Prelude.{◌≤◌};
 
 use cd_image::{
-    FailAfter, Fault, MAX_BASE, Short, Sink, SliceSink, SliceSource, Source, Tally, apply, check,
-    fill,
+    AuditTally, FailAfter, Fault, ListTally, MAX_BASE, Short, Sink, SliceSink, SliceSource, Source,
+    Tally, apply, audit, check, fill, list,
 };
 use cd_script::Script;
 
@@ -15,19 +15,6 @@ pub struct Limit {
     pub a_call: usize,
 }
 
-const NO_LIMIT: Limit = Limit {
-    all: u64::MAX,
-    a_call: usize::MAX,
-};
-
-/// So many bytes pass in all.
-pub fn passing(all: u64) -> Limit {
-    Limit {
-        all,
-        a_call: usize::MAX,
-    }
-}
-
 /// What may pass from the image, to the output and to the log.
 #[derive(Clone, Copy)]
 pub struct Limits {
@@ -36,12 +23,42 @@ pub struct Limits {
     pub log: Limit,
 }
 
-/// All may pass.
-pub const NO_LIMITS: Limits = Limits {
-    image: NO_LIMIT,
-    out: NO_LIMIT,
-    log: NO_LIMIT,
-};
+/// All bytes pass.
+pub const ALL: u64 = u64::MAX;
+
+/// So many bytes pass in all.
+fn passing_all(all: u64) -> Limit {
+    Limit {
+        all,
+        a_call: usize::MAX,
+    }
+}
+
+/// So many bytes pass in all from the image, to the output and to the log.
+pub fn passing(image: u64, out: u64, log: u64) -> Limits {
+    Limits {
+        image: passing_all(image),
+        out: passing_all(out),
+        log: passing_all(log),
+    }
+}
+
+/// At most so many bytes pass in a call.
+fn passing_a_call(a_call: usize) -> Limit {
+    Limit { all: ALL, a_call }
+}
+
+/// At most so many bytes pass in a call from the image, to the output and to the log.
+pub fn by_parts(image: usize, out: usize, log: usize) -> Limits {
+    Limits {
+        image: passing_a_call(image),
+        out: passing_a_call(out),
+        log: passing_a_call(log),
+    }
+}
+
+/// How many bytes pass in a call where they are few, and where they are as many as there are.
+pub const PARTS: &[usize] = &[1, 2, 2351, 2353, 10_000_000];
 
 /// A script on an image whose first block is `base`; damage is carried or not.
 #[derive(Clone, Copy)]
@@ -127,4 +144,40 @@ pub fn check_within(call: &Call, limits: &Limits, lines: &mut [u8], rest: &mut [
         log_finished: log.finished(),
         left: read_on(&mut image, rest),
     }
+}
+
+/// Lists an image, with an output over `space`.
+pub fn list_within(
+    bytes: &[u8],
+    base: u32,
+    limits: &Limits,
+    space: &mut [u8],
+) -> Result<ListTally, Fault>
+    requires { base ≤ MAX_BASE }
+{
+    let image = FailAfter::new(SliceSource::new(bytes), limits.image.all);
+    let out = FailAfter::new(SliceSink::new(space), limits.out.all);
+    list(
+        &mut Short::new(image, limits.image.a_call),
+        base,
+        &mut Short::new(out, limits.out.a_call),
+    )
+}
+
+/// Audits an image, with an output over `space`.
+pub fn audit_within(
+    bytes: &[u8],
+    base: u32,
+    limits: &Limits,
+    space: &mut [u8],
+) -> Result<AuditTally, Fault>
+    requires { base ≤ MAX_BASE }
+{
+    let image = FailAfter::new(SliceSource::new(bytes), limits.image.all);
+    let out = FailAfter::new(SliceSink::new(space), limits.out.all);
+    audit(
+        &mut Short::new(image, limits.image.a_call),
+        base,
+        &mut Short::new(out, limits.out.a_call),
+    )
 }

@@ -1,9 +1,9 @@
 //! Images with damaged sectors, of which the damage is carried: what goes out is damaged as it was, and nowhere else.
 
-use super::patching::{Case, Row, expect, expect_carried, expect_left, expect_rows_carried};
+use super::patching::{Case, Row, expect, expect_left, expect_rows_carried};
 use cd_samples::Sample::{self, Addressed, Blank, Damaged, Filled, Mode, Zeros};
-use cd_samples::{carried, encoded_anew, encoded_at, flipped, joined, sector_of, with_added};
-use cd_sector::{Sector, defect, encode, same_defect};
+use cd_samples::{carried, encoded_at, flipped, joined, sector_of, with_added, with_bytes};
+use cd_sector::{Sector, defect, same_defect};
 use std::alloc::{AllocError, Global};
 use std::process::Abort;
 use std::test::Fail;
@@ -13,7 +13,7 @@ const ONE: &str = "line 2: applied\napplied 1 refused 0\n";
 const TWO: &str = "line 2: applied\nline 3: applied\napplied 2 refused 0\n";
 
 /// Places in the header, the user data, the EDC, the Intermediate field, and the P and Q parity.
-const PLACES: [usize; 9] = [13, 16, 516, 2063, 2064, 2068, 2076, 2248, 2351];
+const PLACES: &[usize] = &[13, 16, 516, 2063, 2064, 2068, 2076, 2248, 2351];
 
 /// What a script makes of one sector where its damage is carried.
 fn carries(
@@ -31,148 +31,132 @@ fn carries(
         log,
         out: out.bytes(),
     };
-    expect_carried(rt, alloc, &case)
+    expect(rt, alloc, &case, true)
 }
+
+const SET: &str = "cdpatch 1\nset 0 0 41\n";
+
+const IS_DAMAGED: &str = "line 2: refused: block 0 is damaged\napplied 0 refused 1\n";
 
 /// The damage of the parity stays where it is carried, and else the patch is refused.
 #[test]
 fn a_damaged_byte_of_the_parity(rt: HostRuntime) -> Result<(), Fail> {
     let image = sector_of(&Damaged(0, 2351, 1));
-    let set = "cdpatch 1\nset 0 0 41\n";
     let whole = flipped(&sector_of(&Filled(0, 0, 1, 65)), 2351);
-    carries(&rt, rt.alloc(), set, &image, ONE, &whole)?;
-    let log = "line 2: refused: block 0 is damaged\napplied 0 refused 1\n";
-    expect_left(&rt, rt.alloc(), 0, set, image.bytes(), log)
+    carries(&rt, rt.alloc(), SET, &image, ONE, &whole)?;
+    expect_left(&rt, rt.alloc(), 0, SET, image.bytes(), IS_DAMAGED)
 }
+
+const NOTHING_TO_CARRY: &[Row] = &[
+    Row {
+        script: "cdpatch 1\nset 0 0 41\n",
+        image: &[Zeros(0)],
+        log: ONE,
+        out: &[Filled(0, 0, 1, 65)],
+    },
+    Row {
+        script: "cdpatch 1\nfill 0 1 2048 FF\n",
+        image: &[Damaged(0, 2351, 1)],
+        log: "line 2: refused: no block 1\napplied 0 refused 1\n",
+        out: &[Damaged(0, 2351, 1)],
+    },
+];
 
 #[test]
 fn nothing_to_carry_and_no_block(rt: HostRuntime) -> Result<(), Fail> {
-    expect_rows_carried(
-        &rt,
-        rt.alloc(),
-        &[
-            Row {
-                script: "cdpatch 1\nset 0 0 41\n",
-                image: &[Zeros(0)],
-                log: ONE,
-                out: &[Filled(0, 0, 1, 65)],
-            },
-            Row {
-                script: "cdpatch 1\nfill 0 1 2048 FF\n",
-                image: &[Damaged(0, 2351, 1)],
-                log: "line 2: refused: no block 1\napplied 0 refused 1\n",
-                out: &[Damaged(0, 2351, 1)],
-            },
-        ],
-    )
+    expect_rows_carried(&rt, rt.alloc(), NOTHING_TO_CARRY)
 }
+
+const PUT_RIGHT: &str = "cdpatch 1\nset 0 2046 00\n";
 
 /// The damaged byte is put right, and what it had made wrong stays so.
 #[test]
 fn a_damaged_user_byte_put_right(rt: HostRuntime) -> Result<(), Fail> {
     let image = sector_of(&Damaged(0, 2062, 1));
-    let mut right = sector_of(&Zeros(0));
-    for (place, d) in &[(2065, 0x90), (2066, 0x01), (2067, 0x90)] {
-        right = with_added(&right, *place, *d);
-    }
-    let out = carried(&image, &sector_of(&Zeros(0)));
-    assert!(rt; out.bytes()[..2076] == right.bytes()[..2076]);
-    let set = "cdpatch 1\nset 0 2046 00\n";
-    carries(&rt, rt.alloc(), set, &image, ONE, &out)
+    let zeros = sector_of(&Zeros(0));
+    let right = with_added(&with_added(&zeros, 2065, 0x90), 2066, 0x01);
+    let right = with_added(&right, 2067, 0x90);
+    let out = carried(&image, &zeros);
+    assert!(rt; out.bytes().get(..2076) == right.bytes().get(..2076));
+    carries(&rt, rt.alloc(), PUT_RIGHT, &image, ONE, &out)
 }
+
+const USER_BYTE: &[Row] = &[
+    Row {
+        script: "cdpatch 1\nset 0 2046 00\nset 0 2046 01\n",
+        image: &[Damaged(0, 2062, 1)],
+        log: TWO,
+        out: &[Damaged(0, 2062, 1)],
+    },
+    Row {
+        script: "cdpatch 1\nset 0 2046 41 was 00\n",
+        image: &[Damaged(0, 2062, 1)],
+        log: "line 2: refused: old bytes differ at block 0 offset 2046\napplied 0 refused 1\n",
+        out: &[Damaged(0, 2062, 1)],
+    },
+    Row {
+        script: "cdpatch 1\nrebuild 0\n",
+        image: &[Damaged(0, 2062, 1)],
+        log: ONE,
+        out: &[Filled(0, 2046, 2047, 1)],
+    },
+];
 
 #[test]
 fn a_damaged_user_byte(rt: HostRuntime) -> Result<(), Fail> {
-    expect_rows_carried(
-        &rt,
-        rt.alloc(),
-        &[
-            Row {
-                script: "cdpatch 1\nset 0 2046 00\nset 0 2046 01\n",
-                image: &[Damaged(0, 2062, 1)],
-                log: TWO,
-                out: &[Damaged(0, 2062, 1)],
-            },
-            Row {
-                script: "cdpatch 1\nset 0 2046 41 was 00\n",
-                image: &[Damaged(0, 2062, 1)],
-                log: "line 2: refused: old bytes differ at block 0 offset 2046\napplied 0 refused 1\n",
-                out: &[Damaged(0, 2062, 1)],
-            },
-            Row {
-                script: "cdpatch 1\nrebuild 0\n",
-                image: &[Damaged(0, 2062, 1)],
-                log: ONE,
-                out: &[Filled(0, 2046, 2047, 1)],
-            },
-        ],
-    )
+    expect_rows_carried(&rt, rt.alloc(), USER_BYTE)
 }
 
-/// What lines of version 2 make of one sector where its damage is carried.
-fn lines_carry(
-    rt: &impl Abort,
-    alloc: Global,
-    lines: &str,
-    image: &Sector,
-    log: &str,
-    out: &Sector,
-) -> Result<(), Fail> {
-    let script = format!(in alloc; "cdpatch 2\n{lines}\n")?;
-    carries(rt, alloc, &script, image, log, out)
-}
+/// Scripts that write these bytes into a sector, from a place on.
+const WRITING: &[(&str, usize, &[u8])] = &[
+    ("cdpatch 2\naddress 0 12:34:56\n", 12, &[0x12, 0x34, 0x56]),
+    ("cdpatch 2\nfill 0 0 2048 FF\n", 16, &[255; 2048]),
+    ("cdpatch 2\nset 0 500 41\n", 516, &[65]),
+];
 
-/// A line that makes `new` of the consistent sector with the content of `old`: what goes out has the damage of `old`.
-fn keeps_damage(
-    rt: &impl Abort,
-    alloc: Global,
-    line: &str,
-    old: &Sector,
-    new: &Sector,
-) -> Result<(), Fail> {
-    let out = carried(old, new);
-    assert!(rt;
-        same_defect(&out, old) && defect(&out) == defect(old),
-        "{line}"
-    );
-    lines_carry(rt, alloc, line, old, ONE, &out)
-}
-
-/// A damaged byte in each region, with a patch over it and beside it.
+/// A damaged byte in each region, with a patch over it and beside it: what goes out has the same damage.
 #[test]
 fn damage_in_each_region(rt: HostRuntime) -> Result<(), Fail> {
-    for place in &PLACES {
-        let image = sector_of(&Damaged(0, *place, 1));
-        let [minute, second, fraction, _] = image.header();
-        let mut user = [0; 2048];
-        user.copy_from_slice(image.user());
-        let other = encode([0x12, 0x34, 0x56], &user);
-        keeps_damage(&rt, rt.alloc(), "address 0 12:34:56", &image, &other)?;
-        let filled = encode([minute, second, fraction], &[255; 2048]);
-        keeps_damage(&rt, rt.alloc(), "fill 0 0 2048 FF", &image, &filled)?;
-        user[500] = 65;
-        let over = encode([minute, second, fraction], &user);
-        keeps_damage(&rt, rt.alloc(), "set 0 500 41", &image, &over)?;
+    for place in PLACES {
+        let old = sector_of(&Damaged(0, *place, 1));
+        for (script, first, bytes) in WRITING {
+            let out = carried(&old, &with_bytes(&old, *first, bytes));
+            let is_kept = same_defect(&out, &old) && defect(&out) == defect(&old);
+            assert!(rt; is_kept, "{script}");
+            carries(&rt, rt.alloc(), script, &old, ONE, &out)?;
+        }
     }
     Ok(())
 }
+
+/// Places in the regions of a sector, with a patch of the address there and its inverse.
+const THERE_AND_BACK: &[(usize, &str)] = &[
+    (13, "cdpatch 2\naddress 0 12:34:56\naddress 0 00:03:00\n"),
+    (16, ADDRESS_AND_BACK),
+    (516, ADDRESS_AND_BACK),
+    (2063, ADDRESS_AND_BACK),
+    (2064, ADDRESS_AND_BACK),
+    (2068, ADDRESS_AND_BACK),
+    (2076, ADDRESS_AND_BACK),
+    (2248, ADDRESS_AND_BACK),
+    (2351, ADDRESS_AND_BACK),
+];
+
+const ADDRESS_AND_BACK: &str = "cdpatch 2\naddress 0 12:34:56\naddress 0 00:02:00\n";
+
+const SET_AND_BACK: &str = "cdpatch 2\nset 0 505 4142 was 0707\nset 0 505 0707 was 4142\n";
+
+const FILL_AND_BACK: &str = "cdpatch 2\nfill 0 501 1546 FF\nfill 0 501 1546 07\n";
 
 /// A patch and then its inverse give the image back.
 #[test]
 fn there_and_back(rt: HostRuntime) -> Result<(), Fail> {
     let whole = encoded_at(0, &[7; 2048]);
-    for place in &PLACES {
+    for (place, address) in THERE_AND_BACK {
         let image = flipped(&whole, *place);
-        let set = "set 0 505 4142 was 0707\nset 0 505 0707 was 4142";
-        lines_carry(&rt, rt.alloc(), set, &image, TWO, &image)?;
-        let fill = "fill 0 501 1546 FF\nfill 0 501 1546 07";
-        lines_carry(&rt, rt.alloc(), fill, &image, TWO, &image)?;
-        let address = if *place == 13 {
-            "address 0 12:34:56\naddress 0 00:03:00"
-        } else {
-            "address 0 12:34:56\naddress 0 00:02:00"
-        };
-        lines_carry(&rt, rt.alloc(), address, &image, TWO, &image)?;
+        for script in &[SET_AND_BACK, FILL_AND_BACK, *address] {
+            carries(&rt, rt.alloc(), script, &image, TWO, &image)?;
+        }
     }
     Ok(())
 }
@@ -184,77 +168,84 @@ fn with_tail(alloc: Global, sectors: [Sector; 4]) -> Result<Vec<u8>, AllocError>
     Ok(bytes)
 }
 
+const OVER_THREE: &str = "cdpatch 1\nfill 7 2047 2050 41\n";
+
 /// The range of a patch begins in one block and ends in the third; the second is damaged, and so is one behind them.
 fn carries_the_middle(rt: &impl Abort, alloc: Global, place: usize) -> Result<(), Fail> {
     let second = sector_of(&Damaged(8, place, 1));
     let behind = sector_of(&Damaged(10, place, 1));
-    let [minute, frame, fraction, _] = second.header();
-    let filled = encode([minute, frame, fraction], &[65; 2048]);
     let sectors = [sector_of(&Zeros(7)), second, sector_of(&Zeros(9)), behind];
     let image = with_tail(alloc, sectors)?;
     let first = sector_of(&Filled(7, 2047, 2048, 65));
+    let filled = carried(&second, &with_bytes(&second, 16, &[65; 2048]));
     let third = sector_of(&Filled(9, 0, 1, 65));
-    let sectors = [first, carried(&second, &filled), third, behind];
-    let out = with_tail(alloc, sectors)?;
+    let out = with_tail(alloc, [first, filled, third, behind])?;
     let case = Case {
-        script: "cdpatch 1\nfill 7 2047 2050 41\n",
+        script: OVER_THREE,
         image: &image,
         base: 7,
         log: ONE,
         out: &out,
     };
-    expect_carried(rt, alloc, &case)?;
+    expect(rt, alloc, &case, true)?;
     let log = "line 2: refused: block 8 is damaged\napplied 0 refused 1\n";
-    expect_left(rt, alloc, 7, case.script, &image, log)
+    expect_left(rt, alloc, 7, OVER_THREE, &image, log)
 }
 
 #[test]
 fn a_damaged_sector_in_the_middle(rt: HostRuntime) -> Result<(), Fail> {
-    for place in &PLACES {
+    for place in PLACES {
         carries_the_middle(&rt, rt.alloc(), *place)?;
     }
     Ok(())
 }
 
+/// Sectors that are not of Mode 1.
+const OTHERS: &[Sample] = &[
+    Damaged(0, 0, 1),
+    Damaged(0, 11, 1),
+    Damaged(0, 15, 1),
+    Mode(2),
+    Blank,
+];
+
+const OF_EACH_VERB: &[&str] = &[
+    "cdpatch 2\nset 0 0 41\n",
+    "cdpatch 2\nfill 0 1 2048 FF\n",
+    "cdpatch 2\nrebuild 0\n",
+    "cdpatch 2\naddress 0 00:02:00\n",
+];
+
 /// All but the damage is asked: the sync field, the mode, the block and the old bytes, each in its turn.
 #[test]
 fn refusals_that_stay(rt: HostRuntime) -> Result<(), Fail> {
     let log = "line 2: refused: block 0 is not mode 1\napplied 0 refused 1\n";
-    for sample in &[
-        Damaged(0, 0, 1),
-        Damaged(0, 11, 1),
-        Damaged(0, 15, 1),
-        Mode(2),
-        Blank,
-    ] {
+    for sample in OTHERS {
         let image = sector_of(sample);
-        for script in &[
-            "cdpatch 2\nset 0 0 41\n",
-            "cdpatch 2\nfill 0 1 2048 FF\n",
-            "cdpatch 2\nrebuild 0\n",
-            "cdpatch 2\naddress 0 00:02:00\n",
-        ] {
+        for script in OF_EACH_VERB {
             carries(&rt, rt.alloc(), script, &image, log, &image)?;
         }
     }
     Ok(())
 }
 
+const IN_THEIR_TURN: &[Row] = &[Row {
+    script: "cdpatch 1\nset 0 2047 4141 was 0100\nset 0 0 41 was 01\nset 2 0 41\n",
+    image: &[Damaged(0, 2351, 1), Blank],
+    log: "line 2: refused: block 1 is not mode 1\n\
+    line 3: refused: old bytes differ at block 0 offset 0\n\
+    line 4: refused: no block 2\napplied 0 refused 3\n",
+    out: &[Damaged(0, 2351, 1), Blank],
+}];
+
 #[test]
 fn refusals_in_their_turn(rt: HostRuntime) -> Result<(), Fail> {
-    expect_rows_carried(
-        &rt,
-        rt.alloc(),
-        &[Row {
-            script: "cdpatch 1\nset 0 2047 4141 was 0100\nset 0 0 41 was 01\nset 2 0 41\n",
-            image: &[Damaged(0, 2351, 1), Blank],
-            log: "line 2: refused: block 1 is not mode 1\n\
-            line 3: refused: old bytes differ at block 0 offset 0\n\
-            line 4: refused: no block 2\napplied 0 refused 3\n",
-            out: &[Damaged(0, 2351, 1), Blank],
-        }],
-    )
+    expect_rows_carried(&rt, rt.alloc(), IN_THEIR_TURN)
 }
+
+const REBUILD: &str = "cdpatch 2\nset 0 0 41\nrebuild 0\naddress 0 00:02:01\n";
+
+const THREE: &str = "line 2: applied\nline 3: applied\nline 4: applied\napplied 3 refused 0\n";
 
 /// A rebuild between two patches: what stands behind it has no damage to carry.
 #[test]
@@ -262,9 +253,7 @@ fn a_rebuild_between_patches(rt: HostRuntime) -> Result<(), Fail> {
     let other = sector_of(&Addressed([0x00, 0x02, 0x01], 0, 1, 65));
     for place in &[2064, 2068, 2076, 2351] {
         let image = sector_of(&Damaged(0, *place, 1));
-        let script = "cdpatch 2\nset 0 0 41\nrebuild 0\naddress 0 00:02:01\n";
-        let log = "line 2: applied\nline 3: applied\nline 4: applied\napplied 3 refused 0\n";
-        carries(&rt, rt.alloc(), script, &image, log, &other)?;
+        carries(&rt, rt.alloc(), REBUILD, &image, THREE, &other)?;
     }
     Ok(())
 }

@@ -10,6 +10,10 @@ use std::test::Fail;
 
 const SCRIPT: &str = "cdpatch 1\nset 0 2047 4142\n";
 
+const NO_BLOCK_0: &str = "line 2: refused: no block 0\napplied 0 refused 1\n";
+
+const NO_BLOCK_1: &str = "line 2: refused: no block 1\napplied 0 refused 1\n";
+
 /// The script leaves two sectors that are cut to these sizes as they are.
 fn leaves_cut(rt: &impl Abort, alloc: Global, sizes: Range<usize>, log: &str) -> Result<(), Fail> {
     for size in sizes {
@@ -21,24 +25,20 @@ fn leaves_cut(rt: &impl Abort, alloc: Global, sizes: Range<usize>, log: &str) ->
 
 #[test]
 fn cut_before_a_block_of_the_patch(rt: HostRuntime) -> Result<(), Fail> {
-    let log = "line 2: refused: no block 0\napplied 0 refused 1\n";
-    leaves_cut(&rt, rt.alloc(), 0..13, log)?;
-    leaves_cut(&rt, rt.alloc(), 2340..2352, log)?;
-    let log = "line 2: refused: no block 1\napplied 0 refused 1\n";
-    leaves_cut(&rt, rt.alloc(), 2352..2365, log)?;
-    leaves_cut(&rt, rt.alloc(), 4692..4704, log)
+    leaves_cut(&rt, rt.alloc(), 0..13, NO_BLOCK_0)?;
+    leaves_cut(&rt, rt.alloc(), 2340..2352, NO_BLOCK_0)?;
+    leaves_cut(&rt, rt.alloc(), 2352..2365, NO_BLOCK_1)?;
+    leaves_cut(&rt, rt.alloc(), 4692..4704, NO_BLOCK_1)
 }
+
+const BEHIND_THE_LAST: &[Row] = &[Row {
+    script: SCRIPT,
+    image: &[Zeros(0), Zeros(1)],
+    log: "line 2: applied\napplied 1 refused 0\n",
+    out: &[Filled(0, 2047, 2048, 65), Filled(1, 0, 1, 66)],
+}];
 
 #[test]
 fn cut_behind_the_last_block_of_the_patch(rt: HostRuntime) -> Result<(), Fail> {
-    expect_rows(
-        &rt,
-        rt.alloc(),
-        &[Row {
-            script: SCRIPT,
-            image: &[Zeros(0), Zeros(1)],
-            log: "line 2: applied\napplied 1 refused 0\n",
-            out: &[Filled(0, 2047, 2048, 65), Filled(1, 0, 1, 66)],
-        }],
-    )
+    expect_rows(&rt, rt.alloc(), BEHIND_THE_LAST)
 }

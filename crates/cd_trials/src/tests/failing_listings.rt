@@ -1,37 +1,36 @@
 //! Sources and sinks that fail at each byte: what went out is a beginning of the text.
 
-use cd_image::{FailAfter, Fault, SliceSink, SliceSource, list};
-use cd_samples::Sample::{Blank, Mode};
+use super::calls::{ALL, list_within, passing};
+use cd_image::Fault;
+use cd_samples::Sample::{self, Blank, Mode};
 use cd_samples::{cut_image, flipped, image_of, is_front, sector_of};
 use std::alloc::AllocError;
 use std::process::Abort;
 
-/// Lists an image whose read fails behind so many bytes. So many bytes of the text are out then.
-fn image_fails(rt: &impl Abort, bytes: &[u8], base: u8, text: &str, count: usize, out: usize) {
+/// The listing of an image whose read fails behind so many bytes. So many bytes of the text are out then.
+fn image_fails(bytes: &[u8], base: u8, text: &str, count: usize, out: usize) -> bool {
     let mut space = [0; 128];
-    let mut source = FailAfter::new(SliceSource::new(bytes), count as u64);
-    let mut sink = SliceSink::new(&mut space);
-    let answer = list(&mut source, u32::from(base), &mut sink);
+    let limits = passing(count as u64, ALL, ALL);
+    let answer = list_within(bytes, u32::from(base), &limits, &mut space);
     let ends_so = if count <= bytes.len() {
         answer == Err(Fault::Read)
     } else {
         answer.is_ok()
     };
-    assert!(rt; ends_so && is_front(&space, text, out), "{count}");
+    ends_so && is_front(&space, text, out)
 }
 
-/// Lists an image to a sink that fails behind so many bytes.
-fn sink_fails(rt: &impl Abort, bytes: &[u8], base: u8, text: &str, count: usize) {
+/// The listing of an image to a sink that fails behind so many bytes.
+fn sink_fails(bytes: &[u8], base: u8, text: &str, count: usize) -> bool {
     let mut space = [0; 128];
-    let mut sink = FailAfter::new(SliceSink::new(&mut space), count as u64);
-    let answer = list(&mut SliceSource::new(bytes), u32::from(base), &mut sink);
+    let limits = passing(ALL, count as u64, ALL);
+    let answer = list_within(bytes, u32::from(base), &limits, &mut space);
     let ends_so = if text.len() < count {
         answer.is_ok()
     } else {
         answer == Err(Fault::Write)
     };
-    let out = text.len().min(count);
-    assert!(rt; ends_so && is_front(&space, text, out), "{count}");
+    ends_so && is_front(&space, text, text.len().min(count))
 }
 
 /// Lists an image of which each byte in turn is the first that cannot be read, and then to a sink that takes each number
@@ -44,20 +43,23 @@ fn fails_everywhere(rt: &impl Abort, bytes: &[u8], base: u8, text: &str, due: &[
                 out = *size;
             }
         }
-        image_fails(rt, bytes, base, text, count, out);
+        assert!(rt; image_fails(bytes, base, text, count, out), "{count}");
     }
     for count in 0..128usize {
-        sink_fails(rt, bytes, base, text, count);
+        assert!(rt; sink_fails(bytes, base, text, count), "{count}");
     }
 }
 
+const RUNS: &[Sample] = &[Mode(1), Mode(2), Mode(2), Blank];
+
+const CUT: &[Sample] = &[Mode(0), Mode(3), Mode(1), Mode(1), Blank];
+
 #[test]
 fn at_each_byte_of_runs(rt: HostRuntime) -> Result<(), AllocError> {
-    let kinds = image_of(rt.alloc(), &[Mode(1), Mode(2), Mode(2), Blank])?;
+    let kinds = image_of(rt.alloc(), RUNS)?;
     let text = "0-0 mode1\n1-2 mode2\n3-3 nosync\nsectors 4 tail 0\n";
     fails_everywhere(&rt, &kinds, 0, text, &[(4704, 10), (9408, 20)]);
-    let samples = [Mode(0), Mode(3), Mode(1), Mode(1), Blank];
-    let cut = cut_image(rt.alloc(), &samples, 11_759)?;
+    let cut = cut_image(rt.alloc(), CUT, 11_759)?;
     let text = "0-0 mode0\n1-1 other\n2-3 mode1\nsectors 4 tail 2351\n";
     fails_everywhere(&rt, &cut, 0, text, &[(4704, 10), (7056, 20)]);
     Ok(())

@@ -1,14 +1,19 @@
 //! One of an image, an output and a log fails at each byte of a patched image: what went to the others is known.
 
-use super::calls::{Call, Ending, Limit, Limits, NO_LIMITS, apply_within, check_within, passing};
-use super::patching::{has_failed, has_front, memory, written};
+use super::calls::{ALL, Call, Ending, Limits, apply_within, by_parts, check_within, passing};
+use super::patching::{count_written, has_failed, has_front, memory};
 use cd_image::{Fault, Tally};
-use cd_samples::Sample::{Filled, Zeros};
+use cd_samples::Sample::{self, Filled, Zeros};
 use cd_samples::{image_of, script_of};
 use cd_script::Script;
 use std::alloc::Global;
-use std::process::Abort;
 use std::test::Fail;
+
+const IMAGE: &[Sample] = &[Zeros(0), Zeros(1), Zeros(2)];
+
+const SCRIPT: &str = "cdpatch 1\nset 1 0 41\n";
+
+const PATCHED: &[Sample] = &[Zeros(0), Filled(1, 0, 1, 65), Zeros(2)];
 
 const LOG: &[u8] = b"line 2: applied\napplied 1 refused 0\n";
 
@@ -30,10 +35,10 @@ struct Parts {
 
 fn make_parts(alloc: Global) -> Result<Parts, Fail> {
     Ok(Parts {
-        image: image_of(alloc, &[Zeros(0), Zeros(1), Zeros(2)])?,
-        script: script_of(alloc, "cdpatch 1\nset 1 0 41\n")?,
+        image: image_of(alloc, IMAGE)?,
+        script: script_of(alloc, SCRIPT)?,
         carry: false,
-        whole: image_of(alloc, &[Zeros(0), Filled(1, 0, 1, 65), Zeros(2)])?,
+        whole: image_of(alloc, PATCHED)?,
     })
 }
 
@@ -57,39 +62,31 @@ fn checks(parts: &Parts, limits: &Limits, lines: &mut [u8]) -> Ending {
     check_within(&call, limits, lines, &mut [0])
 }
 
-/// Asserts the answer, and that what it names has failed once and nothing else has.
-fn is_answered(rt: &impl Abort, ending: &Ending, fault: Fault, count: u64) {
+/// Whether the answer is this fault, and what it names has failed once and nothing else has.
+fn is_answered(ending: &Ending, fault: Fault) -> bool {
     let read = u32::from(fault == Fault::Read);
     let write = u32::from(fault == Fault::Write);
     let log = u32::from(fault == Fault::Log);
-    let is_counted = has_failed(ending, read, write, log);
-    assert!(rt; ending.answer == Err(fault) && is_counted, "{count}");
+    ending.answer == Err(fault) && has_failed(ending, read, write, log)
 }
 
 /// The image fails behind so many bytes, of a call of each kind.
-fn image_fails(rt: &impl Abort, parts: &Parts, space: &mut [u8], count: u64) {
-    let limits = Limits {
-        image: passing(count),
-        out: NO_LIMITS.out,
-        log: NO_LIMITS.log,
-    };
+fn image_fails(parts: &Parts, space: &mut [u8], count: u64) -> bool {
+    let limits = passing(count, ALL, ALL);
     let mut lines = [238; 36];
     space.fill(238);
-    let ending = applies(parts, &limits, space, &mut lines);
-    is_answered(rt, &ending, Fault::Read, count);
-    let sent = written(rt, space, &parts.whole);
-    let told = written(rt, &lines, LOG);
+    let applied = applies(parts, &limits, space, &mut lines);
+    let (sent, told) = (count_written(space), count_written(&lines));
     let is_begun = count >= 4704 || sent <= 2352 && told == 0;
-    assert!(rt;
-        is_begun && count as usize <= sent.saturating_add(7056),
-        "{count}"
-    );
+    let is_sent = has_front(space, &parts.whole, sent) && has_front(&lines, LOG, told);
+    let is_near = count as usize <= sent.saturating_add(7056);
 
     let mut lines = [238; 36];
-    let ending = checks(parts, &limits, &mut lines);
-    is_answered(rt, &ending, Fault::Read, count);
-    let told = written(rt, &lines, LOG);
-    assert!(rt; count >= 4704 || told == 0, "{count}");
+    let checked = checks(parts, &limits, &mut lines);
+    let told = count_written(&lines);
+    let is_told = has_front(&lines, LOG, told) && (count >= 4704 || told == 0);
+    let is_right = is_begun && is_sent && is_near && is_told;
+    is_right && is_answered(&applied, Fault::Read) && is_answered(&checked, Fault::Read)
 }
 
 #[test]
@@ -97,64 +94,53 @@ fn the_image_fails_at_each_byte(rt: HostRuntime) -> Result<(), Fail> {
     let parts = make_parts(rt.alloc())?;
     let mut space = memory(rt.alloc(), 7056)?;
     for count in 0..7057u64 {
-        image_fails(&rt, &parts, &mut space, count);
+        assert!(rt; image_fails(&parts, &mut space, count), "{count}");
     }
     Ok(())
 }
 
 /// The output fails behind so many bytes.
-fn output_fails(rt: &impl Abort, parts: &Parts, space: &mut [u8], count: u64) {
-    let limits = Limits {
-        image: NO_LIMITS.image,
-        out: passing(count),
-        log: NO_LIMITS.log,
-    };
+fn output_fails(parts: &Parts, space: &mut [u8], count: u64) -> bool {
     let mut lines = [238; 36];
-    let ending = applies(parts, &limits, space, &mut lines);
-    is_answered(rt, &ending, Fault::Write, count);
+    space.fill(238);
+    let ending = applies(parts, &passing(ALL, count, ALL), space, &mut lines);
     let told = match count {
         0..2352 => 0,
         2352..7056 => 16,
         _ => 36,
     };
-    let is_sent = has_front(space, &parts.whole, count as usize);
-    assert!(rt; is_sent && !ending.out_finished, "{count}");
-    assert!(rt; has_front(&lines, LOG, told), "{count}");
+    let is_sent = has_front(space, &parts.whole, count as usize) && !ending.out_finished;
+    is_sent && has_front(&lines, LOG, told) && is_answered(&ending, Fault::Write)
 }
 
-/// The memory is the same each time: what lies behind the bytes that pass was never written to.
 #[test]
 fn the_output_fails_at_each_byte(rt: HostRuntime) -> Result<(), Fail> {
     let parts = make_parts(rt.alloc())?;
     let mut space = memory(rt.alloc(), 7056)?;
     for count in 0..7057u64 {
-        output_fails(&rt, &parts, &mut space, count);
+        assert!(rt; output_fails(&parts, &mut space, count), "{count}");
     }
     Ok(())
 }
 
+/// The log has failed behind so many bytes.
+fn has_told(ending: &Ending, lines: &[u8], count: u64) -> bool {
+    let is_told = has_front(lines, LOG, count as usize) && !ending.log_finished;
+    is_told && is_answered(ending, Fault::Log)
+}
+
 /// The log fails behind so many bytes, of a call of each kind.
-fn log_fails(rt: &impl Abort, parts: &Parts, space: &mut [u8], count: u64) {
-    let limits = Limits {
-        image: NO_LIMITS.image,
-        out: NO_LIMITS.out,
-        log: passing(count),
-    };
+fn log_fails(parts: &Parts, space: &mut [u8], count: u64) -> bool {
+    let limits = passing(ALL, ALL, count);
     let mut lines = [238; 36];
     space.fill(238);
-    let ending = applies(parts, &limits, space, &mut lines);
-    is_answered(rt, &ending, Fault::Log, count);
+    let applied = applies(parts, &limits, space, &mut lines);
     let sent = if count < 16 { 2352 } else { 7056 };
-    let is_sent = has_front(space, &parts.whole, sent);
-    assert!(rt; is_sent && ending.out_finished == (count == 36), "{count}");
-    let is_told = has_front(&lines, LOG, count as usize);
-    assert!(rt; is_told && !ending.log_finished, "{count}");
+    let is_sent = has_front(space, &parts.whole, sent) && applied.out_finished == (count == 36);
 
-    let mut lines = [238; 36];
-    let ending = checks(parts, &limits, &mut lines);
-    is_answered(rt, &ending, Fault::Log, count);
-    let is_told = has_front(&lines, LOG, count as usize);
-    assert!(rt; is_told && !ending.log_finished, "{count}");
+    let mut others = [238; 36];
+    let checked = checks(parts, &limits, &mut others);
+    is_sent && has_told(&applied, &lines, count) && has_told(&checked, &others, count)
 }
 
 #[test]
@@ -162,82 +148,58 @@ fn the_log_fails_at_each_byte(rt: HostRuntime) -> Result<(), Fail> {
     let parts = make_parts(rt.alloc())?;
     let mut space = memory(rt.alloc(), 7056)?;
     for count in 0..37u64 {
-        log_fails(&rt, &parts, &mut space, count);
+        assert!(rt; log_fails(&parts, &mut space, count), "{count}");
     }
     Ok(())
 }
 
-/// Asserts that nothing has failed and that the whole log was told.
-fn is_whole(rt: &impl Abort, ending: &Ending, lines: &[u8]) {
+/// Nothing has failed and the whole log was told.
+fn is_whole(ending: &Ending, lines: &[u8]) -> bool {
     let is_done = ending.out_finished && ending.log_finished;
-    assert!(rt; is_done && ending.answer == Ok(TALLY) && has_front(lines, LOG, 36));
+    is_done && ending.answer == Ok(TALLY) && has_front(lines, LOG, 36)
 }
 
-/// A call of each kind that passes all, within these limits.
-fn nothing_fails(
-    rt: &impl Abort,
-    alloc: Global,
-    parts: &Parts,
-    limits: &Limits,
-) -> Result<(), Fail> {
-    let mut space = memory(alloc, 7056)?;
+/// A call of each kind passes all, within these limits.
+fn nothing_fails(parts: &Parts, space: &mut [u8], limits: &Limits) -> bool {
     let mut lines = [238; 36];
-    let ending = applies(parts, limits, &mut space, &mut lines);
-    is_whole(rt, &ending, &lines);
-    assert!(rt; has_front(&space, &parts.whole, 7056));
+    space.fill(238);
+    let applied = applies(parts, limits, space, &mut lines);
 
-    let mut lines = [238; 36];
-    let ending = checks(parts, limits, &mut lines);
-    is_whole(rt, &ending, &lines);
-    Ok(())
+    let mut others = [238; 36];
+    let checked = checks(parts, limits, &mut others);
+    let is_sent = has_front(space, &parts.whole, 7056);
+    is_sent && is_whole(&applied, &lines) && is_whole(&checked, &others)
 }
+
+const BEHIND_ALL: &[(u64, u64, u64)] = &[
+    (7057, ALL, ALL),
+    (ALL, 7057, ALL),
+    (ALL, ALL, 37),
+    (7057, 7057, 37),
+];
 
 /// Each of the three alone, and then all of them, may pass one byte more than the whole.
 #[test]
 fn none_fails_behind_the_last_byte(rt: HostRuntime) -> Result<(), Fail> {
     let parts = make_parts(rt.alloc())?;
-    for (image, out, log) in [
-        (7057, u64::MAX, u64::MAX),
-        (u64::MAX, 7057, u64::MAX),
-        (u64::MAX, u64::MAX, 37),
-        (7057, 7057, 37),
-    ] {
-        let limits = Limits {
-            image: passing(image),
-            out: passing(out),
-            log: passing(log),
-        };
-        nothing_fails(&rt, rt.alloc(), &parts, &limits)?;
+    let mut space = memory(rt.alloc(), 7056)?;
+    for (image, out, log) in BEHIND_ALL {
+        let limits = passing(*image, *out, *log);
+        assert!(rt; nothing_fails(&parts, &mut space, &limits));
     }
     Ok(())
 }
 
-/// At most so many bytes pass in a call: 1, 2, 2351, 2353 or all.
-fn in_parts(number: u32) -> Limit {
-    let a_call = match number % 5 {
-        0 => 1,
-        1 => 2,
-        2 => 2351,
-        3 => 2353,
-        _ => usize::MAX,
-    };
-    Limit {
-        all: u64::MAX,
-        a_call,
-    }
-}
+const FEW: [usize; 5] = [1, 2, 2351, 2353, usize::MAX];
 
 /// Few bytes a call on each of the three, in every mixture.
 #[test]
 fn few_bytes_a_call(rt: HostRuntime) -> Result<(), Fail> {
     let parts = make_parts(rt.alloc())?;
-    for mixture in 0..125u32 {
-        let limits = Limits {
-            image: in_parts(mixture),
-            out: in_parts(mixture / 5),
-            log: in_parts(mixture / 25),
-        };
-        nothing_fails(&rt, rt.alloc(), &parts, &limits)?;
+    let mut space = memory(rt.alloc(), 7056)?;
+    for mixture in 0..125usize {
+        let limits = by_parts(FEW[mixture % 5], FEW[mixture / 5 % 5], FEW[mixture / 25]);
+        assert!(rt; nothing_fails(&parts, &mut space, &limits), "{mixture}");
     }
     Ok(())
 }
@@ -247,9 +209,8 @@ fn few_bytes_a_call(rt: HostRuntime) -> Result<(), Fail> {
 fn an_output_that_fails_in_a_patched_sector(rt: HostRuntime) -> Result<(), Fail> {
     let parts = make_parts(rt.alloc())?;
     let mut space = memory(rt.alloc(), 7056)?;
-    output_fails(&rt, &parts, &mut space, 2353);
-    assert!(rt; has_front(&space, &parts.image, 2353));
-    assert!(rt; space.get(2352) == Some(&0));
+    let is_failed = output_fails(&parts, &mut space, 2353) && has_front(&space, &parts.image, 2353);
+    assert!(rt; is_failed && space.get(2352) == Some(&0));
     Ok(())
 }
 
@@ -269,24 +230,20 @@ fn make_carried_parts(alloc: Global) -> Result<Parts, Fail> {
     Ok(parts)
 }
 
+const BORDERS: &[u64] = &[0, 1, 2351, 2352, 2353, 3000, 4703, 4704, 4705, 7055, 7056];
+
 /// One of the three fails at a border of a sector, within one, or where the patch is told, and damage is carried.
 #[test]
 fn failures_where_damage_is_carried(rt: HostRuntime) -> Result<(), Fail> {
     let parts = make_carried_parts(rt.alloc())?;
-    for count in [0, 1, 2351, 2352, 2353, 3000, 4703, 4704, 4705, 7055, 7056] {
-        let mut space = memory(rt.alloc(), 7056)?;
-        image_fails(&rt, &parts, &mut space, count);
-        let mut space = memory(rt.alloc(), 7056)?;
-        output_fails(&rt, &parts, &mut space, count);
+    let mut space = memory(rt.alloc(), 7056)?;
+    for count in BORDERS {
+        assert!(rt; image_fails(&parts, &mut space, *count), "{count}");
+        assert!(rt; output_fails(&parts, &mut space, *count), "{count}");
     }
     for count in 0..37u64 {
-        let mut space = memory(rt.alloc(), 7056)?;
-        log_fails(&rt, &parts, &mut space, count);
+        assert!(rt; log_fails(&parts, &mut space, count), "{count}");
     }
-    let limits = Limits {
-        image: passing(7057),
-        out: passing(7057),
-        log: passing(37),
-    };
-    nothing_fails(&rt, rt.alloc(), &parts, &limits)
+    assert!(rt; nothing_fails(&parts, &mut space, &passing(7057, 7057, 37)));
+    Ok(())
 }

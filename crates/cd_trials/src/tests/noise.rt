@@ -1,12 +1,12 @@
 //! Sectors of noise with a sync field and a mode byte.
 
-use super::patching::{Case, expect, memory};
-use cd_image::{AuditTally, SliceSink, SliceSource, audit};
+use super::calls::{ALL, audit_within, passing};
+use super::patching::{Case, expect, expect_left, memory};
+use cd_image::AuditTally;
 use cd_samples::Sample::Mode;
 use cd_samples::{encoded_anew, joined, sector_of};
 use cd_sector::{DefectReport, Sector, defect};
 use std::alloc::{AllocError, Global};
-use std::process::Abort;
 use std::test::Fail;
 
 /// A sector of noise that is of Mode 1.
@@ -22,38 +22,46 @@ fn noise(seed: u8) -> Sector {
     Sector::from_bytes(bytes)
 }
 
+/// Three such sectors.
+fn three() -> [Sector; 3] {
+    [noise(0), noise(3), noise(6)]
+}
+
+const SET_EACH: &str = "cdpatch 1\nset 0 0 41\nset 1 0 41\nset 2 0 41\n";
+
+const NONE_APPLIED: &str = "line 2: refused: block 0 is damaged\n\
+    line 3: refused: block 1 is damaged\nline 4: refused: block 2 is damaged\n\
+    applied 0 refused 3\n";
+
 #[test]
 fn patches_on_noise_are_refused(rt: HostRuntime) -> Result<(), Fail> {
-    let image = joined(rt.alloc(), &[noise(0), noise(3), noise(6)])?;
-    let case = Case {
-        script: "cdpatch 1\nset 0 0 41\nset 1 0 41\nset 2 0 41\n",
-        image: &image,
-        base: 0,
-        log: "line 2: refused: block 0 is damaged\nline 3: refused: block 1 is damaged\n\
-            line 4: refused: block 2 is damaged\napplied 0 refused 3\n",
-        out: &image,
-    };
-    expect(&rt, rt.alloc(), &case)
+    let image = joined(rt.alloc(), &three())?;
+    expect_left(&rt, rt.alloc(), 0, SET_EACH, &image, NONE_APPLIED)
 }
+
+const REBUILD_EACH: &str = "cdpatch 1\nrebuild 0\nrebuild 1\nrebuild 2\n";
+
+const ALL_APPLIED: &str =
+    "line 2: applied\nline 3: applied\nline 4: applied\napplied 3 refused 0\n";
 
 #[test]
 fn noise_is_made_anew(rt: HostRuntime) -> Result<(), Fail> {
-    let sectors = [noise(0), noise(3), noise(6)];
-    let image = joined(rt.alloc(), &sectors)?;
+    let [first, second, third] = three();
     let whole = [
-        encoded_anew(&noise(0)),
-        encoded_anew(&noise(3)),
-        encoded_anew(&noise(6)),
+        encoded_anew(&first),
+        encoded_anew(&second),
+        encoded_anew(&third),
     ];
+    let image = joined(rt.alloc(), &three())?;
     let out = joined(rt.alloc(), &whole)?;
     let case = Case {
-        script: "cdpatch 1\nrebuild 0\nrebuild 1\nrebuild 2\n",
+        script: REBUILD_EACH,
         image: &image,
         base: 0,
-        log: "line 2: applied\nline 3: applied\nline 4: applied\napplied 3 refused 0\n",
+        log: ALL_APPLIED,
         out: &out,
     };
-    expect(&rt, rt.alloc(), &case)
+    expect(&rt, rt.alloc(), &case, false)
 }
 
 /// The line of an audit for a block whose address is another and whose EDC or parity is damaged.
@@ -64,33 +72,36 @@ fn audit_line(alloc: Global, block: usize, found: &DefectReport) -> Result<Strin
     format!(in alloc; "{block} address{zeros}{edc} p={p} q={q}\n")
 }
 
-/// The text of an audit of such sectors, whose P and Q are damaged all.
-fn audit_text(rt: &impl Abort, alloc: Global, sectors: &[Sector]) -> Result<String, AllocError> {
+/// The text of an audit of such sectors.
+fn audit_text(alloc: Global, sectors: &[Sector]) -> Result<String, AllocError> {
     let mut text = String::new(alloc);
     for (block, sector) in sectors.iter().enumerate() {
-        let found = defect(sector);
-        assert!(rt; found.p > 0 && found.q > 0, "{block}");
-        text.push_str(&audit_line(alloc, block, &found)?)?;
+        text.push_str(&audit_line(alloc, block, &defect(sector))?)?;
     }
     text.push_str("sectors 3 mode1 3 damaged 3 tail 0\n")?;
     Ok(text)
 }
 
+const TALLY: AuditTally = AuditTally {
+    sectors: 3,
+    mode1: 3,
+    damaged: 3,
+    findings: 3,
+    tail: 0,
+};
+
+/// P and Q of each are damaged.
 #[test]
 fn an_audit_of_noise(rt: HostRuntime) -> Result<(), AllocError> {
-    let sectors = [noise(0), noise(3), noise(6)];
-    let text = audit_text(&rt, rt.alloc(), &sectors)?;
+    let sectors = three();
+    for sector in &sectors {
+        let found = defect(sector);
+        assert!(rt; found.p > 0 && found.q > 0);
+    }
+    let text = audit_text(rt.alloc(), &sectors)?;
     let image = joined(rt.alloc(), &sectors)?;
     let mut space = memory(rt.alloc(), text.len())?;
-    let mut sink = SliceSink::new(&mut space);
-    let answer = audit(&mut SliceSource::new(&image), 0, &mut sink);
-    let wanted = AuditTally {
-        sectors: 3,
-        mode1: 3,
-        damaged: 3,
-        findings: 3,
-        tail: 0,
-    };
-    assert!(rt; answer == Ok(wanted) && space.as_slice() == text.as_bytes());
+    let answer = audit_within(&image, 0, &passing(ALL, ALL, ALL), &mut space);
+    assert!(rt; answer == Ok(TALLY) && space.as_slice() == text.as_bytes());
     Ok(())
 }

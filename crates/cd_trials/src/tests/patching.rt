@@ -1,8 +1,8 @@
-//! What the tests of patching share: scripts, memory, and cases with what they must leave.
+//! What the tests of patching share: memory, and scripts on images with what they must give.
 
 ghost use Rattle.std.specs.Prelude.{◌≤◌};
 
-use super::calls::{Call, Ending, Limit, Limits, apply_within, check_within};
+use super::calls::{Call, Ending, Limits, PARTS, apply_within, by_parts, check_within};
 use cd_image::{MAX_BASE, Tally};
 use cd_samples::{Sample, image_of, script_of};
 use std::alloc::{AllocError, Global};
@@ -11,16 +11,6 @@ use std::test::Fail;
 
 /// What memory holds before something is written to it.
 const UNTOUCHED: u8 = 238;
-
-/// An image and a script, and the log and the output that they must give.
-#[derive(Clone, Copy)]
-pub struct Case<'a> {
-    pub script: &'a str,
-    pub image: &'a [u8],
-    pub base: u32,
-    pub log: &'a str,
-    pub out: &'a [u8],
-}
 
 /// Memory to write to.
 pub fn memory(alloc: Global, size: usize) -> Result<Vec<u8>, AllocError> {
@@ -39,33 +29,100 @@ pub fn has_front(space: &[u8], whole: &[u8], count: usize) -> bool {
 
 /// How many bytes stand in front of those that nothing was written to.
 pub fn count_written(space: &[u8]) -> usize {
-    let left = space
-        .iter()
-        .rev()
-        .take_while(|byte| **byte == UNTOUCHED)
-        .count();
-    space.len().saturating_sub(left)
-}
-
-/// How many bytes were written to the front of the memory; they are the first ones of `whole`.
-pub fn written(rt: &impl Abort, space: &[u8], whole: &[u8]) -> usize {
-    let count = count_written(space);
-    assert!(rt; has_front(space, whole, count), "{count}");
+    let mut count = 0;
+    for (place, byte) in space.iter().enumerate() {
+        if *byte != UNTOUCHED {
+            count = place.saturating_add(1);
+        }
+    }
     count
 }
 
-/// Applies the script, and then checks it, by as many bytes a call as there are, and by few.
-pub fn expect(rt: &impl Abort, alloc: Global, case: &Case) -> Result<(), Fail>
-    requires { case.now.base ≤ MAX_BASE }
-{
-    expect_by(rt, alloc, case, false)
+/// An image and a script, and the log and the output that they must give.
+#[derive(Clone, Copy)]
+pub struct Case<'a> {
+    pub script: &'a str,
+    pub image: &'a [u8],
+    pub base: u32,
+    pub log: &'a str,
+    pub out: &'a [u8],
+}
+
+/// A script and an image that is told in short, and the log and the output that they must give.
+#[derive(Clone, Copy)]
+pub struct Row<'a> {
+    pub script: &'a str,
+    pub image: &'a [Sample],
+    pub log: &'a str,
+    pub out: &'a [Sample],
+}
+
+/// Applies and checks each script on its image from block 0 on.
+pub fn expect_rows(rt: &impl Abort, alloc: Global, rows: &[Row]) -> Result<(), Fail> {
+    expect_rows_by(rt, alloc, rows, 0, false)
 }
 
 /// The same where damage is carried.
-pub fn expect_carried(rt: &impl Abort, alloc: Global, case: &Case) -> Result<(), Fail>
-    requires { case.now.base ≤ MAX_BASE }
+pub fn expect_rows_carried(rt: &impl Abort, alloc: Global, rows: &[Row]) -> Result<(), Fail> {
+    expect_rows_by(rt, alloc, rows, 0, true)
+}
+
+/// The same from some block on, where damage is carried or not.
+pub fn expect_rows_by(
+    rt: &impl Abort,
+    alloc: Global,
+    rows: &[Row],
+    base: u32,
+    carry: bool,
+) -> Result<(), Fail>
+    requires { base ≤ MAX_BASE }
 {
-    expect_by(rt, alloc, case, true)
+    for row in rows {
+        let image = image_of(alloc, row.image)?;
+        let out = image_of(alloc, row.out)?;
+        let case = Case {
+            script: row.script,
+            image: &image,
+            base,
+            log: row.log,
+            out: &out,
+        };
+        expect(rt, alloc, &case, carry)?;
+    }
+    Ok(())
+}
+
+/// Scripts on one image, each with what it makes of it. All give one log.
+pub fn expect_made(
+    rt: &impl Abort,
+    alloc: Global,
+    image: &[Sample],
+    log: &str,
+    rows: &[(&str, &[Sample])],
+) -> Result<(), Fail> {
+    for (script, out) in rows {
+        let row = Row {
+            script,
+            image,
+            log,
+            out,
+        };
+        expect_rows(rt, alloc, &[row])?;
+    }
+    Ok(())
+}
+
+/// Scripts that leave their images as they are, each with its log.
+pub fn expect_rows_left(
+    rt: &impl Abort,
+    alloc: Global,
+    rows: &[(&str, &[Sample], &str)],
+) -> Result<(), Fail> {
+    for (script, samples, log) in rows {
+        let image = image_of(alloc, samples)?;
+        expect_left(rt, alloc, 0, script, &image, log)?;
+    }
+    Ok(())
 }
 
 /// A script that leaves an image as it is.
@@ -86,70 +143,11 @@ pub fn expect_left(
         log,
         out: image,
     };
-    expect(rt, alloc, &case)
+    expect(rt, alloc, &case, false)
 }
 
-/// The same of scripts on images that are told in short, from block 0 on, each with its log.
-pub fn expect_rows_left(
-    rt: &impl Abort,
-    alloc: Global,
-    rows: &[(&str, &[Sample], &str)],
-) -> Result<(), Fail> {
-    for (script, samples, log) in rows {
-        let image = image_of(alloc, samples)?;
-        expect_left(rt, alloc, 0, script, &image, log)?;
-    }
-    Ok(())
-}
-
-/// A script and an image that is told in short, and the log and the output that they must give.
-#[derive(Clone, Copy)]
-pub struct Row<'a> {
-    pub script: &'a str,
-    pub image: &'a [Sample],
-    pub log: &'a str,
-    pub out: &'a [Sample],
-}
-
-/// Applies and checks each script on its image from block 0 on.
-pub fn expect_rows(rt: &impl Abort, alloc: Global, rows: &[Row]) -> Result<(), Fail> {
-    for row in rows {
-        expect_row(rt, alloc, row, 0, false)?;
-    }
-    Ok(())
-}
-
-/// The same where damage is carried.
-pub fn expect_rows_carried(rt: &impl Abort, alloc: Global, rows: &[Row]) -> Result<(), Fail> {
-    for row in rows {
-        expect_row(rt, alloc, row, 0, true)?;
-    }
-    Ok(())
-}
-
-/// The same on its image from another block on, where it is not.
-pub fn expect_row_from(rt: &impl Abort, alloc: Global, base: u32, row: &Row) -> Result<(), Fail>
-    requires { base ≤ MAX_BASE }
-{
-    expect_row(rt, alloc, row, base, false)
-}
-
-fn expect_row(rt: &impl Abort, alloc: Global, row: &Row, base: u32, carry: bool) -> Result<(), Fail>
-    requires { base ≤ MAX_BASE }
-{
-    let image = image_of(alloc, row.image)?;
-    let out = image_of(alloc, row.out)?;
-    let case = Case {
-        script: row.script,
-        image: &image,
-        base,
-        log: row.log,
-        out: &out,
-    };
-    expect_by(rt, alloc, &case, carry)
-}
-
-fn expect_by(rt: &impl Abort, alloc: Global, case: &Case, carry: bool) -> Result<(), Fail>
+/// Applies the script, and then checks it, by as many bytes a call as there are, and by few.
+pub fn expect(rt: &impl Abort, alloc: Global, case: &Case, carry: bool) -> Result<(), Fail>
     requires { case.now.base ≤ MAX_BASE }
 {
     let script = script_of(alloc, case.script)?;
@@ -159,82 +157,53 @@ fn expect_by(rt: &impl Abort, alloc: Global, case: &Case, carry: bool) -> Result
         base: case.base,
         carry,
     };
-    for a_call in [1, 2, 2351, 2353, 10_000_000] {
-        applies(rt, alloc, case, &call, a_call)?;
-        checks(rt, alloc, case, &call, a_call)?;
+    for a_call in PARTS {
+        let is_right = gives(alloc, case, &call, &by_parts(*a_call, *a_call, *a_call))?;
+        assert!(rt; is_right, "{}", case.log);
     }
     Ok(())
 }
 
-/// At most so many bytes a call.
-fn by_parts(a_call: usize) -> Limits {
-    let limit = Limit {
-        all: u64::MAX,
-        a_call,
-    };
-    Limits {
-        image: limit,
-        out: limit,
-        log: limit,
-    }
-}
-
-fn applies(
-    rt: &impl Abort,
-    alloc: Global,
-    case: &Case,
-    call: &Call,
-    a_call: usize,
-) -> Result<(), AllocError>
+/// Whether the script gives the log and the output where it is applied, and the log where it is checked.
+fn gives(alloc: Global, case: &Case, call: &Call, limits: &Limits) -> Result<bool, AllocError>
     requires { call.now.base ≤ MAX_BASE }
 {
     let mut space = memory(alloc, case.out.len())?;
     let mut lines = memory(alloc, case.log.len())?;
-    let ending = apply_within(call, &by_parts(a_call), &mut space, &mut lines, &mut [0]);
-    assert!(rt; space.as_slice() == case.out, "{}", case.log);
-    ends_well(rt, alloc, &ending, case, &lines)
+    let applied = apply_within(call, limits, &mut space, &mut lines, &mut [0]);
+    let is_told = lines.as_slice() == case.log.as_bytes();
+    lines.fill(UNTOUCHED);
+    let checked = check_within(call, limits, &mut lines, &mut [0]);
+    Ok(
+        is_told
+            && space.as_slice() == case.out
+            && lines.as_slice() == case.log.as_bytes()
+            && ends_well(alloc, &applied, case)?
+            && ends_well(alloc, &checked, case)?,
+    )
 }
 
-fn checks(
-    rt: &impl Abort,
-    alloc: Global,
-    case: &Case,
-    call: &Call,
-    a_call: usize,
-) -> Result<(), AllocError>
-    requires { call.now.base ≤ MAX_BASE }
-{
-    let mut lines = memory(alloc, case.log.len())?;
-    let ending = check_within(call, &by_parts(a_call), &mut lines, &mut [0]);
-    ends_well(rt, alloc, &ending, case, &lines)
-}
-
-/// The last line of a log with this tally.
+/// The last line of a log.
 fn last_line(alloc: Global, tally: &Tally) -> Result<String, AllocError> {
     let (applied, refused) = (tally.applied, tally.refused);
     format!(in alloc; "applied {applied} refused {refused}\n")
 }
 
-/// Asserts that nothing has failed, that the whole image was read, and that the log and the tally are right: this counts
-/// the image, and the patches as the log's last line does.
-fn ends_well(
-    rt: &impl Abort,
-    alloc: Global,
-    ending: &Ending,
-    case: &Case,
-    lines: &[u8],
-) -> Result<(), AllocError> {
-    let is_done = ending.out_finished && ending.log_finished && ending.left == Some(0);
-    assert!(rt; is_done && has_failed(ending, 0, 0, 0), "{}", case.log);
+/// Whether nothing has failed, the whole image was read, and the tally is right: it counts the image, and the patches as
+/// the log's last line does.
+fn ends_well(alloc: Global, ending: &Ending, case: &Case) -> Result<bool, AllocError> {
     let Ok(tally) = ending.answer else {
-        panic!(rt; "{}", case.log);
+        return Ok(false);
     };
     let size = case.image.len() as u64;
-    let is_counted = u64::from(tally.sectors) == size / 2352
-        && u64::from(tally.tail) == size % 2352
-        && case.log.ends_with(last_line(alloc, &tally)?.as_str());
-    assert!(rt; is_counted && lines == case.log.as_bytes(), "{}", case.log);
-    Ok(())
+    let is_done = ending.out_finished && ending.log_finished && ending.left == Some(0);
+    Ok(
+        is_done
+            && has_failed(ending, 0, 0, 0)
+            && u64::from(tally.sectors) == size / 2352
+            && u64::from(tally.tail) == size % 2352
+            && case.log.ends_with(last_line(alloc, &tally)?.as_str()),
+    )
 }
 
 /// Whether the image, the output and the log have failed so often.
