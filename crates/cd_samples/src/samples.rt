@@ -11,6 +11,8 @@ pub enum Sample {
     Zeros(u32),
     /// The same, but for the user bytes from one offset up to another, which are of one value.
     Filled(u32, usize, usize, u8),
+    /// The consistent sector of a block, its user data of one value up to an offset and of another from there on.
+    Parted(u32, usize, u8, u8),
     /// The first, with a difference added to the byte at a place.
     Damaged(u32, usize, u8),
     /// The consistent sector with these bytes for its address, and user data as above.
@@ -28,6 +30,9 @@ pub fn sector_of(sample: &Sample) -> Sector {
         Sample::Filled(block, first, end, value) => {
             encoded_at(block, &filled_user(first, end, value))
         }
+        Sample::Parted(block, offset, value, next) => {
+            encoded_at(block, &parted_user(offset, value, next))
+        }
         Sample::Damaged(block, place, difference) => {
             with_added(&encoded_at(block, &[0; 2048]), place, difference)
         }
@@ -43,6 +48,17 @@ fn filled_user(first: usize, end: usize, value: u8) -> [u8; 2048] {
     for (place, byte) in user.iter_mut().enumerate() {
         if first <= place && place < end {
             *byte = value;
+        }
+    }
+    user
+}
+
+/// User data of one value up to an offset, and of another from there on.
+fn parted_user(offset: usize, value: u8, next: u8) -> [u8; 2048] {
+    let mut user = [value; 2048];
+    for (place, byte) in user.iter_mut().enumerate() {
+        if offset <= place {
+            *byte = next;
         }
     }
     user

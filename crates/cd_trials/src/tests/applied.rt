@@ -1,8 +1,8 @@
 //! Patches that are accepted: each sector that they meet is the one that the encoding from scratch gives.
 
-use super::patching::{Case, Row, expect, expect_left, expect_made, expect_rows, expect_rows_by};
-use cd_samples::Sample::{self, Addressed, Blank, Damaged, Filled, Mode, Zeros};
-use cd_samples::{cut_image, encoded_at, image_of, joined, repeated, sector_of, with_bytes};
+use super::patching::{Row, expect_cut, expect_made, expect_rows, expect_sectors};
+use cd_samples::Sample::{self, Addressed, Blank, Damaged, Filled, Mode, Parted, Zeros};
+use cd_samples::{repeated, sector_of, with_bytes};
 use std::test::Fail;
 
 const ONE: &str = "line 2: applied\napplied 1 refused 0\n";
@@ -115,6 +115,8 @@ fn ranges_at_the_borders_of_blocks(rt: HostRuntime) -> Result<(), Fail> {
     expect_made(&rt, rt.alloc(), THREE, ONE, AT_BORDERS)
 }
 
+const SIX: &[Sample] = &[Zeros(0), Zeros(1), Zeros(2), Zeros(3), Zeros(4), Zeros(5)];
+
 const LOWEST_FIRST: &[Row] = &[Row {
     script: "cdpatch 1\nset 5 0 41\nset 4 2047 4242\n",
     image: SIX,
@@ -134,38 +136,24 @@ fn the_lowest_block_first(rt: HostRuntime) -> Result<(), Fail> {
     expect_rows(&rt, rt.alloc(), LOWEST_FIRST)
 }
 
-const OVERLAPPING: &str =
-    "cdpatch 1\nfill 0 2047 4096 41\nfill 1 2047 4096 42\nfill 2 2047 4096 43\n";
-
-const ALL_THREE: &str = "line 2: applied\nline 3: applied\nline 4: applied\napplied 3 refused 0\n";
-
-const SIX: &[Sample] = &[Zeros(0), Zeros(1), Zeros(2), Zeros(3), Zeros(4), Zeros(5)];
+const OVERLAPPING: &[Row] = &[Row {
+    script: "cdpatch 1\nfill 0 2047 4096 41\nfill 1 2047 4096 42\nfill 2 2047 4096 43\n",
+    image: SIX,
+    log: "line 2: applied\nline 3: applied\nline 4: applied\napplied 3 refused 0\n",
+    out: &[
+        Filled(0, 2047, 2048, 65),
+        Parted(1, 2047, 65, 66),
+        Parted(2, 2047, 66, 67),
+        Filled(3, 0, 2048, 67),
+        Filled(4, 0, 2047, 67),
+        Zeros(5),
+    ],
+}];
 
 /// Each patch meets three blocks, and the next one writes over the end of its bytes.
 #[test]
 fn overlapping_ranges(rt: HostRuntime) -> Result<(), Fail> {
-    let image = image_of(rt.alloc(), SIX)?;
-    let mut first = [65; 2048];
-    first[2047] = 66;
-    let mut second = [66; 2048];
-    second[2047] = 67;
-    let sectors = [
-        sector_of(&Filled(0, 2047, 2048, 65)),
-        encoded_at(1, &first),
-        encoded_at(2, &second),
-        sector_of(&Filled(3, 0, 2048, 67)),
-        sector_of(&Filled(4, 0, 2047, 67)),
-        sector_of(&Zeros(5)),
-    ];
-    let out = joined(rt.alloc(), &sectors)?;
-    let case = Case {
-        script: OVERLAPPING,
-        image: &image,
-        base: 0,
-        log: ALL_THREE,
-        out: &out,
-    };
-    expect(&rt, rt.alloc(), &case, false)
+    expect_rows(&rt, rt.alloc(), OVERLAPPING)
 }
 
 const ONE_SECTOR: &[Row] = &[
@@ -251,14 +239,8 @@ fn sectors_made_anew(rt: HostRuntime) -> Result<(), Fail> {
 fn codes_made_anew(rt: HostRuntime) -> Result<(), Fail> {
     let zeros = sector_of(&Zeros(0));
     let damaged = with_bytes(&zeros, 2064, &[255; 288]);
-    let case = Case {
-        script: "cdpatch 1\nrebuild 0\n",
-        image: damaged.bytes(),
-        base: 0,
-        log: ONE,
-        out: zeros.bytes(),
-    };
-    expect(&rt, rt.alloc(), &case, false)
+    let rebuild = "cdpatch 1\nrebuild 0\n";
+    expect_sectors(&rt, rt.alloc(), false, rebuild, &[damaged], ONE, &[zeros])
 }
 
 const OF_ALL_KINDS: &[Sample] = &[
@@ -270,42 +252,45 @@ const OF_ALL_KINDS: &[Sample] = &[
     Damaged(7, 20, 1),
 ];
 
+const NO_PATCHES: Row = Row {
+    script: "cdpatch 1\n",
+    image: OF_ALL_KINDS,
+    log: "applied 0 refused 0\n",
+    out: OF_ALL_KINDS,
+};
+
 #[test]
 fn no_patches(rt: HostRuntime) -> Result<(), Fail> {
     for size in &[0, 1, 2351, 2352, 4704, 9_408, 14_111, 14_112] {
-        let image = cut_image(rt.alloc(), OF_ALL_KINDS, *size)?;
-        let log = "applied 0 refused 0\n";
-        expect_left(&rt, rt.alloc(), 449_849, "cdpatch 1\n", &image, log)?;
+        expect_cut(&rt, rt.alloc(), &NO_PATCHES, *size, 449_849, false)?;
     }
     Ok(())
 }
+
+const BEFORE_A_TAIL: Row = Row {
+    script: "cdpatch 1\nfill 0 0 2048 41\n",
+    image: &[Zeros(0), Zeros(1)],
+    log: ONE,
+    out: &[Filled(0, 0, 2048, 65), Zeros(1)],
+};
 
 /// A sector that a patch fills, and a tail of so many bytes.
 #[test]
 fn a_tail_behind_patched_sectors(rt: HostRuntime) -> Result<(), Fail> {
     for size in &[2353, 4399, 4703] {
-        let image = cut_image(rt.alloc(), &[Zeros(0), Zeros(1)], *size)?;
-        let out = cut_image(rt.alloc(), &[Filled(0, 0, 2048, 65), Zeros(1)], *size)?;
-        let case = Case {
-            script: "cdpatch 1\nfill 0 0 2048 41\n",
-            image: &image,
-            base: 0,
-            log: ONE,
-            out: &out,
-        };
-        expect(&rt, rt.alloc(), &case, false)?;
+        expect_cut(&rt, rt.alloc(), &BEFORE_A_TAIL, *size, 0, false)?;
     }
     Ok(())
 }
 
-const LARGEST_BASE: &[Row] = &[Row {
+const LARGEST_BASE: Row = Row {
     script: "cdpatch 1\nset 449850 1 41\nset 449849 2047 4141\n",
     image: &[Zeros(449_849), Zeros(0)],
     log: "line 3: applied\nline 2: applied\napplied 2 refused 0\n",
     out: &[Filled(449_849, 2047, 2048, 65), Filled(0, 0, 2, 65)],
-}];
+};
 
 #[test]
 fn the_largest_base(rt: HostRuntime) -> Result<(), Fail> {
-    expect_rows_by(&rt, rt.alloc(), LARGEST_BASE, 449_849, false)
+    expect_cut(&rt, rt.alloc(), &LARGEST_BASE, usize::MAX, 449_849, false)
 }

@@ -1,6 +1,6 @@
 //! Images with damaged sectors, of which the damage is carried: what goes out is damaged as it was, and nowhere else.
 
-use super::patching::{Case, Row, expect, expect_left, expect_rows_carried};
+use super::patching::{Case, Row, expect, expect_rows_carried, expect_sectors};
 use cd_samples::Sample::{self, Addressed, Blank, Damaged, Filled, Mode, Zeros};
 use cd_samples::{carried, encoded_at, flipped, joined, sector_of, with_added, with_bytes};
 use cd_sector::{Sector, defect, same_defect};
@@ -24,14 +24,7 @@ fn carries(
     log: &str,
     out: &Sector,
 ) -> Result<(), Fail> {
-    let case = Case {
-        script,
-        image: image.bytes(),
-        base: 0,
-        log,
-        out: out.bytes(),
-    };
-    expect(rt, alloc, &case, true)
+    expect_sectors(rt, alloc, true, script, &[*image], log, &[*out])
 }
 
 const SET: &str = "cdpatch 1\nset 0 0 41\n";
@@ -44,7 +37,7 @@ fn a_damaged_byte_of_the_parity(rt: HostRuntime) -> Result<(), Fail> {
     let image = sector_of(&Damaged(0, 2351, 1));
     let whole = flipped(&sector_of(&Filled(0, 0, 1, 65)), 2351);
     carries(&rt, rt.alloc(), SET, &image, ONE, &whole)?;
-    expect_left(&rt, rt.alloc(), 0, SET, image.bytes(), IS_DAMAGED)
+    expect_sectors(&rt, rt.alloc(), false, SET, &[image], IS_DAMAGED, &[image])
 }
 
 const NOTHING_TO_CARRY: &[Row] = &[
@@ -184,12 +177,18 @@ fn carries_the_middle(rt: &impl Abort, alloc: Global, place: usize) -> Result<()
         script: OVER_THREE,
         image: &image,
         base: 7,
+        carry: true,
         log: ONE,
         out: &out,
     };
-    expect(rt, alloc, &case, true)?;
-    let log = "line 2: refused: block 8 is damaged\napplied 0 refused 1\n";
-    expect_left(rt, alloc, 7, OVER_THREE, &image, log)
+    expect(rt, alloc, &case)?;
+    let case = Case {
+        carry: false,
+        log: "line 2: refused: block 8 is damaged\napplied 0 refused 1\n",
+        out: &image,
+        ..case
+    };
+    expect(rt, alloc, &case)
 }
 
 #[test]

@@ -1,8 +1,7 @@
 //! Images cut in their first bytes and about the ends of their sectors.
 
-use super::patching::{Row, expect_left, expect_rows};
-use cd_samples::Sample::{Filled, Zeros};
-use cd_samples::cut_image;
+use super::patching::{Row, expect_cut, expect_rows};
+use cd_samples::Sample::{self, Filled, Zeros};
 use std::alloc::Global;
 use std::ops::Range;
 use std::process::Abort;
@@ -10,30 +9,41 @@ use std::test::Fail;
 
 const SCRIPT: &str = "cdpatch 1\nset 0 2047 4142\n";
 
-const NO_BLOCK_0: &str = "line 2: refused: no block 0\napplied 0 refused 1\n";
+const TWO: &[Sample] = &[Zeros(0), Zeros(1)];
 
-const NO_BLOCK_1: &str = "line 2: refused: no block 1\napplied 0 refused 1\n";
+const NO_BLOCK_0: Row = Row {
+    script: SCRIPT,
+    image: TWO,
+    log: "line 2: refused: no block 0\napplied 0 refused 1\n",
+    out: TWO,
+};
 
-/// The script leaves two sectors that are cut to these sizes as they are.
-fn leaves_cut(rt: &impl Abort, alloc: Global, sizes: Range<usize>, log: &str) -> Result<(), Fail> {
+const NO_BLOCK_1: Row = Row {
+    script: SCRIPT,
+    image: TWO,
+    log: "line 2: refused: no block 1\napplied 0 refused 1\n",
+    out: TWO,
+};
+
+/// The same at each of these sizes.
+fn expect_each(rt: &impl Abort, alloc: Global, row: &Row, sizes: Range<usize>) -> Result<(), Fail> {
     for size in sizes {
-        let image = cut_image(alloc, &[Zeros(0), Zeros(1)], size)?;
-        expect_left(rt, alloc, 0, SCRIPT, &image, log)?;
+        expect_cut(rt, alloc, row, size, 0, false)?;
     }
     Ok(())
 }
 
 #[test]
 fn cut_before_a_block_of_the_patch(rt: HostRuntime) -> Result<(), Fail> {
-    leaves_cut(&rt, rt.alloc(), 0..13, NO_BLOCK_0)?;
-    leaves_cut(&rt, rt.alloc(), 2340..2352, NO_BLOCK_0)?;
-    leaves_cut(&rt, rt.alloc(), 2352..2365, NO_BLOCK_1)?;
-    leaves_cut(&rt, rt.alloc(), 4692..4704, NO_BLOCK_1)
+    expect_each(&rt, rt.alloc(), &NO_BLOCK_0, 0..13)?;
+    expect_each(&rt, rt.alloc(), &NO_BLOCK_0, 2340..2352)?;
+    expect_each(&rt, rt.alloc(), &NO_BLOCK_1, 2352..2365)?;
+    expect_each(&rt, rt.alloc(), &NO_BLOCK_1, 4692..4704)
 }
 
 const BEHIND_THE_LAST: &[Row] = &[Row {
     script: SCRIPT,
-    image: &[Zeros(0), Zeros(1)],
+    image: TWO,
     log: "line 2: applied\napplied 1 refused 0\n",
     out: &[Filled(0, 2047, 2048, 65), Filled(1, 0, 1, 66)],
 }];

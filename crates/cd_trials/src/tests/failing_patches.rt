@@ -7,6 +7,7 @@ use cd_samples::Sample::{self, Filled, Zeros};
 use cd_samples::{image_of, script_of};
 use cd_script::Script;
 use std::alloc::Global;
+use std::process::Abort;
 use std::test::Fail;
 
 const IMAGE: &[Sample] = &[Zeros(0), Zeros(1), Zeros(2)];
@@ -33,12 +34,26 @@ struct Parts {
     whole: Vec<u8>,
 }
 
-fn make_parts(alloc: Global) -> Result<Parts, Fail> {
+/// Flips the lowest bit of a byte.
+fn flip(bytes: &mut [u8], place: usize) {
+    if place < bytes.len() {
+        bytes[place] ^= 1;
+    }
+}
+
+/// Where damage is carried, the last byte of the patched sector is damaged.
+fn make_parts(alloc: Global, carry: bool) -> Result<Parts, Fail> {
+    let mut image = image_of(alloc, IMAGE)?;
+    let mut whole = image_of(alloc, PATCHED)?;
+    if carry {
+        flip(&mut image, 4703);
+        flip(&mut whole, 4703);
+    }
     Ok(Parts {
-        image: image_of(alloc, IMAGE)?,
+        image,
         script: script_of(alloc, SCRIPT)?,
-        carry: false,
-        whole: image_of(alloc, PATCHED)?,
+        carry,
+        whole,
     })
 }
 
@@ -89,16 +104,6 @@ fn image_fails(parts: &Parts, space: &mut [u8], count: u64) -> bool {
     is_right && is_answered(&applied, Fault::Read) && is_answered(&checked, Fault::Read)
 }
 
-#[test]
-fn the_image_fails_at_each_byte(rt: HostRuntime) -> Result<(), Fail> {
-    let parts = make_parts(rt.alloc())?;
-    let mut space = memory(rt.alloc(), 7056)?;
-    for count in 0..7057u64 {
-        assert!(rt; image_fails(&parts, &mut space, count), "{count}");
-    }
-    Ok(())
-}
-
 /// The output fails behind so many bytes.
 fn output_fails(parts: &Parts, space: &mut [u8], count: u64) -> bool {
     let mut lines = [238; 36];
@@ -111,16 +116,6 @@ fn output_fails(parts: &Parts, space: &mut [u8], count: u64) -> bool {
     };
     let is_sent = has_front(space, &parts.whole, count as usize) && !ending.out_finished;
     is_sent && has_front(&lines, LOG, told) && is_answered(&ending, Fault::Write)
-}
-
-#[test]
-fn the_output_fails_at_each_byte(rt: HostRuntime) -> Result<(), Fail> {
-    let parts = make_parts(rt.alloc())?;
-    let mut space = memory(rt.alloc(), 7056)?;
-    for count in 0..7057u64 {
-        assert!(rt; output_fails(&parts, &mut space, count), "{count}");
-    }
-    Ok(())
 }
 
 /// The log has failed behind so many bytes.
@@ -143,16 +138,6 @@ fn log_fails(parts: &Parts, space: &mut [u8], count: u64) -> bool {
     is_sent && has_told(&applied, &lines, count) && has_told(&checked, &others, count)
 }
 
-#[test]
-fn the_log_fails_at_each_byte(rt: HostRuntime) -> Result<(), Fail> {
-    let parts = make_parts(rt.alloc())?;
-    let mut space = memory(rt.alloc(), 7056)?;
-    for count in 0..37u64 {
-        assert!(rt; log_fails(&parts, &mut space, count), "{count}");
-    }
-    Ok(())
-}
-
 /// Nothing has failed and the whole log was told.
 fn is_whole(ending: &Ending, lines: &[u8]) -> bool {
     let is_done = ending.out_finished && ending.log_finished;
@@ -171,79 +156,119 @@ fn nothing_fails(parts: &Parts, space: &mut [u8], limits: &Limits) -> bool {
     is_sent && is_whole(&applied, &lines) && is_whole(&checked, &others)
 }
 
-const BEHIND_ALL: &[(u64, u64, u64)] = &[
+/// The image, the output and the log may pass so many bytes: each of the three alone, and then all of them, one byte
+/// more than the whole.
+const BEHIND_ALL: [(u64, u64, u64); 4] = [
     (7057, ALL, ALL),
     (ALL, 7057, ALL),
     (ALL, ALL, 37),
     (7057, 7057, 37),
 ];
 
-/// Each of the three alone, and then all of them, may pass one byte more than the whole.
-#[test]
-fn none_fails_behind_the_last_byte(rt: HostRuntime) -> Result<(), Fail> {
-    let parts = make_parts(rt.alloc())?;
-    let mut space = memory(rt.alloc(), 7056)?;
-    for (image, out, log) in BEHIND_ALL {
-        let limits = passing(*image, *out, *log);
-        assert!(rt; nothing_fails(&parts, &mut space, &limits));
+/// So many bytes pass in a call.
+const FEW: [usize; 5] = [1, 2, 2351, 2353, usize::MAX];
+
+/// What is tried by a number.
+#[derive(Clone, Copy)]
+enum Trial {
+    /// The image fails behind so many bytes.
+    Image,
+    /// The output does.
+    Output,
+    /// The log does.
+    Log,
+    /// None fails, within one of the limits behind all bytes.
+    None,
+    /// None fails by few bytes a call on each of the three, in a mixture.
+    Few,
+}
+
+fn succeeds(parts: &Parts, space: &mut [u8], trial: Trial, number: usize) -> bool {
+    match trial {
+        Trial::Image => image_fails(parts, space, number as u64),
+        Trial::Output => output_fails(parts, space, number as u64),
+        Trial::Log => log_fails(parts, space, number as u64),
+        Trial::None => {
+            let (image, out, log) = BEHIND_ALL[number % 4];
+            nothing_fails(parts, space, &passing(image, out, log))
+        }
+        Trial::Few => {
+            let (image, out, log) = (number % 5, number / 5 % 5, number / 25 % 5);
+            nothing_fails(parts, space, &by_parts(FEW[image], FEW[out], FEW[log]))
+        }
+    }
+}
+
+/// Tries each number from one up to another, where damage is carried or not.
+fn tries(
+    rt: &impl Abort,
+    alloc: Global,
+    carry: bool,
+    rows: &[(Trial, usize, usize)],
+) -> Result<(), Fail> {
+    let parts = make_parts(alloc, carry)?;
+    let mut space = memory(alloc, 7056)?;
+    for (trial, first, end) in rows {
+        for number in *first..*end {
+            assert!(rt; succeeds(&parts, &mut space, *trial, number), "{number}");
+        }
     }
     Ok(())
 }
 
-const FEW: [usize; 5] = [1, 2, 2351, 2353, usize::MAX];
+#[test]
+fn the_image_fails_at_each_byte(rt: HostRuntime) -> Result<(), Fail> {
+    tries(&rt, rt.alloc(), false, &[(Trial::Image, 0, 7057)])
+}
 
-/// Few bytes a call on each of the three, in every mixture.
+#[test]
+fn the_output_fails_at_each_byte(rt: HostRuntime) -> Result<(), Fail> {
+    tries(&rt, rt.alloc(), false, &[(Trial::Output, 0, 7057)])
+}
+
+#[test]
+fn the_log_fails_at_each_byte(rt: HostRuntime) -> Result<(), Fail> {
+    tries(&rt, rt.alloc(), false, &[(Trial::Log, 0, 37)])
+}
+
+#[test]
+fn none_fails_behind_the_last_byte(rt: HostRuntime) -> Result<(), Fail> {
+    tries(&rt, rt.alloc(), false, &[(Trial::None, 0, 4)])
+}
+
+/// Every mixture.
 #[test]
 fn few_bytes_a_call(rt: HostRuntime) -> Result<(), Fail> {
-    let parts = make_parts(rt.alloc())?;
-    let mut space = memory(rt.alloc(), 7056)?;
-    for mixture in 0..125usize {
-        let limits = by_parts(FEW[mixture % 5], FEW[mixture / 5 % 5], FEW[mixture / 25]);
-        assert!(rt; nothing_fails(&parts, &mut space, &limits), "{mixture}");
-    }
-    Ok(())
+    tries(&rt, rt.alloc(), false, &[(Trial::Few, 0, 125)])
+}
+
+/// At a border of a sector, within one, or where the patch is told.
+const BORDERS: &[(Trial, usize, usize)] = &[
+    (Trial::Image, 0, 2),
+    (Trial::Image, 2351, 2354),
+    (Trial::Image, 3000, 3001),
+    (Trial::Image, 4703, 4706),
+    (Trial::Image, 7055, 7057),
+    (Trial::Output, 0, 2),
+    (Trial::Output, 2351, 2354),
+    (Trial::Output, 3000, 3001),
+    (Trial::Output, 4703, 4706),
+    (Trial::Output, 7055, 7057),
+    (Trial::Log, 0, 37),
+    (Trial::None, 3, 4),
+];
+
+#[test]
+fn failures_where_damage_is_carried(rt: HostRuntime) -> Result<(), Fail> {
+    tries(&rt, rt.alloc(), true, BORDERS)
 }
 
 /// The output ends in the second of three sectors: the first byte of that is still that of the sync field.
 #[test]
 fn an_output_that_fails_in_a_patched_sector(rt: HostRuntime) -> Result<(), Fail> {
-    let parts = make_parts(rt.alloc())?;
+    let parts = make_parts(rt.alloc(), false)?;
     let mut space = memory(rt.alloc(), 7056)?;
     let is_failed = output_fails(&parts, &mut space, 2353) && has_front(&space, &parts.image, 2353);
     assert!(rt; is_failed && space.get(2352) == Some(&0));
-    Ok(())
-}
-
-/// Flips the lowest bit of a byte.
-fn flip(bytes: &mut [u8], place: usize) {
-    if place < bytes.len() {
-        bytes[place] ^= 1;
-    }
-}
-
-/// The same with the last byte of the patched sector damaged, where that is carried.
-fn make_carried_parts(alloc: Global) -> Result<Parts, Fail> {
-    let mut parts = make_parts(alloc)?;
-    parts.carry = true;
-    flip(&mut parts.image, 4703);
-    flip(&mut parts.whole, 4703);
-    Ok(parts)
-}
-
-const BORDERS: &[u64] = &[0, 1, 2351, 2352, 2353, 3000, 4703, 4704, 4705, 7055, 7056];
-
-/// One of the three fails at a border of a sector, within one, or where the patch is told, and damage is carried.
-#[test]
-fn failures_where_damage_is_carried(rt: HostRuntime) -> Result<(), Fail> {
-    let parts = make_carried_parts(rt.alloc())?;
-    let mut space = memory(rt.alloc(), 7056)?;
-    for count in BORDERS {
-        assert!(rt; image_fails(&parts, &mut space, *count), "{count}");
-        assert!(rt; output_fails(&parts, &mut space, *count), "{count}");
-    }
-    for count in 0..37u64 {
-        assert!(rt; log_fails(&parts, &mut space, count), "{count}");
-    }
-    assert!(rt; nothing_fails(&parts, &mut space, &passing(7057, 7057, 37)));
     Ok(())
 }

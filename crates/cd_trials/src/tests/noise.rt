@@ -1,7 +1,7 @@
 //! Sectors of noise with a sync field and a mode byte.
 
 use super::calls::{ALL, audit_within, passing};
-use super::patching::{Case, expect, expect_left, memory};
+use super::patching::{expect_sectors, memory};
 use cd_image::AuditTally;
 use cd_samples::Sample::Mode;
 use cd_samples::{encoded_anew, joined, sector_of};
@@ -35,8 +35,16 @@ const NONE_APPLIED: &str = "line 2: refused: block 0 is damaged\n\
 
 #[test]
 fn patches_on_noise_are_refused(rt: HostRuntime) -> Result<(), Fail> {
-    let image = joined(rt.alloc(), &three())?;
-    expect_left(&rt, rt.alloc(), 0, SET_EACH, &image, NONE_APPLIED)
+    let image = three();
+    expect_sectors(
+        &rt,
+        rt.alloc(),
+        false,
+        SET_EACH,
+        &image,
+        NONE_APPLIED,
+        &image,
+    )
 }
 
 const REBUILD_EACH: &str = "cdpatch 1\nrebuild 0\nrebuild 1\nrebuild 2\n";
@@ -46,22 +54,18 @@ const ALL_APPLIED: &str =
 
 #[test]
 fn noise_is_made_anew(rt: HostRuntime) -> Result<(), Fail> {
-    let [first, second, third] = three();
-    let whole = [
-        encoded_anew(&first),
-        encoded_anew(&second),
-        encoded_anew(&third),
-    ];
-    let image = joined(rt.alloc(), &three())?;
-    let out = joined(rt.alloc(), &whole)?;
-    let case = Case {
-        script: REBUILD_EACH,
-        image: &image,
-        base: 0,
-        log: ALL_APPLIED,
-        out: &out,
-    };
-    expect(&rt, rt.alloc(), &case, false)
+    let [one, two, three] = three();
+    let anew = [encoded_anew(&one), encoded_anew(&two), encoded_anew(&three)];
+    let noise = [one, two, three];
+    expect_sectors(
+        &rt,
+        rt.alloc(),
+        false,
+        REBUILD_EACH,
+        &noise,
+        ALL_APPLIED,
+        &anew,
+    )
 }
 
 /// The line of an audit for a block whose address is another and whose EDC or parity is damaged.

@@ -4,7 +4,8 @@ ghost use Rattle.std.specs.Prelude.{◌≤◌};
 
 use super::calls::{Call, Ending, Limits, PARTS, apply_within, by_parts, check_within};
 use cd_image::{MAX_BASE, Tally};
-use cd_samples::{Sample, image_of, script_of};
+use cd_samples::{Sample, cut_image, joined, script_of};
+use cd_sector::Sector;
 use std::alloc::{AllocError, Global};
 use std::process::Abort;
 use std::test::Fail;
@@ -38,14 +39,56 @@ pub fn count_written(space: &[u8]) -> usize {
     count
 }
 
-/// An image and a script, and the log and the output that they must give.
+/// An image and a script, and the log and the output that they must give, where damage is carried or not.
 #[derive(Clone, Copy)]
 pub struct Case<'a> {
     pub script: &'a str,
     pub image: &'a [u8],
     pub base: u32,
+    pub carry: bool,
     pub log: &'a str,
     pub out: &'a [u8],
+}
+
+/// Applies the script, and then checks it, by as many bytes a call as there are, and by few.
+pub fn expect(rt: &impl Abort, alloc: Global, case: &Case) -> Result<(), Fail>
+    requires { case.now.base ≤ MAX_BASE }
+{
+    let script = script_of(alloc, case.script)?;
+    let call = Call {
+        image: case.image,
+        script: &script,
+        base: case.base,
+        carry: case.carry,
+    };
+    for most in PARTS {
+        let is_right = gives(alloc, case, &call, &by_parts(*most, *most, *most))?;
+        assert!(rt; is_right, "{}", case.log);
+    }
+    Ok(())
+}
+
+/// The same where image and output are sectors of some blocks from 0 on.
+pub fn expect_sectors(
+    rt: &impl Abort,
+    alloc: Global,
+    carry: bool,
+    script: &str,
+    before: &[Sector],
+    log: &str,
+    after: &[Sector],
+) -> Result<(), Fail> {
+    let image = joined(alloc, before)?;
+    let out = joined(alloc, after)?;
+    let case = Case {
+        script,
+        image: &image,
+        base: 0,
+        carry,
+        log,
+        out: &out,
+    };
+    expect(rt, alloc, &case)
 }
 
 /// A script and an image that is told in short, and the log and the output that they must give.
@@ -57,37 +100,42 @@ pub struct Row<'a> {
     pub out: &'a [Sample],
 }
 
-/// Applies and checks each script on its image from block 0 on.
-pub fn expect_rows(rt: &impl Abort, alloc: Global, rows: &[Row]) -> Result<(), Fail> {
-    expect_rows_by(rt, alloc, rows, 0, false)
-}
-
-/// The same where damage is carried.
-pub fn expect_rows_carried(rt: &impl Abort, alloc: Global, rows: &[Row]) -> Result<(), Fail> {
-    expect_rows_by(rt, alloc, rows, 0, true)
-}
-
-/// The same from some block on, where damage is carried or not.
-pub fn expect_rows_by(
+/// Applies and checks a script on an image from some block on; image and output are cut to some size, if they are longer.
+pub fn expect_cut(
     rt: &impl Abort,
     alloc: Global,
-    rows: &[Row],
+    row: &Row,
+    size: usize,
     base: u32,
     carry: bool,
 ) -> Result<(), Fail>
     requires { base ≤ MAX_BASE }
 {
+    let image = cut_image(alloc, row.image, size)?;
+    let out = cut_image(alloc, row.out, size)?;
+    let case = Case {
+        script: row.script,
+        image: &image,
+        base,
+        carry,
+        log: row.log,
+        out: &out,
+    };
+    expect(rt, alloc, &case)
+}
+
+/// Applies and checks each script on its image from block 0 on.
+pub fn expect_rows(rt: &impl Abort, alloc: Global, rows: &[Row]) -> Result<(), Fail> {
     for row in rows {
-        let image = image_of(alloc, row.image)?;
-        let out = image_of(alloc, row.out)?;
-        let case = Case {
-            script: row.script,
-            image: &image,
-            base,
-            log: row.log,
-            out: &out,
-        };
-        expect(rt, alloc, &case, carry)?;
+        expect_cut(rt, alloc, row, usize::MAX, 0, false)?;
+    }
+    Ok(())
+}
+
+/// The same where damage is carried.
+pub fn expect_rows_carried(rt: &impl Abort, alloc: Global, rows: &[Row]) -> Result<(), Fail> {
+    for row in rows {
+        expect_cut(rt, alloc, row, usize::MAX, 0, true)?;
     }
     Ok(())
 }
@@ -107,7 +155,7 @@ pub fn expect_made(
             log,
             out,
         };
-        expect_rows(rt, alloc, &[row])?;
+        expect_cut(rt, alloc, &row, usize::MAX, 0, false)?;
     }
     Ok(())
 }
@@ -118,48 +166,14 @@ pub fn expect_rows_left(
     alloc: Global,
     rows: &[(&str, &[Sample], &str)],
 ) -> Result<(), Fail> {
-    for (script, samples, log) in rows {
-        let image = image_of(alloc, samples)?;
-        expect_left(rt, alloc, 0, script, &image, log)?;
-    }
-    Ok(())
-}
-
-/// A script that leaves an image as it is.
-pub fn expect_left(
-    rt: &impl Abort,
-    alloc: Global,
-    base: u32,
-    script: &str,
-    image: &[u8],
-    log: &str,
-) -> Result<(), Fail>
-    requires { base ≤ MAX_BASE }
-{
-    let case = Case {
-        script,
-        image,
-        base,
-        log,
-        out: image,
-    };
-    expect(rt, alloc, &case, false)
-}
-
-/// Applies the script, and then checks it, by as many bytes a call as there are, and by few.
-pub fn expect(rt: &impl Abort, alloc: Global, case: &Case, carry: bool) -> Result<(), Fail>
-    requires { case.now.base ≤ MAX_BASE }
-{
-    let script = script_of(alloc, case.script)?;
-    let call = Call {
-        image: case.image,
-        script: &script,
-        base: case.base,
-        carry,
-    };
-    for a_call in PARTS {
-        let is_right = gives(alloc, case, &call, &by_parts(*a_call, *a_call, *a_call))?;
-        assert!(rt; is_right, "{}", case.log);
+    for (script, image, log) in rows {
+        let row = Row {
+            script,
+            image,
+            log,
+            out: image,
+        };
+        expect_cut(rt, alloc, &row, usize::MAX, 0, false)?;
     }
     Ok(())
 }

@@ -1,8 +1,8 @@
 //! Patches that are refused: they change nothing, and the log says why.
 
-use super::patching::{Row, expect_left, expect_rows, expect_rows_by, expect_rows_left};
+use super::patching::{Row, expect_cut, expect_rows, expect_rows_left};
 use cd_samples::Sample::{self, Blank, Damaged, Filled, Mode, Zeros};
-use cd_samples::{cut_image, repeated};
+use cd_samples::repeated;
 use std::test::Fail;
 
 const NO_BLOCK_1: &str = "line 2: refused: no block 1\napplied 0 refused 1\n";
@@ -50,7 +50,12 @@ fn a_range_past_the_end(rt: HostRuntime) -> Result<(), Fail> {
     )
 }
 
-const NO_BLOCK_0: &str = "line 2: refused: no block 0\napplied 0 refused 1\n";
+const IN_A_TAIL_ALONE: Row = Row {
+    script: "cdpatch 1\nset 0 5 41\n",
+    image: &[Blank],
+    log: "line 2: refused: no block 0\napplied 0 refused 1\n",
+    out: &[Blank],
+};
 
 const IN_THE_TAIL: &[&str] = &[
     "cdpatch 1\nset 0 2047 4141\n",
@@ -61,11 +66,15 @@ const IN_THE_TAIL: &[&str] = &[
 
 #[test]
 fn blocks_in_the_tail(rt: HostRuntime) -> Result<(), Fail> {
-    let set = "cdpatch 1\nset 0 5 41\n";
-    expect_left(&rt, rt.alloc(), 0, set, &[0; 2351], NO_BLOCK_0)?;
-    let cut = cut_image(rt.alloc(), &[Zeros(0), Zeros(1)], 4703)?;
+    expect_cut(&rt, rt.alloc(), &IN_A_TAIL_ALONE, 2351, 0, false)?;
     for script in IN_THE_TAIL {
-        expect_left(&rt, rt.alloc(), 0, script, &cut, NO_BLOCK_1)?;
+        let row = Row {
+            script,
+            image: &[Zeros(0), Zeros(1)],
+            log: NO_BLOCK_1,
+            out: &[Zeros(0), Zeros(1)],
+        };
+        expect_cut(&rt, rt.alloc(), &row, 4703, 0, false)?;
     }
     Ok(())
 }
@@ -88,26 +97,32 @@ const BELOW_THE_BASE: &[Row] = &[
 
 #[test]
 fn blocks_below_the_base(rt: HostRuntime) -> Result<(), Fail> {
-    expect_rows_by(&rt, rt.alloc(), BELOW_THE_BASE, 10, false)
+    for row in BELOW_THE_BASE {
+        expect_cut(&rt, rt.alloc(), row, usize::MAX, 10, false)?;
+    }
+    Ok(())
 }
 
-const TAIL_ALONE: &[(&str, &str)] = &[
-    (
-        "cdpatch 1\nset 9 0 41\n",
-        "line 2: refused: no block 9\napplied 0 refused 1\n",
-    ),
-    (
-        "cdpatch 1\nset 10 0 41\nset 9 2047 4141\n",
-        "line 3: refused: no block 9\nline 2: refused: no block 10\napplied 0 refused 2\n",
-    ),
+const TAIL_ALONE: &[Row] = &[
+    Row {
+        script: "cdpatch 1\nset 9 0 41\n",
+        image: &[Zeros(10)],
+        log: "line 2: refused: no block 9\napplied 0 refused 1\n",
+        out: &[Zeros(10)],
+    },
+    Row {
+        script: "cdpatch 1\nset 10 0 41\nset 9 2047 4141\n",
+        image: &[Zeros(10)],
+        log: "line 3: refused: no block 9\nline 2: refused: no block 10\napplied 0 refused 2\n",
+        out: &[Zeros(10)],
+    },
 ];
 
 #[test]
 fn a_tail_alone_behind_the_base(rt: HostRuntime) -> Result<(), Fail> {
     for size in &[0, 1, 2351] {
-        let image = cut_image(rt.alloc(), &[Zeros(10)], *size)?;
-        for (script, log) in TAIL_ALONE {
-            expect_left(&rt, rt.alloc(), 10, script, &image, log)?;
+        for row in TAIL_ALONE {
+            expect_cut(&rt, rt.alloc(), row, *size, 10, false)?;
         }
     }
     Ok(())

@@ -1,11 +1,10 @@
 //! How far an image is read ahead of what goes out.
 
-use super::calls::{ALL, Call, Ending, Limits, apply_within, passing};
+use super::calls::{ALL, Call, Ending, apply_within, passing};
 use super::patching::{count_written, has_failed, has_front, memory};
 use cd_image::Fault;
 use cd_samples::Sample::Zeros;
 use cd_samples::{Sample, image_of, script_of};
-use cd_script::Script;
 use std::alloc::Global;
 use std::test::Fail;
 
@@ -19,39 +18,48 @@ const LOG: &[u8] = b"line 2: applied\nline 3: applied\nline 4: applied\nline 5: 
 /// The image of those patches.
 const SIX: &[Sample] = &[Zeros(0), Zeros(1), Zeros(2), Zeros(3), Zeros(4), Zeros(5)];
 
-/// How a call ended, how many bytes it had sent by then, how many of the image it had not read, and whether it has told
-/// and read what it should.
+const FIVE: &[Sample] = &[Zeros(0), Zeros(1), Zeros(2), Zeros(3), Zeros(4)];
+
+/// A script on an image from block 0 on, how many bytes the output and the log may pass, and how many must be told.
+#[derive(Clone, Copy)]
+struct Stop<'a> {
+    image: &'a [Sample],
+    script: &'a str,
+    out: u64,
+    log: u64,
+    told: usize,
+}
+
+/// How a call ended, and how many bytes it had sent by then.
 #[derive(Clone, Copy)]
 struct Ahead {
     ending: Ending,
     sent: usize,
+    /// How many bytes of the image it had not read.
     left: usize,
+    /// Whether the log is right, and the image still gives its last bytes, all but three sectors of those not sent.
     is_right: bool,
 }
 
-/// Applies the script on an image from block 0 on. So many bytes should be told, and the image should still give its last
-/// bytes, all but three sectors of those that were not sent.
-fn reads_ahead(
-    alloc: Global,
-    image: &[u8],
-    script: &Script,
-    limits: &Limits,
-    told: usize,
-) -> Result<Ahead, Fail> {
+fn reads_ahead(alloc: Global, stop: &Stop) -> Result<Ahead, Fail> {
+    let image = image_of(alloc, stop.image)?;
+    let script = script_of(alloc, stop.script)?;
     let call = Call {
-        image,
-        script,
+        image: &image,
+        script: &script,
         base: 0,
         carry: false,
     };
     let mut space = memory(alloc, image.len())?;
-    let mut lines = [238; 128];
     let mut rest = memory(alloc, image.len())?;
-    let ending = apply_within(&call, limits, &mut space, &mut lines, &mut rest);
+    let mut lines = [238; 128];
+    let limits = passing(ALL, stop.out, stop.log);
+    let ending = apply_within(&call, &limits, &mut space, &mut lines, &mut rest);
     let sent = count_written(&space);
-    let left = ending.left.ok_or("the image has failed")?;
+    let left = ending.left.unwrap_or(0);
     let first = image.len().saturating_sub(left);
-    let is_right = has_front(&lines, LOG, told)
+    let is_right = has_front(&lines, LOG, stop.told)
+        && ending.left.is_some()
         && image.get(first..) == rest.get(..left)
         && first <= sent.saturating_add(7056);
     Ok(Ahead {
@@ -62,14 +70,17 @@ fn reads_ahead(
     })
 }
 
-const FIVE: &[Sample] = &[Zeros(0), Zeros(1), Zeros(2), Zeros(3), Zeros(4)];
-
 #[test]
 fn an_output_that_takes_nothing(rt: HostRuntime) -> Result<(), Fail> {
-    let image = image_of(rt.alloc(), FIVE)?;
-    for text in ["cdpatch 1\n", "cdpatch 1\nset 4 0 41\n"] {
-        let script = script_of(rt.alloc(), text)?;
-        let ahead = reads_ahead(rt.alloc(), &image, &script, &passing(ALL, 0, ALL), 0)?;
+    for script in &["cdpatch 1\n", "cdpatch 1\nset 4 0 41\n"] {
+        let stop = Stop {
+            image: FIVE,
+            script,
+            out: 0,
+            log: ALL,
+            told: 0,
+        };
+        let ahead = reads_ahead(rt.alloc(), &stop)?;
         let is_left = ahead.is_right && ahead.sent == 0 && ahead.left >= 4704;
         assert!(rt; is_left && ahead.ending.answer == Err(Fault::Write));
     }
@@ -78,13 +89,16 @@ fn an_output_that_takes_nothing(rt: HostRuntime) -> Result<(), Fail> {
 
 #[test]
 fn three_sectors_are_in_hand_where_the_output_fails(rt: HostRuntime) -> Result<(), Fail> {
-    let image = image_of(rt.alloc(), SIX)?;
-    let script = script_of(rt.alloc(), SCRIPT)?;
     for count in 0..56usize {
         let sent = count * 252;
-        let limits = passing(ALL, sent as u64, ALL);
-        let told = (sent / 2352).min(4) * 16 + 16;
-        let ahead = reads_ahead(rt.alloc(), &image, &script, &limits, told)?;
+        let stop = Stop {
+            image: SIX,
+            script: SCRIPT,
+            out: sent as u64,
+            log: ALL,
+            told: (sent / 2352).min(4) * 16 + 16,
+        };
+        let ahead = reads_ahead(rt.alloc(), &stop)?;
         let is_left = ahead.is_right && ahead.left >= (14_112 - sent).saturating_sub(7056);
         assert!(rt;
             is_left && ahead.ending.answer == Err(Fault::Write),
@@ -96,15 +110,19 @@ fn three_sectors_are_in_hand_where_the_output_fails(rt: HostRuntime) -> Result<(
 
 #[test]
 fn three_sectors_are_in_hand_where_the_log_fails(rt: HostRuntime) -> Result<(), Fail> {
-    let image = image_of(rt.alloc(), SIX)?;
-    let script = script_of(rt.alloc(), SCRIPT)?;
-    for count in 0..100usize {
-        let limits = passing(ALL, ALL, count as u64);
-        let ahead = reads_ahead(rt.alloc(), &image, &script, &limits, count)?;
+    for told in 0..100usize {
+        let stop = Stop {
+            image: SIX,
+            script: SCRIPT,
+            out: ALL,
+            log: told as u64,
+            told,
+        };
+        let ahead = reads_ahead(rt.alloc(), &stop)?;
         let is_counted = ahead.is_right && has_failed(&ahead.ending, 0, 0, 1);
         assert!(rt;
             is_counted && ahead.ending.answer == Err(Fault::Log),
-            "{count}"
+            "{told}"
         );
     }
     Ok(())
