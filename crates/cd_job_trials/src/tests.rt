@@ -1,12 +1,13 @@
 //! Whole calls, at concrete sources and sinks.
 
 mod addresses;
+mod calls;
 mod carrying;
 mod command_line;
+mod failing;
 mod hosts;
 mod patching;
-mod run;
+mod reports;
 mod script;
-mod statuses;
+mod streams;
 mod words;
-mod worked;

@@ -1,144 +1,127 @@
 //! Scripts taken on damaged images with and without damage carried: the log, the status and the patched image.
 
-use super::run::expect;
-use super::statuses::zeros_at;
+use super::calls::{Call, NO_LIMITS, Row, applies, expect, expect_rows, expect_rows_carried};
 use cd_image::{SliceSink, SliceSource};
-use cd_jobs::{run_apply, run_audit, run_check};
-use cd_script::{MAX_TEXT, Script, parse};
-use cd_sector::{Sector, encode};
-use std::alloc::Global;
-use std::process::Abort;
+use cd_jobs::run_audit;
+use cd_samples::Sample::{Damaged, Filled, Zeros};
+use cd_samples::{flipped, is_text, script_of, sector_of, with_added};
 use std::test::Fail;
 
 const APPLIED: &str = "line 2: applied\napplied 1 refused 0\n";
 
 const BOTH_APPLIED: &str = "line 2: applied\nline 3: applied\napplied 2 refused 0\n";
 
-/// Block 0 with one user byte, and else zeros.
-fn block_with(offset: usize, byte: u8) -> Sector {
-    let mut user = [0; 2048];
-    if offset < 2048 {
-        user[offset] = byte;
-    }
-    encode([0x00, 0x02, 0x00], &user)
-}
-
-/// A sector with the lowest bit of a byte flipped.
-fn flipped(sector: Sector, place: usize) -> Sector {
-    let mut other = sector;
-    if place < 2352 {
-        other.put(place, sector.byte(place) ^ 0x01);
-    }
-    other
-}
-
-/// The script of these lines.
-fn script_of(rt: &impl Abort, alloc: Global, lines: &str) -> Result<Script, Fail> {
-    let text = format!(in alloc; "cdpatch 1\n{lines}\n")?;
-    assert!(rt; text.as_str().len() <= MAX_TEXT);
-    Ok(parse(alloc, text.as_bytes())?)
-}
-
-/// Takes a script on one sector in both ways, and looks at the log, the status and what went out.
-fn assert_taken(
-    rt: &impl Abort,
-    script: &Script,
-    carry: bool,
-    before: &Sector,
-    log: &str,
-    after: &Sector,
-) {
-    let refused = log.contains("refused:");
-    let want = if refused { 1 } else { 0 };
-    let mut lines = [0; 128];
-    let mut sent = [0; 2352];
-    let status = run_apply(
-        &mut SliceSource::new(before.bytes()),
-        script,
-        0,
-        carry,
-        &mut SliceSink::new(&mut sent),
-        &mut SliceSink::new(&mut lines),
-    );
-    assert_eq!(rt; status, want, "{log}");
-    expect(rt, &lines, log, "");
-    assert!(rt; sent.as_slice() == after.bytes().as_slice(), "{log}");
-    let mut lines = [0; 128];
-    let mut image = SliceSource::new(before.bytes());
-    let status = run_check(
-        &mut image,
-        script,
-        0,
-        carry,
-        &mut SliceSink::new(&mut lines),
-    );
-    assert_eq!(rt; status, want, "{log}");
-    expect(rt, &lines, log, "");
-}
-
 #[test]
 fn a_damaged_byte_of_the_parity(rt: HostRuntime) -> Result<(), Fail> {
-    let before = flipped(zeros_at(0), 2351);
-    let script = script_of(&rt, rt.alloc(), "set 0 0 41")?;
-    let after = flipped(block_with(0, 0x41), 2351);
-    assert_taken(&rt, &script, true, &before, APPLIED, &after);
-    let damaged = "line 2: refused: block 0 is damaged\napplied 0 refused 1\n";
-    assert_taken(&rt, &script, false, &before, damaged, &before);
-    let script = script_of(&rt, rt.alloc(), "fill 0 1 2048 FF")?;
-    let missing = "line 2: refused: no block 1\napplied 0 refused 1\n";
-    assert_taken(&rt, &script, true, &before, missing, &before);
-    let script = script_of(&rt, rt.alloc(), "set 0 0 41")?;
-    let after = block_with(0, 0x41);
-    assert_taken(&rt, &script, true, &zeros_at(0), APPLIED, &after);
-    assert_taken(&rt, &script, false, &zeros_at(0), APPLIED, &after);
-    Ok(())
+    const SET: &str = "cdpatch 1\nset 0 0 41\n";
+    let script = script_of(rt.alloc(), SET)?;
+    let before = sector_of(&Damaged(0, 2351, 1));
+    let call = Call {
+        image: before.bytes(),
+        script: &script,
+        base: 0,
+        carry: true,
+    };
+    let out = flipped(&sector_of(&Filled(0, 0, 1, 65)), 2351);
+    expect(&rt, rt.alloc(), &call, 0, APPLIED, out.bytes())?;
+    expect_rows_carried(
+        &rt,
+        rt.alloc(),
+        &[
+            Row {
+                script: "cdpatch 1\nfill 0 1 2048 FF\n",
+                image: &[Damaged(0, 2351, 1)],
+                status: 1,
+                log: "line 2: refused: no block 1\napplied 0 refused 1\n",
+                out: &[Damaged(0, 2351, 1)],
+            },
+            Row {
+                script: SET,
+                image: &[Zeros(0)],
+                status: 0,
+                log: APPLIED,
+                out: &[Filled(0, 0, 1, 65)],
+            },
+        ],
+    )?;
+    expect_rows(
+        &rt,
+        rt.alloc(),
+        &[
+            Row {
+                script: SET,
+                image: &[Damaged(0, 2351, 1)],
+                status: 1,
+                log: "line 2: refused: block 0 is damaged\napplied 0 refused 1\n",
+                out: &[Damaged(0, 2351, 1)],
+            },
+            Row {
+                script: SET,
+                image: &[Zeros(0)],
+                status: 0,
+                log: APPLIED,
+                out: &[Filled(0, 0, 1, 65)],
+            },
+        ],
+    )
 }
 
 /// The damaged byte is put right, and what it had made wrong stays so: its EDC, a column and a diagonal.
 #[test]
 fn a_damaged_user_byte_put_right(rt: HostRuntime) -> Result<(), Fail> {
-    let before = flipped(zeros_at(0), 2062);
-    let script = script_of(&rt, rt.alloc(), "set 0 2046 00")?;
-    let mut lines = [0; 128];
+    const DIFFERENCES: &[(usize, u8)] = &[(2064, 0x00), (2065, 0x90), (2066, 0x01), (2067, 0x90)];
+    const FOUND: &str = "0 edc p=1 q=1\nsectors 1 mode1 1 damaged 1 tail 0\n";
+    let script = script_of(rt.alloc(), "cdpatch 1\nset 0 2046 00\n")?;
+    let before = sector_of(&Damaged(0, 2062, 1));
+    let call = Call {
+        image: before.bytes(),
+        script: &script,
+        base: 0,
+        carry: true,
+    };
+    let mut after = sector_of(&Zeros(0));
+    for (place, difference) in DIFFERENCES {
+        after = with_added(&after, *place, *difference);
+    }
     let mut sent = [0; 2352];
-    let mut out = SliceSink::new(&mut sent);
-    let mut log = SliceSink::new(&mut lines);
-    let mut image = SliceSource::new(before.bytes());
-    let status = run_apply(&mut image, &script, 0, true, &mut out, &mut log);
-    assert_eq!(rt; status, 0);
-    expect(&rt, &lines, APPLIED, "");
-    let sound = zeros_at(0);
-    let wanted = sound.bytes();
-    for (place, d) in [
-        (2064usize, 0x00u8),
-        (2065, 0x90),
-        (2066, 0x01),
-        (2067, 0x90),
-    ] {
-        assert_eq!(rt; sent[place], wanted[place] ^ d, "byte {place}");
-    }
-    for (place, (new, old)) in sent.iter().zip(wanted).enumerate().take(2064) {
-        assert_eq!(rt; *new, *old, "byte {place}");
-    }
+    let mut lines = [0; 128];
+    let status = applies(&call, &NO_LIMITS, &mut sent, &mut lines).status;
+    let is_sent = sent.get(..2068) == after.bytes().get(..2068);
+    assert!(rt; status == 0 && is_sent && is_text(&lines, APPLIED));
     let mut told = [0; 128];
     let mut image = SliceSource::new(&sent);
     let status = run_audit(&mut image, 0, &mut SliceSink::new(&mut told));
-    assert_eq!(rt; status, 1);
-    let found = "0 edc p=1 q=1\nsectors 1 mode1 1 damaged 1 tail 0\n";
-    expect(&rt, &told, found, "");
+    assert!(rt; status == 1 && is_text(&told, FOUND));
     Ok(())
 }
 
 #[test]
 fn a_damaged_user_byte(rt: HostRuntime) -> Result<(), Fail> {
-    let before = flipped(zeros_at(0), 2062);
-    let script = script_of(&rt, rt.alloc(), "set 0 2046 00\nset 0 2046 01")?;
-    assert_taken(&rt, &script, true, &before, BOTH_APPLIED, &before);
-    let script = script_of(&rt, rt.alloc(), "set 0 2046 41 was 00")?;
-    let log = "line 2: refused: old bytes differ at block 0 offset 2046\napplied 0 refused 1\n";
-    assert_taken(&rt, &script, true, &before, log, &before);
-    let script = script_of(&rt, rt.alloc(), "rebuild 0")?;
-    let after = block_with(2046, 0x01);
-    assert_taken(&rt, &script, true, &before, APPLIED, &after);
-    Ok(())
+    expect_rows_carried(
+        &rt,
+        rt.alloc(),
+        &[
+            Row {
+                script: "cdpatch 1\nset 0 2046 00\nset 0 2046 01\n",
+                image: &[Damaged(0, 2062, 1)],
+                status: 0,
+                log: BOTH_APPLIED,
+                out: &[Damaged(0, 2062, 1)],
+            },
+            Row {
+                script: "cdpatch 1\nset 0 2046 41 was 00\n",
+                image: &[Damaged(0, 2062, 1)],
+                status: 1,
+                log: "line 2: refused: old bytes differ at block 0 offset 2046\napplied 0 refused 1\n",
+                out: &[Damaged(0, 2062, 1)],
+            },
+            Row {
+                script: "cdpatch 1\nrebuild 0\n",
+                image: &[Damaged(0, 2062, 1)],
+                status: 0,
+                log: APPLIED,
+                out: &[Filled(0, 2046, 2047, 1)],
+            },
+        ],
+    )
 }

@@ -1,220 +1,219 @@
-use cd_command::{Job, LineFault, MAX_BASE, NO_MEMORY, job_of, line_of};
+//! The command line: what its words ask for, what refuses them, and help.
+
+use cd_command::{Job, LineFault, NO_MEMORY, job_of, line_of};
 use std::alloc::{AllocError, Global};
-use std::test::Fail;
+use std::process::Abort;
 
-fn words_of(alloc: Global, words: &[&str]) -> Result<Vec<String>, AllocError> {
-    let mut all = Vec::new(alloc);
-    for word in words {
-        all.push(String::from_str(alloc, word)?)?;
+/// The words of a line.
+pub fn words_of(alloc: Global, line: &str) -> Result<Vec<String>, AllocError> {
+    let mut words = Vec::new(alloc);
+    for word in line.split_whitespace() {
+        words.push(String::from_str(alloc, word)?)?;
     }
-    Ok(all)
+    Ok(words)
 }
 
-// How a line ends where damage is carried.
-fn carried(carry: bool) -> &'static str {
-    if carry { ", carried" } else { "" }
-}
+/// What is asked for: the command, its image, its script and its output, if it has them, the base, and whether damage
+/// is carried.
+type Asked<'a> = (&'a str, &'a str, &'a str, &'a str, u32, bool);
 
-// The job as a line: the command, its texts, the base, and whether damage is carried.
-fn shown(alloc: Global, job: &Job) -> Result<String, Fail> {
-    let text = match job {
-        Job::List { image, base } => format!(in alloc; "list {image} from {base}")?,
-        Job::Audit { image, base } => format!(in alloc; "audit {image} from {base}")?,
+fn asked(job: &Job) -> Asked<'_> {
+    match job {
+        Job::List { image, base } => ("list", image, "", "", *base, false),
+        Job::Audit { image, base } => ("audit", image, "", "", *base, false),
         Job::Check {
             image,
             script,
             base,
             carry,
-        } => {
-            let end = carried(*carry);
-            format!(in alloc; "check {image} by {script} from {base}{end}")?
-        }
+        } => ("check", image, script, "", *base, *carry),
         Job::Apply {
             image,
             script,
             out,
             base,
             carry,
-        } => {
-            let end = carried(*carry);
-            format!(in alloc; "apply {image} by {script} to {out} from {base}{end}")?
-        }
-    };
-    Ok(text)
-}
-
-// What the words come to: the job, or what refuses them.
-fn answer(alloc: Global, words: &[&str]) -> Result<String, Fail> {
-    let words = words_of(alloc, words)?;
-    match job_of(alloc, words) {
-        Ok(job) => shown(alloc, &job),
-        Err(LineFault::Parser(error)) => {
-            let status = LineFault::Parser(error).status();
-            Ok(format!(in alloc; "parser, {status}")?)
-        }
-        Err(LineFault::NoMemory) => Ok(format!(in alloc; "no memory")?),
+        } => ("apply", image, script, out, *base, *carry),
     }
 }
 
-#[test]
-fn gives_listings_and_audits(rt: HostRuntime) -> Result<(), Fail> {
-    let cases: [(&[&str], &str); 9] = [
-        (&[], "list - from 0"),
-        (&["list", "x"], "list x from 0"),
-        (&["list", "-", "--base", "449849"], "list - from 449849"),
-        (&["list", "--base", "16", "a.img"], "list a.img from 16"),
-        (&["list", "a.img", "--base=16"], "list a.img from 16"),
-        (&["list", "--", "--base"], "list --base from 0"),
-        (&["audit", "x"], "audit x from 0"),
-        (&["audit", "-", "--base", "449849"], "audit - from 449849"),
-        (&["audit", "--base", "16", "a.img"], "audit a.img from 16"),
-    ];
-    for (words, want) in cases {
-        assert_eq!(rt; answer(rt.alloc(), words)?.as_str(), want);
+/// Each line asks for its job.
+fn expect_jobs(rt: &impl Abort, alloc: Global, rows: &[(&str, Asked)]) -> Result<(), AllocError> {
+    for (line, want) in rows {
+        let is_asked = match &job_of(alloc, words_of(alloc, line)?) {
+            Ok(job) => asked(job) == *want,
+            Err(_) => false,
+        };
+        assert!(rt; is_asked, "{line}");
     }
     Ok(())
 }
 
 #[test]
-fn gives_patchings(rt: HostRuntime) -> Result<(), Fail> {
-    let cases: [(&[&str], &str); 12] = [
-        (&["check", "a", "b"], "check a by b from 0"),
+fn gives_listings_and_audits(rt: HostRuntime) -> Result<(), AllocError> {
+    const ROWS: &[(&str, Asked)] = &[
+        ("", ("list", "-", "", "", 0, false)),
+        ("list x", ("list", "x", "", "", 0, false)),
         (
-            &["check", "a", "b", "--base", "449849"],
-            "check a by b from 449849",
+            "list - --base 449849",
+            ("list", "-", "", "", 449_849, false),
+        ),
+        ("list --base 16 a.img", ("list", "a.img", "", "", 16, false)),
+        ("list a.img --base=16", ("list", "a.img", "", "", 16, false)),
+        ("list -- --base", ("list", "--base", "", "", 0, false)),
+        ("audit x", ("audit", "x", "", "", 0, false)),
+        (
+            "audit - --base 449849",
+            ("audit", "-", "", "", 449_849, false),
         ),
         (
-            &["check", "--base", "7", "-", "--", "-"],
-            "check - by - from 7",
-        ),
-        (&["apply", "a", "b", "c"], "apply a by b to c from 0"),
-        (
-            &["apply", "a", "--base=449849", "b", "c"],
-            "apply a by b to c from 449849",
-        ),
-        (
-            &["apply", "a", "b", "--base", "1", "c"],
-            "apply a by b to c from 1",
-        ),
-        (
-            &["apply", "a", "a", "a", "--base", "0"],
-            "apply a by a to a from 0",
-        ),
-        (
-            &["check", "--carry", "a", "b"],
-            "check a by b from 0, carried",
-        ),
-        (
-            &["check", "a", "b", "--base", "7", "--carry"],
-            "check a by b from 7, carried",
-        ),
-        (
-            &["apply", "a", "--carry", "b", "c"],
-            "apply a by b to c from 0, carried",
-        ),
-        (
-            &["apply", "--base=1", "--carry", "a", "b", "c"],
-            "apply a by b to c from 1, carried",
-        ),
-        (
-            &["apply", "a", "b", "--", "--carry"],
-            "apply a by b to --carry from 0",
+            "audit --base 16 a.img",
+            ("audit", "a.img", "", "", 16, false),
         ),
     ];
-    for (words, want) in cases {
-        assert_eq!(rt; answer(rt.alloc(), words)?.as_str(), want);
-    }
-    Ok(())
+    expect_jobs(&rt, rt.alloc(), ROWS)
 }
 
 #[test]
-fn refuses_words(rt: HostRuntime) -> Result<(), Fail> {
-    let cases: [&[&str]; 27] = [
-        &["list", "-", "--base", "450000"],
-        &["list", "-", "--base", "449850"],
-        &["list", "-", "--base", "-1"],
-        &["list", "-", "--base", "x"],
-        &["list"],
-        &["list", "a", "b"],
-        &["frobnicate", "x"],
-        &["audit"],
-        &["audit", "a", "b"],
-        &["audit", "-", "--base", "449850"],
-        &["check", "a"],
-        &["check", "a", "b", "c"],
-        &["check", "a", "b", "--base", "449850"],
-        &["apply", "a", "b"],
-        &["apply", "a", "b", "c", "d"],
-        &["apply", "a", "b", "c", "--base", "449850"],
-        &["apply", "a", "b", "c", "--base"],
-        &["list", "-", "--carry"],
-        &["audit", "-", "--carry"],
-        &["--carry"],
-        &["check", "a", "b", "--carry=true"],
-        &["check", "a", "b", "--carry", "--carry"],
-        &["Apply", "a", "b", "c"],
-        &["help"],
-        &["--version"],
-        &["-V"],
-        &["list", "x", "--version"],
+fn gives_patchings(rt: HostRuntime) -> Result<(), AllocError> {
+    const ROWS: &[(&str, Asked)] = &[
+        ("check a b", ("check", "a", "b", "", 0, false)),
+        (
+            "check a b --base 449849",
+            ("check", "a", "b", "", 449_849, false),
+        ),
+        ("check --base 7 - -- -", ("check", "-", "-", "", 7, false)),
+        ("apply a b c", ("apply", "a", "b", "c", 0, false)),
+        (
+            "apply a --base=449849 b c",
+            ("apply", "a", "b", "c", 449_849, false),
+        ),
+        ("apply a b --base 1 c", ("apply", "a", "b", "c", 1, false)),
+        ("apply a a a --base 0", ("apply", "a", "a", "a", 0, false)),
+        ("check --carry a b", ("check", "a", "b", "", 0, true)),
+        (
+            "check a b --base 7 --carry",
+            ("check", "a", "b", "", 7, true),
+        ),
+        ("apply a --carry b c", ("apply", "a", "b", "c", 0, true)),
+        (
+            "apply --base=1 --carry a b c",
+            ("apply", "a", "b", "c", 1, true),
+        ),
+        (
+            "apply a b -- --carry",
+            ("apply", "a", "b", "--carry", 0, false),
+        ),
     ];
-    for words in cases {
-        assert_eq!(rt; answer(rt.alloc(), words)?.as_str(), "parser, 2");
-    }
-    Ok(())
+    expect_jobs(&rt, rt.alloc(), ROWS)
 }
 
-// Whether the words are answered by help that has this text.
-fn help_has(alloc: Global, words: &[&str], part: &str) -> Result<bool, AllocError> {
-    let words = words_of(alloc, words)?;
-    match job_of(alloc, words) {
-        Err(fault) => {
-            let text = fault.parser_text(alloc);
-            let line = line_of(text.as_deref());
-            let ends_well = fault.status() == 0 && fault.status_with(text.as_deref()) == 0;
-            Ok(ends_well && line.contains("Usage: cdpatch") && line.contains(part))
-        }
-        Ok(_) => Ok(false),
+/// Whether the parser refuses the words, with the status 2.
+fn is_refusal(fault: &LineFault) -> bool {
+    match fault {
+        LineFault::Parser(_) => fault.status() == 2,
+        LineFault::NoMemory => false,
     }
-}
-
-// Whether the words are answered by help.
-fn is_help(alloc: Global, words: &[&str]) -> Result<bool, AllocError> {
-    help_has(alloc, words, "")
 }
 
 #[test]
-fn answers_by_help(rt: HostRuntime) -> Result<(), Fail> {
-    let alloc = rt.alloc();
-    assert!(rt; is_help(alloc, &["--help"])?);
-    assert!(rt; is_help(alloc, &["list", "--help"])?);
-    assert!(rt; is_help(alloc, &["audit", "--help"])?);
-    assert!(rt; is_help(alloc, &["check", "--help"])?);
-    assert!(rt; is_help(alloc, &["apply", "-h"])?);
-    assert!(rt; is_help(alloc, &["-h"])?);
-    assert!(rt; !is_help(alloc, &["list"])?);
+fn refuses_words(rt: HostRuntime) -> Result<(), AllocError> {
+    const LINES: &[&str] = &[
+        "list - --base 450000",
+        "list - --base 449850",
+        "list - --base -1",
+        "list - --base x",
+        "list",
+        "list a b",
+        "frobnicate x",
+        "audit",
+        "audit a b",
+        "audit - --base 449850",
+        "check a",
+        "check a b c",
+        "check a b --base 449850",
+        "apply a b",
+        "apply a b c d",
+        "apply a b c --base 449850",
+        "apply a b c --base",
+        "list - --carry",
+        "audit - --carry",
+        "--carry",
+        "check a b --carry=true",
+        "check a b --carry --carry",
+        "Apply a b c",
+        "help",
+        "--version",
+        "-V",
+        "list x --version",
+    ];
+    for line in LINES {
+        let is_refused = match &job_of(rt.alloc(), words_of(rt.alloc(), line)?) {
+            Err(fault) => is_refusal(fault),
+            Ok(_) => false,
+        };
+        assert!(rt; is_refused, "{line}");
+    }
+    Ok(())
+}
+
+/// Whether a fault is told by help that has this text.
+fn is_help(alloc: Global, fault: &LineFault, part: &str) -> bool {
+    let text = fault.parser_text(alloc);
+    let line = line_of(text.as_deref());
+    let is_answered = fault.status() == 0 && fault.status_with(text.as_deref()) == 0;
+    is_answered && line.contains("Usage: cdpatch") && line.contains(part)
+}
+
+/// Whether each line is answered by help that has its text.
+fn expect_help(
+    rt: &impl Abort,
+    alloc: Global,
+    rows: &[(&str, &str, bool)],
+) -> Result<(), AllocError> {
+    for (line, part, want) in rows {
+        let has = match &job_of(alloc, words_of(alloc, line)?) {
+            Err(fault) => is_help(alloc, fault, part),
+            Ok(_) => false,
+        };
+        assert!(rt; has == *want, "{line}");
+    }
     Ok(())
 }
 
 #[test]
-fn help_tells_of_the_options(rt: HostRuntime) -> Result<(), Fail> {
-    let alloc = rt.alloc();
-    let most = format!(in alloc; "at most {MAX_BASE}")?;
-    for command in ["list", "audit", "check", "apply"] {
-        assert!(rt; help_has(alloc, &[command, "--help"], most.as_str())?);
-    }
-    for (command, carries) in [("list", false), ("check", true), ("apply", true)] {
-        let has = help_has(alloc, &[command, "--help"], "With --carry no sector")?;
-        assert!(rt; has == carries);
-    }
-    Ok(())
+fn answers_by_help(rt: HostRuntime) -> Result<(), AllocError> {
+    const ROWS: &[(&str, &str, bool)] = &[
+        ("--help", "", true),
+        ("list --help", "", true),
+        ("audit --help", "", true),
+        ("check --help", "", true),
+        ("apply -h", "", true),
+        ("-h", "", true),
+        ("list", "", false),
+    ];
+    expect_help(&rt, rt.alloc(), ROWS)
+}
+
+#[test]
+fn help_tells_of_the_options(rt: HostRuntime) -> Result<(), AllocError> {
+    const ROWS: &[(&str, &str, bool)] = &[
+        ("list --help", "at most 449849", true),
+        ("audit --help", "at most 449849", true),
+        ("check --help", "at most 449849", true),
+        ("apply --help", "at most 449849", true),
+        ("list --help", "With --carry no sector", false),
+        ("check --help", "With --carry no sector", true),
+        ("apply --help", "With --carry no sector", true),
+    ];
+    expect_help(&rt, rt.alloc(), ROWS)
 }
 
 #[test]
 fn prints_want_of_memory(rt: HostRuntime) {
     let fault = LineFault::NoMemory;
     let text = fault.parser_text(rt.alloc());
-    assert!(rt; fault.status() == 2 && fault.status_with(text.as_deref()) == 2);
-    assert!(rt; line_of(text.as_deref()) == "cdpatch: no memory\n");
-    assert!(rt; NO_MEMORY == "cdpatch: no memory\n");
+    let is_failed = fault.status() == 2 && fault.status_with(text.as_deref()) == 2;
+    let line = line_of(text.as_deref());
+    assert!(rt; is_failed && line == "cdpatch: no memory\n" && NO_MEMORY == line);
 }

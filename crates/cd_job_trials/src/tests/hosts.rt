@@ -2,11 +2,14 @@
 
 ghost use Rattle.std.specs.Prelude.{⊤};
 
-use super::script::is_line;
-use super::statuses::{Unflushed, joined, zeros_at};
+use super::command_line::words_of;
+use super::streams::Unflushed;
 use cd_image::{SliceSink, SliceSource, ToWrite};
 use cd_jobs::{Host, NoFile, do_words};
-use std::test::Fail;
+use cd_samples::Sample::Zeros;
+use cd_samples::{image_of, is_text};
+use std::alloc::{AllocError, Global};
+use std::process::Abort;
 
 /// Has an image and a script, makes a file that cannot pass anything on, and writes down what it is asked for. The
 /// question with the number `failing` finds no memory.
@@ -63,99 +66,121 @@ impl<'a> Host for Memory<'a> {
     }
 }
 
-/// Whether the words, at a host of which one question finds no memory, have this status, print this, and ask so.
-fn ends(
-    rt: &HostRuntime,
-    words: &str,
-    failing: u32,
-    status: u8,
-    text: &str,
-    asked: &str,
-) -> Result<bool, Fail> {
-    let image = joined(rt.alloc(), &[zeros_at(0), zeros_at(1)])?;
-    let mut host = Memory {
-        image: &image,
-        asked: String::new(rt.alloc()),
-        count: 0,
-        failing,
-    };
-    let mut all = Vec::new(rt.alloc());
-    for word in words.split(' ').filter(|word| !word.is_empty()) {
-        all.push(String::from_str(rt.alloc(), word)?)?;
-    }
-    let mut space = [0; 128];
-    let mut out = SliceSink::new(&mut space);
-    let answer = do_words(rt.alloc(), &mut host, all, &mut out);
-    Ok(answer == status && is_line(&space, text) && host.asked.as_str() == asked)
-}
-
-#[test]
-fn questions_in_order(rt: HostRuntime) -> Result<(), Fail> {
-    let listed = "0-1 mode1\nsectors 2 tail 0\n";
-    let audited = "sectors 2 mode1 2 damaged 0 tail 0\n";
-    let applied = "line 2: applied\napplied 1 refused 0\n";
-    let unwritten = "line 2: applied\napplied 1 refused 0\ncdpatch: writing the output failed\n";
-    let no_script = "cdpatch: cannot read the script\n";
-    let no_image = "cdpatch: cannot open the image\n";
-    let no_output = "cdpatch: cannot make the output file\n";
-    for (words, status, text, asked) in [
-        ("", 0, listed, " take"),
-        ("list -", 0, listed, " take"),
-        ("list image", 0, listed, " read image"),
-        ("audit -", 0, audited, " take"),
-        ("audit image", 0, audited, " read image"),
-        ("check image script", 0, applied, " read script read image"),
-        ("check - script", 0, applied, " read script take"),
-        (
-            "apply image script out",
-            2,
-            unwritten,
-            " read script read image make out",
-        ),
-        (
-            "apply - script out",
-            2,
-            unwritten,
-            " read script take make out",
-        ),
-        ("list script2", 2, no_image, " read script2"),
-        ("check image -", 2, no_script, " read -"),
-        ("apply image none out", 2, no_script, " read none"),
-        (
-            "apply none script out",
-            2,
-            no_image,
-            " read script read none",
-        ),
-        (
-            "apply image script -",
-            2,
-            no_output,
-            " read script read image make -",
-        ),
-    ] {
-        assert!(rt; ends(&rt, words, 0, status, text, asked)?, "{words}");
+/// Gives the words of each row to the program, at a host of which one question finds no memory: what is asked, the
+/// status, and what is printed.
+fn expect_rows(
+    rt: &impl Abort,
+    alloc: Global,
+    rows: &[(&str, u32, &str, u8, &str)],
+) -> Result<(), AllocError> {
+    let image = image_of(alloc, &[Zeros(0), Zeros(1)])?;
+    for (words, failing, asked, status, text) in rows {
+        let mut host = Memory {
+            image: &image,
+            asked: String::new(alloc),
+            count: 0,
+            failing: *failing,
+        };
+        let mut space = [0; 128];
+        let mut out = SliceSink::new(&mut space);
+        let answer = do_words(alloc, &mut host, words_of(alloc, words)?, &mut out);
+        let is_asked = host.asked.as_str() == *asked;
+        assert!(rt;
+            is_asked && answer == *status && is_text(&space, text),
+            "{words}"
+        );
     }
     Ok(())
 }
 
 #[test]
-fn buffers_without_memory(rt: HostRuntime) -> Result<(), Fail> {
-    for (words, failing, asked) in [
-        ("", 1, " take"),
-        ("audit image", 1, " read image"),
-        ("check image script", 1, " read script"),
-        ("check image script", 2, " read script read image"),
-        ("apply image script out", 1, " read script"),
-        ("apply image script out", 2, " read script read image"),
+fn questions_in_order(rt: HostRuntime) -> Result<(), AllocError> {
+    const LISTED: &str = "0-1 mode1\nsectors 2 tail 0\n";
+    const AUDITED: &str = "sectors 2 mode1 2 damaged 0 tail 0\n";
+    const APPLIED: &str = "line 2: applied\napplied 1 refused 0\n";
+    const UNWRITTEN: &str =
+        "line 2: applied\napplied 1 refused 0\ncdpatch: writing the output failed\n";
+    const NO_SCRIPT: &str = "cdpatch: cannot read the script\n";
+    const NO_IMAGE: &str = "cdpatch: cannot open the image\n";
+    const NO_OUTPUT: &str = "cdpatch: cannot make the output file\n";
+    const ROWS: &[(&str, u32, &str, u8, &str)] = &[
+        ("", 0, " take", 0, LISTED),
+        ("list -", 0, " take", 0, LISTED),
+        ("list image", 0, " read image", 0, LISTED),
+        ("audit -", 0, " take", 0, AUDITED),
+        ("audit image", 0, " read image", 0, AUDITED),
+        (
+            "check image script",
+            0,
+            " read script read image",
+            0,
+            APPLIED,
+        ),
+        ("check - script", 0, " read script take", 0, APPLIED),
+        (
+            "apply image script out",
+            0,
+            " read script read image make out",
+            2,
+            UNWRITTEN,
+        ),
+        (
+            "apply - script out",
+            0,
+            " read script take make out",
+            2,
+            UNWRITTEN,
+        ),
+        ("list script2", 0, " read script2", 2, NO_IMAGE),
+        ("check image -", 0, " read -", 2, NO_SCRIPT),
+        ("apply image none out", 0, " read none", 2, NO_SCRIPT),
+        (
+            "apply none script out",
+            0,
+            " read script read none",
+            2,
+            NO_IMAGE,
+        ),
+        (
+            "apply image script -",
+            0,
+            " read script read image make -",
+            2,
+            NO_OUTPUT,
+        ),
+    ];
+    expect_rows(&rt, rt.alloc(), ROWS)
+}
+
+#[test]
+fn buffers_without_memory(rt: HostRuntime) -> Result<(), AllocError> {
+    const NO_MEMORY: &str = "cdpatch: no memory\n";
+    const ROWS: &[(&str, u32, &str, u8, &str)] = &[
+        ("", 1, " take", 2, NO_MEMORY),
+        ("audit image", 1, " read image", 2, NO_MEMORY),
+        ("check image script", 1, " read script", 2, NO_MEMORY),
+        (
+            "check image script",
+            2,
+            " read script read image",
+            2,
+            NO_MEMORY,
+        ),
+        ("apply image script out", 1, " read script", 2, NO_MEMORY),
+        (
+            "apply image script out",
+            2,
+            " read script read image",
+            2,
+            NO_MEMORY,
+        ),
         (
             "apply image script out",
             3,
             " read script read image make out",
+            2,
+            NO_MEMORY,
         ),
-    ] {
-        let text = "cdpatch: no memory\n";
-        assert!(rt; ends(&rt, words, failing, 2, text, asked)?, "{words}");
-    }
-    Ok(())
+    ];
+    expect_rows(&rt, rt.alloc(), ROWS)
 }

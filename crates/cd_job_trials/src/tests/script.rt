@@ -1,26 +1,13 @@
 //! Scripts: the lines of their faults, and how a script's file is read.
 
+ghost use Rattle.std.specs.Prelude.{◌<◌};
+
 use cd_image::{FailAfter, Short, Sink, SliceSink, SliceSource, Source, ZeroSource};
 use cd_jobs::{load_script, read_script};
+use cd_samples::{is_front, is_text, repeated};
 use cd_script::MAX_TEXT;
 use std::alloc::{AllocError, Global};
 use std::process::Abort;
-use std::test::Fail;
-
-/// Whether the bytes are this line, and 00 behind it.
-pub fn is_line(space: &[u8], line: &str) -> bool {
-    space.starts_with(line.as_bytes()) && space.iter().skip(line.len()).all(|byte| *byte == 0)
-}
-
-/// Whether the bytes are so many of a line's front, and 00 behind them.
-fn is_front(space: &[u8], line: &str, count: usize) -> bool {
-    space
-        .iter()
-        .zip(line.as_bytes())
-        .take(count)
-        .all(|(byte, wanted)| *byte == *wanted)
-        && space.iter().skip(count).all(|byte| *byte == 0)
-}
 
 /// Whether a text gives this line, none where it is a script, with the status 2.
 fn reads_as(rt: &impl Abort, alloc: Global, text: &[u8], line: &str) -> bool {
@@ -28,26 +15,21 @@ fn reads_as(rt: &impl Abort, alloc: Global, text: &[u8], line: &str) -> bool {
     let mut space = [0; 64];
     let mut log = SliceSink::new(&mut space);
     let status = read_script(alloc, text, &mut log).err();
-    let ends_well = log.failures() == 0 && log.finished() == status.is_some();
-    ends_well
-        && status.unwrap_or(2) == 2
-        && status.is_none() == line.is_empty()
-        && is_line(&space, line)
+    let is_done = log.failures() == 0 && log.finished() == status.is_some();
+    let want = if line.is_empty() { None } else { Some(2) };
+    is_done && status == want && is_text(&space, line)
 }
 
-/// A text, and so many copies of a part behind it.
-pub fn repeated(alloc: Global, text: &str, part: &str, count: u32) -> Result<Vec<u8>, AllocError> {
-    let mut all = Vec::new(alloc);
-    all.extend_from_slice(text.as_bytes())?;
-    for _ in 0..count {
-        all.extend_from_slice(part.as_bytes())?;
+/// Reads each text as a script: it gives its line, none where it is one.
+pub fn expect_faults(rt: &impl Abort, alloc: Global, rows: &[(&str, &str)]) {
+    for (text, line) in rows {
+        assert!(rt; reads_as(rt, alloc, text.as_bytes(), line), "{text}");
     }
-    Ok(all)
 }
 
 #[test]
 fn faults_have_their_lines(rt: HostRuntime) {
-    for (text, line) in [
+    const ROWS: &[(&str, &str)] = &[
         (
             "cdpatch 1\nset 0 2048 41\n",
             "script line 2: offset over 2047\n",
@@ -74,14 +56,14 @@ fn faults_have_their_lines(rt: HostRuntime) {
         ("cdpatch 1\nset 0 0 41\r\r\n", "script line 2: bad hex\n"),
         ("cdpatch 1\nset 0 0 41\r\n", ""),
         ("cdpatch 1\nrebuild 999999999\n", ""),
-    ] {
-        assert!(rt; reads_as(&rt, rt.alloc(), text.as_bytes(), line), "{text}");
-    }
+    ];
+    expect_faults(&rt, rt.alloc(), ROWS);
 }
 
+/// Each is a text, and so many copies of a part behind it.
 #[test]
-fn long_scripts(rt: HostRuntime) -> Result<(), Fail> {
-    for (front, part, count, line) in [
+fn long_scripts(rt: HostRuntime) -> Result<(), AllocError> {
+    const ROWS: &[(&str, &str, u32, &str)] = &[
         ("cdpatch 1\nset 0 0 ", "0", 8192, ""),
         ("cdpatch 1\nset 0 0 ", "0", 8193, "script line 2: bad hex\n"),
         (
@@ -103,21 +85,22 @@ fn long_scripts(rt: HostRuntime) -> Result<(), Fail> {
             65_536,
             "script line 65537: more than 65535 patches\n",
         ),
-    ] {
-        let text = repeated(rt.alloc(), front, part, count)?;
-        assert!(rt; reads_as(&rt, rt.alloc(), &text, line), "{part} {count}");
+    ];
+    for (front, part, count, line) in ROWS {
+        let text = repeated(rt.alloc(), front, part, *count, "")?;
+        expect_faults(&rt, rt.alloc(), &[(&text, line)]);
     }
     Ok(())
 }
 
 #[test]
-fn longest_scripts(rt: HostRuntime) -> Result<(), Fail> {
-    for (byte, line) in [
+fn longest_scripts(rt: HostRuntime) -> Result<(), AllocError> {
+    for (byte, line) in &[
         (0, "script line 1: no cdpatch 1 line\n"),
         (b'\n', "script line 67108865: no cdpatch 1 line\n"),
     ] {
-        let text = vec![in rt.alloc(); byte; MAX_TEXT]?;
-        assert!(rt; reads_as(&rt, rt.alloc(), &text, line), "{byte}");
+        let text = vec![in rt.alloc(); *byte; MAX_TEXT]?;
+        assert!(rt; reads_as(&rt, rt.alloc(), &text, line), "{line}");
     }
     Ok(())
 }
@@ -127,97 +110,115 @@ fn patches_are_in_order(rt: HostRuntime) {
     let mut space = [0; 8];
     let text = b"cdpatch 1\nset 5 0 41\nset 4 2047 4242\nset 5 1 43\n";
     let answer = read_script(rt.alloc(), text, &mut SliceSink::new(&mut space));
-    assert!(rt;
-        answer.is_ok_and(|script| script
-            .patches()
-            .iter()
-            .map(|patch| patch.line)
-            .eq([3, 2, 4]))
-    );
-    assert!(rt; is_line(&space, ""));
+    let is_ordered = match &answer {
+        Ok(script) => match script.patches() {
+            [first, second, third] => (first.line, second.line, third.line) == (3, 2, 4),
+            _ => false,
+        },
+        Err(_) => false,
+    };
+    assert!(rt; is_ordered && is_text(&space, ""));
 }
 
 /// A log that passes so many bytes alone: they are the front of the line. The last passes all, and fails to finish.
 #[test]
 fn a_log_that_fails(rt: HostRuntime) {
-    let text = b"cdpatch 1\nset 0 0 4\n";
-    let line = "script line 2: bad hex\n";
-    for count in 0..24 {
+    const TEXT: &[u8] = b"cdpatch 1\nset 0 0 4\n";
+    const LINE: &str = "script line 2: bad hex\n";
+    for count in 0..24usize {
         let mut space = [0; 64];
-        let mut log = FailAfter::new(SliceSink::new(&mut space), count);
-        let answer = read_script(rt.alloc(), text, &mut log);
-        assert!(rt; answer.err() == Some(2) && log.failures() == 1);
-        assert!(rt; is_front(&space, line, count as usize), "{count}");
+        let mut log = FailAfter::new(SliceSink::new(&mut space), count as u64);
+        let status = read_script(rt.alloc(), TEXT, &mut log).err();
+        let is_failed = status == Some(2) && log.failures() == 1;
+        assert!(rt; is_failed && is_front(&space, LINE, count), "{count}");
     }
 }
 
+/// Whether a file is read as these bytes, and nothing is said.
+fn is_loaded<I: Source>(alloc: Global, file: &mut I, bytes: &[u8]) -> bool
+    requires { (I.seen file.old).failures < 4294967295 }
+{
+    let mut space = [0; 64];
+    let answer = load_script(alloc, file, &mut SliceSink::new(&mut space));
+    let is_whole = match &answer {
+        Ok(loaded) => loaded.as_slice() == bytes,
+        Err(_) => false,
+    };
+    is_whole && is_text(&space, "")
+}
+
+/// By as many bytes a call as there are, and by few.
 #[test]
 fn files_are_read(rt: HostRuntime) {
-    let text = b"cdpatch 1\nset 0 0 41\n".as_slice();
-    let mut space = [0; 64];
-    let mut log = SliceSink::new(&mut space);
-    let mut file = SliceSource::new(text);
-    let answer = load_script(rt.alloc(), &mut file, &mut log);
-    assert!(rt; answer.is_ok_and(|bytes| bytes.as_slice() == text));
-    for most in [1, 3] {
+    const TEXT: &[u8] = b"cdpatch 1\nset 0 0 41\n";
+    for most in &[1, 3, usize::MAX] {
+        let mut file = Short::new(SliceSource::new(TEXT), *most);
+        assert!(rt; is_loaded(rt.alloc(), &mut file, TEXT), "{most}");
+    }
+}
+
+/// No byte is one too many.
+const ALL: u64 = u64::MAX;
+
+/// Reads files of so many bytes `00`, of which so many can be read: how many are read, and the line that is said.
+fn expect_files(rt: &impl Abort, alloc: Global, rows: &[(u64, u64, usize, &str)]) {
+    for (size, read, count, line) in rows {
         let mut space = [0; 64];
         let mut log = SliceSink::new(&mut space);
-        let mut file = Short::new(SliceSource::new(text), most);
-        let answer = load_script(rt.alloc(), &mut file, &mut log);
+        let mut file = FailAfter::new(ZeroSource::new(*size), *read);
+        let (status, loaded) = match &load_script(alloc, &mut file, &mut log) {
+            Ok(bytes) => (0, bytes.len()),
+            Err(status) => (*status, 0),
+        };
+        let want = if line.is_empty() { 0 } else { 2 };
+        let is_answered = status == want && loaded == *count && log.finished() == (want == 2);
+        let is_counted = file.failures() == u32::from(*read <= *size);
         assert!(rt;
-            answer.is_ok_and(|bytes| bytes.as_slice() == text),
-            "{most}"
+            is_answered && is_counted && is_text(&space, line),
+            "{read}"
         );
-        assert!(rt; is_line(&space, ""), "{most}");
     }
-    let answer = load_script(rt.alloc(), &mut ZeroSource::new(0), &mut log);
-    assert!(rt; answer.is_ok_and(|bytes| bytes.is_empty()));
-    let answer = load_script(rt.alloc(), &mut ZeroSource::new(40_000), &mut log);
-    assert!(rt; answer.is_ok_and(|bytes| bytes.len() == 40_000));
-    assert!(rt; is_line(&space, ""));
 }
 
 #[test]
-fn the_longest_file(rt: HostRuntime) {
-    let mut space = [0; 64];
-    let mut log = SliceSink::new(&mut space);
-    let answer = load_script(rt.alloc(), &mut ZeroSource::new(67_108_864), &mut log);
-    assert!(rt; answer.is_ok_and(|bytes| bytes.len() == 67_108_864));
-    assert!(rt; is_line(&space, ""));
-}
-
-#[test]
-fn a_byte_too_many(rt: HostRuntime) {
-    let mut space = [0; 64];
-    let mut file = ZeroSource::new(67_108_865);
-    let answer = load_script(rt.alloc(), &mut file, &mut SliceSink::new(&mut space));
-    assert!(rt; answer.err() == Some(2));
-    assert!(rt;
-        is_line(
-            &space,
-            "cdpatch: the script is longer than 67108864 bytes\n"
-        )
+fn files_of_zeros_are_read(rt: HostRuntime) {
+    expect_files(
+        &rt,
+        rt.alloc(),
+        &[(0, ALL, 0, ""), (40_000, ALL, 40_000, "")],
     );
 }
 
 #[test]
+fn the_longest_file(rt: HostRuntime) {
+    expect_files(&rt, rt.alloc(), &[(67_108_864, ALL, 67_108_864, "")]);
+}
+
+#[test]
+fn a_byte_too_many(rt: HostRuntime) {
+    const TOO_LONG: &str = "cdpatch: the script is longer than 67108864 bytes\n";
+    expect_files(&rt, rt.alloc(), &[(67_108_865, ALL, 0, TOO_LONG)]);
+}
+
+#[test]
 fn a_file_that_fails(rt: HostRuntime) {
-    for count in [0, 1, 20, 16_384, 30_000] {
-        let mut space = [0; 64];
-        let mut log = SliceSink::new(&mut space);
-        let mut file = FailAfter::new(ZeroSource::new(30_000), count);
-        let answer = load_script(rt.alloc(), &mut file, &mut log);
-        assert!(rt; answer.err() == Some(2), "{count}");
-        assert!(rt; file.failures() == 1 && log.finished());
-        assert!(rt;
-            is_line(&space, "cdpatch: cannot read the script\n"),
-            "{count}"
-        );
-    }
+    const UNREAD: &str = "cdpatch: cannot read the script\n";
+    const ROWS: &[(u64, u64, usize, &str)] = &[
+        (30_000, 0, 0, UNREAD),
+        (30_000, 1, 0, UNREAD),
+        (30_000, 20, 0, UNREAD),
+        (30_000, 16_384, 0, UNREAD),
+        (30_000, 30_000, 0, UNREAD),
+    ];
+    expect_files(&rt, rt.alloc(), ROWS);
+}
+
+#[test]
+fn a_file_that_fails_and_a_full_log(rt: HostRuntime) {
     let mut space = [0; 10];
     let mut log = SliceSink::new(&mut space);
     let mut file = FailAfter::new(ZeroSource::new(1), 0);
-    let answer = load_script(rt.alloc(), &mut file, &mut log);
-    assert!(rt; answer.err() == Some(2) && log.failures() == 1);
-    assert!(rt; is_line(&space, "cdpatch: c"));
+    let status = load_script(rt.alloc(), &mut file, &mut log).err();
+    let is_failed = status == Some(2) && log.failures() == 1;
+    assert!(rt; is_failed && is_text(&space, "cdpatch: c"));
 }

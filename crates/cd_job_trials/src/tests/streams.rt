@@ -1,0 +1,60 @@
+//! Listings and audits of readers of std, and to writers of std, that fail.
+
+use cd_image::{FailAfter, FromRead, SliceSink, ToWrite, ZeroSource};
+use cd_jobs::{run_audit, run_list};
+use cd_samples::is_text;
+use std::io::{self, ErrorKind, Read, Write};
+
+/// A writer that takes all, and cannot pass it on, as on a full disk.
+#[derive(Drop)]
+pub struct Unflushed;
+
+impl Write for Unflushed {
+    fn write(&mut self, buf: &[u8]) -> io::Result<usize> {
+        Ok(buf.len())
+    }
+
+    fn flush(&mut self) -> io::Result<()> {
+        Err(io::Error::from(ErrorKind::Other))
+    }
+}
+
+#[test]
+fn a_failed_flush(rt: HostRuntime) {
+    let mut out = ToWrite::new(Unflushed);
+    let listed = run_list(&mut ZeroSource::new(2352), 0, &mut out);
+    let mut out = ToWrite::new(Unflushed);
+    let audited = run_audit(&mut ZeroSource::new(2352), 0, &mut out);
+    let mut out = ToWrite::new(Unflushed);
+    let mut image = FailAfter::new(ZeroSource::new(2352), 5);
+    let unread = run_audit(&mut image, 0, &mut out);
+    assert!(rt; (listed, audited, unread) == (2, 2, 2));
+}
+
+/// A reader that has nothing, or fails.
+#[derive(Drop)]
+struct Nothing {
+    fails: bool,
+}
+
+impl Read for Nothing {
+    fn read(&mut self, _buf: &mut [u8]) -> io::Result<usize> {
+        if self.fails {
+            return Err(io::Error::from(ErrorKind::Other));
+        }
+        Ok(0)
+    }
+}
+
+#[test]
+fn a_failed_read_and_an_end(rt: HostRuntime) {
+    for (fails, status, text) in &[
+        (true, 2, "cdpatch: reading the image failed\n"),
+        (false, 0, "sectors 0 tail 0\n"),
+    ] {
+        let mut space = [0; 128];
+        let mut image = FromRead::new(Nothing { fails: *fails });
+        let answer = run_list(&mut image, 0, &mut SliceSink::new(&mut space));
+        assert!(rt; answer == *status && is_text(&space, text), "{text}");
+    }
+}
