@@ -6,7 +6,7 @@ use cd_image::{FailAfter, MAX_BASE, Sink, SliceSink, SliceSource};
 use cd_jobs::{run_apply, run_check};
 use cd_samples::{Sample, image_of, is_text, script_of};
 use cd_script::Script;
-use std::alloc::{AllocError, Global};
+use std::alloc::Global;
 use std::process::Abort;
 use std::test::Fail;
 
@@ -75,25 +75,37 @@ pub fn checks(call: &Call, limits: &Limits, lines: &mut [u8]) -> u8
     run_check(&mut image, call.script, call.base, call.carry, &mut log)
 }
 
-/// Takes a script on an image in both ways: each has this status and tells this log, and this is what goes out.
-pub fn expect(
-    rt: &impl Abort,
-    alloc: Global,
-    call: &Call,
-    status: u8,
-    log: &str,
-    out: &[u8],
-) -> Result<(), AllocError>
-    requires { call.now.base ≤ MAX_BASE }
+/// A script on an image, and the status, the log and the output that they must give.
+#[derive(Clone, Copy)]
+pub struct Case<'a> {
+    pub script: &'a str,
+    pub image: &'a [u8],
+    pub base: u32,
+    pub carry: bool,
+    pub status: u8,
+    pub log: &'a str,
+    pub out: &'a [u8],
+}
+
+/// Takes the script on the image in both ways.
+pub fn expect(rt: &impl Abort, alloc: Global, case: &Case) -> Result<(), Fail>
+    requires { case.now.base ≤ MAX_BASE }
 {
-    let mut sent = vec![in alloc; 0; out.len()]?;
+    let script = script_of(alloc, case.script)?;
+    let call = Call {
+        image: case.image,
+        script: &script,
+        base: case.base,
+        carry: case.carry,
+    };
+    let mut sent = vec![in alloc; 0; case.out.len()]?;
     let mut lines = [0; 128];
-    let ending = applies(call, &NO_LIMITS, &mut sent, &mut lines);
-    let is_sent = ending.status == status && sent.as_slice() == out;
-    assert!(rt; is_sent && is_text(&lines, log), "{log}");
+    let status = applies(&call, &NO_LIMITS, &mut sent, &mut lines).status;
+    let is_sent = status == case.status && sent.as_slice() == case.out;
+    assert!(rt; is_sent && is_text(&lines, case.log), "{}", case.log);
     let mut lines = [0; 128];
-    let is_checked = checks(call, &NO_LIMITS, &mut lines) == status;
-    assert!(rt; is_checked && is_text(&lines, log), "{log}");
+    let is_checked = checks(&call, &NO_LIMITS, &mut lines) == case.status;
+    assert!(rt; is_checked && is_text(&lines, case.log), "{}", case.log);
     Ok(())
 }
 
@@ -135,12 +147,14 @@ pub fn expect_row(
 {
     let image = image_of(alloc, row.image)?;
     let out = image_of(alloc, row.out)?;
-    let script = script_of(alloc, row.script)?;
-    let call = Call {
+    let case = Case {
+        script: row.script,
         image: &image,
-        script: &script,
         base,
         carry,
+        status: row.status,
+        log: row.log,
+        out: &out,
     };
-    Ok(expect(rt, alloc, &call, row.status, row.log, &out)?)
+    expect(rt, alloc, &case)
 }

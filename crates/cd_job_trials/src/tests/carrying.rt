@@ -1,8 +1,7 @@
 //! Scripts taken on damaged images with and without damage carried: the log, the status and the patched image.
 
-use super::calls::{Call, NO_LIMITS, Row, applies, expect, expect_rows, expect_rows_carried};
-use cd_image::{SliceSink, SliceSource};
-use cd_jobs::run_audit;
+use super::calls::{Call, Case, NO_LIMITS, Row, applies, expect, expect_rows, expect_rows_carried};
+use super::reports::{ALL, expect_audit};
 use cd_samples::Sample::{Damaged, Filled, Zeros};
 use cd_samples::{flipped, is_text, script_of, sector_of, with_added};
 use std::test::Fail;
@@ -14,16 +13,18 @@ const BOTH_APPLIED: &str = "line 2: applied\nline 3: applied\napplied 2 refused 
 #[test]
 fn a_damaged_byte_of_the_parity(rt: HostRuntime) -> Result<(), Fail> {
     const SET: &str = "cdpatch 1\nset 0 0 41\n";
-    let script = script_of(rt.alloc(), SET)?;
     let before = sector_of(&Damaged(0, 2351, 1));
-    let call = Call {
+    let after = flipped(&sector_of(&Filled(0, 0, 1, 65)), 2351);
+    let case = Case {
+        script: SET,
         image: before.bytes(),
-        script: &script,
         base: 0,
         carry: true,
+        status: 0,
+        log: APPLIED,
+        out: after.bytes(),
     };
-    let out = flipped(&sector_of(&Filled(0, 0, 1, 65)), 2351);
-    expect(&rt, rt.alloc(), &call, 0, APPLIED, out.bytes())?;
+    expect(&rt, rt.alloc(), &case)?;
     expect_rows_carried(
         &rt,
         rt.alloc(),
@@ -66,10 +67,16 @@ fn a_damaged_byte_of_the_parity(rt: HostRuntime) -> Result<(), Fail> {
     )
 }
 
+/// Whether the front of a sector is that of the sector of zeros, but for its EDC, to which `00 90 01 90` is added.
+fn has_stale_edc(sent: &[u8]) -> bool {
+    let zeros = sector_of(&Zeros(0));
+    let damaged = with_added(&with_added(&zeros, 2065, 0x90), 2066, 0x01);
+    sent.get(..2068) == with_added(&damaged, 2067, 0x90).bytes().get(..2068)
+}
+
 /// The damaged byte is put right, and what it had made wrong stays so: its EDC, a column and a diagonal.
 #[test]
 fn a_damaged_user_byte_put_right(rt: HostRuntime) -> Result<(), Fail> {
-    const DIFFERENCES: &[(usize, u8)] = &[(2064, 0x00), (2065, 0x90), (2066, 0x01), (2067, 0x90)];
     const FOUND: &str = "0 edc p=1 q=1\nsectors 1 mode1 1 damaged 1 tail 0\n";
     let script = script_of(rt.alloc(), "cdpatch 1\nset 0 2046 00\n")?;
     let before = sector_of(&Damaged(0, 2062, 1));
@@ -79,19 +86,11 @@ fn a_damaged_user_byte_put_right(rt: HostRuntime) -> Result<(), Fail> {
         base: 0,
         carry: true,
     };
-    let mut after = sector_of(&Zeros(0));
-    for (place, difference) in DIFFERENCES {
-        after = with_added(&after, *place, *difference);
-    }
     let mut sent = [0; 2352];
     let mut lines = [0; 128];
     let status = applies(&call, &NO_LIMITS, &mut sent, &mut lines).status;
-    let is_sent = sent.get(..2068) == after.bytes().get(..2068);
-    assert!(rt; status == 0 && is_sent && is_text(&lines, APPLIED));
-    let mut told = [0; 128];
-    let mut image = SliceSource::new(&sent);
-    let status = run_audit(&mut image, 0, &mut SliceSink::new(&mut told));
-    assert!(rt; status == 1 && is_text(&told, FOUND));
+    assert!(rt; status == 0 && is_text(&lines, APPLIED) && has_stale_edc(&sent));
+    expect_audit(&rt, &sent, 0, ALL, 1, FOUND);
     Ok(())
 }
 

@@ -1,6 +1,6 @@
 //! Scripts taken on images: the statuses and the logs.
 
-use super::calls::{Call, Row, expect, expect_row, expect_rows};
+use super::calls::{Case, Row, expect, expect_row, expect_rows};
 use cd_image::{SliceSink, ZeroSource};
 use cd_jobs::run_check;
 use cd_samples::Sample::{Blank, Damaged, Filled, Mode, Zeros};
@@ -80,16 +80,17 @@ fn patches_of_one_line(rt: HostRuntime) -> Result<(), Fail> {
 
 #[test]
 fn a_block_that_is_cut(rt: HostRuntime) -> Result<(), Fail> {
-    const LOG: &str = "line 2: refused: no block 0\napplied 0 refused 1\n";
     let cut = cut_image(rt.alloc(), &[Zeros(0)], 2351)?;
-    let script = script_of(rt.alloc(), "cdpatch 1\nset 0 5 41")?;
-    let call = Call {
+    let case = Case {
+        script: "cdpatch 1\nset 0 5 41",
         image: &cut,
-        script: &script,
         base: 0,
         carry: false,
+        status: 1,
+        log: "line 2: refused: no block 0\napplied 0 refused 1\n",
+        out: &cut,
     };
-    Ok(expect(&rt, rt.alloc(), &call, 1, LOG, &cut)?)
+    expect(&rt, rt.alloc(), &case)
 }
 
 #[test]

@@ -1,5 +1,7 @@
 //! Listings and audits: the statuses, and the lines of faults behind what went out.
 
+ghost use Rattle.std.specs.Prelude.{◌≤◌};
+
 use cd_image::{FailAfter, MAX_BASE, SliceSink, SliceSource, ZeroSource};
 use cd_jobs::{run_audit, run_list};
 use cd_samples::Sample::{self, Blank, Damaged, Mode, Zeros};
@@ -66,19 +68,26 @@ fn listings(rt: HostRuntime) -> Result<(), AllocError> {
     Ok(())
 }
 
-/// Audits images from a block on, of which so many bytes can be read: each with its status and its text.
+/// Audits an image from a block on, of which so many bytes can be read.
+pub fn expect_audit(rt: &impl Abort, image: &[u8], base: u32, read: u64, status: u8, text: &str)
+    requires { base ≤ MAX_BASE }
+{
+    let mut space = [0; 128];
+    let mut image = FailAfter::new(SliceSource::new(image), read);
+    let answer = run_audit(&mut image, base, &mut SliceSink::new(&mut space));
+    assert!(rt; answer == status && is_text(&space, text), "{text}");
+}
+
+/// The same of images that are told in short, each with its status and its text.
 pub fn expect_audits(
     rt: &impl Abort,
     alloc: Global,
     rows: &[(&[Sample], u32, u64, u8, &str)],
 ) -> Result<(), AllocError> {
     for (samples, base, read, status, text) in rows {
+        let image = image_of(alloc, samples)?;
         assert!(rt; *base <= MAX_BASE);
-        let mut space = [0; 128];
-        let bytes = image_of(alloc, samples)?;
-        let mut image = FailAfter::new(SliceSource::new(&bytes), *read);
-        let answer = run_audit(&mut image, *base, &mut SliceSink::new(&mut space));
-        assert!(rt; answer == *status && is_text(&space, text), "{text}");
+        expect_audit(rt, &image, *base, *read, *status, text);
     }
     Ok(())
 }

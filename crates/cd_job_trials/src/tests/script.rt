@@ -160,23 +160,20 @@ fn files_are_read(rt: HostRuntime) {
 /// No byte is one too many.
 const ALL: u64 = u64::MAX;
 
-/// Reads files of so many bytes `00`, of which so many can be read: how many are read, and the line that is said.
-fn expect_files(rt: &impl Abort, alloc: Global, rows: &[(u64, u64, usize, &str)]) {
-    for (size, read, count, line) in rows {
+/// Reads files of so many bytes `00`, of which so many can be read: how many are read, or the status, and the line.
+fn expect_files(rt: &impl Abort, alloc: Global, rows: &[(u64, u64, Result<usize, u8>, &str)]) {
+    for (size, read, want, line) in rows {
         let mut space = [0; 64];
         let mut log = SliceSink::new(&mut space);
         let mut file = FailAfter::new(ZeroSource::new(*size), *read);
-        let (status, loaded) = match &load_script(alloc, &mut file, &mut log) {
-            Ok(bytes) => (0, bytes.len()),
-            Err(status) => (*status, 0),
+        let answer = match load_script(alloc, &mut file, &mut log) {
+            Ok(bytes) => Ok(bytes.len()),
+            Err(status) => Err(status),
         };
-        let want = if line.is_empty() { 0 } else { 2 };
-        let is_answered = status == want && loaded == *count && log.finished() == (want == 2);
+        let is_finished = log.finished() == want.is_err();
         let is_counted = file.failures() == u32::from(*read <= *size);
-        assert!(rt;
-            is_answered && is_counted && is_text(&space, line),
-            "{read}"
-        );
+        let is_done = is_finished && is_counted && answer == *want;
+        assert!(rt; is_done && is_text(&space, line), "{read}");
     }
 }
 
@@ -185,30 +182,30 @@ fn files_of_zeros_are_read(rt: HostRuntime) {
     expect_files(
         &rt,
         rt.alloc(),
-        &[(0, ALL, 0, ""), (40_000, ALL, 40_000, "")],
+        &[(0, ALL, Ok(0), ""), (40_000, ALL, Ok(40_000), "")],
     );
 }
 
 #[test]
 fn the_longest_file(rt: HostRuntime) {
-    expect_files(&rt, rt.alloc(), &[(67_108_864, ALL, 67_108_864, "")]);
+    expect_files(&rt, rt.alloc(), &[(67_108_864, ALL, Ok(67_108_864), "")]);
 }
 
 #[test]
 fn a_byte_too_many(rt: HostRuntime) {
     const TOO_LONG: &str = "cdpatch: the script is longer than 67108864 bytes\n";
-    expect_files(&rt, rt.alloc(), &[(67_108_865, ALL, 0, TOO_LONG)]);
+    expect_files(&rt, rt.alloc(), &[(67_108_865, ALL, Err(2), TOO_LONG)]);
 }
 
 #[test]
 fn a_file_that_fails(rt: HostRuntime) {
     const UNREAD: &str = "cdpatch: cannot read the script\n";
-    const ROWS: &[(u64, u64, usize, &str)] = &[
-        (30_000, 0, 0, UNREAD),
-        (30_000, 1, 0, UNREAD),
-        (30_000, 20, 0, UNREAD),
-        (30_000, 16_384, 0, UNREAD),
-        (30_000, 30_000, 0, UNREAD),
+    const ROWS: &[(u64, u64, Result<usize, u8>, &str)] = &[
+        (30_000, 0, Err(2), UNREAD),
+        (30_000, 1, Err(2), UNREAD),
+        (30_000, 20, Err(2), UNREAD),
+        (30_000, 16_384, Err(2), UNREAD),
+        (30_000, 30_000, Err(2), UNREAD),
     ];
     expect_files(&rt, rt.alloc(), ROWS);
 }

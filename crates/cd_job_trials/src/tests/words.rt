@@ -6,11 +6,10 @@ use cd_jobs::{System, do_words};
 use cd_samples::Sample::{self, Filled, Mode, Zeros};
 use cd_samples::{image_of, is_text, repeated};
 use std::alloc::{AllocError, Global};
-use std::fs::{self, File};
 use std::os::unix::fs::symlink;
 use std::path::PathBuf;
 use std::test::Fail;
-use std::{env, process};
+use std::{env, fs, process};
 
 const SET: &str = "cdpatch 1\nset 1 0 41\n";
 
@@ -31,13 +30,15 @@ const NO_OUTPUT: &str = "cdpatch: cannot make the output file\n";
 /// What a file holds, told in short.
 #[derive(Clone, Copy)]
 enum Content {
-    /// There is no such file.
-    Nothing,
     Text(&'static str),
     Image(&'static [Sample]),
+    /// A text, and so many copies of a part behind it.
+    Repeated(&'static str, &'static str, u32),
+    /// So many bytes `00`.
+    Blank(usize),
 }
 
-use Content::{Image, Nothing, Text};
+use Content::{Blank, Image, Repeated, Text};
 
 /// The image that each folder has.
 const IMAGE: Content = Image(&[Zeros(0), Zeros(1), Zeros(2)]);
@@ -48,19 +49,28 @@ const PATCHED: Content = Image(&[Zeros(0), Filled(1, 0, 1, 65), Zeros(2)]);
 /// Files of a folder.
 type Files = &'static [(&'static str, Content)];
 
-/// Words, of which those behind a `@` name files of the folder, their status, what they print, and what is then there.
-type Row = (&'static str, u8, &'static str, Files);
+/// The files that each folder has.
+const GIVEN: Files = &[("image", IMAGE), ("script", Text(SET))];
 
-/// The bytes of a file, if there is one.
-fn bytes_of(alloc: Global, content: &Content) -> Result<Option<Vec<u8>>, AllocError> {
+/// A file of a folder, or that there is none of this name.
+type Left = &'static [(&'static str, Option<Content>)];
+
+/// Words, of which those behind a `@` name files of the folder, their status, what they print, and what is then there.
+type Row = (&'static str, u8, &'static str, Left);
+
+fn bytes_of(alloc: Global, content: &Content) -> Result<Vec<u8>, AllocError> {
     match content {
-        Nothing => Ok(None),
-        Text(text) => Ok(Some(Vec::from_slice(alloc, text.as_bytes())?)),
-        Image(samples) => Ok(Some(image_of(alloc, samples)?)),
+        Text(text) => Vec::from_slice(alloc, text.as_bytes()),
+        Image(samples) => image_of(alloc, samples),
+        Repeated(text, part, count) => {
+            let text = repeated(alloc, text, part, *count, "")?;
+            Ok(text.into_bytes())
+        }
+        Blank(size) => vec![in alloc; 0; *size],
     }
 }
 
-/// A folder of a test's own, with an image of three sectors and a script of one patch.
+/// A folder of a test's own, with an image of three sectors, a script of one patch, and a link to nothing.
 #[derive(Drop)]
 struct Scratch {
     folder: PathBuf,
@@ -73,9 +83,8 @@ impl Scratch {
         let folder = env::temp_dir(rt)?.join(rt.alloc(), name)?;
         fs::create_dir(rt, &folder)?;
         let scratch = Scratch { folder };
-        let image = image_of(rt.alloc(), &[Zeros(0), Zeros(1), Zeros(2)])?;
-        scratch.put(rt, "image", &image)?;
-        scratch.put(rt, "script", SET.as_bytes())?;
+        symlink(rt, "nothing", scratch.path(rt, "dangling")?)?;
+        scratch.put(rt, GIVEN)?;
         Ok(scratch)
     }
 
@@ -83,24 +92,34 @@ impl Scratch {
         self.folder.join(rt.alloc(), name)
     }
 
-    fn put(&self, rt: &HostRuntime, name: &str, bytes: &[u8]) -> Result<(), Fail> {
-        Ok(fs::write(rt, self.path(rt, name)?, bytes)?)
+    fn put(&self, rt: &HostRuntime, files: Files) -> Result<(), Fail> {
+        for (name, content) in files {
+            let bytes = bytes_of(rt.alloc(), content)?;
+            fs::write(rt, self.path(rt, name)?, bytes)?;
+        }
+        Ok(())
     }
 
     /// Whether the file of this name is as told.
-    fn has(&self, rt: &HostRuntime, name: &str, content: &Content) -> Result<bool, AllocError> {
+    fn has(
+        &self,
+        rt: &HostRuntime,
+        name: &str,
+        content: &Option<Content>,
+    ) -> Result<bool, AllocError> {
         let path = self.path(rt, name)?;
-        match bytes_of(rt.alloc(), content)? {
-            None => Ok(fs::symlink_metadata(rt, path).is_err()),
-            Some(bytes) => Ok(match fs::read(rt, path) {
-                Ok(there) => there == bytes,
-                Err(_) => false,
-            }),
-        }
+        let Some(content) = content else {
+            return Ok(fs::symlink_metadata(rt, path).is_err());
+        };
+        let bytes = bytes_of(rt.alloc(), content)?;
+        Ok(match fs::read(rt, path) {
+            Ok(there) => there == bytes,
+            Err(_) => false,
+        })
     }
 
     /// Whether each of these files is as told.
-    fn has_all(&self, rt: &HostRuntime, files: Files) -> Result<bool, AllocError> {
+    fn has_all(&self, rt: &HostRuntime, files: Left) -> Result<bool, AllocError> {
         for (name, content) in files {
             if !self.has(rt, name, content)? {
                 return Ok(false);
@@ -151,19 +170,15 @@ impl Scratch {
     }
 }
 
-/// Gives each row's words to the program, in a folder that has these texts and images too.
+/// Gives each row's words to the program, in a folder that has these files too.
 fn expect_rows(rt: &HostRuntime, name: &str, files: Files, rows: &[Row]) -> Result<(), Fail> {
     let scratch = Scratch::make(rt, name)?;
-    for (name, content) in files {
-        if let Some(bytes) = bytes_of(rt.alloc(), content)? {
-            scratch.put(rt, name, &bytes)?;
-        }
-    }
+    scratch.put(rt, files)?;
     scratch.expect(rt, rows)?;
     scratch.remove(rt)
 }
 
-const NO_OUT: Files = &[("out", Nothing)];
+const NO_OUT: Left = &[("out", None)];
 
 #[test]
 fn commands_on_files(rt: HostRuntime) -> Result<(), Fail> {
@@ -198,18 +213,27 @@ fn patching_of_files(rt: HostRuntime) -> Result<(), Fail> {
     const OTHER: Content = Image(&[Mode(2)]);
     const FILES: Files = &[("other", OTHER), ("first", Text("cdpatch 1\nset 0 0 41\n"))];
     const ROWS: &[Row] = &[
-        ("apply @image @script @out", 0, APPLIED, &[("out", PATCHED)]),
+        (
+            "apply @image @script @out",
+            0,
+            APPLIED,
+            &[("out", Some(PATCHED))],
+        ),
         (
             "apply @image @script @same --base 2",
             1,
             NO_BLOCK_1,
-            &[("same", IMAGE)],
+            &[("same", Some(IMAGE))],
         ),
         (
             "apply @other @first @copy",
             1,
             NOT_MODE_1,
-            &[("copy", OTHER), ("image", IMAGE), ("script", Text(SET))],
+            &[
+                ("copy", Some(OTHER)),
+                ("image", Some(IMAGE)),
+                ("script", Some(Text(SET))),
+            ],
         ),
     ];
     expect_rows(&rt, "patching", FILES, ROWS)
@@ -221,6 +245,12 @@ fn scripts_that_are_refused(rt: HostRuntime) -> Result<(), Fail> {
     const WRONG: &str = "script line 2: bad hex\n";
     const EMPTY: &str = "script line 1: no cdpatch 1 line\n";
     const MANY: &str = "script line 65537: more than 65535 patches\n";
+    const FILES: Files = &[
+        ("long", Blank(67_108_865)),
+        ("wrong", Text("cdpatch 1\nset 1 0 4\n")),
+        ("empty", Text("")),
+        ("many", Repeated("cdpatch 1\n", "rebuild 0\n", 65_536)),
+    ];
     const ROWS: &[Row] = &[
         ("check @image @missing", 2, NO_SCRIPT, NO_OUT),
         ("apply @missing @missing @out", 2, NO_SCRIPT, NO_OUT),
@@ -237,15 +267,7 @@ fn scripts_that_are_refused(rt: HostRuntime) -> Result<(), Fail> {
         ("check @image -", 2, NO_SCRIPT, NO_OUT),
         ("apply @missing - @out", 2, NO_SCRIPT, NO_OUT),
     ];
-    let scratch = Scratch::make(&rt, "scripts")?;
-    let long = File::create(&rt, scratch.path(&rt, "long")?)?;
-    long.set_len(67_108_865)?;
-    scratch.put(&rt, "wrong", b"cdpatch 1\nset 1 0 4\n")?;
-    scratch.put(&rt, "empty", b"")?;
-    let many = repeated(rt.alloc(), "cdpatch 1\n", "rebuild 0\n", 65_536, "")?;
-    scratch.put(&rt, "many", many.as_bytes())?;
-    scratch.expect(&rt, ROWS)?;
-    scratch.remove(&rt)
+    expect_rows(&rt, "scripts", FILES, ROWS)
 }
 
 #[test]
@@ -259,19 +281,25 @@ fn images_that_are_not_there(rt: HostRuntime) -> Result<(), Fail> {
         ("list @.", 2, UNREAD, NO_OUT),
         ("audit @.", 2, UNREAD, NO_OUT),
         ("check @. @script", 2, UNREAD, NO_OUT),
-        ("apply @. @script @out", 2, UNREAD, &[("out", Text(""))]),
+        (
+            "apply @. @script @out",
+            2,
+            UNREAD,
+            &[("out", Some(Text("")))],
+        ),
     ];
     expect_rows(&rt, "images", &[], ROWS)
 }
 
 #[test]
 fn outputs_that_are_refused(rt: HostRuntime) -> Result<(), Fail> {
-    const LEFT: Files = &[
-        ("image", IMAGE),
-        ("script", Text(SET)),
-        ("there", Text("kept")),
-        ("nothing", Nothing),
-        ("nowhere", Nothing),
+    const FILES: Files = &[("there", Text("kept"))];
+    const LEFT: Left = &[
+        ("image", Some(IMAGE)),
+        ("script", Some(Text(SET))),
+        ("there", Some(Text("kept"))),
+        ("nothing", None),
+        ("nowhere", None),
     ];
     const ROWS: &[Row] = &[
         ("apply @image @script @there", 2, NO_OUTPUT, LEFT),
@@ -281,30 +309,30 @@ fn outputs_that_are_refused(rt: HostRuntime) -> Result<(), Fail> {
         ("apply @image @script @nowhere/out", 2, NO_OUTPUT, LEFT),
         ("apply @image @script @dangling", 2, NO_OUTPUT, LEFT),
     ];
-    let scratch = Scratch::make(&rt, "outputs")?;
-    scratch.put(&rt, "there", b"kept")?;
-    let nothing = scratch.path(&rt, "nothing")?;
-    symlink(&rt, nothing, scratch.path(&rt, "dangling")?)?;
-    scratch.expect(&rt, ROWS)?;
-    scratch.remove(&rt)
+    expect_rows(&rt, "outputs", FILES, ROWS)
 }
 
-/// Words without files, their status, and a text that stands in what they print.
+/// Gives words without files to the program: the status, and a text that stands in what is printed.
+fn prints(rt: &HostRuntime, words: &str, status: u8, part: &str) -> Result<bool, AllocError> {
+    let mut space = [0; 4096];
+    let mut out = SliceSink::new(&mut space);
+    let words = words_of(rt.alloc(), words)?;
+    let answer = do_words(rt.alloc(), &mut System::new(rt), words, &mut out);
+    let text = str::from_utf8(&space).unwrap_or("");
+    Ok(answer == status && text.contains(part))
+}
+
 #[test]
-fn words_that_ask_for_no_job(rt: HostRuntime) -> Result<(), Fail> {
-    for (words, status, part) in &[
+fn words_that_ask_for_no_job(rt: HostRuntime) -> Result<(), AllocError> {
+    const ROWS: &[(&str, u8, &str)] = &[
         ("--help", 0, "Usage: cdpatch"),
         ("apply --help", 0, "Usage: cdpatch"),
         ("apply a b", 2, "Usage: cdpatch"),
         ("audit", 2, "Usage: cdpatch"),
         ("list a --base 449850", 2, "449850"),
-    ] {
-        let mut space = [0; 4096];
-        let mut out = SliceSink::new(&mut space);
-        let words = words_of(rt.alloc(), words)?;
-        let answer = do_words(rt.alloc(), &mut System::new(&rt), words, &mut out);
-        let is_told = str::from_utf8(&space)?.contains(*part);
-        assert!(rt; answer == *status && is_told, "{part}");
+    ];
+    for (words, status, part) in ROWS {
+        assert!(rt; prints(&rt, words, *status, part)?, "{words}");
     }
     Ok(())
 }
