@@ -52,7 +52,7 @@ type Files = &'static [(&'static str, Content)];
 /// The files that each folder has.
 const GIVEN: Files = &[("image", IMAGE), ("script", Text(SET))];
 
-/// A file of a folder, or that there is none of this name.
+/// Files of a folder, and names of which there is none.
 type Left = &'static [(&'static str, Option<Content>)];
 
 /// Words, of which those behind a `@` name files of the folder, their status, what they print, and what is then there.
