@@ -20,6 +20,14 @@ pub Consumes-filled : (a b c : Option (List ℕ)) (have n : ℕ) (xs ys post : L
 Consumes-filled a b c have n xs ys post h m p q =
     subst (λ l. Consumes a c l) (sym (take-refilled have n xs ys post h m)) (Consumes-trans a b c _ _ p q)
 
+-- the same where nothing more was read
+pub Consumes-ended : (a b c : Option (List ℕ)) (have n : ℕ) (xs ys post : List ℕ) → have ≤ length xs → n ≡ 0
+    → Consumes a b (take have xs) → Consumes b c (take n ys) → Consumes a c (take have (take have xs ++ (ys ++ post)))
+Consumes-ended a b c have n xs ys post h e p q =
+    let none : have + n ≡ have = omega (arith, e) in
+    subst (λ k. Consumes a c (take k (take have xs ++ (ys ++ post)))) none
+    (Consumes-filled a b c have n xs ys post h (omega (arith, e)) p q)
+
 -- what lies behind a place is as long as a slice from there to the end
 pub length-behind : (at : ℕ) (bytes : List ℕ) → length (take (length bytes - at) (drop at bytes)) ≤ length bytes - at
 length-behind at bytes = omega (arith, length-take (length bytes - at) (drop at bytes))

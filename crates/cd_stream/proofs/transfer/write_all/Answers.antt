@@ -1,4 +1,5 @@
-use Rattle.std.proofs.Common.{◌-◌, ◌≤◌, length, arith, ◌∙◌}
+use Rattle.std.proofs.Common.{◌≡◌, ◌-◌, ◌≤◌, length, take, arith, ◌∙◌}
+use Rattle.std.proofs.lemmas.List.{take_all}
 use Rattle.cd_stream.proofs.TransferLemmas.{Appends-sent, length-behind}
 use Rattle.cd_stream.proofs.transfer.write_all.Goals as goal
 
@@ -12,4 +13,12 @@ loop-sent-preserved g c =
       within = omega (arith, few, c.loop-sent-test.true);
       appended = Appends-sent _ _ _ c.loop-sent.sent c.in_ok-sent.field-0 c.args.bytes.now few before.appended went.2;
       counted = c.in_ok-sent.ensures.count ∙ before.counted;
+    }
+
+pub returns : goal.returns
+returns g c =
+    let all : take c.loop-sent.sent c.args.bytes.now ≡ c.args.bytes.now = take_all c.loop-sent.sent c.args.bytes.now (omega arith) in
+    record {
+      bytes = rw all at c.loop-sent.invariant.appended;
+      count = c.loop-sent.invariant.counted;
     }

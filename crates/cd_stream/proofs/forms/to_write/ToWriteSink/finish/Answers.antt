@@ -1,5 +1,9 @@
-use Rattle.std.proofs.Common.{rules}
+use Rattle.std.proofs.Common.{refl}
 use Rattle.cd_stream.proofs.forms.to_write.ToWriteSink.finish.Goals as goal
 
 pub returns : goal.returns
-returns g c = search rules
+returns g c = record {
+  bytes = c.flush.ensures.bytes;
+  count = refl;
+  finished = cc;
+}

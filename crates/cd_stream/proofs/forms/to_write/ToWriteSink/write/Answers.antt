@@ -1,8 +1,16 @@
-use Rattle.std.proofs.Common.{rules}
+use Rattle.std.proofs.Common.{arith, refl, rules}
 use Rattle.cd_stream.proofs.forms.to_write.ToWriteSink.write.Goals as goal
 
 pub returns-in-Ok : goal.returns-in-Ok
-returns-in-Ok g c = search rules
+returns-in-Ok g c = record {
+  bytes = (omega arith, c.in-Ok.ensures.bound, c.in-Ok.ensures.bytes);
+  count = refl;
+  unfinished = refl;
+}
 
 pub returns-in_default : goal.returns-in_default
-returns-in_default g c = search rules
+returns-in_default g c = record {
+  bytes = search rules;
+  count = refl;
+  unfinished = refl;
+}
