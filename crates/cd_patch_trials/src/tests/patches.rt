@@ -10,7 +10,7 @@ mod spans;
 use cd_patch::{Outcome, take_patch};
 use cd_samples::script_of;
 use cd_sector::Sector;
-use made::{Made, sectors_of, user_with};
+use made::{Made, sectors_of};
 use std::alloc::{AllocError, Global};
 use std::process::Abort;
 use std::test::Fail;
@@ -39,8 +39,7 @@ fn takes(
         panic!(rt; "{script}");
     };
     let outcome = take_patch(sectors, patch, carry);
-    assert_eq!(rt; outcome, expected, "{script}");
-    assert!(rt; &*sectors == after, "{script}");
+    assert!(rt; outcome == expected && &*sectors == after, "{script}");
     Ok(())
 }
 
@@ -53,20 +52,13 @@ struct Taken<'a> {
     after: &'a [Made],
 }
 
-/// Takes each patch, where damage is not carried.
-fn take_each(rt: &impl Abort, alloc: Global, rows: &[Taken]) -> Result<(), Fail> {
+/// Takes each patch, where damage is carried or not.
+fn take_each(rt: &impl Abort, alloc: Global, carry: bool, rows: &[Taken]) -> Result<(), Fail> {
     for row in rows {
         let mut sectors = sectors_of(alloc, row.before)?;
         let after = sectors_of(alloc, row.after)?;
-        takes(
-            rt,
-            alloc,
-            row.script,
-            false,
-            &mut sectors,
-            row.outcome,
-            &after,
-        )?;
+        let script = row.script;
+        takes(rt, alloc, script, carry, &mut sectors, row.outcome, &after)?;
     }
     Ok(())
 }

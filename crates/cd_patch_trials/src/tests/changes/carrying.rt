@@ -3,13 +3,23 @@
 ghost use Rattle.std.specs.Prelude.{◌+◌, ◌≤◌};
 
 use super::*;
-use cd_samples::{carried, flipped, mixed_user, with_added};
+use cd_samples::{carried, flipped, mixed_user, with_added, with_bytes};
 use cd_sector::{DefectReport, SECTOR_SIZE, defect, encode, same_defect};
 
 /// Places in the header, the user data, the EDC, the Intermediate field, and the P and Q parity.
-const PLACES: [usize; 16] = [
+const PLACES: &[usize] = &[
     12, 14, 16, 17, 1000, 2062, 2063, 2064, 2067, 2068, 2075, 2076, 2247, 2248, 2350, 2351,
 ];
+
+/// What is added to the EDC's bytes where the last byte but one of the user data has been `01`.
+const EDC_BYTES: &[(usize, u8)] = &[(2064, 0x00), (2065, 0x90), (2066, 0x01), (2067, 0x90)];
+
+const FOUND: DefectReport = DefectReport {
+    zeros: false,
+    edc: true,
+    p: 1,
+    q: 1,
+};
 
 /// A byte of user data of the sector of zeros at block 0 becomes 00 again, and nothing else had followed from it.
 #[test]
@@ -19,19 +29,13 @@ fn the_edc_by_the_words_before_and_after(rt: HostRuntime) {
     let mut s = damaged;
     carry(&rt, &mut s, 2046, &[0x00]);
     let mut wanted = sound;
-    for (place, d) in &[(2064, 0x00), (2065, 0x90), (2066, 0x01), (2067, 0x90)] {
+    for (place, d) in EDC_BYTES {
         wanted = with_added(&wanted, *place, *d);
     }
-    assert!(rt; s.bytes()[..2068] == wanted.bytes()[..2068]);
-    let wanted = DefectReport {
-        zeros: false,
-        edc: true,
-        p: 1,
-        q: 1,
-    };
-    assert!(rt; defect(&s) == wanted && same_defect(&s, &damaged));
+    let is_written = s.bytes()[..2068] == wanted.bytes()[..2068];
+    let is_found = defect(&s) == FOUND && same_defect(&s, &damaged);
     carry(&rt, &mut s, 2046, &[0x01]);
-    assert!(rt; s == damaged);
+    assert!(rt; is_written && is_found && s == damaged);
 }
 
 #[test]
@@ -48,25 +52,23 @@ fn carry_there_and_back(rt: &impl Abort, old: &Sector, offset: usize, len: usize
     requires { offset + len ≤ 2048 }
 {
     let new = mixed_user(3);
-    let mut content = *old;
-    for i in 0..len {
-        content.put(16 + offset + i, new[i]);
-    }
+    let content = with_bytes(old, 16 + offset, &new[..len]);
     let mut s = *old;
     carry(rt, &mut s, offset as u16, &new[..len]);
-    let is_carried = s == carried(old, &content)
-        && same_defect(&s, old)
-        && defect(&s) == defect(old);
-    assert!(rt; is_carried, "{len} bytes from {offset}");
+    let is_carried = s == carried(old, &content) && same_defect(&s, old);
+    let is_as_damaged = defect(&s) == defect(old);
     carry(rt, &mut s, offset as u16, &old.user()[offset..offset + len]);
-    assert!(rt; s == *old, "{len} bytes from {offset}");
+    assert!(rt;
+        is_carried && is_as_damaged && s == *old,
+        "{len} bytes from {offset}"
+    );
 }
 
 /// A damaged byte in each region, with bytes written over it and beside it, few and many.
 #[test]
 fn user_data_over_and_beside_damage(rt: HostRuntime) {
     let sound = encode(ADDRESS, &mixed_user(7));
-    for place in &PLACES {
+    for place in PLACES {
         for d in [0x01, 0xFF] {
             let old = with_added(&sound, *place, d);
             carry_there_and_back(&rt, &old, 0, 0);
@@ -83,21 +85,18 @@ fn user_data_over_and_beside_damage(rt: HostRuntime) {
 /// Another address written into a damaged sector and then the old one back again, as the sums say.
 fn carry_to_and_back(rt: &impl Abort, old: &Sector, bcd: [u8; 3]) {
     let [minute, second, fraction, _] = old.header();
-    let mut content = *old;
-    content.put(12, bcd[0]);
-    content.put(13, bcd[1]);
-    content.put(14, bcd[2]);
+    let content = with_bytes(old, 12, &bcd);
     let mut s = *old;
     carry_to(rt, &mut s, bcd);
-    assert!(rt; s == carried(old, &content) && same_defect(&s, old));
+    let is_carried = s == carried(old, &content) && same_defect(&s, old);
     carry_to(rt, &mut s, [minute, second, fraction]);
-    assert!(rt; s == *old);
+    assert!(rt; is_carried && s == *old);
 }
 
 #[test]
 fn addresses_over_and_beside_damage(rt: HostRuntime) {
     let sound = encode(ADDRESS, &mixed_user(7));
-    for place in &PLACES {
+    for place in PLACES {
         for d in [0x01, 0xFF] {
             let old = with_added(&sound, *place, d);
             carry_to_and_back(&rt, &old, [0x01, 0x23, 0x45]);
@@ -132,11 +131,9 @@ fn consistent_sectors(rt: HostRuntime) {
     let new = mixed_user(3);
     let (mut one, mut other) = (old, old);
     carry(&rt, &mut one, 0, &new);
-    assert!(rt; one == encode(ADDRESS, &new));
     change(&rt, &mut other, 0, &new);
-    assert!(rt; one == other);
+    assert!(rt; one == encode(ADDRESS, &new) && one == other);
     carry_to(&rt, &mut one, [0x12, 0x34, 0x56]);
-    assert!(rt; one == encode([0x12, 0x34, 0x56], &new));
     change_to(&rt, &mut other, [0x12, 0x34, 0x56]);
-    assert!(rt; one == other);
+    assert!(rt; one == encode([0x12, 0x34, 0x56], &new) && one == other);
 }

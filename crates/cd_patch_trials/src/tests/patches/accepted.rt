@@ -17,7 +17,7 @@ fn set_over_three_blocks(rt: HostRuntime) -> Result<(), Fail> {
             Old(7),
         ],
     };
-    take_each(&rt, rt.alloc(), &[row])
+    take_each(&rt, rt.alloc(), false, &[row])
 }
 
 #[test]
@@ -25,6 +25,7 @@ fn fills(rt: HostRuntime) -> Result<(), Fail> {
     take_each(
         &rt,
         rt.alloc(),
+        false,
         &[
             Taken {
                 script: "cdpatch 1\nfill 4 0 2048 E5\n",
@@ -52,6 +53,7 @@ fn sets_at_the_ends(rt: HostRuntime) -> Result<(), Fail> {
     take_each(
         &rt,
         rt.alloc(),
+        false,
         &[
             Taken {
                 script: "cdpatch 1\nset 4 0 AB\n",
@@ -85,7 +87,7 @@ fn old_bytes_that_stand_there(rt: HostRuntime) -> Result<(), Fail> {
         outcome: Outcome::Applied,
         after: &[Written(4, 2047, 2048, 0xAB), Written(5, 0, 1, 0xCD)],
     };
-    take_each(&rt, rt.alloc(), &[row])
+    take_each(&rt, rt.alloc(), false, &[row])
 }
 
 /// A sector whose 288 bytes behind the user data are all FF, and a sound one; the next one is not asked.
@@ -94,6 +96,7 @@ fn rebuilds(rt: HostRuntime) -> Result<(), Fail> {
     take_each(
         &rt,
         rt.alloc(),
+        false,
         &[
             Taken {
                 script: "cdpatch 1\nrebuild 4\n",

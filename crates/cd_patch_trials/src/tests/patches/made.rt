@@ -1,8 +1,6 @@
 //! Sectors told in short, their user data mixed.
 
-ghost use Rattle.std.specs.Prelude.{◌+◌, ◌≤◌, length};
-
-use cd_samples::{encoded_at, mixed_user, with_added};
+use cd_samples::{encoded_anew, encoded_at, mixed_user, with_added, with_bytes};
 use cd_sector::{Sector, encode};
 use std::alloc::{AllocError, Global};
 
@@ -59,11 +57,7 @@ fn user_written(block: u8, first: usize, end: usize, value: u8) -> [u8; 2048] {
 }
 
 fn wiped(block: u8) -> Sector {
-    let mut sector = mixed_at(block);
-    for place in 2064..2352usize {
-        sector.put(place, 0xFF);
-    }
-    sector
+    with_bytes(&mixed_at(block), 2064, &[0xFF; 288])
 }
 
 /// The consistent sector of a block as it is before.
@@ -71,11 +65,8 @@ pub fn mixed_at(block: u8) -> Sector {
     encoded_at(u32::from(block), &mixed_user(block))
 }
 
-/// The user data of a block with some bytes in the place of as many from `at` on.
-pub fn user_with(block: u8, at: usize, bytes: &[u8]) -> [u8; 2048]
-    requires { at + length bytes.now ≤ 2048 }
-{
-    let mut user = mixed_user(block);
-    user[at..at + bytes.len()].copy_from_slice(bytes);
-    user
+/// The consistent sector of a block with these user bytes from an offset on.
+pub fn patched_at(block: u8, offset: u16, bytes: &[u8]) -> Sector {
+    let place = usize::from(offset) + 16;
+    encoded_anew(&with_bytes(&mixed_at(block), place, bytes))
 }

@@ -76,15 +76,17 @@ fn blocks_are_asked_upwards(rt: HostRuntime) -> Result<(), Fail> {
     )
 }
 
+const OTHER_MODES: &[Made] = &[
+    Added(4, 15, 1 ^ 0),
+    Added(4, 15, 1 ^ 2),
+    Added(4, 15, 1 ^ 3),
+    Added(4, 0, 0x01),
+    Blank,
+];
+
 #[test]
 fn other_modes(rt: HostRuntime) -> Result<(), Fail> {
-    for first in &[
-        Added(4, 15, 1 ^ 0),
-        Added(4, 15, 1 ^ 2),
-        Added(4, 15, 1 ^ 3),
-        Added(4, 0, 0x01),
-        Blank,
-    ] {
+    for first in OTHER_MODES {
         let before = &[*first, Old(5), Old(6)];
         refuse_each(
             &rt,
