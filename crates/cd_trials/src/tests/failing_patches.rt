@@ -78,7 +78,7 @@ fn checks(parts: &Parts, limits: &Limits, lines: &mut [u8]) -> Ending {
 }
 
 /// Whether the answer is this fault, and what it names has failed once and nothing else has.
-fn is_answered(ending: &Ending, fault: Fault) -> bool {
+pub fn is_answered(ending: &Ending, fault: Fault) -> bool {
     let read = u32::from(fault == Fault::Read);
     let write = u32::from(fault == Fault::Write);
     let log = u32::from(fault == Fault::Log);

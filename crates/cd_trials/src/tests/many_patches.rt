@@ -1,9 +1,10 @@
 //! Many patches on one block, as many as a script may have.
 
-use super::patching::{Row, expect_rows};
-use cd_samples::Sample::{Filled, Mode, Zeros};
+use super::patching::{Row, expect_cut};
+use cd_samples::Sample::{self, Filled, Mode, Zeros};
 use cd_samples::repeated;
 use std::alloc::{AllocError, Global};
+use std::process::Abort;
 use std::test::Fail;
 
 /// A patch's line in a log.
@@ -21,38 +22,57 @@ fn log_of(alloc: Global, count: u32, outcome: &str, end: &str) -> Result<String,
     Ok(text)
 }
 
+/// A script of so many patches that all end alike, a line or two that are repeated and a last one, on one sector.
+#[derive(Clone, Copy)]
+struct Many<'a> {
+    lines: &'a str,
+    times: u32,
+    last: &'a str,
+    image: Sample,
+    outcome: &'a str,
+    end: &'a str,
+    out: Sample,
+}
+
+fn expect_many(rt: &impl Abort, alloc: Global, many: &Many) -> Result<(), Fail> {
+    let script = repeated(alloc, "cdpatch 1\n", many.lines, many.times, many.last)?;
+    let log = log_of(alloc, 65_535, many.outcome, many.end)?;
+    let row = Row {
+        script: &script,
+        image: &[many.image],
+        log: &log,
+        out: &[many.out],
+    };
+    expect_cut(rt, alloc, &row, usize::MAX, 0, false)
+}
+
+const APPLIED: Many = Many {
+    lines: "set 0 0 41 was 00\nset 0 0 00 was 41\n",
+    times: 32_767,
+    last: "set 0 0 41 was 00\n",
+    image: Zeros(0),
+    outcome: "applied",
+    end: "applied 65535 refused 0\n",
+    out: Filled(0, 0, 1, 65),
+};
+
 /// Each patch asks for what the one before it has left.
 #[test]
 fn each_on_what_the_one_before_has_left(rt: HostRuntime) -> Result<(), Fail> {
-    let pair = "set 0 0 41 was 00\nset 0 0 00 was 41\n";
-    let last = "set 0 0 41 was 00\n";
-    let script = repeated(rt.alloc(), "cdpatch 1\n", pair, 32_767, last)?;
-    let log = log_of(rt.alloc(), 65_535, "applied", "applied 65535 refused 0\n")?;
-    expect_rows(
-        &rt,
-        rt.alloc(),
-        &[Row {
-            script: &script,
-            image: &[Zeros(0)],
-            log: &log,
-            out: &[Filled(0, 0, 1, 65)],
-        }],
-    )
+    expect_many(&rt, rt.alloc(), &APPLIED)
 }
+
+const REFUSED: Many = Many {
+    lines: "rebuild 0\n",
+    times: 65_535,
+    last: "",
+    image: Mode(2),
+    outcome: "refused: block 0 is not mode 1",
+    end: "applied 0 refused 65535\n",
+    out: Mode(2),
+};
 
 #[test]
 fn all_of_them_refused(rt: HostRuntime) -> Result<(), Fail> {
-    let script = repeated(rt.alloc(), "cdpatch 1\n", "rebuild 0\n", 65_535, "")?;
-    let outcome = "refused: block 0 is not mode 1";
-    let log = log_of(rt.alloc(), 65_535, outcome, "applied 0 refused 65535\n")?;
-    expect_rows(
-        &rt,
-        rt.alloc(),
-        &[Row {
-            script: &script,
-            image: &[Mode(2)],
-            log: &log,
-            out: &[Mode(2)],
-        }],
-    )
+    expect_many(&rt, rt.alloc(), &REFUSED)
 }

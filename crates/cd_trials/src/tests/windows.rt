@@ -1,7 +1,8 @@
 //! How far an image is read ahead of what goes out.
 
-use super::calls::{ALL, Call, Ending, apply_within, passing};
-use super::patching::{count_written, has_failed, has_front, memory};
+use super::calls::{ALL, Call, apply_within, passing};
+use super::failing_patches::is_answered;
+use super::patching::{count_written, has_front, memory};
 use cd_image::Fault;
 use cd_samples::Sample::Zeros;
 use cd_samples::{Sample, image_of, script_of};
@@ -20,28 +21,20 @@ const SIX: &[Sample] = &[Zeros(0), Zeros(1), Zeros(2), Zeros(3), Zeros(4), Zeros
 
 const FIVE: &[Sample] = &[Zeros(0), Zeros(1), Zeros(2), Zeros(3), Zeros(4)];
 
-/// A script on an image from block 0 on, how many bytes the output and the log may pass, and how many must be told.
+/// A script on an image from block 0 on, how many bytes the output and the log may pass, which of them fails by that, and
+/// how many bytes must be told.
 #[derive(Clone, Copy)]
 struct Stop<'a> {
     image: &'a [Sample],
     script: &'a str,
     out: u64,
     log: u64,
+    fault: Fault,
     told: usize,
 }
 
-/// How a call ended, and how many bytes it had sent by then.
-#[derive(Clone, Copy)]
-struct Ahead {
-    ending: Ending,
-    sent: usize,
-    /// How many bytes of the image it had not read.
-    left: usize,
-    /// Whether the log is right, and the image still gives its last bytes, all but three sectors of those not sent.
-    is_right: bool,
-}
-
-fn reads_ahead(alloc: Global, stop: &Stop) -> Result<Ahead, Fail> {
+/// Whether the call ends so. The image still gives its last bytes, all but three sectors of those that were not sent.
+fn stops(alloc: Global, stop: &Stop) -> Result<bool, Fail> {
     let image = image_of(alloc, stop.image)?;
     let script = script_of(alloc, stop.script)?;
     let call = Call {
@@ -58,16 +51,15 @@ fn reads_ahead(alloc: Global, stop: &Stop) -> Result<Ahead, Fail> {
     let sent = count_written(&space);
     let left = ending.left.unwrap_or(0);
     let first = image.len().saturating_sub(left);
-    let is_right = has_front(&lines, LOG, stop.told)
-        && ending.left.is_some()
-        && image.get(first..) == rest.get(..left)
-        && first <= sent.saturating_add(7056);
-    Ok(Ahead {
-        ending,
-        sent,
-        left,
-        is_right,
-    })
+    Ok(
+        is_answered(&ending, stop.fault)
+            && has_front(&lines, LOG, stop.told)
+            && ending.left.is_some()
+            && image.get(first..) == rest.get(..left)
+            && first <= sent.saturating_add(7056)
+            && sent as u64 <= stop.out
+            && first as u64 <= stop.out.saturating_add(7056),
+    )
 }
 
 #[test]
@@ -78,32 +70,27 @@ fn an_output_that_takes_nothing(rt: HostRuntime) -> Result<(), Fail> {
             script,
             out: 0,
             log: ALL,
+            fault: Fault::Write,
             told: 0,
         };
-        let ahead = reads_ahead(rt.alloc(), &stop)?;
-        let is_left = ahead.is_right && ahead.sent == 0 && ahead.left >= 4704;
-        assert!(rt; is_left && ahead.ending.answer == Err(Fault::Write));
+        assert!(rt; stops(rt.alloc(), &stop)?);
     }
     Ok(())
 }
 
 #[test]
 fn three_sectors_are_in_hand_where_the_output_fails(rt: HostRuntime) -> Result<(), Fail> {
-    for count in 0..56usize {
+    for count in 0..56u32 {
         let sent = count * 252;
         let stop = Stop {
             image: SIX,
             script: SCRIPT,
-            out: sent as u64,
+            out: u64::from(sent),
             log: ALL,
-            told: (sent / 2352).min(4) * 16 + 16,
+            fault: Fault::Write,
+            told: (sent / 2352).min(4) as usize * 16 + 16,
         };
-        let ahead = reads_ahead(rt.alloc(), &stop)?;
-        let is_left = ahead.is_right && ahead.left >= (14_112 - sent).saturating_sub(7056);
-        assert!(rt;
-            is_left && ahead.ending.answer == Err(Fault::Write),
-            "{sent}"
-        );
+        assert!(rt; stops(rt.alloc(), &stop)?, "{sent}");
     }
     Ok(())
 }
@@ -116,14 +103,10 @@ fn three_sectors_are_in_hand_where_the_log_fails(rt: HostRuntime) -> Result<(), 
             script: SCRIPT,
             out: ALL,
             log: told as u64,
+            fault: Fault::Log,
             told,
         };
-        let ahead = reads_ahead(rt.alloc(), &stop)?;
-        let is_counted = ahead.is_right && has_failed(&ahead.ending, 0, 0, 1);
-        assert!(rt;
-            is_counted && ahead.ending.answer == Err(Fault::Log),
-            "{told}"
-        );
+        assert!(rt; stops(rt.alloc(), &stop)?, "{told}");
     }
     Ok(())
 }
