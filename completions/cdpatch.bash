@@ -1,18 +1,26 @@
 # bash completion of cdpatch
 
-# Answers the file names that begin with the word.
+# Answers the file names that begin with the word. Before `--` a name that begins with `-` would be an option.
 _cdpatch_files() {
+    local hidden='-*'
+    [[ $is_closed || $in_redirection ]] && hidden=''
     compopt -o filenames 2> /dev/null
-    mapfile -t COMPREPLY < <(compgen "$@" -- "$word")
+    mapfile -t COMPREPLY < <(compgen "$@" -X "$hidden" -- "$word")
 }
 
 _cdpatch() {
     local word=${COMP_WORDS[COMP_CWORD]} before command='' texts=0 options='--base --carry --help'
-    local in_base='' is_closed='' place
+    local in_base='' is_closed='' in_redirection='' place
     COMPREPLY=()
     for ((place = 1; place < COMP_CWORD; place++)); do
         before=${COMP_WORDS[place]}
-        if [[ $in_base ]]; then
+        if [[ $in_redirection ]]; then
+            in_redirection=''
+        elif [[ $before = [\<\>]* ]]; then
+            in_redirection=1
+        elif [[ $before = [0-9] && ${COMP_WORDS[place + 1]} = [\<\>]* ]]; then
+            continue
+        elif [[ $in_base ]]; then
             [[ $before = '=' ]] || in_base=''
         elif [[ ! $command && $before = -* ]]; then
             return
@@ -30,8 +38,12 @@ _cdpatch() {
             esac
         fi
     done
+    if [[ $in_redirection ]]; then
+        _cdpatch_files -f
+        return
+    fi
     [[ $in_base ]] && return
-    if [[ ! $is_closed && $word = -?* ]]; then
+    if [[ ! $is_closed && $word = -* ]]; then
         [[ $command ]] || options='--help'
         [[ $command = check || $command = apply ]] || options=${options/--carry/}
         mapfile -t COMPREPLY < <(compgen -W "$options" -- "$word")

@@ -1,8 +1,18 @@
 # fish completion of cdpatch
 
+# The words before the cursor's, without the files of redirections.
+function __cdpatch_words
+    set -l words (commandline -opc)
+    for file in (commandline -pc | string match -ra '[<>]+[&|?]?\s*\K[^\s<>]+(?=\s)')
+        set -l place (contains -i -- $file $words)
+        and set -e words[$place]
+    end
+    printf '%s\n' $words
+end
+
 # Whether the next word is this text of one of these commands: `__cdpatch_at NUMBER COMMAND..`.
 function __cdpatch_at
-    set -l words (commandline -opc)
+    set -l words (__cdpatch_words)
     set -l command $words[2]
     contains -- "$command" $argv[2..-1]
     or return 1
@@ -27,7 +37,7 @@ end
 
 # Whether there is no command yet.
 function __cdpatch_begins
-    test (count (commandline -opc)) = 1
+    test (count (__cdpatch_words)) = 1
 end
 
 complete -c cdpatch -f

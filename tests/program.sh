@@ -1,49 +1,12 @@
 #!/usr/bin/env bash
 # The program as a process, on real files: `bash tests/program.sh [PROGRAM]`. The last line is 'N passed, M failed'.
 set -u
-top=$(cd "$(dirname "$0")/.." && pwd)
-program=$(realpath "${1:-$top/cdpatch}")
-scratch=$(mktemp -d)
-trap 'rm -rf "$scratch"' EXIT
-cd "$scratch" || exit 1
-passed=0
-failed=0
-
-# judge NAME CONDITION..: counts whether a condition holds.
-judge() {
-    local name=$1
-    shift
-    if "$@"; then
-        passed=$((passed + 1))
-    else
-        failed=$((failed + 1))
-        echo "FAILED: $name"
-    fi
-}
-
-# Whether the last run had this status, wrote just these lines, said nothing on standard error, and left the image and
-# the script as they were.
-ended() {
-    printf '%b' "$2" > wanted
-    [ "$status" = "$1" ] && cmp -s wanted log && [ ! -s errors ] && cmp -s image image.kept && cmp -s script script.kept
-}
-
-# A run ended so, and there is no file `out`.
-ended_without_output() {
-    ended "$1" "$2" && [ ! -e out ] && [ ! -L out ]
-}
-
-# run WORD..: the program with these words, its text in `log`.
-run() {
-    "$program" "$@" > log 2> errors < /dev/null
-    status=$?
-}
+. "$(dirname "$0")/helpers.sh"
 
 # The README's first example.
-cp "$top/crates/cd_vectors/data/cdrkit-8.bin" image
-cp image image.kept
+cp "$vectors" image
 printf 'cdpatch 1\n# five user bytes of block 1, from offset 16 on\nset 1 16 48454C4C4F\n' > script
-cp script script.kept
+keep
 run apply image script out
 judge 'the first example' ended 0 'line 3: applied\napplied 1 refused 0\n'
 run audit out
@@ -54,10 +17,9 @@ rm out
 # Three sectors of zeros, sync field and all: no patch of them is accepted.
 head -c 7056 /dev/zero > blank
 # The sectors of an image that other software wrote, from block 0 on.
-head -c 7056 "$top/crates/cd_vectors/data/cdrkit-8.bin" > image
-cp image image.kept
+head -c 7056 "$vectors" > image
 printf 'cdpatch 1\nset 1 0 41\n' > script
-cp script script.kept
+keep
 
 no_script='cdpatch: cannot read the script\n'
 no_image='cdpatch: cannot open the image\n'
@@ -114,10 +76,25 @@ judge 'no words list the standard input' ended 0 'sectors 0 tail 0\n'
 
 run list missing
 judge 'no such image' ended 2 "$no_image"
+"$program" list '' > log 2> errors < image
+status=$?
+judge 'no name as image' ended 2 "$no_image"
+run apply '' script out
+judge 'no name as image to patch' ended_without_output 2 "$no_image"
+cp image ./-
+"$program" list - > log 2> errors < /dev/null
+status=$?
+judge 'the standard input comes before a file of the name -' ended 0 'sectors 0 tail 0\n'
+rm ./-
 run apply missing script out
 judge 'no such image to patch' ended_without_output 2 "$no_image"
 run apply image missing out
 judge 'no such script' ended_without_output 2 "$no_script"
+"$program" apply image - out > log 2> errors < script
+status=$?
+judge 'a script is no standard input' ended_without_output 2 "$no_script"
+run apply image '' out
+judge 'no name as script' ended_without_output 2 "$no_script"
 run apply missing missing out
 judge 'the script comes before the image' ended_without_output 2 "$no_script"
 
@@ -132,10 +109,79 @@ run apply image script nowhere/out
 judge 'an output in a folder that is not there' ended 2 "$no_output"
 run apply image script image
 judge 'the image as output' ended 2 "$no_output"
+run apply image script script
+judge 'the script as output' ended 2 "$no_output"
+run apply image script ''
+judge 'no name as output' ended 2 "$no_output"
 ln -s nothing dangling
 run apply image script dangling
 judge 'a dangling link as output' ended 2 "$no_output"
 judge 'nothing behind the link' test ! -e nothing
+ln -s image to_image
+run apply image script to_image
+judge 'a link to the image as output' ended 2 "$no_output"
+ln image same_image
+run apply image script same_image
+judge 'another name of the image as output' ended 2 "$no_output"
+rm same_image
+echo kept > old
+ln -s old to_old
+run apply image script to_old
+judge 'a link to a file as output' ended 2 "$no_output"
+judge 'the file behind the link stays' test "$(cat old)" = kept
+for device in /dev/null /dev/full /dev/stdout; do
+    run apply image script $device
+    judge "$device as output" ended 2 "$no_output"
+done
+# This shell holds both ends of the FIFO, so that no one waits to open it.
+mkfifo fifo
+exec 5<> fifo
+run apply image script fifo
+judge 'a FIFO as output' ended 2 "$no_output"
+judge 'nothing in the FIFO' test "$(echo end >&5; head -n 1 <&5 | head -c 9)" = end
+exec 5>&-
+run apply image script -
+judge 'an output of the name -' ended 0 "$applied"
+judge 'it is a file' cmp -s ./- patched
+rm ./-
+
+for mask in 000:666 002:664 022:644 027:640 077:600; do
+    (umask "${mask%:*}" && run apply image script out; exit "$status")
+    status=$?
+    judge "an output under the umask ${mask%:*}" ended 0 "$applied"
+    judge "its mode under ${mask%:*}" test "$(stat -c %a out)" = "${mask#*:}"
+    rm -f out
+done
+
+# An image and a script that may only be read, by a user that has no other right to them.
+mkdir shelf
+cp "$program" shelf/cdpatch
+cp image script shelf
+chmod 755 . shelf shelf/cdpatch
+chmod 444 shelf/image shelf/script
+reader=()
+if [ "$(id -u)" = 0 ] && ! missing setpriv util-linux 'an image that may only be read'; then
+    reader=(setpriv --reuid=65534 --regid=65534 --clear-groups)
+    chown 65534 shelf
+fi
+if [ "$(id -u)" != 0 ] || [ ${#reader[@]} != 0 ]; then
+    (cd shelf && "${reader[@]}" ./cdpatch apply image script out) > log 2> errors
+    status=$?
+    judge 'an image that may only be read' ended 0 "$applied"
+    judge 'the output of that' cmp -s shelf/out patched
+    (cd shelf && "${reader[@]}" ./cdpatch audit image) > log 2> errors
+    status=$?
+    judge 'an audit of an image that may only be read' ended 0 'sectors 3 mode1 3 damaged 0 tail 0\n'
+    chmod 000 shelf/image
+    (cd shelf && "${reader[@]}" ./cdpatch list image) > log 2> errors
+    status=$?
+    judge 'an image that may not be read' ended 2 "$no_image"
+    chmod 444 shelf/image
+    chmod 555 shelf
+    (cd shelf && "${reader[@]}" ./cdpatch apply image script another) > log 2> errors
+    status=$?
+    judge 'an output in a folder that may only be read' ended 2 "$no_output"
+fi
 
 printf 'cdpatch 1\nset 1 0 4\n' > wrong
 run apply image wrong out
@@ -161,33 +207,55 @@ rm long
 )
 status=$?
 judge 'a full disk' ended 2 "${applied}cdpatch: writing the output failed\n"
-judge 'output before a full disk' cmp -s -n "$(stat -c %s out)" out patched
+judge 'the output has what the full disk took' test "$(stat -c %s out)" = 4096
+judge 'output before a full disk' within out patched
 rm -f out
 
 "$program" apply image script out > /dev/full 2> errors
 status=$?
 : > log
 judge 'a full device as standard output' ended 2 ''
+judge 'the output beside a full device' cmp -s out patched
 rm -f out
 
 "$program" list image > /dev/full 2> errors
 status=$?
 judge 'a listing to a full device' ended 2 ''
 
-"$program" --help > log 2> errors < /dev/null
-status=$?
+run --help
 judge 'help has status 0' test "$status" = 0
-judge 'help has a text' grep -q Usage log
+judge 'help has a text, on standard output alone' eval 'grep -q Usage log && [ ! -s errors ]'
 "$program" --help > /dev/full 2> errors
 judge 'help to a full device has status 2' test $? = 2
-run apply image script
-judge 'a word too few has status 2' test "$status" = 2
-run list image image
-judge 'a word too many has status 2' test "$status" = 2
+
+# Words that the parser refuses: its text is on standard output alone, and no file is made.
+refused() {
+    run "$@"
+    judge "refused: $*" told_by_parser
+}
+told_by_parser() {
+    [ "$status" = 2 ] && grep -q '^error: ' log && [ ! -s errors ] && [ ! -e out ]
+}
+refused apply image script
+refused apply image script out more
+refused check image
+refused check image script more
+refused list image image
+refused list
+refused audit
+refused audit --base
+refused nothing
+refused --nothing
+refused ''
+refused -- list image
+refused --version
+refused apply image script out --base 449850
+refused apply image script out --base -1
+refused apply image script out --base 0 --base 0
+refused list image --carry
+refused audit image --carry
 run list $'\xff'
 judge 'a word that is no text' ended 2 'cdpatch: the words are not text\n'
-run list image --base 449850
-judge 'a base too large has status 2' test "$status" = 2
 run list image --base 449849
 judge 'the largest base' ended 0 '449849-449851 mode1\nsectors 3 tail 0\n'
 
@@ -210,8 +278,7 @@ for closed in 0 1 2 01 02 12 012; do
         *1*) judge "status, closed $closed" ended 2 '' ;;
         *) judge "status, closed $closed" ended 0 "$applied" ;;
     esac
-    size=$(stat -c %s out 2> /dev/null || echo 0)
-    judge "output begins the patched image, closed $closed" cmp -s -n "$size" out patched
+    judge "the output, closed $closed" cmp -s out patched
 done
 rm -f out
 
@@ -221,14 +288,20 @@ judge 'the standard input closed' ended 2 'cdpatch: reading the image failed\n'
 judge 'no output of that' test ! -s out
 rm -f out
 
-# A pipe whose reader is gone.
-{ sleep 0.3; "$program" apply image script out 2> errors; echo $? > pipe_status; } | true
+# A pipe whose reader is gone, which that tells first.
+mkfifo gone
+{
+    read -r _ < gone
+    "$program" apply image script out 2> errors
+    echo $? > pipe_status
+} | {
+    exec <&-
+    echo gone > gone
+}
 : > log
 status=$(cat pipe_status)
 judge 'a closed pipe' ended 2 ''
-size=$(stat -c %s out)
-judge 'output before a closed pipe' cmp -s -n "$size" out patched
+judge 'the output beside a closed pipe' cmp -s out patched
 rm -f out
 
-echo "$passed passed, $failed failed"
-[ "$failed" = 0 ]
+finish

@@ -1,6 +1,6 @@
 #!/usr/bin/env bash
 # What one has to read to know what `apply` promises: the files of definitions that its contract names, those that these name,
-# and so on, a file behind those that it names. `bash tests/reading_list.sh` prints them with their numbers of lines, and the
+# and so on, each after those that it names. `bash tests/reading_list.sh` prints them with their numbers of lines, and the
 # types of the code that they name; with --write it puts the numbers into docs/TRUST.md.
 set -u
 cd "$(dirname "$0")/.." || exit 1

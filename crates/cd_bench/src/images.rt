@@ -11,15 +11,17 @@ struct Repeated {
     sector: Sector,
     place: usize,
     left: u32,
+    ended: bool,
 }
 
 impl Source for Repeated {
     ghost use Rattle.std.specs.Prelude.{None};
 
-    ghost seen = { λ s. record { rest = None; failures = 0 } };
+    ghost seen = { λ s. record { rest = None; failures = 0; ended = s.ended } };
 
     fn read(&mut self, into: &mut [u8]) -> Result<usize, SourceFailed> {
         if self.left == 0 || self.place >= SECTOR_SIZE {
+            self.ended = true;
             return Ok(0);
         }
         let count = into.len().min(SECTOR_SIZE - self.place);
@@ -29,6 +31,7 @@ impl Source for Repeated {
             self.place = 0;
             self.left -= 1;
         }
+        self.ended = count == 0;
         Ok(count)
     }
 
@@ -75,6 +78,7 @@ fn image_of(count: u32) -> Repeated {
         sector: encode([0, 2, 0], &[0x5A; 2048]),
         place: 0,
         left: count,
+        ended: false,
     }
 }
 

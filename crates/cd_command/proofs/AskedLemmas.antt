@@ -53,6 +53,15 @@ module _ (app : App) (is : app ≡ command_line) where
 
 -- ---- jobs
 
+pub none-kinds : (words : List Text) → words ≡ [] → kinds_of words ≡ []
+unfolding kinds_of
+none-kinds words none = rw none refl
+
+pub some-kinds : (app : App) (words : List Text) → app ≡ command_line → (is_simple_and_free app ≡ true → fault_of app words ≡ []) → kinds_of words ≡ []
+unfolding kinds_of
+some-kinds app [] is kinds = refl
+some-kinds app (w ∷ ws) is kinds = ap (λ a. fault_of a (w ∷ ws)) (sym is) ∙ kinds (ap is_simple_and_free is ∙ command_line_free)
+
 pub none-asks : (words : List Text) (job : Job) → words ≡ [] → Lists (45 ∷ []) 0 job → IsJobOf words job
 unfolding IsJobOf
 none-asks words job e h = rw e h

@@ -3,3 +3,4 @@ mod DefinitionLemmas
 mod GetterLemmas
 mod TakenLemmas
 mod WalkLemmas
+pub mod StatusLemmas

@@ -1,9 +1,9 @@
 //! The job that the words ask for.
-ghost use Rattle.std.specs.Prelude.{◌≡◌, ◌≤◌, IfOk, IfErr, IsSome, Some, map, option_map, string_bytes, codes};
+ghost use Rattle.std.specs.Prelude.{◌≡◌, ◌≤◌, IfOk, IfErr, OnOk, IsSome, Some, [], map, option_map, string_bytes, codes};
 ghost use Rattle.clap.specs.Words.{first_of, found_of, rows_of};
 ghost use Rattle.cd_command.specs.CommandLine.{HasBase, HasMatches, IsComplete, IsJobOf, IsTaken};
 ghost use Rattle.cd_command.specs.CommandLine.{Lists, base_in, base_of, carry_of, is_set};
-ghost use Rattle.cd_command.specs.Fault.{HasKindOf};
+ghost use Rattle.cd_command.specs.Fault.{HasKindOf, kinds_of};
 ghost use Rattle.cd_command.specs.declared.fault.LineFault.TheVariants.{NoMemory};
 
 use crate::definition::{MAX_BASE, command_line};
@@ -137,6 +137,9 @@ fn standard_input_job(alloc: Global) -> Result<Job, AllocError>
 pub fn job_of(alloc: Global, words: Vec<String>) -> Result<Job, LineFault>
     ensures ok { IfOk result (IsJobOf (map string_bytes words.items)) }
     ensures base { IfOk result (λ job. base_in job ≤ MAX_BASE) }
+
+    // A job comes only of words in which the definition finds no fault, and which ask for no help.
+    ensures taken { OnOk result (kinds_of (map string_bytes words.items) ≡ []) }
 
     // No words, and words that the definition takes, are refused for want of memory alone.
     ensures refused { IfErr result (λ fault. IsTaken (map string_bytes words.items)

@@ -6,11 +6,11 @@ pub const PROGRAM_ABOUT: &str =
 
 /// How to make a script, what the program writes, its statuses and, as the last line, its version.
 pub const PROGRAM_MORE: &str = "\
-With no words at all, cdpatch lists the image on the standard input.
-'cdpatch COMMAND --help' tells more of a command.
+Without arguments cdpatch lists the image on standard input; on a terminal end
+it with Ctrl-D. 'cdpatch COMMAND --help' has more on a command.
 
 A script is a text file: the line 'cdpatch 1', and then a patch a line. Lines
-that begin with '#', and empty ones, are passed over.
+that begin with '#', and empty ones, are skipped.
 
     cdpatch 1
     # five user bytes of block 1 from offset 16 on, if these are there now
@@ -23,19 +23,19 @@ that begin with '#', and empty ones, are passed over.
     rebuild 3
 
 Blocks, offsets (0 to 2047) and counts (1 to 4096) are decimal, bytes are hex.
-A patch that runs past the end of a block goes on in the next one. Where the
+A patch that runs past the end of a block continues in the next one. Where the
 first line is 'cdpatch 2', 'address 3 00:02:03' writes the address in a header.
 
-    cdpatch check disc.bin changes            what would become of each patch
+    cdpatch check disc.bin changes            what apply would do
     cdpatch apply disc.bin changes new.bin    the patched image, in a new file
 
-Every message, the line of a fault too, goes to the standard output. A patched
-image goes to OUT alone.
+Every message goes to standard output, those of faults too. Only OUT has the
+patched image. Only Mode 1 sectors are patched.
 
 Status:
   0  done
-  1  a patch was refused, or audit told of a sector
-  2  a fault, a fault of the script, or words that are refused
+  1  a patch was refused, or audit has a finding
+  2  an I/O error, an invalid script, or invalid arguments; OUT may be short
 
 cdpatch 0.1.0";
 
@@ -46,9 +46,9 @@ pub const LIST_ABOUT: &str = "List the kinds of an image's sectors";
 pub const LIST_MORE: &str = "\
 For each run of sectors of equal kind it prints FIRST-LAST KIND: the numbers of
 two blocks, and nosync, mode0, mode1, mode2 or other. Then it prints
-'sectors S tail T', where T bytes stand behind the last whole sector.
+'sectors S tail T', with T bytes after the last whole sector.
 
-Status: 0 done, 2 a fault.";
+Status: 0 done, 2 an I/O error.";
 
 /// What `audit` does.
 pub const AUDIT_ABOUT: &str = "Report what is wrong with an image's sectors";
@@ -57,15 +57,15 @@ pub const AUDIT_ABOUT: &str = "Report what is wrong with an image's sectors";
 pub const AUDIT_MORE: &str = "\
 For each Mode 1 sector with findings it prints the block's number and what was
 found:
-  address  the header has not the address of this block
-  zeros    the eight bytes behind the EDC are not all 00
-  edc      the EDC is not that of the bytes in front of it
-  p=N      N of the 86 P columns are no code words
-  q=N      N of the 52 Q diagonals are no code words
-Then it prints 'sectors S mode1 M damaged D tail T'. With 'mode1 0' nothing was
-audited: the image is of another kind or form.
+  address  the address in the header is not that of the block
+  zeros    the eight bytes after the EDC are not all 00
+  edc      the EDC does not match the bytes before it
+  p=N      N of the 86 P columns are not code words
+  q=N      N of the 52 Q diagonals are not code words
+Then it prints 'sectors S mode1 M damaged D tail T'. Other sectors are not
+audited, nor one that lost its sync field or mode byte: compare M with S.
 
-Status: 0 nothing found, 1 something found, 2 a fault.";
+Status: 0 nothing found, 1 something found, 2 an I/O error.";
 
 /// What `check` does.
 pub const CHECK_ABOUT: &str = "Report what a script's patches would do to an image";
@@ -78,9 +78,9 @@ blocks, and then 'applied A refused R'. No file is written.
 
 With --carry no sector is refused for its damage, and each one that is not
 rebuilt keeps the damage it had. Use it where the damage must stay to be seen,
-not where a sector should be sound in the end: 'rebuild' is for that.
+or before a 'rebuild' that makes the sector sound.
 
-Status: 0 all applied, 1 a patch refused, 2 a fault or a fault of the script.";
+Status: 0 all applied, 1 a patch refused, 2 an I/O error or an invalid script.";
 
 /// What `apply` does.
 pub const APPLY_ABOUT: &str = "Patch an image by a script, into a new file";
@@ -89,11 +89,11 @@ pub const APPLY_ABOUT: &str = "Patch an image by a script, into a new file";
 pub const APPLY_MORE: &str = "\
 For each patch it prints 'line L: applied' or 'line L: refused: WHY', ordered by
 blocks, and then 'applied A refused R'. A refused patch changes nothing. OUT is
-as long as the image. After a fault OUT stays, and begins the patched image.
+as long as the image. After a fault OUT has a prefix of the patched image.
 'cdpatch --help' has an example of a script.
 
 With --carry no sector is refused for its damage, and each one that is not
 rebuilt keeps the damage it had. Use it where the damage must stay to be seen,
-not where a sector should be sound in the end: 'rebuild' is for that.
+or before a 'rebuild' that makes the sector sound.
 
-Status: 0 all applied, 1 a patch refused, 2 a fault or a fault of the script.";
+Status: 0 all applied, 1 a patch refused, 2 an I/O error or an invalid script.";

@@ -1,6 +1,6 @@
 -- How a pass ends by a fault before the image has ended: whatever the image may still be, what went out and what was told
 -- begins what belongs there.
-use Rattle.std.proofs.Common.{◌≡◌, ℕ, ◌+◌, ◌*◌, ◌/◌, ◌<◌, ◌≤◌, ◌⊎◌, inl, inr, Bool, List, [], ◌∷◌, ◌++◌, length, take, drop, Option, None, Err, sym, ap, ◌∙◌, subst, arith, append_assoc, append-nil, length-append, take-append-drop, take_at}
+use Rattle.std.proofs.Common.{◌≡◌, ℕ, ◌+◌, ◌*◌, ◌/◌, ◌<◌, ◌≤◌, ◌⊎◌, inl, inr, Bool, false, List, [], ◌∷◌, ◌++◌, length, take, drop, Option, None, Err, sym, ap, ◌∙◌, subst, arith, append_assoc, append-nil, length-append, take-append-drop, take_at}
 use Rattle.std.specs.Prelude.{All, IsSome}
 use Rattle.std.specs.Io.KnownBytes.{Appends, Consumes}
 use Rattle.std.proofs.KnownBytes.{Appends-trans, Consumes-trans}
@@ -16,12 +16,13 @@ use Rattle.cd_patch.proofs.FrameLemmas.{outcome-frame}
 use Rattle.cd_patch.proofs.RunLemmas.{PatchRun-determined, PatchRun-split}
 use Rattle.cd_image.specs.Applying.{Applies, Streams}
 use Rattle.cd_report.specs.Image.{image_limit, joined, sectors}
-use Rattle.cd_image.specs.Passing.{Going, tail_bytes}
+use Rattle.cd_image.specs.InHand.{tail_bytes}
+use Rattle.cd_image.specs.Passing.{Going}
 use Rattle.cd_image.specs.Patched.{IsPatched}
 use Rattle.cd_image.specs.PatchLog.{lines_below, log_line, log_lines, log_text, sent_beside}
 use Rattle.cd_report.specs.Report.{FitsLeft}
 use Rattle.cd_report.specs.declared.fault.Fault.TheVariants.{Log, Read, TooLong, Write}
-use Rattle.cd_image.proofs.KnownLemmas.{Extends, Extends-begun, IsBeginning-front, Known, begins_now, extends_left, joined-begins, known, lines-begin, lines-begin_within, told_lengths}
+use Rattle.cd_image.proofs.KnownLemmas.{Extends, Extends-begun, IsBeginning-front, Known, begins_now, extends_left, joined-begins, known, lines-begin, lines-begin_within, told_lengths, unfinished_lines}
 use Rattle.cd_report.proofs.PassLemmas.{Fits-begins}
 use Rattle.cd_image.proofs.PassingLemmas.{joined-more, length-joined}
 use Rattle.cd_image.proofs.PatchLogLemmas.{bytes_before-within, lines_below-cut, log_beside-sector, sent_beside-behind, sent_beside-line}
@@ -58,9 +59,9 @@ module _ (carry : Bool) (taken left : List Patch) (base : ℕ) (start now : Stre
     };
   }
 
-  pub Applies-beyond : length window < 3 → length came ≡ 1 → SECTOR_SIZE * sectors_read ≡ image_limit → image.failures ≡ now.image.failures
+  pub Applies-beyond : length window < 3 → length came ≡ 1 → SECTOR_SIZE * sectors_read ≡ image_limit → image.failures ≡ now.image.failures → image.ended ≡ false
       → Applies carry (taken ++ left) base start (record now { image = image }) (Err TooLong)
-  Applies-beyond room one full kept = record {
+  Applies-beyond room one full kept unended = record {
     read = joined g.seen ++ came;
     sent = joined g.done;
     told = log_lines taken g.outcomes;
@@ -71,6 +72,7 @@ module _ (carry : Bool) (taken left : List Patch) (base : ℕ) (start now : Stre
     answers = record {
       failed = record { reads = omega (arith, kept, g.unfailed.reads); writes = g.unfailed.writes; logs = g.unfailed.logs };
       beyond = omega (arith, length_read);
+      unended = unended;
       begins = λ whole fits.
           let size : length (joined g.seen) ≡ image_limit = length-joined g.seen g.seen_sizes ∙ ap (λ n. 2352 * n) (sym g.count) ∙ full in
           let limited : take image_limit (joined g.seen ++ came) ≡ joined g.seen = take_at (joined g.seen) came image_limit size in
@@ -191,6 +193,9 @@ module _ (carry : Bool) (taken : List Patch) (p : Patch) (left : List Patch) (ba
           let cut = ap length extended.cut ∙ length-append g.seen extended.more in
           length_sent ∙ sym (ap (λ u. sent_beside (taken ++ p ∷ left) u base whole (length told)) n.all ∙ ap (sent_beside (taken ++ p ∷ left) (g.outcomes ++ o ∷ n.back) base whole) length_told
           ∙ beside whole n.back (omega (arith, cut, g.held)));
+      flushed = λ whole fits os last patched all.
+          let r = next whole (extends carry taken (p ∷ left) base start now window block sectors_read applied end g whole fits) os last patched in
+          absurd (unfinished_lines taken (p ∷ left) g.outcomes (o ∷ r.back) told n lengths length_told (in_line r.back) (all ∙ ap (log_text (taken ++ p ∷ left)) r.all));
     };
   }
     where
@@ -205,6 +210,9 @@ module _ (carry : Bool) (taken : List Patch) (p : Patch) (left : List Patch) (ba
 
       length_told : length (log_lines taken g.outcomes ++ take n (log_line p o)) ≡ length (log_lines taken g.outcomes) + n
       length_told = length-append (log_lines taken g.outcomes) (take n (log_line p o)) ∙ ap (λ m. length (log_lines taken g.outcomes) + m) (length-take-le n (log_line p o) (omega arith))
+
+      in_line : (back : List Outcome) → n < length (log_lines (p ∷ left) (o ∷ back))
+      in_line back = omega (arith, inside, length-append (log_line p o) (log_lines left back))
 
       told_begins : (back : List Outcome) → IsBeginning (log_lines taken g.outcomes ++ take n (log_line p o)) (log_text (taken ++ p ∷ left) (g.outcomes ++ o ∷ back))
       told_begins back =

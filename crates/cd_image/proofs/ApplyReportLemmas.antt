@@ -1,14 +1,15 @@
 -- What has been done by `apply`, in plain clauses.
-use Rattle.std.proofs.Common.{◌≡◌, ◌≢◌, ◌↔◌, ℕ, ◌+◌, Bool, true, List, ◌++◌, Option, Some, Result, Ok, Err, IfOk, OnOk, length, refl, sym, ap, ◌∙◌, subst, arith, length-append}
+use Rattle.std.proofs.Common.{◌≡◌, ◌≢◌, ◌↔◌, ℕ, ◌+◌, Bool, true, List, ◌++◌, Option, Some, Result, Ok, Err, IfErr, IfOk, OnOk, length, refl, sym, ap, ◌∙◌, subst, arith, length-append}
 use Rattle.std.specs.Prelude.{All}
+use Rattle.std.proofs.lemmas.Bool.{true≢false}
 use Rattle.cd_script.specs.Patch.{IsPatch}
 use Rattle.std.specs.Io.KnownBytes.{Appends}
 use Rattle.cd_stream.specs.Stream.{Incoming, Outgoing}
 use Rattle.cd_script.specs.declared.patch.Patch.{Patch}
-use Rattle.cd_image.specs.Applying.{Applies, Checks, HoldsFew, Streams, WritesCarried, WritesLog, WritesPatched}
+use Rattle.cd_image.specs.Applying.{Applies, BeginsLog, Checks, HoldsFew, Streams, WritesCarried, WritesLog, WritesPatched}
 use Rattle.cd_image.specs.Patched.{IsPatched}
 use Rattle.cd_image.specs.PatchLog.{log_text, patch_tally}
-use Rattle.cd_report.specs.Report.{AnswersByLength, EndsWell, TellsTooLong}
+use Rattle.cd_report.specs.Report.{AnswersByEnd, AnswersByLength, EndsWell, TellsTooLong}
 use Rattle.cd_report.specs.declared.fault.Fault.{Fault}
 use Rattle.cd_report.specs.declared.fault.Fault.TheVariants.{Log, Read, TooLong, Write}
 use Rattle.cd_image.specs.declared.patch_log.Tally.{Tally}
@@ -87,20 +88,38 @@ module _ (carry : Bool) (patches : List Patch) (base : ℕ) (old new : Streams) 
   Applies-too_long (Err Read) a = not_beyond old.image new.image (Err Read) a.read a.consumes a.answers.within (λ e. cc)
   Applies-too_long (Err Write) a = not_beyond old.image new.image (Err Write) a.read a.consumes a.answers.within (λ e. cc)
   Applies-too_long (Err Log) a = not_beyond old.image new.image (Err Log) a.read a.consumes a.answers.within (λ e. cc)
-  Applies-too_long (Err TooLong) a = told_beyond old.image new.image a.read a.consumes a.answers.beyond
+  Applies-too_long (Err TooLong) a = told_beyond old.image new.image a.read a.consumes (omega (arith, a.answers.beyond))
 
   pub Applies-by_length : (result : Result Tally Fault) → Applies carry patches base old new result → new.image.failures ≡ old.image.failures → new.out.failures ≡ old.out.failures → new.log.failures ≡ old.log.failures → AnswersByLength old.image result
   Applies-by_length (Ok tally) a no_read no_write no_log = ended_by_length old.image new.image tally a.read a.consumes a.answers.at_end a.answers.within
   Applies-by_length (Err Read) a no_read no_write no_log = absurd (omega (arith, a.answers.failed.reads, no_read))
   Applies-by_length (Err Write) a no_read no_write no_log = absurd (omega (arith, a.answers.failed.writes, no_write))
   Applies-by_length (Err Log) a no_read no_write no_log = absurd (omega (arith, a.answers.failed.logs, no_log))
-  Applies-by_length (Err TooLong) a no_read no_write no_log = beyond_by_length old.image new.image a.read a.consumes a.answers.beyond
+  Applies-by_length (Err TooLong) a no_read no_write no_log = beyond_by_length old.image new.image a.read a.consumes (omega (arith, a.answers.beyond))
+
+  pub Applies-ended : (result : Result Tally Fault) → Applies carry patches base old new result → OnOk result (new.image.ended ≡ true)
+  Applies-ended (Ok tally) a = a.answers.ended
+  Applies-ended (Err fault) a = tt
+
+  pub Applies-by_end : (result : Result Tally Fault) → Applies carry patches base old new result → new.image.failures ≡ old.image.failures → new.out.failures ≡ old.out.failures → new.log.failures ≡ old.log.failures → AnswersByEnd new.image result
+  Applies-by_end (Ok tally) a no_read no_write no_log = (λ e. refl, λ e. absurd (true≢false (sym a.answers.ended ∙ e)))
+  Applies-by_end (Err Read) a no_read no_write no_log = absurd (omega (arith, a.answers.failed.reads, no_read))
+  Applies-by_end (Err Write) a no_read no_write no_log = absurd (omega (arith, a.answers.failed.writes, no_write))
+  Applies-by_end (Err Log) a no_read no_write no_log = absurd (omega (arith, a.answers.failed.logs, no_log))
+  Applies-by_end (Err TooLong) a no_read no_write no_log = (λ e. absurd (true≢false (sym e ∙ a.answers.unended)), λ e. refl)
 
   pub Applies-few : (result : Result Tally Fault) → Applies carry patches base old new result → HoldsFew old new
   Applies-few result a = λ given left earlier now gives leaves had has.
       let came = consumed_length old.image.rest new.image.rest a.read given left a.consumes gives leaves in
       let went = appended_length old.out.written new.out.written a.sent earlier now a.appends had has in
       omega (arith, came, went, a.in_hand)
+
+  pub Applies-begins : (result : Result Tally Fault) → Applies carry patches base old new result → IfErr result (BeginsLog carry patches base old.image new.image old.log new.log)
+  Applies-begins (Ok tally) a = tt
+  Applies-begins (Err Read) a = record { read = a.read; told = a.told; consumes = a.consumes; logs = a.logs; begins = λ whole fits os last patched. (a.answers.begins whole fits os last patched).1 }
+  Applies-begins (Err Write) a = record { read = a.read; told = a.told; consumes = a.consumes; logs = a.logs; begins = λ whole fits os last patched. (a.answers.begins whole fits os last patched).1 }
+  Applies-begins (Err Log) a = record { read = a.read; told = a.told; consumes = a.consumes; logs = a.logs; begins = λ whole fits os last patched. (a.answers.begins whole fits os last patched).1 }
+  Applies-begins (Err TooLong) a = record { read = a.read; told = a.told; consumes = a.consumes; logs = a.logs; begins = λ whole fits os last patched. (a.answers.begins whole fits os last patched).1 }
 
 -- an output that keeps nothing does not fail
 pub Checks-no_output : (carry : Bool) (patches : List Patch) (base : ℕ) (image image' : Incoming) (log log' : Outgoing) (result : Result Tally Fault) → Checks carry patches base image image' log log' result → result ≢ Err Write

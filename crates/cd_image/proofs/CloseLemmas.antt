@@ -20,7 +20,7 @@ use Rattle.cd_image.specs.declared.patch_log.Tally.{Tally}
 use Rattle.cd_patch.specs.Laws.{is_applied}
 use Rattle.cd_report.proofs.CountLemmas.{count_by-append}
 use Rattle.cd_report.proofs.ImageLemmas.{cut_of_joined}
-use Rattle.cd_image.proofs.KnownLemmas.{lines-begin_within, told_lengths}
+use Rattle.cd_image.proofs.KnownLemmas.{lines-begin_within, told_lengths, unfinished_lines, unfinished_log}
 use Rattle.cd_report.proofs.PassLemmas.{FitsLeft-end}
 use Rattle.cd_image.proofs.PassingLemmas.{length-joined}
 use Rattle.cd_image.proofs.PatchedLemmas.{IsPatched-determined}
@@ -65,9 +65,15 @@ module _ (carry : Bool) (below left : List Patch) (base : ℕ) (start : Streams)
           sym (ap (λ u. sent_beside (below ++ left) u base whole (length (take n (log_lines below (missing below))))) r.1
           ∙ ap (sent_beside (below ++ left) (missing below ++ r.0) base whole) (length-take-le n (log_lines below (missing below)) (omega arith))
           ∙ sent_beside-alike whole base 0 below left (missing below) r.0 n (length-missing below) (λ k d here. bytes_before-below whole base _ (under k d here)) inside);
+      flushed = λ whole fits os last patched all.
+          let r = refuses os whole last patched in
+          absurd (unfinished_log (below ++ left) (missing below ++ r.0) (take n (log_lines below (missing below))) (omega (arith, length-take-le n (log_lines below (missing below)) (omega arith), under_all r.0)) (all ∙ ap (log_text (below ++ left)) r.1));
     };
   }
     where
+      under_all : (back : List Outcome) → n < length (log_lines (below ++ left) (missing below ++ back))
+      under_all back = let lines = ap length (log_lines-append below left (missing below) back (length-missing below)) ∙ length-append (log_lines below (missing below)) (log_lines left back) in omega (arith, lines, inside)
+
       told_begins : (back : List Outcome) → IsBeginning (take n (log_lines below (missing below))) (log_text (below ++ left) (missing below ++ back))
       told_begins back =
           let lines = log_lines below (missing below) in
@@ -136,7 +142,7 @@ module _ (carry : Bool) (taken left : List Patch) (base : ℕ) (start now : Stre
   by_run : (Holds : List ℕ → List Outcome → List ℕ → Type 0) → Holds read all last → (whole : List ℕ) → FitsLeft now.image.rest read whole
       → (os : List Outcome) (new : List ℕ) → IsPatched carry (taken ++ left) os base whole new → Holds whole os new
   by_run Holds h whole fits os new other =
-      let is = FitsLeft-end now.image.rest read whole (g.ended refl) fits in
+      let is = FitsLeft-end now.image.rest read whole (g.ended refl).0 fits in
       let same = IsPatched-determined carry (taken ++ left) os all base read new last (subst (λ w. IsPatched carry (taken ++ left) os base w new) is other) patched in
       subst (λ w. Holds w os new) (sym is) (subst (λ u. Holds read u new) (sym same.0) (subst (Holds read all) (sym same.1) h))
 
@@ -205,6 +211,8 @@ module _ (carry : Bool) (taken left : List Patch) (base : ℕ) (start now : Stre
         beside = by_run (λ whole os new. length last ≡ sent_beside (taken ++ left) os base whole (length (log_lines taken g.outcomes ++ take n (log_lines left (missing left)))))
             (length_last ∙ sym (ap (sent_beside (taken ++ left) (g.outcomes ++ missing left) base read) length_told
             ∙ sent_beside-behind read base taken left g.outcomes (missing left) n lengths ∙ others));
+        flushed = by_run (λ whole os new. log_lines taken g.outcomes ++ take n (log_lines left (missing left)) ≡ log_text (taken ++ left) os → out.finished ≡ true)
+            (λ whole. absurd (unfinished_lines taken left g.outcomes (missing left) (log_lines taken g.outcomes ++ take n (log_lines left (missing left))) n lengths length_told inside whole));
       };
     }
       where
@@ -242,6 +250,8 @@ module _ (carry : Bool) (taken left : List Patch) (base : ℕ) (start now : Stre
           begins = by_run (λ whole os new. Begins (taken ++ left) last (log_lines (taken ++ left) all ++ take n counts) os new) (([], sym (append-nil last)), told_begins);
           beside = by_run (λ whole os new. length last ≡ sent_beside (taken ++ left) os base whole (length (log_lines (taken ++ left) all ++ take n counts)))
               (length_last ∙ sym (ap (sent_beside (taken ++ left) all base read) length_told ∙ sent_beside-end read base (taken ++ left) all n all_lengths));
+          flushed = by_run (λ whole os new. log_lines (taken ++ left) all ++ take n counts ≡ log_text (taken ++ left) os → out.finished ≡ true)
+              (λ whole. absurd (unfinished_log (taken ++ left) all (log_lines (taken ++ left) all ++ take n counts) (omega (arith, length_told, inside)) whole));
         };
       }
         where
@@ -284,10 +294,10 @@ module _ (carry : Bool) (taken left : List Patch) (base : ℕ) (start now : Stre
           sent_and_kept = Appends-kept start.out.written out.written out'.written _ all_sent kept
 
           -- the log fails in its flush
-          pub Applies-log_flush : (log : Outgoing) → Keeps counted.written log.written → counted.failures ≡ lines.failures → log.failures ≡ counted.failures + 1
+          pub Applies-log_flush : (log : Outgoing) → Keeps counted.written log.written → counted.failures ≡ lines.failures → log.failures ≡ counted.failures + 1 → out'.finished ≡ true
               → Applies carry (taken ++ left) base start (record now { out = out'; log = log }) (Err Log)
           unfolding counts log_text
-          Applies-log_flush log log_kept counts_kept failed = record {
+          Applies-log_flush log log_kept counts_kept failed out_finished = record {
             read = read;
             sent = last;
             told = log_text (taken ++ left) all;
@@ -301,6 +311,7 @@ module _ (carry : Bool) (taken left : List Patch) (base : ℕ) (start now : Stre
               begins = by_run (λ whole os new. Begins (taken ++ left) last (log_text (taken ++ left) all) os new) (([], sym (append-nil last)), ([], sym (append-nil (log_text (taken ++ left) all))));
               beside = by_run (λ whole os new. length last ≡ sent_beside (taken ++ left) os base whole (length (log_text (taken ++ left) all)))
                   (length_last ∙ sym (ap (sent_beside (taken ++ left) all base read) (length-append (log_lines (taken ++ left) all) counts) ∙ sent_beside-end read base (taken ++ left) all (length counts) all_lengths));
+              flushed = λ whole fits os new patched told_all. out_finished;
             };
           }
 
@@ -319,7 +330,8 @@ module _ (carry : Bool) (taken left : List Patch) (base : ℕ) (start now : Stre
               failed = record { reads = g.unfailed.reads; writes = flushed ∙ out_kept ∙ g.unfailed.writes; logs = ended_well ∙ counts_kept ∙ lines_kept ∙ g.unfailed.logs };
               out_finished = out_finished;
               log_finished = log_finished;
-              at_end = g.ended refl;
+              at_end = (g.ended refl).0;
+              ended = (g.ended refl).1;
               within = within;
               outcomes = all;
               patched = patched;

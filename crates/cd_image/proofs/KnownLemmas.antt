@@ -1,5 +1,5 @@
 -- What a pass knows of each run on an image that may be the one that is being read.
-use Rattle.std.proofs.Common.{◌≡◌, ℕ, ◌+◌, ◌<◌, ◌≤◌, Bool, List, [], ◌++◌, length, take, drop, Option, None, Some, refl, sym, ap, ◌∙◌, subst, arith, append_assoc, append-nil, take-append-drop}
+use Rattle.std.proofs.Common.{◌≡◌, ◌≢◌, ℕ, ◌+◌, ◌<◌, ◌≤◌, Bool, List, [], ◌++◌, length, take, drop, Option, None, Some, refl, sym, ap, ◌∙◌, subst, arith, append_assoc, append-nil, length-append, take-append-drop}
 use Rattle.std.specs.Prelude.{All, IsSome}
 use Rattle.std.specs.Io.KnownBytes.{IsAtEnd}
 use Rattle.cd_script.specs.declared.patch.Patch.{Patch}
@@ -9,7 +9,8 @@ use Rattle.cd_patch.specs.declared.outcome.Outcome.{Outcome}
 use Rattle.cd_patch.proofs.RunLemmas.{PatchRun-determined, PatchRun-front, PatchRun-lengths, PatchRun-split}
 use Rattle.cd_image.specs.Applying.{Begins, Streams}
 use Rattle.cd_report.specs.Image.{image_limit, joined, sectors, tail}
-use Rattle.cd_image.specs.Passing.{Going, tail_bytes}
+use Rattle.cd_image.specs.InHand.{tail_bytes}
+use Rattle.cd_image.specs.Passing.{Going}
 use Rattle.cd_image.specs.Patched.{IsPatched}
 use Rattle.cd_image.specs.PatchLog.{applied_count, log_end, log_lines, log_text, refused_count}
 use Rattle.cd_stream.specs.Stream.{IsBeginning}
@@ -52,6 +53,20 @@ lines-begin_within taken left front back same n =
       ap (λ l. l ++ end) (log_lines-append taken left front back same ∙ ap (λ l. lines ++ l) (sym (take-append-drop n others)) ∙ sym (append_assoc lines (take n others) (drop n others)))
           ∙ append_assoc (lines ++ take n others) (drop n others) end,
     )
+
+-- less than the whole log
+pub unfinished_log : (patches : List Patch) (os : List Outcome) (told : List ℕ) → length told < length (log_lines patches os) + length (log_end (applied_count os) (refused_count os)) → told ≢ log_text patches os
+unfolding log_text
+unfinished_log patches os told less = λ all.
+    let whole = ap length all ∙ length-append (log_lines patches os) (log_end (applied_count os) (refused_count os)) in
+    absurd (omega (arith, whole, less))
+
+-- lines of the first patches, and a part of the other lines
+pub unfinished_lines : (taken left : List Patch) (front back : List Outcome) (told : List ℕ) (n : ℕ) → length front ≡ length taken → length told ≡ length (log_lines taken front) + n → n < length (log_lines left back)
+    → told ≢ log_text (taken ++ left) (front ++ back)
+unfinished_lines taken left front back told n same size part =
+    let lines = ap length (log_lines-append taken left front back same) ∙ length-append (log_lines taken front) (log_lines left back) in
+    unfinished_log (taken ++ left) (front ++ back) told (omega (arith, lines, size, part))
 
 -- an image that may be the one that is being read: the sectors behind those that were seen
 pub record Extends (seen : List (List ℕ)) (end : Option (List ℕ)) (whole : List ℕ) : Type 0 where
@@ -96,7 +111,7 @@ module _ (carry : Bool) (taken left : List Patch) (base : ℕ) (start now : Stre
 
   -- an image that fits while the end is told where nothing is left
   pub extends_left : (whole : List ℕ) → FitsLeft now.image.rest (joined g.seen ++ tail_bytes end) whole → length (joined g.seen ++ tail_bytes end) ≤ image_limit → Extends g.seen end whole
-  extends_left whole fits few = by_end end g.seen_sizes g.short g.ended fits few
+  extends_left whole fits few = by_end end g.seen_sizes g.short (λ some. (g.ended some).0) fits few
     where
       by_end : (t : Option (List ℕ)) → AreSized g.seen → length (tail_bytes t) < SECTOR_SIZE → (IsSome t → IsAtEnd now.image.rest) → FitsLeft now.image.rest (joined g.seen ++ tail_bytes t) whole
           → length (joined g.seen ++ tail_bytes t) ≤ image_limit → Extends g.seen t whole

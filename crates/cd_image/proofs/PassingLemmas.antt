@@ -1,5 +1,5 @@
 -- One step of a pass: a sector is read, or the end; a patch is taken; a sector goes out.
-use Rattle.std.proofs.Common.{◌≡◌, ℕ, ◌+◌, ◌*◌, ◌<◌, ◌≤◌, ◌⊎◌, inl, inr, Bool, List, [], ◌∷◌, ◌++◌, length, Option, None, Some, refl, sym, ap, ◌∙◌, subst, arith, append_assoc, append-nil, length-append}
+use Rattle.std.proofs.Common.{◌≡◌, ℕ, ◌+◌, ◌*◌, ◌<◌, ◌≤◌, ◌⊎◌, inl, inr, Bool, true, List, [], ◌∷◌, ◌++◌, length, Option, None, Some, refl, sym, ap, ◌∙◌, subst, arith, append_assoc, append-nil, length-append}
 use Rattle.std.specs.Prelude.{All, IsSome, cond}
 use Rattle.std.specs.Io.KnownBytes.{Appends, Consumes, IsAtEnd}
 use Rattle.std.proofs.KnownBytes.{Appends-nil, Appends-trans, Consumes-nil, Consumes-trans}
@@ -17,7 +17,7 @@ use Rattle.cd_patch.proofs.FrameLemmas.{Effect-frame, Effect-length, outcome-fra
 use Rattle.cd_patch.proofs.RunLemmas.{PatchRun-append, PatchRun-lengths}
 use Rattle.cd_image.specs.Applying.{Streams}
 use Rattle.cd_report.specs.Image.{image_limit, joined}
-use Rattle.cd_image.specs.Passing.{Going, missing, tail_read}
+use Rattle.cd_image.specs.Passing.{Going, missing}
 use Rattle.cd_image.specs.PatchLog.{log_line, log_lines}
 use Rattle.cd_stream.specs.Stream.{Incoming, Outgoing}
 use Rattle.cd_report.proofs.CountLemmas.{count_by-behind}
@@ -106,9 +106,9 @@ module _ (carry : Bool) (taken left : List Patch) (base : ℕ) (start now : Stre
 
   -- less than a sector has come, and nothing is left
   pub Going-end : Going carry taken left base start now window block sectors applied None → (image : Incoming) (came : List ℕ) → Consumes now.image.rest image.rest came → image.failures ≡ now.image.failures
-      → length came < SECTOR_SIZE → SECTOR_SIZE * sectors + length came ≤ image_limit → length window < 3 → IsAtEnd image.rest
+      → length came < SECTOR_SIZE → SECTOR_SIZE * sectors + length came ≤ image_limit → length window < 3 → IsAtEnd image.rest → image.ended ≡ true
       → Going carry taken left base start (record now { image = image }) window block sectors applied (Some came)
-  Going-end g image came consumed kept short within room end = record {
+  Going-end g image came consumed kept short within room end told = record {
     seen = g.seen;
     done = g.done;
     outcomes = g.outcomes;
@@ -121,7 +121,7 @@ module _ (carry : Bool) (taken left : List Patch) (base : ℕ) (start now : Stre
     done_sizes = g.done_sizes;
     short = short;
     within = within;
-    ended = λ some. end;
+    ended = λ some. (end, told);
     in_hand = omega arith;
     run = λ more unended. g.run more (λ never. cc);
     front = g.front;
@@ -161,14 +161,10 @@ Going-send carry taken left base start now sector window block sectors applied t
   ahead = λ k d inside. let h = ahead k d inside in omega arith;
 }
 
-pub tail_read-some : (tail : Option ℕ) (bytes : List ℕ) → IsSome tail → IsSome (tail_read tail bytes)
-tail_read-some None bytes never = never
-tail_read-some (Some left) bytes some = refl
-
 -- all that the patch meets is in the window, or nothing follows
-pub reaches : (block met count : ℕ) (tail : Option ℕ) (bytes : List ℕ) → (met ≤ count) ⊎ IsSome tail → (block + met ≤ block + count) ⊎ IsSome (tail_read tail bytes)
-reaches block met count tail bytes (inl within) = inl (omega arith)
-reaches block met count tail bytes (inr ended) = inr (tail_read-some tail bytes ended)
+pub reaches : (block met count : ℕ) (tail : Option (List ℕ)) → (met ≤ count) ⊎ IsSome tail → (block + met ≤ block + count) ⊎ IsSome tail
+reaches block met count tail (inl within) = inl (omega arith)
+reaches block met count tail (inr ended) = inr ended
 
 -- one patch alone
 PatchRun-one : (carry : Bool) (p : Patch) (o : Outcome) (base : ℕ) (old new : List (List ℕ)) → o ≡ outcome carry old base p → Effect carry base p old new → PatchRun carry (p ∷ []) (o ∷ []) base old new

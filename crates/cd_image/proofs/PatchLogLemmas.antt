@@ -1,6 +1,6 @@
 -- The log of patches in two parts, and where one sink stands when the other fails.
 use Rattle.std.proofs.Common.{◌≡◌, ℕ, suc, ◌+◌, ◌-◌, ◌*◌, ◌/◌, ◌<◌, ◌≤◌, ◌⊎◌, inl, inr, Bool, true, false, not, List, [], ◌∷◌, ◌++◌, length, take, drop, refl, sym, ap, ◌∙◌, arith, append_assoc, append-nil, length-append, take-append-drop, add-one, get_or, Err, subst}
-use Rattle.std.specs.Prelude.{All, cond, nat_lt}
+use Rattle.std.specs.Prelude.{All, codes, cond, decimal, nat_lt}
 use Rattle.std.specs.Io.KnownBytes.{Appends}
 use Rattle.std.proofs.KnownBytes.{Appends-trans}
 use Rattle.std.proofs.Math.Seq.{drop-cons, take-append-add, take-suc}
@@ -18,7 +18,7 @@ use Rattle.cd_patch.specs.declared.outcome.Outcome.TheVariants.{NoBlock}
 use Rattle.cd_patch.proofs.FrameLemmas.{Effect-missing, outcome-missing}
 use Rattle.cd_report.specs.Image.{sectors}
 use Rattle.cd_image.specs.Passing.{missing}
-use Rattle.cd_image.specs.PatchLog.{applied_count, bytes_before, lines_below, log_beside, log_line, log_lines, log_text, refused_count, sent_beside}
+use Rattle.cd_image.specs.PatchLog.{applied_count, bytes_before, lines_below, log_beside, log_line, log_lines, log_text, outcome_text, refused_count, sent_beside}
 use Rattle.cd_report.proofs.CountLemmas.{count_by-first}
 
 pub log_lines-append : (ps qs : List Patch) (os us : List Outcome) → length os ≡ length ps → log_lines (ps ++ qs) (os ++ us) ≡ log_lines ps os ++ log_lines qs us
@@ -176,6 +176,11 @@ counts-all (o ∷ os) =
 
 -- ---- their lines
 
+-- no line is empty
+pub log_line-some : (p : Patch) (o : Outcome) → 0 < length (log_line p o)
+unfolding log_line
+log_line-some p o = omega (arith, length-append (codes "line " ++ decimal p.line ++ codes ": " ++ outcome_text o) (codes "\n"))
+
 abbrev pub missing_lines : List Patch → List ℕ
 missing_lines ps = log_lines ps (missing ps)
 
@@ -197,9 +202,9 @@ module _ (ps : List Patch) (i : ℕ) (p : Patch) (inside : i < length ps) (is : 
 
   -- a log that fails in the next line has got a front of all the lines
   pub missing_lines-cut : {X E : Type 0} (old before new : Outgoing) (n : ℕ) → n < length (log_line p (NoBlock p.block)) → Appends old.written before.written (missing_lines (take i ps))
-      → Appends before.written new.written (take n (log_line p (NoBlock p.block))) → before.failures ≡ old.failures → new.failures ≡ before.failures + 1 → (e : E)
+      → Appends before.written new.written (take n (log_line p (NoBlock p.block))) → before.failures ≡ old.failures → new.failures ≡ before.failures + 1 → new.finished ≡ false → (e : E)
       → Sends {X = X} {E = E} old new (missing_lines ps) (Err e)
-  missing_lines-cut {X} {E} old before new n short told went kept failed e =
+  missing_lines-cut {X} {E} old before new n short told went kept failed unfinished e =
       let front = missing_lines (take i ps) in
       let line = log_line p (NoBlock p.block) in
       let behind = missing_lines (drop (suc i) ps) in
@@ -209,4 +214,5 @@ module _ (ps : List Patch) (i : ℕ) (p : Patch) (inside : i < length ps) (is : 
       record {
         bytes = (length front + n, omega (arith, size), subst (Appends old.written new.written) (sym part) (Appends-trans old.written before.written new.written front _ told went));
         count = failed ∙ ap (λ m. m + 1) kept;
+        unfinished = λ some. unfinished;
       }

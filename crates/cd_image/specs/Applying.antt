@@ -1,5 +1,5 @@
 -- What `apply` and `check` have done, whatever they answer.
-use Rattle.std.specs.Prelude.{◌≡◌, ℕ, ◌+◌, ◌<◌, ◌≤◌, Bool, true, false, List, [], ◌++◌, length, None, Some, Result, Ok, Err}
+use Rattle.std.specs.Prelude.{◌≡◌, ℕ, ◌+◌, ◌≤◌, Bool, true, false, List, [], ◌++◌, length, Option, None, Some, Result, Ok, Err}
 use Rattle.std.specs.Io.KnownBytes.{Appends, Consumes, IsAtEnd}
 use Rattle.cd_code.specs.Field.{AreBytes}
 use Rattle.cd_script.specs.declared.patch.Patch.{Patch}
@@ -34,6 +34,7 @@ pub record CompletesPatching (carry : Bool) (patches : List Patch) (base : ℕ) 
   pub out_finished : new.out.finished ≡ true
   pub log_finished : new.log.finished ≡ true
   pub at_end : IsAtEnd new.image.rest
+  pub ended : new.image.ended ≡ true
   pub within : length read ≤ image_limit
   pub outcomes : List Outcome
   pub patched : IsPatched carry patches outcomes base read sent
@@ -58,18 +59,22 @@ pub record StopsAtWrite (carry : Bool) (patches : List Patch) (base : ℕ) (read
   pub beside : (whole : List ℕ) → FitsLeft new.image.rest read whole
       → EachRun carry patches base whole (λ outcomes last. told ≡ log_beside patches outcomes base (length read) (length sent))
 
--- a write to the log failed, or its flush: just the bytes that belong before the line it failed in went out
+-- a write to the log failed, or its flush: just the bytes that belong before the line it failed in went out, and where the
+-- whole log was told, the output is finished
 pub record StopsAtLog (carry : Bool) (patches : List Patch) (base : ℕ) (read sent told : List ℕ) (old new : Streams) : Type 0 where
   pub failed : Failed old new 0 0 1
   pub within : length read ≤ image_limit
   pub begins : (whole : List ℕ) → FitsLeft new.image.rest read whole → EachRun carry patches base whole (Begins patches sent told)
   pub beside : (whole : List ℕ) → FitsLeft new.image.rest read whole
       → EachRun carry patches base whole (λ outcomes last. length sent ≡ sent_beside patches outcomes base whole (length told))
+  pub flushed : (whole : List ℕ) → FitsLeft new.image.rest read whole
+      → EachRun carry patches base whole (λ outcomes last. told ≡ log_text patches outcomes → new.out.finished ≡ true)
 
--- a byte was read behind the millionth sector
+-- just one byte was read behind the millionth sector
 pub record StopsBeyond (carry : Bool) (patches : List Patch) (base : ℕ) (read sent told : List ℕ) (old new : Streams) : Type 0 where
   pub failed : Failed old new 0 0 0
-  pub beyond : image_limit < length read
+  pub beyond : length read ≡ image_limit + 1
+  pub unended : new.image.ended ≡ false
   pub begins : (whole : List ℕ) → Fits read whole → EachRun carry patches base whole (Begins patches sent told)
 
 abbrev pub AppliesBy : Bool → List Patch → ℕ → List ℕ → List ℕ → List ℕ → Streams → Streams → Result Tally Fault → Type 0
@@ -115,6 +120,21 @@ WritesLog carry patches base image log log' tally =
     (bytes earlier : List ℕ) → image.rest ≡ Some bytes → log.written ≡ Some earlier
     → EachRun carry patches base bytes (λ outcomes last.
     (log'.written ≡ Some (earlier ++ log_text patches outcomes)) × (tally ≡ patch_tally bytes outcomes))
+
+-- an image may be the one that was being read when this fault came
+abbrev pub FitsAt : Fault → Option (List ℕ) → List ℕ → List ℕ → Type 0
+FitsAt Read left read whole = Fits read whole
+FitsAt Write left read whole = FitsLeft left read whole
+FitsAt Log left read whole = FitsLeft left read whole
+FitsAt TooLong left read whole = Fits read whole
+
+-- after a fault: what the log has got begins the log of each run on each image that may be the one that was being read
+pub record BeginsLog (carry : Bool) (patches : List Patch) (base : ℕ) (image image' : Incoming) (log log' : Outgoing) (fault : Fault) : Type 0 where
+  pub read : List ℕ
+  pub told : List ℕ
+  pub consumes : Consumes image.rest image'.rest read
+  pub logs : Appends log.written log'.written told
+  pub begins : (whole : List ℕ) → FitsAt fault image'.rest read whole → EachRun carry patches base whole (λ outcomes last. IsBeginning told (log_text patches outcomes))
 
 -- where the image and the output tell their bytes: at most three sectors were read and have not gone out
 abbrev pub HoldsFew : Streams → Streams → Type 0

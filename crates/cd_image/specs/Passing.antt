@@ -1,5 +1,5 @@
 -- How far a pass over an image has come that takes patches on its way: inner words of `apply` and `check`.
-use Rattle.std.specs.Prelude.{◌≡◌, ℕ, ◌+◌, ◌-◌, ◌*◌, ◌<◌, ◌≤◌, ◌⊎◌, Bool, List, [], ◌∷◌, ◌++◌, All, length, take, drop, map, Option, None, Some, IfSome, IsSome, Result, Ok, Err}
+use Rattle.std.specs.Prelude.{◌≡◌, ℕ, ◌+◌, ◌-◌, ◌*◌, ◌<◌, ◌≤◌, Bool, true, List, [], ◌++◌, All, length, take, drop, map, Option, None, Some, IsSome, Result, Ok, Err}
 use Rattle.std.specs.Io.KnownBytes.{Appends, Consumes, IsAtEnd}
 use Rattle.cd_script.specs.declared.patch.Patch.{Patch}
 use Rattle.cd_sector.specs.declared.sector.TheConstants.{SECTOR_SIZE}
@@ -7,19 +7,11 @@ use Rattle.cd_patch.specs.Run.{PatchRun}
 use Rattle.cd_patch.specs.declared.outcome.Outcome.{Outcome}
 use Rattle.cd_patch.specs.declared.outcome.Outcome.TheVariants.{NoBlock}
 use Rattle.cd_image.specs.Applying.{Applies, Failed, Streams}
+use Rattle.cd_image.specs.InHand.{tail_bytes}
 use Rattle.cd_report.specs.Image.{image_limit, joined}
 use Rattle.cd_image.specs.PatchLog.{applied_count, log_lines}
 use Rattle.cd_report.specs.declared.fault.Fault.{Fault}
 use Rattle.cd_image.specs.declared.pass.Pass.{Pass}
-
--- the tail, once it was read
-abbrev pub tail_bytes : Option (List ℕ) → List ℕ
-tail_bytes None = []
-tail_bytes (Some bytes) = bytes
-
-abbrev pub tail_read : Option ℕ → List ℕ → Option (List ℕ)
-tail_read None bytes = None
-tail_read (Some count) bytes = Some (take count bytes)
 
 -- the outcomes of patches whose first block the image does not have
 abbrev pub missing : List Patch → List Outcome
@@ -39,7 +31,7 @@ pub record Going (carry : Bool) (taken left : List Patch) (base : ℕ) (start no
   pub done_sizes : All (λ sector. length sector ≡ SECTOR_SIZE) done
   pub short : length (tail_bytes tail) < SECTOR_SIZE
   pub within : SECTOR_SIZE * sectors + length (tail_bytes tail) ≤ image_limit
-  pub ended : IsSome tail → IsAtEnd now.image.rest
+  pub ended : IsSome tail → IsAtEnd now.image.rest × (now.image.ended ≡ true)
   pub in_hand : SECTOR_SIZE * length window + length (tail_bytes tail) ≤ 7056
   pub run : (more : List (List ℕ)) → (IsSome tail → more ≡ []) → PatchRun carry taken outcomes base (seen ++ more) (done ++ (window ++ more))
   pub front : block ≡ base + length done
@@ -49,39 +41,29 @@ pub record Going (carry : Bool) (taken left : List Patch) (base : ℕ) (start no
   pub due : All (λ p. (p.block ≤ block) × (p.block < base + sectors)) taken
   pub ahead : All (λ p. block ≤ p.block) left
 
--- a tail is shorter than a sector
-abbrev pub HasShortTail : Pass → Type 0
-HasShortTail pass = IfSome pass.tail (λ left. left < SECTOR_SIZE)
-
 -- the same of a pass
 abbrev pub GoesOn : Bool → List Patch → List Patch → ℕ → Streams → Streams → Pass → Type 0
 GoesOn carry taken left base start now pass =
-    Going carry taken left base start now pass.window pass.block pass.sectors pass.applied (tail_read pass.tail pass.bytes)
+    Going carry taken left base start now pass.window.sectors pass.block pass.sectors pass.applied pass.window.tail
 
 -- a step has gone well, or the call ends by its fault
 abbrev pub Steps : {X : Type 0} → Bool → List Patch → List Patch → List Patch → List Patch → ℕ → Streams → Streams → Pass → Result X Fault → Type 0
 Steps carry taken left taken' left' base start now pass (Ok x) = GoesOn carry taken' left' base start now pass
 Steps carry taken left taken' left' base start now pass (Err fault) = Applies carry (taken ++ left) base start now (Err fault)
 
--- the same, where a patch was taken or not, as the number of decided ones tells
-abbrev pub StepsOrTakes : {X : Type 0} → Bool → List Patch → Patch → List Patch → ℕ → Streams → ℕ → Streams → Pass → Result X Fault → Type 0
-StepsOrTakes carry taken p left base start decided now pass (Ok x) =
-    ((pass.decided ≡ decided) × GoesOn carry taken (p ∷ left) base start now pass) ⊎ ((pass.decided ≡ decided + 1) × GoesOn carry (taken ++ p ∷ []) left base start now pass)
-StepsOrTakes carry taken p left base start decided now pass (Err fault) = Applies carry (taken ++ p ∷ left) base start now (Err fault)
-
 -- ---- how much is left to do, of so many patches: each turn leaves less
 
-abbrev pub end_to_come : Option ℕ → ℕ
+abbrev pub end_to_come : Option (List ℕ) → ℕ
 end_to_come None = 1
 end_to_come (Some left) = 0
 
 abbrev pub left_to_do : ℕ → Pass → ℕ
-left_to_do count pass = 2 * (1000000 - pass.sectors) + length pass.window + (count - pass.decided) + end_to_come pass.tail
+left_to_do count pass = 2 * (1000000 - pass.sectors) + length pass.window.sectors + (count - pass.decided) + end_to_come pass.window.tail
 
 -- nothing waits, and the end has come
 pub record IsEnded (pass : Pass) : Type 0 where
-  pub empty : pass.window ≡ []
-  pub ended : IsSome pass.tail
+  pub empty : pass.window.sectors ≡ []
+  pub ended : IsSome pass.window.tail
 
 -- a turn has gone well, or the call ends by its fault
 abbrev pub Turns : {X : Type 0} → Bool → List Patch → ℕ → Streams → Streams → Pass → Result X Fault → Type 0

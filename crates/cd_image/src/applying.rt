@@ -1,10 +1,10 @@
 //! Patching an image, and what a script of patches would do to it.
 
-ghost use Rattle.std.specs.Prelude.{◌≡◌, ◌≢◌, ◌+◌, ◌<◌, ◌≤◌, ◌↔◌, All, IfOk, OnOk, drop, length, take, true};
+ghost use Rattle.std.specs.Prelude.{◌≡◌, ◌≢◌, ◌+◌, ◌<◌, ◌≤◌, ◌↔◌, All, IfErr, IfOk, OnOk, drop, length, take, true};
 ghost use Rattle.std.specs.List.Sorted.{IsNonDecreasingBy};
 ghost use Rattle.cd_script.specs.Patch.{IsPatch};
-ghost use Rattle.cd_report.specs.Report.{AnswersByLength, EndsWell, TellsTooLong};
-ghost use Rattle.cd_image.specs.Applying.{Applies, Checks, HoldsFew, WritesCarried, WritesLog, WritesPatched, streams};
+ghost use Rattle.cd_report.specs.Report.{AnswersByEnd, AnswersByLength, EndsWell, TellsTooLong};
+ghost use Rattle.cd_image.specs.Applying.{Applies, BeginsLog, Checks, HoldsFew, WritesCarried, WritesLog, WritesPatched, streams};
 
 use crate::discard::Discard;
 use crate::pass::Pass;
@@ -29,7 +29,7 @@ pub fn apply<I: Source, O: Sink, L: Sink>(
     out: &mut O,
     log: &mut L,
 ) -> Result<Tally, Fault>
-    requires base { base ≤ MAX_BASE }
+    requires base { base ≤ 449849 }
     requires image_countable { (I.seen image.old).failures < 4294967295 }
     requires out_countable { (O.seen out.old).failures < 4294967295 }
     requires log_countable { (L.seen log.old).failures < 4294967295 }
@@ -50,6 +50,9 @@ pub fn apply<I: Source, O: Sink, L: Sink>(
     ensures too_long { TellsTooLong (I.seen image.old) (I.seen image.new) result }
     ensures by_length { (I.seen image.new).failures ≡ (I.seen image.old).failures → (O.seen out.new).failures ≡ (O.seen out.old).failures
         → (L.seen log.new).failures ≡ (L.seen log.old).failures → AnswersByLength (I.seen image.old) result }
+    ensures ended { OnOk result ((I.seen image.new).ended ≡ true) }
+    ensures by_end { (I.seen image.new).failures ≡ (I.seen image.old).failures → (O.seen out.new).failures ≡ (O.seen out.old).failures
+        → (L.seen log.new).failures ≡ (L.seen log.old).failures → AnswersByEnd (I.seen image.new) result }
     ensures holds_few { HoldsFew (streams (I.seen image.old) (O.seen out.old) (L.seen log.old))
         (streams (I.seen image.new) (O.seen out.new) (L.seen log.new)) }
 {
@@ -64,21 +67,25 @@ pub fn check<I: Source, L: Sink>(
     carry: bool,
     log: &mut L,
 ) -> Result<Tally, Fault>
-    requires base { base ≤ MAX_BASE }
+    requires base { base ≤ 449849 }
     requires image_countable { (I.seen image.old).failures < 4294967295 }
     requires log_countable { (L.seen log.old).failures < 4294967295 }
 
     // The whole of it, also what stands after a fault: what `apply` does with an output that keeps nothing.
     ensures report { Checks carry script.now base (I.seen image.old) (I.seen image.new) (L.seen log.old) (L.seen log.new) result }
 
-    // What it says where nothing failed, and when each fault comes.
+    // What it says where nothing failed, what the log has after a fault, and when each fault comes.
     ensures log { IfOk result (WritesLog carry script.now base (I.seen image.old) (L.seen log.old) (L.seen log.new)) }
+    ensures begins { IfErr result (λ fault. BeginsLog carry script.now base (I.seen image.old) (I.seen image.new) (L.seen log.old) (L.seen log.new) fault) }
     ensures ends_well { OnOk result (EndsWell (I.seen image.old) (I.seen image.new) (L.seen log.old) (L.seen log.new)) }
     ensures read_failed { (result ≡ Err Fault.Read) ↔ ((I.seen image.new).failures ≡ (I.seen image.old).failures + 1) }
     ensures log_failed { (result ≡ Err Fault.Log) ↔ ((L.seen log.new).failures ≡ (L.seen log.old).failures + 1) }
     ensures too_long { TellsTooLong (I.seen image.old) (I.seen image.new) result }
     ensures by_length { (I.seen image.new).failures ≡ (I.seen image.old).failures → (L.seen log.new).failures ≡ (L.seen log.old).failures
         → AnswersByLength (I.seen image.old) result }
+    ensures ended { OnOk result ((I.seen image.new).ended ≡ true) }
+    ensures by_end { (I.seen image.new).failures ≡ (I.seen image.old).failures → (L.seen log.new).failures ≡ (L.seen log.old).failures
+        → AnswersByEnd (I.seen image.new) result }
     ensures no_output { result ≢ Err Fault.Write }
 {
     check_whole(image, script.patches(), base, carry, log)

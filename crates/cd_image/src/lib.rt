@@ -15,8 +15,8 @@ pub use cd_report::{
     list, runs_spell_kinds,
 };
 pub use cd_stream::{
-    FailAfter, FromRead, LINE_SIZE, Line, Short, Sink, SinkFailed, SliceSink, SliceSource, Source,
-    SourceFailed, ToWrite, ZeroSource, fill, write_all,
+    Buffered, FailAfter, FromRead, LINE_SIZE, Line, Short, Sink, SinkFailed, SliceSink,
+    SliceSource, Source, SourceFailed, ToWrite, ZeroSource, fill, write_all,
 };
 pub use laws::{patched_carries, patched_exists, patched_is_determined};
 pub use patch_log::Tally;

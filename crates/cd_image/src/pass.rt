@@ -1,6 +1,6 @@
 //! One pass over an image that takes patches on its way: at most three sectors are in hand.
 
-ghost use Rattle.std.specs.Prelude.{◌≡◌, ◌≢◌, ℕ, ◌+◌, ◌-◌, ◌<◌, ◌≤◌, ◌⊎◌, ◌++◌, [], ◌∷◌, true, false, All, Bool, List, cond, None, OnOk, IfOk, IfSome, IfNone, IsSome, length, take, drop, slice_get};
+ghost use Rattle.std.specs.Prelude.{◌≡◌, ◌≢◌, ℕ, ◌+◌, ◌<◌, ◌≤◌, ◌⊎◌, ◌++◌, [], ◌∷◌, false, All, Bool, List, cond, None, OnOk, IfOk, IfSome, IfNone, IsSome, length, take, drop, slice_get};
 ghost use Rattle.std.specs.List.Sorted.{IsNonDecreasingBy};
 ghost use Rattle.cd_script.specs.Patch.{IsPatch};
 ghost use Rattle.cd_script.specs.declared.patch.Patch.{Patch};
@@ -9,23 +9,20 @@ ghost use Rattle.cd_patch.specs.Laws.{is_applied};
 ghost use Rattle.cd_stream.specs.Stream.{Incoming, Outgoing};
 ghost use Rattle.cd_stream.specs.Transfer.{Flushes};
 ghost use Rattle.cd_image.specs.Applying.{Applies, Streams, streams};
-ghost use Rattle.cd_image.specs.Passing.{GoesOn, HasShortTail, IsEnded, Steps, StepsOrTakes, Turns, left_to_do};
+ghost use Rattle.cd_image.specs.Passing.{GoesOn, IsEnded, Steps, Turns, left_to_do};
 
 use crate::patch_log::{Tally, finish_log, send_counts, send_missing, send_outcome};
 use crate::window::Window;
 use cd_patch::{Outcome, blocks_met};
-use cd_report::{Fault, read_sector};
+use cd_report::Fault;
 use cd_script::Patch;
-use cd_sector::{SECTOR_SIZE, Sector};
 use cd_stream::{Sink, SinkFailed, Source, write_all};
 
 /// How far a pass has come.
 #[derive(Drop)]
 pub(crate) struct Pass {
-    /// Sectors that were read and have not gone out, the first of which is that of `block`.
+    /// Sectors that were read and have not gone out, the first of which is that of `block`, and the tail.
     window: Window,
-    /// What was read last.
-    bytes: [u8; SECTOR_SIZE],
     /// The first block that has not gone out.
     block: u32,
     /// How many sectors were read.
@@ -34,77 +31,41 @@ pub(crate) struct Pass {
     decided: usize,
     /// How many of these were accepted.
     applied: u32,
-    /// Once the image has ended: the number of bytes of its tail, which stands at the front of `bytes`.
-    tail: Option<usize>,
 }
 
 impl Pass {
     /// Before the first sector, which is that of block `base`, behind so many patches that were decided.
     pub(crate) fn new(base: u32, decided: usize) -> Self
-        ensures window { result.window ≡ [] }
+        ensures empty { result.window.sectors ≡ [] }
+        ensures unended { result.window.tail ≡ None }
         ensures block { result.block ≡ base }
         ensures sectors { result.sectors ≡ 0 }
         ensures decided { result.decided ≡ decided }
         ensures applied { result.applied ≡ 0 }
-        ensures tail { result.tail ≡ None }
     {
         Pass {
             window: Window::new(),
-            bytes: [0; SECTOR_SIZE],
             block: base,
             sectors: 0,
             decided,
             applied: 0,
-            tail: None,
         }
     }
 
-    /// Reads one more sector into the window, where there is one.
-    fn read_ahead<I: Source>(&mut self, image: &mut I) -> Result<(), Fault>
+    /// Reads one more sector into the window, or the tail.
+    fn read_next<I: Source>(&mut self, image: &mut I) -> Result<(), Fault>
         requires countable { (I.seen image.old).failures < 4294967295 }
         requires few { self.old.sectors ≤ 1000000 }
-        requires room { length self.old.window < 3 }
-        requires unended { self.old.tail ≡ None }
+        requires room { length self.old.window.sectors < 3 }
+        requires unended { self.old.window.tail ≡ None }
         ensures goes { (carry : Bool) (taken left : List Patch) (base : ℕ) (start : Streams) (out log : Outgoing)
             → GoesOn carry taken left base start (streams (I.seen image.old) out log) self.old
             → Steps carry taken left taken left base start (streams (I.seen image.new) out log) self.new result }
         ensures decided { OnOk result (self.new.decided ≡ self.old.decided) }
-        ensures short { HasShortTail self.old → HasShortTail self.new }
         ensures nearer { OnOk result ((count : ℕ) → left_to_do count self.new < left_to_do count self.old) }
     {
-        match read_sector(image, self.sectors, &mut self.bytes)? {
-            None => {
-                self.sectors += 1;
-                self.window.push(Sector::from_bytes(self.bytes));
-            }
-            Some(length) => self.tail = Some(length),
-        }
-        Ok(())
-    }
-
-    /// Reads one more sector and sends it, where there is one; none waits before it.
-    fn pass_on<I: Source, O: Sink>(&mut self, image: &mut I, out: &mut O) -> Result<(), Fault>
-        requires image_countable { (I.seen image.old).failures < 4294967295 }
-        requires out_countable { (O.seen out.old).failures < 4294967295 }
-        requires few { self.old.sectors ≤ 1000000 }
-        requires small { self.old.block < 4294967295 }
-        requires empty { self.old.window ≡ [] }
-        requires unended { self.old.tail ≡ None }
-        ensures goes { (carry : Bool) (taken left : List Patch) (base : ℕ) (start : Streams) (log : Outgoing)
-            → All (λ p. self.old.block < p.block) left
-            → GoesOn carry taken left base start (streams (I.seen image.old) (O.seen out.old) log) self.old
-            → Steps carry taken left taken left base start (streams (I.seen image.new) (O.seen out.new) log) self.new result }
-        ensures decided { OnOk result (self.new.decided ≡ self.old.decided) }
-        ensures short { HasShortTail self.old → HasShortTail self.new }
-        ensures nearer { OnOk result ((count : ℕ) → left_to_do count self.new < left_to_do count self.old) }
-    {
-        match read_sector(image, self.sectors, &mut self.bytes)? {
-            None => {
-                self.sectors += 1;
-                write_all(out, &self.bytes)?;
-                self.block += 1;
-            }
-            Some(length) => self.tail = Some(length),
+        if self.window.read_next(image, self.sectors)? {
+            self.sectors += 1;
         }
         Ok(())
     }
@@ -113,16 +74,15 @@ impl Pass {
     fn send_front<O: Sink>(&mut self, out: &mut O) -> Result<(), Fault>
         requires countable { (O.seen out.old).failures < 4294967295 }
         requires small { self.old.block < 4294967295 }
-        requires some { 0 < length self.old.window }
+        requires some { 0 < length self.old.window.sectors }
         ensures goes { (carry : Bool) (taken left : List Patch) (base : ℕ) (start : Streams) (image : Incoming) (log : Outgoing)
             → All (λ p. self.old.block < p.block) left
             → GoesOn carry taken left base start (streams image (O.seen out.old) log) self.old
             → Steps carry taken left taken left base start (streams image (O.seen out.new) log) self.new result }
         ensures decided { OnOk result (self.new.decided ≡ self.old.decided) }
-        ensures short { HasShortTail self.old → HasShortTail self.new }
         ensures nearer { OnOk result ((count : ℕ) → left_to_do count self.new < left_to_do count self.old) }
     {
-        write_all(out, self.window.as_slice()[0].bytes())?;
+        write_all(out, self.window.front().bytes())?;
         self.window.remove_first();
         self.block += 1;
         Ok(())
@@ -134,15 +94,14 @@ impl Pass {
         requires countable { (L.seen log.old).failures < 4294967295 }
         requires patch { IsPatch patch.now }
         requires at { patch.now.block ≡ self.old.block }
-        requires some { 0 < length self.old.window }
-        requires reach { (blocks_met patch.now ≤ length self.old.window) ⊎ IsSome self.old.tail }
+        requires some { 0 < length self.old.window.sectors }
+        requires reach { (blocks_met patch.now ≤ length self.old.window.sectors) ⊎ IsSome self.old.window.tail }
         requires few { self.old.decided < 65535 }
         requires small { self.old.applied ≤ self.old.decided }
         ensures goes { (taken left : List Patch) (base : ℕ) (start : Streams) (image : Incoming) (out : Outgoing)
             → GoesOn carry taken (patch.now ∷ left) base start (streams image out (L.seen log.old)) self.old
             → Steps carry taken (patch.now ∷ left) (taken ++ patch.now ∷ []) left base start (streams image out (L.seen log.new)) self.new result }
         ensures decided { OnOk result (self.new.decided ≡ self.old.decided + 1) }
-        ensures short { HasShortTail self.old → HasShortTail self.new }
         ensures nearer { OnOk result ((count : ℕ) → self.old.decided < count → left_to_do count self.new < left_to_do count self.old) }
     {
         let outcome = self.window.take(patch, carry);
@@ -163,8 +122,8 @@ impl Pass {
         }
     }
 
-    /// Does the next thing: takes a patch that begins at the front block, for which it reads ahead as far as the patch
-    /// asks; else sends a sector. Answers whether there was anything to do.
+    /// Does the next thing: reads a sector, while fewer are in hand than the front block asks for and the image has not
+    /// ended; else takes the patch that begins there, or sends the front sector. Answers whether there was anything to do.
     pub(crate) fn turn<I: Source, O: Sink, L: Sink>(
         &mut self,
         image: &mut I,
@@ -187,70 +146,18 @@ impl Pass {
             (streams (I.seen image.old) (O.seen out.old) (L.seen log.old)) self.old
             → Turns carry patches.now base start (streams (I.seen image.new) (O.seen out.new) (L.seen log.new)) self.new result }
         ensures known { OnOk result (self.old.decided ≤ length patches.now → self.new.decided ≤ length patches.now) }
-        ensures short { HasShortTail self.old → HasShortTail self.new }
         ensures ended { IfOk result (λ more. more ≡ false → IsEnded self.new) }
         ensures nearer { IfOk result (λ more. left_to_do (length patches.now) self.new + cond more 1 0 ≤ left_to_do (length patches.now) self.old) }
     {
-        match self.patch_at_front(patches) {
-            Some(patch) => self.turn_at(image, patch, carry, log),
-            None => self.turn_behind(image, out),
-        }
-    }
-
-    /// At the front block, where a patch begins.
-    fn turn_at<I: Source, L: Sink>(
-        &mut self,
-        image: &mut I,
-        patch: &Patch,
-        carry: bool,
-        log: &mut L,
-    ) -> Result<bool, Fault>
-        requires image_countable { (I.seen image.old).failures < 4294967295 }
-        requires log_countable { (L.seen log.old).failures < 4294967295 }
-        requires patch { IsPatch patch.now }
-        requires at { patch.now.block ≡ self.old.block }
-        requires few { self.old.sectors ≤ 1000000 }
-        requires decided { self.old.decided < 65535 }
-        requires applied { self.old.applied ≤ self.old.decided }
-        ensures goes { (taken left : List Patch) (base : ℕ) (start : Streams) (out : Outgoing)
-            → GoesOn carry taken (patch.now ∷ left) base start (streams (I.seen image.old) out (L.seen log.old)) self.old
-            → StepsOrTakes carry taken patch.now left base start self.old.decided (streams (I.seen image.new) out (L.seen log.new)) self.new result }
-        ensures decided { OnOk result (self.new.decided ≤ self.old.decided + 1) }
-        ensures short { HasShortTail self.old → HasShortTail self.new }
-        ensures ended { IfOk result (λ more. more ≡ false → IsEnded self.new) }
-        ensures nearer { IfOk result (λ more. (count : ℕ) → self.old.decided < count → left_to_do count self.new + cond more 1 0 ≤ left_to_do count self.old) }
-    {
-        if self.tail.is_none() && self.window.len() < blocks_met(patch) {
-            self.read_ahead(image)?;
-        } else if !self.window.is_empty() {
+        let patch = self.patch_at_front(patches);
+        if self.window.len() < sectors_wanted(patch) && !self.window.has_ended() {
+            self.read_next(image)?;
+        } else if self.window.is_empty() {
+            return Ok(false);
+        } else if let Some(patch) = patch {
             self.take_front(patch, carry, log)?;
         } else {
-            return Ok(false);
-        }
-        Ok(true)
-    }
-
-    /// At the front block, where no patch begins.
-    fn turn_behind<I: Source, O: Sink>(&mut self, image: &mut I, out: &mut O) -> Result<bool, Fault>
-        requires image_countable { (I.seen image.old).failures < 4294967295 }
-        requires out_countable { (O.seen out.old).failures < 4294967295 }
-        requires few { self.old.sectors ≤ 1000000 }
-        requires small { self.old.block < 4294967295 }
-        ensures goes { (carry : Bool) (taken left : List Patch) (base : ℕ) (start : Streams) (log : Outgoing)
-            → All (λ p. self.old.block < p.block) left
-            → GoesOn carry taken left base start (streams (I.seen image.old) (O.seen out.old) log) self.old
-            → Steps carry taken left taken left base start (streams (I.seen image.new) (O.seen out.new) log) self.new result }
-        ensures decided { OnOk result (self.new.decided ≡ self.old.decided) }
-        ensures short { HasShortTail self.old → HasShortTail self.new }
-        ensures ended { IfOk result (λ more. more ≡ false → IsEnded self.new) }
-        ensures nearer { IfOk result (λ more. (count : ℕ) → left_to_do count self.new + cond more 1 0 ≤ left_to_do count self.old) }
-    {
-        if !self.window.is_empty() {
             self.send_front(out)?;
-        } else if self.tail.is_none() {
-            self.pass_on(image, out)?;
-        } else {
-            return Ok(false);
         }
         Ok(true)
     }
@@ -266,26 +173,39 @@ impl Pass {
         requires log_countable { (L.seen log.old).failures < 4294967295 }
         requires count { length patches.now ≤ 65535 }
         requires ended { IsEnded self }
-        requires short { HasShortTail self }
         requires decided { self.decided ≤ length patches.now }
         requires applied { self.applied ≤ self.decided }
         ensures { (carry : Bool) (base : ℕ) (start : Streams) (image : Incoming)
             → GoesOn carry (take self.decided patches.now) (drop self.decided patches.now) base start (streams image (O.seen out.old) (L.seen log.old)) self
             → Applies carry patches.now base start (streams image (O.seen out.new) (L.seen log.new)) result }
     {
-        let tail = self.tail.unwrap_or(0);
+        let tail = self.window.tail();
         let tally = Tally {
             applied: self.applied,
             refused: patches.len() as u32 - self.applied,
             sectors: self.sectors,
-            tail: tail as u16,
+            tail: tail.len() as u16,
         };
-        write_all(out, &self.bytes[..tail])?;
+        write_all(out, tail)?;
         send_missing(&patches[self.decided..], log)?;
         send_counts(tally.applied, tally.refused, log)?;
         finish_output(out)?;
         finish_log(log)?;
         Ok(tally)
+    }
+}
+
+/// The number of sectors that have to be in hand before the next thing at the front block: those that the patch meets
+/// that begins there, else that block's own.
+fn sectors_wanted(patch: Option<&Patch>) -> usize
+    requires each { IfSome patch (λ p. IsPatch p.now) }
+    ensures some { IfSome patch.entry (λ p. result ≡ blocks_met p.now) }
+    ensures none { IfNone patch.entry (result ≡ 1) }
+    ensures few { (0 < result) × (result ≤ 3) }
+{
+    match patch {
+        Some(patch) => blocks_met(patch),
+        None => 1,
     }
 }
 

@@ -1,102 +1,186 @@
 //! The sectors that a pass has in hand.
 
-ghost use Rattle.std.specs.Prelude.{◌≡◌, ◌==◌, ◌<◌, [], ◌∷◌, ◌++◌, length, remove};
+ghost use Rattle.std.specs.Prelude.{◌≡◌, ◌==◌, ◌<◌, ◌≤◌, [], ◌∷◌, List, ℕ, None, drop, get_or, is_some, length, take};
+ghost use Rattle.cd_sector.specs.declared.sector.TheConstants.{SECTOR_SIZE};
 ghost use Rattle.cd_script.specs.Patch.{IsPatch};
 ghost use Rattle.cd_patch.specs.Deciding.{outcome};
 ghost use Rattle.cd_patch.specs.Effect.{Effect};
+ghost use Rattle.cd_report.specs.Reading.{ReadsSector};
+ghost use Rattle.cd_image.specs.InHand.{ReadsNext, tail_bytes};
 
 use arrayvec::ArrayVec;
 use cd_patch::{Outcome, take_patch};
+use cd_report::{Fault, read_sector};
 use cd_script::Patch;
 use cd_sector::Sector;
+use cd_stream::Source;
 use std::marker::Model;
 
-/// At most three sectors, in the order in which they came. A contract sees their list.
+/// At most three sectors, in the order in which they came, and the tail after them once the image has ended. A contract
+/// sees these.
 #[derive(Drop)]
 pub(crate) struct Window {
-    sectors: ArrayVec<Sector, 3>,
-    /// The one sector that is there has gone out, and its place is the next one's: an `ArrayVec` writes a whole blank
-    /// sector over a place that it leaves.
-    spent: bool,
+    /// The sectors in hand, then places for those to come: an `ArrayVec` writes a whole blank sector over a place that it
+    /// leaves, so none is left.
+    places: ArrayVec<Sector, 3>,
+    /// The number of sectors in hand.
+    held: usize,
+    /// Once the image has ended: the number of bytes of its tail, which stands at the front of the next sector's place.
+    tail: Option<usize>,
 }
 
 impl Model for Window {
-    ghost use Rattle.std.specs.Prelude.{◌≡◌, ℕ, true, List, [], cond, length};
+    ghost use Rattle.std.specs.Prelude.{◌<◌, ◌≤◌, [], IfSome, get_or, length, take};
+    ghost use Rattle.cd_sector.specs.declared.sector.TheConstants.{SECTOR_SIZE};
+    ghost use Rattle.cd_image.specs.InHand.{InHand, tail_read};
 
-    ghost Value = { List (List ℕ) };
+    ghost Value = { InHand };
 
-    ghost view = { λ window. cond window.spent [] window.sectors.items };
+    ghost view = { λ window. record {
+      sectors = take window.held window.places.items;
+      tail = tail_read window.tail (get_or window.places.items window.held []);
+    } };
 
-    ghost invariant = { λ window. window.spent ≡ true → length window.sectors.items ≡ 1 };
+    ghost invariant = { λ window. (window.held ≤ length window.places.items)
+        × IfSome window.tail (λ left. (left < SECTOR_SIZE) × (window.held < length window.places.items)) };
 }
 
 impl Window {
-    /// Without a sector.
+    /// Without a sector, before the end of the image.
     pub(crate) fn new() -> Self
-        ensures { result ≡ [] }
+        ensures sectors { result.sectors ≡ [] }
+        ensures tail { result.tail ≡ None }
     {
         Window {
-            sectors: ArrayVec::new(),
-            spent: false,
+            places: ArrayVec::new(),
+            held: 0,
+            tail: None,
         }
     }
 
     /// The number of sectors.
     pub(crate) fn len(&self) -> usize
-        ensures { result ≡ length self.now }
+        ensures { result ≡ length self.now.sectors }
     {
-        self.as_slice().len()
+        self.held
     }
 
     /// Whether there is no sector.
     pub(crate) fn is_empty(&self) -> bool
-        ensures { result ≡ (length self.now == 0) }
+        ensures { result ≡ (length self.now.sectors == 0) }
     {
-        self.as_slice().is_empty()
+        self.held == 0
     }
 
-    /// The sectors.
-    pub(crate) fn as_slice(&self) -> &[Sector]
-        ensures { result.now ≡ self.now }
+    /// Whether the image has ended.
+    pub(crate) fn has_ended(&self) -> bool
+        ensures { result ≡ is_some self.now.tail }
     {
-        if self.spent {
-            return &[];
+        self.tail.is_some()
+    }
+
+    /// The first of the sectors.
+    pub(crate) fn front(&self) -> &Sector
+        requires { 0 < length self.now.sectors }
+        ensures { (others : List (List ℕ)) × (self.now.sectors ≡ result.now ∷ others) }
+    {
+        &self.places.as_slice()[0]
+    }
+
+    /// The bytes of the tail: none before the image has ended.
+    pub(crate) fn tail(&self) -> &[u8]
+        ensures bytes { result.now ≡ tail_bytes self.now.tail }
+        ensures short { length result.now < SECTOR_SIZE }
+    {
+        match self.tail {
+            Some(left) => &self.places.as_slice()[self.held].bytes()[..left],
+            None => &[],
         }
-        self.sectors.as_slice()
     }
 
-    /// Puts a sector behind the others.
-    pub(crate) fn push(&mut self, sector: Sector)
-        requires { length self.old < 3 }
-        ensures { self.new ≡ self.old ++ sector ∷ [] }
+    /// Reads the next sector of an image, after `count` others, or its tail, to its place. Answers whether it was a sector.
+    pub(crate) fn read_next<I: Source>(&mut self, image: &mut I, count: u32) -> Result<bool, Fault>
+        requires countable { (I.seen image.old).failures < 4294967295 }
+        requires few { count ≤ 1000000 }
+        requires room { length self.old.sectors < 3 }
+        requires unended { self.old.tail ≡ None }
+        ensures { ReadsNext count self.old self.new (I.seen image.old) (I.seen image.new) result }
     {
-        if self.spent {
-            self.sectors.as_mut_slice()[0] = sector;
-            self.spent = false;
-        } else {
-            self.sectors.push(sector);
+        make_place(&mut self.places, self.held);
+        match read_to(self.places.as_mut_slice(), self.held, image, count)? {
+            None => {
+                self.held += 1;
+                Ok(true)
+            }
+            Some(left) => {
+                self.tail = Some(left);
+                Ok(false)
+            }
         }
     }
 
-    /// Takes the first sector out.
+    /// Takes the first sector out. What stands after it moves up one place.
     pub(crate) fn remove_first(&mut self)
-        requires { 0 < length self.old }
-        ensures { self.new ≡ remove self.old 0 }
+        requires { 0 < length self.old.sectors }
+        ensures sectors { self.new.sectors ≡ drop 1 self.old.sectors }
+        ensures tail { self.new.tail ≡ self.old.tail }
     {
-        if self.sectors.len() == 1 {
-            self.spent = true;
-        } else {
-            self.sectors.remove(0);
+        if self.held > 1 || self.tail.is_some() {
+            self.places.as_mut_slice().rotate_left(1);
         }
+        self.held -= 1;
     }
 
     /// Takes a patch that begins at the first of the sectors; damage may be carried.
     pub(crate) fn take(&mut self, patch: &Patch, carry: bool) -> Outcome
         requires patch { IsPatch patch.now }
-        requires some { 0 < length self.old }
-        ensures outcome { result ≡ outcome carry self.old patch.now.block patch.now }
-        ensures effect { Effect carry patch.now.block patch.now self.old self.new }
+        requires some { 0 < length self.old.sectors }
+        ensures outcome { result ≡ outcome carry self.old.sectors patch.now.block patch.now }
+        ensures effect { Effect carry patch.now.block patch.now self.old.sectors self.new.sectors }
+        ensures tail { self.new.tail ≡ self.old.tail }
     {
-        take_patch(self.sectors.as_mut_slice(), patch, carry)
+        take_among(self.places.as_mut_slice(), self.held, patch, carry)
     }
+}
+
+/// Makes the place behind the first `held` where there is none yet.
+fn make_place(places: &mut ArrayVec<Sector, 3>, held: usize)
+    requires room { held < 3 }
+    requires within { held ≤ length places.old.items }
+    ensures more { held < length places.new.items }
+    ensures same { take held places.new.items ≡ take held places.old.items }
+{
+    if held == places.len() {
+        places.push(Sector::default());
+    }
+}
+
+/// Reads the next sector of an image, after `count` others, to one of the places.
+fn read_to<I: Source>(
+    places: &mut [Sector],
+    place: usize,
+    image: &mut I,
+    count: u32,
+) -> Result<Option<usize>, Fault>
+    requires countable { (I.seen image.old).failures < 4294967295 }
+    requires few { count ≤ 1000000 }
+    requires within { place < length places.old }
+    ensures reads { ReadsSector count (get_or places.new place []) (I.seen image.old) (I.seen image.new) result }
+    ensures size { length places.new ≡ length places.old }
+    ensures others { take place places.new ≡ take place places.old }
+{
+    read_sector(image, count, &mut places[place])
+}
+
+/// Takes a patch that begins at the first of `held` sectors, which are the first of the places.
+fn take_among(places: &mut [Sector], held: usize, patch: &Patch, carry: bool) -> Outcome
+    requires patch { IsPatch patch.now }
+    requires some { 0 < held }
+    requires within { held ≤ length places.old }
+    ensures outcome { result ≡ outcome carry (take held places.old) patch.now.block patch.now }
+    ensures effect { Effect carry patch.now.block patch.now (take held places.old) (take held places.new) }
+    ensures size { length places.new ≡ length places.old }
+    ensures others { get_or places.new held [] ≡ get_or places.old held [] }
+{
+    take_patch(&mut places[..held], patch, carry)
 }

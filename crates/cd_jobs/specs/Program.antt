@@ -1,8 +1,8 @@
 -- What the program does for a job: which files it asks for, by which names and in which order, and what it does with them.
-use Rattle.std.specs.Prelude.{◌≡◌, ◌≢◌, ℕ, ◌⊎◌, Bool, List, Option, None, Result, Ok, Err, codes, if◌then◌else◌, is_some, string_bytes}
-use Rattle.std.specs.Io.KnownBytes.{Consumes}
-use Rattle.cd_command.specs.CommandLine.{IsJobOf, IsTaken}
-use Rattle.cd_command.specs.Fault.{HasKindOf, printed, status_of}
+use Rattle.std.specs.Prelude.{◌≡◌, ◌≢◌, ℕ, ◌≤◌, ◌⊎◌, Bool, List, [], Option, None, Result, Ok, Err, codes, if◌then◌else◌, is_some, string_bytes, true}
+use Rattle.std.specs.Io.KnownBytes.{Consumes, Keeps}
+use Rattle.cd_command.specs.CommandLine.{IsJobOf, IsTaken, base_in, max_base}
+use Rattle.cd_command.specs.Fault.{HasKindOf, kinds_of, printed, status_of}
 use Rattle.cd_command.specs.declared.fault.LineFault.{LineFault}
 use Rattle.cd_command.specs.declared.fault.LineFault.TheVariants as line_fault
 use Rattle.cd_command.specs.declared.job.Job.{Job}
@@ -15,11 +15,10 @@ use Rattle.cd_report.specs.declared.fault.Fault.TheVariants.{Log, Write}
 use Rattle.cd_script.specs.Order.{order}
 use Rattle.cd_script.specs.Script.{script}
 use Rattle.cd_script.specs.declared.fault.ScriptFault.{ScriptFault}
-use Rattle.cd_script.specs.declared.fault.ScriptFault.TheVariants as script_fault
 use Rattle.cd_script.specs.declared.patch.Patch.{Patch}
 use Rattle.cd_stream.specs.Stream.{Incoming, Outgoing}
 use Rattle.cd_jobs.specs.Run.{Runs, SaysLine, audit_status, script_status}
-use Rattle.cd_jobs.specs.ScriptLines.{ReadsWhole, Stops, load_line, script_line}
+use Rattle.cd_jobs.specs.ScriptLines.{IsFaultOf, ReadsWhole, Stops, load_line, script_line}
 use Rattle.cd_jobs.specs.declared.host.NoFile.{NoFile}
 use Rattle.cd_jobs.specs.declared.host.NoFile.TheVariants.{Refused, NoMemory}
 use Rattle.cd_jobs.specs.declared.script.LoadFault.{LoadFault}
@@ -104,7 +103,7 @@ ReadsScript file file' log log' (Ok patches) =
 ReadsScript file file' log log' (Err status) =
     ((read : List ℕ) × Consumes file.rest file'.rest read × ((fault : LoadFault) × Stops fault read file file' × Fails (load_line fault) log log' status))
     ⊎ ((text : List ℕ) × Consumes file.rest file'.rest text × ReadsWhole text file file'
-    × ((fault : ScriptFault) × (fault ≢ script_fault.NoMemory → script text ≡ Err fault) × Fails (script_line fault) log log' status))
+    × ((fault : ScriptFault) × IsFaultOf text fault × Fails (script_line fault) log log' status))
 
 -- what came of a script's file, or that it is not there
 abbrev pub ComesOfFile : {H I O : Type 0} → Hosting H I O → Outgoing → Outgoing → Result (List Patch) ℕ → Result I NoFile → Type 0
@@ -136,12 +135,19 @@ pub record ChecksOn (carry : Bool) {H I O : Type 0} (on : Hosting H I O) (base :
   pub left : I
   pub runs : Runs (λ log' answer. Checks carry patches base (on.come image) (on.come left) before log' answer) Log script_status after status
 
--- the image was patched into the new file
+-- what a file has got stays, and it is finished in the end, or a call on it has failed
+pub record PassesOnRest (before after : Outgoing) : Type 0 where
+  pub stays : Keeps before.written after.written
+  pub ended : (after.finished ≡ true) ⊎ (after.failures ≢ 0)
+
+-- the image was patched into the new file, and what that still held was passed on
 pub record AppliesInto (carry : Bool) {H I O : Type 0} (on : Hosting H I O) (base : ℕ) (patches : List Patch) (before after : Outgoing) (status : ℕ) (image : I) (out : O) : Type 0 where
   pub left : I
   pub made : O
   pub runs : Runs (λ log' answer. Applies carry patches base (streams (on.come image) (on.gone out) before) (streams (on.come left) (on.gone made) log') answer)
       Log script_status after status
+  pub last : O
+  pub rest : PassesOnRest (on.gone made) (on.gone last)
 
 -- the file of this name was made, and the image was patched into it
 pub record AppliesOn (carry : Bool) {H I O : Type 0} (on : Hosting H I O) (path : List ℕ) (base : ℕ) (patches : List Patch) (host' : H) (before after : Outgoing) (status : ℕ) (image : I) (middle : H) : Type 0 where
@@ -195,8 +201,8 @@ pub record Refuses {H : Type 0} (words : List (List ℕ)) (host host' : H) (befo
   pub memory : IsTaken words → fault ≡ line_fault.NoMemory
   pub tells : Tells fault before after status
 
--- the words ask for a job, and it is done; or they ask for none
+-- the words ask for a job, with no fault, no help asked for and a base that has an address, and it is done; or they ask for none
 abbrev pub DoesWords : {H I O : Type 0} → Hosting H I O → List (List ℕ) → H → H → Outgoing → Outgoing → ℕ → Type 0
 DoesWords on words host host' before after status =
-    ((job : Job) × IsJobOf words job × DoesJob on job host host' before after status)
+    ((job : Job) × IsJobOf words job × (kinds_of words ≡ []) × (base_in job ≤ max_base) × DoesJob on job host host' before after status)
     ⊎ Refuses words host host' before after status

@@ -4,7 +4,8 @@ use Rattle.std.specs.Io.KnownBytes.{Consumes, IsAtEnd}
 use Rattle.cd_stream.specs.Stream.{Incoming, Outgoing}
 use Rattle.cd_script.specs.declared.fault.ScriptFault.{ScriptFault}
 use Rattle.cd_script.specs.declared.fault.ScriptFault.TheVariants as script_fault
-use Rattle.cd_script.specs.declared.script.TheConstants.{MAX_TEXT}
+use Rattle.cd_script.specs.Script.{script}
+use Rattle.cd_script.specs.Text.{text_limit}
 use Rattle.cd_jobs.specs.Run.{SaysLine}
 use Rattle.cd_jobs.specs.declared.script.LoadFault.{LoadFault}
 use Rattle.cd_jobs.specs.declared.script.LoadFault.TheVariants.{Read, TooLong, NoMemory}
@@ -28,6 +29,11 @@ script_line (script_fault.Address line) = numbered_line line (codes "bad address
 script_line (script_fault.TooMany line) = numbered_line line (codes "more than 65535 patches")
 script_line script_fault.NoMemory = codes "script: no memory\n"
 
+-- the fault that is said of a text: the text's own where it has one, whatever memory there is, and else want of memory
+pub record IsFaultOf (text : List ℕ) (fault : ScriptFault) : Type 0 where
+  pub own : (e : ScriptFault) → script text ≡ Err e → fault ≡ e
+  pub other : fault ≢ script_fault.NoMemory → script text ≡ Err fault
+
 -- ---- the file of a script
 
 -- the line of a file's fault
@@ -40,13 +46,13 @@ load_line NoMemory = codes "cdpatch: no memory\n"
 pub record ReadsWhole (read : List ℕ) (file file' : Incoming) : Type 0 where
   pub reads : file'.failures ≡ file.failures
   pub at_end : IsAtEnd file'.rest
-  pub within : length read ≤ MAX_TEXT
+  pub within : length read ≤ text_limit
 
 -- where the reading stopped: a read failed, a byte too many came, or memory was refused
 abbrev pub Stops : LoadFault → List ℕ → Incoming → Incoming → Type 0
-Stops Read read file file' = (file'.failures ≡ file.failures + 1) × (length read ≤ MAX_TEXT)
-Stops TooLong read file file' = (file'.failures ≡ file.failures) × (length read ≡ MAX_TEXT + 1)
-Stops NoMemory read file file' = (file'.failures ≡ file.failures) × (length read ≤ MAX_TEXT)
+Stops Read read file file' = (file'.failures ≡ file.failures + 1) × (length read ≤ text_limit)
+Stops TooLong read file file' = (file'.failures ≡ file.failures) × (length read ≡ text_limit + 1)
+Stops NoMemory read file file' = (file'.failures ≡ file.failures) × (length read ≤ text_limit)
 
 abbrev pub GatherAnswers : {T : Type 0} → (T → List ℕ) → List ℕ → Incoming → Incoming → Result T LoadFault → Type 0
 GatherAnswers bytes_of read file file' (Ok text) = (bytes_of text ≡ read) × ReadsWhole read file file'

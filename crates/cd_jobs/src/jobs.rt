@@ -5,7 +5,7 @@ ghost use Rattle.cd_command.specs.CommandLine.{base_in};
 ghost use Rattle.cd_report.specs.AuditText.{auditing};
 ghost use Rattle.cd_report.specs.ListText.{listing};
 ghost use Rattle.cd_jobs.specs.Program.{AppliesBy, AppliesImage, AppliesOn, ChecksBy, ChecksImage, DoesJob, DoesWords, Fails};
-ghost use Rattle.cd_jobs.specs.Program.{ReadsScript, TakesImage, TakesScript, Tells, TellsImage, hosting, missing_line};
+ghost use Rattle.cd_jobs.specs.Program.{PassesOnRest, ReadsScript, TakesImage, TakesScript, Tells, TellsImage, hosting, missing_line};
 ghost use Rattle.cd_jobs.specs.Run.{audit_status};
 
 use crate::host::{Host, NoFile};
@@ -106,6 +106,16 @@ fn check_at<H: Host, L: Sink>(
     }
 }
 
+/// Passes on what a sink still holds, if none of its calls has failed. That is something where a call on an image ended early
+/// by a fault that is not this sink's.
+fn pass_on_rest<O: Sink>(out: &mut O)
+    ensures { PassesOnRest (O.seen out.old) (O.seen out.new) }
+{
+    if !out.finished() && out.failures() == 0 {
+        let _ = out.finish();
+    }
+}
+
 /// Patches an image by a script into a new file at a path.
 fn apply_into<H: Host, L: Sink>(
     host: &mut H,
@@ -123,7 +133,11 @@ fn apply_into<H: Host, L: Sink>(
         path.now base script.now host.new (L.seen log.old) (L.seen log.new) result image host.old }
 {
     match host.output_at(path) {
-        Ok(mut out) => run_apply(&mut image, script, base, carry, &mut out, log),
+        Ok(mut out) => {
+            let status = run_apply(&mut image, script, base, carry, &mut out, log);
+            pass_on_rest(&mut out);
+            status
+        }
         Err(fault) => fail_without(fault, NO_OUTPUT, log),
     }
 }
@@ -265,8 +279,9 @@ pub fn do_words<H: Host, O: Sink>(
     out: &mut O,
 ) -> u8
     requires { (O.seen out.old).failures < 4294967295 }
-    ensures { DoesWords (hosting H.Input.seen H.Output.seen H.gives_input H.gives_standard_input H.gives_output)
+    ensures does { DoesWords (hosting H.Input.seen H.Output.seen H.gives_input H.gives_standard_input H.gives_output)
         (map string_bytes words.items) host.old host.new (O.seen out.old) (O.seen out.new) result }
+    ensures few { result ≤ 2 }
 {
     match job_of(alloc, words) {
         Ok(job) => do_job(alloc, host, &job, out),

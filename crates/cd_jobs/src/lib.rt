@@ -12,4 +12,4 @@ pub use host::{Host, NoFile};
 pub use jobs::do_words;
 pub use run::{DONE, FAILED, FOUND, REFUSED, fail, run_apply, run_audit, run_check, run_list, say};
 pub use script::{load_script, read_script};
-pub use system::{BUFFER_SIZE, System};
+pub use system::System;

@@ -77,10 +77,10 @@ pub fn run_list<I: Source, O: Sink>(image: &mut I, base: u32, out: &mut O) -> u8
     requires image_countable { (I.seen image.old).failures < 4294967295 }
     requires out_countable { (O.seen out.old).failures < 4294967295 }
     ensures report { Runs (λ out' answer. Reports (listing base) (I.seen image.old) (I.seen image.new) (O.seen out.old) out' answer)
-        Fault.Write (λ _. DONE) (O.seen out.new) result }
+        Fault.Write (λ _. 0) (O.seen out.new) result }
 
     // What it says where nothing failed, and when something has.
-    ensures text { result ≢ 2 → TellsText (listing base) (λ _. DONE) (I.seen image.old) (I.seen image.new) (O.seen out.old) (O.seen out.new) result }
+    ensures text { result ≢ 2 → TellsText (listing base) (λ _. 0) (I.seen image.old) (I.seen image.new) (O.seen out.old) (O.seen out.new) result }
     ensures ends_well { result ≢ 2 → EndsWell (I.seen image.old) (I.seen image.new) (O.seen out.old) (O.seen out.new) }
     ensures failed { result ≡ 2 → ((I.seen image.new).failures ≢ (I.seen image.old).failures) ⊎ ((O.seen out.new).failures ≢ (O.seen out.old).failures)
         ⊎ IsTooLong (I.seen image.old) (I.seen image.new) }

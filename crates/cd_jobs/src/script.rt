@@ -1,13 +1,13 @@
 //! Scripts: how the file of one is read, what its text says, and the line of a fault.
 
-ghost use Rattle.std.specs.Prelude.{◌≡◌, ◌≢◌, ◌+◌, ◌<◌, ◌≤◌, List, Ok, Err, IfOk, IfErr, IfSome, OnOk, OnErr, length};
+ghost use Rattle.std.specs.Prelude.{◌≡◌, ◌+◌, ◌<◌, ◌≤◌, List, Ok, IfOk, IfErr, IfSome, OnOk, OnErr, length};
 ghost use Rattle.cd_script.specs.Order.{order};
 ghost use Rattle.cd_script.specs.Script.{script};
+ghost use Rattle.cd_script.specs.Text.{text_limit};
 ghost use Rattle.cd_script.specs.declared.fault.ScriptFault.{ScriptFault};
-ghost use Rattle.cd_script.specs.declared.fault.ScriptFault.TheVariants.{NoMemory};
 ghost use Rattle.cd_script.specs.declared.patch.Patch.{Patch};
 ghost use Rattle.cd_jobs.specs.Run.{SaysLine};
-ghost use Rattle.cd_jobs.specs.ScriptLines.{Gathers, Loads, TellsFailedReads, load_line, numbered_line, script_line};
+ghost use Rattle.cd_jobs.specs.ScriptLines.{Gathers, IsFaultOf, Loads, TellsFailedReads, load_line, numbered_line, script_line};
 
 use crate::run::fail;
 use cd_image::{Line, Sink, Source, SourceFailed};
@@ -91,12 +91,12 @@ fn line_of(fault: ScriptFault) -> Line
 /// The script of a text of at most 67,108,864 bytes. For a fault of it the fault's line goes to `log`, and the
 /// answer is the status 2.
 pub fn read_script<L: Sink>(alloc: Global, text: &[u8], log: &mut L) -> Result<Script, u8>
-    requires size { length text.now ≤ MAX_TEXT }
+    requires size { length text.now ≤ text_limit }
     requires countable { (L.seen log.old).failures < 4294967295 }
     ensures script { IfOk result (λ s. (ps : List Patch) × (script text.now ≡ Ok ps) × (s ≡ order ps)) }
     ensures nothing_said { OnOk result (L.seen log.new ≡ L.seen log.old) }
     ensures status { IfErr result (λ status. status ≡ 2) }
-    ensures line { OnErr result ((fault : ScriptFault) × (fault ≢ NoMemory → script text.now ≡ Err fault)
+    ensures line { OnErr result ((fault : ScriptFault) × IsFaultOf text.now fault
         × SaysLine (script_line fault) (L.seen log.old) (L.seen log.new)) }
 {
     match parse(alloc, text) {
@@ -149,7 +149,7 @@ pub fn load_script<I: Source, L: Sink>(
     requires log_countable { (L.seen log.old).failures < 4294967295 }
     ensures loads { Loads (λ bytes. bytes.items) (I.seen file.old) (I.seen file.new) (L.seen log.old) (L.seen log.new) result }
     ensures whole { IfOk result (λ bytes. IfSome (I.seen file.old).rest (λ all. bytes.items ≡ all)) }
-    ensures within { IfOk result (λ bytes. length bytes.items ≤ MAX_TEXT) }
+    ensures within { IfOk result (λ bytes. length bytes.items ≤ text_limit) }
     ensures nothing_said { OnOk result (L.seen log.new ≡ L.seen log.old) }
     ensures failed_reads { TellsFailedReads (I.seen file.old) (I.seen file.new) (L.seen log.old) (L.seen log.new) result }
 {

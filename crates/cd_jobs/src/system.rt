@@ -1,16 +1,17 @@
-//! The system as a host: its files, and its standard input.
+//! The system as a host: its files, and its standard streams.
 
 ghost use Rattle.std.specs.Prelude.{◌≡◌, ⊤, IfOk};
 
 use crate::host::{Host, NoFile};
-use cd_image::{FromRead, Source, ToWrite};
+use cd_image::{Buffered, FromRead, Sink, Source, ToWrite};
 use cd_sector::SECTOR_SIZE;
+use std::alloc::AllocError;
 use std::fs;
 use std::fs::File;
-use std::io::{self, BufReader, BufWriter, Read, Stdin};
+use std::io::{self, BufReader, IsTerminal, Read, Stdin, Stdout, Write};
 
 /// The number of bytes that are read or written at a time: 64 KiB as near as whole sectors come, so that none lies in two reads.
-pub const BUFFER_SIZE: usize = 28 * SECTOR_SIZE;
+const BUFFER_SIZE: usize = 28 * SECTOR_SIZE;
 
 /// Where the bytes of an image or a script come from.
 #[derive(Drop)]
@@ -31,7 +32,24 @@ impl Read for Reader {
     }
 }
 
-/// The files of the system, and its standard input.
+/// A file whose flush is done when the system has written its data to the disk.
+#[derive(Drop)]
+pub struct Synced(File);
+
+impl Write for Synced {
+    // As `Reader`'s `read`.
+    #[cold]
+    #[inline(never)]
+    fn write(&mut self, buf: &[u8]) -> io::Result<usize> {
+        self.0.write(buf)
+    }
+
+    fn flush(&mut self) -> io::Result<()> {
+        self.0.sync_data()
+    }
+}
+
+/// The files of the system, and its standard streams.
 #[derive(Clone, Copy)]
 pub struct System<'a> {
     rt: &'a HostRuntime,
@@ -51,12 +69,21 @@ impl<'a> System<'a> {
             Err(_) => Err(NoFile::NoMemory),
         }
     }
+
+    /// The standard output. A terminal gets each line at once; a file or a pipe gets as many bytes at a time as are read.
+    pub fn standard_output(&self) -> Result<Buffered<ToWrite<Stdout>>, AllocError>
+        ensures { IfOk result (λ out. (⟦<Buffered<ToWrite<Stdout>> as Sink>⟧.seen out).failures ≡ 0) }
+    {
+        let out = self.rt.stdout();
+        let size = if out.is_terminal() { 0 } else { BUFFER_SIZE };
+        Ok(Buffered::new(ToWrite::new(out), vec![in self.rt.alloc(); 0; size]?))
+    }
 }
 
 impl<'a> Host for System<'a> {
     type Input = FromRead<BufReader<Reader>>;
 
-    type Output = ToWrite<BufWriter<File>>;
+    type Output = Buffered<ToWrite<Synced>>;
 
     // Nothing is said of what a disc holds.
     ghost gives_input = { λ _ _ _ _. ⊤ };
@@ -76,12 +103,12 @@ impl<'a> Host for System<'a> {
         self.buffered(Reader::StandardInput(self.rt.stdin()))
     }
 
-    fn output_at(&mut self, path: &str) -> Result<ToWrite<BufWriter<File>>, NoFile> {
+    fn output_at(&mut self, path: &str) -> Result<Buffered<ToWrite<Synced>>, NoFile> {
         let Ok(file) = File::create_new(self.rt, path) else {
             return Err(NoFile::Refused);
         };
-        match BufWriter::with_capacity(self.rt.alloc(), BUFFER_SIZE, file) {
-            Ok(writer) => Ok(ToWrite::new(writer)),
+        match vec![in self.rt.alloc(); 0; BUFFER_SIZE] {
+            Ok(space) => Ok(Buffered::new(ToWrite::new(Synced(file)), space)),
             Err(_) => Err(NoFile::NoMemory),
         }
     }

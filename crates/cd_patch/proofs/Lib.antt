@@ -12,6 +12,5 @@ pub mod RangeLemmas
 pub mod RisingLemmas
 pub mod RunLemmas
 pub mod SectorAtLemmas
-pub mod StepLemmas
 mod TakingLemmas
 pub mod UserLemmas

@@ -1,5 +1,6 @@
 //! Changes, texts of scripts, and their patches.
 
 mod changes;
+mod laws;
 mod patches;
 mod scripts;

@@ -1,7 +1,8 @@
 -- What a report says in plain clauses.
-use Rattle.std.proofs.Common.{◌≡◌, ◌↔◌, ℕ, ◌+◌, List, [], ◌++◌, Option, None, Some, Result, Ok, Err, IfOk, OnOk, refl, sym, ap, ◌∙◌, arith, append-nil, length, ◌<◌, ◌≤◌, length-append}
+use Rattle.std.proofs.Common.{◌≡◌, ◌↔◌, ℕ, ◌+◌, true, List, [], ◌++◌, Option, None, Some, Result, Ok, Err, IfOk, OnOk, refl, sym, ap, ◌∙◌, arith, append-nil, length, ◌<◌, ◌≤◌, length-append}
 use Rattle.std.specs.Io.KnownBytes.{Appends, Consumes, IsAtEnd}
-use Rattle.cd_report.specs.Report.{AnswersByLength, EndsWell, Reports, Telling, TellsTooLong, WritesText}
+use Rattle.std.proofs.lemmas.Bool.{true≢false}
+use Rattle.cd_report.specs.Report.{AnswersByEnd, AnswersByLength, EndsWell, Reports, Telling, TellsTooLong, WritesText}
 use Rattle.cd_stream.specs.Stream.{Incoming, Outgoing}
 use Rattle.cd_report.specs.Image.{image_limit}
 use Rattle.cd_report.specs.declared.fault.Fault.{Fault}
@@ -94,11 +95,22 @@ module _ {T : Type 0} (telling : Telling T) (image image' : Incoming) (out out' 
   Reports-too_long_told (Err Read) report = not_beyond image image' (Err Read) report.read report.consumes report.answers.within (λ e. cc)
   Reports-too_long_told (Err Write) report = not_beyond image image' (Err Write) report.read report.consumes report.answers.within (λ e. cc)
   Reports-too_long_told (Err Log) report = absurd report.answers
-  Reports-too_long_told (Err TooLong) report = told_beyond image image' report.read report.consumes report.answers.beyond
+  Reports-too_long_told (Err TooLong) report = told_beyond image image' report.read report.consumes (omega (arith, report.answers.beyond))
 
   pub Reports-by_length : (result : Result T Fault) → Reports telling image image' out out' result → image'.failures ≡ image.failures → out'.failures ≡ out.failures → AnswersByLength image result
   Reports-by_length (Ok told) report no_read no_write = ended_by_length image image' told report.read report.consumes report.answers.at_end report.answers.within
   Reports-by_length (Err Read) report no_read no_write = absurd (omega (arith, report.answers.reads, no_read))
   Reports-by_length (Err Write) report no_read no_write = absurd (omega (arith, report.answers.writes, no_write))
   Reports-by_length (Err Log) report no_read no_write = absurd report.answers
-  Reports-by_length (Err TooLong) report no_read no_write = beyond_by_length image image' report.read report.consumes report.answers.beyond
+  Reports-by_length (Err TooLong) report no_read no_write = beyond_by_length image image' report.read report.consumes (omega (arith, report.answers.beyond))
+
+  pub Reports-ended : (result : Result T Fault) → Reports telling image image' out out' result → OnOk result (image'.ended ≡ true)
+  Reports-ended (Ok told) report = report.answers.ended
+  Reports-ended (Err fault) report = tt
+
+  pub Reports-by_end : (result : Result T Fault) → Reports telling image image' out out' result → image'.failures ≡ image.failures → out'.failures ≡ out.failures → AnswersByEnd image' result
+  Reports-by_end (Ok told) report no_read no_write = (λ e. refl, λ e. absurd (true≢false (sym report.answers.ended ∙ e)))
+  Reports-by_end (Err Read) report no_read no_write = absurd (omega (arith, report.answers.reads, no_read))
+  Reports-by_end (Err Write) report no_read no_write = absurd (omega (arith, report.answers.writes, no_write))
+  Reports-by_end (Err Log) report no_read no_write = absurd report.answers
+  Reports-by_end (Err TooLong) report no_read no_write = (λ e. absurd (true≢false (sym e ∙ report.answers.unended)), λ e. refl)

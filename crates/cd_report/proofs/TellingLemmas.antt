@@ -1,5 +1,5 @@
 -- One pass over an image that tells of it: how far it has come, and how it ends.
-use Rattle.std.proofs.Common.{◌≡◌, ℕ, ◌+◌, ◌*◌, ◌<◌, ◌≤◌, List, [], ◌∷◌, ◌++◌, length, take, Result, Ok, Err, refl, sym, ap, ◌∙◌, subst, arith, length-append, append_assoc, append-nil, take_at}
+use Rattle.std.proofs.Common.{◌≡◌, ℕ, ◌+◌, ◌*◌, ◌<◌, ◌≤◌, false, true, List, [], ◌∷◌, ◌++◌, length, take, Result, Ok, Err, refl, sym, ap, ◌∙◌, subst, arith, length-append, append_assoc, append-nil, take_at}
 use Rattle.std.specs.Io.KnownBytes.{Appends, Consumes, IsAtEnd}
 use Rattle.std.proofs.KnownBytes.{Appends-nil, Appends-trans, Consumes-nil, Consumes-trans}
 use Rattle.std.proofs.lemmas.Grind.{flat_map-append}
@@ -102,8 +102,8 @@ module _ {T : Type 0} (first now : ToTell T) (image before after : Incoming) (ou
       due_is : (telling_of first).due (told.read ++ came) ≡ told.sent
       due_is = ap first.lines done_is ∙ told.lines [] ∙ ap (λ ls. told.sent ++ ls) told.nothing_due ∙ append-nil told.sent
 
-      pub Told-read : 2352 * count + length came ≤ image_limit → after.failures ≡ before.failures + 1 → Reports (telling_of first) image after out sunk (Err Read)
-      Told-read few failed = record {
+      pub Told-read : 2352 * count + length came ≤ image_limit → after.failures ≡ before.failures + 1 → after.ended ≡ false → Reports (telling_of first) image after out sunk (Err Read)
+      Told-read few failed unended = record {
         read = told.read ++ came;
         sent = text_of told.sent;
         consumes = consumes;
@@ -111,14 +111,15 @@ module _ {T : Type 0} (first now : ToTell T) (image before after : Incoming) (ou
         answers = record {
           reads = failed ∙ ap (λ n. n + 1) told.reads;
           writes = told.writes;
+          unended = unended;
           within = omega (arith, length_read);
           due_sent = ap text_of (sym due_is);
           beginning = λ whole fits. begins_further whole (Fits-begins (told.read ++ came) whole (omega (arith, length_read)) fits);
         };
       }
 
-      pub Told-too_long : 2352 * count ≡ image_limit → 0 < length came → after.failures ≡ before.failures → Reports (telling_of first) image after out sunk (Err TooLong)
-      Told-too_long full some kept = record {
+      pub Told-too_long : 2352 * count ≡ image_limit → length came ≡ 1 → after.failures ≡ before.failures → after.ended ≡ false → Reports (telling_of first) image after out sunk (Err TooLong)
+      Told-too_long full one kept unended = record {
         read = told.read ++ came;
         sent = text_of told.sent;
         consumes = consumes;
@@ -126,6 +127,7 @@ module _ {T : Type 0} (first now : ToTell T) (image before after : Incoming) (ou
         answers = record {
           reads = kept ∙ told.reads;
           writes = told.writes;
+          unended = unended;
           beyond = omega (arith, length_read);
           due_sent = ap text_of (sym due_is);
           beginning = λ whole fits.
@@ -200,7 +202,7 @@ module _ {T : Type 0} (first now : ToTell T) (image before after : Incoming) (ou
                 subst (IsBeginning (text_of told.sent ++ part)) (sym is)
                 (IsBeginning-behind (text_of told.sent) part (failed.line ++ (behind ++ rest)) (IsBeginning-take failed.count failed.line (behind ++ rest)))
 
-      module _ (short : length came < 2352) (few : 2352 * count + length came ≤ image_limit) (end : IsAtEnd after.rest) (left : ℕ) (left_is : left ≡ length came) where
+      module _ (short : length came < 2352) (few : 2352 * count + length came ≤ image_limit) (end : IsAtEnd after.rest) (ended : after.ended ≡ true) (left : ℕ) (left_is : left ≡ length came) where
         tail_is : length (tail (told.read ++ came)) ≡ left
         tail_is = length-tail told.read came count told.size short ∙ sym left_is
 
@@ -222,6 +224,7 @@ module _ {T : Type 0} (first now : ToTell T) (image before after : Incoming) (ou
             writes = wrote ∙ told.writes;
             finished = finished.0;
             at_end = end;
+            ended = ended;
             within = omega (arith, length_read);
             text_sent = sym text_is;
             tally_told =
@@ -253,8 +256,8 @@ module _ {T : Type 0} (first now : ToTell T) (image before after : Incoming) (ou
 -- the next sector was not read
 pub Told-unread : {T : Type 0} (first now : ToTell T) (image before after : Incoming) (out sunk : Outgoing) (count : ℕ) → Told first now image before out sunk count → (bytes : List ℕ) (fault : Fault)
     → ReadsSector count bytes before after (Err fault) → Reports (telling_of first) image after out sunk (Err fault)
-Told-unread first now image before after out sunk count told bytes Read r = Told-read first now image before after out sunk count told r.came r.consumes r.short r.within r.rose
-Told-unread first now image before after out sunk count told bytes TooLong r = Told-too_long first now image before after out sunk count told r.came r.consumes (omega (arith, r.one)) r.full (omega (arith, r.one)) r.kept
+Told-unread first now image before after out sunk count told bytes Read r = Told-read first now image before after out sunk count told r.came r.consumes r.short r.within r.rose r.unended
+Told-unread first now image before after out sunk count told bytes TooLong r = Told-too_long first now image before after out sunk count told r.came r.consumes (omega (arith, r.one)) r.full r.one r.kept r.unended
 Told-unread first now image before after out sunk count told bytes Write r = elim r [ ]
 Told-unread first now image before after out sunk count told bytes Log r = elim r [ ]
 
@@ -272,6 +275,7 @@ Reports-same a b text due tally image image' out out' (Ok told) report = record 
     writes = report.answers.writes;
     finished = report.answers.finished;
     at_end = report.answers.at_end;
+    ended = report.answers.ended;
     within = report.answers.within;
     text_sent = report.answers.text_sent ∙ text report.read;
     tally_told = report.answers.tally_told ∙ tally report.read;
@@ -285,6 +289,7 @@ Reports-same a b text due tally image image' out out' (Err Read) report = record
   answers = record {
     reads = report.answers.reads;
     writes = report.answers.writes;
+    unended = report.answers.unended;
     within = report.answers.within;
     due_sent = report.answers.due_sent ∙ ap text_of (due report.read);
     beginning = λ whole fits. subst (IsBeginning report.sent) (text whole) (report.answers.beginning whole fits);
@@ -312,6 +317,7 @@ Reports-same a b text due tally image image' out out' (Err TooLong) report = rec
   answers = record {
     reads = report.answers.reads;
     writes = report.answers.writes;
+    unended = report.answers.unended;
     beyond = report.answers.beyond;
     due_sent = report.answers.due_sent ∙ ap text_of (due report.read);
     beginning = λ whole fits. subst (IsBeginning report.sent) (text whole) (report.answers.beginning whole fits);

@@ -1,5 +1,5 @@
--- What reading one more sector of an image does, behind so many others: in this way `list`, `audit`, `apply` and `check` read.
-use Rattle.std.specs.Prelude.{◌≡◌, ℕ, ◌+◌, ◌*◌, ◌<◌, ◌≤◌, List, length, take, Option, None, Some, Result, Ok, Err}
+-- What reading one more sector of an image does, after so many others: in this way `list`, `audit`, `apply` and `check` read.
+use Rattle.std.specs.Prelude.{◌≡◌, ℕ, ◌+◌, ◌*◌, ◌<◌, ◌≤◌, false, true, List, length, take, Option, None, Some, Result, Ok, Err}
 use Rattle.std.specs.Io.KnownBytes.{Consumes, IsAtEnd}
 use Rattle.cd_sector.specs.declared.sector.TheConstants.{SECTOR_SIZE}
 use Rattle.cd_report.specs.Image.{image_limit}
@@ -11,32 +11,36 @@ use Rattle.cd_stream.specs.Stream.{Incoming}
 pub record SectorComes (count : ℕ) (bytes : List ℕ) (image image' : Incoming) : Type 0 where
   pub consumes : Consumes image.rest image'.rest bytes
   pub kept : image'.failures ≡ image.failures
+  pub unended : image'.ended ≡ false
   pub few : count < 1000000
   pub size : length bytes ≡ SECTOR_SIZE
 
--- the end has come, and less than a sector in front of it
+-- the source has told its end, and less than a sector in front of it
 pub record EndComes (count left : ℕ) (bytes : List ℕ) (image image' : Incoming) : Type 0 where
   pub short : left < SECTOR_SIZE
   pub consumes : Consumes image.rest image'.rest (take left bytes)
   pub size : length (take left bytes) ≡ left
   pub kept : image'.failures ≡ image.failures
   pub at_end : IsAtEnd image'.rest
+  pub ended : image'.ended ≡ true
   pub within : SECTOR_SIZE * count + left ≤ image_limit
 
--- a read has failed behind a part of a sector
+-- a read has failed after a part of a sector
 pub record ReadFails (count : ℕ) (image image' : Incoming) : Type 0 where
   pub came : List ℕ
   pub short : length came < SECTOR_SIZE
   pub consumes : Consumes image.rest image'.rest came
   pub rose : image'.failures ≡ image.failures + 1
+  pub unended : image'.ended ≡ false
   pub within : SECTOR_SIZE * count + length came ≤ image_limit
 
--- a byte has come behind the last sector that may be
+-- a byte has come after the last sector that may be
 pub record TooMuchComes (count : ℕ) (image image' : Incoming) : Type 0 where
   pub came : List ℕ
   pub one : length came ≡ 1
   pub consumes : Consumes image.rest image'.rest came
   pub kept : image'.failures ≡ image.failures
+  pub unended : image'.ended ≡ false
   pub full : SECTOR_SIZE * count ≡ image_limit
 
 -- the answer is the length of the tail once the image has ended

@@ -1,5 +1,5 @@
 -- What a call has done that reads an image to its end and writes a text of it.
-use Rattle.std.specs.Prelude.{◌≡◌, ◌↔◌, ℕ, ◌+◌, ◌<◌, ◌≤◌, IsOk, true, List, [], ◌∷◌, ◌++◌, length, take, Option, None, Some, Result, Ok, Err}
+use Rattle.std.specs.Prelude.{◌≡◌, ◌↔◌, ℕ, ◌+◌, ◌<◌, ◌≤◌, IsOk, false, true, List, [], ◌∷◌, ◌++◌, length, take, Option, None, Some, Result, Ok, Err}
 use Rattle.std.specs.Io.KnownBytes.{Appends, Consumes, IsAtEnd}
 use Rattle.cd_report.specs.Image.{image_limit}
 use Rattle.cd_report.specs.Lines.{all_but_last, text_of}
@@ -24,12 +24,13 @@ pub record Telling (T : Type 0) : Type 0 where
   pub due : List ℕ → List (List ℕ)
   pub tally : List ℕ → T
 
--- the whole image was read, and its whole text went out
+-- the whole image was read until the source told its end, and its whole text went out
 pub record Completes {T : Type 0} (telling : Telling T) (read sent : List ℕ) (image image' : Incoming) (out out' : Outgoing) (told : T) : Type 0 where
   pub reads : image'.failures ≡ image.failures
   pub writes : out'.failures ≡ out.failures
   pub finished : out'.finished ≡ true
   pub at_end : IsAtEnd image'.rest
+  pub ended : image'.ended ≡ true
   pub within : length read ≤ image_limit
   pub text_sent : sent ≡ telling.text read
   pub tally_told : told ≡ telling.tally read
@@ -38,6 +39,7 @@ pub record Completes {T : Type 0} (telling : Telling T) (read sent : List ℕ) (
 pub record StopsReading {T : Type 0} (telling : Telling T) (read sent : List ℕ) (image image' : Incoming) (out out' : Outgoing) : Type 0 where
   pub reads : image'.failures ≡ image.failures + 1
   pub writes : out'.failures ≡ out.failures
+  pub unended : image'.ended ≡ false
   pub within : length read ≤ image_limit
   pub due_sent : sent ≡ text_of (telling.due read)
   pub beginning : (whole : List ℕ) → Fits read whole → IsBeginning sent (telling.text whole)
@@ -50,11 +52,12 @@ pub record StopsWriting {T : Type 0} (telling : Telling T) (read sent : List ℕ
   pub due_sent : IsBeginning (text_of (all_but_last (telling.due read))) sent
   pub beginning : (whole : List ℕ) → FitsLeft image'.rest read whole → IsBeginning sent (telling.text whole)
 
--- a byte was read behind the millionth sector
+-- just one byte was read after the millionth sector
 pub record StopsTooLong {T : Type 0} (telling : Telling T) (read sent : List ℕ) (image image' : Incoming) (out out' : Outgoing) : Type 0 where
   pub reads : image'.failures ≡ image.failures
   pub writes : out'.failures ≡ out.failures
-  pub beyond : image_limit < length read
+  pub unended : image'.ended ≡ false
+  pub beyond : length read ≡ image_limit + 1
   pub due_sent : sent ≡ text_of (telling.due read)
   pub beginning : (whole : List ℕ) → Fits read whole → IsBeginning sent (telling.text whole)
 
@@ -91,6 +94,11 @@ TellsTooLong image image' result =
 abbrev pub AnswersByLength : {T : Type 0} → Incoming → Result T Fault → Type 0
 AnswersByLength image result =
     (bytes : List ℕ) → image.rest ≡ Some bytes → (length bytes ≤ image_limit → IsOk result) × (image_limit < length bytes → result ≡ Err TooLong)
+
+-- where nothing failed: the answer is Ok where the source has told its end, and else that the image is too long. So it is
+-- for a source that never ends, also for one that does not tell its bytes
+abbrev pub AnswersByEnd : {T : Type 0} → Incoming → Result T Fault → Type 0
+AnswersByEnd image' result = (image'.ended ≡ true → IsOk result) × (image'.ended ≡ false → result ≡ Err TooLong)
 
 -- no failure was counted, and the sink is finished
 pub record EndsWell (image image' : Incoming) (out out' : Outgoing) : Type 0 where

@@ -1,8 +1,8 @@
 //! The audit of an image: what is wrong with its Mode 1 sectors.
 
-ghost use Rattle.std.specs.Prelude.{◌≡◌, ◌+◌, ◌<◌, ◌≤◌, ◌↔◌, [], IfOk, OnOk};
+ghost use Rattle.std.specs.Prelude.{◌≡◌, ◌+◌, ◌<◌, ◌≤◌, ◌↔◌, [], true, IfOk, OnOk};
 ghost use Rattle.cd_report.specs.AuditText.{audit_end, auditing};
-ghost use Rattle.cd_report.specs.Report.{AnswersByLength, EndsWell, Reports, TellsTooLong, WritesText};
+ghost use Rattle.cd_report.specs.Report.{AnswersByEnd, AnswersByLength, EndsWell, Reports, TellsTooLong, WritesText};
 ghost use Rattle.cd_report.specs.Telling.{counted};
 ghost use Rattle.cd_stream.specs.Transfer.{Sends};
 
@@ -140,7 +140,7 @@ fn audit_whole<I: Source, O: Sink>(
 /// `Write` come where the image or `out` has failed, `TooLong` where a byte was read behind the millionth
 /// sector.
 pub fn audit<I: Source, O: Sink>(image: &mut I, base: u32, out: &mut O) -> Result<AuditTally, Fault>
-    requires base { base ≤ MAX_BASE }
+    requires base { base ≤ 449849 }
     requires image_countable { (I.seen image.old).failures < 4294967295 }
     requires out_countable { (O.seen out.old).failures < 4294967295 }
 
@@ -155,6 +155,9 @@ pub fn audit<I: Source, O: Sink>(image: &mut I, base: u32, out: &mut O) -> Resul
     ensures too_long { TellsTooLong (I.seen image.old) (I.seen image.new) result }
     ensures by_length { (I.seen image.new).failures ≡ (I.seen image.old).failures → (O.seen out.new).failures ≡ (O.seen out.old).failures
         → AnswersByLength (I.seen image.old) result }
+    ensures ended { OnOk result ((I.seen image.new).ended ≡ true) }
+    ensures by_end { (I.seen image.new).failures ≡ (I.seen image.old).failures → (O.seen out.new).failures ≡ (O.seen out.old).failures
+        → AnswersByEnd (I.seen image.new) result }
 {
     audit_whole(image, base, out)
 }

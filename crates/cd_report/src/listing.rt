@@ -1,9 +1,9 @@
 //! The listing of an image: its runs of sectors of equal kind.
 
-ghost use Rattle.std.specs.Prelude.{◌≡◌, ◌+◌, ◌-◌, ◌<◌, ◌≤◌, ◌↔◌, [], IfOk, IfSome, OnOk, length};
+ghost use Rattle.std.specs.Prelude.{◌≡◌, ◌+◌, ◌-◌, ◌<◌, ◌≤◌, ◌↔◌, [], true, IfOk, IfSome, OnOk, length};
 ghost use Rattle.cd_report.specs.ListText.{kind_name, list_end, listing, run_line};
 ghost use Rattle.cd_report.specs.OpenRun.{EndsBefore, open_first, open_kinds};
-ghost use Rattle.cd_report.specs.Report.{AnswersByLength, EndsWell, Reports, TellsTooLong, WritesText};
+ghost use Rattle.cd_report.specs.Report.{AnswersByEnd, AnswersByLength, EndsWell, Reports, TellsTooLong, WritesText};
 ghost use Rattle.cd_report.specs.Runs.{runs};
 ghost use Rattle.cd_report.specs.Telling.{TakesKind, last_line};
 ghost use Rattle.cd_stream.specs.Transfer.{Counts, Sends};
@@ -176,7 +176,7 @@ fn list_whole<I: Source, O: Sink>(image: &mut I, base: u32, out: &mut O) -> Resu
 /// `Write` come where the image or `out` has failed, `TooLong` where a byte was read behind the millionth
 /// sector.
 pub fn list<I: Source, O: Sink>(image: &mut I, base: u32, out: &mut O) -> Result<ListTally, Fault>
-    requires base { base ≤ MAX_BASE }
+    requires base { base ≤ 449849 }
     requires image_countable { (I.seen image.old).failures < 4294967295 }
     requires out_countable { (O.seen out.old).failures < 4294967295 }
 
@@ -191,6 +191,9 @@ pub fn list<I: Source, O: Sink>(image: &mut I, base: u32, out: &mut O) -> Result
     ensures too_long { TellsTooLong (I.seen image.old) (I.seen image.new) result }
     ensures by_length { (I.seen image.new).failures ≡ (I.seen image.old).failures → (O.seen out.new).failures ≡ (O.seen out.old).failures
         → AnswersByLength (I.seen image.old) result }
+    ensures ended { OnOk result ((I.seen image.new).ended ≡ true) }
+    ensures by_end { (I.seen image.new).failures ≡ (I.seen image.old).failures → (O.seen out.new).failures ≡ (O.seen out.old).failures
+        → AnswersByEnd (I.seen image.new) result }
 {
     list_whole(image, base, out)
 }

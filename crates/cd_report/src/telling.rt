@@ -7,7 +7,7 @@ ghost use Rattle.cd_stream.specs.Transfer.{Counts};
 
 use crate::MAX_SECTORS;
 use crate::fault::Fault;
-use crate::reading::read_into;
+use crate::reading::read_sector;
 use cd_sector::Sector;
 use cd_stream::{Sink, SinkFailed, Source};
 
@@ -67,7 +67,7 @@ pub(crate) fn tell<I: Source, T: Teller, O: Sink>(
     let mut sector = Sector::default();
     let mut count = 0;
     loop {
-        match read_into(image, count, &mut sector)? {
+        match read_sector(image, count, &mut sector)? {
             None => teller.take_sector(count, &sector, out)?,
             Some(length) => return Ok(teller.close(count, length as u16, out)?),
         }

@@ -1,3 +1,4 @@
+pub mod Text
 pub mod Patch
 pub mod Number
 pub mod Hex

@@ -38,4 +38,3 @@ pub use bytes::Bytes;
 pub use fault::ScriptFault;
 pub use patch::{Edit, Patch};
 pub use script::{MAX_TEXT, Script, parse};
-pub use version::Version;

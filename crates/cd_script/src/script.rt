@@ -14,6 +14,7 @@ ghost use Rattle.cd_script.specs.Patch.{IsPatch};
 ghost use Rattle.cd_script.specs.Reading.{Reads};
 ghost use Rattle.cd_script.specs.Script.{at_limit, head_version, is_passed_over, line_at, named_version, patches_from, script, script_from};
 ghost use Rattle.cd_script.specs.Spelled.{as_patch};
+ghost use Rattle.cd_script.specs.Text.{text_limit};
 
 use crate::fault::ScriptFault;
 use crate::line::patch_of;
@@ -247,7 +248,7 @@ fn put_in_order(patches: &mut Vec<Patch>) -> Result<(), AllocError>
 /// other than want of memory is the fault of the first faulty line, and nothing is kept of it. That
 /// fault is found before any memory is taken.
 pub fn parse(alloc: Global, text: &[u8]) -> Result<Script, ScriptFault>
-    requires { length text.now ≤ MAX_TEXT }
+    requires { length text.now ≤ text_limit }
     ensures ok { IfOk result (λ s. (ps : List Patch) × (script text.now ≡ Ok ps) × (s ≡ order ps)) }
     ensures err { IfErr result (λ e. e ≢ NoMemory → script text.now ≡ Err e) }
     // A text that is no script is refused by its fault, whatever memory there is.

@@ -22,9 +22,7 @@ pub use laws::{
     consistent_is_carried, sector_by_defect, sector_exists, sector_is_unique,
 };
 pub use parity::fill_parity;
-pub use sector::{
-    EDC, HEADER, INTERMEDIATE, MODE, P_PARITY, Q_PARITY, SECTOR_SIZE, Sector, USER_DATA, USER_SIZE,
-};
+pub use sector::{EDC, HEADER, INTERMEDIATE, SECTOR_SIZE, Sector, USER_DATA, USER_SIZE};
 pub use sums::sum_of;
 
 #[cfg(test)]

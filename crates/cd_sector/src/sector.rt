@@ -19,7 +19,7 @@ pub const USER_SIZE: usize = 2048;
 pub const HEADER: usize = 12;
 
 /// The place of the mode byte, the last of the header.
-pub const MODE: usize = 15;
+pub(crate) const MODE: usize = 15;
 
 /// Where the user data begins.
 pub const USER_DATA: usize = 16;
@@ -31,10 +31,10 @@ pub const EDC: usize = 2064;
 pub const INTERMEDIATE: usize = 2068;
 
 /// Where the P parity begins.
-pub const P_PARITY: usize = 2076;
+pub(crate) const P_PARITY: usize = 2076;
 
 /// Where the Q parity begins.
-pub const Q_PARITY: usize = 2248;
+pub(crate) const Q_PARITY: usize = 2248;
 
 /// A sector: 2352 bytes of any content. A contract sees the list of its bytes.
 #[derive(Clone, Copy, Debug, PartialEq, Eq)]

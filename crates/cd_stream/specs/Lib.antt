@@ -1,3 +1,4 @@
+pub mod Buffering
 pub mod Forms
 pub mod Stream
 pub mod Transfer

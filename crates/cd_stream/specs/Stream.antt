@@ -1,10 +1,12 @@
 -- What a contract sees of a source and of a sink.
 use Rattle.std.specs.Prelude.{◌≡◌, ℕ, Bool, List, ◌++◌, Option}
 
--- of a source: the bytes that are still to come, where it tells them, and how many of its reads have failed
+-- of a source: the bytes that are still to come, where it tells them, how many of its reads have failed, and
+-- whether the last one answered that none came: false when it is made
 pub record Incoming : Type 0 where
   pub rest : Option (List ℕ)
   pub failures : ℕ
+  pub ended : Bool
 
 -- of a sink: the bytes that it has got, where it tells them, how many of its writes and flushes have failed, and
 -- whether the last call of `write` and `finish` was a `finish` that succeeded

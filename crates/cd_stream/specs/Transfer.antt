@@ -1,5 +1,5 @@
 -- What one read and one write do to a source and a sink.
-use Rattle.std.specs.Prelude.{◌≡◌, ℕ, ◌+◌, ◌<◌, ◌≤◌, false, List, length, take, Result, Ok, Err, is_ok}
+use Rattle.std.specs.Prelude.{◌≡◌, ℕ, ◌+◌, ◌<◌, ◌≤◌, Bool, false, true, nat_eq, List, length, take, Result, Ok, Err, is_ok}
 use Rattle.std.specs.Io.KnownBytes.{Appends, Consumes, IsAtEnd, Keeps}
 use Rattle.cd_stream.specs.Stream.{Incoming, Outgoing}
 
@@ -13,6 +13,11 @@ abbrev pub Comes : {E : Type 0} → Incoming → Incoming → List ℕ → Resul
 Comes old new buffer (Ok n) = (n ≤ length buffer) × Consumes old.rest new.rest (take n buffer) × (n ≡ 0 → IsAtEnd new.rest)
 Comes old new buffer (Err e) = Keeps old.rest new.rest
 
+-- whether a read answers that no byte came
+abbrev pub tells_end : {E : Type 0} → Result ℕ E → Bool
+tells_end (Ok n) = nat_eq n 0
+tells_end (Err e) = false
+
 -- at Ok(n) the first n bytes, one at least, have gone out; at Err none has
 abbrev pub Goes : {E : Type 0} → Outgoing → Outgoing → List ℕ → Result ℕ E → Type 0
 Goes old new bytes (Ok n) = (0 < n) × (n ≤ length bytes) × Appends old.written new.written (take n bytes)
@@ -22,6 +27,7 @@ Goes old new bytes (Err e) = Keeps old.written new.written
 pub record Reads {E : Type 0} (old new : Incoming) (buffer : List ℕ) (result : Result ℕ E) : Type 0 where
   pub bytes : Comes old new buffer result
   pub count : Counts old.failures new.failures result
+  pub ended : new.ended ≡ tells_end result
 
 -- one write
 pub record Writes {E : Type 0} (old new : Outgoing) (given : List ℕ) (result : Result ℕ E) : Type 0 where
@@ -40,6 +46,12 @@ abbrev pub ComesWhole : {E : Type 0} → Incoming → Incoming → List ℕ → 
 ComesWhole old new buffer (Ok n) = (n ≤ length buffer) × Consumes old.rest new.rest (take n buffer) × (n < length buffer → IsAtEnd new.rest)
 ComesWhole old new buffer (Err e) = (n : ℕ) × (n < length buffer) × Consumes old.rest new.rest (take n buffer)
 
+-- a buffer is left with room only where the last read told the end; where it was filled, or a read failed, the last one
+-- did not
+abbrev pub TellsEnd : {E : Type 0} → Incoming → List ℕ → Result ℕ E → Type 0
+TellsEnd new buffer (Ok n) = (n < length buffer → new.ended ≡ true) × (0 < n → n ≡ length buffer → new.ended ≡ false)
+TellsEnd new buffer (Err e) = new.ended ≡ false
+
 -- at Ok all the bytes have gone out; at Err a front of them, without the last
 abbrev pub GoesWhole : {X E : Type 0} → Outgoing → Outgoing → List ℕ → Result X E → Type 0
 GoesWhole old new bytes (Ok x) = Appends old.written new.written bytes
@@ -49,8 +61,10 @@ GoesWhole old new bytes (Err e) = (n : ℕ) × (n < length bytes) × Appends old
 pub record Fills {E : Type 0} (old new : Incoming) (buffer : List ℕ) (result : Result ℕ E) : Type 0 where
   pub bytes : ComesWhole old new buffer result
   pub count : Counts old.failures new.failures result
+  pub ended : TellsEnd new buffer result
 
 -- as many writes as it takes
 pub record Sends {X E : Type 0} (old new : Outgoing) (given : List ℕ) (result : Result X E) : Type 0 where
   pub bytes : GoesWhole old new given result
   pub count : Counts old.failures new.failures result
+  pub unfinished : 0 < length given → new.finished ≡ false

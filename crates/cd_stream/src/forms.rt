@@ -1,5 +1,6 @@
 //! The forms of sources and sinks.
 
+pub mod buffered;
 pub mod fail_after;
 pub mod from_read;
 pub mod short;

@@ -7,6 +7,7 @@ mod sink;
 mod source;
 mod transfer;
 
+pub use forms::buffered::Buffered;
 pub use forms::fail_after::FailAfter;
 pub use forms::from_read::FromRead;
 pub use forms::short::Short;

@@ -1,4 +1,6 @@
 //! Sources and sinks at concrete types.
 
+mod buffering;
 mod forms;
+mod one_call;
 mod std_streams;

@@ -1,30 +1,49 @@
 //! The program: its words, and its standard output.
 
-ghost use Rattle.std.specs.Prelude.{◌<◌};
+ghost use Rattle.std.specs.Prelude.{◌≡◌, ◌≢◌, ◌<◌, ◌≤◌, IfErr, IfOk, codes, map, string_bytes};
+ghost use Rattle.std.specs.IoError.{error_kind};
+ghost use Rattle.cd_jobs.specs.Program.{DoesWords, Fails, hosting};
 
 use cd_command::NO_MEMORY;
 use cd_image::{Sink, ToWrite};
-use cd_jobs::{BUFFER_SIZE, System, do_words, fail};
-use std::io::{self, BufWriter, ErrorKind};
+use cd_jobs::{Host, System, do_words, fail};
+use std::alloc::Global;
+use std::io::{self, ErrorKind};
 use std::{env, fs};
 
 /// Does what the words behind the program's name ask for, and answers the status. Every text goes to the
 /// standard output.
-pub fn run(rt: &HostRuntime) -> u8 {
+pub fn run(rt: &HostRuntime) -> u8
+    ensures { result ≤ 2 }
+{
     // Where a standard stream is closed, the next file to be opened takes its number. These take it, so that
     // no message goes into a file of the user's.
     let _spare = (fs::open(rt, "/"), fs::open(rt, "/"), fs::open(rt, "/"));
-    match BufWriter::with_capacity(rt.alloc(), BUFFER_SIZE, rt.stdout()) {
-        Ok(writer) => do_given(rt, &mut ToWrite::new(writer)),
+    let mut system = System::new(rt);
+    match system.standard_output() {
+        Ok(mut out) => do_given(rt.alloc(), &mut system, words_of(rt), &mut out),
         Err(_) => fail(NO_MEMORY.as_bytes(), &mut ToWrite::new(rt.stdout())),
     }
 }
 
-fn do_given<O: Sink>(rt: &HostRuntime, out: &mut O) -> u8
+/// Does what words ask for, or says why there are none, and answers the status.
+fn do_given<H: Host, O: Sink>(
+    alloc: Global,
+    host: &mut H,
+    words: io::Result<Vec<String>>,
+    out: &mut O,
+) -> u8
     requires { (O.seen out.old).failures < 4294967295 }
+    ensures does { IfOk words (λ words. DoesWords (hosting H.Input.seen H.Output.seen H.gives_input H.gives_standard_input H.gives_output)
+        (map string_bytes words.items) host.old host.new (O.seen out.old) (O.seen out.new) result) }
+    ensures no_memory { IfErr words (λ error. error_kind error ≡ ErrorKind.OutOfMemory
+        → Fails (codes "cdpatch: no memory\n") (O.seen out.old) (O.seen out.new) result) }
+    ensures no_text { IfErr words (λ error. error_kind error ≢ ErrorKind.OutOfMemory
+        → Fails (codes "cdpatch: the words are not text\n") (O.seen out.old) (O.seen out.new) result) }
+    ensures few { result ≤ 2 }
 {
-    match words_of(rt) {
-        Ok(words) => do_words(rt.alloc(), &mut System::new(rt), words, out),
+    match words {
+        Ok(words) => do_words(alloc, host, words, out),
         Err(error) if error.kind() == ErrorKind::OutOfMemory => fail(NO_MEMORY.as_bytes(), out),
         Err(_) => fail(b"cdpatch: the words are not text\n", out),
     }

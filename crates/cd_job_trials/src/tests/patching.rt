@@ -5,6 +5,8 @@ use cd_image::{SliceSink, ZeroSource};
 use cd_jobs::run_check;
 use cd_samples::Sample::{Blank, Damaged, Filled, Mode, Zeros};
 use cd_samples::{cut_image, is_text, repeated, script_of};
+use std::alloc::Global;
+use std::process::Abort;
 use std::test::Fail;
 
 const APPLIED: &str = "line 2: applied\napplied 1 refused 0\n";
@@ -216,34 +218,67 @@ fn scripts_over_borders(rt: HostRuntime) -> Result<(), Fail> {
     )
 }
 
-/// Checks of images of so many bytes `00`, by a script with so many `41` at its end.
-#[test]
-fn the_longest_images(rt: HostRuntime) -> Result<(), Fail> {
-    const LONG_LINE: &str = "cdpatch: the image has more than 1000000 sectors\n";
-    const ROWS: &[(&str, u32, u64, u8, &str)] = &[
-        ("cdpatch 1\n", 0, 2_352_000_000, 0, "applied 0 refused 0\n"),
-        (
-            "cdpatch 1\nset 1000000 0 41\n",
-            0,
-            2_352_000_001,
-            2,
-            LONG_LINE,
-        ),
-        (
-            "cdpatch 1\nset 999998 0 ",
-            4096,
-            2_352_000_000,
-            1,
-            "line 2: refused: block 999998 is not mode 1\napplied 0 refused 1\n",
-        ),
-    ];
-    for (script, count, size, status, log) in ROWS {
-        let text = repeated(rt.alloc(), script, "41", *count, "")?;
-        let script = script_of(rt.alloc(), &text)?;
-        let mut lines = [0; 128];
-        let mut told = SliceSink::new(&mut lines);
-        let answer = run_check(&mut ZeroSource::new(*size), &script, 0, false, &mut told);
-        assert!(rt; answer == *status && is_text(&lines, log), "{log}");
-    }
+/// The check of an image of so many bytes `00`, by a script with so many `41` at its end.
+#[derive(Clone, Copy)]
+struct Long<'a> {
+    script: &'a str,
+    bytes: u32,
+    size: u64,
+    status: u8,
+    log: &'a str,
+}
+
+/// A check of more than 60,000,000 bytes is a test of its own.
+fn expect_long(rt: &impl Abort, alloc: Global, long: &Long) -> Result<(), Fail> {
+    let text = repeated(alloc, long.script, "41", long.bytes, "")?;
+    let script = script_of(alloc, &text)?;
+    let mut lines = [0; 128];
+    let mut told = SliceSink::new(&mut lines);
+    let mut image = ZeroSource::new(long.size);
+    let answer = run_check(&mut image, &script, 0, false, &mut told);
+    assert!(rt;
+        answer == long.status && is_text(&lines, long.log),
+        "{}",
+        long.log
+    );
     Ok(())
+}
+
+const NO_PATCHES: Long = Long {
+    script: "cdpatch 1\n",
+    bytes: 0,
+    size: 2_352_000_000,
+    status: 0,
+    log: "applied 0 refused 0\n",
+};
+
+#[test]
+fn no_patches_on_the_longest_image(rt: HostRuntime) -> Result<(), Fail> {
+    expect_long(&rt, rt.alloc(), &NO_PATCHES)
+}
+
+const A_BYTE_TOO_MANY: Long = Long {
+    script: "cdpatch 1\nset 1000000 0 41\n",
+    bytes: 0,
+    size: 2_352_000_001,
+    status: 2,
+    log: "cdpatch: the image has more than 1000000 sectors\n",
+};
+
+#[test]
+fn a_patch_past_a_byte_too_many(rt: HostRuntime) -> Result<(), Fail> {
+    expect_long(&rt, rt.alloc(), &A_BYTE_TOO_MANY)
+}
+
+const OVER_THE_END: Long = Long {
+    script: "cdpatch 1\nset 999998 0 ",
+    bytes: 4096,
+    size: 2_352_000_000,
+    status: 1,
+    log: "line 2: refused: block 999998 is not mode 1\napplied 0 refused 1\n",
+};
+
+#[test]
+fn a_patch_over_the_end_of_the_longest_image(rt: HostRuntime) -> Result<(), Fail> {
+    expect_long(&rt, rt.alloc(), &OVER_THE_END)
 }

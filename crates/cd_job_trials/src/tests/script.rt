@@ -93,16 +93,22 @@ fn long_scripts(rt: HostRuntime) -> Result<(), AllocError> {
     Ok(())
 }
 
-#[test]
-fn longest_scripts(rt: HostRuntime) -> Result<(), AllocError> {
-    for (byte, line) in &[
-        (0, "script line 1: no cdpatch 1 line\n"),
-        (b'\n', "script line 67108865: no cdpatch 1 line\n"),
-    ] {
-        let text = vec![in rt.alloc(); *byte; MAX_TEXT]?;
-        assert!(rt; reads_as(&rt, rt.alloc(), &text, line), "{line}");
-    }
+/// A script of as many bytes as there may be, all alike, and its line.
+fn expect_longest(rt: &impl Abort, alloc: Global, byte: u8, line: &str) -> Result<(), AllocError> {
+    let text = vec![in alloc; byte; MAX_TEXT]?;
+    assert!(rt; reads_as(rt, alloc, &text, line), "{line}");
     Ok(())
+}
+
+#[test]
+fn the_longest_line(rt: HostRuntime) -> Result<(), AllocError> {
+    expect_longest(&rt, rt.alloc(), 0, "script line 1: no cdpatch 1 line\n")
+}
+
+#[test]
+fn as_many_lines_as_there_may_be(rt: HostRuntime) -> Result<(), AllocError> {
+    let line = "script line 67108865: no cdpatch 1 line\n";
+    expect_longest(&rt, rt.alloc(), b'\n', line)
 }
 
 #[test]

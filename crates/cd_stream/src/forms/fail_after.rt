@@ -1,5 +1,7 @@
 //! A source or a sink that fails from some byte on.
 
+ghost use Rattle.std.specs.Prelude.{◌≡◌, ◌<◌};
+
 use crate::sink::{Sink, SinkFailed};
 use crate::source::{Source, SourceFailed};
 
@@ -10,6 +12,7 @@ pub struct FailAfter<S> {
     left: u64,
     own: u32,
     finished: bool,
+    ghost spent: { 0 < own → left ≡ 0 },
 }
 
 impl<S> FailAfter<S> {
@@ -30,14 +33,21 @@ impl<S> FailAfter<S> {
             finished: false,
         }
     }
+
+    /// What it stands over.
+    pub fn get_ref(&self) -> &S
+        ensures { result.now ≡ fails_over self.now }
+    {
+        &self.inner
+    }
 }
 
 impl<S: Source> Source for FailAfter<S> {
-    ghost use Rattle.std.specs.Prelude.{◌≡◌, ◌+◌, ◌<◌, IfOk, IsErr, OnErr, length, min};
+    ghost use Rattle.std.specs.Prelude.{◌≡◌, ◌+◌, ◌<◌, ◌&&◌, IfOk, IsErr, OnErr, length, min, nat_eq};
     ghost use Rattle.cd_stream.specs.Forms.{failing_to_come, fails_over, still_passes};
     ghost use Rattle.cd_stream.specs.Transfer.{Counts, Reads};
 
-    ghost seen = { λ s. record { rest = (S.seen s.inner).rest; failures = min ((S.seen s.inner).failures + s.own) 4294967295 } };
+    ghost seen = { λ s. record { rest = (S.seen s.inner).rest; failures = min ((S.seen s.inner).failures + s.own) 4294967295; ended = (S.seen s.inner).ended && nat_eq s.own 0 } };
 
     fn read(&mut self, into: &mut [u8]) -> Result<usize, SourceFailed>
         requires room { 0 < length into.old }

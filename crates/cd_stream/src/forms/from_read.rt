@@ -1,6 +1,6 @@
 //! A std reader as a source.
 
-ghost use Rattle.std.specs.Prelude.{◌≡◌, ◌+◌, ◌<◌, Some};
+ghost use Rattle.std.specs.Prelude.{◌≡◌, false};
 
 use crate::source::{Source, SourceFailed};
 use std::io::Read;
@@ -10,27 +10,33 @@ use std::io::Read;
 pub struct FromRead<R> {
     reader: R,
     failures: u32,
+    ended: bool,
 }
 
 impl<R: Read> FromRead<R> {
     /// Stands over `reader`.
     pub fn new(reader: R) -> Self
-        ensures { ⟦<FromRead<R> as Source>⟧.seen result ≡ record { rest = R.remaining reader; failures = 0 } }
+        ensures { ⟦<FromRead<R> as Source>⟧.seen result ≡ record { rest = R.remaining reader; failures = 0; ended = false } }
     {
         FromRead {
             reader,
             failures: 0,
+            ended: false,
         }
     }
 }
 
 impl<R: Read> Source for FromRead<R> {
-    ghost seen = { λ s. record { rest = R.remaining s.reader; failures = s.failures } };
+    ghost seen = { λ s. record { rest = R.remaining s.reader; failures = s.failures; ended = s.ended } };
 
     fn read(&mut self, into: &mut [u8]) -> Result<usize, SourceFailed> {
         match self.reader.read(into) {
-            Ok(n) => Ok(n),
+            Ok(n) => {
+                self.ended = n == 0;
+                Ok(n)
+            }
             Err(_) => {
+                self.ended = false;
                 self.failures += 1;
                 Err(SourceFailed)
             }

@@ -30,6 +30,13 @@ impl<S> Short<S> {
             finished: false,
         }
     }
+
+    /// What it stands over.
+    pub fn get_ref(&self) -> &S
+        ensures { result.now ≡ shortens self.now }
+    {
+        &self.inner
+    }
 }
 
 impl<S: Source> Source for Short<S> {

@@ -16,12 +16,14 @@ pub struct SliceSink<'a> {
 
 impl<'a> SliceSink<'a> {
     ghost use Rattle.std.specs.Prelude.{◌≡◌, [], Some, false, length};
-    ghost use Rattle.cd_stream.specs.Forms.{room_of};
+    ghost use Rattle.cd_stream.specs.Forms.{room_of, slice_written, stands_over, untouched};
 
     /// Stands over `space`, from its front.
     pub fn new(space: &'a mut [u8]) -> Self
         ensures seen { ⟦<SliceSink<'a> as Sink>⟧.seen result ≡ record { written = Some []; failures = 0; finished = false } }
         ensures room { room_of result ≡ length space.entry.now }
+        ensures rest { untouched result ≡ space.entry.now }
+        ensures same_slice { stands_over result ≡ space.entry.ghost_name }
     {
         SliceSink {
             space,
@@ -30,11 +32,18 @@ impl<'a> SliceSink<'a> {
             finished: false,
         }
     }
+
+    /// The bytes that were written, in their order: the front of the slice.
+    pub fn written(&self) -> &[u8]
+        ensures { result.now ≡ slice_written self.now }
+    {
+        &self.space[..self.used]
+    }
 }
 
 impl Sink for SliceSink<'_> {
-    ghost use Rattle.std.specs.Prelude.{◌≡◌, ◌+◌, ◌<◌, ◌↔◌, IfOk, IsOk, Some, false, is_ok, length, min, take};
-    ghost use Rattle.cd_stream.specs.Forms.{room_of, slice_taken};
+    ghost use Rattle.std.specs.Prelude.{◌≡◌, ◌+◌, ◌<◌, ◌↔◌, IfOk, IsOk, OnErr, Some, drop, false, is_ok, length, min, take};
+    ghost use Rattle.cd_stream.specs.Forms.{room_of, slice_taken, stands_over, untouched};
     ghost use Rattle.cd_stream.specs.Transfer.{Flushes, Writes};
 
     ghost seen = { λ s. record { written = Some (take s.used s.space.now); failures = s.failures; finished = s.finished } };
@@ -46,6 +55,9 @@ impl Sink for SliceSink<'_> {
         ensures room { IsOk result ↔ (0 < room_of self.old) }
         ensures taken { IfOk result (λ n. n ≡ min (length bytes.now) (room_of self.old)) }
         ensures room_left { IfOk result (λ n. room_of self.new + n ≡ room_of self.old) }
+        ensures rest { IfOk result (λ n. untouched self.new ≡ drop n (untouched self.old)) }
+        ensures rest_left { OnErr result (untouched self.new ≡ untouched self.old) }
+        ensures same_slice { stands_over self.new ≡ stands_over self.old }
     {
         self.finished = false;
         let n = bytes.len().min(self.space.len() - self.used);
@@ -64,6 +76,8 @@ impl Sink for SliceSink<'_> {
         ensures flushes { Flushes (slice_taken self.old) (slice_taken self.new) result }
         ensures never_fails { IsOk result }
         ensures room { room_of self.new ≡ room_of self.old }
+        ensures rest { untouched self.new ≡ untouched self.old }
+        ensures same_slice { stands_over self.new ≡ stands_over self.old }
     {
         self.finished = true;
         Ok(())

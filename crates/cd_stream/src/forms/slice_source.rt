@@ -1,6 +1,6 @@
 //! Bytes in memory as a source.
 
-ghost use Rattle.std.specs.Prelude.{◌≡◌, IsOk, Some};
+ghost use Rattle.std.specs.Prelude.{◌≡◌, Some, false};
 
 use crate::source::{Source, SourceFailed};
 
@@ -8,14 +8,18 @@ use crate::source::{Source, SourceFailed};
 #[derive(Debug, Drop)]
 pub struct SliceSource<'a> {
     rest: &'a [u8],
+    ended: bool,
 }
 
 impl<'a> SliceSource<'a> {
     /// Stands over `bytes`.
     pub fn new(bytes: &'a [u8]) -> Self
-        ensures { ⟦<SliceSource<'a> as Source>⟧.seen result ≡ record { rest = Some bytes.entry.now; failures = 0 } }
+        ensures { ⟦<SliceSource<'a> as Source>⟧.seen result ≡ record { rest = Some bytes.entry.now; failures = 0; ended = false } }
     {
-        SliceSource { rest: bytes }
+        SliceSource {
+            rest: bytes,
+            ended: false,
+        }
     }
 }
 
@@ -24,7 +28,7 @@ impl Source for SliceSource<'_> {
     ghost use Rattle.cd_stream.specs.Forms.{slice_to_come};
     ghost use Rattle.cd_stream.specs.Transfer.{Reads};
 
-    ghost seen = { λ s. record { rest = Some s.rest.now; failures = 0 } };
+    ghost seen = { λ s. record { rest = Some s.rest.now; failures = 0; ended = s.ended } };
 
     fn read(&mut self, into: &mut [u8]) -> Result<usize, SourceFailed>
         requires { 0 < length into.old }
@@ -35,6 +39,7 @@ impl Source for SliceSource<'_> {
         let (front, rest) = self.rest.split_at(n);
         into[..n].copy_from_slice(front);
         self.rest = rest;
+        self.ended = n == 0;
         Ok(n)
     }
 

@@ -1,6 +1,6 @@
 //! Zeros as a source.
 
-ghost use Rattle.std.specs.Prelude.{◌≡◌, IsOk, Some, replicate};
+ghost use Rattle.std.specs.Prelude.{◌≡◌, Some, false, replicate};
 
 use crate::source::{Source, SourceFailed};
 
@@ -8,14 +8,18 @@ use crate::source::{Source, SourceFailed};
 #[derive(Debug, Drop)]
 pub struct ZeroSource {
     left: u64,
+    ended: bool,
 }
 
 impl ZeroSource {
     /// Gives `count` bytes.
     pub fn new(count: u64) -> Self
-        ensures { ⟦<ZeroSource as Source>⟧.seen result ≡ record { rest = Some (replicate count 0); failures = 0 } }
+        ensures { ⟦<ZeroSource as Source>⟧.seen result ≡ record { rest = Some (replicate count 0); failures = 0; ended = false } }
     {
-        ZeroSource { left: count }
+        ZeroSource {
+            left: count,
+            ended: false,
+        }
     }
 }
 
@@ -24,7 +28,7 @@ impl Source for ZeroSource {
     ghost use Rattle.cd_stream.specs.Forms.{zeros_to_come};
     ghost use Rattle.cd_stream.specs.Transfer.{Reads};
 
-    ghost seen = { λ s. record { rest = Some (replicate s.left 0); failures = 0 } };
+    ghost seen = { λ s. record { rest = Some (replicate s.left 0); failures = 0; ended = s.ended } };
 
     fn read(&mut self, into: &mut [u8]) -> Result<usize, SourceFailed>
         requires { 0 < length into.old }
@@ -34,6 +38,7 @@ impl Source for ZeroSource {
         let n = self.left.min(into.len() as u64);
         into[..n as usize].fill(0);
         self.left -= n;
+        self.ended = n == 0;
         Ok(n as usize)
     }
 

@@ -1,4 +1,6 @@
-//! The forms over one another, through their bounds.
+//! The forms over one another, through their bounds, and a caller's slice.
+
+ghost use Rattle.std.specs.Prelude.{◌≡◌, ◌≤◌, ◌++◌, [], ◌∷◌, drop, length};
 
 use crate::{
     FailAfter, Short, Sink, SinkFailed, SliceSink, SliceSource, Source, SourceFailed, ZeroSource,
@@ -50,4 +52,31 @@ fn a_sink_that_is_full(rt: HostRuntime) {
     assert_eq!(rt; sink.finish(), Ok(()));
     assert!(rt; sink.finished());
     assert_eq!(rt; space, *b"abc");
+}
+
+/// Writes two bytes by a sink over a slice: a caller knows all of the slice afterwards.
+fn put_two(space: &mut [u8])
+    requires { 2 ≤ length space.old }
+    ensures { space.new ≡ 1 ∷ 2 ∷ drop 2 space.old }
+{
+    let mut sink = SliceSink::new(space);
+    let _ = sink.write(&[1, 2]);
+}
+
+#[test]
+fn what_stands_after_the_written_bytes_stays(rt: HostRuntime) {
+    let mut space = [9; 4];
+    put_two(&mut space);
+    assert_eq!(rt; space, [1, 2, 9, 9]);
+}
+
+#[test]
+fn what_a_full_slice_holds(rt: HostRuntime) {
+    let mut space = [9; 4];
+    let mut sink = SliceSink::new(&mut space);
+    assert_eq!(rt; sink.written(), b"".as_slice());
+    assert_eq!(rt; write_all(&mut sink, b"abc"), Ok(()));
+    assert_eq!(rt; sink.written(), b"abc".as_slice());
+    assert_eq!(rt; write_all(&mut sink, b"de"), Err(SinkFailed));
+    assert_eq!(rt; sink.written(), b"abcd".as_slice());
 }

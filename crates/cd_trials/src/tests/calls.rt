@@ -78,6 +78,9 @@ pub struct Ending {
     pub log_failures: u32,
     pub out_finished: bool,
     pub log_finished: bool,
+    /// How many bytes the output and the log have got.
+    pub sent: usize,
+    pub told: usize,
     /// How many bytes the image gave when it was read on, if it had not failed.
     pub left: Option<usize>,
 }
@@ -88,6 +91,11 @@ fn read_on<I: Source>(image: &mut I, rest: &mut [u8]) -> Option<usize> {
         return None;
     }
     fill(image, rest).ok()
+}
+
+/// How many bytes a sink over memory has got.
+fn count_of(sink: &Short<FailAfter<SliceSink<'_>>>) -> usize {
+    sink.get_ref().get_ref().written().len()
 }
 
 /// Applies the script, with an output over `space` and a log over `lines`, and reads on what is left of the image.
@@ -121,6 +129,8 @@ pub fn apply_within(
         log_failures: log.failures(),
         out_finished: out.finished(),
         log_finished: log.finished(),
+        sent: count_of(&out),
+        told: count_of(&log),
         left: read_on(&mut image, rest),
     }
 }
@@ -142,6 +152,8 @@ pub fn check_within(call: &Call, limits: &Limits, lines: &mut [u8], rest: &mut [
         log_failures: log.failures(),
         out_finished: log.finished(),
         log_finished: log.finished(),
+        sent: 0,
+        told: count_of(&log),
         left: read_on(&mut image, rest),
     }
 }

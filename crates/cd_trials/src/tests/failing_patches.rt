@@ -1,7 +1,7 @@
 //! One of an image, an output and a log fails at each byte of a patched image: what went to the others is known.
 
 use super::calls::{ALL, Call, Ending, Limits, apply_within, by_parts, check_within, passing};
-use super::patching::{count_written, has_failed, has_front, memory};
+use super::patching::{has_failed, has_front, memory};
 use cd_image::{Fault, Tally};
 use cd_samples::Sample::{self, Filled, Zeros};
 use cd_samples::{image_of, script_of};
@@ -91,14 +91,14 @@ fn image_fails(parts: &Parts, space: &mut [u8], count: u64) -> bool {
     let mut lines = [238; 36];
     space.fill(238);
     let applied = applies(parts, &limits, space, &mut lines);
-    let (sent, told) = (count_written(space), count_written(&lines));
+    let (sent, told) = (applied.sent, applied.told);
     let is_begun = count >= 4704 || sent <= 2352 && told == 0;
     let is_sent = has_front(space, &parts.whole, sent) && has_front(&lines, LOG, told);
     let is_near = count as usize <= sent.saturating_add(7056);
 
     let mut lines = [238; 36];
     let checked = checks(parts, &limits, &mut lines);
-    let told = count_written(&lines);
+    let told = checked.told;
     let is_told = has_front(&lines, LOG, told) && (count >= 4704 || told == 0);
     let is_right = is_begun && is_sent && is_near && is_told;
     is_right && is_answered(&applied, Fault::Read) && is_answered(&checked, Fault::Read)

@@ -1,44 +1,20 @@
-//! Patches on the largest images, and on endless ones.
+//! Patches on the largest images. A pass over more than 60,000,000 bytes is a test of its own.
 
 ghost use Rattle.std.specs.Prelude.{◌<◌, ◌≤◌};
 
 use super::patching::has_front;
 use cd_image::{
-    Fault, FromRead, MAX_BASE, Sink, SliceSink, Source, Tally, ToWrite, ZeroSource, apply, check,
+    Fault, MAX_BASE, Sink, SliceSink, Source, Tally, ToWrite, ZeroSource, apply, check,
 };
 use cd_samples::{repeated, script_of};
 use cd_script::Script;
 use std::alloc::Global;
-use std::io::{self, Write};
+use std::io;
 use std::process::Abort;
 use std::test::Fail;
 
-/// A million sectors, in which no patch was accepted and so many were refused.
-fn refused(refused: u32) -> Result<Tally, Fault> {
-    Ok(Tally {
-        applied: 0,
-        refused,
-        sectors: 1_000_000,
-        tail: 0,
-    })
-}
-
-/// A writer that keeps nothing.
-#[derive(Drop)]
-struct Unkept;
-
-impl Write for Unkept {
-    fn write(&mut self, buf: &[u8]) -> io::Result<usize> {
-        Ok(buf.len())
-    }
-
-    fn flush(&mut self) -> io::Result<()> {
-        Ok(())
-    }
-}
-
 /// Applies a script, with an output that is not kept.
-fn expect_applied<I: Source>(
+pub fn expect_applied<I: Source>(
     rt: &impl Abort,
     image: &mut I,
     script: &Script,
@@ -50,7 +26,7 @@ fn expect_applied<I: Source>(
     requires countable { (I.seen image.old).failures < 4294967295 }
 {
     let mut lines = [238; 128];
-    let mut out = ToWrite::new(Unkept);
+    let mut out = ToWrite::new(io::sink());
     let mut told = SliceSink::new(&mut lines);
     let answer = apply(image, script, base, false, &mut out, &mut told);
     let is_done = (out.finished() && told.finished()) == want.is_ok();
@@ -63,7 +39,7 @@ fn expect_applied<I: Source>(
 }
 
 /// Checks a script.
-fn expect_checked<I: Source>(
+pub fn expect_checked<I: Source>(
     rt: &impl Abort,
     image: &mut I,
     script: &Script,
@@ -86,90 +62,139 @@ fn expect_checked<I: Source>(
     );
 }
 
-/// Applies and checks a script on so many bytes `00`.
-fn expect(
-    rt: &impl Abort,
-    alloc: Global,
-    text: &str,
+/// A script on so many bytes `00` from a block on, and how it ends.
+#[derive(Clone, Copy)]
+struct Long<'a> {
+    script: &'a str,
+    /// How many bytes `41` its last line ends with.
+    bytes: u32,
     size: u64,
     base: u32,
-    want: Result<Tally, Fault>,
-    log: &str,
-) -> Result<(), Fail>
-    requires { base ≤ MAX_BASE }
+    /// How many patches are refused in a million sectors, none being accepted; None where the image is too long.
+    refused: Option<u32>,
+    log: &'a str,
+}
+
+/// How a pass over the image ends.
+fn ending_of(long: &Long) -> Result<Tally, Fault> {
+    match long.refused {
+        Some(refused) => Ok(Tally {
+            applied: 0,
+            refused,
+            sectors: 1_000_000,
+            tail: 0,
+        }),
+        None => Err(Fault::TooLong),
+    }
+}
+
+fn applies(rt: &impl Abort, alloc: Global, long: &Long) -> Result<(), Fail>
+    requires { long.now.base ≤ MAX_BASE }
 {
-    let script = script_of(alloc, text)?;
-    expect_applied(rt, &mut ZeroSource::new(size), &script, base, want, log);
-    expect_checked(rt, &mut ZeroSource::new(size), &script, base, want, log);
+    let text = repeated(alloc, long.script, "41", long.bytes, "\n")?;
+    let script = script_of(alloc, text.as_str())?;
+    let mut image = ZeroSource::new(long.size);
+    expect_applied(
+        rt,
+        &mut image,
+        &script,
+        long.base,
+        ending_of(long),
+        long.log,
+    );
     Ok(())
 }
 
-#[test]
-fn no_patches_on_a_million_sectors(rt: HostRuntime) -> Result<(), Fail> {
-    let log = "applied 0 refused 0\n";
-    expect(
-        &rt,
-        rt.alloc(),
-        "cdpatch 1\n",
-        2_352_000_000,
-        0,
-        refused(0),
-        log,
-    )
-}
-
-#[test]
-fn a_patch_past_a_byte_too_many(rt: HostRuntime) -> Result<(), Fail> {
-    let text = "cdpatch 1\nset 1000000 0 41\n";
-    expect(
-        &rt,
-        rt.alloc(),
-        text,
-        2_352_000_001,
-        0,
-        Err(Fault::TooLong),
-        "",
-    )
-}
-
-#[test]
-fn a_patch_over_the_end_of_a_million_sectors(rt: HostRuntime) -> Result<(), Fail> {
-    let text = repeated(rt.alloc(), "cdpatch 1\nset 999998 0 ", "41", 4096, "\n")?;
-    let log = "line 2: refused: block 999998 is not mode 1\napplied 0 refused 1\n";
-    expect(
-        &rt,
-        rt.alloc(),
-        text.as_str(),
-        2_352_000_000,
-        0,
-        refused(1),
-        log,
-    )
-}
-
-#[test]
-fn patches_at_the_end_of_a_million_sectors(rt: HostRuntime) -> Result<(), Fail> {
-    let text = "cdpatch 1\nset 1449849 0 41\nrebuild 1449848\n";
-    let log = "line 3: refused: block 1449848 is not mode 1\n\
-        line 2: refused: no block 1449849\napplied 0 refused 2\n";
-    expect(
-        &rt,
-        rt.alloc(),
-        text,
-        2_352_000_000,
-        449_849,
-        refused(2),
-        log,
-    )
-}
-
-#[test]
-fn an_endless_reader_of_a_patched_image(rt: HostRuntime) -> Result<(), Fail> {
-    let script = script_of(rt.alloc(), "cdpatch 1\nset 1000000 0 41\nset 7 0 41\n")?;
-    let log = "line 3: refused: block 7 is not mode 1\n";
-    let mut image = FromRead::new(io::repeat(0));
-    expect_applied(&rt, &mut image, &script, 0, Err(Fault::TooLong), log);
-    let mut image = FromRead::new(io::repeat(0));
-    expect_checked(&rt, &mut image, &script, 0, Err(Fault::TooLong), log);
+fn checks(rt: &impl Abort, alloc: Global, long: &Long) -> Result<(), Fail>
+    requires { long.now.base ≤ MAX_BASE }
+{
+    let text = repeated(alloc, long.script, "41", long.bytes, "\n")?;
+    let script = script_of(alloc, text.as_str())?;
+    let mut image = ZeroSource::new(long.size);
+    expect_checked(
+        rt,
+        &mut image,
+        &script,
+        long.base,
+        ending_of(long),
+        long.log,
+    );
     Ok(())
+}
+
+const NO_PATCHES: Long = Long {
+    script: "cdpatch 1",
+    bytes: 0,
+    size: 2_352_000_000,
+    base: 0,
+    refused: Some(0),
+    log: "applied 0 refused 0\n",
+};
+
+#[test]
+fn no_patches_applied_to_a_million_sectors(rt: HostRuntime) -> Result<(), Fail> {
+    applies(&rt, rt.alloc(), &NO_PATCHES)
+}
+
+#[test]
+fn no_patches_checked_on_a_million_sectors(rt: HostRuntime) -> Result<(), Fail> {
+    checks(&rt, rt.alloc(), &NO_PATCHES)
+}
+
+const A_BYTE_TOO_MANY: Long = Long {
+    script: "cdpatch 1\nset 1000000 0 41",
+    bytes: 0,
+    size: 2_352_000_001,
+    base: 0,
+    refused: None,
+    log: "",
+};
+
+#[test]
+fn a_patch_applied_past_a_byte_too_many(rt: HostRuntime) -> Result<(), Fail> {
+    applies(&rt, rt.alloc(), &A_BYTE_TOO_MANY)
+}
+
+#[test]
+fn a_patch_checked_past_a_byte_too_many(rt: HostRuntime) -> Result<(), Fail> {
+    checks(&rt, rt.alloc(), &A_BYTE_TOO_MANY)
+}
+
+const OVER_THE_END: Long = Long {
+    script: "cdpatch 1\nset 999998 0 ",
+    bytes: 4096,
+    size: 2_352_000_000,
+    base: 0,
+    refused: Some(1),
+    log: "line 2: refused: block 999998 is not mode 1\napplied 0 refused 1\n",
+};
+
+#[test]
+fn a_patch_applied_over_the_end_of_a_million_sectors(rt: HostRuntime) -> Result<(), Fail> {
+    applies(&rt, rt.alloc(), &OVER_THE_END)
+}
+
+#[test]
+fn a_patch_checked_over_the_end_of_a_million_sectors(rt: HostRuntime) -> Result<(), Fail> {
+    checks(&rt, rt.alloc(), &OVER_THE_END)
+}
+
+const AT_THE_END: Long = Long {
+    script: "cdpatch 1\nset 1449849 0 41\nrebuild 1449848",
+    bytes: 0,
+    size: 2_352_000_000,
+    base: 449_849,
+    refused: Some(2),
+    log: "line 3: refused: block 1449848 is not mode 1\n\
+        line 2: refused: no block 1449849\napplied 0 refused 2\n",
+};
+
+#[test]
+fn patches_applied_at_the_end_of_a_million_sectors(rt: HostRuntime) -> Result<(), Fail> {
+    applies(&rt, rt.alloc(), &AT_THE_END)
+}
+
+#[test]
+fn patches_checked_at_the_end_of_a_million_sectors(rt: HostRuntime) -> Result<(), Fail> {
+    checks(&rt, rt.alloc(), &AT_THE_END)
 }

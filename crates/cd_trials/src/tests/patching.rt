@@ -28,17 +28,6 @@ pub fn has_front(space: &[u8], whole: &[u8], count: usize) -> bool {
     space.get(..count) == whole.get(..count) && space.get(count..).is_some_and(is_untouched)
 }
 
-/// How many bytes stand in front of those that nothing was written to.
-pub fn count_written(space: &[u8]) -> usize {
-    let mut count = 0;
-    for (place, byte) in space.iter().enumerate() {
-        if *byte != UNTOUCHED {
-            count = place.saturating_add(1);
-        }
-    }
-    count
-}
-
 /// An image and a script, and the log and the output that they must give, where damage is carried or not.
 #[derive(Clone, Copy)]
 pub struct Case<'a> {

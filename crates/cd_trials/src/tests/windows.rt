@@ -2,7 +2,7 @@
 
 use super::calls::{ALL, Call, apply_within, passing};
 use super::failing_patches::is_answered;
-use super::patching::{count_written, has_front, memory};
+use super::patching::{has_front, memory};
 use cd_image::Fault;
 use cd_samples::Sample::Zeros;
 use cd_samples::{Sample, image_of, script_of};
@@ -48,7 +48,7 @@ fn stops(alloc: Global, stop: &Stop) -> Result<bool, Fail> {
     let mut lines = [238; 128];
     let limits = passing(ALL, stop.out, stop.log);
     let ending = apply_within(&call, &limits, &mut space, &mut lines, &mut rest);
-    let sent = count_written(&space);
+    let sent = ending.sent;
     let left = ending.left.unwrap_or(0);
     let first = image.len().saturating_sub(left);
     Ok(

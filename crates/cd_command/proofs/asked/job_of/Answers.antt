@@ -1,15 +1,21 @@
-use Rattle.std.proofs.Common.{◌≡◌, ◌∙◌, ap, subst, sym, List, map}
+use Rattle.std.proofs.Common.{◌≡◌, ◌∙◌, ap, subst, sym, List, [], map}
 use Rattle.std.specs.Prelude.{option_map, string_bytes}
 use Rattle.std.proofs.lemmas.Result.{err_from_is_err_and}
 use Rattle.clap.specs.Words.{Row, Text, app_of, found_of, rows_of, subcommand_of}
 use Rattle.cd_command.specs.CommandLine.{HasMatches, command_line}
-use Rattle.cd_command.proofs.AskedLemmas.{entered, entered-parts, entered-some, fault-has_kind, map-none, map-some, none-asks, some-asks, taken-no_memory}
+use Rattle.cd_command.specs.Fault.{kinds_of}
+use Rattle.cd_command.proofs.AskedLemmas.{entered, entered-parts, entered-some, fault-has_kind, map-none, map-some, none-asks, none-kinds, some-asks, some-kinds, taken-no_memory}
 use Rattle.cd_command.proofs.asked.job_of.Goals as goal
 
 pub returns-then-is_empty-clause-ok : goal.returns-then-is_empty-clause-ok
 returns-then-is_empty-clause-ok c =
     none-asks (map string_bytes c.args.words.items) c.in_ok-standard_input_job.field-0
     (map-none string_bytes c.args.words.items c.args.words.len c.args.words.ok.0 (sym c.is_empty.ensures ∙ c.if-is_empty.true)) c.in_ok-standard_input_job.ensures
+
+pub returns-then-is_empty-clause-taken : goal.returns-then-is_empty-clause-taken
+returns-then-is_empty-clause-taken c =
+    none-kinds (map string_bytes c.args.words.items)
+    (map-none string_bytes c.args.words.items c.args.words.len c.args.words.ok.0 (sym c.is_empty.ensures ∙ c.if-is_empty.true))
 
 pub returns-in_err-matches-clause-refused : goal.returns-in_err-matches-clause-refused
 returns-in_err-matches-clause-refused c =
@@ -58,3 +64,9 @@ returns-clause-ok c =
     some-asks (map string_bytes c.args.words.items) c.in_ok-entered_job.field-0 enters.matches some
     (ap (subcommand_of command_line) (sym given) ∙ enters.is)
     (subst (λ (p : Text × List Row). HasMatches p c.in_ok-entered_job.field-0) (sym is) c.in_ok-entered_job.ensures.job)
+
+pub returns-clause-taken : goal.returns-clause-taken
+returns-clause-taken c =
+    let ws = map string_bytes c.as_slice.result.now in
+    let given : ws ≡ map string_bytes c.args.words.items = ap (map string_bytes) c.as_slice.ensures.value in
+    subst (λ w. kinds_of w ≡ []) given (some-kinds (app_of c.in_ok-line.line) ws c.in_ok-line.ensures c.in_ok-matches.ensures.kinds)

@@ -2,7 +2,7 @@ use Rattle.std.proofs.Common.{subst}
 use Rattle.std.specs.Prelude.{All}
 use Rattle.cd_script.specs.Patch.{IsPatch}
 use Rattle.cd_image.specs.Applying.{Applies, Streams, streams}
-use Rattle.cd_image.proofs.ApplyReportLemmas.{Applies-by_length, Applies-carried, Applies-ends_log, Applies-ends_out, Applies-few, Applies-log_failed, Applies-output, Applies-read_failed, Applies-told, Applies-too_long, Applies-write_failed}
+use Rattle.cd_image.proofs.ApplyReportLemmas.{Applies-by_end, Applies-by_length, Applies-carried, Applies-ended, Applies-ends_log, Applies-ends_out, Applies-few, Applies-log_failed, Applies-output, Applies-read_failed, Applies-told, Applies-too_long, Applies-write_failed}
 use Rattle.cd_image.proofs.applying.apply.Given.{Over}
 use Rattle.cd_image.proofs.applying.apply.Goals as goal
 
@@ -52,3 +52,9 @@ returns-clause-by_length g c = Applies-by_length c.args.carry c.args.script.now 
 
 pub returns-clause-holds_few : goal.returns-clause-holds_few
 returns-clause-holds_few g c = Applies-few c.args.carry c.args.script.now c.args.base (before g c) (after g c) c.apply_whole.result (done g c)
+
+pub returns-clause-ended : goal.returns-clause-ended
+returns-clause-ended g c = Applies-ended c.args.carry c.args.script.now c.args.base (before g c) (after g c) c.apply_whole.result (done g c)
+
+pub returns-clause-by_end : goal.returns-clause-by_end
+returns-clause-by_end g c = Applies-by_end c.args.carry c.args.script.now c.args.base (before g c) (after g c) c.apply_whole.result (done g c)

@@ -1,7 +1,7 @@
 use Rattle.std.proofs.Common.{arith}
 use Rattle.std.proofs.lemmas.Result.{err_from_is_err_and}
 use Rattle.cd_image.specs.Applying.{streams}
-use Rattle.cd_image.proofs.TurnLemmas.{Applies-first, begun_pass, bounds, no_tail}
+use Rattle.cd_image.proofs.TurnLemmas.{Applies-first, begun_pass, bounds}
 use Rattle.cd_image.proofs.applying.apply_whole.Goals as goal
 
 pub returns-in_err-send_missing : goal.returns-in_err-send_missing
@@ -16,10 +16,9 @@ loop-more-init g c =
     let new = c.new-pass.ensures in
     record {
       goes =
-          begun_pass c.args.carry c.args.patches.now c.args.base (streams (g.I.Source.seen c.args.image.now) (g.O.Sink.seen c.args.out.now) (g.L.Sink.seen c.args.log.now)) (g.L.Sink.seen c.send_missing.new.log) c.count_below-below.result c.new-pass.result new.window new.block new.sectors new.decided new.applied new.tail
+          begun_pass c.args.carry c.args.patches.now c.args.base (streams (g.I.Source.seen c.args.image.now) (g.O.Sink.seen c.args.out.now) (g.L.Sink.seen c.args.log.now)) (g.L.Sink.seen c.send_missing.new.log) c.count_below-below.result c.new-pass.result new.empty new.block new.sectors new.decided new.applied new.unended
           c.count_below-below.ensures.below c.count_below-below.ensures.others c.in_ok-send_missing.ensures.bytes c.in_ok-send_missing.ensures.count;
       known = omega (arith, new.decided, c.count_below-below.ensures.within);
-      short = no_tail c.new-pass.result new.tail;
       ended = λ never. cc;
     }
 
@@ -51,7 +50,6 @@ pub loop-more-preserved : goal.loop-more-preserved
 loop-more-preserved g c = record {
   goes = c.in_ok-more.ensures.goes c.args.base (streams (g.I.Source.seen c.args.image.now) (g.O.Sink.seen c.args.out.now) (g.L.Sink.seen c.args.log.now)) c.loop-more.invariant.goes;
   known = c.in_ok-more.ensures.known c.loop-more.invariant.known;
-  short = c.in_ok-more.ensures.short c.loop-more.invariant.short;
   ended = c.in_ok-more.ensures.ended;
 }
 
@@ -63,7 +61,6 @@ close-requires g c =
       log_countable = omega (arith, b.logs);
       count = c.requires.count;
       ended = c.loop-more.invariant.ended c.loop-more-test.false;
-      short = c.loop-more.invariant.short;
       decided = c.loop-more.invariant.known;
       applied = b.applied;
     }

@@ -1,6 +1,6 @@
 use Rattle.std.proofs.Common.{◌≡◌, ◌+◌, ◌≤◌, false, take, drop, length, cond}
 use Rattle.cd_image.specs.Applying.{streams}
-use Rattle.cd_image.specs.Passing.{GoesOn, HasShortTail, IsEnded, left_to_do}
+use Rattle.cd_image.specs.Passing.{GoesOn, IsEnded, left_to_do}
 use Rattle.cd_image.proofs.applying.apply_whole.Given as goal
 
 abbrev pub invariant-loop-more : goal.invariant-loop-more
@@ -10,7 +10,6 @@ invariant-loop-more g l =
     record {
       goes : GoesOn l.carry (take l.pass.decided l.patches) (drop l.pass.decided l.patches) l.fn.base start now l.pass;
       known : l.pass.decided ≤ length l.patches;
-      short : HasShortTail l.pass;
       ended : l.more ≡ false → IsEnded l.pass;
     }
 

@@ -1,6 +1,6 @@
 use Rattle.std.proofs.Common.{false, refl, subst}
 use Rattle.cd_image.specs.Applying.{Checks, Streams, streams, unkept}
-use Rattle.cd_image.proofs.ApplyReportLemmas.{Applies-by_length, Applies-ends_log, Applies-log_failed, Applies-read_failed, Applies-told, Applies-too_long, Checks-no_output}
+use Rattle.cd_image.proofs.ApplyReportLemmas.{Applies-begins, Applies-by_end, Applies-by_length, Applies-ended, Applies-ends_log, Applies-log_failed, Applies-read_failed, Applies-told, Applies-too_long, Checks-no_output}
 use Rattle.cd_image.proofs.applying.check.Given.{Over}
 use Rattle.cd_image.proofs.applying.check.Goals as goal
 
@@ -39,3 +39,12 @@ returns-clause-by_length g c = λ no_read no_log. Applies-by_length c.args.carry
 pub returns-clause-no_output : goal.returns-clause-no_output
 returns-clause-no_output g c =
     Checks-no_output c.args.carry c.args.script.now c.args.base (g.I.Source.seen c.args.image.now) (g.I.Source.seen c.check_whole.new.image) (g.L.Sink.seen c.args.log.now) (g.L.Sink.seen c.check_whole.new.log) c.check_whole.result (done g c)
+
+pub returns-clause-begins : goal.returns-clause-begins
+returns-clause-begins g c = Applies-begins c.args.carry c.args.script.now c.args.base (before g c) (after g c) c.check_whole.result (done g c).1
+
+pub returns-clause-ended : goal.returns-clause-ended
+returns-clause-ended g c = Applies-ended c.args.carry c.args.script.now c.args.base (before g c) (after g c) c.check_whole.result (done g c).1
+
+pub returns-clause-by_end : goal.returns-clause-by_end
+returns-clause-by_end g c = λ no_read no_log. Applies-by_end c.args.carry c.args.script.now c.args.base (before g c) (after g c) c.check_whole.result (done g c).1 no_read refl no_log

@@ -1,4 +1,4 @@
-use Rattle.std.proofs.Common.{◌≡◌, take}
+use Rattle.std.proofs.Common.{◌≡◌, ◌<◌, false, length, take}
 use Rattle.std.specs.Io.KnownBytes.{Appends}
 use Rattle.cd_image.specs.Passing.{missing}
 use Rattle.cd_image.specs.PatchLog.{log_lines}
@@ -8,4 +8,5 @@ abbrev pub invariant-loop-patch : goal.invariant-loop-patch
 invariant-loop-patch g l = record {
   told : Appends (g.L.Sink.seen l.fn.log).written (g.L.Sink.seen l.log).written (log_lines (take l.patch-index l.patches) (missing (take l.patch-index l.patches)));
   kept : (g.L.Sink.seen l.log).failures ≡ (g.L.Sink.seen l.fn.log).failures;
+  unfinished : 0 < length (log_lines (take l.patch-index l.patches) (missing (take l.patch-index l.patches))) → (g.L.Sink.seen l.log).finished ≡ false;
 }

@@ -1,4 +1,4 @@
-use Rattle.std.proofs.Common.{◌≡◌, ◌++◌, ◌<◌, List, ℕ, length, take, ap, ◌∙◌, subst}
+use Rattle.std.proofs.Common.{◌≡◌, ◌++◌, ◌<◌, List, ℕ, length, take, ap, ◌∙◌, subst, sym}
 use Rattle.std.proofs.lemmas.Result.{err_from_is_err_and}
 use Rattle.std.specs.Io.KnownBytes.{Appends}
 use Rattle.std.specs.Prelude.{codes, decimal}
@@ -19,6 +19,7 @@ returns g c =
     record {
       bytes = subst (Appends (g.L.Sink.seen c.args.log.now).written (g.L.Sink.seen c.write_all.new.out).written) line c.in_ok-write_all.ensures.bytes;
       count = c.in_ok-write_all.ensures.count;
+      unfinished = λ some. c.in_ok-write_all.ensures.unfinished (subst (λ text. 0 < length text) (sym line) some);
     }
 
 pub returns-in_err-write_all : goal.returns-in_err-write_all
@@ -29,4 +30,5 @@ returns-in_err-write_all g c =
     record {
       bytes = (went.0, subst (λ text. went.0 < length text) line went.1, subst (λ text. Appends (g.L.Sink.seen c.args.log.now).written (g.L.Sink.seen c.write_all.new.out).written (take went.0 text)) line went.2);
       count = c.in_err-write_all.ensures.count;
+      unfinished = λ some. c.in_err-write_all.ensures.unfinished (subst (λ text. 0 < length text) (sym line) some);
     }

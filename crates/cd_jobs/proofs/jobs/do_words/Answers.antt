@@ -1,14 +1,21 @@
 use Rattle.std.proofs.Common.{inl, inr, refl}
+use Rattle.cd_jobs.proofs.StatusLemmas.{DoesJob-few, Tells-few}
 use Rattle.cd_jobs.proofs.jobs.do_words.Goals as goal
 
-pub returns-in-Ok : goal.returns-in-Ok
-returns-in-Ok g c = inl (c.in-Ok.job, assumption c.in-Ok.ensures, c.do_job.ensures)
+pub returns-in-Ok-clause-does : goal.returns-in-Ok-clause-does
+returns-in-Ok-clause-does g c = inl (c.in-Ok.job, assumption c.in-Ok.ensures, c.in-Ok.ensures.taken, c.in-Ok.ensures.base, c.do_job.ensures)
 
-pub returns-in-Err : goal.returns-in-Err
-returns-in-Err g c = inr (record {
+pub returns-in-Err-clause-does : goal.returns-in-Err-clause-does
+returns-in-Err-clause-does g c = inr (record {
   unchanged = refl;
   fault = c.in-Err.fault;
   kind = c.in-Err.ensures.kind;
   memory = c.in-Err.ensures.refused;
   tells = c.refuse.ensures;
 })
+
+pub returns-in-Ok-clause-few : goal.returns-in-Ok-clause-few
+returns-in-Ok-clause-few g c = DoesJob-few _ _ _ _ _ _ _ c.do_job.ensures
+
+pub returns-in-Err-clause-few : goal.returns-in-Err-clause-few
+returns-in-Err-clause-few g c = Tells-few _ _ _ _ c.refuse.ensures

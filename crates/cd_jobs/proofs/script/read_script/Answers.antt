@@ -7,4 +7,11 @@ pub returns-in-Err-clause-status : goal.returns-in-Err-clause-status
 returns-in-Err-clause-status g c = c.fail.ensures.status
 
 pub returns-in-Err-clause-line : goal.returns-in-Err-clause-line
-returns-in-Err-clause-line g c = (c.in-Err.fault, c.in-Err.ensures.err, rw (← c.line_of.ensures, ← c.as_slice.ensures) c.fail.ensures.line)
+returns-in-Err-clause-line g c = (
+  c.in-Err.fault,
+  record {
+    own = λ e is. let same = c.in-Err.ensures.refused e is in cc;
+    other = c.in-Err.ensures.err;
+  },
+  rw (← c.line_of.ensures, ← c.as_slice.ensures) c.fail.ensures.line,
+)

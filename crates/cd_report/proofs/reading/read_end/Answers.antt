@@ -1,4 +1,4 @@
-use Rattle.std.proofs.Common.{◌≡◌, arith, refl, rules, subst, take}
+use Rattle.std.proofs.Common.{◌≡◌, ◌∙◌, ap, arith, nat_eq, refl, rules, subst, take}
 use Rattle.std.specs.Io.KnownBytes.{Consumes}
 use Rattle.cd_report.specs.Reading.{TooMuchComes}
 use Rattle.cd_report.proofs.reading.read_end.Goals as goal
@@ -6,11 +6,13 @@ use Rattle.cd_report.proofs.reading.read_end.Goals as goal
 pub returns-then-branch-gt0 : goal.returns-then-branch-gt0
 returns-then-branch-gt0 g c =
     let came = c.in_ok-read.ensures in
+    let one : c.in_ok-read.field-0 ≡ 1 = omega arith in
     let too_much : TooMuchComes 1000000 (g.I.Source.seen c.args.image.now) (g.I.Source.seen c.read.new.self) = record {
       came = take c.in_ok-read.field-0 c.read.new.into;
       one = search rules;
       consumes = came.bytes.1;
       kept = came.count;
+      unended = came.ended ∙ ap (λ n. nat_eq n 0) one;
       full = refl;
     } in
     too_much
@@ -25,5 +27,6 @@ returns g c =
       size = refl;
       kept = came.count;
       at_end = came.bytes.2 none;
+      ended = came.ended ∙ ap (λ n. nat_eq n 0) none;
       within = omega arith;
     }

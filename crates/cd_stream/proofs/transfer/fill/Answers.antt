@@ -1,4 +1,5 @@
-use Rattle.std.proofs.Common.{arith, ◌∙◌}
+use Rattle.std.proofs.Common.{arith, nat_eq, ap, ◌∙◌}
+use Rattle.std.proofs.lemmas.Bool.{ne_eqb}
 use Rattle.cd_stream.proofs.TransferLemmas.{Consumes-ended, Consumes-filled}
 use Rattle.cd_stream.proofs.transfer.fill.Goals as goal
 
@@ -10,6 +11,7 @@ loop-have-preserved g c =
       within = omega (arith, c.read.auto.into, c.loop-have.auto.into, came.0);
       consumed = Consumes-filled _ _ _ c.loop-have.have c.in_ok-n.n c.loop-have.into c.read.new.into _ before.within came.0 before.consumed came.1;
       counted = c.in_ok-n.ensures.count ∙ before.counted;
+      going = λ _. c.in_ok-n.ensures.ended ∙ ne_eqb c.in_ok-n.n 0 c.if-n-eq0.false;
     }
 
 pub returns-then-n-eq0 : goal.returns-then-n-eq0
@@ -24,4 +26,14 @@ returns-then-n-eq0 g c =
         λ _. came.2 none,
       );
       count = c.in_ok-n.ensures.count ∙ before.counted;
+      ended = (λ _. c.in_ok-n.ensures.ended ∙ ap (λ k. nat_eq k 0) none, λ _ full. absurd (omega (arith, full, c.loop-have-test.true, before.within, c.read.auto.into)));
+    }
+
+pub returns-after-loop-have : goal.returns-after-loop-have
+returns-after-loop-have g c =
+    let after = c.loop-have.invariant in
+    record {
+      bytes = (after.within, after.consumed, λ room. absurd (omega (arith, room, c.loop-have-test.false)));
+      count = after.counted;
+      ended = (λ room. absurd (omega (arith, room, c.loop-have-test.false)), λ some _. after.going some);
     }

@@ -1,4 +1,4 @@
-use Rattle.std.proofs.Common.{◌≡◌, ◌-◌, ◌≤◌, length, take}
+use Rattle.std.proofs.Common.{◌≡◌, ◌-◌, ◌<◌, ◌≤◌, false, length, take}
 use Rattle.std.specs.Io.KnownBytes.{Consumes}
 use Rattle.cd_stream.proofs.transfer.fill.Given as goal
 
@@ -7,6 +7,7 @@ invariant-loop-have g l = record {
   within : l.have ≤ length l.into;
   consumed : Consumes (g.I.Source.seen l.fn.image).rest (g.I.Source.seen l.image).rest (take l.have l.into);
   counted : (g.I.Source.seen l.image).failures ≡ (g.I.Source.seen l.fn.image).failures;
+  going : 0 < l.have → (g.I.Source.seen l.image).ended ≡ false;
 }
 
 abbrev pub decreases-loop-have : goal.decreases-loop-have

@@ -13,6 +13,7 @@ loop-sent-preserved g c =
       within = omega (arith, few, c.loop-sent-test.true);
       appended = Appends-sent _ _ _ c.loop-sent.sent c.in_ok-sent.field-0 c.args.bytes.now few before.appended went.2;
       counted = c.in_ok-sent.ensures.count ∙ before.counted;
+      unfinished = λ _. c.in_ok-sent.ensures.unfinished;
     }
 
 pub returns : goal.returns
@@ -21,4 +22,5 @@ returns g c =
     record {
       bytes = rw all at c.loop-sent.invariant.appended;
       count = c.loop-sent.invariant.counted;
+      unfinished = λ some. c.loop-sent.invariant.unfinished (omega arith);
     }

@@ -1,4 +1,4 @@
-use Rattle.std.proofs.Common.{◌≡◌, ◌-◌, ◌≤◌, length, take}
+use Rattle.std.proofs.Common.{◌≡◌, ◌-◌, ◌<◌, ◌≤◌, false, length, take}
 use Rattle.std.specs.Io.KnownBytes.{Appends}
 use Rattle.cd_stream.proofs.transfer.write_all.Given as goal
 
@@ -7,6 +7,7 @@ invariant-loop-sent g l = record {
   within : l.sent ≤ length l.bytes;
   appended : Appends (g.O.Sink.seen l.fn.out).written (g.O.Sink.seen l.out).written (take l.sent l.bytes);
   counted : (g.O.Sink.seen l.out).failures ≡ (g.O.Sink.seen l.fn.out).failures;
+  unfinished : 0 < l.sent → (g.O.Sink.seen l.out).finished ≡ false;
 }
 
 abbrev pub decreases-loop-sent : goal.decreases-loop-sent

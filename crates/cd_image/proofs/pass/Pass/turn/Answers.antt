@@ -1,29 +1,81 @@
-use Rattle.std.proofs.Common.{suc, take, drop, length}
+use Rattle.std.proofs.Common.{suc, take, drop, length, arith}
 use Rattle.std.proofs.lemmas.Option.{slice_get_within}
+use Rattle.std.proofs.lemmas.Result.{err_from_is_err_and}
 use Rattle.cd_image.specs.Applying.{streams}
-use Rattle.cd_image.specs.Passing.{left_to_do}
-use Rattle.cd_image.proofs.TurnLemmas.{Turns-at, Turns-behind, at_count, before_next, strictly_ahead}
+use Rattle.cd_image.proofs.TurnLemmas.{before_next, fault_same, fault_taken, goes_same, goes_taken, is_patch, strictly_ahead}
 use Rattle.cd_image.proofs.pass.Pass.turn.Goals as goal
 
-pub returns-in-Some-clause-goes : goal.returns-in-Some-clause-goes
-returns-in-Some-clause-goes g c = λ base start going.
+pub returns-in_err-read_next-clause-goes : goal.returns-in_err-read_next-clause-goes
+returns-in_err-read_next-clause-goes g c =
+    let failed = err_from_is_err_and c.from_residual.result c.from_residual.ensures.1 in
     let ps = c.args.patches.now in
     let d = c.args.self.now.decided in
     let out = g.O.Sink.seen c.args.out.now in
-    let is = c.in-Some.ensures.some.0 in
-    Turns-at c.args.carry ps d base start c.in-Some.patch.now is (streams (g.I.Source.seen c.turn_at.new.image) out (g.L.Sink.seen c.turn_at.new.log)) c.turn_at.new.self c.turn_at.result
-    (c.turn_at.ensures.goes (take d ps) (drop (suc d) ps) base start out (before_next c.args.carry ps d base start c.in-Some.patch.now is (streams (g.I.Source.seen c.args.image.now) out (g.L.Sink.seen c.args.log.now)) c.args.self.now going))
+    let log = g.L.Sink.seen c.args.log.now in
+    rw (failed.1, failed.2)
+    (λ base start going.
+    fault_same c.args.carry ps d base start (streams (g.I.Source.seen c.read_next.new.image) out log) _ (c.in_err-read_next.ensures.goes c.args.carry (take d ps) (drop d ps) base start out log going))
 
-pub returns-in-Some-clause-nearer : goal.returns-in-Some-clause-nearer
-returns-in-Some-clause-nearer g c =
-    at_count c.turn_at.result c.args.self.now.decided (length c.args.patches.now) (λ n. left_to_do n c.turn_at.new.self) (λ n. left_to_do n c.args.self.now) c.turn_at.ensures.nearer
-    (slice_get_within c.args.patches.now c.args.self.now.decided c.in-Some.patch.now c.in-Some.ensures.some.0)
+pub take_front-requires-clause-patch : goal.take_front-requires-clause-patch
+take_front-requires-clause-patch g c = is_patch c.args.patches.now c.args.self.now.decided c.in-Some.patch.now c.in-Some.ensures.some.0 c.requires.each
 
-pub returns-in-None-clause-goes : goal.returns-in-None-clause-goes
-returns-in-None-clause-goes g c = λ base start going.
+pub take_front-requires-clause-few : goal.take_front-requires-clause-few
+take_front-requires-clause-few g c =
+    let here = slice_get_within c.args.patches.now c.args.self.now.decided c.in-Some.patch.now c.in-Some.ensures.some.0 in
+    omega (arith, here, c.requires.count)
+
+pub returns-in_err-take_front-clause-goes : goal.returns-in_err-take_front-clause-goes
+returns-in_err-take_front-clause-goes g c =
+    let failed = err_from_is_err_and c.from_residual-in_err-take_front.result c.from_residual-in_err-take_front.ensures.1 in
     let ps = c.args.patches.now in
     let d = c.args.self.now.decided in
+    let p = c.in-Some.patch.now in
+    let is = c.in-Some.ensures.some.0 in
+    let image = g.I.Source.seen c.args.image.now in
+    let out = g.O.Sink.seen c.args.out.now in
+    rw (failed.1, failed.2)
+    (λ base start going.
+    fault_taken c.args.carry ps d base start p is (streams image out (g.L.Sink.seen c.take_front.new.log)) _
+    (c.in_err-take_front.ensures.goes (take d ps) (drop (suc d) ps) base start image out (before_next c.args.carry ps d base start p is (streams image out (g.L.Sink.seen c.args.log.now)) c.args.self.now going)))
+
+pub returns-in_err-send_front-clause-goes : goal.returns-in_err-send_front-clause-goes
+returns-in_err-send_front-clause-goes g c =
+    let failed = err_from_is_err_and c.from_residual-in_err-send_front.result c.from_residual-in_err-send_front.ensures.1 in
+    let ps = c.args.patches.now in
+    let d = c.args.self.now.decided in
+    let image = g.I.Source.seen c.args.image.now in
     let log = g.L.Sink.seen c.args.log.now in
-    let ahead = strictly_ahead ps d c.args.self.now.block c.requires.rising going.ahead c.in-None.ensures.none in
-    Turns-behind c.args.carry ps d base start (streams (g.I.Source.seen c.turn_behind.new.image) (g.O.Sink.seen c.turn_behind.new.out) log) c.turn_behind.new.self c.turn_behind.result c.turn_behind.ensures.decided
-    (c.turn_behind.ensures.goes c.args.carry (take d ps) (drop d ps) base start log ahead going)
+    rw (failed.1, failed.2)
+    (λ base start going.
+    fault_same c.args.carry ps d base start (streams image (g.O.Sink.seen c.send_front.new.out) log) _
+    (c.in_err-send_front.ensures.goes c.args.carry (take d ps) (drop d ps) base start image log (strictly_ahead ps d c.args.self.now.block c.requires.rising going.ahead c.in_default.ensures.none) going))
+
+pub returns-in_ok-take_front-clause-goes : goal.returns-in_ok-take_front-clause-goes
+returns-in_ok-take_front-clause-goes g c = λ base start going.
+    let ps = c.args.patches.now in
+    let d = c.args.self.now.decided in
+    let p = c.in-Some.patch.now in
+    let is = c.in-Some.ensures.some.0 in
+    let image = g.I.Source.seen c.args.image.now in
+    let out = g.O.Sink.seen c.args.out.now in
+    goes_taken c.args.carry ps d base start p is (streams image out (g.L.Sink.seen c.take_front.new.log)) c.take_front.new.self c.in_ok-take_front.ensures.decided
+    (c.in_ok-take_front.ensures.goes (take d ps) (drop (suc d) ps) base start image out (before_next c.args.carry ps d base start p is (streams image out (g.L.Sink.seen c.args.log.now)) c.args.self.now going))
+
+pub returns-in_ok-take_front-clause-known : goal.returns-in_ok-take_front-clause-known
+returns-in_ok-take_front-clause-known g c = λ known.
+    let here = slice_get_within c.args.patches.now c.args.self.now.decided c.in-Some.patch.now c.in-Some.ensures.some.0 in
+    omega (arith, here, c.in_ok-take_front.ensures.decided)
+
+pub returns-in_ok-take_front-clause-nearer : goal.returns-in_ok-take_front-clause-nearer
+returns-in_ok-take_front-clause-nearer g c =
+    let here = slice_get_within c.args.patches.now c.args.self.now.decided c.in-Some.patch.now c.in-Some.ensures.some.0 in
+    omega (arith, c.in_ok-take_front.ensures.nearer (length c.args.patches.now) here)
+
+pub returns-in_ok-send_front-clause-goes : goal.returns-in_ok-send_front-clause-goes
+returns-in_ok-send_front-clause-goes g c = λ base start going.
+    let ps = c.args.patches.now in
+    let d = c.args.self.now.decided in
+    let image = g.I.Source.seen c.args.image.now in
+    let log = g.L.Sink.seen c.args.log.now in
+    goes_same c.args.carry ps d base start (streams image (g.O.Sink.seen c.send_front.new.out) log) c.send_front.new.self c.in_ok-send_front.ensures.decided
+    (c.in_ok-send_front.ensures.goes c.args.carry (take d ps) (drop d ps) base start image log (strictly_ahead ps d c.args.self.now.block c.requires.rising going.ahead c.in_default.ensures.none) going)

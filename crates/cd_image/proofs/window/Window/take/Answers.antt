@@ -1,9 +1,0 @@
-use Rattle.std.proofs.Common.{arith, rules}
-use Rattle.std.proofs.lemmas.Grind.{common_steps}
-use Rattle.cd_image.proofs.window.Window.take.Goals as goal
-
-pub returns-clause-outcome : goal.returns-clause-outcome
-returns-clause-outcome c = search rules
-
-pub returns-clause-effect : goal.returns-clause-effect
-returns-clause-effect c = grind (arith, common_steps)

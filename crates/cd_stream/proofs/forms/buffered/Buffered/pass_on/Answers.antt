@@ -1,0 +1,17 @@
+use Rattle.std.proofs.Common.{◌-◌, arith, ap, drop, ◌∙◌}
+use Rattle.std.proofs.Math.ListN.{length-take}
+use Rattle.cd_stream.proofs.BufferLemmas.{Keeps-passed, between}
+use Rattle.cd_stream.proofs.forms.buffered.Buffered.pass_on.Goals as goal
+
+pub loop-self-preserved : goal.loop-self-preserved
+loop-self-preserved g c =
+    let before = c.loop-self.invariant in
+    let now = c.loop-self.self in
+    let went = c.in_ok-self.ensures.bytes in
+    record {
+      bytes = Keeps-passed _ _ _ now.start now.end c.in_ok-self.field-0 now.space.items _ (omega (arith, went.1, length-take (now.end - now.start) (drop now.start c.deref.result.now)))
+          (ap (between now.start now.end) c.deref.ensures.value) before.bytes went.2;
+      counted = c.in_ok-self.ensures.count ∙ before.counted;
+      finished = before.finished;
+      space = before.space;
+    }

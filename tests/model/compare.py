@@ -1,0 +1,95 @@
+"""Random cases by the model and by the program, byte for byte: `run PROGRAM [--cases N] [--seed S]`, `run self-check`."""
+
+import argparse
+import shlex
+import subprocess
+import sys
+import tempfile
+from collections import Counter
+from functools import partial
+from multiprocessing import Pool
+from pathlib import Path
+
+from cases import kinds_of, some_case, wanted
+from self_check import self_check
+
+KINDS = Path(__file__).with_name('kinds.txt').read_text().splitlines()
+FLOOR = 200  # of so many cases, on the whole, each kind must have one
+
+
+def judge(program, seed, kept, number):
+    """The kinds of a case, and whether the program answers as the model; if not, the case stays in a folder of `kept`."""
+    case = some_case(seed, number)
+    with tempfile.TemporaryDirectory(dir=kept) as name:
+        folder = Path(name)
+        (folder / 'image').write_bytes(case.image)
+        if 'script' in case.words:
+            (folder / 'script').write_bytes(case.script)
+        ended = subprocess.run([program, *case.words], cwd=folder, input=case.image if case.piped else b'',
+                               capture_output=True, timeout=60)
+        out = (folder / 'out').read_bytes() if (folder / 'out').exists() else None
+        same = (ended.returncode, ended.stdout, out) == wanted(case) and not ended.stderr
+        if not same:
+            status, told, model_out = wanted(case)
+            (folder / 'printed').write_bytes(ended.stdout + ended.stderr)
+            (folder / 'wanted').write_bytes(told)
+            if model_out is not None:
+                (folder / 'wanted-out').write_bytes(model_out)
+            call = shlex.join([program, *case.words]) + ' < image' * case.piped
+            again = shlex.join([str(Path(__file__).with_name('run')), program,
+                                '--seed', seed, '--first', str(number), '--cases', '1'])
+            (folder / 'command').write_text(f'{call}\n{again}\n# status {ended.returncode}, wanted {status}\n')
+            folder.rename(Path(kept) / f'case-{number}')
+            folder.mkdir()
+    return kinds_of(case), same, number
+
+
+def compared(given, kept):
+    """The counts of the kinds of case, and the numbers of the cases in which the program and the model differ."""
+    counts, failed = Counter(), []
+    with Pool(given.jobs) as pool:
+        judged = partial(judge, str(Path(given.program).resolve()), given.seed, kept)
+        for kinds, same, number in pool.imap(judged, range(given.first, given.first + given.cases), chunksize=5):
+            counts.update(kinds)
+            if not same:
+                failed.append(number)
+                print(f'FAILED: case {number}, left in {kept}/case-{number} with the command that repeats it', flush=True)
+    return counts, failed
+
+
+def words_of_the_call():
+    """What the words of the command line ask for."""
+    words = argparse.ArgumentParser(prog='tests/model/run', description='Compares a program with the model.')
+    words.add_argument('program', help="the program, or 'self-check' for the model alone")
+    words.add_argument('--cases', type=int, default=300)
+    words.add_argument('--seed', default='1')
+    words.add_argument('--first', type=int, default=0, help='the number of the first case')
+    words.add_argument('--jobs', type=int, default=2, help='how many processes judge cases')
+    return words.parse_args()
+
+
+def main():
+    """The self-check, the cases, the count of each kind of case, and of what passed and failed."""
+    given = words_of_the_call()
+    wrong, checked = self_check()
+    for line in wrong:
+        print(f'FAILED: the model itself: {line}')
+    if wrong or given.program == 'self-check':
+        print(f'{checked - len(wrong)} passed, {len(wrong)} failed')
+        return int(bool(wrong))
+    print(f'the model gives {checked} worked values and sectors of another encoder; seed {given.seed}', flush=True)
+    kept = tempfile.mkdtemp(prefix='cdpatch-model-')
+    counts, failed = compared(given, kept)
+    if not failed:
+        Path(kept).rmdir()
+    for name in sorted(set(KINDS) | set(counts)):
+        print(f'{counts[name]:6} {name}')
+    rare = [name for name in KINDS if counts[name] < given.cases // FLOOR]
+    for name in rare:
+        print(f'FAILED: too few cases of this kind: {name}')
+    print(f'{1 + given.cases - len(failed)} passed, {len(failed) + len(rare)} failed')
+    return int(bool(failed or rare))
+
+
+if __name__ == '__main__':
+    sys.exit(main())

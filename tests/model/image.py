@@ -1,0 +1,112 @@
+"""Images and what the commands do with them: rules of cdpatch."""
+
+from itertools import groupby
+
+from script import ScriptFault, ordered, script
+from sector import NO_DEFECT, SIZE, address_of, consistent, damage, defect, kind, sector_with
+
+
+def cut(image):
+    """The sectors of an image, and the tail that is shorter than one."""
+    whole = len(image) // SIZE * SIZE
+    return [image[i:i + SIZE] for i in range(0, whole, SIZE)], image[whole:]
+
+
+def met(patch):
+    """The blocks that a patch meets: those that its range lies in; of `rebuild` and `address` the one block."""
+    reach = patch.offset + len(patch.new) - 1 if patch.verb in ('set', 'fill') else 0
+    return range(patch.block, patch.block + reach // 2048 + 1)
+
+
+def user_bytes(sectors, base, blocks):
+    """The user bytes of blocks, bytes 16 to 2063 of each sector, joined."""
+    return b''.join(sectors[block - base][16:2064] for block in blocks)
+
+
+def outcome(sectors, base, patch, carry):
+    """What becomes of a patch on an image as the earlier ones leave it: its blocks upwards, then its old bytes."""
+    for block in met(patch):
+        if not 0 <= block - base < len(sectors):
+            return f'refused: no block {block}'
+        if kind(sectors[block - base]) != 'mode1':
+            return f'refused: block {block} is not mode 1'
+        if not (carry or patch.verb == 'rebuild' or consistent(sectors[block - base])):
+            return f'refused: block {block} is damaged'
+    now = user_bytes(sectors, base, met(patch))[patch.offset:]
+    for i, byte in enumerate(patch.was or b''):
+        if byte != now[i]:
+            block, offset = divmod(patch.offset + i, 2048)
+            return f'refused: old bytes differ at block {patch.block + block} offset {offset}'
+    return 'applied'
+
+
+def effect(sectors, base, patch, carry):
+    """The sectors after a patch that was applied: new content; the old defect with --carry, else, or rebuilt, none."""
+    after = list(sectors)
+    user = user_bytes(sectors, base, met(patch))
+    if patch.verb in ('set', 'fill'):
+        user = user[:patch.offset] + patch.new + user[patch.offset + len(patch.new):]
+    for i, block in enumerate(met(patch)):
+        old = sectors[block - base]
+        header = patch.new + old[15:16] if patch.verb == 'address' else old[12:16]
+        kept = defect(old) if carry and patch.verb != 'rebuild' else NO_DEFECT
+        after[block - base] = sector_with(old[:12] + header + user[2048 * i:2048 * i + 2048], kept)
+    return after
+
+
+def run(sectors, base, patches, carry):
+    """Patches in order, each on what the earlier ones left: their outcomes, and the last image."""
+    outcomes = []
+    for patch in ordered(patches):
+        outcomes.append(outcome(sectors, base, patch, carry))
+        if outcomes[-1] == 'applied':
+            sectors = effect(sectors, base, patch, carry)
+    return outcomes, sectors
+
+
+def patch_text(patches, outcomes):
+    """The log: a line for each patch in the order in which they were taken, then the counts."""
+    told = [f'line {patch.line}: {each}\n' for patch, each in zip(ordered(patches), outcomes)]
+    applied = outcomes.count('applied')
+    return ''.join(told) + f'applied {applied} refused {len(outcomes) - applied}\n'
+
+
+def list_text(image, base):
+    """A line for each maximal run of neighbours of one kind, then the counts."""
+    sectors, tail = cut(image)
+    told = ''
+    for name, together in groupby(range(len(sectors)), key=lambda i: kind(sectors[i])):
+        together = list(together)
+        told += f'{base + together[0]}-{base + together[-1]} {name}\n'
+    return told + f'sectors {len(sectors)} tail {len(tail)}\n'
+
+
+def findings(sector, block):
+    """What `audit` finds in a Mode 1 sector: another address than its block's, where that has one, and damage."""
+    return (address_of(block) not in (None, sector[12:15])) * ' address' + damage(sector)
+
+
+def audit_text(image, base):
+    """A line for each Mode 1 sector with a finding, then the counts; an address alone is no damage."""
+    sectors, tail = cut(image)
+    mode1 = [(base + i, sector) for i, sector in enumerate(sectors) if kind(sector) == 'mode1']
+    told = ''.join(f'{block}{findings(sector, block)}\n' for block, sector in mode1 if findings(sector, block))
+    damaged = sum(damage(sector) != '' for _, sector in mode1)
+    return told + f'sectors {len(sectors)} mode1 {len(mode1)} damaged {damaged} tail {len(tail)}\n'
+
+
+def answer(command, image, base=0, carry=False, text=b''):
+    """A command's status, standard output, and for `apply` the bytes of OUT, which a script's fault leaves unmade."""
+    if command == 'list':
+        return 0, list_text(image, base), None
+    if command == 'audit':
+        told = audit_text(image, base)
+        return int(told.count('\n') > 1), told, None
+    try:
+        patches = script(text)
+    except ScriptFault as fault:
+        return 2, f'{fault}\n', None
+    sectors, tail = cut(image)
+    outcomes, last = run(sectors, base, patches, carry)
+    out = b''.join(last) + tail if command == 'apply' else None
+    return int(outcomes != len(outcomes) * ['applied']), patch_text(patches, outcomes), out

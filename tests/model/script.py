@@ -1,0 +1,106 @@
+"""Scripts: rules of cdpatch. Versions 1 and 2, each fault and which of several decides, and the order of patches."""
+
+import re
+from typing import NamedTuple, Optional
+
+
+class Patch(NamedTuple):
+    """A patch: `new` is what a range, or for `address` the header bytes 12 to 14, become; `was` what the range must be."""
+    line: int
+    block: int
+    verb: str
+    offset: int = 0
+    new: bytes = b''
+    was: Optional[bytes] = None
+
+
+class ScriptFault(Exception):
+    """Why a script is refused: the text, and with `script` the line."""
+
+
+VERBS = {1: (b'set', b'fill', b'rebuild'), 2: (b'set', b'fill', b'rebuild', b'address')}
+NUMBERS_OF_WORDS = {b'set': (4, 6), b'fill': (5,), b'rebuild': (2,), b'address': (3,)}
+
+
+def lines(text):
+    """Cut at each LF, which takes one CR before it along; what follows the last LF is a line where it is not empty."""
+    *ended, last = text.split(b'\n')
+    return [line[:-1] if line.endswith(b'\r') else line for line in ended] + [last] * (last != b'')
+
+
+def words(line):
+    """The maximal parts without space and tab."""
+    return [word for word in re.split(rb'[ \t]', line) if word]
+
+
+def demand(holds, fault):
+    """The first demand that does not hold decides which fault a line has."""
+    if not holds:
+        raise ScriptFault(fault)
+
+
+def number(word):
+    """One to nine decimal digits."""
+    demand(re.fullmatch(rb'[0-9]{1,9}', word), 'bad number')
+    return int(word)
+
+
+def hexadecimal(word):
+    """An even number of hexadecimal digits, in small or capital letters."""
+    demand(re.fullmatch(rb'([0-9a-fA-F][0-9a-fA-F])+', word), 'bad hex')
+    return bytes(int(word[i:i + 2], 16) for i in range(0, len(word), 2))
+
+
+def address(word):
+    """MM:SS:FF, as the three bytes of a header: each pair of digits is its BCD byte."""
+    demand(re.fullmatch(rb'[0-9][0-9]:[0-5][0-9]:([0-6][0-9]|7[0-4])', word), 'bad address')
+    return bytes(int(pair, 16) for pair in word.split(b':'))
+
+
+def patch(line, found, version):
+    """The patch of a line's words: verb, number of words, then word by word from the left, form before value."""
+    verb = found[0]
+    demand(verb in VERBS[version], 'unknown verb')
+    demand(len(found) in NUMBERS_OF_WORDS[verb] and (len(found) != 6 or found[4] == b'was'), 'wrong number of words')
+    block = number(found[1])
+    if verb == b'rebuild':
+        return Patch(line, block, 'rebuild')
+    if verb == b'address':
+        return Patch(line, block, 'address', 0, address(found[2]))
+    offset = number(found[2])
+    demand(offset <= 2047, 'offset over 2047')
+    if verb == b'fill':
+        count = number(found[3])
+        demand(1 <= count <= 4096, 'bad length')
+        byte = hexadecimal(found[4])
+        demand(len(byte) == 1, 'bad length')
+        return Patch(line, block, 'fill', offset, count * byte)
+    new = hexadecimal(found[3])
+    demand(len(new) <= 4096, 'bad length')
+    was = hexadecimal(found[5]) if len(found) == 6 else None
+    demand(was is None or len(was) == len(new), 'bad length')
+    return Patch(line, block, 'set', offset, new, was)
+
+
+def script(text):
+    """The patches in the order of their lines; the first faulty line decides. Blank lines and comments only count."""
+    version, patches, cut = None, [], lines(text)
+    for line, found in enumerate(map(words, cut), 1):
+        try:
+            if not found or found[0].startswith(b'#'):
+                continue
+            if version is None:
+                demand(found in ([b'cdpatch', b'1'], [b'cdpatch', b'2']), 'no cdpatch 1 line')
+                version = int(found[1])
+                continue
+            patches.append(patch(line, found, version))
+            demand(len(patches) <= 65535, 'more than 65535 patches')
+        except ScriptFault as fault:
+            raise ScriptFault(f'script line {line}: {fault}') from None
+    demand(version, f'script line {len(cut) + 1}: no cdpatch 1 line')
+    return patches
+
+
+def ordered(patches):
+    """By the first block; equal ones by their lines. The offset plays no part."""
+    return sorted(patches, key=lambda each: (each.block, each.line))

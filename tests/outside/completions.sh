@@ -1,0 +1,92 @@
+# What each completion offers, asked of bash by its function and of fish by `complete -C`. `terminals.sh` types into the shells.
+
+mkdir "$scratch/completing"
+cd "$scratch/completing" || exit 1
+mkdir folder
+touch image 'an image' script
+commands='apply audit check list'
+everything='an image folder image script'
+
+# offers WANTED WORD..: what is offered for the last of these words, sorted.
+offers() {
+    local wanted=$1
+    shift
+    judge "$shell completes: $*" test "$(offered "$@" | sort | paste -sd ' ')" = "$wanted"
+}
+
+asked_at_each_position() {
+    offers "$commands" ''
+    offers 'apply audit' a
+    offers '--help' --
+    for command in list audit check apply; do
+        offers "$everything" $command ''
+        offers 'image' $command im
+        offers '--base' $command --b
+        offers '' $command --base ''
+        offers "$everything" $command --base 3 ''
+        offers "$everything" $command -- ''
+        offers '' $command -- --
+    done
+    for command in list audit; do
+        offers '--base --help' $command --
+        offers '--help' $command --base 3 --
+        offers '' $command image ''
+        offers '' $command - ''
+        offers '--base' $command image --b
+    done
+    for command in check apply; do
+        offers '--base --carry --help' $command --
+        offers '--carry --help' $command --base 3 --
+        offers '--base --help' $command --carry --
+        offers "$everything" $command --carry ''
+    done
+    offers "$everything" check image ''
+    offers '' check image script ''
+    offers "$everything" apply --base 3 image ''
+    offers 'folder' apply image script ''
+    offers '' apply image script out ''
+    offers '' frobnicate ''
+}
+
+shell=bash
+. "$top/completions/cdpatch.bash"
+offered() {
+    COMP_WORDS=(cdpatch "$@")
+    COMP_CWORD=$#
+    _cdpatch
+    [ ${#COMPREPLY[@]} = 0 ] || printf '%s\n' "${COMPREPLY[@]}"
+}
+asked_at_each_position
+offers '' list --base = ''
+offers "$everything" list --base = 3 ''
+offers '' --help ''
+offers '--help' -
+offers '--base --help' list -
+offers '--base --carry --help' check -
+offers '--base --carry --help' apply image -
+for operator in '<' '>' '>>' '<<<'; do
+    offers 'image' list image "$operator" im
+    offers "$everything" $operator ''
+    offers 'apply audit' $operator image a
+    offers 'script' check $operator log image s
+    offers 'folder' apply $operator log image script fo
+    offers '' list image $operator log ''
+done
+offers 'image' list image 2 '>' im
+offers 'folder' apply image script 2 '>' log fo
+touch ./-dash
+offers "$everything" list ''
+offers "-dash $everything" list -- ''
+offers '-dash' list -- -d
+offers '-dash' list image '>' -d
+rm ./-dash
+judge 'bash knows the completion' test "$(complete -p cdpatch)" = 'complete -F _cdpatch cdpatch'
+
+if ! missing fish fish; then
+    shell=fish
+    offered() {
+        fish --no-config -c 'source $argv[1]; complete -C (string join " " -- cdpatch (string escape -- $argv[2..-2]) $argv[-1])' \
+            "$top/completions/cdpatch.fish" "$@" | sed -e 's/\t.*//' -e 's/\/$//' -e 's/^-h$//' -e '/^$/d'
+    }
+    asked_at_each_position
+fi

@@ -1,0 +1,18 @@
+# The man page: its form, and the version, which help and the changelog have too.
+
+enter page
+version=$(sed -n 's/^## \([0-9.]*\).*/\1/p' "$top/CHANGELOG.md" | head -n 1)
+judge 'the changelog has a version' test -n "$version"
+judge 'help ends with the version' test "$(cdpatch --help | tail -n 1)" = "cdpatch $version"
+judge 'the README has the version' grep -q "^The version is $version " "$top/README.md"
+judge 'the man page has the version' grep -qxF "This page is of version $version." "$top/man/cdpatch.1"
+if ! missing mandoc mandoc; then
+    # Which other pages this machine has is no matter of this one.
+    mandoc -T lint "$top/man/cdpatch.1" 2> /dev/null | grep -v 'STYLE: referenced manual not found' > lint
+    judge 'mandoc has no word on the man page' test ! -s lint
+    mandoc -T ascii -O width=80 "$top/man/cdpatch.1" | sed 's/.\x08//g' > text
+    judge 'the man page is at most 80 columns wide' test -z "$(awk 'length > 80' text)"
+    for section in DESCRIPTION 'EXIT STATUS' EXAMPLES DIAGNOSTICS AUTHORS CAVEATS; do
+        judge "the man page has $section" grep -qx "$section" text
+    done
+fi

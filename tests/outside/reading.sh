@@ -1,0 +1,62 @@
+# What has to be read to know what `apply` promises, and what the program is linked to.
+
+enter reading
+bash "$top/tests/reading_list.sh" > list
+{
+    sed -n 's/^| `\(crates[^`]*\)` | \([0-9]*\) |.*/\1 \2/p' "$top/docs/TRUST.md"
+    sed -n '/^They name types/,/^$/p' "$top/docs/TRUST.md" | grep -o '`crates/[a-z_]*/src/[a-z_]*\.rt`' | tr -d '`' | sort -u
+    grep '^[0-9]* lines in all\.$' "$top/docs/TRUST.md"
+} > wanted
+judge 'the reading list is that of the sources (bash tests/reading_list.sh --write)' cmp -s wanted list
+
+# The promises of docs/TRUST.md on what is in the crates: no statement that is taken on trust, and nothing in another language.
+judge 'no unsafe code and no functions of C in the crates' test -z "$(grep -rnwE --include='*.rt' --exclude-dir=out 'unsafe|extern' "$top/crates")"
+judge 'no axiom and no hole in the crates' \
+    test -z "$(grep -rnE --include='*.antt' --exclude-dir=out '(^|[^-A-Za-z_])axiom([^-A-Za-z_]|$)|[=(] *\?' "$top/crates")"
+judge 'no file of C in the crates' test -z "$(find "$top/crates" -name out -prune -o -name '*.[chS]' -print)"
+judge 'no check that lets holes pass' test -z "$(grep -rn --include='run' --include='*.sh' --include=Makefile allow-holes "$top/.ci" "$top/tests" \
+    "$top/Makefile" | grep -v reading.sh)"
+
+# Each C function whose contract is assumed has a row in docs/TRUST.md, and the README has the same ones.
+sed -n '/^## What is trusted/,/^## /s/^| \(`.*`\) | .*/\1/p' "$top/docs/TRUST.md" | grep -o '`[a-z_0-9]*`' | sort > in_trust
+sed -n '/contracts of these C functions/,/^\[/p' "$top/README.md" | grep -o '`[a-z_0-9]*`' | sort > in_readme
+same 'the README and docs/TRUST.md name the same C functions' in_trust in_readme
+judge 'as many as docs/TRUST.md says' grep -q "\`reached\`: $(wc -l < in_trust) in " "$top/docs/TRUST.md"
+
+# What the program is linked to.
+if ! missing nm binutils; then
+    nm -D --undefined-only "$program" | sed -e 's/.* //' -e 's/@.*//' | grep -vE '^_(_|ITM)' | sort > linked
+    printf '%s\n' close fdatasync free fsync isatty malloc memcmp memcpy memmove memset open read realloc write | sort > known
+    judge "the program calls what docs/TRUST.md says, and not $(comm -23 linked known | paste -sd ' ')" test -z "$(comm -23 linked known)"
+fi
+
+# docs/MAP.md says what the code of each crate uses of the others.
+tr '\n' ' ' < "$top/docs/MAP.md" > map
+for crate in cd_code cd_sector cd_delta cd_script cd_patch cd_stream cd_report cd_image cd_command cd_jobs cdpatch; do
+    mapfile -t used < <(find "$top/crates/$crate/src" -name '*.rt' ! -path '*/tests/*' ! -name tests.rt -exec \
+        sed -nE 's/^ *(pub )?use (cd_[a-z]+)::.*/\2/p' {} + | sort -u)
+    words=$(printf ', %s' "${used[@]}")
+    words=${words#, }
+    [ ${#used[@]} -gt 1 ] && words="${words%, *} and ${used[-1]}"
+    judge "docs/MAP.md: $crate on ${words:-none}" grep -qE "[ ;:] ?$crate on ${words:-none}[;.]" map
+done
+
+# The pages' links lead to files, and to headings that are there.
+heading() { tr 'A-Z' 'a-z' <<< "$1" | sed -e 's/[^a-z0-9 -]//g' -e 's/ /-/g'; }
+while IFS=: read -r page link <&3; do
+    file=${link%%#*}
+    target=$(dirname "$top/$page")/$file
+    [ -n "$file" ] || target=$top/$page
+    judge "$page: $link is there" test -e "$target"
+    [[ $link != *'#'* ]] && continue
+    found=false
+    while IFS= read -r title; do
+        [ "$(heading "$title")" = "${link#*#}" ] && found=true
+    done < <(sed -n 's/^##* //p' "$target")
+    judge "$page: $link is a heading" $found
+done 3< <(cd "$top" && grep -oE '\]\([^) ]*\)' README.md CHANGELOG.md docs/*.md | sed -e 's/](//' -e 's/)$//' | grep -v ':http')
+
+# docs/TRUST.md has a row for each clause of `apply`, and no others.
+sed -n '/^pub fn apply</,/^{/s/^ *ensures \([a-z_]*\) .*/\1/p' "$top/crates/cd_image/src/applying.rt" | sort > clauses
+sed -n '/^| Clause | In words/,/^$/s/^| \(`[^|]*`\) | .*/\1/p' "$top/docs/TRUST.md" | grep -o '[a-z_]*' | sort > rows
+same 'docs/TRUST.md has the clauses of apply' clauses rows

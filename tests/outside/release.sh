@@ -1,0 +1,45 @@
+# `make dist`: the tarball installs without a toolchain, and its bytes are those of its files, wherever and whenever it is made.
+
+# pack FOLDER: a tarball of the program, of a copy of the sources in this folder, into `made` there.
+pack() {
+    mkdir -p "$1/made"
+    (cd "$top" && cp -r --parents Makefile README.md CHANGELOG.md docs man completions tools "$OLDPWD/$1")
+    cp "$program" "$1/cdpatch"
+    make --no-print-directory -s -C "$1" dist distdir=made > "$1/told"
+}
+
+released() {
+    pack one
+    (umask 077 && LC_ALL=C pack 'another place' && rm -r 'another place/made')
+    find 'another place' -exec touch -d '2001-02-03' {} +
+    : > 'another place/docs/notes~'
+    mkdir 'another place/made'
+    (umask 027 && make --no-print-directory -s -C 'another place' dist distdir=made > log)
+    local name
+    name=$(cd one/made && ls ./*.tar.gz)
+    judge 'the tarball has the version in its name' test "$name" = "./cdpatch-$(cdpatch --help | sed -n '$s/cdpatch //p')-x86_64-linux.tar.gz"
+    judge 'two folders give the same bytes' cmp "one/made/$name" "another place/made/$name"
+    judge 'the checksum is that of the tarball' eval "(cd one/made && sha256sum --status -c ./*.sha256)"
+    judge 'the checksum is printed' test "$(cat one/told)" = "$(cat one/made/*.sha256)"
+    mkdir unpacked
+    tar -C unpacked -xzf "one/made/$name"
+    judge 'it unpacks into one folder of its own name' test "./$(ls unpacked).tar.gz" = "$name"
+    # Neither the toolchain nor the program of these tests is on the path.
+    PATH=/usr/bin:/bin make --no-print-directory -s -C unpacked/* install DESTDIR="$PWD/root" PREFIX=/usr
+    make --no-print-directory -s -C "$top" PROGRAM="$program" install DESTDIR="$PWD/wanted" PREFIX=/usr
+    judge 'make install in it installs what make install in the sources does' diff -r wanted root
+    judge 'the program is as it was' cmp -s "$program" root/usr/bin/cdpatch
+    judge 'the tarball has no file that is not installed, but the Makefile' test \
+        "$(find unpacked -type f | wc -l)" = "$(($(find root -type f | wc -l) + 1))"
+    make --no-print-directory -s -C one dist distdir=made PROGRAM="$PWD/nothing" 2> log
+    judge 'nothing that was built, nothing packed' test $? != 0
+}
+
+# What two builds in different folders could differ in.
+judge 'the program has no path of the folder that it was built in' \
+    test -z "$(LC_ALL=C grep -aoE '(crates|home|tmp|root)/[a-z_/.]*|[a-z_]*\.rt\b' "$program")"
+
+if ! missing make make; then
+    enter release
+    released
+fi

@@ -1,0 +1,117 @@
+#!/usr/bin/env bash
+# How tools/prove.sh goes about it, with an rt that proves nothing: `bash tests/proving.sh`. The last line is
+# 'N passed, M failed'.
+set -u
+top=$(cd "$(dirname "$0")/.." && pwd)
+scratch=$(mktemp -d)
+trap 'rm -rf "$scratch"' EXIT
+cd "$scratch" || exit 1
+passed=0
+failed=0
+
+# judge NAME CONDITION..: counts whether a condition holds.
+judge() {
+    local name=$1
+    shift
+    if "$@"; then
+        passed=$((passed + 1))
+    else
+        failed=$((failed + 1))
+        echo "FAILED: $name"
+    fi
+}
+
+# A repository in which `right` and `left` stand on `low`, the program on all three, and tests on the program.
+mkdir -p tools bin crates/{low,left,right,program,tests}/src
+cp "$top/tools/prove.sh" tools
+touch crates/program/src/main.rt
+printf '%s\n' 'program: left right' 'left: low bstr' '# the lowest' 'right: low' 'low:' 'tests: program' > crates.txt
+
+# An rt that tells in `told` what it is called for, which of a crate's libraries lack, and whether its earlier work is there.
+cat > bin/rt << 'EOF_RT'
+#!/usr/bin/env bash
+name=$(basename "$PWD")
+grep -q "^$name:" ../../crates.txt || exit 1
+below=$(sed -n "s/^$name: *//p" ../../crates.txt)
+for crate in $below; do
+    [ ! -d "../$crate" ] || [ -e "../$crate/out/rlib/built" ] || echo "$name lacks $crate" >> "$TOLD"
+done
+if [ -e out/rlib/built ]; then
+    [ "$1" = lib ] || printf '%s\n' 'rt: nothing has changed since the last proved build' "rt: running out/$name" >&2
+    exit 0
+fi
+[ ! -e out/incremental/begun ] || echo "$name goes on" >> "$TOLD"
+mkdir -p out/incremental
+touch out/incremental/begun
+echo "$name begins: $*" >> "$TOLD"
+echo "rt: chose --jobs 4 for $name" >&2
+sleep "$([ "$name" = "${SLOW-}" ] && echo 60 || echo 0.2)"
+if [ "$name" = "${BROKEN-}" ]; then
+    printf '%s\n' 'a note' './proofs/Answers.antt:1:1: error: it is false' 'another'
+    exit 1
+fi
+mkdir -p out/rlib
+touch out/rlib/built
+echo "$name ends" >> "$TOLD"
+EOF_RT
+chmod +x bin/rt
+export TOLD=$scratch/told PATH="$scratch/bin:$PATH"
+
+# prove WORD..: a run of tools/prove.sh with these words, its text in `log` and its status in `status`.
+prove() {
+    : > told
+    bash tools/prove.sh program "$@" > log 2> errors < /dev/null
+    status=$?
+}
+
+# Whether the last run wrote these lines, whatever the time in the last.
+wrote() { sed 's/ in [0-9]* min [0-9]* s$//; s/ after [0-9]* min [0-9]* s$//' log | cmp -s - <(printf '%s\n' "$@") && [ ! -s errors ]; }
+
+in_told() { grep -qx "$1" told; }
+not_in_told() { ! grep -q "$1" told; }
+
+prove 1
+judge 'a whole proof' test "$status" = 0
+judge 'its lines' wrote 'proving low' 'proved low, 1 of 4' 'proving left' 'proved left, 2 of 4' 'proving right' 'proved right, 3 of 4' \
+    'proving program' 'proved program, 4 of 4' 'proved and built program'
+judge 'one at a time' cmp -s told <(printf '%s\n' 'low begins: lib' 'low ends' 'left begins: lib' 'left ends' 'right begins: lib' \
+    'right ends' 'program begins: run' 'program ends')
+judge 'no folder is left' test -z "$(find crates -name room)"
+
+prove
+judge 'what has not changed is not proved' test "$status" = 0 -a ! -s told
+judge 'and is told' test "$(grep -c '^unchanged ' log)" = 4
+
+rm -r crates/*/out
+prove 8 x86-64-v3
+judge 'several at a time' test "$status" = 0 -a "$(grep -c ends told)" = 4
+judge 'each after those below it' not_in_told lacks
+judge 'the processor is handed on' in_told 'program begins: run --cpu x86-64-v3'
+
+rm -r crates/*/out
+BROKEN=left prove 1
+judge 'a crate that fails' test "$status" = 1
+judge 'its first error, and how to see all' wrote 'proving low' 'proved low, 1 of 4' 'proving left' \
+    'FAILED left: ./proofs/Answers.antt:1:1: error: it is false' '  all of it: (cd crates/left && rt check)' 'not proved,'
+judge 'nothing begins behind it' not_in_told '^\(right\|program\) begins'
+prove
+judge 'mended, it goes on with what it had' in_told 'left goes on'
+
+rm -r crates/*/out
+: > told
+SLOW=low bash tools/prove.sh program > log 2> errors < /dev/null &
+until grep -q begins told; do sleep 0.1; done
+kill $!
+wait $!
+judge 'a run that is stopped' test $? = 130
+prove
+judge 'and begun again' test "$status" = 0
+judge 'goes on with what it had' in_told 'low goes on'
+
+printf '%s\n' 'program: low' 'low: program' > crates.txt
+prove
+judge 'crates that stand on one another' test "$status" = 1
+judge 'are told' grep -q 'stands on itself$' errors
+
+echo "$passed passed, $failed failed"
+[ "$failed" = 0 ]

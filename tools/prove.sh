@@ -1,0 +1,213 @@
+#!/usr/bin/env bash
+# Proves a program and the crates below it, and builds it: `bash tools/prove.sh PROGRAM [AT_ONCE [CPU]]`. The crates and their
+# order are those of crates.txt. A crate begins once all below it are proved, at most AT_ONCE of them side by side, and no more
+# than there are processors and memory for. CPU is the processor that the program is built for, if it is not any x86-64-v2.
+set -u -o pipefail
+# Each crate gets a process group, so that an interrupt can end all that it started.
+set -m
+cd "$(dirname "$0")/.." || exit 1
+program=$1
+at_once=${2:-}
+cpu=${3:-}
+most_memory=2000000 # KiB, of one crate's proof
+logs=$(mktemp -d)
+trap 'rm -rf "$logs"' EXIT
+
+declare -A needs=()    # of each crate of the repository, those that it names
+declare -A chain=()    # of each crate that the program needs, the longest way up to the program, in crates
+declare -A running=()  # the crate of each process
+declare -A state=()    # of each crate that has begun: running, proved or failed
+proved=0
+failed=0
+
+read_crates() {
+    local name words rest word
+    while IFS=: read -r name words; do
+        read -r name rest <<< "${name%%#*}"
+        [ -z "$name" ] || needs[$name]=${words%%#*}
+    done < crates.txt
+    for name in "${!needs[@]}"; do
+        words=
+        for word in ${needs[$name]}; do
+            [[ -v needs[$word] ]] && words+="$word "
+        done
+        needs[$name]=$words
+    done
+}
+
+# mark CRATE LENGTH: notes the way of this length to the program, and those of the crates below.
+mark() {
+    local below
+    [ "$2" -gt "${chain[$1]:--1}" ] || return 0
+    if [ "$2" -gt "${#needs[@]}" ]; then
+        echo "crates.txt: $1 stands on itself" >&2
+        exit 1
+    fi
+    chain[$1]=$2
+    for below in ${needs[$1]}; do
+        mark "$below" $(($2 + 1))
+    done
+}
+
+# Prints all crates below a crate, some more than once.
+all_below() {
+    local below
+    for below in ${needs[$1]}; do
+        echo "$below"
+        all_below "$below"
+    done
+}
+
+# How many crates there is room for: two gigabytes for each, of what is free and of what the control group leaves.
+room_for() {
+    local free limit used
+    free=$(awk '/^MemAvailable:/ { print $2 }' /proc/meminfo)
+    limit=$(cat /sys/fs/cgroup/memory.max 2> /dev/null)
+    used=$(cat /sys/fs/cgroup/memory.current 2> /dev/null)
+    if [[ $limit =~ ^[0-9]+$ && $used =~ ^[0-9]+$ ]] && [ $(((limit - used) / 1024)) -lt "$free" ]; then
+        free=$(((limit - used) / 1024))
+    fi
+    echo $((free / most_memory))
+}
+
+# copy_crate CRATE FOLDER: its sources and, if it is there, what is built of it, as links to the same files.
+copy_crate() {
+    local part
+    mkdir -p "$2/out"
+    for part in src specs proofs out/rlib; do
+        [ ! -d "crates/$1/$part" ] || cp -al "crates/$1/$part" "$2/$part"
+    done
+}
+
+# move_kept FROM TO: what rt keeps of its work on a crate goes from one `out` to another.
+move_kept() {
+    local part
+    for part in incremental rlib; do
+        if [ -d "$1/$part" ]; then
+            rm -rf "${2:?}/$part"
+            mv "$1/$part" "$2/$part"
+        fi
+    done
+}
+
+# A run of rt keeps every other run out of all crates below its own until it ends. So that crates with a common crate below
+# need not wait for one another, a library is proved in a folder of its own, beside copies of the crates below it.
+prove_library() {
+    local name=$1 out=crates/$1/out room=crates/$1/out/room below held status
+    # As rt does in this crate, so that none of its runs has its work taken away.
+    exec {held}< "crates/$name"
+    flock "$held"
+    mkdir -p "$out"
+    # What an earlier run left that was killed.
+    [ ! -d "$room" ] || move_kept "$room/crates/$name/out" "$out"
+    rm -rf "$room"
+    for below in $({ all_below "$name"; echo "$name"; } | sort -u); do
+        copy_crate "$below" "$room/crates/$below"
+        grep -E "^${below}[ :]" crates.txt >> "$room/crates.txt"
+    done
+    move_kept "$out" "$room/crates/$name/out"
+    (cd "$room/crates/$name" && rt lib 2>&1)
+    status=$?
+    move_kept "$room/crates/$name/out" "$out"
+    rm -rf "$room"
+    return "$status"
+}
+
+# rt says that nothing has changed, and that it runs the program: neither is a proof.
+prove_program() {
+    cd "crates/$1" && { rt run ${cpu:+--cpu "$cpu"} > /dev/null; } 2>&1 | sed -u '/^rt: \(nothing has changed\|running\) /d'
+}
+
+# Hands rt's words on to the crate's log, and says that its proof begins. Of a crate that is proved already rt has no word.
+tell() {
+    local line
+    if IFS= read -r line; then
+        echo "proving $1"
+        { printf '%s\n' "$line"; cat; } > "$logs/$1"
+    fi
+}
+
+# Those far from the program come first, and get more of the processor: all others wait for them.
+begin() {
+    local kind=library
+    [ ! -f "crates/$1/src/main.rt" ] || kind=program
+    state[$1]=running
+    : > "$logs/$1"
+    {
+        renice -n $((2 * (longest - chain[$1]))) "$BASHPID" > /dev/null
+        "prove_$kind" "$1" < /dev/null | tell "$1"
+    } &
+    running[$!]=$1
+}
+
+# Begins those crates that can begin, the longest chain first.
+begin_ready() {
+    local name below
+    for name in $order; do
+        [ "${#running[@]}" -lt "$at_once" ] || return 0
+        [[ ! -v state[$name] ]] || continue
+        for below in ${needs[$name]}; do
+            [ "${state[$below]:-}" = proved ] || continue 2
+        done
+        begin "$name"
+    done
+}
+
+# note CRATE STATUS: counts a crate that has ended, and says how.
+note() {
+    local log=$logs/$1 first
+    if [ "$2" = 0 ]; then
+        state[$1]=proved
+        proved=$((proved + 1))
+        if [ -s "$log" ]; then
+            echo "proved $1, $proved of ${#chain[@]}"
+        else
+            echo "unchanged $1, $proved of ${#chain[@]}"
+        fi
+        return
+    fi
+    state[$1]=failed
+    failed=$((failed + 1))
+    first=$(grep -m 1 ': error' "$log" || grep -v '^rt: chose' "$log" | tail -n 1)
+    first=${first:-rt ended with status $2}
+    echo "FAILED $1: ${first:0:240}"
+    echo "  all of it: (cd crates/$1 && rt check)"
+}
+
+stop() {
+    local pid
+    for pid in "${!running[@]}"; do
+        kill -- "-$pid"
+    done
+    wait
+    exit 130
+}
+
+read_crates
+if [[ ! -v needs[$program] ]]; then
+    echo "crates.txt has no $program" >&2
+    exit 1
+fi
+mark "$program" 0
+order=$(for name in "${!chain[@]}"; do echo "${chain[$name]} $name"; done | sort -k 1,1nr -k 2 | cut -d ' ' -f 2)
+longest=$(for name in "${!chain[@]}"; do echo "${chain[$name]}"; done | sort -n | tail -n 1)
+for most in "$(nproc)" "$(room_for)"; do
+    [ -n "$at_once" ] && [ "$at_once" -le "$most" ] || at_once=$most
+done
+[ "$at_once" -ge 1 ] || at_once=1
+
+trap 'stop 2> /dev/null' INT TERM
+begin_ready
+while [ "${#running[@]}" -gt 0 ]; do
+    wait -n -p ended "${!running[@]}"
+    status=$?
+    note "${running[$ended]}" "$status"
+    unset "running[$ended]"
+    [ "$failed" -gt 0 ] || begin_ready
+done
+took="$((SECONDS / 60)) min $((SECONDS % 60)) s"
+if [ "$failed" -gt 0 ]; then
+    echo "not proved, after $took"
+    exit 1
+fi
+echo "proved and built $program in $took"
