@@ -6,24 +6,9 @@ tests=$(cd "$(dirname "${BASH_SOURCE[0]}")" && pwd)
 top=$(dirname "$tests")
 program=$(realpath "${1:-$top/cdpatch}")
 vectors=$top/crates/cd_vectors/data/cdrkit-8.bin
-scratch=$(mktemp -d)
-trap 'rm -rf "$scratch"' EXIT
+. "$tests/judging.sh"
 cd "$scratch" || exit 1
-passed=0
-failed=0
 skipped=()
-
-# judge NAME CONDITION..: counts whether a condition holds.
-judge() {
-    local name=$1
-    shift
-    if "$@"; then
-        passed=$((passed + 1))
-    else
-        failed=$((failed + 1))
-        echo "FAILED: $name"
-    fi
-}
 
 # Counts what could not be tested here, and tells it.
 skip() {

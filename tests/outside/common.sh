@@ -1,25 +1,10 @@
 # What the tests of this folder share: a scratch folder, the program on the path, and the counts.
 
-scratch=$(mktemp -d)
-trap 'rm -rf "$scratch"' EXIT
+. "$top/tests/judging.sh"
 mkdir "$scratch/bin"
 ln -s "$program" "$scratch/bin/cdpatch"
 PATH=$scratch/bin:$PATH
 export HOME=$scratch
-passed=0
-failed=0
-
-# judge NAME CONDITION..: counts whether a condition holds.
-judge() {
-    local name=$1
-    shift
-    if "$@"; then
-        passed=$((passed + 1))
-    else
-        failed=$((failed + 1))
-        echo "FAILED: $name"
-    fi
-}
 
 # same NAME WANTED GOT: counts whether two files are equal, and shows how they differ.
 same() {

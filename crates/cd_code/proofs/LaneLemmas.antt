@@ -101,41 +101,41 @@ pub times_inverse : (x : ℕ) → x < 256 → times_f4 x ≡ product 244 x
 times_inverse x h = eqb-true (times_f4 x) (product 244 x) (agree_below_at is_times_f4 (λ _. true) 256 x is_times_f4-all h)
 
 -- a lane of the two that a mask chooses from
-chosen_lane : (old new taking : List ℕ) → length old ≡ 32 → length new ≡ 32 → length taking ≡ 32 → (i : ℕ) → i < 32
-    → get_or (zip2 bit_xor old (zip2 bit_and (zip2 bit_xor old new) taking)) i 0
-    ≡ bit_xor (get_or old i 0) (bit_and (bit_xor (get_or old i 0) (get_or new i 0)) (get_or taking i 0))
-chosen_lane old new taking ho hn ht i h =
+select_lanes-lane : (old new mask : List ℕ) → length old ≡ 32 → length new ≡ 32 → length mask ≡ 32 → (i : ℕ) → i < 32
+    → get_or (zip2 bit_xor old (zip2 bit_and (zip2 bit_xor old new) mask)) i 0
+    ≡ bit_xor (get_or old i 0) (bit_and (bit_xor (get_or old i 0) (get_or new i 0)) (get_or mask i 0))
+select_lanes-lane old new mask ho hn ht i h =
     let both_len : length (zip2 bit_xor old new) ≡ 32 = length-zip2 bit_xor old new (ho ∙ sym hn) ∙ ho in
-    let masked_len : length (zip2 bit_and (zip2 bit_xor old new) taking) ≡ 32 =
-    length-zip2 bit_and (zip2 bit_xor old new) taking (both_len ∙ sym ht) ∙ both_len in
-    get_or-zip2 bit_xor old (zip2 bit_and (zip2 bit_xor old new) taking) i 0 0 0 (omega arith) (omega arith)
+    let masked_len : length (zip2 bit_and (zip2 bit_xor old new) mask) ≡ 32 =
+    length-zip2 bit_and (zip2 bit_xor old new) mask (both_len ∙ sym ht) ∙ both_len in
+    get_or-zip2 bit_xor old (zip2 bit_and (zip2 bit_xor old new) mask) i 0 0 0 (omega arith) (omega arith)
     ∙ ap (bit_xor (get_or old i 0))
-    (get_or-zip2 bit_and (zip2 bit_xor old new) taking i 0 0 0 (omega arith) (omega arith)
-    ∙ ap (λ z. bit_and z (get_or taking i 0)) (get_or-zip2 bit_xor old new i 0 0 0 (omega arith) (omega arith)))
+    (get_or-zip2 bit_and (zip2 bit_xor old new) mask i 0 0 0 (omega arith) (omega arith)
+    ∙ ap (λ z. bit_and z (get_or mask i 0)) (get_or-zip2 bit_xor old new i 0 0 0 (omega arith) (omega arith)))
 
-pub lanes_chosen_new : (old new taking : List ℕ) → length old ≡ 32 → length new ≡ 32 → length taking ≡ 32
-    → Each1 (Fits w8) old → Each1 (Fits w8) new → (i : ℕ) → i < 32 → get_or taking i 0 ≡ 255
-    → get_or (zip2 bit_xor old (zip2 bit_and (zip2 bit_xor old new) taking)) i 0 ≡ get_or new i 0
-lanes_chosen_new old new taking ho hn ht fo fn i h e =
+pub select_lanes-new : (old new mask : List ℕ) → length old ≡ 32 → length new ≡ 32 → length mask ≡ 32
+    → Each1 (Fits w8) old → Each1 (Fits w8) new → (i : ℕ) → i < 32 → get_or mask i 0 ≡ 255
+    → get_or (zip2 bit_xor old (zip2 bit_and (zip2 bit_xor old new) mask)) i 0 ≡ get_or new i 0
+select_lanes-new old new mask ho hn ht fo fn i h e =
     let a = get_or old i 0 in
     let b = get_or new i 0 in
     let a_lt : a < 256 = Each1-get_or (λ x. x < 256) old i 0 (omega arith) (below_from_Fits w8 old fo) in
     let b_lt : b < 256 = Each1-get_or (λ x. x < 256) new i 0 (omega arith) (below_from_Fits w8 new fn) in
     let sum_lt : bit_xor a b < 256 = xor_lt 8 a b a_lt b_lt in
     let whole : bit_xor a b % 256 ≡ bit_xor a b = omega arith in
-    chosen_lane old new taking ho hn ht i h
+    select_lanes-lane old new mask ho hn ht i h
     ∙ ap (λ z. bit_xor a (bit_and (bit_xor a b) z)) e
     ∙ ap (bit_xor a) (and_mask (bit_xor a b) 8 ∙ whole)
     ∙ xor_twice_left a b
 
-pub lanes_chosen_old : (old new taking : List ℕ) → length old ≡ 32 → length new ≡ 32 → length taking ≡ 32
-    → (i : ℕ) → i < 32 → get_or taking i 0 ≡ 0
-    → get_or (zip2 bit_xor old (zip2 bit_and (zip2 bit_xor old new) taking)) i 0 ≡ get_or old i 0
-lanes_chosen_old old new taking ho hn ht i h e =
+pub select_lanes-old : (old new mask : List ℕ) → length old ≡ 32 → length new ≡ 32 → length mask ≡ 32
+    → (i : ℕ) → i < 32 → get_or mask i 0 ≡ 0
+    → get_or (zip2 bit_xor old (zip2 bit_and (zip2 bit_xor old new) mask)) i 0 ≡ get_or old i 0
+select_lanes-old old new mask ho hn ht i h e =
     let a = get_or old i 0 in
     let b = get_or new i 0 in
     let none : bit_xor a b % 1 ≡ 0 = omega arith in
-    chosen_lane old new taking ho hn ht i h
+    select_lanes-lane old new mask ho hn ht i h
     ∙ ap (λ z. bit_xor a (bit_and (bit_xor a b) z)) e
     ∙ ap (bit_xor a) (and_mask (bit_xor a b) 0 ∙ none)
     ∙ xor_zero_r a

@@ -9,6 +9,12 @@ ghost use Rattle.cd_code.specs.Syndrome.{column, first_syndrome, second_syndrome
 use crate::lane_sums::LaneSums;
 use crate::lanes::{add_lanes, add_rest, double_and_add_lanes, lanes_at, put_lanes};
 
+/// The first column of the middle lanes of [`ColumnLanes`].
+pub const MIDDLE_COLUMN: usize = 32;
+
+/// The first column of the back lanes of [`ColumnLanes`], which are the last 32 of 86.
+pub const BACK_COLUMN: usize = 54;
+
 /// Both syndromes of 86 columns of bytes, by column: entry `2N + plane` is of column N of that plane
 /// (ECMA-130, Annex A).
 #[derive(Clone, Copy, Debug, PartialEq, Eq)]
@@ -33,12 +39,15 @@ impl ColumnSums {
 }
 
 /// Puts one more row of 86 bytes under the columns: it is added to the plain sums, and to the doubled
-/// weighted ones (ECMA-130, Annex A).
+/// weighted ones (ECMA-130, Annex A). For rows that come one at a time; [`column_sums`] has all of them, and keeps their
+/// sums in registers.
 pub fn row_sums(row: &[u8; 86], sums: &mut ColumnSums)
     ensures plain { (c : ℕ) → c < 86
-        → slice_index sums.new.plain c ≡ bit_xor (slice_index sums.old.plain c) (slice_index row.now c) }
+        → slice_index sums.new.plain c
+        ≡ bit_xor (slice_index sums.old.plain c) (slice_index row.now c) }
     ensures weighted { (c : ℕ) → c < 86
-        → slice_index sums.new.weighted c ≡ bit_xor (double (slice_index sums.old.weighted c)) (slice_index row.now c) }
+        → slice_index sums.new.weighted c
+        ≡ bit_xor (double (slice_index sums.old.weighted c)) (slice_index row.now c) }
 {
     add_lanes(&mut sums.plain, row, 0);
     add_lanes(&mut sums.plain, row, 32);
@@ -48,7 +57,7 @@ pub fn row_sums(row: &[u8; 86], sums: &mut ColumnSums)
 }
 
 /// Both syndromes of 86 columns of rows, in registers (ECMA-130, Annex A).
-#[derive(Clone, Copy)]
+#[derive(Clone, Copy, Debug)]
 pub struct ColumnLanes {
     /// Those of columns 0 to 31.
     pub front: LaneSums,
@@ -75,27 +84,29 @@ impl ColumnLanes {
     #[inline(always)]
     fn with_row(self, row: &[u8; 86]) -> Self
         ensures { (word longer : ℕ → List ℕ) → AreColumns word self
-            → ((c : ℕ) → c < 86 → longer c ≡ word c ++ slice_index row.now c ∷ []) → AreColumns longer result }
+            → ((c : ℕ) → c < 86 → longer c ≡ word c ++ slice_index row.now c ∷ [])
+            → AreColumns longer result }
     {
         ColumnLanes {
             front: self.front.with_lanes(lanes_at(row, 0)),
-            middle: self.middle.with_lanes(lanes_at(row, 32)),
-            back: self.back.with_lanes(lanes_at(row, 54)),
+            middle: self.middle.with_lanes(lanes_at(row, MIDDLE_COLUMN)),
+            back: self.back.with_lanes(lanes_at(row, BACK_COLUMN)),
         }
     }
 
     /// All 86 sums in their order.
     fn sums(self) -> ColumnSums
         ensures { (word : ℕ → List ℕ) → AreColumns word self → (c : ℕ) → c < 86
-            → (slice_index result.plain c ≡ first_syndrome (word c)) × (slice_index result.weighted c ≡ second_syndrome (word c)) }
+            → (slice_index result.plain c ≡ first_syndrome (word c))
+            × (slice_index result.weighted c ≡ second_syndrome (word c)) }
     {
         let mut sums = ColumnSums::zero();
         put_lanes(&mut sums.plain, 0, self.front.plain);
-        put_lanes(&mut sums.plain, 32, self.middle.plain);
-        put_lanes(&mut sums.plain, 54, self.back.plain);
+        put_lanes(&mut sums.plain, MIDDLE_COLUMN, self.middle.plain);
+        put_lanes(&mut sums.plain, BACK_COLUMN, self.back.plain);
         put_lanes(&mut sums.weighted, 0, self.front.weighted);
-        put_lanes(&mut sums.weighted, 32, self.middle.weighted);
-        put_lanes(&mut sums.weighted, 54, self.back.weighted);
+        put_lanes(&mut sums.weighted, MIDDLE_COLUMN, self.middle.weighted);
+        put_lanes(&mut sums.weighted, BACK_COLUMN, self.back.weighted);
         sums
     }
 }
@@ -114,8 +125,10 @@ pub fn column_lanes(rows: &[[u8; 86]]) -> ColumnLanes
 
 /// Both syndromes of each of the 86 columns of 26 rows of 86 bytes (ECMA-130, Annex A).
 pub fn column_sums(rows: &[u8; 2236]) -> ColumnSums
-    ensures plain { (c : ℕ) → c < 86 → slice_index result.plain c ≡ first_syndrome (column rows.now c) }
-    ensures weighted { (c : ℕ) → c < 86 → slice_index result.weighted c ≡ second_syndrome (column rows.now c) }
+    ensures plain { (c : ℕ) → c < 86
+        → slice_index result.plain c ≡ first_syndrome (column rows.now c) }
+    ensures weighted { (c : ℕ) → c < 86
+        → slice_index result.weighted c ≡ second_syndrome (column rows.now c) }
 {
     let (each_row, _) = rows.as_chunks::<86>();
     column_lanes(each_row).sums()

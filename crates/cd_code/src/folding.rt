@@ -40,10 +40,10 @@ impl Folded {
         ensures { (v : List ℕ) → IsFolded v self.older self.newer
             → IsFolded (v ++ block.now) result.older result.newer }
     {
-        let first = next(self.older, self.newer, sixteen(block, 0));
-        let second = next(self.newer, first, sixteen(block, 16));
-        let third = next(first, second, sixteen(block, 32));
-        let fourth = next(second, third, sixteen(block, 48));
+        let first = fold_step(self.older, self.newer, load16(block, 0));
+        let second = fold_step(self.newer, first, load16(block, 16));
+        let third = fold_step(first, second, load16(block, 32));
+        let fourth = fold_step(second, third, load16(block, 48));
         Folded {
             older: third,
             newer: fourth,
@@ -55,14 +55,14 @@ impl Folded {
         ensures { (v : List ℕ) → IsFolded v self.older self.newer
             → remainder (bits v) ≡ remainder (bits (result.0 ++ result.1)) }
     {
-        let newer = next(u8x16::splat(0), self.older, self.newer);
+        let newer = fold_step(u8x16::splat(0), self.older, self.newer);
         (self.older.to_array(), newer.to_array())
     }
 }
 
 /// Sixteen bytes of a block, from place `at` on.
 #[inline(always)]
-fn sixteen(block: &[u8; 64], at: usize) -> u8x16
+fn load16(block: &[u8; 64], at: usize) -> u8x16
     requires { at + 16 ≤ 64 }
     ensures { result ≡ take 16 (drop at block.now) }
 {
@@ -71,7 +71,7 @@ fn sixteen(block: &[u8; 64], at: usize) -> u8x16
 
 /// Sixteen bytes of a list, and what the 32 bytes before them add to them.
 #[inline(always)]
-fn next(older: u8x16, newer: u8x16, bytes: u8x16) -> u8x16
+fn fold_step(older: u8x16, newer: u8x16, bytes: u8x16) -> u8x16
     ensures { result ≡ folded older newer bytes }
 {
     bytes ^ newer ^ older.shuffle(newer, FROM_FIFTH) ^ older.shuffle(newer, FROM_SECOND)

@@ -8,7 +8,7 @@ use crate::lanes::doubled_lanes;
 use std::simd::prelude::*;
 
 /// Both syndromes of 32 words, by lane (ECMA-130, Annex A).
-#[derive(Clone, Copy)]
+#[derive(Clone, Copy, Debug)]
 pub struct LaneSums {
     /// The sum of each word's bytes.
     pub plain: u8x32,
@@ -34,9 +34,11 @@ impl LaneSums {
     #[inline(always)]
     pub fn with_lanes(self, lanes: u8x32) -> Self
         ensures plain { (i : ℕ) → i < 32
-            → slice_index result.plain i ≡ bit_xor (slice_index self.plain i) (slice_index lanes i) }
+            → slice_index result.plain i
+            ≡ bit_xor (slice_index self.plain i) (slice_index lanes i) }
         ensures weighted { (i : ℕ) → i < 32
-            → slice_index result.weighted i ≡ bit_xor (double (slice_index self.weighted i)) (slice_index lanes i) }
+            → slice_index result.weighted i
+            ≡ bit_xor (double (slice_index self.weighted i)) (slice_index lanes i) }
     {
         LaneSums {
             plain: self.plain ^ lanes,
@@ -44,29 +46,32 @@ impl LaneSums {
         }
     }
 
-    /// The same where `taking` is `FF`; where it is `00`, the word stays as it is (ECMA-130, Annex A).
+    /// The same where `mask` is `FF`; where it is `00`, the word stays as it is (ECMA-130, Annex A).
     #[inline(always)]
-    pub fn with_lanes_where(self, lanes: u8x32, taking: u8x32) -> Self
-        ensures plain { (i : ℕ) → i < 32 → slice_index taking i ≡ 255
-            → slice_index result.plain i ≡ bit_xor (slice_index self.plain i) (slice_index lanes i) }
-        ensures weighted { (i : ℕ) → i < 32 → slice_index taking i ≡ 255
-            → slice_index result.weighted i ≡ bit_xor (double (slice_index self.weighted i)) (slice_index lanes i) }
-        ensures plain_stays { (i : ℕ) → i < 32 → slice_index taking i ≡ 0
+    pub fn with_lanes_where(self, lanes: u8x32, mask: u8x32) -> Self
+        ensures plain { (i : ℕ) → i < 32 → slice_index mask i ≡ 255
+            → slice_index result.plain i
+            ≡ bit_xor (slice_index self.plain i) (slice_index lanes i) }
+        ensures weighted { (i : ℕ) → i < 32 → slice_index mask i ≡ 255
+            → slice_index result.weighted i
+            ≡ bit_xor (double (slice_index self.weighted i)) (slice_index lanes i) }
+        ensures plain_stays { (i : ℕ) → i < 32 → slice_index mask i ≡ 0
             → slice_index result.plain i ≡ slice_index self.plain i }
-        ensures weighted_stays { (i : ℕ) → i < 32 → slice_index taking i ≡ 0
+        ensures weighted_stays { (i : ℕ) → i < 32 → slice_index mask i ≡ 0
             → slice_index result.weighted i ≡ slice_index self.weighted i }
     {
         let taken = self.with_lanes(lanes);
         LaneSums {
-            plain: chosen(self.plain, taken.plain, taking),
-            weighted: chosen(self.weighted, taken.weighted, taking),
+            plain: select_lanes(self.plain, taken.plain, mask),
+            weighted: select_lanes(self.weighted, taken.weighted, mask),
         }
     }
 
     /// The two parity bytes that make a code word of each word followed by them (ECMA-130, Annex A).
     pub fn pairs(self) -> (u8x32, u8x32)
         ensures { (i : ℕ) → i < 32
-            → IsPair (slice_index self.plain i) (slice_index self.weighted i) (slice_index result.0 i) (slice_index result.1 i) }
+            → IsPair (slice_index self.plain i) (slice_index self.weighted i)
+            (slice_index result.0 i) (slice_index result.1 i) }
     {
         let sum = doubled_and_added(doubled_lanes(self.weighted), self.plain);
         let first = times_inverse_of_three(sum);
@@ -94,11 +99,13 @@ fn times_inverse_of_three(v: u8x32) -> u8x32
     doubled_lanes(doubled_lanes(five))
 }
 
-/// The lanes of `new` where `taking` is `FF`, and of `old` where it is `00`.
+/// The lanes of `new` where `mask` is `FF`, and of `old` where it is `00`.
 #[inline(always)]
-fn chosen(old: u8x32, new: u8x32, taking: u8x32) -> u8x32
-    ensures new { (i : ℕ) → i < 32 → slice_index taking i ≡ 255 → slice_index result i ≡ slice_index new i }
-    ensures old { (i : ℕ) → i < 32 → slice_index taking i ≡ 0 → slice_index result i ≡ slice_index old i }
+fn select_lanes(old: u8x32, new: u8x32, mask: u8x32) -> u8x32
+    ensures new { (i : ℕ) → i < 32 → slice_index mask i ≡ 255
+        → slice_index result i ≡ slice_index new i }
+    ensures old { (i : ℕ) → i < 32 → slice_index mask i ≡ 0
+        → slice_index result i ≡ slice_index old i }
 {
-    old ^ ((old ^ new) & taking)
+    old ^ ((old ^ new) & mask)
 }

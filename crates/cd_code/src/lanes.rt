@@ -20,7 +20,8 @@ pub fn lanes_at(bytes: &[u8], at: usize) -> u8x32
 pub fn put_lanes(bytes: &mut [u8], at: usize, lanes: u8x32)
     requires { at + 32 ≤ length bytes.old }
     ensures inside { (i : ℕ) → i < 32 → slice_index bytes.new (at + i) ≡ slice_index lanes i }
-    ensures outside { (k : ℕ) → (k < at) ⊎ (at + 32 ≤ k) → slice_index bytes.new k ≡ slice_index bytes.old k }
+    ensures outside { (k : ℕ) → (k < at) ⊎ (at + 32 ≤ k)
+        → slice_index bytes.new k ≡ slice_index bytes.old k }
 {
     lanes.copy_to_slice(&mut bytes[at..]);
 }
@@ -43,7 +44,8 @@ pub(crate) fn double_and_add_lanes(sums: &mut [u8], row: &[u8], at: usize)
     requires within_sums { at + 32 ≤ length sums.old }
     requires within_row { at + 32 ≤ length row.now }
     ensures added { (c : ℕ) → at ≤ c → c < at + 32
-        → slice_index sums.new c ≡ bit_xor (double (slice_index sums.old c)) (slice_index row.now c) }
+        → slice_index sums.new c
+        ≡ bit_xor (double (slice_index sums.old c)) (slice_index row.now c) }
     ensures below { (c : ℕ) → c < at → slice_index sums.new c ≡ slice_index sums.old c }
     ensures above { (c : ℕ) → at + 32 ≤ c → slice_index sums.new c ≡ slice_index sums.old c }
 {
@@ -70,8 +72,10 @@ pub(crate) fn add_rest(plain: &mut [u8], weighted: &mut [u8], row: &[u8], at: us
         → slice_index plain.new c ≡ bit_xor (slice_index plain.old c) (slice_index row.now c) }
     ensures plain_below { (c : ℕ) → c < at → slice_index plain.new c ≡ slice_index plain.old c }
     ensures weighted { (c : ℕ) → at ≤ c → c < length row.now
-        → slice_index weighted.new c ≡ bit_xor (double (slice_index weighted.old c)) (slice_index row.now c) }
-    ensures weighted_below { (c : ℕ) → c < at → slice_index weighted.new c ≡ slice_index weighted.old c }
+        → slice_index weighted.new c
+        ≡ bit_xor (double (slice_index weighted.old c)) (slice_index row.now c) }
+    ensures weighted_below { (c : ℕ) → c < at
+        → slice_index weighted.new c ≡ slice_index weighted.old c }
 {
     for i in at..row.len() {
         plain[i] ^= row[i];

@@ -1,5 +1,7 @@
 //! The codes of a CD-ROM sector (ECMA-130): the field GF(2^8), the syndromes and parity bytes of the
 //! product code of Annex A, and the error detection code of the clause on sectors.
+//!
+//! Tests: `src/tests/`.
 #![tactic(auto)]
 
 mod columns;
@@ -13,7 +15,9 @@ mod lanes;
 mod laws;
 mod syndrome;
 
-pub use columns::{ColumnLanes, ColumnSums, column_lanes, column_sums, row_sums};
+pub use columns::{
+    BACK_COLUMN, ColumnLanes, ColumnSums, MIDDLE_COLUMN, column_lanes, column_sums, row_sums,
+};
 pub use edc::edc_of;
 pub use field::{alpha_power, times};
 pub use lane_sums::LaneSums;

@@ -30,7 +30,10 @@ base_rule = record (new_rule (codes "base")) {
 
 -- the flag `--carry`, which is not used where it is not there
 abbrev pub carry_rule : Rule
-carry_rule = record (new_rule (codes "carry")) { long = Some (codes "carry"); action = Some SetTrue }
+carry_rule = record (new_rule (codes "carry")) {
+  long = Some (codes "carry");
+  action = Some SetTrue;
+}
 
 -- a command with the text IMAGE and the option `--base N`
 abbrev pub image_shape : Text → Shape
@@ -45,7 +48,8 @@ check_shape = record (new_shape (codes "check")) {
 -- `apply`, with the texts IMAGE, SCRIPT and OUT, the flag and the option
 abbrev pub apply_shape : Shape
 apply_shape = record (new_shape (codes "apply")) {
-  rules = text_rule (codes "image") ∷ text_rule (codes "script") ∷ text_rule (codes "out") ∷ carry_rule ∷ base_rule ∷ [];
+  rules = text_rule (codes "image") ∷ text_rule (codes "script") ∷ text_rule (codes "out")
+      ∷ carry_rule ∷ base_rule ∷ [];
 }
 
 -- a command with one more argument
@@ -76,7 +80,8 @@ command_line = record {
 
 -- the number that a command's rows give for `--base`
 abbrev pub base_of : List Row → Option ℕ
-base_of rows = option_map (λ t. digits_value 10 (without_leading_plus t)) (one_of (codes "base") rows)
+base_of rows =
+    option_map (λ t. digits_value 10 (without_leading_plus t)) (one_of (codes "base") rows)
 
 -- a flag that is used has the text "true"
 abbrev pub is_set : Option Text → Bool
@@ -94,15 +99,19 @@ HasText id rows text = first_of id rows ≡ Some text
 -- the job has the name, the texts, the base and the flag of a command's matches
 abbrev pub HasMatches : Text × List Row → Job → Type 0
 HasMatches p (job.List image base) =
-    (p.0 ≡ codes "list") × HasText (codes "image") p.1 (string_bytes image) × (base_of p.1 ≡ Some base)
+    (p.0 ≡ codes "list") × HasText (codes "image") p.1 (string_bytes image)
+    × (base_of p.1 ≡ Some base)
 HasMatches p (job.Audit image base) =
-    (p.0 ≡ codes "audit") × HasText (codes "image") p.1 (string_bytes image) × (base_of p.1 ≡ Some base)
+    (p.0 ≡ codes "audit") × HasText (codes "image") p.1 (string_bytes image)
+    × (base_of p.1 ≡ Some base)
 HasMatches p (job.Check image script base carry) =
     (p.0 ≡ codes "check") × HasText (codes "image") p.1 (string_bytes image)
-    × HasText (codes "script") p.1 (string_bytes script) × (base_of p.1 ≡ Some base) × (carry ≡ carry_of p.1)
+    × HasText (codes "script") p.1 (string_bytes script) × (base_of p.1 ≡ Some base)
+    × (carry ≡ carry_of p.1)
 HasMatches p (job.Apply image script out base carry) =
     (p.0 ≡ codes "apply") × HasText (codes "image") p.1 (string_bytes image)
-    × HasText (codes "script") p.1 (string_bytes script) × HasText (codes "out") p.1 (string_bytes out)
+    × HasText (codes "script") p.1 (string_bytes script)
+    × HasText (codes "out") p.1 (string_bytes out)
     × (base_of p.1 ≡ Some base) × (carry ≡ carry_of p.1)
 
 -- the job is the listing of this image
@@ -137,8 +146,10 @@ pub record HasBase (rows : List Row) : Type 0 where
 
 -- the matches name a command, and have its texts and a base
 pub record IsComplete (p : Text × List Row) : Type 0 where
-  pub name : (p.0 ≡ codes "list") ⊎ (p.0 ≡ codes "audit") ⊎ (p.0 ≡ codes "check") ⊎ (p.0 ≡ codes "apply")
+  pub name : (p.0 ≡ codes "list") ⊎ (p.0 ≡ codes "audit") ⊎ (p.0 ≡ codes "check")
+      ⊎ (p.0 ≡ codes "apply")
   pub image : IsSome (first_of (codes "image") p.1)
-  pub script : (p.0 ≡ codes "check") ⊎ (p.0 ≡ codes "apply") → IsSome (first_of (codes "script") p.1)
+  pub script : (p.0 ≡ codes "check") ⊎ (p.0 ≡ codes "apply")
+      → IsSome (first_of (codes "script") p.1)
   pub out : p.0 ≡ codes "apply" → IsSome (first_of (codes "out") p.1)
   pub base : HasBase p.1

@@ -18,20 +18,31 @@ is_out_of_memory _ = false
 abbrev pub fault_from : Error → LineFault
 fault_from e = if is_out_of_memory (kind_of e) then NoMemory else Parser e
 
+-- the status where all was done, and that of a fault or of words that are refused
+abbrev pub done_status : ℕ
+done_status = 0
+
+abbrev pub failed_status : ℕ
+failed_status = 2
+
 -- help that was asked for is no failure
 abbrev pub kind_status : ErrorKind → ℕ
-kind_status DisplayHelp = 0
-kind_status DisplayVersion = 0
-kind_status _ = 2
+kind_status DisplayHelp = done_status
+kind_status DisplayVersion = done_status
+kind_status _ = failed_status
 
 abbrev pub status_of : LineFault → ℕ
 status_of (Parser e) = kind_status (kind_of e)
-status_of NoMemory = 2
+status_of NoMemory = failed_status
+
+-- the line for want of memory
+abbrev pub no_memory : Text
+no_memory = codes "cdpatch: no memory\n"
 
 -- the parser's text where there is one, and else the line for want of memory
 abbrev pub printed : Option Text → Text
 printed (Some text) = text
-printed None = codes "cdpatch: no memory" ++ 10 ∷ []
+printed None = no_memory
 
 -- the kinds of error that the definition gives for the words: none for no words
 unfoldable pub kinds_of : List Text → Kinds

@@ -11,7 +11,7 @@ use crate::{Job, LineFault};
 use clap::ArgMatches;
 use std::alloc::{AllocError, Global};
 
-// A text of a command's matches.
+/// A text of a command's matches.
 fn text_of(alloc: Global, matches: &ArgMatches<'_>, id: &str) -> Result<String, AllocError>
     requires { IsSome (first_of id.now (rows_of (found_of matches.now))) }
     ensures { IfOk result (λ text. first_of id.now (rows_of (found_of matches.now))
@@ -21,7 +21,7 @@ fn text_of(alloc: Global, matches: &ArgMatches<'_>, id: &str) -> Result<String, 
     String::from_str(alloc, text)
 }
 
-// The base of a command's matches.
+/// The base of a command's matches.
 fn base_of(matches: &ArgMatches<'_>) -> u32
     requires { HasBase (rows_of (found_of matches.now)) }
     ensures value { base_of (rows_of (found_of matches.now)) ≡ Some result }
@@ -30,7 +30,7 @@ fn base_of(matches: &ArgMatches<'_>) -> u32
     matches.get_one::<u32>("base").unwrap()
 }
 
-// Whether a flag with this text is used.
+/// Whether a flag with this text is used.
 fn is_set(text: Option<&str>) -> bool
     ensures { result ≡ is_set (option_map (λ text. text.now) text.entry) }
 {
@@ -40,13 +40,14 @@ fn is_set(text: Option<&str>) -> bool
     }
 }
 
-// Whether a command's matches have the flag `--carry`.
+/// Whether a command's matches have the flag `--carry`.
 fn carry_of(matches: &ArgMatches<'_>) -> bool
     ensures { result ≡ carry_of (rows_of (found_of matches.now)) }
 {
     is_set(matches.get_str("carry"))
 }
 
+/// The job of the matches of `list`.
 fn list_job(alloc: Global, matches: &ArgMatches<'_>) -> Result<Job, AllocError>
     requires image { IsSome (first_of (codes "image") (rows_of (found_of matches.now))) }
     requires base { HasBase (rows_of (found_of matches.now)) }
@@ -58,6 +59,7 @@ fn list_job(alloc: Global, matches: &ArgMatches<'_>) -> Result<Job, AllocError>
     Ok(Job::List { image, base })
 }
 
+/// The job of the matches of `audit`.
 fn audit_job(alloc: Global, matches: &ArgMatches<'_>) -> Result<Job, AllocError>
     requires image { IsSome (first_of (codes "image") (rows_of (found_of matches.now))) }
     requires base { HasBase (rows_of (found_of matches.now)) }
@@ -69,6 +71,7 @@ fn audit_job(alloc: Global, matches: &ArgMatches<'_>) -> Result<Job, AllocError>
     Ok(Job::Audit { image, base })
 }
 
+/// The job of the matches of `check`.
 fn check_job(alloc: Global, matches: &ArgMatches<'_>) -> Result<Job, AllocError>
     requires image { IsSome (first_of (codes "image") (rows_of (found_of matches.now))) }
     requires script { IsSome (first_of (codes "script") (rows_of (found_of matches.now))) }
@@ -88,6 +91,7 @@ fn check_job(alloc: Global, matches: &ArgMatches<'_>) -> Result<Job, AllocError>
     })
 }
 
+/// The job of the matches of `apply`.
 fn apply_job(alloc: Global, matches: &ArgMatches<'_>) -> Result<Job, AllocError>
     requires image { IsSome (first_of (codes "image") (rows_of (found_of matches.now))) }
     requires script { IsSome (first_of (codes "script") (rows_of (found_of matches.now))) }
@@ -110,7 +114,7 @@ fn apply_job(alloc: Global, matches: &ArgMatches<'_>) -> Result<Job, AllocError>
     })
 }
 
-// The job of a command's matches.
+/// The job of a command's matches.
 fn entered_job(alloc: Global, name: &str, matches: &ArgMatches<'_>) -> Result<Job, AllocError>
     requires { IsComplete (name.now, rows_of (found_of matches.now)) }
     ensures job { IfOk result (HasMatches (name.now, rows_of (found_of matches.now))) }
@@ -124,7 +128,7 @@ fn entered_job(alloc: Global, name: &str, matches: &ArgMatches<'_>) -> Result<Jo
     }
 }
 
-// The job of no words.
+/// The job of no words.
 fn standard_input_job(alloc: Global) -> Result<Job, AllocError>
     ensures { IfOk result (Lists (codes "-") 0) }
 {
@@ -134,6 +138,10 @@ fn standard_input_job(alloc: Global) -> Result<Job, AllocError>
 
 /// The job that the words behind the program's name ask for: for no words the listing of the
 /// standard input from block 0, and else the command that the words name, which is required.
+///
+/// # Errors
+///
+/// The parser refuses the words or answers them by help, or memory runs out.
 pub fn job_of(alloc: Global, words: Vec<String>) -> Result<Job, LineFault>
     ensures ok { IfOk result (IsJobOf (map string_bytes words.items)) }
     ensures base { IfOk result (λ job. base_in job ≤ MAX_BASE) }

@@ -16,7 +16,7 @@ use std::alloc::{AllocError, Global};
 // Its own number, and not cd_sector's: for one constant this crate would wait for that one's proof.
 pub const MAX_BASE: u32 = 449_849;
 
-// A text that a command needs.
+/// A text that a command needs.
 fn text_argument<'a>(alloc: Global, id: &'a str, name: &'a str, help: &'a str) -> Arg<'a>
     ensures rule { rule_of result ≡ text_rule id.now }
     ensures local { result.global ≡ false }
@@ -27,7 +27,7 @@ fn text_argument<'a>(alloc: Global, id: &'a str, name: &'a str, help: &'a str) -
         .help(help)
 }
 
-// The image that a command reads.
+/// The image that a command reads.
 fn image_argument<'a>(alloc: Global) -> Arg<'a>
     ensures rule { rule_of result ≡ text_rule (codes "image") }
     ensures local { result.global ≡ false }
@@ -40,7 +40,7 @@ fn image_argument<'a>(alloc: Global) -> Arg<'a>
     )
 }
 
-// The script whose patches a command takes.
+/// The script whose patches a command takes.
 fn script_argument<'a>(alloc: Global) -> Arg<'a>
     ensures rule { rule_of result ≡ text_rule (codes "script") }
     ensures local { result.global ≡ false }
@@ -48,7 +48,7 @@ fn script_argument<'a>(alloc: Global) -> Arg<'a>
     text_argument(alloc, "script", "SCRIPT", "The file of the patch script")
 }
 
-// The patched image that a command makes.
+/// The patched image that a command makes.
 fn out_argument<'a>(alloc: Global) -> Arg<'a>
     ensures rule { rule_of result ≡ text_rule (codes "out") }
     ensures local { result.global ≡ false }
@@ -61,7 +61,7 @@ fn out_argument<'a>(alloc: Global) -> Arg<'a>
     )
 }
 
-// The block number of the first sector.
+/// The block number of the first sector.
 fn base_argument<'a>(alloc: Global) -> Arg<'a>
     ensures rule { rule_of result ≡ base_rule }
     ensures local { result.global ≡ false }
@@ -74,7 +74,7 @@ fn base_argument<'a>(alloc: Global) -> Arg<'a>
         .help("The number of the first block, at most 449849")
 }
 
-// The flag by which damage is carried.
+/// The flag by which damage is carried.
 fn carry_argument<'a>(alloc: Global) -> Arg<'a>
     ensures rule { rule_of result ≡ carry_rule }
     ensures local { result.global ≡ false }
@@ -85,7 +85,7 @@ fn carry_argument<'a>(alloc: Global) -> Arg<'a>
         .help("Patch damaged sectors too, and keep their damage")
 }
 
-// A command before its arguments, with the texts above and below them in its help.
+/// A command before its arguments, with the texts above and below them in its help.
 fn described<'a>(alloc: Global, name: &'a str, about: &'a str, more: &'a str) -> Command<'a>
     ensures shape { shape_of result ≡ new_shape name.now }
     ensures local { (out-Command result).has_globals ≡ false }
@@ -93,7 +93,7 @@ fn described<'a>(alloc: Global, name: &'a str, about: &'a str, more: &'a str) ->
     Command::new(alloc, name).about(about).after_help(more)
 }
 
-// A command, where memory was found for it, with one more argument.
+/// A command, where memory was found for it, with one more argument.
 fn with_argument<'a>(
     command: Result<Command<'a>, AllocError>,
     argument: Arg<'a>,
@@ -107,7 +107,7 @@ fn with_argument<'a>(
     command?.arg(argument)
 }
 
-// A command that reads an image: `list` or `audit`.
+/// A command that reads an image: `list` or `audit`.
 fn image_command<'a>(
     alloc: Global,
     name: &'a str,
@@ -122,6 +122,7 @@ fn image_command<'a>(
     with_argument(command, base_argument(alloc))
 }
 
+/// The command `check`.
 fn check_command<'a>(alloc: Global) -> Result<Command<'a>, AllocError>
     ensures shape { IfOk result (λ c. shape_of c ≡ check_shape) }
     ensures local { IfOk result (λ c. (out-Command c).has_globals ≡ false) }
@@ -133,6 +134,7 @@ fn check_command<'a>(alloc: Global) -> Result<Command<'a>, AllocError>
     with_argument(command, base_argument(alloc))
 }
 
+/// The command `apply`.
 fn apply_command<'a>(alloc: Global) -> Result<Command<'a>, AllocError>
     ensures shape { IfOk result (λ c. shape_of c ≡ apply_shape) }
     ensures local { IfOk result (λ c. (out-Command c).has_globals ≡ false) }
@@ -145,7 +147,7 @@ fn apply_command<'a>(alloc: Global) -> Result<Command<'a>, AllocError>
     with_argument(command, base_argument(alloc))
 }
 
-// The program before its commands, of which one is required.
+/// The program before its commands, of which one is required.
 fn program<'a>(alloc: Global) -> Result<Command<'a>, AllocError>
     ensures { IfOk result (λ c. app_of c ≡ program_app) }
 {
@@ -158,7 +160,7 @@ fn program<'a>(alloc: Global) -> Result<Command<'a>, AllocError>
         .bin_name("cdpatch")
 }
 
-// The program, where memory was found for it and for the command, with one more command.
+/// The program, where memory was found for it and for the command, with one more command.
 fn with_command<'a>(
     program: Result<Command<'a>, AllocError>,
     command: Result<Command<'a>, AllocError>,

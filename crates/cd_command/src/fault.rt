@@ -1,11 +1,17 @@
 //! Why the command line gives no job.
 ghost use Rattle.std.specs.Prelude.{◌≡◌, None, if◌then◌else◌, is_some, option_map};
-ghost use Rattle.cd_command.specs.Fault.{fault_from, printed, status_of};
+ghost use Rattle.cd_command.specs.Fault.{failed_status, fault_from, printed, status_of};
 ghost use Rattle.cd_command.specs.declared.fault.LineFault.TheVariants.{NoMemory};
 
 use clap::error::ErrorKind;
 use std::alloc::{AllocError, Global};
 use thiserror::Error;
+
+/// The status of the program where all was done.
+pub const DONE: u8 = 0;
+
+/// The status of a fault or of words that are refused.
+pub const FAILED: u8 = 2;
 
 /// What is printed for want of memory.
 pub const NO_MEMORY: &str = "cdpatch: no memory\n";
@@ -50,17 +56,18 @@ impl LineFault {
             LineFault::Parser(error) => !error.use_stderr(),
             LineFault::NoMemory => false,
         };
-        if is_help { 0 } else { 2 }
+        if is_help { DONE } else { FAILED }
     }
 
-    /// The status that the program ends with where it printed `line_of` this text: 2 where the text
-    /// found no memory, and else that of the fault.
+    /// The status that the program ends with where it printed the `refusal_line` of this text: 2
+    /// where the text found no memory, and else that of the fault.
     pub fn status_with(&self, parser_text: Option<&str>) -> u8
-        ensures { result ≡ (if is_some parser_text.entry then status_of self.now else 2) }
+        ensures { result ≡ (if is_some parser_text.entry then status_of self.now
+            else failed_status) }
     {
         match parser_text {
             Some(_) => self.status(),
-            None => 2,
+            None => FAILED,
         }
     }
 
@@ -77,7 +84,7 @@ impl LineFault {
 }
 
 /// What the program prints for a fault, by the parser's text where there is one.
-pub fn line_of(parser_text: Option<&str>) -> &str
+pub fn refusal_line(parser_text: Option<&str>) -> &str
     ensures { result.now ≡ printed (option_map (λ text. text.now) parser_text.entry) }
 {
     parser_text.unwrap_or(NO_MEMORY)

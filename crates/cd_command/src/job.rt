@@ -1,7 +1,8 @@
 //! The jobs of the program.
 
-/// What the command line asks for. The first sector of an image has the block number `base`, and the image `-` is
-/// the standard input; scripts and outputs are files.
+/// What the command line asks for: `image`, where `-` is the standard input, and the files `script`
+/// and `out`. The first sector of the image has the block number `base`. With `carry` patches are
+/// accepted on damaged sectors too, whose damage stays.
 #[derive(Debug, Drop)]
 pub enum Job {
     /// Lists the sectors of an image.
@@ -14,14 +15,14 @@ pub enum Job {
         image: String,
         base: u32,
     },
-    /// Decides each patch of a script on an image, and writes no image; damage is carried or refused.
+    /// Decides each patch of a script on an image, and writes no image.
     Check {
         image: String,
         script: String,
         base: u32,
         carry: bool,
     },
-    /// Patches an image by a script, into a new file; damage is carried or refused.
+    /// Patches an image by a script, into a new file.
     Apply {
         image: String,
         script: String,

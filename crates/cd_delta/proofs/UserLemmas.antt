@@ -176,21 +176,14 @@ IsChanged-carried old t new place bytes error fits user edc = record {
 }
 
 -- the word of the first bytes, put behind them
-pub StoresEdc-put : (old new four : List ℕ) (w error : ℕ) → length old ≡ 2352 → length new ≡ 2352 → error < 2 ^ 32
-    → IsEdc (take 2064 old) w → four ≡ to_le_bytes w32 (bit_xor w error)
-    → ((i : ℕ) → i < length four → get_or new (2064 + i) 0 ≡ get_or four i 0)
-    → ((k : ℕ) → (k < 2064) ⊎ (2064 + length four ≤ k) → get_or new k 0 ≡ get_or old k 0)
+pub StoresEdc-put : (old new : List ℕ) (w error : ℕ) → length old ≡ 2352 → length new ≡ 2352 → error < 2 ^ 32
+    → IsEdc (take 2064 old) w → slice_range new 2064 2068 ≡ to_le_bytes w32 (bit_xor w error)
+    → ((k : ℕ) → (k < 2064) ⊎ (2068 ≤ k) → get_or new k 0 ≡ get_or old k 0)
     → StoresEdc new error
-StoresEdc-put old new four w error old_size new_size fits word e inside outside =
+StoresEdc-put old new w error old_size new_size fits word put stays =
     let front : take 2064 new ≡ take 2064 old =
-    front-same new old 2064 (omega arith) (omega arith) (λ i below. outside i (inl below)) in
-    let long : length four ≡ 4 = ap length e in
-    record {
-      word = w;
-      fits = fits;
-      is_word = rw front word;
-      at_end = ap (λ n. take n (drop 2064 new)) (sym long) ∙ part-list new four 2064 (omega arith) inside ∙ e;
-    }
+    front-same new old 2064 (omega arith) (omega arith) (λ i below. stays i (inl below)) in
+    record { word = w; fits = fits; is_word = rw front word; at_end = put }
 
 -- the front of another sector, with its EDC
 pub IsChanged-front : (old front new : List ℕ) (place : ℕ) (bytes : List ℕ) (error : ℕ) → place + length bytes ≤ 2064

@@ -12,7 +12,7 @@ ghost use Rattle.cd_delta.specs.Writing.{KeepsError, StoresEdc, written};
 
 use crate::user_data::change;
 use cd_code::edc_of;
-use cd_sector::{EDC, HEADER, INTERMEDIATE, Sector, USER_DATA};
+use cd_sector::{EDC, HEADER, Sector, USER_DATA, stored_edc};
 
 /// Writes `bytes` into the 2048 bytes of user data of a Mode 1 sector, from `offset` on, and carries the sector's
 /// damage over: the EDC changes by the sum of the EDC words of bytes 0 to 2063 before and after, and all 276 syndromes
@@ -20,10 +20,14 @@ use cd_sector::{EDC, HEADER, INTERMEDIATE, Sector, USER_DATA};
 pub fn carry_user(s: &mut Sector, offset: u16, bytes: &[u8])
     requires mode { kind_of s.old ≡ Mode1 }
     requires range { offset + length bytes.now ≤ 2048 }
-    ensures carried { IsCarried s.old (header_of s.old) (written (user_of s.old) offset bytes.now) s.new }
-    ensures alone { (t : List ℕ) → IsCarried s.old (header_of s.old) (written (user_of s.old) offset bytes.now) t → t ≡ s.new }
+    ensures carried { IsCarried s.old (header_of s.old)
+        (written (user_of s.old) offset bytes.now) s.new }
+    ensures alone { (t : List ℕ)
+        → IsCarried s.old (header_of s.old) (written (user_of s.old) offset bytes.now) t
+        → t ≡ s.new }
     ensures kind { kind_of s.new ≡ kind_of s.old }
-    ensures edc { (before after : ℕ) → IsEdc (take 2064 s.old) before → IsEdc (take 2064 s.new) after
+    ensures edc { (before after : ℕ) → IsEdc (take 2064 s.old) before
+        → IsEdc (take 2064 s.new) after
         → from_le_bytes w32 (slice_range s.new 2064 2068)
         ≡ bit_xor (from_le_bytes w32 (slice_range s.old 2064 2068)) (bit_xor before after) }
     ensures consistent { IsConsistent s.old → IsConsistent s.new }
@@ -37,9 +41,11 @@ pub fn carry_user(s: &mut Sector, offset: u16, bytes: &[u8])
 pub fn carry_header(s: &mut Sector, bcd: [u8; 3])
     requires mode { kind_of s.old ≡ Mode1 }
     ensures carried { IsCarried s.old (bcd ++ drop 3 (header_of s.old)) (user_of s.old) s.new }
-    ensures alone { (t : List ℕ) → IsCarried s.old (bcd ++ drop 3 (header_of s.old)) (user_of s.old) t → t ≡ s.new }
+    ensures alone { (t : List ℕ)
+        → IsCarried s.old (bcd ++ drop 3 (header_of s.old)) (user_of s.old) t → t ≡ s.new }
     ensures kind { kind_of s.new ≡ kind_of s.old }
-    ensures edc { (before after : ℕ) → IsEdc (take 2064 s.old) before → IsEdc (take 2064 s.new) after
+    ensures edc { (before after : ℕ) → IsEdc (take 2064 s.old) before
+        → IsEdc (take 2064 s.new) after
         → from_le_bytes w32 (slice_range s.new 2064 2068)
         ≡ bit_xor (from_le_bytes w32 (slice_range s.old 2064 2068)) (bit_xor before after) }
     ensures consistent { IsConsistent s.old → IsConsistent s.new }
@@ -63,6 +69,5 @@ fn edc_error(s: &Sector) -> u32
     ensures { StoresEdc s.now result }
 {
     let bytes = s.bytes();
-    let stored = u32::from_le_bytes(*bytes[EDC..INTERMEDIATE].first_chunk().unwrap());
-    edc_of(&bytes[..EDC]) ^ stored
+    edc_of(&bytes[..EDC]) ^ stored_edc(bytes)
 }

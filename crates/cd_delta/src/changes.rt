@@ -8,18 +8,10 @@ ghost use Rattle.cd_sector.specs.CodeWords.{SameSyndromes, place_of};
 ghost use Rattle.cd_delta.specs.ParityChanges.{changed, diagonal_at, parity_places};
 
 use cd_code::pair_change;
-
-/// The number in its plane of the first byte of P parity, that of column 0.
-const FIRST_P: u16 = 1032;
-
-/// The same of the second byte of P parity.
-const SECOND_P: u16 = 1075;
-
-/// The number in its plane of the first byte of Q parity, that of diagonal 0.
-const FIRST_Q: u16 = 1118;
-
-/// The number of that diagonal's second parity byte.
-const SECOND_Q: u16 = 1144;
+use cd_sector::{
+    DIAGONAL_SIZE, FIRST_P, FIRST_P_ROW, FIRST_Q, HEADER, PLANE_COLUMNS, ROWS, SECOND_P,
+    SECOND_P_ROW, SECOND_Q,
+};
 
 /// The byte at `place` is to be added (by xor) with `d` (ECMA-130, Annex A).
 #[derive(Clone, Copy, Debug, PartialEq, Eq)]
@@ -33,9 +25,9 @@ pub struct Change {
 /// Where a byte stands in the product code: its plane, its row of 43 and its column.
 #[derive(Clone, Copy)]
 struct Cell {
-    plane: u16,
-    row: u16,
-    column: u16,
+    plane: usize,
+    row: usize,
+    column: usize,
     ghost in_plane: { plane < 2 },
     ghost in_rows: { row < 26 },
     ghost in_columns: { column < 43 },
@@ -53,15 +45,17 @@ pub fn parity_changes(place: u16, d: u8) -> [Change; 8]
     ensures distinct { IsDistinct nat_eq (map (λ c. c.place) result) }
     ensures keeps { (s : List ℕ) → AreBytes s → length s ≡ 2352
         → SameSyndromes (changed (added s place d) result) s }
-    ensures alone { (others : List Change) → map (λ c. c.place) others ≡ parity_places place → All (λ c. c.d < 256) others
-        → (s : List ℕ) → AreBytes s → length s ≡ 2352 → SameSyndromes (changed (added s place d) others) s → others ≡ result }
+    ensures alone { (others : List Change) → map (λ c. c.place) others ≡ parity_places place
+        → All (λ c. c.d < 256) others
+        → (s : List ℕ) → AreBytes s → length s ≡ 2352
+        → SameSyndromes (changed (added s place d) others) s → others ≡ result }
     ensures nonzero { d ≢ 0 → All (λ c. c.d ≢ 0) result }
 {
-    let cell = cell_of(place);
+    let cell = cell_of(place as usize);
     let (first, second) = column_changes(cell, d);
     let (own_first, own_second) = diagonal_changes(cell, d);
-    let (first_first, first_second) = diagonal_changes(in_row(24, cell), first.d);
-    let (second_first, second_second) = diagonal_changes(in_row(25, cell), second.d);
+    let (first_first, first_second) = diagonal_changes(in_row(FIRST_P_ROW, cell), first.d);
+    let (second_first, second_second) = diagonal_changes(in_row(SECOND_P_ROW, cell), second.d);
     [
         first,
         second,
@@ -75,23 +69,23 @@ pub fn parity_changes(place: u16, d: u8) -> [Change; 8]
 }
 
 /// Where the byte at a place in front of the parity stands.
-fn cell_of(place: u16) -> Cell
+fn cell_of(place: usize) -> Cell
     requires from { 12 ≤ place }
     requires below { place < 2076 }
     ensures plane { result.plane ≡ place % 2 }
     ensures row { result.row ≡ (place - 12) / 2 / 43 }
     ensures column { result.column ≡ (place - 12) / 2 % 43 }
 {
-    let number = (place - 12) / 2;
+    let number = (place - HEADER) / 2;
     Cell {
         plane: place % 2,
-        row: number / 43,
-        column: number % 43,
+        row: number / PLANE_COLUMNS,
+        column: number % PLANE_COLUMNS,
     }
 }
 
 /// The same column in another row.
-fn in_row(row: u16, cell: Cell) -> Cell
+fn in_row(row: usize, cell: Cell) -> Cell
     requires { row < 26 }
     ensures plane { result.plane ≡ cell.plane }
     ensures row { result.row ≡ row }
@@ -112,7 +106,7 @@ fn column_changes(cell: Cell, d: u8) -> (Change, Change)
     ensures balances { Balances 26 cell.row d result.0.d result.1.d }
     ensures nonzero { d ≢ 0 → (result.0.d ≢ 0) × (result.1.d ≢ 0) }
 {
-    let (first, second) = pair_change(26, cell.row as usize, d);
+    let (first, second) = pair_change(ROWS, cell.row, d);
     (
         change_at(cell.plane, FIRST_P + cell.column, first),
         change_at(cell.plane, SECOND_P + cell.column, second),
@@ -122,12 +116,13 @@ fn column_changes(cell: Cell, d: u8) -> (Change, Change)
 /// The changes of the two parity bytes of the diagonal through a byte to which `d` is added.
 fn diagonal_changes(cell: Cell, d: u8) -> (Change, Change)
     ensures first { result.0.place ≡ place_of cell.plane (1118 + diagonal_at cell.row cell.column) }
-    ensures second { result.1.place ≡ place_of cell.plane (1144 + diagonal_at cell.row cell.column) }
+    ensures second { result.1.place
+        ≡ place_of cell.plane (1144 + diagonal_at cell.row cell.column) }
     ensures balances { Balances 45 cell.column d result.0.d result.1.d }
     ensures nonzero { d ≢ 0 → (result.0.d ≢ 0) × (result.1.d ≢ 0) }
 {
-    let diagonal = (cell.row + 52 - cell.column) % 26;
-    let (first, second) = pair_change(45, cell.column as usize, d);
+    let diagonal = (cell.row + 2 * ROWS - cell.column) % ROWS;
+    let (first, second) = pair_change(DIAGONAL_SIZE, cell.column, d);
     (
         change_at(cell.plane, FIRST_Q + diagonal, first),
         change_at(cell.plane, SECOND_Q + diagonal, second),
@@ -135,14 +130,14 @@ fn diagonal_changes(cell: Cell, d: u8) -> (Change, Change)
 }
 
 /// A change of byte `number` of a plane.
-fn change_at(plane: u16, number: u16, d: u8) -> Change
+fn change_at(plane: usize, number: usize, d: u8) -> Change
     requires plane { plane < 2 }
     requires number { number < 1170 }
     ensures place { result.place ≡ place_of plane number }
     ensures d { result.d ≡ d }
 {
     Change {
-        place: 12 + 2 * number + plane,
+        place: (HEADER + 2 * number + plane) as u16,
         d,
     }
 }

@@ -1,5 +1,7 @@
 //! Changes of a sector by differences: what the change of a byte changes in the P and Q parity, without
 //! seeing the sector (ECMA-130, Annex A).
+//!
+//! Tests: `crates/cd_patch_tests/src/tests/changes/`.
 #![tactic(auto)]
 
 mod byte_by_byte;

@@ -12,9 +12,8 @@ ghost use Rattle.cd_delta.specs.Writing.{IsChanged, StoresEdc, WithEdc, written}
 
 use crate::byte_by_byte::write_few;
 use crate::difference::carry_front;
-use byteorder::{ByteOrder, LittleEndian};
 use cd_code::edc_of;
-use cd_sector::{EDC, SECTOR_SIZE, Sector, USER_DATA};
+use cd_sector::{EDC, SECTOR_SIZE, Sector, USER_DATA, edc_bytes, put_edc, put_part};
 
 /// The number of bytes from which on a difference sector costs less than a change of each byte.
 const MANY: usize = 40;
@@ -30,7 +29,8 @@ pub fn change_user(s: &mut Sector, offset: u16, bytes: &[u8])
     ensures divides { remainder (bits (take 2068 s.new)) ≡ 0 }
     ensures kind { kind_of s.new ≡ kind_of s.old }
     ensures header { header_of s.new ≡ header_of s.old }
-    ensures stays { (i : ℕ) → (i < 16) ⊎ ((2068 ≤ i) × (i < 2076)) → slice_index s.new i ≡ slice_index s.old i }
+    ensures stays { (i : ℕ) → (i < 16) ⊎ ((2068 ≤ i) × (i < 2076))
+        → slice_index s.new i ≡ slice_index s.old i }
     ensures syndromes { SameSyndromes s.new s.old }
     ensures consistent { IsConsistent s.old → IsConsistent s.new }
 {
@@ -66,9 +66,7 @@ fn write_edc(s: &mut Sector, error: u32)
     ensures { WithEdc s.old s.new error }
 {
     let word = edc_of(&s.bytes()[..EDC]);
-    let mut edc = [0; 4];
-    LittleEndian::write_u32(&mut edc, word ^ error);
-    write_few(s, EDC, &edc);
+    write_few(s, EDC, &edc_bytes(word ^ error));
 }
 
 /// Writes the bytes and the EDC with `error` added, and carries both into the parity at once.
@@ -84,8 +82,10 @@ fn change_many(s: &mut Sector, place: usize, bytes: &[u8], error: u32)
 /// left as it was.
 fn front_with(s: &Sector, place: usize, bytes: &[u8], error: u32) -> Sector
     requires { place + length bytes.now ≤ 2064 }
-    ensures range { (i : ℕ) → i < length bytes.now → slice_index result (place + i) ≡ slice_index bytes.now i }
-    ensures elsewhere { (i : ℕ) → (i < place) ⊎ (place + length bytes.now ≤ i) → (i < 2064) ⊎ (2068 ≤ i)
+    ensures range { (i : ℕ) → i < length bytes.now
+        → slice_index result (place + i) ≡ slice_index bytes.now i }
+    ensures elsewhere { (i : ℕ) → (i < place) ⊎ (place + length bytes.now ≤ i)
+        → (i < 2064) ⊎ (2068 ≤ i)
         → slice_index result i ≡ slice_index s.now i }
     ensures edc { StoresEdc result error }
     ensures size { length result ≡ 2352 }
@@ -93,24 +93,16 @@ fn front_with(s: &Sector, place: usize, bytes: &[u8], error: u32) -> Sector
 {
     let mut front = *s.bytes();
     put_part(&mut front, place, bytes);
-    put_edc(&mut front, error);
+    fill_edc(&mut front, error);
     Sector::from_bytes(front)
 }
 
 /// Writes the EDC of bytes 0 to 2063, with `error` added, behind them.
-fn put_edc(bytes: &mut [u8; SECTOR_SIZE], error: u32)
+fn fill_edc(bytes: &mut [u8; SECTOR_SIZE], error: u32)
     ensures edc { StoresEdc bytes.new error }
-    ensures stays { (k : ℕ) → (k < 2064) ⊎ (2068 ≤ k) → slice_index bytes.new k ≡ slice_index bytes.old k }
+    ensures stays { (k : ℕ) → (k < 2064) ⊎ (2068 ≤ k)
+        → slice_index bytes.new k ≡ slice_index bytes.old k }
 {
     let word = edc_of(&bytes[..EDC]);
-    put_part(bytes, EDC, &(word ^ error).to_le_bytes());
-}
-
-/// Writes bytes from place `at` on.
-fn put_part(bytes: &mut [u8; SECTOR_SIZE], at: usize, part: &[u8])
-    requires { at + length part.now ≤ 2352 }
-    ensures inside { (i : ℕ) → i < length part.now → slice_index bytes.new (at + i) ≡ slice_index part.now i }
-    ensures outside { (k : ℕ) → (k < at) ⊎ (at + length part.now ≤ k) → slice_index bytes.new k ≡ slice_index bytes.old k }
-{
-    bytes[at..at + part.len()].copy_from_slice(part);
+    put_edc(bytes, word ^ error);
 }

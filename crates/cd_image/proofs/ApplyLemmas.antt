@@ -8,42 +8,42 @@ use Rattle.std.proofs.lemmas.List.{length-take-le, take-append-le}
 use Rattle.cd_stream.specs.Stream.{Incoming, IsBeginning, Outgoing}
 use Rattle.cd_script.specs.declared.patch.Patch.{Patch}
 use Rattle.cd_sector.specs.declared.sector.TheConstants.{SECTOR_SIZE}
-use Rattle.cd_patch.specs.Blocks.{blocks_met}
+use Rattle.cd_patch.specs.Blocks.{block_limit, blocks_met}
 use Rattle.cd_patch.specs.Deciding.{outcome}
 use Rattle.cd_patch.specs.Run.{PatchRun}
 use Rattle.cd_patch.specs.declared.outcome.Outcome.{Outcome}
 use Rattle.cd_patch.proofs.FrameLemmas.{outcome-frame}
 use Rattle.cd_patch.proofs.RunLemmas.{PatchRun-determined, PatchRun-split}
-use Rattle.cd_image.specs.Applying.{Applies, Streams}
-use Rattle.cd_report.specs.Image.{image_limit, joined, sectors}
+use Rattle.cd_image.specs.Applying.{Applies, Streams, bytes_in_hand}
+use Rattle.cd_read.specs.Image.{image_limit, bytes_of, sectors}
 use Rattle.cd_image.specs.InHand.{tail_bytes}
 use Rattle.cd_image.specs.Passing.{Going}
 use Rattle.cd_image.specs.Patched.{IsPatched}
 use Rattle.cd_image.specs.PatchLog.{lines_below, log_line, log_lines, log_text, sent_beside}
-use Rattle.cd_report.specs.Report.{FitsLeft}
-use Rattle.cd_report.specs.declared.fault.Fault.TheVariants.{Log, Read, TooLong, Write}
-use Rattle.cd_image.proofs.KnownLemmas.{Extends, Extends-begun, IsBeginning-front, Known, begins_now, extends_left, joined-begins, known, lines-begin, lines-begin_within, told_lengths, unfinished_lines}
-use Rattle.cd_report.proofs.PassLemmas.{Fits-begins}
-use Rattle.cd_image.proofs.PassingLemmas.{joined-more, length-joined}
+use Rattle.cd_read.specs.Ends.{FitsLeft}
+use Rattle.cd_read.specs.declared.fault.Fault.TheVariants.{Log, Read, TooLong, Write}
+use Rattle.cd_image.proofs.KnownLemmas.{Extends, Extends-begun, IsBeginning-front, Known, begins_now, extends_left, bytes_of-begins, known, lines-begin, lines-begin_within, told_lengths, unfinished_lines}
+use Rattle.cd_read.proofs.EndLemmas.{Fits-begins}
+use Rattle.cd_image.proofs.PassingLemmas.{bytes_of-more, length-bytes_of}
 use Rattle.cd_image.proofs.PatchLogLemmas.{bytes_before-within, lines_below-cut, log_beside-sector, sent_beside-behind, sent_beside-line}
 
 -- ---- the source fails, or gives too much
 
 module _ (carry : Bool) (taken left : List Patch) (base : ℕ) (start now : Streams) (window : List (List ℕ)) (block sectors_read applied : ℕ) (g : Going carry taken left base start now window block sectors_read applied None) (image : Incoming) (came : List ℕ) (consumed : Consumes now.image.rest image.rest came) where
-  length_read : length (joined g.seen ++ came) ≡ 2352 * sectors_read + length came
-  length_read = length-append (joined g.seen) came ∙ ap (λ n. n + length came) (length-joined g.seen g.seen_sizes ∙ ap (λ n. 2352 * n) (sym g.count))
+  length_read : length (bytes_of g.seen ++ came) ≡ 2352 * sectors_read + length came
+  length_read = length-append (bytes_of g.seen) came ∙ ap (λ n. n + length came) (length-bytes_of g.seen g.seen_sizes ∙ ap (λ n. 2352 * n) (sym g.count))
 
-  all_consumed : Consumes start.image.rest image.rest (joined g.seen ++ came)
-  all_consumed = subst (λ l. Consumes start.image.rest image.rest (l ++ came)) (append-nil (joined g.seen)) (Consumes-trans start.image.rest now.image.rest image.rest _ came g.consumes consumed)
+  all_consumed : Consumes start.image.rest image.rest (bytes_of g.seen ++ came)
+  all_consumed = subst (λ l. Consumes start.image.rest image.rest (l ++ came)) (append-nil (bytes_of g.seen)) (Consumes-trans start.image.rest now.image.rest image.rest _ came g.consumes consumed)
 
-  in_hand : length window < 3 → length came < SECTOR_SIZE → length (joined g.seen ++ came) ≤ length (joined g.done) + 7056
-  in_hand room short = omega (arith, length_read, length-joined g.done g.done_sizes, g.held, g.count)
+  in_hand : length window < block_limit → length came < SECTOR_SIZE → length (bytes_of g.seen ++ came) ≤ length (bytes_of g.done) + bytes_in_hand
+  in_hand room short = omega (arith, length_read, length-bytes_of g.done g.done_sizes, g.held, g.count)
 
-  pub Applies-read : length window < 3 → length came < SECTOR_SIZE → SECTOR_SIZE * sectors_read + length came ≤ image_limit → image.failures ≡ now.image.failures + 1
+  pub Applies-read : length window < block_limit → length came < SECTOR_SIZE → SECTOR_SIZE * sectors_read + length came ≤ image_limit → image.failures ≡ now.image.failures + 1
       → Applies carry (taken ++ left) base start (record now { image = image }) (Err Read)
   Applies-read room short few failed = record {
-    read = joined g.seen ++ came;
-    sent = joined g.done;
+    read = bytes_of g.seen ++ came;
+    sent = bytes_of g.done;
     told = log_lines taken g.outcomes;
     consumes = all_consumed;
     appends = g.appends;
@@ -53,17 +53,17 @@ module _ (carry : Bool) (taken left : List Patch) (base : ℕ) (start now : Stre
       failed = record { reads = omega (arith, failed, g.unfailed.reads); writes = g.unfailed.writes; logs = g.unfailed.logs };
       within = omega (arith, length_read);
       begins = λ whole fits.
-          let begins = Fits-begins (joined g.seen ++ came) whole (omega (arith, length_read)) fits in
+          let begins = Fits-begins (bytes_of g.seen ++ came) whole (omega (arith, length_read)) fits in
           begins_now carry taken left base start now window block sectors_read applied None g whole
-          (Extends-begun g.seen whole (came ++ begins.0) g.seen_sizes (begins.1 ∙ append_assoc (joined g.seen) came begins.0));
+          (Extends-begun g.seen whole (came ++ begins.0) g.seen_sizes (begins.1 ∙ append_assoc (bytes_of g.seen) came begins.0));
     };
   }
 
-  pub Applies-beyond : length window < 3 → length came ≡ 1 → SECTOR_SIZE * sectors_read ≡ image_limit → image.failures ≡ now.image.failures → image.ended ≡ false
+  pub Applies-beyond : length window < block_limit → length came ≡ 1 → SECTOR_SIZE * sectors_read ≡ image_limit → image.failures ≡ now.image.failures → image.ended ≡ false
       → Applies carry (taken ++ left) base start (record now { image = image }) (Err TooLong)
   Applies-beyond room one full kept unended = record {
-    read = joined g.seen ++ came;
-    sent = joined g.done;
+    read = bytes_of g.seen ++ came;
+    sent = bytes_of g.done;
     told = log_lines taken g.outcomes;
     consumes = all_consumed;
     appends = g.appends;
@@ -74,8 +74,8 @@ module _ (carry : Bool) (taken left : List Patch) (base : ℕ) (start now : Stre
       beyond = omega (arith, length_read);
       unended = unended;
       begins = λ whole fits.
-          let size : length (joined g.seen) ≡ image_limit = length-joined g.seen g.seen_sizes ∙ ap (λ n. 2352 * n) (sym g.count) ∙ full in
-          let limited : take image_limit (joined g.seen ++ came) ≡ joined g.seen = take_at (joined g.seen) came image_limit size in
+          let size : length (bytes_of g.seen) ≡ image_limit = length-bytes_of g.seen g.seen_sizes ∙ ap (λ n. 2352 * n) (sym g.count) ∙ full in
+          let limited : take image_limit (bytes_of g.seen ++ came) ≡ bytes_of g.seen = take_at (bytes_of g.seen) came image_limit size in
           begins_now carry taken left base start now window block sectors_read applied None g whole
           (Extends-begun g.seen whole fits.begins.0 g.seen_sizes (fits.begins.1 ∙ ap (λ l. l ++ fits.begins.0) limited));
     };
@@ -83,10 +83,10 @@ module _ (carry : Bool) (taken left : List Patch) (base : ℕ) (start now : Stre
 
 -- what was read, in any state of a pass
 module _ (carry : Bool) (taken left : List Patch) (base : ℕ) (start now : Streams) (window : List (List ℕ)) (block sectors_read applied : ℕ) (end : Option (List ℕ)) (g : Going carry taken left base start now window block sectors_read applied end) where
-  pub size_read : length (joined g.seen ++ tail_bytes end) ≡ 2352 * sectors_read + length (tail_bytes end)
-  size_read = length-append (joined g.seen) (tail_bytes end) ∙ ap (λ n. n + length (tail_bytes end)) (length-joined g.seen g.seen_sizes ∙ ap (λ n. 2352 * n) (sym g.count))
+  pub size_read : length (bytes_of g.seen ++ tail_bytes end) ≡ 2352 * sectors_read + length (tail_bytes end)
+  size_read = length-append (bytes_of g.seen) (tail_bytes end) ∙ ap (λ n. n + length (tail_bytes end)) (length-bytes_of g.seen g.seen_sizes ∙ ap (λ n. 2352 * n) (sym g.count))
 
-  pub extends : (whole : List ℕ) → FitsLeft now.image.rest (joined g.seen ++ tail_bytes end) whole → Extends g.seen end whole
+  pub extends : (whole : List ℕ) → FitsLeft now.image.rest (bytes_of g.seen ++ tail_bytes end) whole → Extends g.seen end whole
   extends whole fits = extends_left carry taken left base start now window block sectors_read applied end g whole fits (omega (arith, size_read, g.within))
 
 -- ---- the output fails in the first sector of the window
@@ -99,7 +99,7 @@ module _ (carry : Bool) (taken left : List Patch) (base : ℕ) (start now : Stre
       → All (λ p. block < p.block) left → Applies carry (taken ++ left) base start (record now { out = out }) (Err Write)
   unfolding settled
   Applies-write out n inside went failed size ahead = record {
-    read = joined g.seen ++ tail_bytes end;
+    read = bytes_of g.seen ++ tail_bytes end;
     sent = sent;
     told = log_lines taken g.outcomes;
     consumes = g.consumes;
@@ -111,35 +111,35 @@ module _ (carry : Bool) (taken left : List Patch) (base : ℕ) (start now : Stre
       within = omega (arith, length_read, g.within);
       begins = λ whole fits os last patched.
           let k = knows whole fits os last patched in (
-            IsBeginning-front sent (drop n sector) last (subst (λ l. IsBeginning l last) regrouped (joined-begins settled k.others last k.cut)),
+            IsBeginning-front sent (drop n sector) last (subst (λ l. IsBeginning l last) regrouped (bytes_of-begins settled k.others last k.cut)),
             subst (λ u. IsBeginning (log_lines taken g.outcomes) (log_text (taken ++ left) u)) (sym k.all) (lines-begin taken left g.outcomes k.back lengths),
           );
       beside = λ whole fits os last patched.
           let k = knows whole fits os last patched in
           let number : length sent / SECTOR_SIZE ≡ length g.done = omega (arith, length_sent) in
-          let before : length sent < SECTOR_SIZE * (length (joined g.seen ++ tail_bytes end) / SECTOR_SIZE) = omega (arith, length_sent, length_read, g.held, g.count, g.short) in
-          sym (log_beside-sector (taken ++ left) os base (length (joined g.seen ++ tail_bytes end)) (length sent) (length g.done) number before
+          let before : length sent < SECTOR_SIZE * (length (bytes_of g.seen ++ tail_bytes end) / SECTOR_SIZE) = omega (arith, length_sent, length_read, g.held, g.count, g.short) in
+          sym (log_beside-sector (taken ++ left) os base (length (bytes_of g.seen ++ tail_bytes end)) (length sent) (length g.done) number before
           ∙ ap (lines_below (base + length g.done + 1) (taken ++ left)) k.all
           ∙ lines_below-cut (base + length g.done + 1) taken left g.outcomes k.back lengths (λ i d here. let h = g.due i d here in omega (arith, h.0, g.front)) (λ i d here. let h = ahead i d here in omega (arith, h, g.front)));
     };
   }
     where
       sent : List ℕ
-      sent = joined g.done ++ take n sector
+      sent = bytes_of g.done ++ take n sector
 
       lengths : length g.outcomes ≡ length taken
       lengths = told_lengths carry taken left base start now (sector ∷ window) block sectors_read applied end g
 
-      length_read : length (joined g.seen ++ tail_bytes end) ≡ 2352 * sectors_read + length (tail_bytes end)
+      length_read : length (bytes_of g.seen ++ tail_bytes end) ≡ 2352 * sectors_read + length (tail_bytes end)
       length_read = size_read carry taken left base start now (sector ∷ window) block sectors_read applied end g
 
-      length_sent : length (joined g.done ++ take n sector) ≡ 2352 * length g.done + n
-      length_sent = length-append (joined g.done) (take n sector) ∙ ap (λ m. m + length (take n sector)) (length-joined g.done g.done_sizes) ∙ ap (λ m. 2352 * length g.done + m) (length-take-le n sector (omega arith))
+      length_sent : length (bytes_of g.done ++ take n sector) ≡ 2352 * length g.done + n
+      length_sent = length-append (bytes_of g.done) (take n sector) ∙ ap (λ m. m + length (take n sector)) (length-bytes_of g.done g.done_sizes) ∙ ap (λ m. 2352 * length g.done + m) (length-take-le n sector (omega arith))
 
-      regrouped : joined (g.done ++ sector ∷ []) ≡ (joined g.done ++ take n sector) ++ drop n sector
-      regrouped = joined-more g.done sector ∙ ap (λ l. joined g.done ++ l) (sym (take-append-drop n sector)) ∙ sym (append_assoc (joined g.done) (take n sector) (drop n sector))
+      regrouped : bytes_of (g.done ++ sector ∷ []) ≡ (bytes_of g.done ++ take n sector) ++ drop n sector
+      regrouped = bytes_of-more g.done sector ∙ ap (λ l. bytes_of g.done ++ l) (sym (take-append-drop n sector)) ∙ sym (append_assoc (bytes_of g.done) (take n sector) (drop n sector))
 
-      knows : (whole : List ℕ) → FitsLeft now.image.rest (joined g.seen ++ tail_bytes end) whole → (os : List Outcome) (last : List ℕ) → IsPatched carry (taken ++ left) os base whole last → Known (g.done ++ sector ∷ []) g.outcomes os last
+      knows : (whole : List ℕ) → FitsLeft now.image.rest (bytes_of g.seen ++ tail_bytes end) whole → (os : List Outcome) (last : List ℕ) → IsPatched carry (taken ++ left) os base whole last → Known (g.done ++ sector ∷ []) g.outcomes os last
       knows whole fits os last patched =
           known carry taken left base start now (sector ∷ window) block sectors_read applied end g whole (extends carry taken left base start now (sector ∷ window) block sectors_read applied end g whole fits)
           (g.done ++ sector ∷ []) (λ more. window ++ more) (λ more. sym (append_assoc g.done (sector ∷ []) (window ++ more)))
@@ -156,7 +156,7 @@ module _ (carry : Bool) (taken : List Patch) (p : Patch) (left : List Patch) (ba
 
   next_of : (middle last : List (List ℕ)) (back : List Outcome) → o ≡ outcome carry middle base p → PatchRun carry (p ∷ left) back base middle last → (others : List Outcome) × (back ≡ o ∷ others)
   next_of middle last [] is run = elim run [ ]
-  next_of middle last (u ∷ others) is run = (others, ap (λ v. v ∷ others) (run.0 ∙ sym is))
+  next_of middle last (u ∷ others) is run = (others, ap (λ v. v ∷ others) (run.decided ∙ sym is))
 
   next : (whole : List ℕ) → Extends g.seen end whole → (os : List Outcome) (last : List ℕ) → IsPatched carry (taken ++ p ∷ left) os base whole last → Next os
   next whole extended os last patched =
@@ -171,8 +171,8 @@ module _ (carry : Bool) (taken : List Patch) (p : Patch) (left : List Patch) (ba
   pub Applies-log : (log : Outgoing) (n : ℕ) → n < length (log_line p o) → Appends now.log.written log.written (take n (log_line p o)) → log.failures ≡ now.log.failures + 1
       → Applies carry (taken ++ p ∷ left) base start (record now { log = log }) (Err Log)
   Applies-log log n inside went failed = record {
-    read = joined g.seen ++ tail_bytes end;
-    sent = joined g.done;
+    read = bytes_of g.seen ++ tail_bytes end;
+    sent = bytes_of g.done;
     told = told;
     consumes = g.consumes;
     appends = g.appends;
@@ -205,8 +205,8 @@ module _ (carry : Bool) (taken : List Patch) (p : Patch) (left : List Patch) (ba
       lengths : length g.outcomes ≡ length taken
       lengths = told_lengths carry taken (p ∷ left) base start now window block sectors_read applied end g
 
-      length_sent : length (joined g.done) ≡ 2352 * length g.done
-      length_sent = length-joined g.done g.done_sizes
+      length_sent : length (bytes_of g.done) ≡ 2352 * length g.done
+      length_sent = length-bytes_of g.done g.done_sizes
 
       length_told : length (log_lines taken g.outcomes ++ take n (log_line p o)) ≡ length (log_lines taken g.outcomes) + n
       length_told = length-append (log_lines taken g.outcomes) (take n (log_line p o)) ∙ ap (λ m. length (log_lines taken g.outcomes) + m) (length-take-le n (log_line p o) (omega arith))

@@ -4,17 +4,16 @@ use Rattle.std.specs.Prelude.{All}
 use Rattle.std.proofs.lemmas.Bool.{true≢false}
 use Rattle.cd_script.specs.Patch.{IsPatch}
 use Rattle.std.specs.Io.KnownBytes.{Appends}
-use Rattle.cd_stream.specs.Stream.{Incoming, Outgoing}
 use Rattle.cd_script.specs.declared.patch.Patch.{Patch}
-use Rattle.cd_image.specs.Applying.{Applies, BeginsLog, Checks, HoldsFew, Streams, WritesCarried, WritesLog, WritesPatched}
+use Rattle.cd_image.specs.Applying.{Applies, BeginsLog, HoldsFew, Streams, WritesCarried, WritesLog, WritesPatched}
 use Rattle.cd_image.specs.Patched.{IsPatched}
 use Rattle.cd_image.specs.PatchLog.{log_text, patch_tally}
-use Rattle.cd_report.specs.Report.{AnswersByEnd, AnswersByLength, EndsWell, TellsTooLong}
-use Rattle.cd_report.specs.declared.fault.Fault.{Fault}
-use Rattle.cd_report.specs.declared.fault.Fault.TheVariants.{Log, Read, TooLong, Write}
+use Rattle.cd_read.specs.Ends.{AnswersByEnd, AnswersByLength, EndsWell, TellsTooLong}
+use Rattle.cd_read.specs.declared.fault.Fault.{Fault}
+use Rattle.cd_read.specs.declared.fault.Fault.TheVariants.{Log, Read, TooLong, Write}
 use Rattle.cd_image.specs.declared.patch_log.Tally.{Tally}
 use Rattle.cd_image.proofs.PatchedLemmas.{IsPatched-carries, IsPatched-determined}
-use Rattle.cd_report.proofs.ReportLemmas.{appended, beyond_by_length, consumed_all, consumed_length, ended_by_length, not_beyond, told_beyond}
+use Rattle.cd_read.proofs.EndLemmas.{appended, beyond_by_length, consumed_all, consumed_length, ended_by_length, not_beyond, told_beyond}
 
 -- a sink that tells its bytes has these behind those that it had
 appended_length : (old new : Option (List ℕ)) (sent earlier now : List ℕ) → Appends old new sent → old ≡ Some earlier → new ≡ Some now → length now ≡ length earlier + length sent
@@ -23,7 +22,7 @@ appended_length old new sent earlier now went had has =
     let same : now ≡ earlier ++ sent = cc in
     ap length same ∙ length-append earlier sent
 
-module _ (carry : Bool) (patches : List Patch) (base : ℕ) (old new : Streams) where
+module _ {carry : Bool} {patches : List Patch} {base : ℕ} {old new : Streams} where
   pub Applies-output : (result : Result Tally Fault) → Applies carry patches base old new result → OnOk result (WritesPatched carry patches base old.image new.image old.out new.out)
   Applies-output (Ok tally) a = λ bytes earlier gives holds.
       let all = consumed_all old.image.rest new.image.rest a.read bytes a.consumes a.answers.at_end gives in (
@@ -50,7 +49,7 @@ module _ (carry : Bool) (patches : List Patch) (base : ℕ) (old new : Streams) 
       let all = consumed_all old.image.rest new.image.rest a.read bytes a.consumes a.answers.at_end gives in
       let same = IsPatched-determined carry patches a.answers.outcomes os base bytes a.sent last (subst (λ b. IsPatched carry patches a.answers.outcomes base b a.sent) all.1 a.answers.patched) patched in (
         appended old.log.written new.log.written a.told earlier a.logs holds ∙ ap (λ l. Some (earlier ++ l)) (a.answers.log_told ∙ ap (log_text patches) same.0),
-        a.answers.tally_told ∙ ap (λ b. patch_tally b a.answers.outcomes) all.1 ∙ ap (patch_tally bytes) same.0,
+        a.answers.tally_right ∙ ap (λ b. patch_tally b a.answers.outcomes) all.1 ∙ ap (patch_tally bytes) same.0,
       )
   Applies-told (Err fault) a = tt
 
@@ -121,10 +120,10 @@ module _ (carry : Bool) (patches : List Patch) (base : ℕ) (old new : Streams) 
   Applies-begins (Err Log) a = record { read = a.read; told = a.told; consumes = a.consumes; logs = a.logs; begins = λ whole fits os last patched. (a.answers.begins whole fits os last patched).1 }
   Applies-begins (Err TooLong) a = record { read = a.read; told = a.told; consumes = a.consumes; logs = a.logs; begins = λ whole fits os last patched. (a.answers.begins whole fits os last patched).1 }
 
--- an output that keeps nothing does not fail
-pub Checks-no_output : (carry : Bool) (patches : List Patch) (base : ℕ) (image image' : Incoming) (log log' : Outgoing) (result : Result Tally Fault) → Checks carry patches base image image' log log' result → result ≢ Err Write
-Checks-no_output carry patches base image image' log log' (Ok tally) done = λ e. cc
-Checks-no_output carry patches base image image' log log' (Err Read) done = λ e. cc
-Checks-no_output carry patches base image image' log log' (Err Write) done = λ e. absurd (omega (arith, done.1.answers.failed.writes))
-Checks-no_output carry patches base image image' log log' (Err Log) done = λ e. cc
-Checks-no_output carry patches base image image' log log' (Err TooLong) done = λ e. cc
+  -- an output of which no write failed is not told as one that failed
+  pub Applies-no_write : (result : Result Tally Fault) → Applies carry patches base old new result → new.out.failures ≡ old.out.failures → result ≢ Err Write
+  Applies-no_write (Ok tally) a same = λ e. cc
+  Applies-no_write (Err Read) a same = λ e. cc
+  Applies-no_write (Err Write) a same = λ e. absurd (omega (arith, a.answers.failed.writes, same))
+  Applies-no_write (Err Log) a same = λ e. cc
+  Applies-no_write (Err TooLong) a same = λ e. cc

@@ -8,16 +8,16 @@ use Rattle.cd_patch.specs.Run.{PatchRun}
 use Rattle.cd_patch.specs.declared.outcome.Outcome.{Outcome}
 use Rattle.cd_patch.proofs.RunLemmas.{PatchRun-determined, PatchRun-front, PatchRun-lengths, PatchRun-split}
 use Rattle.cd_image.specs.Applying.{Begins, Streams}
-use Rattle.cd_report.specs.Image.{image_limit, joined, sectors, tail}
+use Rattle.cd_read.specs.Image.{image_limit, bytes_of, sectors, tail}
 use Rattle.cd_image.specs.InHand.{tail_bytes}
 use Rattle.cd_image.specs.Passing.{Going}
 use Rattle.cd_image.specs.Patched.{IsPatched}
 use Rattle.cd_image.specs.PatchLog.{applied_count, log_end, log_lines, log_text, refused_count}
 use Rattle.cd_stream.specs.Stream.{IsBeginning}
-use Rattle.cd_report.specs.Report.{FitsLeft}
-use Rattle.cd_report.proofs.ImageLemmas.{IsCut-sectors, sectors-joined, sectors-short}
-use Rattle.cd_report.proofs.PassLemmas.{FitsLeft-begins, FitsLeft-end}
-use Rattle.cd_image.proofs.PassingLemmas.{AreSized, joined-append}
+use Rattle.cd_read.specs.Ends.{FitsLeft}
+use Rattle.cd_read.proofs.ImageLemmas.{IsCut-sectors, sectors-bytes_of, sectors-short}
+use Rattle.cd_read.proofs.EndLemmas.{FitsLeft-begins, FitsLeft-end}
+use Rattle.cd_image.proofs.PassingLemmas.{AreSized, bytes_of-append}
 use Rattle.cd_image.proofs.PatchLogLemmas.{log_lines-append}
 
 -- a front of a beginning is one
@@ -25,11 +25,11 @@ pub IsBeginning-front : (front more whole : List ℕ) → IsBeginning (front ++ 
 IsBeginning-front front more whole begins = (more ++ begins.0, begins.1 ∙ append_assoc front more begins.0)
 
 -- an image whose first sectors are these
-pub joined-begins : (front others : List (List ℕ)) (last : List ℕ) → sectors last ≡ front ++ others → IsBeginning (joined front) last
-joined-begins front others last cut = (
-  joined others ++ tail last,
-  sym (IsCut-sectors last).joined ∙ ap (λ ss. joined ss ++ tail last) cut ∙ ap (λ l. l ++ tail last) (joined-append front others)
-      ∙ append_assoc (joined front) (joined others) (tail last),
+pub bytes_of-begins : (front others : List (List ℕ)) (last : List ℕ) → sectors last ≡ front ++ others → IsBeginning (bytes_of front) last
+bytes_of-begins front others last cut = (
+  bytes_of others ++ tail last,
+  sym (IsCut-sectors last).joined ∙ ap (λ ss. bytes_of ss ++ tail last) cut ∙ ap (λ l. l ++ tail last) (bytes_of-append front others)
+      ∙ append_assoc (bytes_of front) (bytes_of others) (tail last),
 )
 
 -- the lines of the first patches begin the log
@@ -102,36 +102,36 @@ module _ (carry : Bool) (taken left : List Patch) (base : ℕ) (start now : Stre
 
   -- what went out and what was told begin the patched image and its log
   pub begins_now : (whole : List ℕ) → Extends g.seen end whole → (os : List Outcome) (last : List ℕ) → IsPatched carry (taken ++ left) os base whole last
-      → Begins (taken ++ left) (joined g.done) (log_lines taken g.outcomes) os last
+      → Begins (taken ++ left) (bytes_of g.done) (log_lines taken g.outcomes) os last
   begins_now whole extends os last patched =
       let k = known whole extends g.done (λ more. window ++ more) (λ more. refl) ahead_of_done os last patched in (
-        joined-begins g.done k.others last k.cut,
+        bytes_of-begins g.done k.others last k.cut,
         subst (λ u. IsBeginning (log_lines taken g.outcomes) (log_text (taken ++ left) u)) (sym k.all) (lines-begin taken left g.outcomes k.back told_lengths),
       )
 
   -- an image that fits while the end is told where nothing is left
-  pub extends_left : (whole : List ℕ) → FitsLeft now.image.rest (joined g.seen ++ tail_bytes end) whole → length (joined g.seen ++ tail_bytes end) ≤ image_limit → Extends g.seen end whole
+  pub extends_left : (whole : List ℕ) → FitsLeft now.image.rest (bytes_of g.seen ++ tail_bytes end) whole → length (bytes_of g.seen ++ tail_bytes end) ≤ image_limit → Extends g.seen end whole
   extends_left whole fits few = by_end end g.seen_sizes g.short (λ some. (g.ended some).0) fits few
     where
-      by_end : (t : Option (List ℕ)) → AreSized g.seen → length (tail_bytes t) < SECTOR_SIZE → (IsSome t → IsAtEnd now.image.rest) → FitsLeft now.image.rest (joined g.seen ++ tail_bytes t) whole
-          → length (joined g.seen ++ tail_bytes t) ≤ image_limit → Extends g.seen t whole
+      by_end : (t : Option (List ℕ)) → AreSized g.seen → length (tail_bytes t) < SECTOR_SIZE → (IsSome t → IsAtEnd now.image.rest) → FitsLeft now.image.rest (bytes_of g.seen ++ tail_bytes t) whole
+          → length (bytes_of g.seen ++ tail_bytes t) ≤ image_limit → Extends g.seen t whole
       by_end None sized short ended fits few =
-          let begins = FitsLeft-begins now.image.rest (joined g.seen ++ []) whole few fits in
+          let begins = FitsLeft-begins now.image.rest (bytes_of g.seen ++ []) whole few fits in
           record {
             more = sectors begins.0;
-            cut = ap sectors (begins.1 ∙ ap (λ l. l ++ begins.0) (append-nil (joined g.seen))) ∙ sectors-joined g.seen begins.0 sized;
+            cut = ap sectors (begins.1 ∙ ap (λ l. l ++ begins.0) (append-nil (bytes_of g.seen))) ∙ sectors-bytes_of g.seen begins.0 sized;
             unended = λ never. cc;
           }
       by_end (Some t) sized short ended fits few = record {
         more = [];
-        cut = ap sectors (FitsLeft-end now.image.rest (joined g.seen ++ t) whole (ended refl) fits) ∙ sectors-joined g.seen t sized ∙ ap (λ ss. g.seen ++ ss) (sectors-short t short);
+        cut = ap sectors (FitsLeft-end now.image.rest (bytes_of g.seen ++ t) whole (ended refl) fits) ∙ sectors-bytes_of g.seen t sized ∙ ap (λ ss. g.seen ++ ss) (sectors-short t short);
         unended = λ some. refl;
       }
 
 -- an image that begins with the sectors that were seen, before the end is known
-pub Extends-begun : (seen : List (List ℕ)) (whole more : List ℕ) → AreSized seen → whole ≡ joined seen ++ more → Extends seen None whole
+pub Extends-begun : (seen : List (List ℕ)) (whole more : List ℕ) → AreSized seen → whole ≡ bytes_of seen ++ more → Extends seen None whole
 Extends-begun seen whole more sized is = record {
   more = sectors more;
-  cut = ap sectors is ∙ sectors-joined seen more sized;
+  cut = ap sectors is ∙ sectors-bytes_of seen more sized;
   unended = λ never. cc;
 }

@@ -5,4 +5,4 @@ pub mod KnownLemmas
 pub mod PassingLemmas
 pub mod PatchLogLemmas
 pub mod PatchedLemmas
-pub mod TurnLemmas
+pub mod AdvanceLemmas

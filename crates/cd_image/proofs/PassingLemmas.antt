@@ -7,50 +7,50 @@ use Rattle.std.proofs.lemmas.List.Elements.{All-append, All-cons, All-head, All-
 use Rattle.std.proofs.lemmas.Grind.{flat_map-append}
 use Rattle.cd_script.specs.declared.patch.Patch.{Patch}
 use Rattle.cd_sector.specs.declared.sector.TheConstants.{SECTOR_SIZE}
-use Rattle.cd_patch.specs.Blocks.{blocks_met}
+use Rattle.cd_patch.specs.Blocks.{block_limit, blocks_met}
 use Rattle.cd_patch.specs.Deciding.{outcome}
 use Rattle.cd_patch.specs.Effect.{Effect}
-use Rattle.cd_patch.specs.Laws.{is_applied}
+use Rattle.cd_patch.specs.Outcome.{is_applied}
 use Rattle.cd_patch.specs.Run.{PatchRun}
 use Rattle.cd_patch.specs.declared.outcome.Outcome.{Outcome}
 use Rattle.cd_patch.proofs.FrameLemmas.{Effect-frame, Effect-length, outcome-frame}
 use Rattle.cd_patch.proofs.RunLemmas.{PatchRun-append, PatchRun-lengths}
 use Rattle.cd_image.specs.Applying.{Streams}
-use Rattle.cd_report.specs.Image.{image_limit, joined}
-use Rattle.cd_image.specs.Passing.{Going, missing}
+use Rattle.cd_read.specs.Image.{image_limit, bytes_of, sector_limit}
+use Rattle.cd_image.specs.Passing.{Going, missing_outcomes}
 use Rattle.cd_image.specs.PatchLog.{log_line, log_lines}
 use Rattle.cd_stream.specs.Stream.{Incoming, Outgoing}
-use Rattle.cd_report.proofs.CountLemmas.{count_by-behind}
-use Rattle.cd_image.proofs.PatchLogLemmas.{PatchRun-missing, applied_count-missing, log_lines-append}
+use Rattle.cd_read.proofs.CountLemmas.{count_by-behind}
+use Rattle.cd_image.proofs.PatchLogLemmas.{PatchRun-missing, applied_count-missing_outcomes, log_lines-append}
 
-pub joined-append : (front back : List (List ℕ)) → joined (front ++ back) ≡ joined front ++ joined back
-joined-append front back = flat_map-append (λ sector. sector) front back
+pub bytes_of-append : (front back : List (List ℕ)) → bytes_of (front ++ back) ≡ bytes_of front ++ bytes_of back
+bytes_of-append front back = flat_map-append (λ sector. sector) front back
 
-pub joined-more : (front : List (List ℕ)) (sector : List ℕ) → joined (front ++ sector ∷ []) ≡ joined front ++ sector
-joined-more front sector = joined-append front (sector ∷ []) ∙ ap (λ l. joined front ++ l) (append-nil sector)
+pub bytes_of-more : (front : List (List ℕ)) (sector : List ℕ) → bytes_of (front ++ sector ∷ []) ≡ bytes_of front ++ sector
+bytes_of-more front sector = bytes_of-append front (sector ∷ []) ∙ ap (λ l. bytes_of front ++ l) (append-nil sector)
 
 -- sectors of 2352 bytes
 abbrev pub AreSized : List (List ℕ) → Type 0
 AreSized whole = All (λ sector. length sector ≡ SECTOR_SIZE) whole
 
-pub length-joined : (whole : List (List ℕ)) → AreSized whole → length (joined whole) ≡ 2352 * length whole
-length-joined [] each = refl
-length-joined (s ∷ ss) each =
+pub length-bytes_of : (whole : List (List ℕ)) → AreSized whole → length (bytes_of whole) ≡ 2352 * length whole
+length-bytes_of [] each = refl
+length-bytes_of (s ∷ ss) each =
     let size = All-head (λ t. length t ≡ SECTOR_SIZE) s ss each in
-    let others = length-joined ss (All-tail (λ t. length t ≡ SECTOR_SIZE) s ss each) in
-    length-append s (joined ss) ∙ omega arith
+    let others = length-bytes_of ss (All-tail (λ t. length t ≡ SECTOR_SIZE) s ss each) in
+    length-append s (bytes_of ss) ∙ omega arith
 
 AreSized-more : (whole : List (List ℕ)) (sector : List ℕ) → AreSized whole → length sector ≡ SECTOR_SIZE → AreSized (whole ++ sector ∷ [])
 AreSized-more whole sector each size = All-append (λ t. length t ≡ SECTOR_SIZE) whole (sector ∷ []) each (All-cons (λ t. length t ≡ SECTOR_SIZE) sector [] size (All-nil (λ t. length t ≡ SECTOR_SIZE)))
 
 -- behind the patches whose first block is below the image's
 pub Going-start : (carry : Bool) (taken left : List Patch) (base : ℕ) (start : Streams) (log : Outgoing) → All (λ p. p.block < base) taken → All (λ p. base ≤ p.block) left
-    → Appends start.log.written log.written (log_lines taken (missing taken)) → log.failures ≡ start.log.failures
+    → Appends start.log.written log.written (log_lines taken (missing_outcomes taken)) → log.failures ≡ start.log.failures
     → Going carry taken left base start (record start { log = log }) [] base 0 0 None
 Going-start carry taken left base start log below ahead told kept = record {
   seen = [];
   done = [];
-  outcomes = missing taken;
+  outcomes = missing_outcomes taken;
   consumes = Consumes-nil start.image.rest;
   appends = Appends-nil start.out.written;
   logs = told;
@@ -65,7 +65,7 @@ Going-start carry taken left base start log below ahead told kept = record {
   front = omega arith;
   count = refl;
   held = refl;
-  counted = sym (applied_count-missing taken);
+  counted = sym (applied_count-missing_outcomes taken);
   due = λ k d inside. let h = below k d inside in (omega arith, omega arith);
   ahead = ahead;
 }
@@ -73,15 +73,15 @@ Going-start carry taken left base start log below ahead told kept = record {
 module _ (carry : Bool) (taken left : List Patch) (base : ℕ) (start now : Streams) (window : List (List ℕ)) (block sectors applied : ℕ) where
   -- a sector has come
   pub Going-read : Going carry taken left base start now window block sectors applied None → (image : Incoming) (came : List ℕ) → Consumes now.image.rest image.rest came → image.failures ≡ now.image.failures
-      → length came ≡ SECTOR_SIZE → sectors < 1000000 → length window < 3
+      → length came ≡ SECTOR_SIZE → sectors < sector_limit → length window < block_limit
       → Going carry taken left base start (record now { image = image }) (window ++ came ∷ []) block (sectors + 1) applied None
   Going-read g image came consumed kept size few room = record {
     seen = g.seen ++ came ∷ [];
     done = g.done;
     outcomes = g.outcomes;
     consumes =
-        let bytes : (joined g.seen ++ []) ++ came ≡ joined (g.seen ++ came ∷ []) ++ [] =
-        ap (λ l. l ++ came) (append-nil (joined g.seen)) ∙ sym (joined-more g.seen came) ∙ sym (append-nil _) in
+        let bytes : (bytes_of g.seen ++ []) ++ came ≡ bytes_of (g.seen ++ came ∷ []) ++ [] =
+        ap (λ l. l ++ came) (append-nil (bytes_of g.seen)) ∙ sym (bytes_of-more g.seen came) ∙ sym (append-nil _) in
         subst (Consumes start.image.rest image.rest) bytes (Consumes-trans start.image.rest now.image.rest image.rest _ came g.consumes consumed);
     appends = g.appends;
     logs = g.logs;
@@ -106,14 +106,14 @@ module _ (carry : Bool) (taken left : List Patch) (base : ℕ) (start now : Stre
 
   -- less than a sector has come, and nothing is left
   pub Going-end : Going carry taken left base start now window block sectors applied None → (image : Incoming) (came : List ℕ) → Consumes now.image.rest image.rest came → image.failures ≡ now.image.failures
-      → length came < SECTOR_SIZE → SECTOR_SIZE * sectors + length came ≤ image_limit → length window < 3 → IsAtEnd image.rest → image.ended ≡ true
+      → length came < SECTOR_SIZE → SECTOR_SIZE * sectors + length came ≤ image_limit → length window < block_limit → IsAtEnd image.rest → image.ended ≡ true
       → Going carry taken left base start (record now { image = image }) window block sectors applied (Some came)
   Going-end g image came consumed kept short within room end told = record {
     seen = g.seen;
     done = g.done;
     outcomes = g.outcomes;
     consumes =
-        subst (λ l. Consumes start.image.rest image.rest (l ++ came)) (append-nil (joined g.seen)) (Consumes-trans start.image.rest now.image.rest image.rest _ came g.consumes consumed);
+        subst (λ l. Consumes start.image.rest image.rest (l ++ came)) (append-nil (bytes_of g.seen)) (Consumes-trans start.image.rest now.image.rest image.rest _ came g.consumes consumed);
     appends = g.appends;
     logs = g.logs;
     unfailed = record { reads = kept ∙ g.unfailed.reads; writes = g.unfailed.writes; logs = g.unfailed.logs };
@@ -143,7 +143,7 @@ Going-send carry taken left base start now sector window block sectors applied t
   outcomes = g.outcomes;
   consumes = g.consumes;
   appends =
-      subst (Appends start.out.written out.written) (sym (joined-more g.done sector)) (Appends-trans start.out.written now.out.written out.written _ sector g.appends sent);
+      subst (Appends start.out.written out.written) (sym (bytes_of-more g.done sector)) (Appends-trans start.out.written now.out.written out.written _ sector g.appends sent);
   logs = g.logs;
   unfailed = record { reads = g.unfailed.reads; writes = kept ∙ g.unfailed.writes; logs = g.unfailed.logs };
   seen_sizes = g.seen_sizes;
@@ -168,7 +168,7 @@ reaches block met count tail (inr ended) = inr ended
 
 -- one patch alone
 PatchRun-one : (carry : Bool) (p : Patch) (o : Outcome) (base : ℕ) (old new : List (List ℕ)) → o ≡ outcome carry old base p → Effect carry base p old new → PatchRun carry (p ∷ []) (o ∷ []) base old new
-PatchRun-one carry p o base old new is effect = (is, (new, effect, refl))
+PatchRun-one carry p o base old new is effect = record { decided = is; next = new; effect = effect; others = refl }
 
 -- a patch that begins at the first sector of the window was taken: all that it meets is in the window, or nothing follows
 module _ (carry : Bool) (taken : List Patch) (p : Patch) (left : List Patch) (base : ℕ) (start now : Streams) (window window' : List (List ℕ)) (block sectors applied : ℕ) (tail : Option (List ℕ)) where

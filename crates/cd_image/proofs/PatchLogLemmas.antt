@@ -11,15 +11,15 @@ use Rattle.std.proofs.lemmas.Bool.{cases_lt, cond-true, cond-false, lt-ltb, le-l
 use Rattle.std.proofs.lemmas.List.Elements.{All-head, All-tail}
 use Rattle.cd_script.specs.declared.patch.Patch.{Patch}
 use Rattle.cd_sector.specs.declared.sector.TheConstants.{SECTOR_SIZE}
-use Rattle.cd_patch.specs.Laws.{is_applied}
+use Rattle.cd_patch.specs.Outcome.{is_applied}
 use Rattle.cd_patch.specs.Run.{PatchRun}
 use Rattle.cd_patch.specs.declared.outcome.Outcome.{Outcome}
 use Rattle.cd_patch.specs.declared.outcome.Outcome.TheVariants.{NoBlock}
 use Rattle.cd_patch.proofs.FrameLemmas.{Effect-missing, outcome-missing}
-use Rattle.cd_report.specs.Image.{sectors}
-use Rattle.cd_image.specs.Passing.{missing}
+use Rattle.cd_read.specs.Image.{sectors}
+use Rattle.cd_image.specs.Passing.{missing_outcomes}
 use Rattle.cd_image.specs.PatchLog.{applied_count, bytes_before, lines_below, log_beside, log_line, log_lines, log_text, outcome_text, refused_count, sent_beside}
-use Rattle.cd_report.proofs.CountLemmas.{count_by-first}
+use Rattle.cd_read.proofs.CountLemmas.{count_by-first}
 
 pub log_lines-append : (ps qs : List Patch) (os us : List Outcome) → length os ≡ length ps → log_lines (ps ++ qs) (os ++ us) ≡ log_lines ps os ++ log_lines qs us
 log_lines-append [] qs [] us same = refl
@@ -146,19 +146,25 @@ module _ (image : List ℕ) (base : ℕ) where
 abbrev pub AreMissing : List (List ℕ) → ℕ → List Patch → Type 0
 AreMissing whole base ps = All (λ p. (p.block < base) ⊎ (base + length whole ≤ p.block)) ps
 
-pub PatchRun-missing : (carry : Bool) (ps : List Patch) (whole : List (List ℕ)) (base : ℕ) → AreMissing whole base ps → PatchRun carry ps (missing ps) base whole whole
+pub PatchRun-missing : (carry : Bool) (ps : List Patch) (whole : List (List ℕ)) (base : ℕ) → AreMissing whole base ps → PatchRun carry ps (missing_outcomes ps) base whole whole
 PatchRun-missing carry [] whole base none = refl
 PatchRun-missing carry (p ∷ ps) whole base none =
     let here = All-head (λ q. (q.block < base) ⊎ (base + length whole ≤ q.block)) p ps none in
-    (sym (outcome-missing carry whole base p here), (whole, Effect-missing carry whole base p here, PatchRun-missing carry ps whole base (All-tail (λ q. (q.block < base) ⊎ (base + length whole ≤ q.block)) p ps none)))
+    let others = All-tail (λ q. (q.block < base) ⊎ (base + length whole ≤ q.block)) p ps none in
+    record {
+      decided = sym (outcome-missing carry whole base p here);
+      next = whole;
+      effect = Effect-missing carry whole base p here;
+      others = PatchRun-missing carry ps whole base others;
+    }
 
-pub length-missing : (ps : List Patch) → length (missing ps) ≡ length ps
-length-missing [] = refl
-length-missing (p ∷ ps) = ap suc (length-missing ps)
+pub length-missing_outcomes : (ps : List Patch) → length (missing_outcomes ps) ≡ length ps
+length-missing_outcomes [] = refl
+length-missing_outcomes (p ∷ ps) = ap suc (length-missing_outcomes ps)
 
-pub applied_count-missing : (ps : List Patch) → applied_count (missing ps) ≡ 0
-applied_count-missing [] = refl
-applied_count-missing (p ∷ ps) = applied_count-missing ps
+pub applied_count-missing_outcomes : (ps : List Patch) → applied_count (missing_outcomes ps) ≡ 0
+applied_count-missing_outcomes [] = refl
+applied_count-missing_outcomes (p ∷ ps) = applied_count-missing_outcomes ps
 
 -- each outcome is an acceptance or a refusal
 pub counts-all : (os : List Outcome) → applied_count os + refused_count os ≡ length os
@@ -182,11 +188,11 @@ unfolding log_line
 log_line-some p o = omega (arith, length-append (codes "line " ++ decimal p.line ++ codes ": " ++ outcome_text o) (codes "\n"))
 
 abbrev pub missing_lines : List Patch → List ℕ
-missing_lines ps = log_lines ps (missing ps)
+missing_lines ps = log_lines ps (missing_outcomes ps)
 
 pub missing_lines-append : (ps qs : List Patch) → missing_lines (ps ++ qs) ≡ missing_lines ps ++ missing_lines qs
 missing_lines-append ps qs =
-    ap (log_lines (ps ++ qs)) (map-append (λ p. NoBlock p.block) ps qs) ∙ log_lines-append ps qs (missing ps) (missing qs) (length-missing ps)
+    ap (log_lines (ps ++ qs)) (map-append (λ p. NoBlock p.block) ps qs) ∙ log_lines-append ps qs (missing_outcomes ps) (missing_outcomes qs) (length-missing_outcomes ps)
 
 module _ (ps : List Patch) (i : ℕ) (p : Patch) (inside : i < length ps) (is : p ≡ get_or ps i p) where
   -- one patch more

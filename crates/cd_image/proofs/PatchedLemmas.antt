@@ -6,7 +6,7 @@ use Rattle.std.proofs.lemmas.List.{length-drop, length-take-le}
 use Rattle.std.proofs.lemmas.List.Elements.{All-cons, All-nil}
 use Rattle.cd_code.specs.Field.{AreBytes}
 use Rattle.cd_script.specs.Patch.{IsPatch}
-use Rattle.cd_patch.specs.Laws.{IsSector}
+use Rattle.cd_patch.specs.Leaves.{IsSector}
 use Rattle.cd_patch.specs.Run.{PatchRun}
 use Rattle.cd_script.specs.declared.patch.Patch.{Patch}
 use Rattle.cd_patch.specs.declared.outcome.Outcome.{Outcome}
@@ -16,16 +16,16 @@ use Rattle.cd_patch.proofs.CarryLemmas.{never-damaged}
 use Rattle.cd_patch.proofs.ExistenceLemmas.{run-exists}
 use Rattle.cd_patch.proofs.LeavesLemmas.{run-leaves_others}
 use Rattle.cd_patch.proofs.RunLemmas.{PatchRun-determined}
-use Rattle.cd_report.specs.Image.{joined, sectors, tail}
+use Rattle.cd_read.specs.Image.{bytes_of, sectors, tail}
 use Rattle.cd_image.specs.Patched.{CarriesDamage, IsPatched}
-use Rattle.cd_report.proofs.ImageLemmas.{IsCut-sectors, cut_of_joined}
+use Rattle.cd_read.proofs.ImageLemmas.{IsCut-sectors, cut_of_joined}
 
 pub IsPatched-determined : (carry : Bool) (patches : List Patch) (os os' : List Outcome) (base : ℕ) (image last last' : List ℕ) → IsPatched carry patches os base image last → IsPatched carry patches os' base image last'
     → (os ≡ os') × (last ≡ last')
 IsPatched-determined carry patches os os' base image last last' one other =
     let same = PatchRun-determined carry patches os os' base (sectors image) (sectors last) (sectors last') one.run other.run in (
       same.0,
-      sym (IsCut-sectors last).joined ∙ ap (λ ss. joined ss ++ tail last) same.1 ∙ ap (λ t. joined (sectors last') ++ t) (one.same_tail ∙ sym other.same_tail) ∙ (IsCut-sectors last').joined,
+      sym (IsCut-sectors last).joined ∙ ap (λ ss. bytes_of ss ++ tail last) same.1 ∙ ap (λ t. bytes_of (sectors last') ++ t) (one.same_tail ∙ sym other.same_tail) ∙ (IsCut-sectors last').joined,
     )
 
 -- ---- there is a run
@@ -46,7 +46,7 @@ pub IsPatched-exists : (carry : Bool) (patches : List Patch) (base : ℕ) (image
 IsPatched-exists carry patches base image each bytes =
     let run = run-exists carry patches base (sectors image) each (sectors-are image bytes) in
     let cut = cut_of_joined run.1 (tail image) (λ k d inside. (run.3 k d inside).size) (IsCut-sectors image).short in
-    (run.0, joined run.1 ++ tail image, record { run = subst (PatchRun carry patches run.0 base (sectors image)) cut.0 run.2; same_tail = sym cut.1 })
+    (run.0, bytes_of run.1 ++ tail image, record { run = subst (PatchRun carry patches run.0 base (sectors image)) cut.0 run.2; same_tail = sym cut.1 })
 
 -- ---- damage carried
 
@@ -56,7 +56,7 @@ never_refused [] [] base old last h = All-nil (λ o. (block : ℕ) → o ≢ Dam
 never_refused [] (o ∷ os) base old last h = elim h [ ]
 never_refused (p ∷ ps) [] base old last h = elim h [ ]
 never_refused (p ∷ ps) (o ∷ os) base old last h =
-    All-cons (λ o. (block : ℕ) → o ≢ Damaged block) o os (λ block e. never-damaged base block p old (sym h.0 ∙ e)) (never_refused ps os base h.1.0 last h.1.2)
+    All-cons (λ o. (block : ℕ) → o ≢ Damaged block) o os (λ block e. never-damaged base block p old (sym h.decided ∙ e)) (never_refused ps os base h.next last h.others)
 
 pub IsPatched-carries : (patches : List Patch) (os : List Outcome) (base : ℕ) (image last : List ℕ) → All IsPatch patches → AreBytes image → IsPatched true patches os base image last
     → CarriesDamage patches os base image last

@@ -1,16 +1,19 @@
 -- What `apply` and `check` have done, whatever they answer.
-use Rattle.std.specs.Prelude.{◌≡◌, ℕ, ◌+◌, ◌≤◌, Bool, true, false, List, [], ◌++◌, length, Option, None, Some, Result, Ok, Err}
+use Rattle.std.specs.Prelude.{◌≡◌, ℕ, ◌+◌, ◌*◌, ◌≤◌, Bool, true, false, List, [], ◌++◌, length, Option}
+use Rattle.std.specs.Prelude.{None, Some, Result, Ok, Err}
 use Rattle.std.specs.Io.KnownBytes.{Appends, Consumes, IsAtEnd}
 use Rattle.cd_code.specs.Field.{AreBytes}
 use Rattle.cd_script.specs.declared.patch.Patch.{Patch}
+use Rattle.cd_sector.specs.declared.sector.TheConstants.{SECTOR_SIZE}
+use Rattle.cd_patch.specs.Blocks.{block_limit}
 use Rattle.cd_patch.specs.declared.outcome.Outcome.{Outcome}
-use Rattle.cd_report.specs.Image.{image_limit}
+use Rattle.cd_read.specs.Image.{image_limit}
 use Rattle.cd_image.specs.PatchLog.{log_beside, log_text, patch_tally, sent_beside}
 use Rattle.cd_image.specs.Patched.{CarriesDamage, EachRun, IsPatched}
 use Rattle.cd_stream.specs.Stream.{Incoming, IsBeginning, Outgoing}
-use Rattle.cd_report.specs.Report.{Fits, FitsLeft}
-use Rattle.cd_report.specs.declared.fault.Fault.{Fault}
-use Rattle.cd_report.specs.declared.fault.Fault.TheVariants.{Log, Read, TooLong, Write}
+use Rattle.cd_read.specs.Ends.{Fits, FitsLeft}
+use Rattle.cd_read.specs.declared.fault.Fault.{Fault}
+use Rattle.cd_read.specs.declared.fault.Fault.TheVariants.{Log, Read, TooLong, Write}
 use Rattle.cd_image.specs.declared.patch_log.Tally.{Tally}
 
 -- what a contract sees of an image, an output and a log
@@ -29,7 +32,8 @@ pub record Failed (old new : Streams) (of_image of_out of_log : ℕ) : Type 0 wh
   pub logs : new.log.failures ≡ old.log.failures + of_log
 
 -- the whole image was read; its patched image went out, and the log of the patches
-pub record CompletesPatching (carry : Bool) (patches : List Patch) (base : ℕ) (read sent told : List ℕ) (old new : Streams) (tally : Tally) : Type 0 where
+pub record CompletesPatching (carry : Bool) (patches : List Patch) (base : ℕ)
+    (read sent told : List ℕ) (old new : Streams) (tally : Tally) : Type 0 where
   pub failed : Failed old new 0 0 0
   pub out_finished : new.out.finished ≡ true
   pub log_finished : new.log.finished ≡ true
@@ -39,87 +43,117 @@ pub record CompletesPatching (carry : Bool) (patches : List Patch) (base : ℕ) 
   pub outcomes : List Outcome
   pub patched : IsPatched carry patches outcomes base read sent
   pub log_told : told ≡ log_text patches outcomes
-  pub tally_told : tally ≡ patch_tally read outcomes
+  pub tally_right : tally ≡ patch_tally read outcomes
 
 -- what went out begins the patched image, and what was told its log
 abbrev pub Begins : List Patch → List ℕ → List ℕ → List Outcome → List ℕ → Type 0
-Begins patches sent told outcomes last = IsBeginning sent last × IsBeginning told (log_text patches outcomes)
+Begins patches sent told outcomes last =
+    IsBeginning sent last × IsBeginning told (log_text patches outcomes)
 
 -- a read failed
-pub record StopsAtRead (carry : Bool) (patches : List Patch) (base : ℕ) (read sent told : List ℕ) (old new : Streams) : Type 0 where
+pub record StopsAtRead (carry : Bool) (patches : List Patch) (base : ℕ) (read sent told : List ℕ)
+    (old new : Streams) : Type 0 where
   pub failed : Failed old new 1 0 0
   pub within : length read ≤ image_limit
-  pub begins : (whole : List ℕ) → Fits read whole → EachRun carry patches base whole (Begins patches sent told)
+  pub begins : (whole : List ℕ) → Fits read whole
+      → EachRun carry patches base whole (Begins patches sent told)
 
--- a write to the output failed, or its flush: the log has got just the lines that belong before what went out
-pub record StopsAtWrite (carry : Bool) (patches : List Patch) (base : ℕ) (read sent told : List ℕ) (old new : Streams) : Type 0 where
+-- a write to the output failed, or its flush: the log has got just the lines that belong before
+-- what went out
+pub record StopsAtWrite (carry : Bool) (patches : List Patch) (base : ℕ) (read sent told : List ℕ)
+    (old new : Streams) : Type 0 where
   pub failed : Failed old new 0 1 0
   pub within : length read ≤ image_limit
-  pub begins : (whole : List ℕ) → FitsLeft new.image.rest read whole → EachRun carry patches base whole (Begins patches sent told)
+  pub begins : (whole : List ℕ) → FitsLeft new.image.rest read whole
+      → EachRun carry patches base whole (Begins patches sent told)
   pub beside : (whole : List ℕ) → FitsLeft new.image.rest read whole
-      → EachRun carry patches base whole (λ outcomes last. told ≡ log_beside patches outcomes base (length read) (length sent))
+      → EachRun carry patches base whole
+      (λ outcomes last. told ≡ log_beside patches outcomes base (length read) (length sent))
 
--- a write to the log failed, or its flush: just the bytes that belong before the line it failed in went out, and where the
--- whole log was told, the output is finished
-pub record StopsAtLog (carry : Bool) (patches : List Patch) (base : ℕ) (read sent told : List ℕ) (old new : Streams) : Type 0 where
+-- a write to the log failed, or its flush: just the bytes that belong before the line it failed in
+-- went out, and where the whole log was told, the output is finished
+pub record StopsAtLog (carry : Bool) (patches : List Patch) (base : ℕ) (read sent told : List ℕ)
+    (old new : Streams) : Type 0 where
   pub failed : Failed old new 0 0 1
   pub within : length read ≤ image_limit
-  pub begins : (whole : List ℕ) → FitsLeft new.image.rest read whole → EachRun carry patches base whole (Begins patches sent told)
+  pub begins : (whole : List ℕ) → FitsLeft new.image.rest read whole
+      → EachRun carry patches base whole (Begins patches sent told)
   pub beside : (whole : List ℕ) → FitsLeft new.image.rest read whole
-      → EachRun carry patches base whole (λ outcomes last. length sent ≡ sent_beside patches outcomes base whole (length told))
+      → EachRun carry patches base whole
+      (λ outcomes last. length sent ≡ sent_beside patches outcomes base whole (length told))
   pub flushed : (whole : List ℕ) → FitsLeft new.image.rest read whole
-      → EachRun carry patches base whole (λ outcomes last. told ≡ log_text patches outcomes → new.out.finished ≡ true)
+      → EachRun carry patches base whole
+      (λ outcomes last. told ≡ log_text patches outcomes → new.out.finished ≡ true)
 
 -- just one byte was read behind the millionth sector
-pub record StopsBeyond (carry : Bool) (patches : List Patch) (base : ℕ) (read sent told : List ℕ) (old new : Streams) : Type 0 where
+pub record StopsBeyond (carry : Bool) (patches : List Patch) (base : ℕ) (read sent told : List ℕ)
+    (old new : Streams) : Type 0 where
   pub failed : Failed old new 0 0 0
   pub beyond : length read ≡ image_limit + 1
   pub unended : new.image.ended ≡ false
-  pub begins : (whole : List ℕ) → Fits read whole → EachRun carry patches base whole (Begins patches sent told)
+  pub begins : (whole : List ℕ) → Fits read whole
+      → EachRun carry patches base whole (Begins patches sent told)
 
-abbrev pub AppliesBy : Bool → List Patch → ℕ → List ℕ → List ℕ → List ℕ → Streams → Streams → Result Tally Fault → Type 0
-AppliesBy carry patches base read sent told old new (Ok tally) = CompletesPatching carry patches base read sent told old new tally
-AppliesBy carry patches base read sent told old new (Err Read) = StopsAtRead carry patches base read sent told old new
-AppliesBy carry patches base read sent told old new (Err Write) = StopsAtWrite carry patches base read sent told old new
-AppliesBy carry patches base read sent told old new (Err Log) = StopsAtLog carry patches base read sent told old new
-AppliesBy carry patches base read sent told old new (Err TooLong) = StopsBeyond carry patches base read sent told old new
+abbrev pub AppliesBy : Bool → List Patch → ℕ → List ℕ → List ℕ → List ℕ → Streams → Streams
+    → Result Tally Fault → Type 0
+AppliesBy carry patches base read sent told old new (Ok tally) =
+    CompletesPatching carry patches base read sent told old new tally
+AppliesBy carry patches base read sent told old new (Err Read) =
+    StopsAtRead carry patches base read sent told old new
+AppliesBy carry patches base read sent told old new (Err Write) =
+    StopsAtWrite carry patches base read sent told old new
+AppliesBy carry patches base read sent told old new (Err Log) =
+    StopsAtLog carry patches base read sent told old new
+AppliesBy carry patches base read sent told old new (Err TooLong) =
+    StopsBeyond carry patches base read sent told old new
 
--- the call read some bytes, sent some and told some, and answered by these; at most three sectors were read and not sent
-pub record Applies (carry : Bool) (patches : List Patch) (base : ℕ) (old new : Streams) (result : Result Tally Fault) : Type 0 where
+-- how many bytes may be read and not sent: those of as many sectors as a patch may meet
+abbrev pub bytes_in_hand : ℕ
+bytes_in_hand = SECTOR_SIZE * block_limit
+
+-- the call read some bytes, sent some and told some, and answered by these; no more were read and
+-- not sent than may be
+pub record Applies (carry : Bool) (patches : List Patch) (base : ℕ) (old new : Streams)
+    (result : Result Tally Fault) : Type 0 where
   pub read : List ℕ
   pub sent : List ℕ
   pub told : List ℕ
   pub consumes : Consumes old.image.rest new.image.rest read
   pub appends : Appends old.out.written new.out.written sent
   pub logs : Appends old.log.written new.log.written told
-  pub in_hand : length read ≤ length sent + 7056
+  pub in_hand : length read ≤ length sent + bytes_in_hand
   pub answers : AppliesBy carry patches base read sent told old new result
 
 -- what a contract sees of an output that keeps nothing and never fails
-abbrev pub unkept : Bool → Outgoing
-unkept finished = record { written = None; failures = 0; finished = finished }
+abbrev pub null_outgoing : Bool → Outgoing
+null_outgoing finished = record { written = None; failures = 0; finished = finished }
 
 -- the same where no output is kept
-abbrev pub Checks : Bool → List Patch → ℕ → Incoming → Incoming → Outgoing → Outgoing → Result Tally Fault → Type 0
+abbrev pub Checks : Bool → List Patch → ℕ → Incoming → Incoming → Outgoing → Outgoing
+    → Result Tally Fault → Type 0
 Checks carry patches base image image' log log' result =
-    (finished : Bool) × Applies carry patches base (streams image (unkept false) log) (streams image' (unkept finished) log') result
+    (finished : Bool) × Applies carry patches base
+    (streams image (null_outgoing false) log) (streams image' (null_outgoing finished) log') result
 
 -- ---- the same in plain words
 
--- where the image and the output tell their bytes: all of the image was read, and the output has got the patched image
--- behind what it had
-abbrev pub WritesPatched : Bool → List Patch → ℕ → Incoming → Incoming → Outgoing → Outgoing → Type 0
+-- where the image and the output tell their bytes: all of the image was read, and the output has
+-- got the patched image behind what it had
+abbrev pub WritesPatched : Bool → List Patch → ℕ → Incoming → Incoming → Outgoing → Outgoing
+    → Type 0
 WritesPatched carry patches base image image' out out' =
     (bytes earlier : List ℕ) → image.rest ≡ Some bytes → out.written ≡ Some earlier
-    → (image'.rest ≡ Some []) × EachRun carry patches base bytes (λ outcomes last. out'.written ≡ Some (earlier ++ last))
+    → (image'.rest ≡ Some [])
+    × EachRun carry patches base bytes (λ outcomes last. out'.written ≡ Some (earlier ++ last))
 
--- where the image and the log tell their bytes: the log has got the log of the patches behind what it had, and the tally
--- has its counts
+-- where the image and the log tell their bytes: the log has got the log of the patches behind what
+-- it had, and the tally has its counts
 abbrev pub WritesLog : Bool → List Patch → ℕ → Incoming → Outgoing → Outgoing → Tally → Type 0
 WritesLog carry patches base image log log' tally =
     (bytes earlier : List ℕ) → image.rest ≡ Some bytes → log.written ≡ Some earlier
     → EachRun carry patches base bytes (λ outcomes last.
-    (log'.written ≡ Some (earlier ++ log_text patches outcomes)) × (tally ≡ patch_tally bytes outcomes))
+    (log'.written ≡ Some (earlier ++ log_text patches outcomes))
+    × (tally ≡ patch_tally bytes outcomes))
 
 -- an image may be the one that was being read when this fault came
 abbrev pub FitsAt : Fault → Option (List ℕ) → List ℕ → List ℕ → Type 0
@@ -128,23 +162,30 @@ FitsAt Write left read whole = FitsLeft left read whole
 FitsAt Log left read whole = FitsLeft left read whole
 FitsAt TooLong left read whole = Fits read whole
 
--- after a fault: what the log has got begins the log of each run on each image that may be the one that was being read
-pub record BeginsLog (carry : Bool) (patches : List Patch) (base : ℕ) (image image' : Incoming) (log log' : Outgoing) (fault : Fault) : Type 0 where
+-- after a fault: what the log has got begins the log of each run on each image that may be the one
+-- that was being read
+pub record BeginsLog (carry : Bool) (patches : List Patch) (base : ℕ) (image image' : Incoming)
+    (log log' : Outgoing) (fault : Fault) : Type 0 where
   pub read : List ℕ
   pub told : List ℕ
   pub consumes : Consumes image.rest image'.rest read
   pub logs : Appends log.written log'.written told
-  pub begins : (whole : List ℕ) → FitsAt fault image'.rest read whole → EachRun carry patches base whole (λ outcomes last. IsBeginning told (log_text patches outcomes))
+  pub begins : (whole : List ℕ) → FitsAt fault image'.rest read whole
+      → EachRun carry patches base whole
+      (λ outcomes last. IsBeginning told (log_text patches outcomes))
 
--- where the image and the output tell their bytes: at most three sectors were read and have not gone out
+-- where the image and the output tell their bytes: no more were read and have not gone out than may
+-- be in hand
 abbrev pub HoldsFew : Streams → Streams → Type 0
 HoldsFew old new =
-    (given left earlier now : List ℕ) → old.image.rest ≡ Some given → new.image.rest ≡ Some left → old.out.written ≡ Some earlier → new.out.written ≡ Some now
-    → length given + length earlier ≤ length left + length now + 7056
+    (given left earlier now : List ℕ) → old.image.rest ≡ Some given → new.image.rest ≡ Some left
+    → old.out.written ≡ Some earlier → new.out.written ≡ Some now
+    → length given + length earlier ≤ length left + length now + bytes_in_hand
 
--- where damage is carried, and the image and the output tell their bytes: the output has got, behind what it had, the image
--- in which the patches have kept the damage
+-- where damage is carried, and the image and the output tell their bytes: the output has got,
+-- behind what it had, the image in which the patches have kept the damage
 abbrev pub WritesCarried : List Patch → ℕ → Incoming → Outgoing → Outgoing → Type 0
 WritesCarried patches base image out out' =
     (bytes earlier : List ℕ) → AreBytes bytes → image.rest ≡ Some bytes → out.written ≡ Some earlier
-    → (outcomes : List Outcome) × (last : List ℕ) × (out'.written ≡ Some (earlier ++ last)) × CarriesDamage patches outcomes base bytes last
+    → (outcomes : List Outcome) × (last : List ℕ) × (out'.written ≡ Some (earlier ++ last))
+    × CarriesDamage patches outcomes base bytes last

@@ -1,7 +1,8 @@
 -- What a pass has in hand of an image: inner words of `apply` and `check`.
-use Rattle.std.specs.Prelude.{◌≡◌, ℕ, Bool, true, false, List, [], ◌∷◌, ◌++◌, take, Option, None, Some, Result, Ok, Err}
-use Rattle.cd_report.specs.Reading.{EndComes, ReadsSector, SectorComes}
-use Rattle.cd_report.specs.declared.fault.Fault.{Fault}
+use Rattle.std.specs.Prelude.{◌≡◌, ℕ, Bool, true, false, List, [], ◌∷◌, ◌++◌, take, Option, None}
+use Rattle.std.specs.Prelude.{Some, Result, Ok, Err}
+use Rattle.cd_read.specs.Reading.{EndComes, ReadsSector, SectorComes}
+use Rattle.cd_read.specs.declared.fault.Fault.{Fault}
 use Rattle.cd_stream.specs.Stream.{Incoming}
 
 -- the sectors that were read and have not gone out, and the tail, once it was read
@@ -37,4 +38,5 @@ pub record GainsTail (count : ℕ) (old new : InHand) (image image' : Incoming) 
 abbrev pub ReadsNext : ℕ → InHand → InHand → Incoming → Incoming → Result Bool Fault → Type 0
 ReadsNext count old new image image' (Ok true) = GainsSector count old new image image'
 ReadsNext count old new image image' (Ok false) = GainsTail count old new image image'
-ReadsNext count old new image image' (Err fault) = (bytes : List ℕ) × ReadsSector count bytes image image' (Err fault)
+ReadsNext count old new image image' (Err fault) =
+    (bytes : List ℕ) × ReadsSector count bytes image image' (Err fault)

@@ -1,30 +1,34 @@
--- How far a pass over an image has come that takes patches on its way: inner words of `apply` and `check`.
-use Rattle.std.specs.Prelude.{◌≡◌, ℕ, ◌+◌, ◌-◌, ◌*◌, ◌<◌, ◌≤◌, Bool, true, List, [], ◌++◌, All, length, take, drop, map, Option, None, Some, IsSome, Result, Ok, Err}
+-- How far a pass over an image has come that takes patches on its way: inner words of `apply` and
+-- `check`.
+use Rattle.std.specs.Prelude.{◌≡◌, ℕ, ◌+◌, ◌-◌, ◌*◌, ◌<◌, ◌≤◌, Bool, true, List, [], ◌++◌, All}
+use Rattle.std.specs.Prelude.{length, take, drop, map, Option, None, Some, IsSome, Result, Ok, Err}
 use Rattle.std.specs.Io.KnownBytes.{Appends, Consumes, IsAtEnd}
 use Rattle.cd_script.specs.declared.patch.Patch.{Patch}
 use Rattle.cd_sector.specs.declared.sector.TheConstants.{SECTOR_SIZE}
 use Rattle.cd_patch.specs.Run.{PatchRun}
 use Rattle.cd_patch.specs.declared.outcome.Outcome.{Outcome}
 use Rattle.cd_patch.specs.declared.outcome.Outcome.TheVariants.{NoBlock}
-use Rattle.cd_image.specs.Applying.{Applies, Failed, Streams}
+use Rattle.cd_image.specs.Applying.{Applies, Failed, Streams, bytes_in_hand}
 use Rattle.cd_image.specs.InHand.{tail_bytes}
-use Rattle.cd_report.specs.Image.{image_limit, joined}
+use Rattle.cd_read.specs.Image.{image_limit, bytes_of, sector_limit}
 use Rattle.cd_image.specs.PatchLog.{applied_count, log_lines}
-use Rattle.cd_report.specs.declared.fault.Fault.{Fault}
+use Rattle.cd_read.specs.declared.fault.Fault.{Fault}
 use Rattle.cd_image.specs.declared.pass.Pass.{Pass}
 
 -- the outcomes of patches whose first block the image does not have
-abbrev pub missing : List Patch → List Outcome
-missing ps = map (λ p. NoBlock p.block) ps
+abbrev pub missing_outcomes : List Patch → List Outcome
+missing_outcomes ps = map (λ p. NoBlock p.block) ps
 
--- since `start` the sectors `seen` were read, `done` have gone out and `window` waits; the patches `taken` were decided and
--- told; whatever may still come, they lead from what was read to what went out, the window, and that
-pub record Going (carry : Bool) (taken left : List Patch) (base : ℕ) (start now : Streams) (window : List (List ℕ)) (block sectors applied : ℕ) (tail : Option (List ℕ)) : Type 0 where
+-- since `start` the sectors `seen` were read, `done` have gone out and `window` waits; the patches
+-- `taken` were decided and told; whatever may still come, they lead from what was read to what went
+-- out, the window, and that
+pub record Going (carry : Bool) (taken left : List Patch) (base : ℕ) (start now : Streams)
+    (window : List (List ℕ)) (block sectors applied : ℕ) (tail : Option (List ℕ)) : Type 0 where
   pub seen : List (List ℕ)
   pub done : List (List ℕ)
   pub outcomes : List Outcome
-  pub consumes : Consumes start.image.rest now.image.rest (joined seen ++ tail_bytes tail)
-  pub appends : Appends start.out.written now.out.written (joined done)
+  pub consumes : Consumes start.image.rest now.image.rest (bytes_of seen ++ tail_bytes tail)
+  pub appends : Appends start.out.written now.out.written (bytes_of done)
   pub logs : Appends start.log.written now.log.written (log_lines taken outcomes)
   pub unfailed : Failed start now 0 0 0
   pub seen_sizes : All (λ sector. length sector ≡ SECTOR_SIZE) seen
@@ -32,8 +36,9 @@ pub record Going (carry : Bool) (taken left : List Patch) (base : ℕ) (start no
   pub short : length (tail_bytes tail) < SECTOR_SIZE
   pub within : SECTOR_SIZE * sectors + length (tail_bytes tail) ≤ image_limit
   pub ended : IsSome tail → IsAtEnd now.image.rest × (now.image.ended ≡ true)
-  pub in_hand : SECTOR_SIZE * length window + length (tail_bytes tail) ≤ 7056
-  pub run : (more : List (List ℕ)) → (IsSome tail → more ≡ []) → PatchRun carry taken outcomes base (seen ++ more) (done ++ (window ++ more))
+  pub in_hand : SECTOR_SIZE * length window + length (tail_bytes tail) ≤ bytes_in_hand
+  pub run : (more : List (List ℕ)) → (IsSome tail → more ≡ [])
+      → PatchRun carry taken outcomes base (seen ++ more) (done ++ (window ++ more))
   pub front : block ≡ base + length done
   pub count : sectors ≡ length seen
   pub held : length done + length window ≡ length seen
@@ -44,28 +49,37 @@ pub record Going (carry : Bool) (taken left : List Patch) (base : ℕ) (start no
 -- the same of a pass
 abbrev pub GoesOn : Bool → List Patch → List Patch → ℕ → Streams → Streams → Pass → Type 0
 GoesOn carry taken left base start now pass =
-    Going carry taken left base start now pass.window.sectors pass.block pass.sectors pass.applied pass.window.tail
+    Going carry taken left base start now pass.window.sectors pass.block pass.sectors pass.applied
+    pass.window.tail
 
 -- a step has gone well, or the call ends by its fault
-abbrev pub Steps : {X : Type 0} → Bool → List Patch → List Patch → List Patch → List Patch → ℕ → Streams → Streams → Pass → Result X Fault → Type 0
-Steps carry taken left taken' left' base start now pass (Ok x) = GoesOn carry taken' left' base start now pass
-Steps carry taken left taken' left' base start now pass (Err fault) = Applies carry (taken ++ left) base start now (Err fault)
+abbrev pub Steps : {X : Type 0} → Bool → List Patch → List Patch → List Patch → List Patch → ℕ
+    → Streams → Streams → Pass → Result X Fault → Type 0
+Steps carry taken left taken' left' base start now pass (Ok x) =
+    GoesOn carry taken' left' base start now pass
+Steps carry taken left taken' left' base start now pass (Err fault) =
+    Applies carry (taken ++ left) base start now (Err fault)
 
--- ---- how much is left to do, of so many patches: each turn leaves less
+-- ---- how much is left to do, of so many patches: each step leaves less
 
 abbrev pub end_to_come : Option (List ℕ) → ℕ
 end_to_come None = 1
 end_to_come (Some left) = 0
 
 abbrev pub left_to_do : ℕ → Pass → ℕ
-left_to_do count pass = 2 * (1000000 - pass.sectors) + length pass.window.sectors + (count - pass.decided) + end_to_come pass.window.tail
+left_to_do count pass =
+    2 * (sector_limit - pass.sectors) + length pass.window.sectors + (count - pass.decided)
+    + end_to_come pass.window.tail
 
 -- nothing waits, and the end has come
 pub record IsEnded (pass : Pass) : Type 0 where
   pub empty : pass.window.sectors ≡ []
   pub ended : IsSome pass.window.tail
 
--- a turn has gone well, or the call ends by its fault
-abbrev pub Turns : {X : Type 0} → Bool → List Patch → ℕ → Streams → Streams → Pass → Result X Fault → Type 0
-Turns carry patches base start now pass (Ok x) = GoesOn carry (take pass.decided patches) (drop pass.decided patches) base start now pass
-Turns carry patches base start now pass (Err fault) = Applies carry patches base start now (Err fault)
+-- all that one step did has gone well, or the call ends by its fault
+abbrev pub Advances : {X : Type 0} → Bool → List Patch → ℕ → Streams → Streams → Pass
+    → Result X Fault → Type 0
+Advances carry patches base start now pass (Ok x) =
+    GoesOn carry (take pass.decided patches) (drop pass.decided patches) base start now pass
+Advances carry patches base start now pass (Err fault) =
+    Applies carry patches base start now (Err fault)

@@ -1,11 +1,13 @@
 -- The log of patches: a line for each, then their counts.
-use Rattle.std.specs.Prelude.{ℕ, ◌+◌, ◌-◌, ◌*◌, ◌/◌, nat_lt, not, if◌then◌else◌, List, [], ◌∷◌, ◌++◌, length, count_by, codes, decimal}
+use Rattle.std.specs.Prelude.{ℕ, ◌+◌, ◌-◌, ◌*◌, ◌/◌, nat_lt, not, if◌then◌else◌, List, [], ◌∷◌}
+use Rattle.std.specs.Prelude.{◌++◌, length, count_by, codes, decimal}
 use Rattle.cd_script.specs.declared.patch.Patch.{Patch}
 use Rattle.cd_sector.specs.declared.sector.TheConstants.{SECTOR_SIZE}
-use Rattle.cd_patch.specs.Laws.{is_applied}
+use Rattle.cd_patch.specs.Outcome.{is_applied}
 use Rattle.cd_patch.specs.declared.outcome.Outcome.{Outcome}
-use Rattle.cd_patch.specs.declared.outcome.Outcome.TheVariants.{Applied, Damaged, Differs, NoBlock, NotMode1}
-use Rattle.cd_report.specs.Image.{sectors, tail}
+use Rattle.cd_patch.specs.declared.outcome.Outcome.TheVariants.{Applied, Damaged, Differs, NoBlock}
+use Rattle.cd_patch.specs.declared.outcome.Outcome.TheVariants.{NotMode1}
+use Rattle.cd_read.specs.Image.{sectors, tail}
 use Rattle.cd_image.specs.declared.patch_log.Tally.{Tally}
 
 unfoldable pub outcome_text : Outcome → List ℕ
@@ -13,11 +15,14 @@ outcome_text Applied = codes "applied"
 outcome_text (NoBlock block) = codes "refused: no block " ++ decimal block
 outcome_text (NotMode1 block) = codes "refused: block " ++ decimal block ++ codes " is not mode 1"
 outcome_text (Damaged block) = codes "refused: block " ++ decimal block ++ codes " is damaged"
-outcome_text (Differs block offset) = codes "refused: old bytes differ at block " ++ decimal block ++ codes " offset " ++ decimal offset
+outcome_text (Differs block offset) =
+    codes "refused: old bytes differ at block " ++ decimal block ++ codes " offset "
+    ++ decimal offset
 
 -- the line of a patch, which tells the line of the script that it stands in
 unfoldable pub log_line : Patch → Outcome → List ℕ
-log_line p outcome = codes "line " ++ decimal p.line ++ codes ": " ++ outcome_text outcome ++ codes "\n"
+log_line p outcome =
+    codes "line " ++ decimal p.line ++ codes ": " ++ outcome_text outcome ++ codes "\n"
 
 -- a line for each patch
 abbrev pub log_lines : List Patch → List Outcome → List ℕ
@@ -27,7 +32,8 @@ log_lines (p ∷ ps) (o ∷ os) = log_line p o ++ log_lines ps os
 
 -- the last line: how many were accepted, and how many refused
 unfoldable pub log_end : ℕ → ℕ → List ℕ
-log_end applied refused = codes "applied " ++ decimal applied ++ codes " refused " ++ decimal refused ++ codes "\n"
+log_end applied refused =
+    codes "applied " ++ decimal applied ++ codes " refused " ++ decimal refused ++ codes "\n"
 
 abbrev pub applied_count : List Outcome → ℕ
 applied_count os = count_by is_applied os
@@ -41,8 +47,12 @@ log_text ps os = log_lines ps os ++ log_end (applied_count os) (refused_count os
 
 -- the counts of the outcomes, of the image's sectors, and of the bytes of its tail
 abbrev pub patch_tally : List ℕ → List Outcome → Tally
-patch_tally image os =
-    record { applied = applied_count os; refused = refused_count os; sectors = length (sectors image); tail = length (tail image) }
+patch_tally image os = record {
+  applied = applied_count os;
+  refused = refused_count os;
+  sectors = length (sectors image);
+  tail = length (tail image);
+}
 
 -- ---- where one sink stands when the other fails
 
@@ -50,25 +60,29 @@ patch_tally image os =
 abbrev pub lines_below : ℕ → List Patch → List Outcome → List ℕ
 lines_below block [] os = []
 lines_below block (p ∷ ps) [] = []
-lines_below block (p ∷ ps) (o ∷ os) = (if nat_lt p.block block then log_line p o else []) ++ lines_below block ps os
+lines_below block (p ∷ ps) (o ∷ os) =
+    (if nat_lt p.block block then log_line p o else []) ++ lines_below block ps os
 
--- what the log has, when `sent` bytes have gone to the output and `count` bytes of the image were read: within a whole
--- sector the lines of the patches up to its block; within the tail those of the patches in front of the tail; else all
+-- what the log has, when `sent` bytes have gone to the output and `count` bytes of the image were
+-- read: within a whole sector the lines of the patches up to its block; within the tail those of
+-- the patches in front of the tail; else all
 unfoldable pub log_beside : List Patch → List Outcome → ℕ → ℕ → ℕ → List ℕ
 log_beside ps os base count sent =
-    if nat_lt sent (SECTOR_SIZE * (count / SECTOR_SIZE)) then lines_below (base + sent / SECTOR_SIZE + 1) ps os
+    if nat_lt sent (SECTOR_SIZE * (count / SECTOR_SIZE))
+    then lines_below (base + sent / SECTOR_SIZE + 1) ps os
     else if nat_lt sent count then lines_below (base + count / SECTOR_SIZE) ps os
     else log_text ps os
 
--- the number of the image's bytes in front of a block: none where it is below the first, all where it is behind the last
+-- the number of the image's bytes in front of a block: none where it is below the first, all where
+-- it is behind the last
 unfoldable pub bytes_before : List ℕ → ℕ → ℕ → ℕ
 bytes_before image base block =
     if nat_lt block base then 0
     else if nat_lt (block - base) (length (sectors image)) then SECTOR_SIZE * (block - base)
     else length image
 
--- how many bytes have gone to the output, when the log has got `logged` bytes and fails: those in front of the block of
--- the patch whose line it was, or all
+-- how many bytes have gone to the output, when the log has got `logged` bytes and fails: those in
+-- front of the block of the patch whose line it was, or all
 abbrev pub sent_beside : List Patch → List Outcome → ℕ → List ℕ → ℕ → ℕ
 sent_beside [] os base image logged = length image
 sent_beside (p ∷ ps) [] base image logged = length image

@@ -4,21 +4,22 @@ use cd_stream::{Sink, SinkFailed};
 
 /// Takes all bytes and keeps none, and never fails.
 #[derive(Debug, Drop)]
-pub(crate) struct Discard {
+pub(crate) struct NullSink {
     finished: bool,
 }
 
-impl Discard {
+impl NullSink {
     ghost use Rattle.std.specs.Prelude.{◌≡◌, None, false};
 
     pub(crate) fn new() -> Self
-        ensures seen { ⟦<Discard as Sink>⟧.seen result ≡ record { written = None; failures = 0; finished = false } }
+        ensures seen { ⟦<NullSink as Sink>⟧.seen result
+            ≡ record { written = None; failures = 0; finished = false } }
     {
-        Discard { finished: false }
+        NullSink { finished: false }
     }
 }
 
-impl Sink for Discard {
+impl Sink for NullSink {
     ghost use Rattle.std.specs.Prelude.{None};
 
     ghost seen = { λ s. record { written = None; failures = 0; finished = s.finished } };

@@ -12,7 +12,8 @@ pub fn patched_exists()
     ensures { PatchedExists }
 {}
 
-/// With damage carried no patch is refused for damage, and each sector that no patch has rebuilt keeps its own.
+/// With damage carried no patch is refused for damage, and each sector that no patch has rebuilt
+/// keeps its own.
 pub fn patched_carries()
     ensures { PatchedCarries }
 {}

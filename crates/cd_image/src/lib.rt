@@ -1,4 +1,7 @@
-//! Patching an image of raw CD sectors on its way from a source to a sink; what cd_report tells of one is passed on.
+//! Patching an image of raw CD sectors on its way from a source to a sink; what cd_report tells of
+//! one is passed on.
+//!
+//! Its tests are in crates/cd_image_tests.
 #![tactic(auto)]
 
 mod applying;
@@ -10,9 +13,9 @@ mod window;
 
 pub use applying::{apply, check};
 pub use cd_patch::Outcome;
+pub use cd_read::{Fault, MAX_SECTORS, images_are_cut};
 pub use cd_report::{
-    AuditTally, Fault, ListTally, MAX_BASE, MAX_SECTORS, audit, audit_counts_lines, images_are_cut,
-    list, runs_spell_kinds,
+    AuditTally, ListTally, MAX_BASE, audit, audit_counts_lines, list, runs_spell_kinds,
 };
 pub use cd_stream::{
     Buffered, FailAfter, FromRead, LINE_SIZE, Line, Short, Sink, SinkFailed, SliceSink,

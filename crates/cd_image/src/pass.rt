@@ -1,27 +1,30 @@
-//! One pass over an image that takes patches on its way: at most three sectors are in hand.
+//! One pass over an image that takes patches on its way: no more sectors are in hand than a patch may meet.
 
-ghost use Rattle.std.specs.Prelude.{◌≡◌, ◌≢◌, ℕ, ◌+◌, ◌<◌, ◌≤◌, ◌⊎◌, ◌++◌, [], ◌∷◌, false, All, Bool, List, cond, None, OnOk, IfOk, IfSome, IfNone, IsSome, length, take, drop, slice_get};
-ghost use Rattle.std.specs.List.Sorted.{IsNonDecreasingBy};
-ghost use Rattle.cd_script.specs.Patch.{IsPatch};
+ghost use Rattle.std.specs.Prelude.{◌≡◌, ◌≢◌, ℕ, ◌+◌, ◌<◌, ◌≤◌, ◌⊎◌, ◌++◌, [], ◌∷◌, false};
+ghost use Rattle.std.specs.Prelude.{All, Bool, List, None, OnOk, IfOk, IfSome, IfNone, IsSome};
+ghost use Rattle.std.specs.Prelude.{drop, if◌then◌else◌, length, slice_get, take};
+ghost use Rattle.cd_script.specs.Limits.{patch_limit};
+ghost use Rattle.cd_script.specs.Patch.{IsPatch, IsPatchList};
 ghost use Rattle.cd_script.specs.declared.patch.Patch.{Patch};
-ghost use Rattle.cd_patch.specs.Blocks.{blocks_met};
-ghost use Rattle.cd_patch.specs.Laws.{is_applied};
-ghost use Rattle.cd_stream.specs.Stream.{Incoming, Outgoing};
+ghost use Rattle.cd_patch.specs.Blocks.{block_limit, blocks_met};
+ghost use Rattle.cd_stream.specs.Stream.{Incoming, MayCount, Outgoing};
 ghost use Rattle.cd_stream.specs.Transfer.{Flushes};
 ghost use Rattle.cd_image.specs.Applying.{Applies, Streams, streams};
-ghost use Rattle.cd_image.specs.Passing.{GoesOn, IsEnded, Steps, Turns, left_to_do};
+ghost use Rattle.cd_image.specs.Passing.{GoesOn, IsEnded, Steps, Advances, left_to_do};
+ghost use Rattle.cd_read.specs.Image.{sector_limit};
 
 use crate::patch_log::{Tally, finish_log, send_counts, send_missing, send_outcome};
 use crate::window::Window;
-use cd_patch::{Outcome, blocks_met};
-use cd_report::Fault;
+use cd_patch::blocks_met;
+use cd_read::Fault;
 use cd_script::Patch;
 use cd_stream::{Sink, SinkFailed, Source, write_all};
 
 /// How far a pass has come.
 #[derive(Drop)]
 pub(crate) struct Pass {
-    /// Sectors that were read and have not gone out, the first of which is that of `block`, and the tail.
+    /// Sectors that were read and have not gone out, the first of which is that of `block`, and the
+    /// tail.
     window: Window,
     /// The first block that has not gone out.
     block: u32,
@@ -34,7 +37,8 @@ pub(crate) struct Pass {
 }
 
 impl Pass {
-    /// Before the first sector, which is that of block `base`, behind so many patches that were decided.
+    /// Before the first sector, which is that of block `base`, behind so many patches that were
+    /// decided.
     pub(crate) fn new(base: u32, decided: usize) -> Self
         ensures empty { result.window.sectors ≡ [] }
         ensures unended { result.window.tail ≡ None }
@@ -54,15 +58,18 @@ impl Pass {
 
     /// Reads one more sector into the window, or the tail.
     fn read_next<I: Source>(&mut self, image: &mut I) -> Result<(), Fault>
-        requires countable { (I.seen image.old).failures < 4294967295 }
-        requires few { self.old.sectors ≤ 1000000 }
-        requires room { length self.old.window.sectors < 3 }
+        requires countable { MayCount (I.seen image.old).failures }
+        requires few { self.old.sectors ≤ sector_limit }
+        requires room { length self.old.window.sectors < block_limit }
         requires unended { self.old.window.tail ≡ None }
-        ensures goes { (carry : Bool) (taken left : List Patch) (base : ℕ) (start : Streams) (out log : Outgoing)
+        ensures goes { (carry : Bool) (taken left : List Patch) (base : ℕ) (start : Streams)
+            (out log : Outgoing)
             → GoesOn carry taken left base start (streams (I.seen image.old) out log) self.old
-            → Steps carry taken left taken left base start (streams (I.seen image.new) out log) self.new result }
+            → Steps carry taken left taken left base start
+            (streams (I.seen image.new) out log) self.new result }
         ensures decided { OnOk result (self.new.decided ≡ self.old.decided) }
-        ensures nearer { OnOk result ((count : ℕ) → left_to_do count self.new < left_to_do count self.old) }
+        ensures nearer { OnOk result ((count : ℕ)
+            → left_to_do count self.new < left_to_do count self.old) }
     {
         if self.window.read_next(image, self.sectors)? {
             self.sectors += 1;
@@ -71,16 +78,19 @@ impl Pass {
     }
 
     /// Sends the first sector of the window.
-    fn send_front<O: Sink>(&mut self, out: &mut O) -> Result<(), Fault>
-        requires countable { (O.seen out.old).failures < 4294967295 }
+    fn write_front<O: Sink>(&mut self, out: &mut O) -> Result<(), Fault>
+        requires countable { MayCount (O.seen out.old).failures }
         requires small { self.old.block < 4294967295 }
         requires some { 0 < length self.old.window.sectors }
-        ensures goes { (carry : Bool) (taken left : List Patch) (base : ℕ) (start : Streams) (image : Incoming) (log : Outgoing)
+        ensures goes { (carry : Bool) (taken left : List Patch) (base : ℕ) (start : Streams)
+            (image : Incoming) (log : Outgoing)
             → All (λ p. self.old.block < p.block) left
             → GoesOn carry taken left base start (streams image (O.seen out.old) log) self.old
-            → Steps carry taken left taken left base start (streams image (O.seen out.new) log) self.new result }
+            → Steps carry taken left taken left base start
+            (streams image (O.seen out.new) log) self.new result }
         ensures decided { OnOk result (self.new.decided ≡ self.old.decided) }
-        ensures nearer { OnOk result ((count : ℕ) → left_to_do count self.new < left_to_do count self.old) }
+        ensures nearer { OnOk result ((count : ℕ)
+            → left_to_do count self.new < left_to_do count self.old) }
     {
         write_all(out, self.window.front().bytes())?;
         self.window.remove_first();
@@ -88,33 +98,40 @@ impl Pass {
         Ok(())
     }
 
-    /// Takes a patch that begins at the first sector of the window. All that it meets is in the window, or the image
-    /// has ended.
-    fn take_front<L: Sink>(&mut self, patch: &Patch, carry: bool, log: &mut L) -> Result<(), Fault>
-        requires countable { (L.seen log.old).failures < 4294967295 }
+    /// Applies a patch that begins at the first sector of the window. All that it meets is in the
+    /// window, or the image has ended.
+    fn apply_front<L: Sink>(&mut self, patch: &Patch, carry: bool, log: &mut L) -> Result<(), Fault>
+        requires countable { MayCount (L.seen log.old).failures }
         requires patch { IsPatch patch.now }
         requires at { patch.now.block ≡ self.old.block }
         requires some { 0 < length self.old.window.sectors }
-        requires reach { (blocks_met patch.now ≤ length self.old.window.sectors) ⊎ IsSome self.old.window.tail }
-        requires few { self.old.decided < 65535 }
+        requires reach { (blocks_met patch.now ≤ length self.old.window.sectors)
+            ⊎ IsSome self.old.window.tail }
+        requires few { self.old.decided < patch_limit }
         requires small { self.old.applied ≤ self.old.decided }
-        ensures goes { (taken left : List Patch) (base : ℕ) (start : Streams) (image : Incoming) (out : Outgoing)
-            → GoesOn carry taken (patch.now ∷ left) base start (streams image out (L.seen log.old)) self.old
-            → Steps carry taken (patch.now ∷ left) (taken ++ patch.now ∷ []) left base start (streams image out (L.seen log.new)) self.new result }
+        ensures goes { (taken left : List Patch) (base : ℕ) (start : Streams)
+            (image : Incoming) (out : Outgoing)
+            → GoesOn carry taken (patch.now ∷ left) base start
+            (streams image out (L.seen log.old)) self.old
+            → Steps carry taken (patch.now ∷ left) (taken ++ patch.now ∷ []) left base start
+            (streams image out (L.seen log.new)) self.new result }
         ensures decided { OnOk result (self.new.decided ≡ self.old.decided + 1) }
-        ensures nearer { OnOk result ((count : ℕ) → self.old.decided < count → left_to_do count self.new < left_to_do count self.old) }
+        ensures nearer { OnOk result ((count : ℕ) → self.old.decided < count
+            → left_to_do count self.new < left_to_do count self.old) }
     {
-        let outcome = self.window.take(patch, carry);
+        let outcome = self.window.apply_first(patch, carry);
         send_outcome(patch, outcome, log)?;
         self.decided += 1;
-        self.applied += one_if_applied(outcome);
+        self.applied += u32::from(outcome.is_applied());
         Ok(())
     }
 
     /// The next patch, where it begins at the front block.
     fn patch_at_front<'a>(&self, patches: &'a [Patch]) -> Option<&'a Patch>
-        ensures some { IfSome result (λ p. (slice_get patches.now self.now.decided ≡ Some p.now) × (p.now.block ≡ self.now.block)) }
-        ensures none { IfNone result ((p : Patch) → slice_get patches.now self.now.decided ≡ Some p → p.block ≢ self.now.block) }
+        ensures some { IfSome result (λ p. (slice_get patches.now self.now.decided ≡ Some p.now)
+            × (p.now.block ≡ self.now.block)) }
+        ensures none { IfNone result ((p : Patch)
+            → slice_get patches.now self.now.decided ≡ Some p → p.block ≢ self.now.block) }
     {
         match patches.get(self.decided) {
             Some(patch) if patch.block == self.block => Some(patch),
@@ -122,9 +139,10 @@ impl Pass {
         }
     }
 
-    /// Does the next thing: reads a sector, while fewer are in hand than the front block asks for and the image has not
-    /// ended; else takes the patch that begins there, or sends the front sector. Answers whether there was anything to do.
-    pub(crate) fn turn<I: Source, O: Sink, L: Sink>(
+    /// Does the next thing: reads a sector, while fewer are in hand than the front block asks for
+    /// and the image has not ended; else takes the patch that begins there, or sends the front
+    /// sector. Answers whether there was anything to do.
+    pub(crate) fn advance<I: Source, O: Sink, L: Sink>(
         &mut self,
         image: &mut I,
         patches: &[Patch],
@@ -132,22 +150,24 @@ impl Pass {
         out: &mut O,
         log: &mut L,
     ) -> Result<bool, Fault>
-        requires image_countable { (I.seen image.old).failures < 4294967295 }
-        requires out_countable { (O.seen out.old).failures < 4294967295 }
-        requires log_countable { (L.seen log.old).failures < 4294967295 }
-        requires each { All IsPatch patches.now }
-        requires rising { IsNonDecreasingBy (λ p. p.block) patches.now }
-        requires count { length patches.now ≤ 65535 }
-        requires few { self.old.sectors ≤ 1000000 }
+        requires image_countable { MayCount (I.seen image.old).failures }
+        requires out_countable { MayCount (O.seen out.old).failures }
+        requires log_countable { MayCount (L.seen log.old).failures }
+        requires patches { IsPatchList patches.now }
+        requires few { self.old.sectors ≤ sector_limit }
         requires small { self.old.block < 4294967295 }
         requires applied { self.old.applied ≤ self.old.decided }
         ensures goes { (base : ℕ) (start : Streams)
-            → GoesOn carry (take self.old.decided patches.now) (drop self.old.decided patches.now) base start
-            (streams (I.seen image.old) (O.seen out.old) (L.seen log.old)) self.old
-            → Turns carry patches.now base start (streams (I.seen image.new) (O.seen out.new) (L.seen log.new)) self.new result }
-        ensures known { OnOk result (self.old.decided ≤ length patches.now → self.new.decided ≤ length patches.now) }
+            → GoesOn carry (take self.old.decided patches.now) (drop self.old.decided patches.now)
+            base start (streams (I.seen image.old) (O.seen out.old) (L.seen log.old)) self.old
+            → Advances carry patches.now base start
+            (streams (I.seen image.new) (O.seen out.new) (L.seen log.new)) self.new result }
+        ensures known { OnOk result (self.old.decided ≤ length patches.now
+            → self.new.decided ≤ length patches.now) }
         ensures ended { IfOk result (λ more. more ≡ false → IsEnded self.new) }
-        ensures nearer { IfOk result (λ more. left_to_do (length patches.now) self.new + cond more 1 0 ≤ left_to_do (length patches.now) self.old) }
+        ensures nearer { IfOk result (λ more.
+            left_to_do (length patches.now) self.new + (if more then 1 else 0)
+            ≤ left_to_do (length patches.now) self.old) }
     {
         let patch = self.patch_at_front(patches);
         if self.window.len() < sectors_wanted(patch) && !self.window.has_ended() {
@@ -155,9 +175,9 @@ impl Pass {
         } else if self.window.is_empty() {
             return Ok(false);
         } else if let Some(patch) = patch {
-            self.take_front(patch, carry, log)?;
+            self.apply_front(patch, carry, log)?;
         } else {
-            self.send_front(out)?;
+            self.write_front(out)?;
         }
         Ok(true)
     }
@@ -169,15 +189,17 @@ impl Pass {
         out: &mut O,
         log: &mut L,
     ) -> Result<Tally, Fault>
-        requires out_countable { (O.seen out.old).failures < 4294967295 }
-        requires log_countable { (L.seen log.old).failures < 4294967295 }
-        requires count { length patches.now ≤ 65535 }
+        requires out_countable { MayCount (O.seen out.old).failures }
+        requires log_countable { MayCount (L.seen log.old).failures }
+        requires count { length patches.now ≤ patch_limit }
         requires ended { IsEnded self }
         requires decided { self.decided ≤ length patches.now }
         requires applied { self.applied ≤ self.decided }
         ensures { (carry : Bool) (base : ℕ) (start : Streams) (image : Incoming)
-            → GoesOn carry (take self.decided patches.now) (drop self.decided patches.now) base start (streams image (O.seen out.old) (L.seen log.old)) self
-            → Applies carry patches.now base start (streams image (O.seen out.new) (L.seen log.new)) result }
+            → GoesOn carry (take self.decided patches.now) (drop self.decided patches.now)
+            base start (streams image (O.seen out.old) (L.seen log.old)) self
+            → Applies carry patches.now base start
+            (streams image (O.seen out.new) (L.seen log.new)) result }
     {
         let tail = self.window.tail();
         let tally = Tally {
@@ -195,13 +217,13 @@ impl Pass {
     }
 }
 
-/// The number of sectors that have to be in hand before the next thing at the front block: those that the patch meets
-/// that begins there, else that block's own.
+/// The number of sectors that have to be in hand before the next thing at the front block: those
+/// that the patch meets that begins there, else that block's own.
 fn sectors_wanted(patch: Option<&Patch>) -> usize
     requires each { IfSome patch (λ p. IsPatch p.now) }
     ensures some { IfSome patch.entry (λ p. result ≡ blocks_met p.now) }
     ensures none { IfNone patch.entry (result ≡ 1) }
-    ensures few { (0 < result) × (result ≤ 3) }
+    ensures few { (0 < result) × (result ≤ block_limit) }
 {
     match patch {
         Some(patch) => blocks_met(patch),
@@ -211,19 +233,8 @@ fn sectors_wanted(patch: Option<&Patch>) -> usize
 
 /// Passes on all that the output still holds back.
 fn finish_output<O: Sink>(out: &mut O) -> Result<(), SinkFailed>
-    requires { (O.seen out.old).failures < 4294967295 }
+    requires { MayCount (O.seen out.old).failures }
     ensures { Flushes (O.seen out.old) (O.seen out.new) result }
 {
     out.finish()
-}
-
-/// 1 for a patch that was accepted, else 0.
-fn one_if_applied(outcome: Outcome) -> u32
-    ensures { result ≡ cond (is_applied outcome) 1 0 }
-{
-    match outcome {
-        Outcome::Applied => 1,
-        Outcome::NoBlock(_) | Outcome::NotMode1(_) | Outcome::Damaged(_) | Outcome::Differs(_, _) =>
-            0,
-    }
 }

@@ -2,12 +2,13 @@
 
 ghost use Rattle.std.specs.Prelude.{◌≡◌, ◌+◌, ◌<◌, ◌≤◌, ◌++◌, length};
 ghost use Rattle.cd_stream.specs.Transfer.{Flushes, Sends};
-ghost use Rattle.cd_report.specs.declared.fault.Fault.TheVariants.{Log};
-ghost use Rattle.cd_image.specs.Passing.{missing};
+ghost use Rattle.cd_read.specs.declared.fault.Fault.TheVariants.{Log};
+ghost use Rattle.cd_image.specs.Passing.{missing_outcomes};
 ghost use Rattle.cd_image.specs.PatchLog.{log_end, log_line, log_lines, outcome_text};
+ghost use Rattle.cd_stream.specs.Stream.{MayCount};
 
 use cd_patch::Outcome;
-use cd_report::Fault;
+use cd_read::Fault;
 use cd_script::Patch;
 use cd_stream::{Line, Sink, SinkFailed, write_all};
 
@@ -81,7 +82,7 @@ pub(crate) fn send_outcome<L: Sink>(
     outcome: Outcome,
     log: &mut L,
 ) -> Result<(), LogFailed>
-    requires { (L.seen log.old).failures < 4294967295 }
+    requires { MayCount (L.seen log.old).failures }
     ensures { Sends (L.seen log.old) (L.seen log.new) (log_line patch.now outcome) result }
 {
     let mut line = Line::new();
@@ -95,8 +96,9 @@ pub(crate) fn send_outcome<L: Sink>(
 
 /// Writes the lines of patches whose first block the image does not have.
 pub(crate) fn send_missing<L: Sink>(patches: &[Patch], log: &mut L) -> Result<(), LogFailed>
-    requires { (L.seen log.old).failures < 4294967295 }
-    ensures { Sends (L.seen log.old) (L.seen log.new) (log_lines patches.now (missing patches.now)) result }
+    requires { MayCount (L.seen log.old).failures }
+    ensures { Sends (L.seen log.old) (L.seen log.new)
+        (log_lines patches.now (missing_outcomes patches.now)) result }
 {
     for patch in patches {
         send_outcome(patch, Outcome::NoBlock(patch.block), log)?;
@@ -107,7 +109,7 @@ pub(crate) fn send_missing<L: Sink>(patches: &[Patch], log: &mut L) -> Result<()
 /// Writes the last line.
 #[tactic(auto, unfolding(crate::specs::PatchLog::log_end))]
 pub(crate) fn send_counts<L: Sink>(applied: u32, refused: u32, log: &mut L) -> Result<(), LogFailed>
-    requires { (L.seen log.old).failures < 4294967295 }
+    requires { MayCount (L.seen log.old).failures }
     ensures { Sends (L.seen log.old) (L.seen log.new) (log_end applied refused) result }
 {
     let mut last = Line::new();
@@ -121,7 +123,7 @@ pub(crate) fn send_counts<L: Sink>(applied: u32, refused: u32, log: &mut L) -> R
 
 /// Passes on all that the log still holds back.
 pub(crate) fn finish_log<L: Sink>(log: &mut L) -> Result<(), LogFailed>
-    requires { (L.seen log.old).failures < 4294967295 }
+    requires { MayCount (L.seen log.old).failures }
     ensures { Flushes (L.seen log.old) (L.seen log.new) result }
 {
     Ok(log.finish()?)

@@ -1,36 +1,41 @@
 //! The sectors that a pass has in hand.
 
-ghost use Rattle.std.specs.Prelude.{◌≡◌, ◌==◌, ◌<◌, ◌≤◌, [], ◌∷◌, List, ℕ, None, drop, get_or, is_some, length, take};
+ghost use Rattle.std.specs.Prelude.{◌≡◌, ◌<◌, ◌≤◌, ◌↔◌, [], ◌∷◌, List, ℕ, None, IsSome, IsTrue};
+ghost use Rattle.std.specs.Prelude.{drop, length, slice_index_or, take};
 ghost use Rattle.cd_sector.specs.declared.sector.TheConstants.{SECTOR_SIZE};
 ghost use Rattle.cd_script.specs.Patch.{IsPatch};
+ghost use Rattle.cd_patch.specs.Blocks.{block_limit};
 ghost use Rattle.cd_patch.specs.Deciding.{outcome};
 ghost use Rattle.cd_patch.specs.Effect.{Effect};
-ghost use Rattle.cd_report.specs.Reading.{ReadsSector};
+ghost use Rattle.cd_read.specs.Reading.{ReadsSector};
 ghost use Rattle.cd_image.specs.InHand.{ReadsNext, tail_bytes};
+ghost use Rattle.cd_stream.specs.Stream.{MayCount};
+ghost use Rattle.cd_read.specs.Image.{sector_limit};
 
 use arrayvec::ArrayVec;
-use cd_patch::{Outcome, take_patch};
-use cd_report::{Fault, read_sector};
+use cd_patch::{MAX_BLOCKS_MET, Outcome, apply_patch};
+use cd_read::{Fault, read_sector};
 use cd_script::Patch;
 use cd_sector::Sector;
 use cd_stream::Source;
 use std::marker::Model;
 
-/// At most three sectors, in the order in which they came, and the tail after them once the image has ended. A contract
-/// sees these.
+/// As many sectors as a patch may meet, in the order in which they came, and the tail after them
+/// once the image has ended. A contract sees these.
 #[derive(Drop)]
 pub(crate) struct Window {
-    /// The sectors in hand, then places for those to come: an `ArrayVec` writes a whole blank sector over a place that it
-    /// leaves, so none is left.
-    places: ArrayVec<Sector, 3>,
+    /// The sectors in hand, then places for those to come: an `ArrayVec` writes a whole blank
+    /// sector over a place that it leaves, so none is left.
+    places: ArrayVec<Sector, MAX_BLOCKS_MET>,
     /// The number of sectors in hand.
     held: usize,
-    /// Once the image has ended: the number of bytes of its tail, which stands at the front of the next sector's place.
+    /// Once the image has ended: the number of bytes of its tail, which stands at the front of the
+    /// next sector's place.
     tail: Option<usize>,
 }
 
 impl Model for Window {
-    ghost use Rattle.std.specs.Prelude.{◌<◌, ◌≤◌, [], IfSome, get_or, length, take};
+    ghost use Rattle.std.specs.Prelude.{◌<◌, ◌≤◌, [], IfSome, slice_index_or, length, take};
     ghost use Rattle.cd_sector.specs.declared.sector.TheConstants.{SECTOR_SIZE};
     ghost use Rattle.cd_image.specs.InHand.{InHand, tail_read};
 
@@ -38,11 +43,12 @@ impl Model for Window {
 
     ghost view = { λ window. record {
       sectors = take window.held window.places.items;
-      tail = tail_read window.tail (get_or window.places.items window.held []);
+      tail = tail_read window.tail (slice_index_or window.places.items window.held []);
     } };
 
     ghost invariant = { λ window. (window.held ≤ length window.places.items)
-        × IfSome window.tail (λ left. (left < SECTOR_SIZE) × (window.held < length window.places.items)) };
+        × IfSome window.tail (λ left.
+        (left < SECTOR_SIZE) × (window.held < length window.places.items)) };
 }
 
 impl Window {
@@ -67,14 +73,14 @@ impl Window {
 
     /// Whether there is no sector.
     pub(crate) fn is_empty(&self) -> bool
-        ensures { result ≡ (length self.now.sectors == 0) }
+        ensures { IsTrue result ↔ (self.now.sectors ≡ []) }
     {
         self.held == 0
     }
 
     /// Whether the image has ended.
     pub(crate) fn has_ended(&self) -> bool
-        ensures { result ≡ is_some self.now.tail }
+        ensures { IsTrue result ↔ IsSome self.now.tail }
     {
         self.tail.is_some()
     }
@@ -98,11 +104,12 @@ impl Window {
         }
     }
 
-    /// Reads the next sector of an image, after `count` others, or its tail, to its place. Answers whether it was a sector.
+    /// Reads the next sector of an image, after `count` others, or its tail, to its place. Answers
+    /// whether it was a sector.
     pub(crate) fn read_next<I: Source>(&mut self, image: &mut I, count: u32) -> Result<bool, Fault>
-        requires countable { (I.seen image.old).failures < 4294967295 }
-        requires few { count ≤ 1000000 }
-        requires room { length self.old.sectors < 3 }
+        requires countable { MayCount (I.seen image.old).failures }
+        requires few { count ≤ sector_limit }
+        requires room { length self.old.sectors < block_limit }
         requires unended { self.old.tail ≡ None }
         ensures { ReadsNext count self.old self.new (I.seen image.old) (I.seen image.new) result }
     {
@@ -131,21 +138,21 @@ impl Window {
         self.held -= 1;
     }
 
-    /// Takes a patch that begins at the first of the sectors; damage may be carried.
-    pub(crate) fn take(&mut self, patch: &Patch, carry: bool) -> Outcome
+    /// Applies a patch that begins at the first of the sectors; damage may be carried.
+    pub(crate) fn apply_first(&mut self, patch: &Patch, carry: bool) -> Outcome
         requires patch { IsPatch patch.now }
         requires some { 0 < length self.old.sectors }
         ensures outcome { result ≡ outcome carry self.old.sectors patch.now.block patch.now }
         ensures effect { Effect carry patch.now.block patch.now self.old.sectors self.new.sectors }
         ensures tail { self.new.tail ≡ self.old.tail }
     {
-        take_among(self.places.as_mut_slice(), self.held, patch, carry)
+        apply_among(self.places.as_mut_slice(), self.held, patch, carry)
     }
 }
 
 /// Makes the place behind the first `held` where there is none yet.
-fn make_place(places: &mut ArrayVec<Sector, 3>, held: usize)
-    requires room { held < 3 }
+fn make_place(places: &mut ArrayVec<Sector, MAX_BLOCKS_MET>, held: usize)
+    requires room { held < block_limit }
     requires within { held ≤ length places.old.items }
     ensures more { held < length places.new.items }
     ensures same { take held places.new.items ≡ take held places.old.items }
@@ -162,25 +169,27 @@ fn read_to<I: Source>(
     image: &mut I,
     count: u32,
 ) -> Result<Option<usize>, Fault>
-    requires countable { (I.seen image.old).failures < 4294967295 }
-    requires few { count ≤ 1000000 }
+    requires countable { MayCount (I.seen image.old).failures }
+    requires few { count ≤ sector_limit }
     requires within { place < length places.old }
-    ensures reads { ReadsSector count (get_or places.new place []) (I.seen image.old) (I.seen image.new) result }
+    ensures reads { ReadsSector count (slice_index_or places.new place [])
+        (I.seen image.old) (I.seen image.new) result }
     ensures size { length places.new ≡ length places.old }
     ensures others { take place places.new ≡ take place places.old }
 {
     read_sector(image, count, &mut places[place])
 }
 
-/// Takes a patch that begins at the first of `held` sectors, which are the first of the places.
-fn take_among(places: &mut [Sector], held: usize, patch: &Patch, carry: bool) -> Outcome
+/// Applies a patch that begins at the first of `held` sectors, which are the first of the places.
+fn apply_among(places: &mut [Sector], held: usize, patch: &Patch, carry: bool) -> Outcome
     requires patch { IsPatch patch.now }
     requires some { 0 < held }
     requires within { held ≤ length places.old }
     ensures outcome { result ≡ outcome carry (take held places.old) patch.now.block patch.now }
-    ensures effect { Effect carry patch.now.block patch.now (take held places.old) (take held places.new) }
+    ensures effect { Effect carry patch.now.block patch.now
+        (take held places.old) (take held places.new) }
     ensures size { length places.new ≡ length places.old }
-    ensures others { get_or places.new held [] ≡ get_or places.old held [] }
+    ensures others { slice_index_or places.new held [] ≡ slice_index_or places.old held [] }
 {
-    take_patch(&mut places[..held], patch, carry)
+    apply_patch(&mut places[..held], patch, carry)
 }

@@ -5,8 +5,8 @@ use Rattle.std.proofs.KnownBytes.{Appends-kept}
 use Rattle.cd_stream.specs.Stream.{Outgoing}
 use Rattle.cd_stream.specs.Transfer.{Counts}
 use Rattle.cd_stream.specs.declared.sink.SinkFailed.{SinkFailed}
-use Rattle.cd_report.specs.declared.fault.Fault.{Fault}
-use Rattle.cd_report.specs.declared.fault.Fault.TheVariants.{Log, Read, TooLong, Write}
+use Rattle.cd_read.specs.declared.fault.Fault.{Fault}
+use Rattle.cd_read.specs.declared.fault.Fault.TheVariants.{Log, Read, TooLong, Write}
 use Rattle.cd_jobs.specs.Run.{SaysLine}
 
 module _ (line : List ℕ) (before after : Outgoing) where

@@ -5,8 +5,9 @@ use Rattle.std.specs.Io.KnownBytes.{Consumes}
 use Rattle.std.specs.Result.{IsErrAnd}
 use Rattle.std.proofs.KnownBytes.{Consumes-trans}
 use Rattle.cd_stream.specs.Stream.{Incoming, Outgoing}
+use Rattle.cd_jobs.specs.Messages.{load_fault_line}
 use Rattle.cd_jobs.specs.Run.{SaysLine}
-use Rattle.cd_jobs.specs.ScriptLines.{Gathers, Stops, TellsFailedReads, load_line}
+use Rattle.cd_jobs.specs.ScriptLines.{Gathers, Stops, TellsFailedReads}
 use Rattle.cd_jobs.specs.declared.script.LoadFault.{LoadFault}
 use Rattle.cd_jobs.specs.declared.script.LoadFault.TheVariants.{NoMemory, Read, TooLong}
 
@@ -33,7 +34,7 @@ Gathers-refused bytes_of file middle file' (Err fault) earlier came refused firs
 
 -- a fault and its line tell whether a read failed
 pub Stops-tells : {T : Type 0} (fault : LoadFault) (read : List ℕ) (file file' : Incoming) (log log' : Outgoing) (status : ℕ)
-    → status ≡ 2 → Stops fault read file file' → SaysLine (load_line fault) log log' → TellsFailedReads {T = T} file file' log log' (Err status)
+    → status ≡ 2 → Stops fault read file file' → SaysLine (load_fault_line fault) log log' → TellsFailedReads {T = T} file file' log log' (Err status)
 Stops-tells Read read file file' log log' status is stops says = record { failed = λ rose. (ap Err is, says); others = λ same. absurd (omega (arith, stops.0, same)) }
 Stops-tells TooLong read file file' log log' status is stops says = record { failed = λ rose. absurd (rose stops.0); others = λ same. inl (ap Err is, says) }
 Stops-tells NoMemory read file file' log log' status is stops says = record { failed = λ rose. absurd (rose stops.0); others = λ same. inr (ap Err is, says) }

@@ -6,13 +6,15 @@ use Rattle.cd_command.specs.declared.fault.LineFault.{LineFault}
 use Rattle.cd_command.specs.declared.job.Job.{Job}
 use Rattle.cd_command.specs.declared.job.Job.TheVariants as job
 use Rattle.cd_image.specs.declared.patch_log.Tally.{Tally}
+use Rattle.cd_report.specs.Report.{ReportSpec}
 use Rattle.cd_report.specs.declared.auditing.AuditTally.{AuditTally}
-use Rattle.cd_report.specs.declared.fault.Fault.{Fault}
-use Rattle.cd_script.specs.declared.patch.Patch.{Patch}
+use Rattle.cd_read.specs.declared.fault.Fault.{Fault}
 use Rattle.cd_stream.specs.Stream.{Incoming, Outgoing}
-use Rattle.cd_jobs.specs.Program.{ByScript, ComesOfFile, DoesJob, Hosting, OnImage, ReadsScript, Taken, TakesScript, Tells, With, refused_status}
+use Rattle.cd_jobs.specs.Hosting.{Hosting}
+use Rattle.cd_jobs.specs.Program.{ComesOfFile, DoesApply, DoesCheck, DoesJob, DoesReport, NoScript, ReadsScript, Tells, printed_status}
 use Rattle.cd_jobs.specs.Run.{Ends, Runs, audit_status, script_status}
-use Rattle.cd_jobs.specs.declared.host.NoFile.{NoFile}
+use Rattle.cd_jobs.specs.declared.host.OpenFault.{OpenFault}
+use Rattle.cd_jobs.specs.declared.jobs.Settings.{Settings}
 use Rattle.cd_command.proofs.StatusLemmas.{few-fault}
 use Rattle.cd_jobs.proofs.RunLemmas.{one-more}
 
@@ -37,53 +39,49 @@ Runs-few : {T : Type 0} {Does : Outgoing → Result T Fault → Type 0} {own : F
     → ((told : T) → status_of told ≤ 2) → Runs Does own status_of after status → status ≤ 2
 Runs-few few runs = Ends-few _ _ runs.result runs.middle _ _ few runs.ends
 
--- ---- files
+-- ---- commands
 
-With-few : {H F : Type 0} (line : List ℕ) (Done : F → Type 0) (middle host' : H) (before after : Outgoing) (status : ℕ) (answer : Result F NoFile)
-    → ((file : F) → Done file → status ≤ 2) → With line Done middle host' before after status answer → status ≤ 2
-With-few line Done middle host' before after status (Ok file) few done = few file done
-With-few line Done middle host' before after status (Err fault) few done = omega (arith, done.1.1)
+ReadsScript-few : (file file' : Incoming) (log log' : Outgoing) (status : ℕ) → ReadsScript file file' log log' (Err status) → status ≤ 2
+ReadsScript-few file file' log log' status (inl h) = omega (arith, h.2.2.1)
+ReadsScript-few file file' log log' status (inr h) = omega (arith, h.3.2.1)
 
-module _ {H I O : Type 0} (on : Hosting H I O) where
-  OnImage-few : {name : List ℕ} {Done : I → H → Type 0} {host host' : H} {before after : Outgoing} {status : ℕ}
-      → ((image : I) (middle : H) → Done image middle → status ≤ 2) → OnImage on name Done host host' before after status → status ≤ 2
-  OnImage-few few h = With-few _ _ h.middle _ _ _ _ h.answer (λ image done. few image h.middle done) h.done
-
-  ReadsScript-few : (file file' : Incoming) (log log' : Outgoing) (status : ℕ) → ReadsScript file file' log log' (Err status) → status ≤ 2
-  ReadsScript-few file file' log log' status (inl h) = omega (arith, h.2.2.1)
-  ReadsScript-few file file' log log' status (inr h) = omega (arith, h.3.2.1)
-
-  ComesOfFile-few : (log log' : Outgoing) (status : ℕ) (answer : Result I NoFile) → ComesOfFile on log log' (Err status) answer → status ≤ 2
+module _ {H I O : Type 0} (come : I → Incoming) (on : Hosting H I O) where
+  ComesOfFile-few : (log log' : Outgoing) (status : ℕ) (answer : Result I OpenFault) → ComesOfFile come on log log' (Err status) answer → status ≤ 2
   ComesOfFile-few log log' status (Ok file) h = ReadsScript-few _ _ log log' status h.1
   ComesOfFile-few log log' status (Err fault) h = let is : status ≡ 2 = cc in omega (arith, is)
 
-  Taken-few : (Done : List Patch → Type 0) (name : List ℕ) (host middle host' : H) (before said after : Outgoing) (status : ℕ) (result : Result (List Patch) ℕ)
-      → TakesScript on name host middle before said result → ((patches : List Patch) → Done patches → status ≤ 2)
-      → Taken Done middle host' said after status result → status ≤ 2
-  Taken-few Done name host middle host' before said after status (Ok patches) takes few done = few patches done
-  Taken-few Done name host middle host' before said after status (Err failed) takes few done =
-      let least = ComesOfFile-few before said failed takes.answer takes.comes in omega (arith, least, done.2)
+module _ {H I O : Type 0} (come : I → Incoming) (gone : O → Outgoing) (on : Hosting H I O) {host' : H} {after : Outgoing} {status : ℕ} where
+  NoScript-few : {name : List ℕ} {host : H} {before : Outgoing} → NoScript come gone on host' after status name host before → status ≤ 2
+  NoScript-few {before = before} missing = ComesOfFile-few come on before after status missing.answer missing.comes
 
-  ByScript-few : {name : List ℕ} {Done : List Patch → H → Outgoing → Type 0} {host host' : H} {before after : Outgoing} {status : ℕ}
-      → ((patches : List Patch) (middle : H) (said : Outgoing) → Done patches middle said → status ≤ 2) → ByScript on name Done host host' before after status → status ≤ 2
-  ByScript-few few h = Taken-few _ _ _ h.middle _ _ h.said _ _ h.result h.takes (λ patches done. few patches h.middle h.said done) h.done
+  DoesReport-few : {T : Type 0} {spec : ReportSpec T} {status_of : T → ℕ} {name : List ℕ} {host : H} {before : Outgoing}
+      → ((told : T) → status_of told ≤ 2) → DoesReport come gone on host' after status spec status_of name host before → status ≤ 2
+  DoesReport-few few (DoesReport.without_image missing) = omega (arith, missing.2.1)
+  DoesReport-few few (DoesReport.told image asked tells) = Runs-few few tells.runs
 
-  -- ---- jobs
+  DoesCheck-few : {settings : Settings} {name script : List ℕ} {host : H} {before : Outgoing}
+      → DoesCheck come gone on host' after status settings name script host before → status ≤ 2
+  DoesCheck-few (DoesCheck.without_script missing) = NoScript-few missing
+  DoesCheck-few (DoesCheck.without_image patches second said takes missing) = omega (arith, missing.2.1)
+  DoesCheck-few (DoesCheck.checked patches second said takes image asked checks) = Runs-few few-script checks.runs
 
-  pub DoesJob-few : (j : Job) (host host' : H) (before after : Outgoing) (status : ℕ) → DoesJob on j host host' before after status → status ≤ 2
-  DoesJob-few (job.List image base) host host' before after status does =
-      OnImage-few (λ image middle done. Runs-few (λ told. few-if true) done.runs) does
-  DoesJob-few (job.Audit image base) host host' before after status does =
-      OnImage-few (λ image middle done. Runs-few few-audit done.runs) does
-  DoesJob-few (job.Check image script base carry) host host' before after status does =
-      ByScript-few (λ patches middle said taken. OnImage-few (λ image last done. Runs-few few-script done.runs) taken) does
-  DoesJob-few (job.Apply image script out base carry) host host' before after status does =
-      ByScript-few (λ patches middle said taken. OnImage-few (λ image last applied.
-      With-few _ _ _ _ _ _ _ applied.answer (λ file done. Runs-few few-script done.runs) applied.done) taken) does
+  DoesApply-few : {settings : Settings} {name script path : List ℕ} {host : H} {before : Outgoing}
+      → DoesApply come gone on host' after status settings name script path host before → status ≤ 2
+  DoesApply-few (DoesApply.without_script missing) = NoScript-few missing
+  DoesApply-few (DoesApply.without_image patches second said takes missing) = omega (arith, missing.2.1)
+  DoesApply-few (DoesApply.without_output patches second said takes image third asked missing) = omega (arith, missing.2.1)
+  DoesApply-few (DoesApply.applied patches second said takes image third asked out made applies) = Runs-few few-script applies.runs
+
+pub DoesJob-few : {H I O : Type 0} (come : I → Incoming) (gone : O → Outgoing) (on : Hosting H I O) (j : Job) (host host' : H) (before after : Outgoing) (status : ℕ)
+    → DoesJob come gone on j host host' before after status → status ≤ 2
+DoesJob-few come gone on (job.List image base) host host' before after status does = DoesReport-few come gone on (λ told. few-if true) does
+DoesJob-few come gone on (job.Audit image base) host host' before after status does = DoesReport-few come gone on few-audit does
+DoesJob-few come gone on (job.Check image script base carry) host host' before after status does = DoesCheck-few come gone on does
+DoesJob-few come gone on (job.Apply image script out base carry) host host' before after status does = DoesApply-few come gone on does
 
 -- ---- words that ask for no job
 
-few-refused : (fault : LineFault) (text : Option (List ℕ)) → refused_status fault text ≤ 2
+few-refused : (fault : LineFault) (text : Option (List ℕ)) → printed_status fault text ≤ 2
 few-refused fault (Some text) = few-fault fault
 few-refused fault None = omega arith
 

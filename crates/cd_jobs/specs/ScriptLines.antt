@@ -5,42 +5,22 @@ use Rattle.cd_stream.specs.Stream.{Incoming, Outgoing}
 use Rattle.cd_script.specs.declared.fault.ScriptFault.{ScriptFault}
 use Rattle.cd_script.specs.declared.fault.ScriptFault.TheVariants as script_fault
 use Rattle.cd_script.specs.Script.{script}
-use Rattle.cd_script.specs.Text.{text_limit}
+use Rattle.cd_script.specs.Limits.{text_limit}
+use Rattle.cd_command.specs.Fault.{failed_status}
+use Rattle.cd_jobs.specs.Messages.{load_fault_line, script_fault_line}
 use Rattle.cd_jobs.specs.Run.{SaysLine}
 use Rattle.cd_jobs.specs.declared.script.LoadFault.{LoadFault}
 use Rattle.cd_jobs.specs.declared.script.LoadFault.TheVariants.{Read, TooLong, NoMemory}
 
 -- ---- the text of a script
 
--- `script line`, the number, and what is wrong there
-unfoldable pub numbered_line : ℕ → List ℕ → List ℕ
-numbered_line number text = codes "script line " ++ decimal number ++ codes ": " ++ text ++ codes "\n"
-
--- the line of a script's fault
-unfoldable pub script_line : ScriptFault → List ℕ
-script_line (script_fault.Head line) = numbered_line line (codes "no cdpatch 1 line")
-script_line (script_fault.Verb line) = numbered_line line (codes "unknown verb")
-script_line (script_fault.Words line) = numbered_line line (codes "wrong number of words")
-script_line (script_fault.Number line) = numbered_line line (codes "bad number")
-script_line (script_fault.Hex line) = numbered_line line (codes "bad hex")
-script_line (script_fault.Length line) = numbered_line line (codes "bad length")
-script_line (script_fault.Offset line) = numbered_line line (codes "offset over 2047")
-script_line (script_fault.Address line) = numbered_line line (codes "bad address")
-script_line (script_fault.TooMany line) = numbered_line line (codes "more than 65535 patches")
-script_line script_fault.NoMemory = codes "script: no memory\n"
-
--- the fault that is said of a text: the text's own where it has one, whatever memory there is, and else want of memory
+-- the fault that is said of a text: the text's own where it has one, whatever memory there is, and
+-- else want of memory
 pub record IsFaultOf (text : List ℕ) (fault : ScriptFault) : Type 0 where
   pub own : (e : ScriptFault) → script text ≡ Err e → fault ≡ e
   pub other : fault ≢ script_fault.NoMemory → script text ≡ Err fault
 
 -- ---- the file of a script
-
--- the line of a file's fault
-unfoldable pub load_line : LoadFault → List ℕ
-load_line Read = codes "cdpatch: cannot read the script\n"
-load_line TooLong = codes "cdpatch: the script is longer than 67108864 bytes\n"
-load_line NoMemory = codes "cdpatch: no memory\n"
 
 -- the file was read to its end, is no longer than a script may be, and no read of it failed
 pub record ReadsWhole (read : List ℕ) (file file' : Incoming) : Type 0 where
@@ -54,31 +34,43 @@ Stops Read read file file' = (file'.failures ≡ file.failures + 1) × (length r
 Stops TooLong read file file' = (file'.failures ≡ file.failures) × (length read ≡ text_limit + 1)
 Stops NoMemory read file file' = (file'.failures ≡ file.failures) × (length read ≤ text_limit)
 
-abbrev pub GatherAnswers : {T : Type 0} → (T → List ℕ) → List ℕ → Incoming → Incoming → Result T LoadFault → Type 0
-GatherAnswers bytes_of read file file' (Ok text) = (bytes_of text ≡ read) × ReadsWhole read file file'
+abbrev pub GatherAnswers : {T : Type 0} → (T → List ℕ) → List ℕ → Incoming → Incoming
+    → Result T LoadFault → Type 0
+GatherAnswers bytes_of read file file' (Ok text) = (bytes_of text ≡ read)
+    × ReadsWhole read file file'
 GatherAnswers bytes_of read file file' (Err fault) = Stops fault read file file'
 
 -- some bytes of the file were read: all, or those before a fault
-pub record Gathers {T : Type 0} (bytes_of : T → List ℕ) (file file' : Incoming) (result : Result T LoadFault) : Type 0 where
+pub record Gathers {T : Type 0} (bytes_of : T → List ℕ) (file file' : Incoming)
+    (result : Result T LoadFault) : Type 0 where
   pub read : List ℕ
   pub consumes : Consumes file.rest file'.rest read
   pub answers : GatherAnswers bytes_of read file file' result
 
-abbrev pub LoadAnswers : {T : Type 0} → (T → List ℕ) → List ℕ → Incoming → Incoming → Outgoing → Outgoing → Result T ℕ → Type 0
-LoadAnswers bytes_of read file file' log log' (Ok text) = (bytes_of text ≡ read) × ReadsWhole read file file' × (log' ≡ log)
-LoadAnswers bytes_of read file file' log log' (Err status) = (status ≡ 2) × ((fault : LoadFault) × Stops fault read file file' × SaysLine (load_line fault) log log')
+abbrev pub LoadAnswers : {T : Type 0} → (T → List ℕ) → List ℕ → Incoming → Incoming → Outgoing
+    → Outgoing → Result T ℕ → Type 0
+LoadAnswers bytes_of read file file' log log' (Ok text) = (bytes_of text ≡ read)
+    × ReadsWhole read file file' × (log' ≡ log)
+LoadAnswers bytes_of read file file' log log' (Err status) = (status ≡ failed_status)
+    × ((fault : LoadFault) × Stops fault read file file'
+    × SaysLine (load_fault_line fault) log log')
 
--- some bytes of the file were read: all, and then nothing was said, or those before a fault, and then its line was
-pub record Loads {T : Type 0} (bytes_of : T → List ℕ) (file file' : Incoming) (log log' : Outgoing) (result : Result T ℕ) : Type 0 where
+-- some bytes of the file were read: all, and then nothing was said, or those before a fault, and
+-- then its line was
+pub record Loads {T : Type 0} (bytes_of : T → List ℕ) (file file' : Incoming) (log log' : Outgoing)
+    (result : Result T ℕ) : Type 0 where
   pub read : List ℕ
   pub consumes : Consumes file.rest file'.rest read
   pub answers : LoadAnswers bytes_of read file file' log log' result
 
 -- the fault's line was said, and the status is 2
 abbrev pub Refuses : {T : Type 0} → LoadFault → Outgoing → Outgoing → Result T ℕ → Type 0
-Refuses fault log log' result = (result ≡ Err 2) × SaysLine (load_line fault) log log'
+Refuses fault log log' result = (result ≡ Err failed_status)
+    × SaysLine (load_fault_line fault) log log'
 
 -- a read failed exactly where it is said that the script cannot be read
-pub record TellsFailedReads {T : Type 0} (file file' : Incoming) (log log' : Outgoing) (result : Result T ℕ) : Type 0 where
+pub record TellsFailedReads {T : Type 0} (file file' : Incoming) (log log' : Outgoing)
+    (result : Result T ℕ) : Type 0 where
   pub failed : file'.failures ≢ file.failures → Refuses Read log log' result
-  pub others : file'.failures ≡ file.failures → OnErr result (Refuses TooLong log log' result ⊎ Refuses NoMemory log log' result)
+  pub others : file'.failures ≡ file.failures → OnErr result
+      (Refuses TooLong log log' result ⊎ Refuses NoMemory log log' result)

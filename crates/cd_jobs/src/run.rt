@@ -1,34 +1,33 @@
 //! The commands: a call on an image, then the line of its fault, and the status.
 
 ghost use Rattle.std.specs.Prelude.{◌≡◌, ◌≢◌, ◌⊎◌, ◌<◌, ◌≤◌, true};
+ghost use Rattle.cd_command.specs.Fault.{done_status, failed_status};
 ghost use Rattle.cd_image.specs.Applying.{Applies, Checks, HoldsFew, WritesCarried, WritesPatched, streams};
-ghost use Rattle.cd_report.specs.AuditText.{auditing};
-ghost use Rattle.cd_report.specs.ListText.{listing};
-ghost use Rattle.cd_report.specs.Report.{EndsWell, Reports};
+ghost use Rattle.cd_report.specs.AuditText.{audit_report};
+ghost use Rattle.cd_report.specs.ListText.{list_report};
+ghost use Rattle.cd_read.specs.Ends.{EndsWell};
+ghost use Rattle.cd_report.specs.Report.{Reports};
 ghost use Rattle.cd_stream.specs.Transfer.{Counts};
-ghost use Rattle.cd_jobs.specs.Run.{IsTooLong, Runs, SaysFault, SaysLine, TellsPatches, TellsText, audit_status, fault_line, script_status};
+ghost use Rattle.cd_jobs.specs.Run.{IsTooLong, Runs, SaysFault, SaysLine, TellsPatches, TellsText, audit_status, script_status};
+ghost use Rattle.cd_stream.specs.Stream.{MayCount};
+ghost use Rattle.cd_read.specs.Image.{base_limit};
 
+use crate::messages::fault_line;
+use cd_command::{DONE, FAILED};
 use cd_image::{
-    AuditTally, Fault, MAX_BASE, Sink, SinkFailed, Source, Tally, apply, audit, check, list,
-    write_all,
+    AuditTally, Fault, Sink, SinkFailed, Source, Tally, apply, audit, check, list, write_all,
 };
 use cd_script::Script;
 
-/// The status of a job that is done.
-pub const DONE: u8 = 0;
-
 /// The status of an audit that told of a sector.
-pub const FOUND: u8 = 1;
+const FOUND: u8 = 1;
 
 /// The status of a script of which a patch was refused.
-pub const REFUSED: u8 = 1;
-
-/// The status of a fault or of words that are refused.
-pub const FAILED: u8 = 2;
+const REFUSED: u8 = 1;
 
 /// Writes a line of the program's own and passes it on.
 pub fn say<O: Sink>(line: &[u8], out: &mut O) -> Result<(), SinkFailed>
-    requires { (O.seen out.old).failures < 4294967295 }
+    requires { MayCount (O.seen out.old).failures }
     ensures line { SaysLine line.now (O.seen out.old) (O.seen out.new) }
     ensures count { Counts (O.seen out.old).failures (O.seen out.new).failures result }
 {
@@ -38,51 +37,44 @@ pub fn say<O: Sink>(line: &[u8], out: &mut O) -> Result<(), SinkFailed>
 
 /// Says a line, and answers the status of a failure.
 pub fn fail<O: Sink>(line: &[u8], out: &mut O) -> u8
-    requires { (O.seen out.old).failures < 4294967295 }
+    requires { MayCount (O.seen out.old).failures }
     ensures line { SaysLine line.now (O.seen out.old) (O.seen out.new) }
-    ensures status { result ≡ 2 }
+    ensures status { result ≡ failed_status }
 {
     let _ = say(line, out);
     FAILED
 }
 
-#[tactic(auto, unfolding(crate::specs::Run::fault_line))]
-fn line_of(fault: Fault) -> &'static [u8]
-    ensures { result.now ≡ fault_line fault }
-{
-    match fault {
-        Fault::Read => b"cdpatch: reading the image failed\n",
-        Fault::Write => b"cdpatch: writing the output failed\n",
-        Fault::Log => b"",
-        Fault::TooLong => b"cdpatch: the image has more than 1000000 sectors\n",
-    }
-}
-
 /// Writes the line of a fault, and answers the status. The sink whose `own` fault it is gets none.
 fn end_by<O: Sink>(fault: Fault, own: Fault, out: &mut O) -> u8
-    requires { fault ≢ own → (O.seen out.old).failures < 4294967295 }
+    requires { fault ≢ own → MayCount (O.seen out.old).failures }
     ensures line { SaysFault own fault (O.seen out.old) (O.seen out.new) }
-    ensures status { result ≡ 2 }
+    ensures status { result ≡ failed_status }
 {
     if fault == own {
         return FAILED;
     }
-    fail(line_of(fault), out)
+    fail(fault_line(fault).as_bytes(), out)
 }
 
-/// Lists an image to `out`, of which the first block has the number `base`, and answers the status: 0, or 2
-/// behind the line of a fault.
+/// Lists an image to `out`, of which the first block has the number `base`, and answers the status:
+/// 0, or 2 behind the line of a fault.
 pub fn run_list<I: Source, O: Sink>(image: &mut I, base: u32, out: &mut O) -> u8
-    requires base { base ≤ MAX_BASE }
-    requires image_countable { (I.seen image.old).failures < 4294967295 }
-    requires out_countable { (O.seen out.old).failures < 4294967295 }
-    ensures report { Runs (λ out' answer. Reports (listing base) (I.seen image.old) (I.seen image.new) (O.seen out.old) out' answer)
-        Fault.Write (λ _. 0) (O.seen out.new) result }
+    requires base { base ≤ base_limit }
+    requires image_countable { MayCount (I.seen image.old).failures }
+    requires out_countable { MayCount (O.seen out.old).failures }
+    ensures report { Runs (λ out' answer. Reports (list_report base) (I.seen image.old)
+        (I.seen image.new) (O.seen out.old) out' answer)
+        Fault.Write (λ _. done_status) (O.seen out.new) result }
 
     // What it says where nothing failed, and when something has.
-    ensures text { result ≢ 2 → TellsText (listing base) (λ _. 0) (I.seen image.old) (I.seen image.new) (O.seen out.old) (O.seen out.new) result }
-    ensures ends_well { result ≢ 2 → EndsWell (I.seen image.old) (I.seen image.new) (O.seen out.old) (O.seen out.new) }
-    ensures failed { result ≡ 2 → ((I.seen image.new).failures ≢ (I.seen image.old).failures) ⊎ ((O.seen out.new).failures ≢ (O.seen out.old).failures)
+    ensures text { result ≢ failed_status → TellsText (list_report base) (λ _. done_status)
+        (I.seen image.old) (I.seen image.new) (O.seen out.old) (O.seen out.new) result }
+    ensures ends_well { result ≢ failed_status
+        → EndsWell (I.seen image.old) (I.seen image.new) (O.seen out.old) (O.seen out.new) }
+    ensures failed { result ≡ failed_status
+        → ((I.seen image.new).failures ≢ (I.seen image.old).failures)
+        ⊎ ((O.seen out.new).failures ≢ (O.seen out.old).failures)
         ⊎ IsTooLong (I.seen image.old) (I.seen image.new) }
 {
     match list(image, base, out) {
@@ -98,19 +90,24 @@ fn audit_status_of(tally: &AuditTally) -> u8
     if tally.findings == 0 { DONE } else { FOUND }
 }
 
-/// Audits an image to `out`, of which the first block has the number `base`, and answers the status: 0, 1 where
-/// it told of a sector, or 2 behind the line of a fault.
+/// Audits an image to `out`, of which the first block has the number `base`, and answers the
+/// status: 0, 1 where it told of a sector, or 2 behind the line of a fault.
 pub fn run_audit<I: Source, O: Sink>(image: &mut I, base: u32, out: &mut O) -> u8
-    requires base { base ≤ MAX_BASE }
-    requires image_countable { (I.seen image.old).failures < 4294967295 }
-    requires out_countable { (O.seen out.old).failures < 4294967295 }
-    ensures report { Runs (λ out' answer. Reports (auditing base) (I.seen image.old) (I.seen image.new) (O.seen out.old) out' answer)
+    requires base { base ≤ base_limit }
+    requires image_countable { MayCount (I.seen image.old).failures }
+    requires out_countable { MayCount (O.seen out.old).failures }
+    ensures report { Runs (λ out' answer. Reports (audit_report base) (I.seen image.old)
+        (I.seen image.new) (O.seen out.old) out' answer)
         Fault.Write audit_status (O.seen out.new) result }
 
     // What it says where nothing failed, and when something has.
-    ensures text { result ≢ 2 → TellsText (auditing base) audit_status (I.seen image.old) (I.seen image.new) (O.seen out.old) (O.seen out.new) result }
-    ensures ends_well { result ≢ 2 → EndsWell (I.seen image.old) (I.seen image.new) (O.seen out.old) (O.seen out.new) }
-    ensures failed { result ≡ 2 → ((I.seen image.new).failures ≢ (I.seen image.old).failures) ⊎ ((O.seen out.new).failures ≢ (O.seen out.old).failures)
+    ensures text { result ≢ failed_status → TellsText (audit_report base) audit_status
+        (I.seen image.old) (I.seen image.new) (O.seen out.old) (O.seen out.new) result }
+    ensures ends_well { result ≢ failed_status
+        → EndsWell (I.seen image.old) (I.seen image.new) (O.seen out.old) (O.seen out.new) }
+    ensures failed { result ≡ failed_status
+        → ((I.seen image.new).failures ≢ (I.seen image.old).failures)
+        ⊎ ((O.seen out.new).failures ≢ (O.seen out.old).failures)
         ⊎ IsTooLong (I.seen image.old) (I.seen image.new) }
 {
     match audit(image, base, out) {
@@ -126,8 +123,9 @@ fn status_of(tally: &Tally) -> u8
     if tally.refused == 0 { DONE } else { REFUSED }
 }
 
-/// Decides each patch of a script on an image, and tells of it to `log`: the answer is the status, 0, 1 where a
-/// patch is refused, or 2 behind the line of a fault. A log that has failed gets no line. Damage is carried or refused.
+/// Decides each patch of a script on an image, and tells of it to `log`: the answer is the status,
+/// 0, 1 where a patch is refused, or 2 behind the line of a fault. A log that has failed gets no
+/// line. Damage is carried or refused.
 pub fn run_check<I: Source, L: Sink>(
     image: &mut I,
     script: &Script,
@@ -135,16 +133,21 @@ pub fn run_check<I: Source, L: Sink>(
     carry: bool,
     log: &mut L,
 ) -> u8
-    requires base { base ≤ MAX_BASE }
-    requires image_countable { (I.seen image.old).failures < 4294967295 }
-    requires log_countable { (L.seen log.old).failures < 4294967295 }
-    ensures report { Runs (λ log' answer. Checks carry script.now base (I.seen image.old) (I.seen image.new) (L.seen log.old) log' answer)
+    requires base { base ≤ base_limit }
+    requires image_countable { MayCount (I.seen image.old).failures }
+    requires log_countable { MayCount (L.seen log.old).failures }
+    ensures report { Runs (λ log' answer. Checks carry script.now base (I.seen image.old)
+        (I.seen image.new) (L.seen log.old) log' answer)
         Fault.Log script_status (L.seen log.new) result }
 
     // What it says where nothing failed, and when something has.
-    ensures log { result ≢ 2 → TellsPatches carry script.now base (I.seen image.old) (L.seen log.old) (L.seen log.new) result }
-    ensures ends_well { result ≢ 2 → EndsWell (I.seen image.old) (I.seen image.new) (L.seen log.old) (L.seen log.new) }
-    ensures failed { result ≡ 2 → ((I.seen image.new).failures ≢ (I.seen image.old).failures) ⊎ ((L.seen log.new).failures ≢ (L.seen log.old).failures)
+    ensures log { result ≢ failed_status → TellsPatches carry script.now base (I.seen image.old)
+        (L.seen log.old) (L.seen log.new) result }
+    ensures ends_well { result ≢ failed_status
+        → EndsWell (I.seen image.old) (I.seen image.new) (L.seen log.old) (L.seen log.new) }
+    ensures failed { result ≡ failed_status
+        → ((I.seen image.new).failures ≢ (I.seen image.old).failures)
+        ⊎ ((L.seen log.new).failures ≢ (L.seen log.old).failures)
         ⊎ IsTooLong (I.seen image.old) (I.seen image.new) }
 {
     match check(image, script, base, carry, log) {
@@ -153,8 +156,8 @@ pub fn run_check<I: Source, L: Sink>(
     }
 }
 
-/// Patches an image to `out`, and tells of each patch to `log`: the answer is the status, 0, 1 where a patch is
-/// refused, or 2 behind the line of a fault. A log that has failed gets no line.
+/// Patches an image to `out`, and tells of each patch to `log`: the answer is the status, 0, 1
+/// where a patch is refused, or 2 behind the line of a fault. A log that has failed gets no line.
 pub fn run_apply<I: Source, O: Sink, L: Sink>(
     image: &mut I,
     script: &Script,
@@ -163,22 +166,31 @@ pub fn run_apply<I: Source, O: Sink, L: Sink>(
     out: &mut O,
     log: &mut L,
 ) -> u8
-    requires base { base ≤ MAX_BASE }
-    requires image_countable { (I.seen image.old).failures < 4294967295 }
-    requires out_countable { (O.seen out.old).failures < 4294967295 }
-    requires log_countable { (L.seen log.old).failures < 4294967295 }
-    ensures report { Runs (λ log' answer. Applies carry script.now base (streams (I.seen image.old) (O.seen out.old) (L.seen log.old))
+    requires base { base ≤ base_limit }
+    requires image_countable { MayCount (I.seen image.old).failures }
+    requires out_countable { MayCount (O.seen out.old).failures }
+    requires log_countable { MayCount (L.seen log.old).failures }
+    ensures report { Runs (λ log' answer. Applies carry script.now base
+        (streams (I.seen image.old) (O.seen out.old) (L.seen log.old))
         (streams (I.seen image.new) (O.seen out.new) log') answer)
         Fault.Log script_status (L.seen log.new) result }
 
     // What it says where nothing failed, and when something has.
-    ensures output { result ≢ 2 → WritesPatched carry script.now base (I.seen image.old) (I.seen image.new) (O.seen out.old) (O.seen out.new) }
-    ensures carried { carry ≡ true → result ≢ 2 → WritesCarried script.now base (I.seen image.old) (O.seen out.old) (O.seen out.new) }
-    ensures log { result ≢ 2 → TellsPatches carry script.now base (I.seen image.old) (L.seen log.old) (L.seen log.new) result }
-    ensures output_ends_well { result ≢ 2 → EndsWell (I.seen image.old) (I.seen image.new) (O.seen out.old) (O.seen out.new) }
-    ensures log_ends_well { result ≢ 2 → EndsWell (I.seen image.old) (I.seen image.new) (L.seen log.old) (L.seen log.new) }
-    ensures failed { result ≡ 2 → ((I.seen image.new).failures ≢ (I.seen image.old).failures) ⊎ ((O.seen out.new).failures ≢ (O.seen out.old).failures)
-        ⊎ ((L.seen log.new).failures ≢ (L.seen log.old).failures) ⊎ IsTooLong (I.seen image.old) (I.seen image.new) }
+    ensures output { result ≢ failed_status → WritesPatched carry script.now base (I.seen image.old)
+        (I.seen image.new) (O.seen out.old) (O.seen out.new) }
+    ensures carried { carry ≡ true → result ≢ failed_status
+        → WritesCarried script.now base (I.seen image.old) (O.seen out.old) (O.seen out.new) }
+    ensures log { result ≢ failed_status → TellsPatches carry script.now base (I.seen image.old)
+        (L.seen log.old) (L.seen log.new) result }
+    ensures output_ends_well { result ≢ failed_status
+        → EndsWell (I.seen image.old) (I.seen image.new) (O.seen out.old) (O.seen out.new) }
+    ensures log_ends_well { result ≢ failed_status
+        → EndsWell (I.seen image.old) (I.seen image.new) (L.seen log.old) (L.seen log.new) }
+    ensures failed { result ≡ failed_status
+        → ((I.seen image.new).failures ≢ (I.seen image.old).failures)
+        ⊎ ((O.seen out.new).failures ≢ (O.seen out.old).failures)
+        ⊎ ((L.seen log.new).failures ≢ (L.seen log.old).failures)
+        ⊎ IsTooLong (I.seen image.old) (I.seen image.new) }
     ensures holds_few { HoldsFew (streams (I.seen image.old) (O.seen out.old) (L.seen log.old))
         (streams (I.seen image.new) (O.seen out.new) (L.seen log.new)) }
 {

@@ -1,8 +1,9 @@
 //! The system as a host: its files, and its standard streams.
 
-ghost use Rattle.std.specs.Prelude.{◌≡◌, ⊤, IfOk};
+ghost use Rattle.std.specs.Prelude.{◌≡◌, IfOk};
+ghost use Rattle.cd_jobs.specs.Hosting.{any_answers};
 
-use crate::host::{Host, NoFile};
+use crate::host::{Host, OpenFault};
 use cd_image::{Buffered, FromRead, Sink, Source, ToWrite};
 use cd_sector::SECTOR_SIZE;
 use std::alloc::AllocError;
@@ -10,18 +11,22 @@ use std::fs;
 use std::fs::File;
 use std::io::{self, BufReader, IsTerminal, Read, Stdin, Stdout, Write};
 
-/// The number of bytes that are read or written at a time: 64 KiB as near as whole sectors come, so that none lies in two reads.
+/// The number of bytes that are read or written at a time: 64 KiB as near as whole sectors come, so
+/// that none lies in two reads.
 const BUFFER_SIZE: usize = 28 * SECTOR_SIZE;
 
 /// Where the bytes of an image or a script come from.
 #[derive(Drop)]
 pub enum Reader {
+    /// A file, from its front on.
     File(File),
+    /// The standard input, from where it stands.
     StandardInput(Stdin),
 }
 
 impl Read for Reader {
-    // Called once in 28 sectors. In line it would keep what is done for each sector from being put in line.
+    // Called once in 28 sectors. In line it would keep what is done for each sector from being put
+    // in line.
     #[cold]
     #[inline(never)]
     fn read(&mut self, buf: &mut [u8]) -> io::Result<usize> {
@@ -56,23 +61,31 @@ pub struct System<'a> {
 }
 
 impl<'a> System<'a> {
-    /// Stands for the system that `rt` gives.
+    /// The files and streams that the process of `rt` has.
     pub fn new(rt: &'a HostRuntime) -> Self {
         System { rt }
     }
 
-    fn buffered(&self, reader: Reader) -> Result<FromRead<BufReader<Reader>>, NoFile>
-        ensures { IfOk result (λ file. (⟦<FromRead<BufReader<Reader>> as Source>⟧.seen file).failures ≡ 0) }
+    /// A source of a reader's bytes, which reads as many at a time as the buffer holds.
+    fn buffered(&self, reader: Reader) -> Result<FromRead<BufReader<Reader>>, OpenFault>
+        ensures { IfOk result (λ file.
+            (⟦<FromRead<BufReader<Reader>> as Source>⟧.seen file).failures ≡ 0) }
     {
         match BufReader::with_capacity(self.rt.alloc(), BUFFER_SIZE, reader) {
             Ok(reader) => Ok(FromRead::new(reader)),
-            Err(_) => Err(NoFile::NoMemory),
+            Err(_) => Err(OpenFault::NoMemory),
         }
     }
 
-    /// The standard output. A terminal gets each line at once; a file or a pipe gets as many bytes at a time as are read.
+    /// The standard output. A terminal gets each line at once; a file or a pipe gets as many bytes
+    /// at a time as are read.
+    ///
+    /// # Errors
+    ///
+    /// Its buffer found no memory.
     pub fn standard_output(&self) -> Result<Buffered<ToWrite<Stdout>>, AllocError>
-        ensures { IfOk result (λ out. (⟦<Buffered<ToWrite<Stdout>> as Sink>⟧.seen out).failures ≡ 0) }
+        ensures { IfOk result (λ out.
+            (⟦<Buffered<ToWrite<Stdout>> as Sink>⟧.seen out).failures ≡ 0) }
     {
         let out = self.rt.stdout();
         let size = if out.is_terminal() { 0 } else { BUFFER_SIZE };
@@ -86,30 +99,26 @@ impl<'a> Host for System<'a> {
     type Output = Buffered<ToWrite<Synced>>;
 
     // Nothing is said of what a disc holds.
-    ghost gives_input = { λ _ _ _ _. ⊤ };
+    ghost hosting = { any_answers };
 
-    ghost gives_standard_input = { λ _ _ _. ⊤ };
-
-    ghost gives_output = { λ _ _ _ _. ⊤ };
-
-    fn input_at(&mut self, path: &str) -> Result<FromRead<BufReader<Reader>>, NoFile> {
+    fn input_at(&mut self, path: &str) -> Result<FromRead<BufReader<Reader>>, OpenFault> {
         match fs::open(self.rt, path) {
             Ok(file) => self.buffered(Reader::File(file)),
-            Err(_) => Err(NoFile::Refused),
+            Err(_) => Err(OpenFault::Refused),
         }
     }
 
-    fn standard_input(&mut self) -> Result<FromRead<BufReader<Reader>>, NoFile> {
+    fn standard_input(&mut self) -> Result<FromRead<BufReader<Reader>>, OpenFault> {
         self.buffered(Reader::StandardInput(self.rt.stdin()))
     }
 
-    fn output_at(&mut self, path: &str) -> Result<Buffered<ToWrite<Synced>>, NoFile> {
+    fn output_at(&mut self, path: &str) -> Result<Buffered<ToWrite<Synced>>, OpenFault> {
         let Ok(file) = File::create_new(self.rt, path) else {
-            return Err(NoFile::Refused);
+            return Err(OpenFault::Refused);
         };
         match vec![in self.rt.alloc(); 0; BUFFER_SIZE] {
             Ok(space) => Ok(Buffered::new(ToWrite::new(Synced(file)), space)),
-            Err(_) => Err(NoFile::NoMemory),
+            Err(_) => Err(OpenFault::NoMemory),
         }
     }
 }

@@ -3,7 +3,8 @@ use Rattle.std.proofs.Common.{◌≡◌, ℕ, ◌+◌, ◌-◌, ◌<◌, ◌≤�
 use Rattle.cd_script.specs.declared.patch.Patch.{Patch}
 use Rattle.cd_sector.specs.Kind.{kind_of}
 use Rattle.cd_sector.specs.declared.kinds.SectorKind.TheVariants.{Mode1}
-use Rattle.cd_patch.specs.Blocks.{asks_sound, blocks_met, old_bytes, sector_at}
+use Rattle.cd_patch.specs.Blocks.{blocks_met, sector_at}
+use Rattle.cd_patch.specs.EditMeaning.{needs_consistent, old_bytes}
 use Rattle.cd_patch.specs.Deciding.{by_difference, first_difference, first_refusal, outcome, user_met}
 use Rattle.cd_patch.specs.declared.outcome.Outcome.TheVariants.{Applied}
 use Rattle.cd_patch.proofs.DecidingLemmas.{IsMet, first_refusal-none}
@@ -26,7 +27,7 @@ met-there asks (Some sector) h = (sector, refl, h.0)
 pub accepted-there : (carry : Bool) (sectors : List (List ℕ)) (base : ℕ) (p : Patch) → outcome carry sectors base p ≡ Applied → AreThere sectors base p
 unfolding outcome
 accepted-there carry sectors base p e = λ block from to.
-    let asks = asks_sound carry p.edit in
+    let asks = needs_consistent carry p.edit in
     let otherwise = by_difference p.block (first_difference p.offset (drop p.offset (user_met sectors base p)) (old_bytes p.edit)) in
     let none = applied-told (first_refusal sectors base asks p.block (blocks_met p)) otherwise (first_refusal-told sectors base asks p.block (blocks_met p)) e in
     let at : p.block + (block - p.block) ≡ block = omega arith in

@@ -7,7 +7,7 @@ use Rattle.std.proofs.lemmas.List.Elements.{All-head, All-tail}
 use Rattle.std.proofs.lemmas.Option.{get_or_from_slice_get, slice_get_within}
 use Rattle.cd_script.specs.Patch.{IsPatch}
 use Rattle.cd_script.specs.declared.patch.Patch.{Patch}
-use Rattle.cd_patch.specs.Blocks.{sector_at}
+use Rattle.cd_patch.specs.Blocks.{block_limit, sector_at}
 use Rattle.cd_patch.specs.Run.{PatchRun}
 use Rattle.cd_patch.specs.declared.outcome.Outcome.{Outcome}
 use Rattle.cd_patch.proofs.FrameLemmas.{outcome-same}
@@ -38,7 +38,7 @@ agree_behind carry ps os os' base block old old' last last' from same h h' = (
 )
 
 agree : (carry : Bool) (i base : ℕ) (ps : List Patch) (os os' : List Outcome) (old old' last last' : List (List ℕ)) → All IsPatch ps → IsNonDecreasingBy (λ p. p.block) ps
-    → SameBelow old old' base (base + (i + 3)) → PatchRun carry ps os base old last → PatchRun carry ps os' base old' last'
+    → SameBelow old old' base (base + (i + block_limit)) → PatchRun carry ps os base old last → PatchRun carry ps os' base old' last'
     → SameUpTo ps os os' (base + i) × SameBelow last last' base (base + i + 1)
 agree carry i base [] [] [] old old' last last' each rises same h h' = (
   λ k p is up_to. refl,
@@ -53,9 +53,9 @@ agree carry i base (p ∷ ps) (o ∷ os) (o' ∷ os') old old' last last' each r
       agree_behind carry (p ∷ ps) (o ∷ os) (o' ∷ os') base (base + i) old old' last last' (rising-from p ps (base + i + 1) rises (omega arith)) (λ b below. same b (omega arith)) h h'
   | inr here ↦
       let most = blocks_met-most p (All-head IsPatch p ps each) in
-      let next : SameBelow h.1.0 h'.1.0 base (base + (i + 3)) = Effects-agree carry (base + (i + 3)) base p old old' h.1.0 h'.1.0 (omega arith) same h.1.1 h'.1.1 in
-      let equal : o ≡ o' = h.0 ∙ outcome-same carry old old' base base p (λ b low high. same b (omega arith)) ∙ sym h'.0 in
-      let rest = agree carry i base ps os os' h.1.0 h'.1.0 last last' (All-tail IsPatch p ps each) (rising-tail p ps rises) next h.1.2 h'.1.2 in
+      let next : SameBelow h.next h'.next base (base + (i + block_limit)) = Effects-agree carry (base + (i + block_limit)) base p old old' h.next h'.next (omega arith) same h.effect h'.effect in
+      let equal : o ≡ o' = h.decided ∙ outcome-same carry old old' base base p (λ b low high. same b (omega arith)) ∙ sym h'.decided in
+      let rest = agree carry i base ps os os' h.next h'.next last last' (All-tail IsPatch p ps each) (rising-tail p ps rises) next h.others h'.others in
       (first_equal p ps o o' os os' (base + i) equal rest.0, rest.1)
 ]
   where
@@ -64,8 +64,8 @@ agree carry i base (p ∷ ps) (o ∷ os) (o' ∷ os') old old' last last' each r
     first_equal p ps o o' os os' block equal rest (suc k) q is up_to = rest k q is up_to
 
 pub runs-agree : (carry : Bool) (i base : ℕ) (ps : List Patch) (os os' : List Outcome) (old old' last last' : List (List ℕ)) → All IsPatch ps → IsNonDecreasingBy (λ p. p.block) ps
-    → take (i + 3) old ≡ take (i + 3) old' → PatchRun carry ps os base old last → PatchRun carry ps os' base old' last'
+    → take (i + block_limit) old ≡ take (i + block_limit) old' → PatchRun carry ps os base old last → PatchRun carry ps os' base old' last'
     → ((k : ℕ) (p : Patch) → slice_get ps k ≡ Some p → p.block ≤ base + i → slice_get os k ≡ slice_get os' k) × (take (i + 1) last ≡ take (i + 1) last')
 runs-agree carry i base ps os os' old old' last last' each rises same h h' =
-    let both = agree carry i base ps os os' old old' last last' each rises (same_front-at old' old base (i + 3) same) h h' in
+    let both = agree carry i base ps os os' old old' last last' each rises (same_front-at old' old base (i + block_limit) same) h h' in
     (both.0, same_front last' last base (i + 1) (λ b below. both.1 b (omega arith)))

@@ -6,7 +6,8 @@ use Rattle.cd_script.specs.declared.patch.Patch.{Patch}
 use Rattle.cd_sector.specs.Consistent.{IsConsistent, consistent, header_of, is_mode1}
 use Rattle.cd_sector.specs.Kind.{kind_of}
 use Rattle.cd_sector.proofs.DefectLemmas.{consistent-told}
-use Rattle.cd_patch.specs.Blocks.{asks_consistent, asks_sound, blocks_met, keeps_defect, new_header, old_bytes, sector_at}
+use Rattle.cd_patch.specs.Blocks.{blocks_met, sector_at}
+use Rattle.cd_patch.specs.EditMeaning.{needs_consistent, builds_on, keeps_defect, new_header, old_bytes}
 use Rattle.cd_patch.specs.Deciding.{by_difference, first_difference, first_of, first_refusal, outcome, refusal_at, user_met}
 use Rattle.cd_patch.specs.Effect.{Effect, EffectOf, IsApplied, IsMade, MadeBy, patched_user, user_part}
 use Rattle.cd_patch.specs.declared.outcome.Outcome.{Outcome}
@@ -15,8 +16,8 @@ use Rattle.cd_patch.proofs.DecidingLemmas.{IsMet, first_of-none, first_refusal-n
 use Rattle.cd_patch.proofs.MadeLemmas.{MadeBy-nothing, keeps-nothing}
 use Rattle.cd_patch.proofs.TakingLemmas.{applied-told, first_refusal-told}
 
-asks-nothing : (p : Patch) → asks_sound true p.edit ≡ false
-asks-nothing p = and_right (asks_consistent p.edit) (not true) refl
+asks-nothing : (p : Patch) → needs_consistent true p.edit ≡ false
+asks-nothing p = and_right (builds_on p.edit) (not true) refl
 
 -- ---- no refusal for damage
 
@@ -51,7 +52,7 @@ pub never-damaged : (base block : ℕ) (p : Patch) (ss : List (List ℕ)) → ou
 unfolding outcome
 never-damaged base block p ss h =
     let place = first_difference p.offset (drop p.offset (user_met ss base p)) (old_bytes p.edit) in
-    unwrapped (first_refusal ss base (asks_sound true p.edit) p.block (blocks_met p)) (by_difference p.block place) block
+    unwrapped (first_refusal ss base (needs_consistent true p.edit) p.block (blocks_met p)) (by_difference p.block place) block
     (λ e. first_refusal-unasked ss base p.block (blocks_met p) block (subst (λ a. first_refusal ss base a p.block (blocks_met p) ≡ Some (Damaged block)) (asks-nothing p) e))
     (by_difference-unasked p.block block place) h
 
@@ -75,26 +76,26 @@ first_refusal-loose ss base asks block (suc count) h =
     ∙ first_refusal-loose ss base asks (block + 1) count both.1
 
 module _ (base : ℕ) (p : Patch) (old : List (List ℕ)) (accepted : outcome false old base p ≡ Applied) where
-  unrefused : first_refusal old base (asks_sound false p.edit) p.block (blocks_met p) ≡ None
+  unrefused : first_refusal old base (needs_consistent false p.edit) p.block (blocks_met p) ≡ None
   unfolding outcome
   unrefused =
-      applied-told (first_refusal old base (asks_sound false p.edit) p.block (blocks_met p)) (by_difference p.block (first_difference p.offset (drop p.offset (user_met old base p)) (old_bytes p.edit)))
-      (first_refusal-told old base (asks_sound false p.edit) p.block (blocks_met p)) accepted
+      applied-told (first_refusal old base (needs_consistent false p.edit) p.block (blocks_met p)) (by_difference p.block (first_difference p.offset (drop p.offset (user_met old base p)) (old_bytes p.edit)))
+      (first_refusal-told old base (needs_consistent false p.edit) p.block (blocks_met p)) accepted
 
   accepted-carried : outcome true old base p ≡ Applied
   unfolding outcome
   accepted-carried =
       let otherwise = by_difference p.block (first_difference p.offset (drop p.offset (user_met old base p)) (old_bytes p.edit)) in
-      let none : first_refusal old base (asks_sound true p.edit) p.block (blocks_met p) ≡ None =
-      subst (λ a. first_refusal old base a p.block (blocks_met p) ≡ None) (sym (asks-nothing p)) (first_refusal-loose old base (asks_sound false p.edit) p.block (blocks_met p) unrefused) in
+      let none : first_refusal old base (needs_consistent true p.edit) p.block (blocks_met p) ≡ None =
+      subst (λ a. first_refusal old base a p.block (blocks_met p) ≡ None) (sym (asks-nothing p)) (first_refusal-loose old base (needs_consistent false p.edit) p.block (blocks_met p) unrefused) in
       ap (λ r. unwrap_or r otherwise) (none ∙ sym unrefused) ∙ accepted
 
   -- a block that the patch meets, and whose defect it keeps, has none
   sound : (k : ℕ) (before : List ℕ) → k < blocks_met p → sector_at old base (p.block + k) ≡ Some before → keeps_defect true p.edit ≡ true → IsConsistent before
   sound k before below is keeps =
-      let asked = and_from (asks_consistent p.edit) (not false) (and_parts (asks_consistent p.edit) true keeps).0 refl in
-      let met = first_refusal-none old base (asks_sound false p.edit) p.block (blocks_met p) unrefused k below in
-      let here = subst (IsMet (asks_sound false p.edit)) is met in
+      let asked = and_from (builds_on p.edit) (not false) (and_parts (builds_on p.edit) true keeps).0 refl in
+      let met = first_refusal-none old base (needs_consistent false p.edit) p.block (blocks_met p) unrefused k below in
+      let here = subst (IsMet (needs_consistent false p.edit)) is met in
       (consistent-told before).0 (here.1 asked)
 
   made : (k : ℕ) (before after : List ℕ) → k < blocks_met p → sector_at old base (p.block + k) ≡ Some before

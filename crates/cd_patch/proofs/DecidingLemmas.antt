@@ -4,17 +4,17 @@ use Rattle.std.specs.Prelude.{not, ◌&&◌, if◌then◌else◌, is_some, slice
 use Rattle.std.proofs.lemmas.Bool.{cases_lt, ne_eqb}
 use Rattle.std.proofs.lemmas.List.{get_or_append_left, get_or-append_right, get_or-drop, get_or_read, length-append, length-drop}
 use Rattle.std.proofs.lemmas.Option.{slice_get-get_or, slice_get_past}
-use Rattle.cd_script.specs.Patch.{IsEditAt, IsPatch}
-use Rattle.cd_script.specs.declared.patch.Edit.{Edit}
-use Rattle.cd_script.specs.declared.patch.Edit.TheVariants.{Put, Fill, Rebuild, Address}
+use Rattle.cd_script.specs.Patch.{IsPatch}
 use Rattle.cd_script.specs.declared.patch.Patch.{Patch}
 use Rattle.cd_sector.proofs.DefectLemmas.{consistent-told, mode1_told}
 use Rattle.cd_sector.specs.Consistent.{IsConsistent, consistent, is_mode1, user_of}
 use Rattle.cd_sector.specs.Kind.{kind_of}
 use Rattle.cd_sector.specs.declared.kinds.SectorKind.TheVariants.{Mode1}
-use Rattle.cd_patch.specs.Blocks.{asks_sound, blocks_met, blocks_of, old_bytes, sector_at}
+use Rattle.cd_patch.specs.Blocks.{blocks_met, sector_at}
+use Rattle.cd_patch.specs.EditMeaning.{needs_consistent, builds_on, old_bytes}
 use Rattle.cd_patch.specs.Deciding.{by_difference, first_difference, first_of, first_refusal, joined_user, outcome, refusal_at, user_at, user_met}
 use Rattle.cd_patch.specs.Parts.{HaveUsers}
+use Rattle.cd_patch.proofs.RangeLemmas.{old-fits}
 use Rattle.cd_patch.proofs.SectorAtLemmas.{sector_at-add}
 use Rattle.cd_patch.specs.declared.outcome.Outcome.{Outcome}
 use Rattle.cd_patch.specs.declared.outcome.Outcome.TheVariants.{Damaged, Differs, NotMode1}
@@ -68,6 +68,15 @@ pub first_refusal-here : (ss : List (List ℕ)) (base : ℕ) (asks : Bool) (bloc
     → refusal_at asks block (sector_at ss base block) ≡ Some refusal
     → first_refusal ss base asks block (suc count) ≡ Some refusal
 first_refusal-here ss base asks block count refusal h = ap (λ r. first_of r (first_refusal ss base asks (block + 1) count)) h
+
+-- what was searched is what the patch asks for
+pub refusal-asked : (carry builds asks : Bool) (ss : List (List ℕ)) (p : Patch) (count : ℕ) (found : Option Outcome)
+    → found ≡ first_refusal ss p.block asks p.block count → asks ≡ (builds && not carry) → builds ≡ builds_on p.edit → count ≡ blocks_met p
+    → found ≡ first_refusal ss p.block (needs_consistent carry p.edit) p.block (blocks_met p)
+refusal-asked carry builds asks ss p count found told asked row met =
+    told
+    ∙ ap (λ a. first_refusal ss p.block a p.block count) (asked ∙ ap (λ b. b && not carry) row)
+    ∙ ap (first_refusal ss p.block (needs_consistent carry p.edit) p.block) met
 
 -- ---- joined user data
 
@@ -265,30 +274,16 @@ AreMet-from ss base asks count none =
       sound = λ asked k below. (consistent-told (get_or ss k [])).0 ((one k below).1 asked);
     }
 
--- ---- edits
-
-old-fits_at : (offset : ℕ) (edit : Edit) → offset ≤ 2047 → IsEditAt offset edit
-    → (offset + length (old_bytes edit) ≤ 2048 * blocks_of offset edit) × (length (old_bytes edit) ≤ 4096)
-old-fits_at offset (Put bytes None) low h = (omega arith, omega arith)
-old-fits_at offset (Put bytes (Some was)) low h = (omega (arith, h.0.some, h.1.1), omega (arith, h.0.most, h.1.1))
-old-fits_at offset (Fill count value) low h = (omega arith, omega arith)
-old-fits_at offset Rebuild low h = (omega arith, omega arith)
-old-fits_at offset (Address bcd) low h = (omega arith, omega arith)
-
-pub old-fits : (p : Patch) → IsPatch p → (p.offset + length (old_bytes p.edit) ≤ 2048 * blocks_met p) × (length (old_bytes p.edit) ≤ 4096)
-unfolding blocks_met
-old-fits p h = old-fits_at p.offset p.edit h.offset h.edit
-
 -- ---- the outcome
 
 pub outcome-refused : (carry : Bool) (ss : List (List ℕ)) (base : ℕ) (p : Patch) (refusal : Outcome)
-    → first_refusal ss base (asks_sound carry p.edit) p.block (blocks_met p) ≡ Some refusal → outcome carry ss base p ≡ refusal
+    → first_refusal ss base (needs_consistent carry p.edit) p.block (blocks_met p) ≡ Some refusal → outcome carry ss base p ≡ refusal
 unfolding outcome
 outcome-refused carry ss base p refusal h =
     ap (λ r. unwrap_or r (by_difference p.block (first_difference p.offset (drop p.offset (user_met ss base p)) (old_bytes p.edit)))) h
 
 outcome-decided : (carry : Bool) (ss : List (List ℕ)) (base : ℕ) (p : Patch) (place : Option ℕ)
-    → first_refusal ss base (asks_sound carry p.edit) p.block (blocks_met p) ≡ None
+    → first_refusal ss base (needs_consistent carry p.edit) p.block (blocks_met p) ≡ None
     → place ≡ first_difference p.offset (drop p.offset (user_met ss base p)) (old_bytes p.edit)
     → outcome carry ss base p ≡ by_difference p.block place
 unfolding outcome
@@ -311,12 +306,12 @@ difference-told ss p old place patch is users enough value =
 
 -- where no block refuses, the difference that was found decides
 pub outcome-told : (carry : Bool) (ss : List (List ℕ)) (p : Patch) (old : List ℕ) (place : Option ℕ) → IsPatch p
-    → first_refusal ss p.block (asks_sound carry p.edit) p.block (blocks_met p) ≡ None → old ≡ old_bytes p.edit → HaveUsers ss (blocks_met p)
+    → first_refusal ss p.block (needs_consistent carry p.edit) p.block (blocks_met p) ≡ None → old ≡ old_bytes p.edit → HaveUsers ss (blocks_met p)
     → ((base count : ℕ) → HaveUsers ss count → count ≤ length ss → p.offset + length old ≤ 2048 * count
     → place ≡ first_difference p.offset (drop p.offset (joined_user ss base base count)) old)
     → outcome carry ss p.block p ≡ by_difference p.block place
 outcome-told carry ss p old place patch accepted is users value =
-    let met = AreMet-from ss p.block (asks_sound carry p.edit) (blocks_met p) accepted in
+    let met = AreMet-from ss p.block (needs_consistent carry p.edit) (blocks_met p) accepted in
     outcome-decided carry ss p.block p place accepted (difference-told ss p old place patch is users met.enough value)
 
 pub Differs-same : (block offset block' offset' : ℕ) → block ≡ block' → offset ≡ offset' → Differs block offset ≡ Differs block' offset'

@@ -20,10 +20,11 @@ use Rattle.cd_sector.proofs.CarriedExistence.{carried_found}
 use Rattle.cd_sector.proofs.DefectLemmas.{length-range}
 use Rattle.cd_sector.proofs.ExistenceLemmas.{sector_found}
 use Rattle.cd_sector.proofs.SectorLemmas.{mode1-parts}
-use Rattle.cd_patch.specs.Blocks.{blocks_met, keeps_defect, new_header, sector_at}
+use Rattle.cd_patch.specs.Blocks.{blocks_met, sector_at}
+use Rattle.cd_patch.specs.EditMeaning.{keeps_defect, new_header}
 use Rattle.cd_patch.specs.Deciding.{outcome}
 use Rattle.cd_patch.specs.Effect.{Effect, EffectOf, IsApplied, IsMade, IsRemade, MadeBy, patched_user, user_part}
-use Rattle.cd_patch.specs.Laws.{IsSector}
+use Rattle.cd_patch.specs.Leaves.{IsSector}
 use Rattle.cd_patch.specs.Run.{PatchRun}
 use Rattle.cd_patch.specs.declared.outcome.Outcome.{Outcome}
 use Rattle.cd_patch.specs.declared.outcome.Outcome.TheVariants.{Applied, Damaged, Differs, NoBlock, NotMode1}
@@ -178,4 +179,4 @@ run-exists carry [] base old kept each = ([], old, refl, each)
 run-exists carry (p ∷ ps) base old kept each =
     let made = Effect-exists carry base p old (All-head IsPatch p ps kept) each in
     let rest = run-exists carry ps base made.0 (All-tail IsPatch p ps kept) (Effect-sectors carry base p old made.0 (All-head IsPatch p ps kept) each made.1) in
-    (outcome carry old base p ∷ rest.0, rest.1, (refl, (made.0, made.1, rest.2)), rest.3)
+    (outcome carry old base p ∷ rest.0, rest.1, record { decided = refl; next = made.0; effect = made.1; others = rest.2 }, rest.3)

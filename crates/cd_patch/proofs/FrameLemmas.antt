@@ -3,12 +3,11 @@ use Rattle.std.proofs.Common.{◌≡◌, ℕ, zero, suc, ◌+◌, ◌-◌, ◌/�
 use Rattle.std.specs.Prelude.{unwrap_or}
 use Rattle.std.proofs.lemmas.Bool.{cases_lt}
 use Rattle.std.proofs.lemmas.List.{length-append}
-use Rattle.cd_script.specs.declared.patch.Edit.{Edit}
-use Rattle.cd_script.specs.declared.patch.Edit.TheVariants.{Put, Fill, Rebuild, Address}
 use Rattle.cd_script.specs.declared.patch.Patch.{Patch}
 use Rattle.cd_sector.specs.declared.sector.TheConstants.{USER_SIZE}
 use Rattle.cd_delta.specs.Writing.{written}
-use Rattle.cd_patch.specs.Blocks.{asks_sound, blocks_met, blocks_of, new_bytes, old_bytes, sector_at}
+use Rattle.cd_patch.specs.Blocks.{blocks_met, sector_at}
+use Rattle.cd_patch.specs.EditMeaning.{needs_consistent, new_bytes, old_bytes}
 use Rattle.cd_patch.specs.Deciding.{by_difference, first_difference, first_of, first_refusal, joined_user, outcome, refusal_at, user_at, user_met}
 use Rattle.cd_patch.specs.Effect.{Effect, EffectOf, IsApplied, IsMade, patched_user, user_part}
 use Rattle.cd_patch.specs.declared.outcome.Outcome.{Outcome}
@@ -48,29 +47,23 @@ pub outcome-same : (carry : Bool) (sectors others : List (List ℕ)) (base middl
 unfolding outcome
 outcome-same carry sectors others base middle p h =
     ap (λ r. unwrap_or r (by_difference p.block (first_difference p.offset (drop p.offset (user_met sectors base p)) (old_bytes p.edit))))
-    (first_refusal-same sectors others base middle (asks_sound carry p.edit) p.block (blocks_met p) h)
-    ∙ ap (λ user. unwrap_or (first_refusal others middle (asks_sound carry p.edit) p.block (blocks_met p)) (by_difference p.block (first_difference p.offset (drop p.offset user) (old_bytes p.edit))))
+    (first_refusal-same sectors others base middle (needs_consistent carry p.edit) p.block (blocks_met p) h)
+    ∙ ap (λ user. unwrap_or (first_refusal others middle (needs_consistent carry p.edit) p.block (blocks_met p)) (by_difference p.block (first_difference p.offset (drop p.offset user) (old_bytes p.edit))))
     (user_met-same sectors others base middle p h)
 
 -- ---- a patch whose first block is missing
 
-blocks_of-some : (offset : ℕ) (edit : Edit) → (n : ℕ) × (blocks_of offset edit ≡ suc n)
-blocks_of-some offset (Put bytes was) = ((offset + length bytes - 1) / USER_SIZE, add-one _)
-blocks_of-some offset (Fill count value) = ((offset + count - 1) / USER_SIZE, add-one _)
-blocks_of-some offset Rebuild = (0, refl)
-blocks_of-some offset (Address bcd) = (0, refl)
-
 pub blocks_met-some : (p : Patch) → (n : ℕ) × (blocks_met p ≡ suc n)
 unfolding blocks_met
-blocks_met-some p = blocks_of-some p.offset p.edit
+blocks_met-some p = ((p.offset + length (new_bytes p.edit) - 1) / USER_SIZE, add-one _)
 
 pub outcome-missing : (carry : Bool) (sectors : List (List ℕ)) (base : ℕ) (p : Patch) → (p.block < base) ⊎ (base + length sectors ≤ p.block) → outcome carry sectors base p ≡ NoBlock p.block
 unfolding outcome
 outcome-missing carry sectors base p missing =
     let met = blocks_met-some p in
     let otherwise = by_difference p.block (first_difference p.offset (drop p.offset (user_met sectors base p)) (old_bytes p.edit)) in
-    ap (λ n. unwrap_or (first_refusal sectors base (asks_sound carry p.edit) p.block n) otherwise) met.1
-    ∙ ap (λ s. unwrap_or (first_of (refusal_at (asks_sound carry p.edit) p.block s) (first_refusal sectors base (asks_sound carry p.edit) (p.block + 1) met.0)) otherwise)
+    ap (λ n. unwrap_or (first_refusal sectors base (needs_consistent carry p.edit) p.block n) otherwise) met.1
+    ∙ ap (λ s. unwrap_or (first_of (refusal_at (needs_consistent carry p.edit) p.block s) (first_refusal sectors base (needs_consistent carry p.edit) (p.block + 1) met.0)) otherwise)
     (sector_at-missing sectors base p.block missing)
 
 pub Effect-missing : (carry : Bool) (sectors : List (List ℕ)) (base : ℕ) (p : Patch) → (p.block < base) ⊎ (base + length sectors ≤ p.block) → Effect carry base p sectors sectors

@@ -14,10 +14,12 @@ use Rattle.cd_sector.specs.Defect.{defect_of}
 use Rattle.cd_sector.specs.declared.sector.TheConstants.{USER_SIZE}
 use Rattle.cd_sector.proofs.CarriedLemmas.{sector_by_defect}
 use Rattle.cd_sector.proofs.SectorLemmas.{sector_unique}
-use Rattle.cd_patch.specs.Blocks.{asks_consistent, blocks_met, new_header, sector_at}
+use Rattle.cd_patch.specs.Blocks.{blocks_met, sector_at}
+use Rattle.cd_patch.specs.EditMeaning.{builds_on, new_header}
 use Rattle.cd_patch.specs.Deciding.{outcome}
 use Rattle.cd_patch.specs.Effect.{Effect, EffectOf, IsApplied, IsMade, patched_user, user_part}
-use Rattle.cd_patch.specs.Laws.{IsSector, LeavesOthers, SameDamage, byte_by, byte_left, header_left, is_applied, is_rebuilt, is_touched, meets}
+use Rattle.cd_patch.specs.Leaves.{IsSector, LeavesOthers, SameDamage, byte_by, byte_left, header_left, is_rebuilt, is_touched, meets}
+use Rattle.cd_patch.specs.Outcome.{is_applied}
 use Rattle.cd_patch.specs.Run.{PatchRun}
 use Rattle.cd_patch.specs.declared.outcome.Outcome.{Outcome}
 use Rattle.cd_patch.specs.declared.outcome.Outcome.TheVariants.{Applied, Damaged, Differs, NoBlock, NotMode1}
@@ -82,9 +84,9 @@ record Leaves (carry : Bool) (o : Outcome) (base : ℕ) (p : Patch) (old new : L
   others : (block : ℕ) → (is_applied o && meets p block) ≡ false → sector_at new base block ≡ sector_at old base block
   sectors : (block : ℕ) (before after : List ℕ) → (is_applied o && meets p block) ≡ true → sector_at old base block ≡ Some before → sector_at new base block ≡ Some after → IsSector after
   consistent : (block : ℕ) (before after : List ℕ) → carry ≡ false → (is_applied o && meets p block) ≡ true → sector_at old base block ≡ Some before → sector_at new base block ≡ Some after → IsConsistent after
-  rebuilt : (block : ℕ) (before after : List ℕ) → ((is_applied o && meets p block) && not (asks_consistent p.edit)) ≡ true → sector_at old base block ≡ Some before → sector_at new base block ≡ Some after
+  rebuilt : (block : ℕ) (before after : List ℕ) → ((is_applied o && meets p block) && not (builds_on p.edit)) ≡ true → sector_at old base block ≡ Some before → sector_at new base block ≡ Some after
       → IsConsistent after
-  carried : (block : ℕ) (before after : List ℕ) → carry ≡ true → ((is_applied o && meets p block) && not (asks_consistent p.edit)) ≡ false → sector_at old base block ≡ Some before
+  carried : (block : ℕ) (before after : List ℕ) → carry ≡ true → ((is_applied o && meets p block) && not (builds_on p.edit)) ≡ false → sector_at old base block ≡ Some before
       → sector_at new base block ≡ Some after → SameDamage before after
   stays : (block : ℕ) (before after : List ℕ) → IsConsistent before → sector_at old base block ≡ Some before → sector_at new base block ≡ Some after → IsConsistent after
   header : (block : ℕ) (before after : List ℕ) → sector_at old base block ≡ Some before → sector_at new base block ≡ Some after
@@ -99,7 +101,7 @@ Leaves-refused carry o base p old new refused e = record {
   sectors = λ block before after h is was. absurd (false≢true (sym refused ∙ (and_parts (is_applied o) (meets p block) h).0));
   consistent = λ block before after none h is was. absurd (false≢true (sym refused ∙ (and_parts (is_applied o) (meets p block) h).0));
   rebuilt = λ block before after h is was.
-      let met = and_parts (is_applied o && meets p block) (not (asks_consistent p.edit)) h in
+      let met = and_parts (is_applied o && meets p block) (not (builds_on p.edit)) h in
       absurd (false≢true (sym refused ∙ (and_parts (is_applied o) (meets p block) met.0).0));
   carried = λ block before after carries none is was. SameDamage-same before after (same block before after is was);
   stays = λ block before after sound is was. subst IsConsistent (sym (same block before after is was)) sound;
@@ -125,13 +127,13 @@ Leaves-applied carry base p old new kept each there h = record {
       let within = meets-within p block met in
       IsMade-anew carry p.edit before (left block) after (keeps-nothing carry p.edit none) (made block before after within.0 within.1 is was);
   rebuilt = λ block before after again is was.
-      let both = and_parts (meets p block) (not (asks_consistent p.edit)) again in
+      let both = and_parts (meets p block) (not (builds_on p.edit)) again in
       let within = meets-within p block both.0 in
-      IsMade-anew carry p.edit before (left block) after (and_left (asks_consistent p.edit) carry (not-true (asks_consistent p.edit) both.1)) (made block before after within.0 within.1 is was);
+      IsMade-anew carry p.edit before (left block) after (and_left (builds_on p.edit) carry (not-true (builds_on p.edit) both.1)) (made block before after within.0 within.1 is was);
   carried = λ block before after carries none is was. elim (meets-cases p block) [
     | inl met ↦
         IsMade-carried carry p.edit before (left block) after
-        (and_from (asks_consistent p.edit) carry (asks-kept (meets p block) (asks_consistent p.edit) (meets-true p block met.0 met.1) none) carries) (made block before after met.0 met.1 is was)
+        (and_from (builds_on p.edit) carry (asks-kept (meets p block) (builds_on p.edit) (meets-true p block met.0 met.1) none) carries) (made block before after met.0 met.1 is was)
     | inr other ↦ SameDamage-same before after (same block before after other is was)
   ];
   stays = λ block before after sound is was. elim (meets-cases p block) [
@@ -223,13 +225,13 @@ LeavesOthers-more carry p ps o os base old next last one rest = record {
   ];
   rebuilt = λ block before after h is was.
       let middle = sector_at-other old next base block before one.count is in
-      elim (or_cases ((is_applied o && meets p block) && not (asks_consistent p.edit)) (is_rebuilt ps os block) h) [
+      elim (or_cases ((is_applied o && meets p block) && not (builds_on p.edit)) (is_rebuilt ps os block) h) [
         | inl here ↦ rest.stays block middle.0 after (one.rebuilt block before middle.0 here is middle.1) middle.1 was
         | inr later ↦ rest.rebuilt block middle.0 after later middle.1 was
       ];
   carried = λ block before after carries none is was.
       let middle = sector_at-other old next base block before one.count is in
-      let parts = or_parts ((is_applied o && meets p block) && not (asks_consistent p.edit)) (is_rebuilt ps os block) none in
+      let parts = or_parts ((is_applied o && meets p block) && not (builds_on p.edit)) (is_rebuilt ps os block) none in
       let first = one.carried block before middle.0 carries parts.0 is middle.1 in
       let others = rest.carried block middle.0 after carries parts.1 middle.1 was in
       record { sync = others.sync ∙ first.sync; defect = others.defect ∙ first.defect };
@@ -250,16 +252,16 @@ run-leaves_others carry [] [] base old last kept each h = LeavesOthers-none carr
 run-leaves_others carry [] (o ∷ os) base old last kept each h = elim h [ ]
 run-leaves_others carry (p ∷ ps) [] base old last kept each h = elim h [ ]
 run-leaves_others carry (p ∷ ps) (o ∷ os) base old last kept each h =
-    let one = Leaves-effect carry base p old h.1.0 (All-head IsPatch p ps kept) each h.1.1 in
-    LeavesOthers-more carry p ps o os base old h.1.0 last (subst (λ x. Leaves carry x base p old h.1.0) (sym h.0) one)
-    (run-leaves_others carry ps os base h.1.0 last (All-tail IsPatch p ps kept) (Effect-sectors carry base p old h.1.0 (All-head IsPatch p ps kept) each h.1.1) h.1.2)
+    let one = Leaves-effect carry base p old h.next (All-head IsPatch p ps kept) each h.effect in
+    LeavesOthers-more carry p ps o os base old h.next last (subst (λ x. Leaves carry x base p old h.next) (sym h.decided) one)
+    (run-leaves_others carry ps os base h.next last (All-tail IsPatch p ps kept) (Effect-sectors carry base p old h.next (All-head IsPatch p ps kept) each h.effect) h.others)
 
 pub PatchRun-sectors : (carry : Bool) (ps : List Patch) (os : List Outcome) (base : ℕ) (old last : List (List ℕ)) → All IsPatch ps → All IsSector old → PatchRun carry ps os base old last → All IsSector last
 PatchRun-sectors carry [] [] base old last kept each h = All-same IsSector last old h each
 PatchRun-sectors carry [] (o ∷ os) base old last kept each h = elim h [ ]
 PatchRun-sectors carry (p ∷ ps) [] base old last kept each h = elim h [ ]
 PatchRun-sectors carry (p ∷ ps) (o ∷ os) base old last kept each h =
-    PatchRun-sectors carry ps os base h.1.0 last (All-tail IsPatch p ps kept) (Effect-sectors carry base p old h.1.0 (All-head IsPatch p ps kept) each h.1.1) h.1.2
+    PatchRun-sectors carry ps os base h.next last (All-tail IsPatch p ps kept) (Effect-sectors carry base p old h.next (All-head IsPatch p ps kept) each h.effect) h.others
 
 -- ---- these words leave no choice
 

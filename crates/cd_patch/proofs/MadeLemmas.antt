@@ -10,9 +10,9 @@ use Rattle.cd_sector.specs.Consistent.{IsConsistent, header_of, user_of}
 use Rattle.cd_sector.proofs.CarriedLemmas.{carried_consistent, carried_unique, consistent_carried}
 use Rattle.cd_sector.proofs.DefectLemmas.{range-byte}
 use Rattle.cd_sector.proofs.SectorLemmas.{mode1-parts, sector_unique}
-use Rattle.cd_patch.specs.Blocks.{asks_consistent, keeps_defect, new_header}
+use Rattle.cd_patch.specs.EditMeaning.{builds_on, keeps_defect, new_header}
 use Rattle.cd_patch.specs.Effect.{IsMade, MadeBy}
-use Rattle.cd_patch.specs.Laws.{IsSector, SameDamage}
+use Rattle.cd_patch.specs.Leaves.{IsSector, SameDamage}
 
 -- ---- by either rule
 
@@ -89,4 +89,4 @@ IsMade-consistent carry offset edit old user new kept sound h =
     (new_header-mode offset edit (header_of old) kept (header-mode old sound)) h
 
 pub keeps-nothing : (carry : Bool) (edit : Edit) → carry ≡ false → keeps_defect carry edit ≡ false
-keeps-nothing carry edit none = and_right (asks_consistent edit) carry none
+keeps-nothing carry edit none = and_right (builds_on edit) carry none

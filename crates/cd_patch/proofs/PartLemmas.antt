@@ -2,7 +2,7 @@
 use Rattle.std.proofs.Common.{◌≡◌, ◌≢◌, ℕ, ◌+◌, ◌-◌, ◌*◌, ◌<◌, ◌≤◌, ◌⊎◌, inl, inr, Bool, List, [], ◌∷◌, length, get_or, set, take, drop, replicate, refl, sym, ap, subst, ◌∙◌, below_more, arith}
 use Rattle.std.specs.Prelude.{slice_range}
 use Rattle.std.proofs.lemmas.Bool.{cases_lt}
-use Rattle.std.proofs.lemmas.List.{ext_get_or, get_or_default, get_or-replicate, get_or-set_other, get_or-set_same, get_or-take, length-drop, length-replicate, length-set, length-take, length-take-le}
+use Rattle.std.proofs.lemmas.List.{ext_get_or, get_or_default, get_or-drop, get_or-replicate, get_or-set_other, get_or-set_same, get_or-take, length-drop, length-replicate, length-set, length-take, length-take-le}
 use Rattle.cd_delta.proofs.UserLemmas.{length-written, written-range, written-other}
 use Rattle.cd_delta.specs.Writing.{written}
 use Rattle.cd_sector.proofs.DefectLemmas.{length-range, range-byte}
@@ -11,7 +11,7 @@ use Rattle.cd_sector.specs.Consistent.{header_of, user_of}
 use Rattle.cd_sector.specs.Kind.{kind_of}
 use Rattle.cd_sector.specs.declared.kinds.SectorKind.TheVariants.{Mode1}
 use Rattle.cd_patch.specs.Effect.{MadeBy, user_part}
-use Rattle.cd_patch.specs.Parts.{EachMade, HasPart, IsPart}
+use Rattle.cd_patch.specs.Parts.{HasPart, IsPart}
 use Rattle.cd_patch.proofs.MadeLemmas.{MadeBy-user}
 
 -- ---- one sector
@@ -125,37 +125,45 @@ read_old Rule k old new d below inside =
     let size = below.size in
     get_or_default new k d [] (omega arith) ∙ below.others k (omega arith)
 
--- one sector alone
-pub EachMade-one : (Rule : ℕ → List ℕ → List ℕ → Type 0) (old : List (List ℕ)) (after : List ℕ) → length old ≡ 1
-    → Rule 0 (get_or old 0 []) after → EachMade Rule old (set old 0 after)
-EachMade-one Rule old after one here = record {
-  size = length-set old 0 after;
-  each = λ k below.
-      let first : 0 ≡ k = omega arith in
-      subst (λ i. Rule i (get_or old i []) (get_or (set old 0 after) i [])) first
-      (subst (Rule 0 (get_or old 0 [])) (sym (get_or-set_same old 0 after [] (omega arith))) here);
-}
+-- ---- bytes that are copied, or equal
 
--- ---- equal bytes, and the header of a sector made anew
+-- those of a range that lie in a sector, copied
+pub HasPart-copied : (carried : Bool) (k offset place first end : ℕ) (bytes header before after : List ℕ) → IsPart k offset (length bytes) place first end
+    → length (user_of before) ≡ 2048
+    → MadeBy carried before header (written (user_of before) place (take (end - first) (drop first bytes))) after
+    → HasPart carried k offset bytes header before after
+HasPart-copied carried k offset place first end bytes header before after at size is_made =
+    let count = end - first in
+    let rises = at.rises in
+    let within = at.within in
+    let rest = length-drop first bytes in
+    let cut = length-take-le count (drop first bytes) (omega arith) in
+    HasPart-written carried k offset place first end bytes (take count (drop first bytes)) header before after at size (omega arith)
+    (λ i below. get_or-take count (drop first bytes) i 0 (omega arith) ∙ get_or-drop first bytes i 0)
+    is_made
 
--- any bytes of a filled range are the first of as many equal ones
-pub HasPart-filled : (carried : Bool) (k offset place first end count value n : ℕ) (bytes header before after : List ℕ) → IsPart k offset count place first end
-    → length (user_of before) ≡ 2048 → bytes ≡ replicate 2048 value
-    → MadeBy carried before header (written (user_of before) place (take n bytes)) after
-    → first + n ≡ end → HasPart carried k offset (replicate count value) header before after
-HasPart-filled carried k offset place first end count value n bytes header before after at size filled is_made part =
+-- those of a filled range: any of them are the first of a sector of equal bytes
+pub HasPart-filled : (carried : Bool) (k offset place first end count value : ℕ) (header before after : List ℕ)
+    → IsPart k offset (length (replicate count value)) place first end → length (user_of before) ≡ 2048
+    → MadeBy carried before header (written (user_of before) place (take (end - first) (replicate 2048 value))) after
+    → HasPart carried k offset (replicate count value) header before after
+HasPart-filled carried k offset place first end count value header before after at size is_made =
+    let n = end - first in
+    let bytes = replicate 2048 value in
+    let rises = at.rises in
     let fits = at.fits in
     let within = at.within in
-    let long : length bytes ≡ 2048 = ap length filled ∙ length-replicate 2048 value in
+    let all = length-replicate count value in
+    let long = length-replicate 2048 value in
     let cut = length-take-le n bytes (omega arith) in
-    let whole = subst (λ m. IsPart k offset m place first end) (sym (length-replicate count value)) at in
-    HasPart-written carried k offset place first end (replicate count value) (take n bytes) header before after whole size (omega arith)
+    HasPart-written carried k offset place first end (replicate count value) (take n bytes) header before after at size (omega arith)
     (λ i below.
     get_or-take n bytes i 0 (omega arith)
-    ∙ ap (λ v. get_or v i 0) filled
     ∙ get_or-replicate 2048 i value 0 (omega arith)
     ∙ sym (get_or-replicate count (first + i) value 0 (omega arith)))
     is_made
+
+-- ---- the header of a sector made anew
 
 four_bytes : (v : List ℕ) → length v ≡ 4 → v ≡ get_or v 0 0 ∷ get_or v 1 0 ∷ get_or v 2 0 ∷ get_or v 3 0 ∷ []
 four_bytes [] size = absurd (omega arith)

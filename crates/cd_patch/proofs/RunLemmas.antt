@@ -22,13 +22,13 @@ pub PatchRun-lengths : (carry : Bool) (ps : List Patch) (os : List Outcome) (bas
 PatchRun-lengths carry [] [] base old last h = refl
 PatchRun-lengths carry [] (o ∷ os) base old last h = elim h [ ]
 PatchRun-lengths carry (p ∷ ps) [] base old last h = elim h [ ]
-PatchRun-lengths carry (p ∷ ps) (o ∷ os) base old last h = ap (λ n. suc n) (PatchRun-lengths carry ps os base h.1.0 last h.1.2)
+PatchRun-lengths carry (p ∷ ps) (o ∷ os) base old last h = ap (λ n. suc n) (PatchRun-lengths carry ps os base h.next last h.others)
 
 pub PatchRun-count : (carry : Bool) (ps : List Patch) (os : List Outcome) (base : ℕ) (old last : List (List ℕ)) → PatchRun carry ps os base old last → length last ≡ length old
 PatchRun-count carry [] [] base old last h = ap length h
 PatchRun-count carry [] (o ∷ os) base old last h = elim h [ ]
 PatchRun-count carry (p ∷ ps) [] base old last h = elim h [ ]
-PatchRun-count carry (p ∷ ps) (o ∷ os) base old last h = PatchRun-count carry ps os base h.1.0 last h.1.2 ∙ Effect-length carry base p old h.1.0 h.1.1
+PatchRun-count carry (p ∷ ps) (o ∷ os) base old last h = PatchRun-count carry ps os base h.next last h.others ∙ Effect-length carry base p old h.next h.effect
 
 -- ---- one run behind another
 
@@ -37,15 +37,21 @@ pub PatchRun-append : (carry : Bool) (ps ps' : List Patch) (os os' : List Outcom
 PatchRun-append carry [] ps' [] os' base old middle last h k = subst (λ m. PatchRun carry ps' os' base m last) h k
 PatchRun-append carry [] ps' (o ∷ os) os' base old middle last h k = elim h [ ]
 PatchRun-append carry (p ∷ ps) ps' [] os' base old middle last h k = elim h [ ]
-PatchRun-append carry (p ∷ ps) ps' (o ∷ os) os' base old middle last h k = (h.0, (h.1.0, h.1.1, PatchRun-append carry ps ps' os os' base h.1.0 middle last h.1.2 k))
+PatchRun-append carry (p ∷ ps) ps' (o ∷ os) os' base old middle last h k = record {
+  decided = h.decided;
+  next = h.next;
+  effect = h.effect;
+  others = PatchRun-append carry ps ps' os os' base h.next middle last h.others k;
+}
 
 pub PatchRun-split : (carry : Bool) (ps ps' : List Patch) (os : List Outcome) (base : ℕ) (old last : List (List ℕ)) → PatchRun carry (ps ++ ps') os base old last
     → (front : List Outcome) × (back : List Outcome) × (middle : List (List ℕ)) × (os ≡ front ++ back) × PatchRun carry ps front base old middle × PatchRun carry ps' back base middle last
 PatchRun-split carry [] ps' os base old last h = ([], os, old, refl, refl, h)
 PatchRun-split carry (p ∷ ps) ps' [] base old last h = elim h [ ]
 PatchRun-split carry (p ∷ ps) ps' (o ∷ os) base old last h =
-    let r = PatchRun-split carry ps ps' os base h.1.0 last h.1.2 in
-    (o ∷ r.0, r.1, r.2, ap (λ l. o ∷ l) r.3, (h.0, (h.1.0, h.1.1, r.4)), r.5)
+    let r = PatchRun-split carry ps ps' os base h.next last h.others in
+    let first : PatchRun carry (p ∷ ps) (o ∷ r.0) base old r.2 = record { decided = h.decided; next = h.next; effect = h.effect; others = r.4 } in
+    (o ∷ r.0, r.1, r.2, ap (λ l. o ∷ l) r.3, first, r.5)
 
 -- ---- what patches leave alone
 
@@ -67,8 +73,8 @@ PatchRun-keeps carry [] (o ∷ os) base bound old last from h block below = elim
 PatchRun-keeps carry (p ∷ ps) [] base bound old last from h block below = elim h [ ]
 PatchRun-keeps carry (p ∷ ps) (o ∷ os) base bound old last from h block below =
     let here : bound ≤ p.block = All-head (λ (q : Patch). bound ≤ q.block) p ps from in
-    PatchRun-keeps carry ps os base bound h.1.0 last (All-tail (λ (q : Patch). bound ≤ q.block) p ps from) h.1.2 block below
-    ∙ Effect-keeps carry base p old h.1.0 h.1.1 block (inl (omega arith))
+    PatchRun-keeps carry ps os base bound h.next last (All-tail (λ (q : Patch). bound ≤ q.block) p ps from) h.others block below
+    ∙ Effect-keeps carry base p old h.next h.effect block (inl (omega arith))
 
 pub PatchRun-front : (carry : Bool) (ps : List Patch) (os : List Outcome) (base : ℕ) (front rest last : List (List ℕ)) → All (λ p. base + length front ≤ p.block) ps
     → PatchRun carry ps os base (front ++ rest) last → (rest' : List (List ℕ)) × (last ≡ front ++ rest')
@@ -143,6 +149,6 @@ PatchRun-determined carry [] (o ∷ os) os' base old last last' h h' = elim h [ 
 PatchRun-determined carry (p ∷ ps) [] os' base old last last' h h' = elim h [ ]
 PatchRun-determined carry (p ∷ ps) (o ∷ os) [] base old last last' h h' = elim h' [ ]
 PatchRun-determined carry (p ∷ ps) (o ∷ os) (o' ∷ os') base old last last' h h' =
-    let next = Effect-determined carry base p old h.1.0 h'.1.0 h.1.1 h'.1.1 in
-    let rest = PatchRun-determined carry ps os os' base h.1.0 last last' h.1.2 (subst (λ l. PatchRun carry ps os' base l last') (sym next) h'.1.2) in
-    (ap (λ x. x ∷ os) (h.0 ∙ sym h'.0) ∙ ap (λ l. o' ∷ l) rest.0, rest.1)
+    let next = Effect-determined carry base p old h.next h'.next h.effect h'.effect in
+    let rest = PatchRun-determined carry ps os os' base h.next last last' h.others (subst (λ l. PatchRun carry ps os' base l last') (sym next) h'.others) in
+    (ap (λ x. x ∷ os) (h.decided ∙ sym h'.decided) ∙ ap (λ l. o' ∷ l) rest.0, rest.1)

@@ -1,5 +1,5 @@
 -- What an accepted patch makes of the sectors, and the ranges of edits.
-use Rattle.std.proofs.Common.{◌≡◌, ℕ, zero, suc, ◌+◌, ◌-◌, ◌*◌, ◌<◌, ◌≤◌, inl, inr, Bool, true, false, List, [], ◌++◌, length, get_or, take, drop, Option, Some, None, refl, sym, ap, subst, ◌∙◌, arith}
+use Rattle.std.proofs.Common.{◌≡◌, ℕ, zero, suc, ◌+◌, ◌-◌, ◌<◌, ◌≤◌, inl, inr, Bool, true, false, List, [], ◌++◌, length, get_or, take, drop, Option, Some, None, refl, sym, ap, subst, ◌∙◌, arith}
 use Rattle.std.specs.Prelude.{All, not, ◌&&◌, if◌then◌else◌, slice_get, unwrap_or}
 use Rattle.std.proofs.lemmas.Bool.{cases_lt}
 use Rattle.std.proofs.lemmas.List.{get_or_append_left, get_or-append_right, get_or_default, get_or-drop, get_or-take, length-append, length-drop, length-replicate, length-take-le}
@@ -12,48 +12,59 @@ use Rattle.cd_sector.specs.Consistent.{IsConsistent, consistent, header_of, is_m
 use Rattle.cd_sector.specs.Kind.{kind_of}
 use Rattle.cd_delta.specs.Writing.{written}
 use Rattle.cd_sector.specs.declared.kinds.SectorKind.TheVariants.{Mode1}
-use Rattle.cd_patch.specs.Blocks.{asks_sound, blocks_met, blocks_of, blocks_spanned, keeps_defect, new_bytes, new_header, old_bytes, sector_at}
+use Rattle.cd_patch.specs.Blocks.{blocks_met, sector_at}
+use Rattle.cd_patch.specs.EditMeaning.{needs_consistent, builds_on, keeps_defect, meaning, new_bytes, new_header, old_bytes}
 use Rattle.cd_patch.specs.Deciding.{by_difference, first_difference, first_of, first_refusal, joined_user, outcome, refusal_at, user_met}
 use Rattle.cd_patch.specs.Effect.{Effect, EffectOf, IsApplied, MadeBy, patched_user, user_part}
+use Rattle.cd_patch.specs.Outcome.{is_applied}
 use Rattle.cd_patch.specs.Parts.{EachMade, HasPart, HaveUsers}
 use Rattle.cd_patch.specs.declared.outcome.Outcome.{Outcome}
-use Rattle.cd_patch.specs.declared.outcome.Outcome.TheVariants.{Applied, Damaged, NotMode1}
+use Rattle.cd_patch.specs.declared.outcome.Outcome.TheVariants.{Applied, Damaged, Differs, NoBlock, NotMode1}
 use Rattle.cd_patch.proofs.DecidingLemmas.{AreMet, AreMet-from, BlocksHaveUsers-from, joined-byte, length-joined, user_at-sector}
 use Rattle.cd_patch.proofs.MadeLemmas.{MadeBy-sector}
 use Rattle.cd_patch.proofs.SectorAtLemmas.{sector_at-add, sector_at-below}
-use Rattle.cd_patch.proofs.PartLemmas.{length-user, user_part-of}
+use Rattle.cd_patch.proofs.RangeLemmas.{Spans, range-inside, range-spans}
+use Rattle.cd_patch.proofs.PartLemmas.{HasPart-nothing, length-user, user_part-of}
 
--- ---- the range of an edit
+-- ---- the rule for a sector that a patch meets
 
--- a range of so many bytes lies in each of so many blocks, at most three
-pub record Spans (offset count blocks : ℕ) : Type 0 where
-  pub few : blocks ≤ 3
-  pub some : 2048 * blocks < offset + count + 2048
-  pub room : offset + count ≤ 2048 * blocks
+abbrev pub part_by : Bool → Patch → ℕ → List ℕ → List ℕ → Type 0
+part_by carry p k before after =
+    HasPart (keeps_defect carry p.edit) k p.offset (new_bytes p.edit) (new_header p.edit (header_of before)) before after
 
-spans : (offset count : ℕ) → offset ≤ 2047 → 1 ≤ count → count ≤ 4096 → Spans offset count (blocks_spanned offset count)
-spans offset count low some most = record { few = omega arith; some = omega arith; room = omega arith }
+-- ---- the ways of an edit
 
-pub put-spans : (p : Patch) (bytes : List ℕ) (was : Option (List ℕ)) → IsPatch p → p.edit ≡ Put bytes was → Spans p.offset (length bytes) (blocks_met p)
-unfolding blocks_met
-put-spans p bytes was patch is =
-    let h : IsEditAt p.offset (Put bytes was) = subst (IsEditAt p.offset) is patch.edit in
-    subst (λ e. Spans p.offset (length bytes) (blocks_of p.offset e)) (sym is)
-    (spans p.offset (length bytes) patch.offset h.0.some h.0.most)
+-- an edit that builds on the sector writes an address, or bytes
+new-some : (offset : ℕ) (edit : Edit) → IsEditAt offset edit → builds_on edit ≡ true → (meaning edit).address ≡ None → 1 ≤ length (new_bytes edit)
+new-some offset (Put bytes was) h builds none = h.0.some
+new-some offset (Fill count value) h builds none = omega (arith, length-replicate count value, h.0)
+new-some offset Rebuild h builds none = cc
+new-some offset (Address bcd) h builds none = cc
 
-pub fill-spans : (p : Patch) (count value : ℕ) → IsPatch p → p.edit ≡ Fill count value → Spans p.offset count (blocks_met p)
-unfolding blocks_met
-fill-spans p count value patch is =
-    let h : IsEditAt p.offset (Fill count value) = subst (IsEditAt p.offset) is patch.edit in
-    subst (λ e. Spans p.offset count (blocks_of p.offset e)) (sym is) (spans p.offset count patch.offset h.0 h.1)
+pub part-spans : (p : Patch) → IsPatch p → builds_on p.edit ≡ true → (meaning p.edit).address ≡ None → Spans p.offset (length (new_bytes p.edit)) (blocks_met p)
+part-spans p patch builds none = range-spans p patch (new-some p.offset p.edit patch.edit builds none)
 
-pub rebuild-alone : (p : Patch) → p.edit ≡ Rebuild → blocks_met p ≡ 1
-unfolding blocks_met
-rebuild-alone p is = ap (blocks_of p.offset) is
+-- one that writes an address writes no bytes
+pub part-address : (carry : Bool) (k offset : ℕ) (edit : Edit) (bcd before after : List ℕ) → (meaning edit).address ≡ Some bcd
+    → MadeBy carry before (bcd ++ drop 3 (header_of before)) (user_of before) after
+    → HasPart (keeps_defect carry edit) k offset (new_bytes edit) (new_header edit (header_of before)) before after
+part-address carry k offset (Put bytes was) bcd before after is made = cc
+part-address carry k offset (Fill count value) bcd before after is made = cc
+part-address carry k offset Rebuild bcd before after is made = cc
+part-address carry k offset (Address own) bcd before after is made =
+    let same : own ≡ bcd = cc in
+    let header = own ++ drop 3 (header_of before) in
+    HasPart-nothing carry k offset [] header before after refl
+    (subst (λ b. MadeBy carry before (b ++ drop 3 (header_of before)) (user_of before) after) (sym same) made)
 
-pub address-alone : (p : Patch) (bcd : List ℕ) → p.edit ≡ Address bcd → blocks_met p ≡ 1
-unfolding blocks_met
-address-alone p bcd is = ap (blocks_of p.offset) is
+-- one that makes the sector anew writes neither
+pub part-anew : (carry : Bool) (k offset : ℕ) (edit : Edit) (before after : List ℕ) → builds_on edit ≡ false
+    → MadeBy false before (header_of before) (user_of before) after
+    → HasPart (keeps_defect carry edit) k offset (new_bytes edit) (new_header edit (header_of before)) before after
+part-anew carry k offset (Put bytes was) before after is made = cc
+part-anew carry k offset (Fill count value) before after is made = cc
+part-anew carry k offset Rebuild before after is made = HasPart-nothing false k offset [] (header_of before) before after refl made
+part-anew carry k offset (Address bcd) before after is made = cc
 
 -- ---- no refusal is an acceptance
 
@@ -82,13 +93,13 @@ pub applied-told : (refusal : Option Outcome) (other : Outcome) → (refusal ≡
 applied-told None other real h = refl
 applied-told (Some r) other real h = absurd (real (ap (λ o. Some o) h))
 
-pub met-where-applied : (carry : Bool) (ss : List (List ℕ)) (p : Patch) → outcome carry ss p.block p ≡ Applied → AreMet (asks_sound carry p.edit) ss (blocks_met p)
+pub met-where-applied : (carry : Bool) (ss : List (List ℕ)) (p : Patch) → outcome carry ss p.block p ≡ Applied → AreMet (needs_consistent carry p.edit) ss (blocks_met p)
 unfolding outcome
 met-where-applied carry ss p h =
-    let found = first_refusal ss p.block (asks_sound carry p.edit) p.block (blocks_met p) in
-    AreMet-from ss p.block (asks_sound carry p.edit) (blocks_met p)
+    let found = first_refusal ss p.block (needs_consistent carry p.edit) p.block (blocks_met p) in
+    AreMet-from ss p.block (needs_consistent carry p.edit) (blocks_met p)
     (applied-told found (by_difference p.block (first_difference p.offset (drop p.offset (user_met ss p.block p)) (old_bytes p.edit)))
-    (first_refusal-told ss p.block (asks_sound carry p.edit) p.block (blocks_met p)) h)
+    (first_refusal-told ss p.block (needs_consistent carry p.edit) p.block (blocks_met p)) h)
 
 -- ---- the sectors in front and those behind them
 
@@ -122,12 +133,12 @@ slice_get-behind front ss n k long room behind =
 
 -- ---- the effect
 
-pub IsApplied-from : (carry : Bool) (p : Patch) (ss front : List (List ℕ)) → p.offset + length (new_bytes p.edit) ≤ 2048 * blocks_met p → blocks_met p ≤ length ss
+pub IsApplied-from : (carry : Bool) (p : Patch) (ss front : List (List ℕ)) → blocks_met p ≤ length ss
     → HaveUsers ss (blocks_met p)
-    → EachMade (λ k before after. HasPart (keeps_defect carry p.edit) k p.offset (new_bytes p.edit) (new_header p.edit (header_of before)) before after) (take (blocks_met p) ss) front
+    → EachMade (part_by carry p) (take (blocks_met p) ss) front
     → IsApplied carry p.block p ss (front ++ drop (blocks_met p) ss)
 unfolding patched_user user_met
-IsApplied-from carry p ss front fits room users each =
+IsApplied-from carry p ss front room users each =
     let n = blocks_met p in
     let carried = keeps_defect carry p.edit in
     let bytes = new_bytes p.edit in
@@ -152,7 +163,7 @@ IsApplied-from carry p ss front fits room users each =
           let part : HasPart carried k p.offset bytes header before after = subst (HasPart carried k p.offset bytes header before) is old_part in
           let sector = MadeBy-sector carried before header (user_of after) after part.made in
           let user : user_of after ≡ user_part (written joined p.offset bytes) k =
-          user_part-of carried k n p.offset bytes joined header before after below (length-joined 2048 ss p.block p.block n all) fits
+          user_part-of carried k n p.offset bytes joined header before after below (length-joined 2048 ss p.block p.block n all) (range-inside p)
           (length-user after sector.size)
           (λ j in_block.
           joined-byte 2048 ss p.block p.block n all k j below in_block
@@ -170,15 +181,13 @@ IsApplied-from carry p ss front fits room users each =
           ];
     }
 
-new-fits_at : (offset : ℕ) (edit : Edit) → offset ≤ 2047 → IsEditAt offset edit → offset + length (new_bytes edit) ≤ 2048 * blocks_of offset edit
-new-fits_at offset (Put bytes was) low h = (spans offset (length bytes) low h.0.some h.0.most).room
-new-fits_at offset (Fill count value) low h = omega (arith, length-replicate count value, (spans offset count low h.0 h.1).room)
-new-fits_at offset Rebuild low h = omega arith
-new-fits_at offset (Address bcd) low h = let start = h.0 in omega arith
-
-pub new-fits : (p : Patch) → IsPatch p → p.offset + length (new_bytes p.edit) ≤ 2048 * blocks_met p
-unfolding blocks_met
-new-fits p patch = new-fits_at p.offset p.edit patch.offset patch.edit
+-- what was accepted, by its test
+pub accepted : (o : Outcome) → is_applied o ≡ true → o ≡ Applied
+accepted Applied h = refl
+accepted (NoBlock block) h = cc
+accepted (NotMode1 block) h = cc
+accepted (Damaged block) h = cc
+accepted (Differs block offset) h = cc
 
 pub Effect-applied : (carry : Bool) (p : Patch) (old new : List (List ℕ)) → outcome carry old p.block p ≡ Applied → IsApplied carry p.block p old new → Effect carry p.block p old new
 Effect-applied carry p old new is h = subst (λ o. EffectOf carry o p.block p old new) (sym is) h

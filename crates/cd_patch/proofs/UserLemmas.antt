@@ -18,10 +18,11 @@ use Rattle.cd_sector.proofs.DefectLemmas.{length-range, range-byte}
 use Rattle.cd_code.proofs.ByteLemmas.{AreBytes-append, AreBytes-drop, AreBytes-take}
 use Rattle.cd_delta.specs.Writing.{written}
 use Rattle.cd_delta.proofs.UserLemmas.{length-written, written-other, written-range}
-use Rattle.cd_patch.specs.Blocks.{blocks_met, new_bytes, sector_at}
+use Rattle.cd_patch.specs.Blocks.{blocks_met, sector_at}
+use Rattle.cd_patch.specs.EditMeaning.{new_bytes}
 use Rattle.cd_patch.specs.Deciding.{joined_user, user_at, user_met}
 use Rattle.cd_patch.specs.Effect.{patched_user, user_part}
-use Rattle.cd_patch.specs.Laws.{IsSector, byte_by}
+use Rattle.cd_patch.specs.Leaves.{IsSector, byte_by}
 use Rattle.cd_patch.proofs.AcceptedLemmas.{AreThere}
 use Rattle.cd_patch.proofs.DecidingLemmas.{BlocksHaveUsers, joined-byte, length-joined}
 use Rattle.cd_patch.proofs.ElementLemmas.{option_cases}
@@ -129,7 +130,7 @@ module _ (sectors : List (List ℕ)) (base : ℕ) (p : Patch) (each : All IsSect
 
   module _ (kept : IsPatch p) where
     room : p.offset + length (new_bytes p.edit) ≤ length (user_met sectors base p)
-    room = omega (arith, range-inside p kept, length-user_met)
+    room = omega (arith, range-inside p, length-user_met)
 
     pub length-patched : length (patched_user sectors base p) ≡ USER_SIZE * blocks_met p
     unfolding patched_user
@@ -163,5 +164,5 @@ pub byte_by-other : (p : Patch) (block offset before : ℕ) → IsPatch p → (b
 byte_by-other p block offset before kept (inl below) = cond-false _ _ _ (and_left _ _ (lt-leb p.block block below))
 byte_by-other p block offset before kept (inr behind) =
     let place = USER_SIZE * (block - p.block) + offset in
-    let past : p.offset + length (new_bytes p.edit) ≤ place = omega (arith, range-inside p kept) in
+    let past : p.offset + length (new_bytes p.edit) ≤ place = omega (arith, range-inside p) in
     cond-false _ _ _ (and_right _ _ (and_right _ _ (le-ltb place (p.offset + length (new_bytes p.edit)) past)))

@@ -4,7 +4,8 @@ use Rattle.cd_script.specs.declared.patch.Patch.{Patch}
 use Rattle.cd_sector.specs.Consistent.{consistent, is_mode1, user_of}
 use Rattle.cd_sector.specs.Kind.{kind_of}
 use Rattle.cd_sector.specs.declared.sector.TheConstants.{USER_SIZE}
-use Rattle.cd_patch.specs.Blocks.{asks_sound, blocks_met, old_bytes, sector_at}
+use Rattle.cd_patch.specs.Blocks.{blocks_met, sector_at}
+use Rattle.cd_patch.specs.EditMeaning.{needs_consistent, old_bytes}
 use Rattle.cd_patch.specs.declared.outcome.Outcome.{Outcome}
 use Rattle.cd_patch.specs.declared.outcome.Outcome.TheVariants.{Applied, Damaged, Differs, NoBlock, NotMode1}
 
@@ -55,5 +56,5 @@ by_difference block (Some place) = Differs (block + place / USER_SIZE) (place % 
 -- what becomes of a patch, where damage is carried or not
 unfoldable pub outcome : Bool → List (List ℕ) → ℕ → Patch → Outcome
 outcome carry sectors base p =
-    unwrap_or (first_refusal sectors base (asks_sound carry p.edit) p.block (blocks_met p))
+    unwrap_or (first_refusal sectors base (needs_consistent carry p.edit) p.block (blocks_met p))
     (by_difference p.block (first_difference p.offset (drop p.offset (user_met sectors base p)) (old_bytes p.edit)))

@@ -6,7 +6,8 @@ use Rattle.cd_sector.specs.Carried.{IsCarried}
 use Rattle.cd_sector.specs.Consistent.{IsConsistent, header_of, user_of}
 use Rattle.cd_sector.specs.declared.sector.TheConstants.{USER_SIZE}
 use Rattle.cd_delta.specs.Writing.{written}
-use Rattle.cd_patch.specs.Blocks.{blocks_met, keeps_defect, new_bytes, new_header, sector_at}
+use Rattle.cd_patch.specs.Blocks.{blocks_met, sector_at}
+use Rattle.cd_patch.specs.EditMeaning.{keeps_defect, new_bytes, new_header}
 use Rattle.cd_patch.specs.Deciding.{outcome, user_met}
 use Rattle.cd_patch.specs.declared.outcome.Outcome.{Outcome}
 use Rattle.cd_patch.specs.declared.outcome.Outcome.TheVariants.{Applied, Damaged, Differs, NoBlock, NotMode1}

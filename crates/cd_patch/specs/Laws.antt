@@ -1,24 +1,15 @@
 -- What follows from the definitions alone; each is the contract of a function of `laws.rt`.
-use Rattle.std.specs.Prelude.{◌≡◌, ℕ, ◌+◌, ◌-◌, ◌*◌, ◌<◌, ◌≤◌, ◌≢◌, nat_lt, nat_le, Bool, true, false, not, ◌&&◌, ◌||◌, if◌then◌else◌, List, [], ◌∷◌, All, length, take, slice_get, slice_index, Some}
+use Rattle.std.specs.Prelude.{◌≡◌, ℕ, ◌+◌, ◌≤◌, ◌≢◌, Bool, true, false, List, All, take, slice_get, Some}
 use Rattle.std.specs.List.Sorted.{IsNonDecreasingBy}
-use Rattle.cd_code.specs.Field.{AreBytes}
 use Rattle.cd_script.specs.Patch.{IsPatch}
 use Rattle.cd_script.specs.declared.patch.Patch.{Patch}
-use Rattle.cd_sector.specs.Carried.{sync_of}
-use Rattle.cd_sector.specs.Consistent.{IsConsistent, header_of, user_of}
-use Rattle.cd_sector.specs.Defect.{defect_of}
-use Rattle.cd_sector.specs.declared.sector.TheConstants.{SECTOR_SIZE, USER_SIZE}
-use Rattle.cd_patch.specs.Blocks.{asks_consistent, blocks_met, new_bytes, new_header, sector_at}
+use Rattle.cd_patch.specs.Blocks.{block_limit}
 use Rattle.cd_patch.specs.Deciding.{outcome}
 use Rattle.cd_patch.specs.Effect.{Effect}
+use Rattle.cd_patch.specs.Leaves.{IsSector, LeavesOthers}
 use Rattle.cd_patch.specs.Run.{PatchRun}
 use Rattle.cd_patch.specs.declared.outcome.Outcome.{Outcome}
-use Rattle.cd_patch.specs.declared.outcome.Outcome.TheVariants.{Applied, Damaged, Differs, NoBlock, NotMode1}
-
--- 2352 bytes
-pub record IsSector (sector : List ℕ) : Type 0 where
-  pub size : length sector ≡ SECTOR_SIZE
-  pub bytes : AreBytes sector
+use Rattle.cd_patch.specs.declared.outcome.Outcome.TheVariants.{Applied, Damaged}
 
 -- a run's outcomes and last sectors follow from the patches and the sectors
 abbrev pub RunIsDetermined : Type 0
@@ -32,83 +23,15 @@ RunExists =
     (carry : Bool) (ps : List Patch) (base : ℕ) (old : List (List ℕ)) → All IsPatch ps → All IsSector old
     → (os : List Outcome) × (last : List (List ℕ)) × PatchRun carry ps os base old last × All IsSector last
 
--- where the first i + 3 sectors are equal, the patches up to block base + i have equal outcomes, and leave equal sectors
+-- where the first i + block_limit sectors are equal, the patches up to block base + i have equal outcomes, and leave equal sectors
 -- 0 to i
 abbrev pub RunsAgree : Type 0
 RunsAgree =
     (carry : Bool) (i base : ℕ) (ps : List Patch) (os os' : List Outcome) (old old' last last' : List (List ℕ))
-    → All IsPatch ps → IsNonDecreasingBy (λ p. p.block) ps → take (i + 3) old ≡ take (i + 3) old'
+    → All IsPatch ps → IsNonDecreasingBy (λ p. p.block) ps → take (i + block_limit) old ≡ take (i + block_limit) old'
     → PatchRun carry ps os base old last → PatchRun carry ps os' base old' last'
     → ((k : ℕ) (p : Patch) → slice_get ps k ≡ Some p → p.block ≤ base + i → slice_get os k ≡ slice_get os' k)
     × (take (i + 1) last ≡ take (i + 1) last')
-
--- ---- a run in the reader's words
-
-abbrev pub is_applied : Outcome → Bool
-is_applied Applied = true
-is_applied (NoBlock block) = false
-is_applied (NotMode1 block) = false
-is_applied (Damaged block) = false
-is_applied (Differs block offset) = false
-
--- a patch meets the block
-abbrev pub meets : Patch → ℕ → Bool
-meets p block = nat_le p.block block && nat_lt block (p.block + blocks_met p)
-
--- an accepted patch meets the block
-abbrev pub is_touched : List Patch → List Outcome → ℕ → Bool
-is_touched [] os block = false
-is_touched (p ∷ ps) [] block = false
-is_touched (p ∷ ps) (o ∷ os) block = (is_applied o && meets p block) || is_touched ps os block
-
--- the user byte at an offset of a block that an accepted patch leaves of the byte before: its own where its range has it
-abbrev pub byte_by : Patch → ℕ → ℕ → ℕ → ℕ
-byte_by p block offset before =
-    let place = USER_SIZE * (block - p.block) + offset in
-    if nat_le p.block block && (nat_le p.offset place && nat_lt place (p.offset + length (new_bytes p.edit)))
-    then slice_index (new_bytes p.edit) (place - p.offset) else before
-
--- the user byte that the accepted patches leave, in order
-abbrev pub byte_left : List Patch → List Outcome → ℕ → ℕ → ℕ → ℕ
-byte_left [] os block offset before = before
-byte_left (p ∷ ps) [] block offset before = before
-byte_left (p ∷ ps) (o ∷ os) block offset before =
-    byte_left ps os block offset (if is_applied o then byte_by p block offset before else before)
-
--- the header that the accepted patches leave, in order
-abbrev pub header_left : List Patch → List Outcome → ℕ → List ℕ → List ℕ
-header_left [] os block before = before
-header_left (p ∷ ps) [] block before = before
-header_left (p ∷ ps) (o ∷ os) block before =
-    header_left ps os block (if is_applied o && meets p block then new_header p.edit before else before)
-
--- an accepted patch that makes its sectors anew, a rebuild, meets the block
-abbrev pub is_rebuilt : List Patch → List Outcome → ℕ → Bool
-is_rebuilt [] os block = false
-is_rebuilt (p ∷ ps) [] block = false
-is_rebuilt (p ∷ ps) (o ∷ os) block = ((is_applied o && meets p block) && not (asks_consistent p.edit)) || is_rebuilt ps os block
-
--- the damage of one sector is that of the other
-pub record SameDamage (before after : List ℕ) : Type 0 where
-  pub sync : sync_of after ≡ sync_of before
-  pub defect : defect_of after ≡ defect_of before
-
--- a sector that no accepted patch meets is the old one; each other one has the header and the user bytes that the accepted
--- patches leave in order. Where no damage is carried it is consistent; where damage is carried it has the sync field and
--- the defect of the old one, or is consistent where it was rebuilt. A consistent one stays consistent
-pub record LeavesOthers (carry : Bool) (ps : List Patch) (os : List Outcome) (base : ℕ) (old last : List (List ℕ)) : Type 0 where
-  pub count : length last ≡ length old
-  pub sectors : All IsSector last
-  pub others : (block : ℕ) → is_touched ps os block ≡ false → sector_at last base block ≡ sector_at old base block
-  pub consistent : (block : ℕ) (before after : List ℕ) → carry ≡ false → is_touched ps os block ≡ true → sector_at old base block ≡ Some before → sector_at last base block ≡ Some after → IsConsistent after
-  pub rebuilt : (block : ℕ) (before after : List ℕ) → is_rebuilt ps os block ≡ true → sector_at old base block ≡ Some before → sector_at last base block ≡ Some after → IsConsistent after
-  pub carried : (block : ℕ) (before after : List ℕ) → carry ≡ true → is_rebuilt ps os block ≡ false → sector_at old base block ≡ Some before → sector_at last base block ≡ Some after
-      → SameDamage before after
-  pub stays : (block : ℕ) (before after : List ℕ) → IsConsistent before → sector_at old base block ≡ Some before → sector_at last base block ≡ Some after → IsConsistent after
-  pub header : (block : ℕ) (before after : List ℕ) → sector_at old base block ≡ Some before → sector_at last base block ≡ Some after
-      → header_of after ≡ header_left ps os block (header_of before)
-  pub user : (block offset : ℕ) (before after : List ℕ) → offset < USER_SIZE → sector_at old base block ≡ Some before → sector_at last base block ≡ Some after
-      → slice_index (user_of after) offset ≡ byte_left ps os block offset (slice_index (user_of before) offset)
 
 abbrev pub RunLeavesOthers : Type 0
 RunLeavesOthers =

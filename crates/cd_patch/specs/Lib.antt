@@ -1,6 +1,9 @@
+pub mod EditMeaning
 pub mod Blocks
 pub mod Deciding
 pub mod Effect
 pub mod Run
+pub mod Outcome
+pub mod Leaves
 pub mod Laws
 pub mod Parts

@@ -1,8 +1,15 @@
 -- What an edit makes of one sector after the other, among those that its patch meets.
-use Rattle.std.specs.Prelude.{◌≡◌, ℕ, ◌+◌, ◌*◌, ◌<◌, ◌≤◌, ◌⊎◌, Bool, List, [], length, slice_index, slice_index_or}
+use Rattle.std.specs.Prelude.{◌≡◌, ℕ, ◌+◌, ◌*◌, ◌<◌, ◌≤◌, ◌⊎◌, Bool, List, [], length, replicate, slice_index, slice_index_or}
 use Rattle.cd_sector.specs.Consistent.{user_of}
 use Rattle.cd_sector.specs.declared.sector.TheConstants.{USER_SIZE}
 use Rattle.cd_patch.specs.Effect.{MadeBy}
+use Rattle.cd_patch.specs.declared.edits.NewBytes.{NewBytes}
+use Rattle.cd_patch.specs.declared.edits.NewBytes.TheVariants.{Borrowed, Repeated}
+
+-- the new bytes that the code has in hand
+abbrev pub bytes_of : NewBytes → List ℕ
+bytes_of (Borrowed bytes) = bytes.now
+bytes_of (Repeated count value) = replicate count value
 
 -- each of the first `count` sectors has its 2048 bytes of user data
 abbrev pub HaveUsers : List (List ℕ) → ℕ → Type 0

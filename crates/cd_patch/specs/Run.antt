@@ -5,6 +5,14 @@ use Rattle.cd_patch.specs.Deciding.{outcome}
 use Rattle.cd_patch.specs.Effect.{Effect}
 use Rattle.cd_patch.specs.declared.outcome.Outcome.{Outcome}
 
+-- the first patch has this outcome, and leads to sectors from which the others go on
+pub record PatchStep (carry : Bool) (p : Patch) (o : Outcome) (base : ℕ) (old : List (List ℕ))
+    (GoesOn : List (List ℕ) → Type 0) : Type 0 where
+  pub decided : o ≡ outcome carry old base p
+  pub next : List (List ℕ)
+  pub effect : Effect carry base p old next
+  pub others : GoesOn next
+
 -- where damage is carried or not, the patches have these outcomes, and lead from the sectors `old`, the first of which is
 -- block `base`, to `last`
 abbrev pub PatchRun : Bool → List Patch → List Outcome → ℕ → List (List ℕ) → List (List ℕ) → Type 0
@@ -12,4 +20,4 @@ PatchRun carry [] [] base old last = last ≡ old
 PatchRun carry [] (o ∷ os) base old last = ⊥
 PatchRun carry (p ∷ ps) [] base old last = ⊥
 PatchRun carry (p ∷ ps) (o ∷ os) base old last =
-    (o ≡ outcome carry old base p) × ((next : List (List ℕ)) × Effect carry base p old next × PatchRun carry ps os base next last)
+    PatchStep carry p o base old (λ next. PatchRun carry ps os base next last)

@@ -12,7 +12,7 @@ pub fn run_exists()
     ensures { RunExists }
 {}
 
-/// Where the first i + 3 sectors are equal, the patches up to block base + i have equal outcomes, and leave equal
+/// Where the first i + `MAX_BLOCKS_MET` sectors are equal, the patches up to block base + i have equal outcomes, and leave equal
 /// sectors 0 to i.
 pub fn runs_agree()
     ensures { RunsAgree }

@@ -1,5 +1,8 @@
 //! What has become of a patch.
 
+ghost use Rattle.std.specs.Prelude.{◌≡◌};
+ghost use Rattle.cd_patch.specs.Outcome.{is_applied};
+
 /// Whether a patch was accepted, or why it was refused. Blocks are told by their numbers, which begin at the base.
 #[derive(Clone, Copy, Debug, PartialEq, Eq, Drop)]
 pub enum Outcome {
@@ -13,4 +16,17 @@ pub enum Outcome {
     Damaged(u32),
     /// The user byte at this offset of this block is not the old byte that the patch names.
     Differs(u32, u16),
+}
+
+impl Outcome {
+    /// Whether the patch was accepted.
+    pub fn is_applied(self) -> bool
+        ensures { result ≡ is_applied self }
+    {
+        match self {
+            Outcome::Applied => true,
+            Outcome::NoBlock(_) | Outcome::NotMode1(_) => false,
+            Outcome::Damaged(_) | Outcome::Differs(..) => false,
+        }
+    }
 }

@@ -9,13 +9,13 @@ use Rattle.cd_sector.specs.Kind.{kind_of}
 use Rattle.cd_sector.proofs.DefectLemmas.{some_nonzero}
 use Rattle.cd_stream.specs.Stream.{Outgoing}
 use Rattle.cd_stream.specs.declared.sink.SinkFailed.{SinkFailed}
-use Rattle.cd_report.specs.AuditText.{audit_end, audit_lines, auditing, finding_count, finding_line, found_of, findings_of, is_any, is_damage, is_damaged, line_of, report_of}
-use Rattle.cd_report.specs.Image.{sectors, tail}
+use Rattle.cd_report.specs.AuditText.{audit_end, audit_lines, audit_report, finding_count, finding_line, found_of, findings_of, is_any, is_damage, is_damaged, line_of, report_of}
+use Rattle.cd_read.specs.Image.{sectors, tail}
 use Rattle.cd_report.specs.Lines.{text_of}
-use Rattle.cd_report.specs.Telling.{Finishes, HasFailed, HasTaken, IsTallyOf, audit_to_tell, counted, counted_all, telling_of}
+use Rattle.cd_report.specs.Scanning.{Finishes, HasFailed, HasVisited, IsTallyOf, audit_remaining, tally_with, tally_with_all, spec_of}
 use Rattle.cd_report.specs.declared.auditing.AuditTally.{AuditTally}
 use Rattle.cd_report.specs.declared.findings.Findings.{Findings}
-use Rattle.cd_report.proofs.CountLemmas.{count_by-first}
+use Rattle.cd_read.proofs.CountLemmas.{count_by-first}
 
 -- ---- a sector is damaged where its report tells of a defect
 
@@ -74,29 +74,29 @@ one_more-none : (n k m : ℕ) (b : Bool) → b ≡ false → k ≡ cond b 1 0 + 
 one_more-none n k m b none is = ap (λ x. n + x) (is ∙ ap (λ t. cond t 1 0 + m) none ∙ zero-add m)
 
 -- the counts of more sectors, one sector further
-pub counted_all-step : (tally : AuditTally) (block : ℕ) (s : List ℕ) (others : List (List ℕ)) (left : ℕ)
-    → counted_all tally block (s ∷ others) left ≡ counted_all (counted tally (findings_of block s)) (block + 1) others left
-counted_all-step tally block s others left =
-    elim (is_mode1 (kind_of s)) as (λ t. is_mode1 (kind_of s) ≡ t → counted_all tally block (s ∷ others) left ≡ counted_all (counted tally (findings_of block s)) (block + 1) others left) [
+pub tally_with_all-step : (tally : AuditTally) (block : ℕ) (s : List ℕ) (others : List (List ℕ)) (left : ℕ)
+    → tally_with_all tally block (s ∷ others) left ≡ tally_with_all (tally_with tally (findings_of block s)) (block + 1) others left
+tally_with_all-step tally block s others left =
+    elim (is_mode1 (kind_of s)) as (λ t. is_mode1 (kind_of s) ≡ t → tally_with_all tally block (s ∷ others) left ≡ tally_with_all (tally_with tally (findings_of block s)) (block + 1) others left) [
       | true ↦ λ mode1.
           let found = findings_of-some block s mode1 in
           tally_of-same _ _ _ _ _ _ _ _ left (omega arith)
           (one_more tally.mode1 _ _ (is_mode1 (kind_of s)) true mode1 (count_by-first (λ x. is_mode1 (kind_of x)) s others))
           (one_more tally.damaged _ _ (is_damaged s) (is_damage (report_of s)) (ap (λ b. b && not (is_sound (defect_of s))) mode1 ∙ sym (is_damage-report s)) (count_by-first is_damaged s others))
           (one_more tally.findings _ _ (is_any (findings_of block s)) (is_any (Some (found_of block s))) (ap is_any found) refl)
-          ∙ ap (λ f. counted_all (counted tally f) (block + 1) others left) (sym found)
+          ∙ ap (λ f. tally_with_all (tally_with tally f) (block + 1) others left) (sym found)
       | false ↦ λ other.
           let found = findings_of-none block s other in
           tally_of-same _ _ _ _ _ _ _ _ left (omega arith)
           (one_more-none tally.mode1 _ _ (is_mode1 (kind_of s)) other (count_by-first (λ x. is_mode1 (kind_of x)) s others))
           (one_more-none tally.damaged _ _ (is_damaged s) (ap (λ b. b && not (is_sound (defect_of s))) other) (count_by-first is_damaged s others))
           (one_more-none tally.findings _ _ (is_any (findings_of block s)) (ap is_any found) refl)
-          ∙ ap (λ f. counted_all (counted tally f) (block + 1) others left) (sym found)
+          ∙ ap (λ f. tally_with_all (tally_with tally f) (block + 1) others left) (sym found)
     ] refl
 
-counted-sectors : (tally : AuditTally) (found : Option Findings) → (counted tally found).sectors ≡ tally.sectors + 1
-counted-sectors tally None = refl
-counted-sectors tally (Some found) = refl
+tally_with-sectors : (tally : AuditTally) (found : Option Findings) → (tally_with tally found).sectors ≡ tally.sectors + 1
+tally_with-sectors tally None = refl
+tally_with-sectors tally (Some found) = refl
 
 -- a sector has one line at most
 one_line : (block : ℕ) (found : Option Findings) → 0 < length (text_of (line_of block found)) → (line : List ℕ) × (line_of block found ≡ line ∷ [])
@@ -113,10 +113,10 @@ module _ (base : ℕ) (tally : AuditTally) (sector : List ℕ) (out out' : Outgo
   abbrev block : ℕ
   block = base + tally.sectors
 
-  line_taken : (next : AuditTally) → next ≡ counted tally (findings_of block sector) → Appends out.written out'.written (text_of (line_of block (findings_of block sector)))
-      → HasTaken (audit_to_tell base tally) (audit_to_tell base next) sector out out'
+  line_taken : (next : AuditTally) → next ≡ tally_with tally (findings_of block sector) → Appends out.written out'.written (text_of (line_of block (findings_of block sector)))
+      → HasVisited (audit_remaining base tally) (audit_remaining base next) sector out out'
   line_taken next is went =
-      subst (λ t. HasTaken (audit_to_tell base tally) (audit_to_tell base t) sector out out') (sym is) (record {
+      subst (λ t. HasVisited (audit_remaining base tally) (audit_remaining base t) sector out out') (sym is) (record {
         sent = line_of block (findings_of block sector);
         appends = went;
         lines = λ others. ap (λ b. line_of block (findings_of block sector) ++ audit_lines b others) further;
@@ -125,15 +125,15 @@ module _ (base : ℕ) (tally : AuditTally) (sector : List ℕ) (out out' : Outgo
         nothing_due = refl;
       })
     where
-      further : block + 1 ≡ base + (counted tally (findings_of block sector)).sectors
-      further = let sectors_is = counted-sectors tally (findings_of block sector) in omega (arith, sectors_is)
+      further : block + 1 ≡ base + (tally_with tally (findings_of block sector)).sectors
+      further = let sectors_is = tally_with-sectors tally (findings_of block sector) in omega (arith, sectors_is)
 
-      all : (others : List (List ℕ)) (left : ℕ) → counted_all tally block (sector ∷ others) left
-          ≡ counted_all (counted tally (findings_of block sector)) (base + (counted tally (findings_of block sector)).sectors) others left
-      all others left = counted_all-step tally block sector others left ∙ ap (λ b. counted_all (counted tally (findings_of block sector)) b others left) further
+      all : (others : List (List ℕ)) (left : ℕ) → tally_with_all tally block (sector ∷ others) left
+          ≡ tally_with_all (tally_with tally (findings_of block sector)) (base + (tally_with tally (findings_of block sector)).sectors) others left
+      all others left = tally_with_all-step tally block sector others left ∙ ap (λ b. tally_with_all (tally_with tally (findings_of block sector)) b others left) further
 
   line_failed : (n : ℕ) × (n < length (text_of (line_of block (findings_of block sector)))) × Appends out.written out'.written (take n (text_of (line_of block (findings_of block sector))))
-      → HasFailed (audit_to_tell base tally) sector out out'
+      → HasFailed (audit_remaining base tally) sector out out'
   line_failed went =
       let one = one_line block (findings_of block sector) (omega (arith, went.1)) in
       record {
@@ -153,19 +153,19 @@ module _ (base : ℕ) (tally : AuditTally) (sector : List ℕ) (out out' : Outgo
   line_there : line_of (base + count) found ≡ line_of (base + tally.sectors) (findings_of (base + tally.sectors) sector)
   line_there = ap (λ n. line_of (base + n) found) (sym is.sectors) ∙ ap (line_of (base + tally.sectors)) found_there
 
-  pub Audit-taken : (next : AuditTally) → next ≡ counted tally found → Appends out.written out'.written (text_of (line_of (base + count) found))
-      → HasTaken (audit_to_tell base tally) (audit_to_tell base next) sector out out'
-  Audit-taken next next_is went =
-      line_taken base tally sector out out' next (next_is ∙ ap (counted tally) found_there) (subst (λ ls. Appends out.written out'.written (text_of ls)) line_there went)
+  pub Audit-visited : (next : AuditTally) → next ≡ tally_with tally found → Appends out.written out'.written (text_of (line_of (base + count) found))
+      → HasVisited (audit_remaining base tally) (audit_remaining base next) sector out out'
+  Audit-visited next next_is went =
+      line_taken base tally sector out out' next (next_is ∙ ap (tally_with tally) found_there) (subst (λ ls. Appends out.written out'.written (text_of ls)) line_there went)
 
   pub Audit-failed : (n : ℕ) × (n < length (text_of (line_of (base + count) found))) × Appends out.written out'.written (take n (text_of (line_of (base + count) found)))
-      → HasFailed (audit_to_tell base tally) sector out out'
+      → HasFailed (audit_remaining base tally) sector out out'
   Audit-failed went =
       line_failed base tally sector out out' (subst (λ ls. (n : ℕ) × (n < length (text_of ls)) × Appends out.written out'.written (take n (text_of ls))) line_there went)
 
 -- what goes out at the end, with no sector to follow
 pub Audit-closes : (tally : AuditTally) (first left : ℕ) (out out' : Outgoing) (result : Result AuditTally SinkFailed) → Finishes (audit_end (record tally { tail = left })) out out' result
-    → Finishes (audit_end (counted_all tally first [] left)) out out' result
+    → Finishes (audit_end (tally_with_all tally first [] left)) out out' result
 Audit-closes tally first left out out' result finished =
     subst (λ t. Finishes (audit_end t) out out' result)
     (tally_of-same tally.sectors _ tally.mode1 _ tally.damaged _ tally.findings _ left (sym (add-zero _)) (sym (add-zero _)) (sym (add-zero _)) (sym (add-zero _))) finished
@@ -176,17 +176,17 @@ abbrev pub none_yet : AuditTally
 none_yet = record { sectors = 0; mode1 = 0; damaged = 0; findings = 0; tail = 0 }
 
 module _ (base : ℕ) where
-  all_counted : (ss : List (List ℕ)) (left : ℕ) → counted_all none_yet base ss left ≡ tally_of (length ss) (count_by (λ sector. is_mode1 (kind_of sector)) ss) (count_by is_damaged ss) (finding_count base ss) left
+  all_counted : (ss : List (List ℕ)) (left : ℕ) → tally_with_all none_yet base ss left ≡ tally_of (length ss) (count_by (λ sector. is_mode1 (kind_of sector)) ss) (count_by is_damaged ss) (finding_count base ss) left
   all_counted ss left = tally_of-same _ _ _ _ _ _ _ _ left (zero-add _) (zero-add _) (zero-add _) (zero-add _)
 
-  pub Auditing-text : (image : List ℕ) → (telling_of (audit_to_tell base none_yet)).text image ≡ (auditing base).text image
+  pub Auditing-text : (image : List ℕ) → (spec_of (audit_remaining base none_yet)).text image ≡ (audit_report base).text image
   Auditing-text image =
-      ap (λ b. text_of (audit_lines b (sectors image)) ++ audit_end (counted_all none_yet b (sectors image) (length (tail image)))) (add-zero base)
+      ap (λ b. text_of (audit_lines b (sectors image)) ++ audit_end (tally_with_all none_yet b (sectors image) (length (tail image)))) (add-zero base)
       ∙ ap (λ t. text_of (audit_lines base (sectors image)) ++ audit_end t) (all_counted (sectors image) (length (tail image)))
 
-  pub Auditing-due : (read : List ℕ) → (telling_of (audit_to_tell base none_yet)).due read ≡ (auditing base).due read
+  pub Auditing-due : (read : List ℕ) → (spec_of (audit_remaining base none_yet)).due read ≡ (audit_report base).due read
   Auditing-due read = ap (λ b. audit_lines b (sectors read)) (add-zero base)
 
-  pub Auditing-tally : (image : List ℕ) → (telling_of (audit_to_tell base none_yet)).tally image ≡ (auditing base).tally image
+  pub Auditing-tally : (image : List ℕ) → (spec_of (audit_remaining base none_yet)).tally image ≡ (audit_report base).tally image
   Auditing-tally image =
-      ap (λ b. counted_all none_yet b (sectors image) (length (tail image))) (add-zero base) ∙ all_counted (sectors image) (length (tail image))
+      ap (λ b. tally_with_all none_yet b (sectors image) (length (tail image))) (add-zero base) ∙ all_counted (sectors image) (length (tail image))

@@ -1,10 +1,8 @@
 pub mod AuditLemmas
-pub mod CountLemmas
-pub mod ImageLemmas
 pub mod LineCountLemmas
 pub mod ListLemmas
 pub mod OpenRunLemmas
 pub mod PassLemmas
 pub mod ReportLemmas
 pub mod RunLemmas
-pub mod TellingLemmas
+pub mod ScanLemmas

@@ -9,15 +9,14 @@ use Rattle.cd_sector.specs.Consistent.{is_mode1}
 use Rattle.cd_sector.specs.Defect.{all_syndromes, defect_of, is_broken, is_nonzero}
 use Rattle.cd_sector.specs.Kind.{kind_of}
 use Rattle.cd_report.specs.AuditText.{audit_end, audit_lines, audit_tally, audit_text, count_if, finding_count, finding_line, found_of, findings_of, is_any, is_damaged, line_of, name_if, report_of}
-use Rattle.cd_report.specs.Image.{image_limit, sectors}
+use Rattle.cd_read.specs.Image.{base_limit, image_limit, sectors}
 use Rattle.cd_report.specs.Lines.{line_count, text_of}
-use Rattle.cd_report.specs.declared.TheConstants.{MAX_BASE}
 use Rattle.cd_report.specs.declared.auditing.AuditTally.{AuditTally}
 use Rattle.cd_report.specs.declared.findings.Findings.{Findings}
 use Rattle.cd_report.proofs.AuditLemmas.{findings_of-none, findings_of-some}
-use Rattle.cd_report.proofs.CountLemmas.{count_by-first}
-use Rattle.cd_report.proofs.ImageLemmas.{length-sectors-le, length-tail-le}
-use Rattle.cd_report.proofs.TellingLemmas.{text_of-append}
+use Rattle.cd_read.proofs.CountLemmas.{count_by-first}
+use Rattle.cd_read.proofs.ImageLemmas.{length-sectors-le, length-tail-le}
+use Rattle.cd_report.proofs.ScanLemmas.{text_of-append}
 
 line_count-append : (front behind : List ℕ) → line_count (front ++ behind) ≡ line_count front + line_count behind
 line_count-append front behind = sum_by-append (λ b. cond (b == 10) 1 0) front behind
@@ -121,7 +120,7 @@ line_count-lines block (s ∷ ss) low =
     ∙ ap (λ n. n + line_count (text_of there)) (line_count-sector block s (omega arith))
     ∙ ap (λ n. cond (is_any (findings_of block s)) 1 0 + n) (line_count-lines (block + 1) ss (omega arith))
 
-pub line_count-audit : (base : ℕ) (image : List ℕ) → base ≤ MAX_BASE → length image ≤ image_limit → line_count (audit_text base image) ≡ (audit_tally base image).findings + 1
+pub line_count-audit : (base : ℕ) (image : List ℕ) → base ≤ base_limit → length image ≤ image_limit → line_count (audit_text base image) ≡ (audit_tally base image).findings + 1
 line_count-audit base image low few =
     let ss = sectors image in
     let count = length-sectors-le image in

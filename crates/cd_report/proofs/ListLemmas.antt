@@ -3,12 +3,12 @@ use Rattle.std.proofs.Common.{◌≡◌, ℕ, suc, ◌+◌, List, [], ◌∷◌,
 use Rattle.cd_sector.specs.Kind.{kind_of}
 use Rattle.cd_stream.specs.Stream.{Outgoing}
 use Rattle.cd_stream.specs.declared.sink.SinkFailed.{SinkFailed}
-use Rattle.cd_report.specs.Image.{sectors, tail}
+use Rattle.cd_read.specs.Image.{sectors, tail}
 use Rattle.cd_report.specs.Lines.{all_but_last, text_of}
-use Rattle.cd_report.specs.ListText.{list_end, listing, run_line, run_lines}
+use Rattle.cd_report.specs.ListText.{list_end, list_report, run_line, run_lines}
 use Rattle.cd_report.specs.OpenRun.{open_first, open_kinds}
 use Rattle.cd_report.specs.Runs.{Run, runs}
-use Rattle.cd_report.specs.Telling.{Finishes, HasFailed, HasFailedKind, HasTaken, HasTakenKind, Takes, TakesKind, ended_lines, last_line, list_to_tell, telling_of}
+use Rattle.cd_report.specs.Scanning.{Finishes, HasFailed, FailsToExtend, HasVisited, HasExtended, Visits, ExtendsRun, ended_lines, last_line, list_remaining, spec_of}
 use Rattle.cd_report.specs.declared.listing.ListTally.{ListTally}
 use Rattle.cd_report.specs.declared.listing.OpenRun.{OpenRun}
 use Rattle.cd_report.proofs.OpenRunLemmas.{nothing_ended}
@@ -17,7 +17,7 @@ abbrev pub tally_of : ℕ → ℕ → ListTally
 tally_of count left = record { sectors = count; tail = left }
 
 module _ (base : ℕ) (run : Option OpenRun) (count : ℕ) (sector : List ℕ) (out out' : Outgoing) where
-  List-taken : (next : OpenRun) → HasTakenKind run next (base + count) (kind_of sector) out out' → HasTaken (list_to_tell base run count) (list_to_tell base (Some next) (count + 1)) sector out out'
+  List-taken : (next : OpenRun) → HasExtended run next (base + count) (kind_of sector) out out' → HasVisited (list_remaining base run count) (list_remaining base (Some next) (count + 1)) sector out out'
   List-taken next taken = record {
     sent = taken.sent;
     appends = taken.appends;
@@ -32,7 +32,7 @@ module _ (base : ℕ) (run : Option OpenRun) (count : ℕ) (sector : List ℕ) (
       further : (others : List (List ℕ)) → count + suc (length others) ≡ count + 1 + length others
       further others = omega arith
 
-  List-failed : HasFailedKind run (base + count) (kind_of sector) out out' → HasFailed (list_to_tell base run count) sector out out'
+  List-failed : FailsToExtend run (base + count) (kind_of sector) out out' → HasFailed (list_remaining base run count) sector out out'
   List-failed failed = record {
     line = failed.line;
     count = failed.count;
@@ -42,19 +42,19 @@ module _ (base : ℕ) (run : Option OpenRun) (count : ℕ) (sector : List ℕ) (
     last = refl;
   }
 
-  pub List-takes : (run' : Option OpenRun) (result : Result (Unit {0}) SinkFailed) → TakesKind run run' (base + count) (kind_of sector) out out' result → Takes (list_to_tell base run count) (list_to_tell base run' (count + 1)) sector out out' result
-  List-takes run' (Ok x) taken = subst (λ r. HasTaken (list_to_tell base run count) (list_to_tell base r (count + 1)) sector out out') (sym taken.1) (List-taken taken.0 taken.2)
-  List-takes run' (Err e) failed = List-failed failed.1
+  pub List-visits : (run' : Option OpenRun) (result : Result (Unit {0}) SinkFailed) → ExtendsRun run run' (base + count) (kind_of sector) out out' result → Visits (list_remaining base run count) (list_remaining base run' (count + 1)) sector out out' result
+  List-visits run' (Ok x) taken = subst (λ r. HasVisited (list_remaining base run count) (list_remaining base r (count + 1)) sector out out') (sym taken.1) (List-taken taken.0 taken.2)
+  List-visits run' (Err e) failed = List-failed failed.1
 
 -- what goes out at the end, with no sector to follow
-list_end_is : (base : ℕ) (run : Option OpenRun) (count left : ℕ) → last_line (open_first run 0) (runs (open_kinds run)) ++ list_end (tally_of count left) ≡ (list_to_tell base run count).end [] left
+list_end_is : (base : ℕ) (run : Option OpenRun) (count left : ℕ) → last_line (open_first run 0) (runs (open_kinds run)) ++ list_end (tally_of count left) ≡ (list_remaining base run count).end [] left
 list_end_is base None count left = ap (λ n. list_end (tally_of n left)) (sym (add-zero count))
 list_end_is base (Some run) count left =
     ap (λ ks. last_line run.first (runs ks) ++ list_end (tally_of count left)) (sym (append-nil (open_kinds (Some run))))
     ∙ ap (λ n. last_line run.first (runs (open_kinds (Some run) ++ [])) ++ list_end (tally_of n left)) (sym (add-zero count))
 
 pub List-closes : (base : ℕ) (run : Option OpenRun) (count left : ℕ) (out out' : Outgoing) (result : Result ListTally SinkFailed)
-    → Finishes (last_line (open_first run 0) (runs (open_kinds run)) ++ list_end (tally_of count left)) out out' result → Finishes ((list_to_tell base run count).end [] left) out out' result
+    → Finishes (last_line (open_first run 0) (runs (open_kinds run)) ++ list_end (tally_of count left)) out out' result → Finishes ((list_remaining base run count).end [] left) out out' result
 List-closes base run count left out out' result finished = subst (λ t. Finishes t out out' result) (list_end_is base run count left) finished
 
 -- ---- the whole image
@@ -67,7 +67,7 @@ last-apart first (run ∷ next ∷ others) =
     ∙ sym (append_assoc (run_line first run) (text_of (all_but_last (run_lines (first + run.count) (next ∷ others)))) (last_line (first + run.count) (next ∷ others)))
 
 module _ (base : ℕ) where
-  pub Listing-text : (image : List ℕ) → (telling_of (list_to_tell base None 0)).text image ≡ (listing base).text image
+  pub Listing-text : (image : List ℕ) → (spec_of (list_remaining base None 0)).text image ≡ (list_report base).text image
   Listing-text image =
       let rs = runs (map kind_of (sectors image)) in
       let left = length (tail image) in
@@ -77,8 +77,8 @@ module _ (base : ℕ) where
       ∙ sym (append_assoc (text_of (all_but_last (run_lines base rs))) last (list_end (tally_of (length (sectors image)) left)))
       ∙ ap (λ t. t ++ list_end (tally_of (length (sectors image)) left)) (sym (last-apart base rs))
 
-  pub Listing-due : (read : List ℕ) → (telling_of (list_to_tell base None 0)).due read ≡ (listing base).due read
+  pub Listing-due : (read : List ℕ) → (spec_of (list_remaining base None 0)).due read ≡ (list_report base).due read
   Listing-due read = ap (λ b. ended_lines b (map kind_of (sectors read))) (add-zero base)
 
-  pub Listing-tally : (image : List ℕ) → (telling_of (list_to_tell base None 0)).tally image ≡ (listing base).tally image
+  pub Listing-tally : (image : List ℕ) → (spec_of (list_remaining base None 0)).tally image ≡ (list_report base).tally image
   Listing-tally image = ap (λ n. tally_of n (length (tail image))) (zero-add (length (sectors image)))

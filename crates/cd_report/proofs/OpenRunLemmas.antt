@@ -8,7 +8,7 @@ use Rattle.cd_report.specs.Lines.{all_but_last}
 use Rattle.cd_report.specs.ListText.{run_line, run_lines}
 use Rattle.cd_report.specs.OpenRun.{EndsBefore, open_first, open_kinds}
 use Rattle.cd_report.specs.Runs.{Run, runs}
-use Rattle.cd_report.specs.Telling.{HasFailedKind, HasTakenKind, ended_lines, last_line}
+use Rattle.cd_report.specs.Scanning.{FailsToExtend, HasExtended, ended_lines, last_line}
 use Rattle.cd_report.specs.declared.listing.OpenRun.{OpenRun}
 use Rattle.cd_report.proofs.RunLemmas.{IsOther, put_before-begins, runs-run}
 
@@ -54,7 +54,7 @@ last_line-open : (run : OpenRun) → run.first ≤ run.last → last_line run.fi
 last_line-open run ordered = ap (λ ks. last_line run.first (runs ks)) (sym (append-nil (kinds_of run))) ∙ ap (last_line run.first) (runs-open run [] ordered tt)
 
 module _ (run : OpenRun) (block : ℕ) (kind : SectorKind) (ends : EndsBefore (Some run) block) where
-  same_kind_taken : (out : Outgoing) → run.kind ≡ kind → HasTakenKind (Some run) (record run { last = block }) block kind out out
+  same_kind_taken : (out : Outgoing) → run.kind ≡ kind → HasExtended (Some run) (record run { last = block }) block kind out out
   same_kind_taken out same = record {
     sent = [];
     appends = Appends-nil out.written;
@@ -85,7 +85,7 @@ module _ (run : OpenRun) (block : ℕ) (kind : SectorKind) (ends : EndsBefore (S
         ap (last_line run.first) (runs-open run (kind ∷ others) ends.0 other) ∙ last-more run.first (run_of run) (runs (kind ∷ others)) _ _ begins.2
         ∙ ap (λ b. last_line b (runs (kind ∷ others))) next_is
 
-  other_kind_taken : (old new : Outgoing) → (run.kind ≡ kind → ⊥) → Appends old.written new.written (line_of run) → HasTakenKind (Some run) (record { first = block; last = block; kind = kind }) block kind old new
+  other_kind_taken : (old new : Outgoing) → (run.kind ≡ kind → ⊥) → Appends old.written new.written (line_of run) → HasExtended (Some run) (record { first = block; last = block; kind = kind }) block kind old new
   other_kind_taken old new other went = record {
     sent = line_of run ∷ [];
     appends = subst (Appends old.written new.written) (sym (append-nil (line_of run))) went;
@@ -94,7 +94,7 @@ module _ (run : OpenRun) (block : ℕ) (kind : SectorKind) (ends : EndsBefore (S
     end = λ others. last-other other others ∙ ap (λ ks. last_line block (runs ks)) (kinds-new block kind others);
   }
 
-  other_kind_failed : (old new : Outgoing) → (run.kind ≡ kind → ⊥) → (n : ℕ) × (n < length (line_of run)) × Appends old.written new.written (take n (line_of run)) → HasFailedKind (Some run) block kind old new
+  other_kind_failed : (old new : Outgoing) → (run.kind ≡ kind → ⊥) → (n : ℕ) × (n < length (line_of run)) × Appends old.written new.written (take n (line_of run)) → FailsToExtend (Some run) block kind old new
   other_kind_failed old new other went = record { line = line_of run; count = went.0; appends = went.2; lines = λ others. ended-other other others }
 
 -- the same of a run that is given
@@ -106,12 +106,12 @@ module _ (given : Option OpenRun) (run : OpenRun) (is : given ≡ Some run) wher
     ends : EndsBefore (Some run) block
     ends = subst (λ r. EndsBefore r block) is follows
 
-    pub TakesKind-same : (out : Outgoing) → run.kind ≡ kind → HasTakenKind given (record run { last = block }) block kind out out
-    TakesKind-same out same = subst (λ r. HasTakenKind r (record run { last = block }) block kind out out) (sym is) (same_kind_taken run block kind ends out same)
+    pub ExtendsRun-same : (out : Outgoing) → run.kind ≡ kind → HasExtended given (record run { last = block }) block kind out out
+    ExtendsRun-same out same = subst (λ r. HasExtended r (record run { last = block }) block kind out out) (sym is) (same_kind_taken run block kind ends out same)
 
     module _ (old new : Outgoing) (other : run.kind ≡ kind → ⊥) where
-      pub TakesKind-other : Appends old.written new.written (line_of run) → HasTakenKind given (record { first = block; last = block; kind = kind }) block kind old new
-      TakesKind-other went = subst (λ r. HasTakenKind r (record { first = block; last = block; kind = kind }) block kind old new) (sym is) (other_kind_taken run block kind ends old new other went)
+      pub ExtendsRun-other : Appends old.written new.written (line_of run) → HasExtended given (record { first = block; last = block; kind = kind }) block kind old new
+      ExtendsRun-other went = subst (λ r. HasExtended r (record { first = block; last = block; kind = kind }) block kind old new) (sym is) (other_kind_taken run block kind ends old new other went)
 
-      pub TakesKind-failed : (n : ℕ) × (n < length (line_of run)) × Appends old.written new.written (take n (line_of run)) → HasFailedKind given block kind old new
-      TakesKind-failed went = subst (λ r. HasFailedKind r block kind old new) (sym is) (other_kind_failed run block kind ends old new other went)
+      pub ExtendsRun-failed : (n : ℕ) × (n < length (line_of run)) × Appends old.written new.written (take n (line_of run)) → FailsToExtend given block kind old new
+      ExtendsRun-failed went = subst (λ r. FailsToExtend r block kind old new) (sym is) (other_kind_failed run block kind ends old new other went)

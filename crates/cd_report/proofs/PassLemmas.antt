@@ -2,9 +2,9 @@
 use Rattle.std.proofs.Common.{◌≡◌, ℕ, ◌<◌, ◌≤◌, List, [], ◌∷◌, ◌++◌, length, drop, take, Option, None, Some, Err, sym, ap, ◌∙◌, append_assoc, append-nil, take-append-drop, take_all}
 use Rattle.std.specs.Io.KnownBytes.{Appends, IsAtEnd, Keeps}
 use Rattle.std.proofs.KnownBytes.{Appends-kept, Appends-trans}
-use Rattle.cd_report.specs.Image.{image_limit}
-use Rattle.cd_report.specs.Report.{Fits, FitsLeft}
-use Rattle.cd_report.specs.Telling.{Finishes}
+use Rattle.cd_read.specs.Image.{image_limit}
+use Rattle.cd_read.specs.Ends.{Fits, FitsLeft}
+use Rattle.cd_report.specs.Scanning.{Finishes}
 use Rattle.cd_stream.specs.Stream.{IsBeginning, Outgoing}
 use Rattle.cd_stream.specs.declared.sink.SinkFailed.{SinkFailed}
 
@@ -39,18 +39,3 @@ module _ (X : Type 0) (rest last : List ℕ) where
 -- a beginning of what comes behind
 pub IsBeginning-behind : (front part whole : List ℕ) → IsBeginning part whole → IsBeginning (front ++ part) (front ++ whole)
 IsBeginning-behind front part whole begins = (begins.0, ap (λ w. front ++ w) begins.1 ∙ sym (append_assoc front part begins.0))
-
--- an image that fits begins with what was read
-pub Fits-begins : (read whole : List ℕ) → length read ≤ image_limit → Fits read whole → IsBeginning read whole
-Fits-begins read whole within fits =
-    (fits.begins.0, fits.begins.1 ∙ ap (λ l. l ++ fits.begins.0) (take_all image_limit read within))
-
-pub FitsLeft-begins : (left : Option (List ℕ)) (read whole : List ℕ) → length read ≤ image_limit → FitsLeft left read whole → IsBeginning read whole
-FitsLeft-begins None read whole within fits = ([], fits ∙ sym (append-nil read))
-FitsLeft-begins (Some []) read whole within fits = ([], fits ∙ sym (append-nil read))
-FitsLeft-begins (Some (x ∷ xs)) read whole within fits = Fits-begins read whole within fits
-
-pub FitsLeft-end : (left : Option (List ℕ)) (read whole : List ℕ) → IsAtEnd left → FitsLeft left read whole → whole ≡ read
-FitsLeft-end None read whole end fits = fits
-FitsLeft-end (Some []) read whole end fits = fits
-FitsLeft-end (Some (x ∷ xs)) read whole end fits = cc

@@ -3,7 +3,7 @@ use Rattle.std.proofs.Common.{◌≡◌, ◌≢◌, ℕ, zero, suc, ◌+◌, tru
 use Rattle.std.proofs.lemmas.Bool.Decides.{nat_tests}
 use Rattle.cd_sector.specs.declared.kinds.SectorKind.{SectorKind}
 use Rattle.cd_sector.specs.declared.kinds.SectorKind.TheVariants.{NoSync, Mode0, Mode1, Mode2, Other}
-use Rattle.cd_report.specs.Runs.{Run, AreMaximal, number_of, put_before, runs, same_kind, spelled}
+use Rattle.cd_report.specs.Runs.{Run, AreMaximal, number_of, put_before, runs, same_kind, kinds_of}
 
 -- the kind of a number
 kind_at : ℕ → SectorKind
@@ -71,12 +71,12 @@ runs-run (suc count) kind others other =
     ∙ ap (λ t. cond t (record { kind = kind; count = suc count + 1 } ∷ runs others) (record { kind = kind; count = 1 } ∷ record { kind = kind; count = suc count } ∷ runs others)) (same_kind-refl kind)
     ∙ ap (λ n. record { kind = kind; count = n } ∷ runs others) (add-one (suc count))
 
-spelled-put_before : (kind : SectorKind) (rs : List Run) → spelled (put_before kind rs) ≡ kind ∷ spelled rs
-spelled-put_before kind [] = refl
-spelled-put_before kind (run ∷ others) =
+kinds_of-put_before : (kind : SectorKind) (rs : List Run) → kinds_of (put_before kind rs) ≡ kind ∷ kinds_of rs
+kinds_of-put_before kind [] = refl
+kinds_of-put_before kind (run ∷ others) =
     elim (same_kind kind run.kind) as (λ t. same_kind kind run.kind ≡ t
-    → spelled (cond t (record { kind = kind; count = run.count + 1 } ∷ others) (record { kind = kind; count = 1 } ∷ run ∷ others)) ≡ kind ∷ spelled (run ∷ others)) [
-      | true ↦ λ e. ap (λ n. replicate n kind ++ spelled others) (add-one run.count) ∙ ap (λ k. kind ∷ (replicate run.count k ++ spelled others)) (same_kind-true kind run.kind e)
+    → kinds_of (cond t (record { kind = kind; count = run.count + 1 } ∷ others) (record { kind = kind; count = 1 } ∷ run ∷ others)) ≡ kind ∷ kinds_of (run ∷ others)) [
+      | true ↦ λ e. ap (λ n. replicate n kind ++ kinds_of others) (add-one run.count) ∙ ap (λ k. kind ∷ (replicate run.count k ++ kinds_of others)) (same_kind-true kind run.kind e)
       | false ↦ λ _. refl
     ] refl
 
@@ -96,9 +96,9 @@ AreMaximal-put_before kind (run ∷ others) maximal =
     longer kind run [] e maximal = omega arith
     longer kind run (next ∷ others) e maximal = (omega arith, subst (λ k. k ≢ next.kind) (sym e) maximal.1, maximal.2)
 
-pub spelled-runs : (kinds : List SectorKind) → spelled (runs kinds) ≡ kinds
-spelled-runs [] = refl
-spelled-runs (kind ∷ others) = spelled-put_before kind (runs others) ∙ ap (λ ks. kind ∷ ks) (spelled-runs others)
+pub kinds_of-runs : (kinds : List SectorKind) → kinds_of (runs kinds) ≡ kinds
+kinds_of-runs [] = refl
+kinds_of-runs (kind ∷ others) = kinds_of-put_before kind (runs others) ∙ ap (λ ks. kind ∷ ks) (kinds_of-runs others)
 
 pub AreMaximal-runs : (kinds : List SectorKind) → AreMaximal (runs kinds)
 AreMaximal-runs [] = tt
@@ -118,13 +118,13 @@ first_count : (run : Run) (others : List Run) → AreMaximal (run ∷ others) �
 first_count run [] maximal = maximal
 first_count run (next ∷ others) maximal = maximal.0
 
-runs-spelled : (rs : List Run) → AreMaximal rs → runs (spelled rs) ≡ rs
-runs-spelled [] maximal = refl
-runs-spelled (run ∷ []) maximal = runs-one run.count run.kind [] maximal tt
-runs-spelled (run ∷ next ∷ others) maximal =
-    runs-one run.count run.kind (spelled (next ∷ others)) maximal.0
-    (IsOther-replicate next.count run.kind next.kind (spelled others) (first_count next others maximal.2) maximal.1)
-    ∙ ap (λ rs. run ∷ rs) (runs-spelled (next ∷ others) maximal.2)
+runs-kinds_of : (rs : List Run) → AreMaximal rs → runs (kinds_of rs) ≡ rs
+runs-kinds_of [] maximal = refl
+runs-kinds_of (run ∷ []) maximal = runs-one run.count run.kind [] maximal tt
+runs-kinds_of (run ∷ next ∷ others) maximal =
+    runs-one run.count run.kind (kinds_of (next ∷ others)) maximal.0
+    (IsOther-replicate next.count run.kind next.kind (kinds_of others) (first_count next others maximal.2) maximal.1)
+    ∙ ap (λ rs. run ∷ rs) (runs-kinds_of (next ∷ others) maximal.2)
 
-pub runs-only : (kinds : List SectorKind) (rs : List Run) → spelled rs ≡ kinds → AreMaximal rs → rs ≡ runs kinds
-runs-only kinds rs same maximal = sym (runs-spelled rs maximal) ∙ ap runs same
+pub runs-only : (kinds : List SectorKind) (rs : List Run) → kinds_of rs ≡ kinds → AreMaximal rs → rs ≡ runs kinds
+runs-only kinds rs same maximal = sym (runs-kinds_of rs maximal) ∙ ap runs same

@@ -1,15 +1,16 @@
 -- The text that `audit` writes of an image.
-use Rattle.std.specs.Prelude.{◌≡◌, ℕ, ◌+◌, ◌≤◌, Bool, false, not, ◌&&◌, ◌||◌, if◌then◌else◌, List, [], ◌∷◌, ◌++◌, length, count_by, codes, decimal, nat_eq, Option, None, Some}
+use Rattle.std.specs.Prelude.{◌≡◌, ℕ, ◌+◌, ◌≤◌, Bool, false, not, ◌&&◌, ◌||◌, if◌then◌else◌, List}
+use Rattle.std.specs.Prelude.{[], ◌∷◌, ◌++◌, length, count_by, codes, decimal, nat_eq, Option, None}
+use Rattle.std.specs.Prelude.{Some}
 use Rattle.std.specs.List.{list_any, starts_with}
 use Rattle.cd_sector.specs.Address.{address}
 use Rattle.cd_sector.specs.Consistent.{header_of, is_mode1}
 use Rattle.cd_sector.specs.Defect.{defect_of, is_broken, is_nonzero, is_sound}
 use Rattle.cd_sector.specs.Kind.{kind_of}
 use Rattle.cd_sector.specs.declared.defects.DefectReport.{DefectReport}
-use Rattle.cd_report.specs.Image.{image_limit, sectors, tail}
+use Rattle.cd_read.specs.Image.{base_limit, image_limit, sectors, tail}
 use Rattle.cd_report.specs.Lines.{line_count, text_of}
-use Rattle.cd_report.specs.Report.{Telling}
-use Rattle.cd_report.specs.declared.TheConstants.{MAX_BASE}
+use Rattle.cd_report.specs.Report.{ReportSpec}
 use Rattle.cd_report.specs.declared.auditing.AuditTally.{AuditTally}
 use Rattle.cd_report.specs.declared.findings.Findings.{Findings}
 
@@ -31,7 +32,10 @@ report_of sector = record {
 
 -- the address and the defect of the sector of a block
 abbrev pub found_of : ℕ → List ℕ → Findings
-found_of block sector = record { address = is_other_address (address block) (header_of sector); defect = report_of sector }
+found_of block sector = record {
+  address = is_other_address (address block) (header_of sector);
+  defect = report_of sector;
+}
 
 -- what is found of a sector: of another kind than Mode 1 nothing
 unfoldable pub findings_of : ℕ → List ℕ → Option Findings
@@ -57,7 +61,8 @@ count_if name count = if is_nonzero count then name ++ decimal count else []
 -- the block's number, and then what is found, in this order
 unfoldable pub finding_line : ℕ → Findings → List ℕ
 finding_line block found =
-    decimal block ++ name_if found.address (codes " address") ++ name_if found.defect.zeros (codes " zeros") ++ name_if found.defect.edc (codes " edc")
+    decimal block ++ name_if found.address (codes " address")
+    ++ name_if found.defect.zeros (codes " zeros") ++ name_if found.defect.edc (codes " edc")
     ++ count_if (codes " p=") found.defect.p ++ count_if (codes " q=") found.defect.q ++ codes "\n"
 
 -- the line of a sector, where there is anything to tell
@@ -68,7 +73,8 @@ line_of block (Some found) = if is_any (Some found) then finding_line block foun
 -- the lines of sectors, the first of which is `block`
 abbrev pub audit_lines : ℕ → List (List ℕ) → List (List ℕ)
 audit_lines block [] = []
-audit_lines block (sector ∷ others) = line_of block (findings_of block sector) ++ audit_lines (block + 1) others
+audit_lines block (sector ∷ others) =
+    line_of block (findings_of block sector) ++ audit_lines (block + 1) others
 
 -- a Mode 1 sector is damaged where a member of its defect is not 0
 abbrev pub is_damaged : List ℕ → Bool
@@ -77,7 +83,8 @@ is_damaged sector = is_mode1 (kind_of sector) && not (is_sound (defect_of sector
 -- how many sectors have a line
 abbrev pub finding_count : ℕ → List (List ℕ) → ℕ
 finding_count block [] = 0
-finding_count block (sector ∷ others) = (if is_any (findings_of block sector) then 1 else 0) + finding_count (block + 1) others
+finding_count block (sector ∷ others) =
+    (if is_any (findings_of block sector) then 1 else 0) + finding_count (block + 1) others
 
 -- the counts of sectors, the first of which is `block`
 abbrev pub counts_of : ℕ → List (List ℕ) → ℕ → AuditTally
@@ -95,16 +102,18 @@ audit_tally base image = counts_of base (sectors image) (length (tail image))
 -- the last line
 unfoldable pub audit_end : AuditTally → List ℕ
 audit_end tally =
-    codes "sectors " ++ decimal tally.sectors ++ codes " mode1 " ++ decimal tally.mode1 ++ codes " damaged " ++ decimal tally.damaged
+    codes "sectors " ++ decimal tally.sectors ++ codes " mode1 " ++ decimal tally.mode1
+    ++ codes " damaged " ++ decimal tally.damaged
     ++ codes " tail " ++ decimal tally.tail ++ codes "\n"
 
 -- the whole text, where the image's first block is `base`
 abbrev pub audit_text : ℕ → List ℕ → List ℕ
-audit_text base image = text_of (audit_lines base (sectors image)) ++ audit_end (audit_tally base image)
+audit_text base image =
+    text_of (audit_lines base (sectors image)) ++ audit_end (audit_tally base image)
 
 -- what is told of an image: the line of a sector is due when it was read
-abbrev pub auditing : ℕ → Telling AuditTally
-auditing base = record {
+abbrev pub audit_report : ℕ → ReportSpec AuditTally
+audit_report base = record {
   text = audit_text base;
   due = λ read. audit_lines base (sectors read);
   tally = audit_tally base;
@@ -113,4 +122,5 @@ auditing base = record {
 -- the findings are the lines before the last
 abbrev pub AuditCountsLines : Type 0
 AuditCountsLines =
-    (base : ℕ) (image : List ℕ) → base ≤ MAX_BASE → length image ≤ image_limit → line_count (audit_text base image) ≡ (audit_tally base image).findings + 1
+    (base : ℕ) (image : List ℕ) → base ≤ base_limit → length image ≤ image_limit
+    → line_count (audit_text base image) ≡ (audit_tally base image).findings + 1

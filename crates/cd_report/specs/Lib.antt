@@ -1,9 +1,7 @@
 pub mod AuditText
-pub mod Image
 pub mod Lines
 pub mod ListText
 pub mod OpenRun
-pub mod Reading
 pub mod Report
 pub mod Runs
-pub mod Telling
+pub mod Scanning

@@ -2,10 +2,11 @@
 use Rattle.std.specs.Prelude.{ℕ, ◌+◌, ◌-◌, List, [], ◌∷◌, ◌++◌, length, map, codes, decimal}
 use Rattle.cd_sector.specs.Kind.{kind_of}
 use Rattle.cd_sector.specs.declared.kinds.SectorKind.{SectorKind}
-use Rattle.cd_sector.specs.declared.kinds.SectorKind.TheVariants.{NoSync, Mode0, Mode1, Mode2, Other}
-use Rattle.cd_report.specs.Image.{sectors, tail}
+use Rattle.cd_sector.specs.declared.kinds.SectorKind.TheVariants.{NoSync, Mode0, Mode1, Mode2}
+use Rattle.cd_sector.specs.declared.kinds.SectorKind.TheVariants.{Other}
+use Rattle.cd_read.specs.Image.{sectors, tail}
 use Rattle.cd_report.specs.Lines.{all_but_last, text_of}
-use Rattle.cd_report.specs.Report.{Telling}
+use Rattle.cd_report.specs.Report.{ReportSpec}
 use Rattle.cd_report.specs.Runs.{Run, runs}
 use Rattle.cd_report.specs.declared.listing.ListTally.{ListTally}
 
@@ -19,7 +20,8 @@ kind_name Other = codes "other"
 -- FIRST-LAST KIND, by block numbers
 unfoldable pub run_line : ℕ → Run → List ℕ
 run_line first run =
-    decimal first ++ codes "-" ++ decimal (first + run.count - 1) ++ codes " " ++ kind_name run.kind ++ codes "\n"
+    decimal first ++ codes "-" ++ decimal (first + run.count - 1) ++ codes " " ++ kind_name run.kind
+    ++ codes "\n"
 
 -- a line for each run, the first of which begins at block `first`
 abbrev pub run_lines : ℕ → List Run → List (List ℕ)
@@ -28,7 +30,8 @@ run_lines first (run ∷ others) = run_line first run ∷ run_lines (first + run
 
 -- the last line
 unfoldable pub list_end : ListTally → List ℕ
-list_end tally = codes "sectors " ++ decimal tally.sectors ++ codes " tail " ++ decimal tally.tail ++ codes "\n"
+list_end tally =
+    codes "sectors " ++ decimal tally.sectors ++ codes " tail " ++ decimal tally.tail ++ codes "\n"
 
 -- the number of whole sectors, and the length of the tail
 abbrev pub list_tally : List ℕ → ListTally
@@ -36,11 +39,13 @@ list_tally image = record { sectors = length (sectors image); tail = length (tai
 
 -- the whole text, where the image's first block is `base`
 abbrev pub list_text : ℕ → List ℕ → List ℕ
-list_text base image = text_of (run_lines base (runs (map kind_of (sectors image)))) ++ list_end (list_tally image)
+list_text base image =
+    text_of (run_lines base (runs (map kind_of (sectors image)))) ++ list_end (list_tally image)
 
--- what is told of an image: the line of a run is due when a sector of another kind was read behind it
-abbrev pub listing : ℕ → Telling ListTally
-listing base = record {
+-- what is told of an image: the line of a run is due when a sector of another kind was read behind
+-- it
+abbrev pub list_report : ℕ → ReportSpec ListTally
+list_report base = record {
   text = list_text base;
   due = λ read. all_but_last (run_lines base (runs (map kind_of (sectors read))));
   tally = list_tally;

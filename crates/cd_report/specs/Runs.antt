@@ -1,8 +1,10 @@
 -- The maximal runs of neighbours of equal kind.
-use Rattle.std.specs.Prelude.{◌≡◌, ◌≢◌, ℕ, ◌==◌, ◌+◌, ◌<◌, Bool, if◌then◌else◌, List, [], ◌∷◌, replicate}
+use Rattle.std.specs.Prelude.{◌≡◌, ◌≢◌, ℕ, ◌==◌, ◌+◌, ◌<◌, Bool, if◌then◌else◌, List, [], ◌∷◌}
+use Rattle.std.specs.Prelude.{replicate}
 use Rattle.std.specs.List.{flat_map}
 use Rattle.cd_sector.specs.declared.kinds.SectorKind.{SectorKind}
-use Rattle.cd_sector.specs.declared.kinds.SectorKind.TheVariants.{NoSync, Mode0, Mode1, Mode2, Other}
+use Rattle.cd_sector.specs.declared.kinds.SectorKind.TheVariants.{NoSync, Mode0, Mode1, Mode2}
+use Rattle.cd_sector.specs.declared.kinds.SectorKind.TheVariants.{Other}
 
 -- `count` sectors of one kind
 pub record Run : Type 0 where
@@ -33,17 +35,18 @@ runs [] = []
 runs (kind ∷ others) = put_before kind (runs others)
 
 -- the kinds that runs stand for
-abbrev pub spelled : List Run → List SectorKind
-spelled rs = flat_map (λ run. replicate run.count run.kind) rs
+abbrev pub kinds_of : List Run → List SectorKind
+kinds_of rs = flat_map (λ run. replicate run.count run.kind) rs
 
 -- no run is empty, and none could be joined with its neighbour
 abbrev pub AreMaximal : List Run → Type 0
 AreMaximal [] = Unit {0}
 AreMaximal (run ∷ []) = 0 < run.count
-AreMaximal (run ∷ next ∷ others) = (0 < run.count) × (run.kind ≢ next.kind) × AreMaximal (next ∷ others)
+AreMaximal (run ∷ next ∷ others) =
+    (0 < run.count) × (run.kind ≢ next.kind) × AreMaximal (next ∷ others)
 
 -- the runs spelled out are the kinds, and they are maximal; no other runs are both
 abbrev pub RunsSpellKinds : Type 0
 RunsSpellKinds =
-    (kinds : List SectorKind) → (spelled (runs kinds) ≡ kinds) × AreMaximal (runs kinds)
-    × ((rs : List Run) → spelled rs ≡ kinds → AreMaximal rs → rs ≡ runs kinds)
+    (kinds : List SectorKind) → (kinds_of (runs kinds) ≡ kinds) × AreMaximal (runs kinds)
+    × ((rs : List Run) → kinds_of rs ≡ kinds → AreMaximal rs → rs ≡ runs kinds)

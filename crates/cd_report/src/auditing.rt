@@ -1,15 +1,18 @@
 //! The audit of an image: what is wrong with its Mode 1 sectors.
 
 ghost use Rattle.std.specs.Prelude.{◌≡◌, ◌+◌, ◌<◌, ◌≤◌, ◌↔◌, [], true, IfOk, OnOk};
-ghost use Rattle.cd_report.specs.AuditText.{audit_end, auditing};
-ghost use Rattle.cd_report.specs.Report.{AnswersByEnd, AnswersByLength, EndsWell, Reports, TellsTooLong, WritesText};
-ghost use Rattle.cd_report.specs.Telling.{counted};
+ghost use Rattle.cd_report.specs.AuditText.{audit_end, audit_report};
+ghost use Rattle.cd_read.specs.Ends.{AnswersByEnd, AnswersByLength, EndsWell, TellsTooLong};
+ghost use Rattle.cd_report.specs.Report.{Reports, WritesText};
+ghost use Rattle.cd_report.specs.Scanning.{tally_with};
 ghost use Rattle.cd_stream.specs.Transfer.{Sends};
+ghost use Rattle.cd_stream.specs.Stream.{MayCount};
+ghost use Rattle.cd_read.specs.Image.{base_limit, sector_limit};
 
-use crate::fault::Fault;
+use crate::MAX_BASE;
 use crate::findings::{Findings, findings_of, is_any, is_damage, send_findings};
-use crate::telling::{Teller, tell};
-use crate::{MAX_BASE, MAX_SECTORS};
+use crate::scan::{Visitor, scan};
+use cd_read::Fault;
 use cd_sector::Sector;
 use cd_stream::{Line, Sink, SinkFailed, Source, write_all};
 
@@ -29,11 +32,11 @@ pub struct AuditTally {
 }
 
 fn with_sector(tally: AuditTally, found: Option<Findings>) -> AuditTally
-    requires sectors { tally.sectors < MAX_SECTORS }
-    requires mode1 { tally.mode1 < MAX_SECTORS }
-    requires damaged { tally.damaged < MAX_SECTORS }
-    requires findings { tally.findings < MAX_SECTORS }
-    ensures { result ≡ counted tally found }
+    requires sectors { tally.sectors < sector_limit }
+    requires mode1 { tally.mode1 < sector_limit }
+    requires damaged { tally.damaged < sector_limit }
+    requires findings { tally.findings < sector_limit }
+    ensures { result ≡ tally_with tally found }
 {
     match found {
         None => AuditTally {
@@ -52,7 +55,7 @@ fn with_sector(tally: AuditTally, found: Option<Findings>) -> AuditTally
 
 #[tactic(auto, unfolding(crate::specs::AuditText::audit_end))]
 fn send_end<O: Sink>(tally: AuditTally, out: &mut O) -> Result<(), SinkFailed>
-    requires { (O.seen out.old).failures < 4294967295 }
+    requires { MayCount (O.seen out.old).failures }
     ensures { Sends (O.seen out.old) (O.seen out.new) (audit_end tally) result }
 {
     let mut line = Line::new();
@@ -75,18 +78,18 @@ struct Auditor {
     tally: AuditTally,
 }
 
-impl Teller for Auditor {
+impl Visitor for Auditor {
     ghost use Rattle.std.specs.Prelude.{◌≤◌};
-    ghost use Rattle.cd_report.specs.Telling.{IsTallyOf, audit_to_tell};
+    ghost use Rattle.cd_report.specs.Scanning.{IsTallyOf, audit_remaining};
     ghost use Rattle.cd_report.specs.declared.TheConstants.{MAX_BASE};
 
     type Tally = AuditTally;
 
-    ghost to_tell = { λ s count. audit_to_tell s.base s.tally };
+    ghost remaining = { λ s count. audit_remaining s.base s.tally };
 
-    ghost has_taken = { λ s count. (s.base ≤ MAX_BASE) × IsTallyOf s.tally count };
+    ghost has_visited = { λ s count. (s.base ≤ MAX_BASE) × IsTallyOf s.tally count };
 
-    fn take_sector<O: Sink>(
+    fn visit<O: Sink>(
         &mut self,
         count: u32,
         sector: &Sector,
@@ -112,16 +115,41 @@ impl Teller for Auditor {
     }
 }
 
-// What `audit` does, as one fact.
-fn audit_whole<I: Source, O: Sink>(
-    image: &mut I,
-    base: u32,
-    out: &mut O,
-) -> Result<AuditTally, Fault>
-    requires base { base ≤ MAX_BASE }
-    requires image_countable { (I.seen image.old).failures < 4294967295 }
-    requires out_countable { (O.seen out.old).failures < 4294967295 }
-    ensures { Reports (auditing base) (I.seen image.old) (I.seen image.new) (O.seen out.old) (O.seen out.new) result }
+/// Writes a line for each Mode 1 sector whose address or content is wrong, and a last line with the
+/// numbers of sectors, of Mode 1 sectors, of damaged ones and of bytes behind them.
+///
+/// `base` is the number of the first block. It holds one sector at a time and takes no memory.
+///
+/// # Errors
+///
+/// `Read` where the image has failed, `Write` where `out` has, `TooLong` where a byte was read
+/// behind the millionth sector.
+pub fn audit<I: Source, O: Sink>(image: &mut I, base: u32, out: &mut O) -> Result<AuditTally, Fault>
+    requires base { base ≤ base_limit }
+    requires image_countable { MayCount (I.seen image.old).failures }
+    requires out_countable { MayCount (O.seen out.old).failures }
+
+    // The whole of it, also what stands after a fault.
+    ensures report { Reports (audit_report base)
+        (I.seen image.old) (I.seen image.new) (O.seen out.old) (O.seen out.new) result }
+
+    // What it says where nothing failed, and when each fault comes.
+    ensures text { IfOk result (WritesText (audit_report base)
+        (I.seen image.old) (I.seen image.new) (O.seen out.old) (O.seen out.new)) }
+    ensures ends_well { OnOk result (EndsWell
+        (I.seen image.old) (I.seen image.new) (O.seen out.old) (O.seen out.new)) }
+    ensures read_failed { (result ≡ Err Fault.Read)
+        ↔ ((I.seen image.new).failures ≡ (I.seen image.old).failures + 1) }
+    ensures write_failed { (result ≡ Err Fault.Write)
+        ↔ ((O.seen out.new).failures ≡ (O.seen out.old).failures + 1) }
+    ensures too_long { TellsTooLong (I.seen image.old) (I.seen image.new) result }
+    ensures by_length { (I.seen image.new).failures ≡ (I.seen image.old).failures
+        → (O.seen out.new).failures ≡ (O.seen out.old).failures
+        → AnswersByLength (I.seen image.old) result }
+    ensures ended { OnOk result ((I.seen image.new).ended ≡ true) }
+    ensures by_end { (I.seen image.new).failures ≡ (I.seen image.old).failures
+        → (O.seen out.new).failures ≡ (O.seen out.old).failures
+        → AnswersByEnd (I.seen image.new) result }
 {
     let tally = AuditTally {
         sectors: 0,
@@ -130,34 +158,5 @@ fn audit_whole<I: Source, O: Sink>(
         findings: 0,
         tail: 0,
     };
-    tell(image, &mut Auditor { base, tally }, out)
-}
-
-/// Writes a line for each Mode 1 sector whose address or content is wrong, and a last line with the numbers of
-/// sectors, of Mode 1 sectors, of damaged ones and of bytes behind them.
-///
-/// `base` is the number of the first block. It holds one sector at a time and takes no memory. `Read` and
-/// `Write` come where the image or `out` has failed, `TooLong` where a byte was read behind the millionth
-/// sector.
-pub fn audit<I: Source, O: Sink>(image: &mut I, base: u32, out: &mut O) -> Result<AuditTally, Fault>
-    requires base { base ≤ 449849 }
-    requires image_countable { (I.seen image.old).failures < 4294967295 }
-    requires out_countable { (O.seen out.old).failures < 4294967295 }
-
-    // The whole of it, also what stands after a fault.
-    ensures report { Reports (auditing base) (I.seen image.old) (I.seen image.new) (O.seen out.old) (O.seen out.new) result }
-
-    // What it says where nothing failed, and when each fault comes.
-    ensures text { IfOk result (WritesText (auditing base) (I.seen image.old) (I.seen image.new) (O.seen out.old) (O.seen out.new)) }
-    ensures ends_well { OnOk result (EndsWell (I.seen image.old) (I.seen image.new) (O.seen out.old) (O.seen out.new)) }
-    ensures read_failed { (result ≡ Err Fault.Read) ↔ ((I.seen image.new).failures ≡ (I.seen image.old).failures + 1) }
-    ensures write_failed { (result ≡ Err Fault.Write) ↔ ((O.seen out.new).failures ≡ (O.seen out.old).failures + 1) }
-    ensures too_long { TellsTooLong (I.seen image.old) (I.seen image.new) result }
-    ensures by_length { (I.seen image.new).failures ≡ (I.seen image.old).failures → (O.seen out.new).failures ≡ (O.seen out.old).failures
-        → AnswersByLength (I.seen image.old) result }
-    ensures ended { OnOk result ((I.seen image.new).ended ≡ true) }
-    ensures by_end { (I.seen image.new).failures ≡ (I.seen image.old).failures → (O.seen out.new).failures ≡ (O.seen out.old).failures
-        → AnswersByEnd (I.seen image.new) result }
-{
-    audit_whole(image, base, out)
+    scan(image, &mut Auditor { base, tally }, out)
 }

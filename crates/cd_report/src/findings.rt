@@ -3,9 +3,11 @@
 ghost use Rattle.std.specs.Prelude.{◌≡◌, ◌+◌, ◌<◌, ◌≤◌, ◌++◌, Some, length};
 ghost use Rattle.cd_sector.specs.Address.{address};
 ghost use Rattle.cd_sector.specs.Consistent.{header_of};
-ghost use Rattle.cd_report.specs.AuditText.{count_if, finding_line, findings_of, is_any, is_damage, is_other_address, line_of, name_if, report_of};
+ghost use Rattle.cd_report.specs.AuditText.{count_if, finding_line, findings_of, is_any, is_damage};
+ghost use Rattle.cd_report.specs.AuditText.{is_other_address, line_of, name_if, report_of};
 ghost use Rattle.cd_report.specs.Lines.{text_of};
 ghost use Rattle.cd_stream.specs.Transfer.{Counts, Sends};
+ghost use Rattle.cd_stream.specs.Stream.{MayCount};
 
 use cd_sector::{DefectReport, Sector, SectorKind, address_of, defect, kind};
 use cd_stream::{LINE_SIZE, Line, Sink, SinkFailed, write_all};
@@ -105,7 +107,7 @@ pub(crate) fn send_findings<O: Sink>(
     found: Option<Findings>,
     out: &mut O,
 ) -> Result<(), SinkFailed>
-    requires { (O.seen out.old).failures < 4294967295 }
+    requires { MayCount (O.seen out.old).failures }
     ensures { Sends (O.seen out.old) (O.seen out.new) (text_of (line_of block found)) result }
 {
     match found {

@@ -1,16 +1,20 @@
 //! The listing of an image: its runs of sectors of equal kind.
 
-ghost use Rattle.std.specs.Prelude.{◌≡◌, ◌+◌, ◌-◌, ◌<◌, ◌≤◌, ◌↔◌, [], true, IfOk, IfSome, OnOk, length};
-ghost use Rattle.cd_report.specs.ListText.{kind_name, list_end, listing, run_line};
+ghost use Rattle.std.specs.Prelude.{◌≡◌, ◌+◌, ◌-◌, ◌<◌, ◌≤◌, ◌↔◌, [], true, IfOk, IfSome, OnOk};
+ghost use Rattle.std.specs.Prelude.{length};
+ghost use Rattle.cd_report.specs.ListText.{kind_name, list_end, list_report, run_line};
 ghost use Rattle.cd_report.specs.OpenRun.{EndsBefore, open_first, open_kinds};
-ghost use Rattle.cd_report.specs.Report.{AnswersByEnd, AnswersByLength, EndsWell, Reports, TellsTooLong, WritesText};
+ghost use Rattle.cd_read.specs.Ends.{AnswersByEnd, AnswersByLength, EndsWell, TellsTooLong};
+ghost use Rattle.cd_report.specs.Report.{Reports, WritesText};
 ghost use Rattle.cd_report.specs.Runs.{runs};
-ghost use Rattle.cd_report.specs.Telling.{TakesKind, last_line};
+ghost use Rattle.cd_report.specs.Scanning.{ExtendsRun, last_line};
 ghost use Rattle.cd_stream.specs.Transfer.{Counts, Sends};
+ghost use Rattle.cd_stream.specs.Stream.{MayCount};
+ghost use Rattle.cd_read.specs.Image.{base_limit};
 
 use crate::MAX_BASE;
-use crate::fault::Fault;
-use crate::telling::{Teller, tell};
+use crate::scan::{Visitor, scan};
+use cd_read::Fault;
 use cd_sector::{Sector, SectorKind, kind};
 use cd_stream::{Line, Sink, SinkFailed, Source, write_all};
 
@@ -45,7 +49,7 @@ fn name_of(kind: SectorKind) -> &'static [u8]
 
 #[tactic(auto, unfolding(crate::specs::ListText::run_line))]
 fn send_run<O: Sink>(run: OpenRun, out: &mut O) -> Result<(), SinkFailed>
-    requires countable { (O.seen out.old).failures < 4294967295 }
+    requires countable { MayCount (O.seen out.old).failures }
     requires ordered { run.first ≤ run.last }
     ensures { Sends (O.seen out.old) (O.seen out.new)
         (run_line run.first (record { kind = run.kind; count = run.last + 1 - run.first })) result }
@@ -60,17 +64,17 @@ fn send_run<O: Sink>(run: OpenRun, out: &mut O) -> Result<(), SinkFailed>
     write_all(out, line.as_slice())
 }
 
-/// Takes the kind of one more sector into the run, or writes the run's line and begins another. It does so where the run
-/// stands, so that a sector that goes on a run costs one store.
-fn take_kind<O: Sink>(
+/// Takes the kind of one more sector into the run, or writes the run's line and begins another. It
+/// does so where the run stands, so that a sector that goes on a run costs one store.
+fn extend_run<O: Sink>(
     run: &mut Option<OpenRun>,
     block: u32,
     kind: SectorKind,
     out: &mut O,
 ) -> Result<(), SinkFailed>
-    requires countable { (O.seen out.old).failures < 4294967295 }
+    requires countable { MayCount (O.seen out.old).failures }
     requires follows { EndsBefore run.old block }
-    ensures text { TakesKind run.old run.new block kind (O.seen out.old) (O.seen out.new) result }
+    ensures text { ExtendsRun run.old run.new block kind (O.seen out.old) (O.seen out.new) result }
     ensures count { Counts (O.seen out.old).failures (O.seen out.new).failures result }
 {
     if let Some(open_run) = run {
@@ -90,7 +94,7 @@ fn take_kind<O: Sink>(
 
 #[tactic(auto, unfolding(crate::specs::ListText::list_end))]
 fn send_end<O: Sink>(tally: ListTally, out: &mut O) -> Result<(), SinkFailed>
-    requires { (O.seen out.old).failures < 4294967295 }
+    requires { MayCount (O.seen out.old).failures }
     ensures { Sends (O.seen out.old) (O.seen out.new) (list_end tally) result }
 {
     let mut line = Line::new();
@@ -104,9 +108,10 @@ fn send_end<O: Sink>(tally: ListTally, out: &mut O) -> Result<(), SinkFailed>
 
 /// Writes the line of the last run, where there is one.
 fn send_last<O: Sink>(run: Option<OpenRun>, out: &mut O) -> Result<(), SinkFailed>
-    requires countable { (O.seen out.old).failures < 4294967295 }
+    requires countable { MayCount (O.seen out.old).failures }
     requires ordered { IfSome run (λ run. run.first ≤ run.last) }
-    ensures { Sends (O.seen out.old) (O.seen out.new) (last_line (open_first run 0) (runs (open_kinds run))) result }
+    ensures { Sends (O.seen out.old) (O.seen out.new)
+        (last_line (open_first run 0) (runs (open_kinds run))) result }
 {
     match run {
         Some(run) => send_run(run, out),
@@ -121,25 +126,25 @@ struct Lister {
     run: Option<OpenRun>,
 }
 
-impl Teller for Lister {
+impl Visitor for Lister {
     ghost use Rattle.std.specs.Prelude.{◌+◌, ◌≤◌};
     ghost use Rattle.cd_report.specs.OpenRun.{EndsBefore};
-    ghost use Rattle.cd_report.specs.Telling.{list_to_tell};
+    ghost use Rattle.cd_report.specs.Scanning.{list_remaining};
     ghost use Rattle.cd_report.specs.declared.TheConstants.{MAX_BASE};
 
     type Tally = ListTally;
 
-    ghost to_tell = { λ s count. list_to_tell s.base s.run count };
+    ghost remaining = { λ s count. list_remaining s.base s.run count };
 
-    ghost has_taken = { λ s count. (s.base ≤ MAX_BASE) × EndsBefore s.run (s.base + count) };
+    ghost has_visited = { λ s count. (s.base ≤ MAX_BASE) × EndsBefore s.run (s.base + count) };
 
-    fn take_sector<O: Sink>(
+    fn visit<O: Sink>(
         &mut self,
         count: u32,
         sector: &Sector,
         out: &mut O,
     ) -> Result<(), SinkFailed> {
-        take_kind(&mut self.run, self.base + count, kind(sector), out)
+        extend_run(&mut self.run, self.base + count, kind(sector), out)
     }
 
     fn close<O: Sink>(
@@ -159,41 +164,41 @@ impl Teller for Lister {
     }
 }
 
-// What `list` does, as one fact.
-fn list_whole<I: Source, O: Sink>(image: &mut I, base: u32, out: &mut O) -> Result<ListTally, Fault>
-    requires base { base ≤ MAX_BASE }
-    requires image_countable { (I.seen image.old).failures < 4294967295 }
-    requires out_countable { (O.seen out.old).failures < 4294967295 }
-    ensures { Reports (listing base) (I.seen image.old) (I.seen image.new) (O.seen out.old) (O.seen out.new) result }
-{
-    tell(image, &mut Lister { base, run: None }, out)
-}
-
-/// Writes a line for each maximal run of neighbouring sectors of equal kind, and a last line with the
-/// numbers of sectors and of bytes behind them.
+/// Writes a line for each maximal run of neighbouring sectors of equal kind, and a last line with
+/// the numbers of sectors and of bytes behind them.
 ///
-/// `base` is the number of the first block. It holds one sector at a time and takes no memory. `Read` and
-/// `Write` come where the image or `out` has failed, `TooLong` where a byte was read behind the millionth
-/// sector.
+/// `base` is the number of the first block. It holds one sector at a time and takes no memory.
+///
+/// # Errors
+///
+/// `Read` where the image has failed, `Write` where `out` has, `TooLong` where a byte was read
+/// behind the millionth sector.
 pub fn list<I: Source, O: Sink>(image: &mut I, base: u32, out: &mut O) -> Result<ListTally, Fault>
-    requires base { base ≤ 449849 }
-    requires image_countable { (I.seen image.old).failures < 4294967295 }
-    requires out_countable { (O.seen out.old).failures < 4294967295 }
+    requires base { base ≤ base_limit }
+    requires image_countable { MayCount (I.seen image.old).failures }
+    requires out_countable { MayCount (O.seen out.old).failures }
 
     // The whole of it, also what stands after a fault.
-    ensures report { Reports (listing base) (I.seen image.old) (I.seen image.new) (O.seen out.old) (O.seen out.new) result }
+    ensures report { Reports (list_report base)
+        (I.seen image.old) (I.seen image.new) (O.seen out.old) (O.seen out.new) result }
 
     // What it says where nothing failed, and when each fault comes.
-    ensures text { IfOk result (WritesText (listing base) (I.seen image.old) (I.seen image.new) (O.seen out.old) (O.seen out.new)) }
-    ensures ends_well { OnOk result (EndsWell (I.seen image.old) (I.seen image.new) (O.seen out.old) (O.seen out.new)) }
-    ensures read_failed { (result ≡ Err Fault.Read) ↔ ((I.seen image.new).failures ≡ (I.seen image.old).failures + 1) }
-    ensures write_failed { (result ≡ Err Fault.Write) ↔ ((O.seen out.new).failures ≡ (O.seen out.old).failures + 1) }
+    ensures text { IfOk result (WritesText (list_report base)
+        (I.seen image.old) (I.seen image.new) (O.seen out.old) (O.seen out.new)) }
+    ensures ends_well { OnOk result (EndsWell
+        (I.seen image.old) (I.seen image.new) (O.seen out.old) (O.seen out.new)) }
+    ensures read_failed { (result ≡ Err Fault.Read)
+        ↔ ((I.seen image.new).failures ≡ (I.seen image.old).failures + 1) }
+    ensures write_failed { (result ≡ Err Fault.Write)
+        ↔ ((O.seen out.new).failures ≡ (O.seen out.old).failures + 1) }
     ensures too_long { TellsTooLong (I.seen image.old) (I.seen image.new) result }
-    ensures by_length { (I.seen image.new).failures ≡ (I.seen image.old).failures → (O.seen out.new).failures ≡ (O.seen out.old).failures
+    ensures by_length { (I.seen image.new).failures ≡ (I.seen image.old).failures
+        → (O.seen out.new).failures ≡ (O.seen out.old).failures
         → AnswersByLength (I.seen image.old) result }
     ensures ended { OnOk result ((I.seen image.new).ended ≡ true) }
-    ensures by_end { (I.seen image.new).failures ≡ (I.seen image.old).failures → (O.seen out.new).failures ≡ (O.seen out.old).failures
+    ensures by_end { (I.seen image.new).failures ≡ (I.seen image.old).failures
+        → (O.seen out.new).failures ≡ (O.seen out.old).failures
         → AnswersByEnd (I.seen image.new) result }
 {
-    list_whole(image, base, out)
+    scan(image, &mut Lister { base, run: None }, out)
 }

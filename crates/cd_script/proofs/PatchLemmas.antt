@@ -21,6 +21,7 @@ use Rattle.cd_script.specs.declared.version.Version.{Version}
 use Rattle.cd_script.specs.declared.version.Version.TheVariants.{One, Two}
 use Rattle.cd_script.specs.Address.{IsAddress, address, bcd, bcd_below, header_bytes}
 use Rattle.cd_script.specs.Hex.{hex_bytes}
+use Rattle.cd_script.specs.Limits.{bytes_limit, digit_limit, fraction_limit, minute_limit, number_limit, offset_limit, patch_limit, second_limit}
 use Rattle.cd_script.specs.Value.{address_at, number_at, hex_at, offset_at, count_at, new_at, old_at, byte_at, only_byte}
 use Rattle.cd_script.specs.Line.{put_at, put_where_at, fill_at, rebuild_at, readdress_at, set_line, fill_line, rebuild_line, address_line, patch_at, patch_by}
 use Rattle.cd_script.specs.Number.{number, digits_value}
@@ -87,35 +88,35 @@ some_if false o x e = absurd cc
 is_value : {A : Type 0} (x y : A) → Some x ≡ Some y → x ≡ y
 is_value x y e = cc
 
-number-below : (w : List ℕ) (n : ℕ) → number w ≡ Some n → n ≤ 999999999
+number-below : (w : List ℕ) (n : ℕ) → number w ≡ Some n → n ≤ number_limit
 unfolding number
 number-below w n e =
-    let test = some_where (nat_le 1 (length w) && nat_le (length w) 9 && list_all is_ascii_digit w) (digits_value w) n e in
-    let outer = and_parts (nat_le 1 (length w) && nat_le (length w) 9) (list_all is_ascii_digit w) test.0 in
-    let inner = and_parts (nat_le 1 (length w)) (nat_le (length w) 9) outer.0 in
-    let short : length w ≤ 9 = leb-true (length w) 9 inner.1 in
+    let test = some_where (nat_le 1 (length w) && nat_le (length w) digit_limit && list_all is_ascii_digit w) (digits_value w) n e in
+    let outer = and_parts (nat_le 1 (length w) && nat_le (length w) digit_limit) (list_all is_ascii_digit w) test.0 in
+    let inner = and_parts (nat_le 1 (length w)) (nat_le (length w) digit_limit) outer.0 in
+    let short : length w ≤ digit_limit = leb-true (length w) digit_limit inner.1 in
     let below : digits_value w < 1 * 10 ^ length w = digits-below 0 w outer.1 in
-    let most : 10 ^ length w ≤ 10 ^ 9 = pow-le-pow_right {n = 10} (omega arith) {i = length w} {j = 9} short in
+    let most : 10 ^ length w ≤ 10 ^ digit_limit = pow-le-pow_right {n = 10} (omega arith) {i = length w} {j = digit_limit} short in
     omega (arith, test.1)
 
-number_at-below : (line : ℕ) (w : List ℕ) (n : ℕ) → number_at line w ≡ Ok n → n ≤ 999999999
+number_at-below : (line : ℕ) (w : List ℕ) (n : ℕ) → number_at line w ≡ Ok n → n ≤ number_limit
 unfolding number_at
 number_at-below line w n e = number-below w n (present (number w) (Number line) n e)
 
-offset_at-most : (line : ℕ) (w : List ℕ) (n : ℕ) → offset_at line w ≡ Ok n → n ≤ 2047
+offset_at-most : (line : ℕ) (w : List ℕ) (n : ℕ) → offset_at line w ≡ Ok n → n ≤ offset_limit
 unfolding offset_at
 offset_at-most line w n e =
-    let b = bind_ok (number_at line w) (λ o. cond (nat_le o 2047) (Ok o) (Err (Offset line))) n e in
-    let g = guard_ok (nat_le b.0 2047) (Offset line) b.0 n b.2 in
-    omega (arith, leb-true b.0 2047 g.0, g.1)
+    let b = bind_ok (number_at line w) (λ o. cond (nat_le o offset_limit) (Ok o) (Err (Offset line))) n e in
+    let g = guard_ok (nat_le b.0 offset_limit) (Offset line) b.0 n b.2 in
+    omega (arith, leb-true b.0 offset_limit g.0, g.1)
 
-count_at-within : (line : ℕ) (w : List ℕ) (n : ℕ) → count_at line w ≡ Ok n → (1 ≤ n) × (n ≤ 4096)
+count_at-within : (line : ℕ) (w : List ℕ) (n : ℕ) → count_at line w ≡ Ok n → (1 ≤ n) × (n ≤ bytes_limit)
 unfolding count_at
 count_at-within line w n e =
-    let b = bind_ok (number_at line w) (λ k. cond (nat_le 1 k && nat_le k 4096) (Ok k) (Err (Length line))) n e in
-    let g = guard_ok (nat_le 1 b.0 && nat_le b.0 4096) (Length line) b.0 n b.2 in
-    let parts = and_parts (nat_le 1 b.0) (nat_le b.0 4096) g.0 in
-    (omega (arith, leb-true 1 b.0 parts.0, g.1), omega (arith, leb-true b.0 4096 parts.1, g.1))
+    let b = bind_ok (number_at line w) (λ k. cond (nat_le 1 k && nat_le k bytes_limit) (Ok k) (Err (Length line))) n e in
+    let g = guard_ok (nat_le 1 b.0 && nat_le b.0 bytes_limit) (Length line) b.0 n b.2 in
+    let parts = and_parts (nat_le 1 b.0) (nat_le b.0 bytes_limit) g.0 in
+    (omega (arith, leb-true 1 b.0 parts.0, g.1), omega (arith, leb-true b.0 bytes_limit parts.1, g.1))
 
 -- ---- bytes
 
@@ -129,10 +130,10 @@ hex_at-bytes line w bytes e =
 new_at-bytes : (line : ℕ) (w bytes : List ℕ) → new_at line w ≡ Ok bytes → IsBytes bytes
 unfolding new_at
 new_at-bytes line w bytes e =
-    let b = bind_ok (hex_at line w) (λ bs. cond (nat_le 1 (length bs) && nat_le (length bs) 4096) (Ok bs) (Err (Length line))) bytes e in
-    let g = guard_ok (nat_le 1 (length b.0) && nat_le (length b.0) 4096) (Length line) b.0 bytes b.2 in
-    let parts = and_parts (nat_le 1 (length b.0)) (nat_le (length b.0) 4096) g.0 in
-    subst IsBytes g.1 (record { some = leb-true 1 (length b.0) parts.0; most = leb-true (length b.0) 4096 parts.1; each = hex_at-bytes line w b.0 b.1 })
+    let b = bind_ok (hex_at line w) (λ bs. cond (nat_le 1 (length bs) && nat_le (length bs) bytes_limit) (Ok bs) (Err (Length line))) bytes e in
+    let g = guard_ok (nat_le 1 (length b.0) && nat_le (length b.0) bytes_limit) (Length line) b.0 bytes b.2 in
+    let parts = and_parts (nat_le 1 (length b.0)) (nat_le (length b.0) bytes_limit) g.0 in
+    subst IsBytes g.1 (record { some = leb-true 1 (length b.0) parts.0; most = leb-true (length b.0) bytes_limit parts.1; each = hex_at-bytes line w b.0 b.1 })
 
 old_at-bytes : (line : ℕ) (new w bytes : List ℕ) → IsBytes new → old_at line new w ≡ Ok bytes → IsBytes bytes × (length bytes ≡ length new)
 unfolding old_at
@@ -173,12 +174,12 @@ bcd_below-is limit high low b e =
 header_bytes-address : (m n s t f g : ℕ) (bytes : List ℕ) → header_bytes m n s t f g ≡ Some bytes → IsAddress bytes
 unfolding header_bytes
 header_bytes-address m n s t f g bytes e =
-    let minute = some_bind (bcd_below 100 m n) (λ a. option_and_then (λ b. option_and_then (λ c. Some (a ∷ b ∷ c ∷ [])) (bcd_below 75 f g)) (bcd_below 60 s t)) bytes e in
-    let second = some_bind (bcd_below 60 s t) (λ b. option_and_then (λ c. Some (minute.0 ∷ b ∷ c ∷ [])) (bcd_below 75 f g)) bytes minute.2 in
-    let fraction = some_bind (bcd_below 75 f g) (λ c. Some (minute.0 ∷ second.0 ∷ c ∷ [])) bytes second.2 in
-    let a = bcd_below-is 100 m n minute.0 minute.1 in
-    let b = bcd_below-is 60 s t second.0 second.1 in
-    let c = bcd_below-is 75 f g fraction.0 fraction.1 in
+    let minute = some_bind (bcd_below minute_limit m n) (λ a. option_and_then (λ b. option_and_then (λ c. Some (a ∷ b ∷ c ∷ [])) (bcd_below fraction_limit f g)) (bcd_below second_limit s t)) bytes e in
+    let second = some_bind (bcd_below second_limit s t) (λ b. option_and_then (λ c. Some (minute.0 ∷ b ∷ c ∷ [])) (bcd_below fraction_limit f g)) bytes minute.2 in
+    let fraction = some_bind (bcd_below fraction_limit f g) (λ c. Some (minute.0 ∷ second.0 ∷ c ∷ [])) bytes second.2 in
+    let a = bcd_below-is minute_limit m n minute.0 minute.1 in
+    let b = bcd_below-is second_limit s t second.0 second.1 in
+    let c = bcd_below-is fraction_limit f g fraction.0 fraction.1 in
     record {
       minute = a.0;
       second = b.0;
@@ -322,16 +323,16 @@ found_done o = Ok o
 found_is : (a b : Option Patch) → found_done a ≡ found_done b → a ≡ b
 found_is a b e = cc
 
-line_at-patch : (version : Version) (line earlier : ℕ) (text : List ℕ) (found : Option Patch) → line_at version line earlier text ≡ Ok found → IfSome found (λ p. IsPatch p × (earlier < 65535))
+line_at-patch : (version : Version) (line earlier : ℕ) (text : List ℕ) (found : Option Patch) → line_at version line earlier text ≡ Ok found → IfSome found (λ p. IsPatch p × (earlier < patch_limit))
 unfolding line_at
 line_at-patch version line earlier text found e =
     elim (chosen (is_passed_over (words text)) (Ok None) _ found e) [
-      | inl none ↦ subst (λ (o : Option Patch). IfSome o (λ p. IsPatch p × (earlier < 65535))) (found_is None found none) tt
+      | inl none ↦ subst (λ (o : Option Patch). IfSome o (λ p. IsPatch p × (earlier < patch_limit))) (found_is None found none) tt
       | inr some ↦
-          let b = bind_ok (patch_by version line (words text)) (λ p. cond (nat_le 65535 earlier) (Err (TooMany line)) (Ok (Some p))) found some in
-          let few = not_taken (nat_le 65535 earlier) (TooMany line) (Some b.0) found b.2 in
-          let below : earlier < 65535 = grind (arith, nat_tests, few.0) in
-          subst (λ (o : Option Patch). IfSome o (λ p. IsPatch p × (earlier < 65535))) few.1 (patch_by-patch version line (words text) b.0 b.1, below)
+          let b = bind_ok (patch_by version line (words text)) (λ p. cond (nat_le patch_limit earlier) (Err (TooMany line)) (Ok (Some p))) found some in
+          let few = not_taken (nat_le patch_limit earlier) (TooMany line) (Some b.0) found b.2 in
+          let below : earlier < patch_limit = grind (arith, nat_tests, few.0) in
+          subst (λ (o : Option Patch). IfSome o (λ p. IsPatch p × (earlier < patch_limit))) few.1 (patch_by-patch version line (words text) b.0 b.1, below)
     ]
 
 abbrev all_done : List Patch → Result (List Patch) ScriptFault
@@ -340,20 +341,20 @@ all_done ps = Ok ps
 patches_are : (ps qs : List Patch) → all_done ps ≡ all_done qs → ps ≡ qs
 patches_are ps qs e = cc
 
-room : (earlier : ℕ) (found : Option Patch) → earlier ≤ 65535 → IfSome found (λ p. IsPatch p × (earlier < 65535)) → earlier + length (option_to_list found) ≤ 65535
+room : (earlier : ℕ) (found : Option Patch) → earlier ≤ patch_limit → IfSome found (λ p. IsPatch p × (earlier < patch_limit)) → earlier + length (option_to_list found) ≤ patch_limit
 room earlier None le h = omega arith
 room earlier (Some p) le h = omega (arith, h.1)
 
 -- patches of lines behind so many others
 record AreBehind (earlier : ℕ) (ps : List Patch) : Type 0 where
   pub each : All IsPatch ps
-  pub count : earlier + length ps ≤ 65535
+  pub count : earlier + length ps ≤ patch_limit
 
-put_on : (earlier : ℕ) (found : Option Patch) (ps : List Patch) → IfSome found (λ p. IsPatch p × (earlier < 65535)) → AreBehind (earlier + length (option_to_list found)) ps → AreBehind earlier (cons_option found ps)
+put_on : (earlier : ℕ) (found : Option Patch) (ps : List Patch) → IfSome found (λ p. IsPatch p × (earlier < patch_limit)) → AreBehind (earlier + length (option_to_list found)) ps → AreBehind earlier (cons_option found ps)
 put_on earlier None ps h rest = record { each = rest.each; count = omega (arith, rest.count) }
 put_on earlier (Some p) ps h rest = record { each = All-cons IsPatch p ps h.0 rest.each; count = omega (arith, rest.count) }
 
-patches_from-patches : (version : Version) (line earlier : ℕ) (ls : List (List ℕ)) (ps : List Patch) → earlier ≤ 65535 → patches_from version line earlier ls ≡ Ok ps → AreBehind earlier ps
+patches_from-patches : (version : Version) (line earlier : ℕ) (ls : List (List ℕ)) (ps : List Patch) → earlier ≤ patch_limit → patches_from version line earlier ls ≡ Ok ps → AreBehind earlier ps
 unfolding patches_from
 patches_from-patches version line earlier [] ps le e = subst (AreBehind earlier) (patches_are [] ps e) (record { each = All-nil IsPatch; count = omega arith })
 patches_from-patches version line earlier (text ∷ rest) ps le e =
@@ -379,5 +380,5 @@ script_from-patches line (text ∷ rest) ps e =
 pub script-each : (line : ℕ) (ls : List (List ℕ)) (ps : List Patch) → script_from line ls ≡ Ok ps → All IsPatch ps
 script-each line ls ps e = (script_from-patches line ls ps e).each
 
-pub script-count : (line : ℕ) (ls : List (List ℕ)) (ps : List Patch) → script_from line ls ≡ Ok ps → length ps ≤ 65535
+pub script-count : (line : ℕ) (ls : List (List ℕ)) (ps : List Patch) → script_from line ls ≡ Ok ps → length ps ≤ patch_limit
 script-count line ls ps e = omega (arith, (script_from-patches line ls ps e).count)

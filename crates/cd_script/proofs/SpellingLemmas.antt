@@ -26,13 +26,14 @@ use Rattle.cd_script.specs.declared.patch.Edit.TheVariants.{Put, Fill, Rebuild, 
 use Rattle.cd_script.specs.declared.version.Version.{Version}
 use Rattle.cd_script.specs.declared.version.Version.TheVariants.{One, Two}
 use Rattle.cd_script.specs.Address.{IsAddress, address, bcd, bcd_below, header_bytes}
+use Rattle.cd_script.specs.Limits.{bytes_limit, digit_limit, fraction_limit, minute_limit, number_limit, offset_limit, patch_limit, second_limit}
 use Rattle.cd_script.specs.Value.{address_at, number_at, hex_at, offset_at, count_at, new_at, old_at, byte_at, only_byte}
 use Rattle.cd_script.specs.Line.{put_at, put_where_at, fill_at, rebuild_at, readdress_at, patch_at, patch_by}
 use Rattle.cd_script.specs.Number.{number, digits_value}
 use Rattle.cd_script.specs.Patch.{IsBytes, IsEditAt, IsPatch}
 use Rattle.cd_script.specs.Reading.{◌>>=◌}
 use Rattle.cd_script.specs.Script.{is_passed_over, head_version, line_at, patches_from, script_from, script}
-use Rattle.cd_script.specs.Spelling.{address_word, high_digit, low_digit, has_form, version_word, edit_words, spelled_line, spelled_patch, spelling, numbered}
+use Rattle.cd_script.specs.Spelling.{address_word, high_digit, low_digit, has_form, version_word, edit_words, spelled_line, spelled_patch, spelling, on_lines_from}
 use Rattle.cd_script.specs.Words.{words, is_space, is_word}
 use Rattle.cd_script.proofs.HexLemmas.{result_ok-decode_of}
 use Rattle.cd_script.proofs.Lines.{NoFeed, lines-cut}
@@ -62,35 +63,35 @@ digits-all : (w : List ℕ) → AllDigits 10 w → list_all is_ascii_digit w ≡
 digits-all [] h = refl
 digits-all (b ∷ w) h = both_true (is_digit b (digit-least b h.0) (digit-most b h.0)) (digits-all w h.1)
 
-number-is : (w : List ℕ) (n : ℕ) → 1 ≤ length w → length w ≤ 9 → list_all is_ascii_digit w ≡ true → digits_value w ≡ n → number w ≡ Some n
+number-is : (w : List ℕ) (n : ℕ) → 1 ≤ length w → length w ≤ digit_limit → list_all is_ascii_digit w ≡ true → digits_value w ≡ n → number w ≡ Some n
 unfolding number
 number-is w n some few digits value =
     let least : nat_le 1 (length w) ≡ true = grind (arith, nat_tests) in
-    let most : nat_le (length w) 9 ≡ true = grind (arith, nat_tests) in
-    let test : (nat_le 1 (length w) && nat_le (length w) 9 && list_all is_ascii_digit w) ≡ true = both_true (both_true least most) digits in
+    let most : nat_le (length w) digit_limit ≡ true = grind (arith, nat_tests) in
+    let test : (nat_le 1 (length w) && nat_le (length w) digit_limit && list_all is_ascii_digit w) ≡ true = both_true (both_true least most) digits in
     cond-true _ _ _ test ∙ ap Some value
 
-number_at-decimal : (line n : ℕ) → n ≤ 999999999 → number_at line (decimal n) ≡ Ok n
+number_at-decimal : (line n : ℕ) → n ≤ number_limit → number_at line (decimal n) ≡ Ok n
 unfolding number_at
 number_at-decimal line n le =
     let numeral = decimal_is_IsNumeral n (omega arith) in
-    let short = length-decimal-le 9 n (omega arith) (omega arith) (omega arith) in
+    let short = length-decimal-le digit_limit n (omega arith) (omega arith) (omega arith) in
     let read = number-is (decimal n) n (omega (arith, numeral.0.0)) short (digits-all (decimal n) numeral.0.1) (digits-fold 0 (decimal n) numeral.0.1 ∙ numeral.1) in
     rw read refl
 
-offset_at-decimal : (line n : ℕ) → n ≤ 2047 → offset_at line (decimal n) ≡ Ok n
+offset_at-decimal : (line n : ℕ) → n ≤ offset_limit → offset_at line (decimal n) ≡ Ok n
 unfolding offset_at
 offset_at-decimal line n le =
     let read = number_at-decimal line n (omega arith) in
-    let test : nat_le n 2047 ≡ true = grind (arith, nat_tests) in
+    let test : nat_le n offset_limit ≡ true = grind (arith, nat_tests) in
     rw (read, test) refl
 
-count_at-decimal : (line n : ℕ) → 1 ≤ n → n ≤ 4096 → count_at line (decimal n) ≡ Ok n
+count_at-decimal : (line n : ℕ) → 1 ≤ n → n ≤ bytes_limit → count_at line (decimal n) ≡ Ok n
 unfolding count_at
 count_at-decimal line n some le =
     let read = number_at-decimal line n (omega arith) in
     let least : nat_le 1 n ≡ true = grind (arith, nat_tests) in
-    let most : nat_le n 4096 ≡ true = grind (arith, nat_tests) in
+    let most : nat_le n bytes_limit ≡ true = grind (arith, nat_tests) in
     rw (read, least, most) refl
 
 -- ---- bytes
@@ -115,7 +116,7 @@ new_at-encode line bytes fits =
     let few = fits.most in
     let read = hex_at-encode line bytes fits.each in
     let least : nat_le 1 (length bytes) ≡ true = grind (arith, nat_tests) in
-    let most : nat_le (length bytes) 4096 ≡ true = grind (arith, nat_tests) in
+    let most : nat_le (length bytes) bytes_limit ≡ true = grind (arith, nat_tests) in
     rw (read, least, most) refl
 
 old_at-encode : (line : ℕ) (new bytes : List ℕ) → All (λ b. b < 256) bytes → length bytes ≡ length new → old_at line new (encode_lower bytes) ≡ Ok bytes
@@ -134,7 +135,7 @@ byte_at-encode line v lt = ap (λ (r : Result (List ℕ) ScriptFault). r >>= onl
 
 -- ---- addresses
 
-bcd_below-digits : (limit n : ℕ) → n < limit → limit ≤ 100 → bcd_below limit (high_digit (bcd n)) (low_digit (bcd n)) ≡ Some (bcd n)
+bcd_below-digits : (limit n : ℕ) → n < limit → limit ≤ minute_limit → bcd_below limit (high_digit (bcd n)) (low_digit (bcd n)) ≡ Some (bcd n)
 unfolding bcd_below
 bcd_below-digits limit n lt most =
     let high : high_digit (bcd n) ≡ 48 + n / 10 = omega arith in
@@ -146,10 +147,10 @@ bcd_below-digits limit n lt most =
     let spelled = digits_value (high_digit (bcd n) ∷ low_digit (bcd n) ∷ []) in
     cond-true (is_ascii_digit (high_digit (bcd n)) && is_ascii_digit (low_digit (bcd n)) && nat_lt spelled limit) (Some (bcd spelled)) None (both_true (both_true first second) below) ∙ ap (λ (k : ℕ). Some (bcd k)) value
 
-address-numbers : (m s f : ℕ) → m < 100 → s < 60 → f < 75
+address-numbers : (m s f : ℕ) → m < minute_limit → s < second_limit → f < fraction_limit
     → address (address_word (bcd m ∷ bcd s ∷ bcd f ∷ [])) ≡ Some (bcd m ∷ bcd s ∷ bcd f ∷ [])
 unfolding address address_word header_bytes
-address-numbers m s f hm hs hf = rw (bcd_below-digits 100 m hm (omega arith), bcd_below-digits 60 s hs (omega arith), bcd_below-digits 75 f hf (omega arith)) refl
+address-numbers m s f hm hs hf = rw (bcd_below-digits minute_limit m hm (omega arith), bcd_below-digits second_limit s hs (omega arith), bcd_below-digits fraction_limit f hf (omega arith)) refl
 
 address_at-spelled : (line : ℕ) (bytes : List ℕ) → IsAddress bytes → address_at line (address_word bytes) ≡ Ok bytes
 unfolding address_at
@@ -160,33 +161,33 @@ address_at-spelled line bytes h =
 
 -- ---- the forms
 
-put_at-spelled : (line b o : ℕ) (bytes : List ℕ) → b ≤ 999999999 → o ≤ 2047 → IsBytes bytes
+put_at-spelled : (line b o : ℕ) (bytes : List ℕ) → b ≤ number_limit → o ≤ offset_limit → IsBytes bytes
     → put_at line (decimal b) (decimal o) (encode_lower bytes) ≡ Ok (record { line = line; block = b; offset = o; edit = Put bytes None })
 unfolding put_at
 put_at-spelled line b o bytes hb ho fits = rw (number_at-decimal line b hb, offset_at-decimal line o ho, new_at-encode line bytes fits) refl
 
-put_where_at-spelled : (line b o : ℕ) (bytes old : List ℕ) → b ≤ 999999999 → o ≤ 2047 → IsBytes bytes → IsBytes old → length old ≡ length bytes
+put_where_at-spelled : (line b o : ℕ) (bytes old : List ℕ) → b ≤ number_limit → o ≤ offset_limit → IsBytes bytes → IsBytes old → length old ≡ length bytes
     → put_where_at line (decimal b) (decimal o) (encode_lower bytes) (encode_lower old) ≡ Ok (record { line = line; block = b; offset = o; edit = Put bytes (Some old) })
 unfolding put_where_at
 put_where_at-spelled line b o bytes old hb ho fits were same =
     rw (number_at-decimal line b hb, offset_at-decimal line o ho, new_at-encode line bytes fits, old_at-encode line bytes old were.each same) refl
 
-fill_at-spelled : (line b o n v : ℕ) → b ≤ 999999999 → o ≤ 2047 → 1 ≤ n → n ≤ 4096 → v < 256
+fill_at-spelled : (line b o n v : ℕ) → b ≤ number_limit → o ≤ offset_limit → 1 ≤ n → n ≤ bytes_limit → v < 256
     → fill_at line (decimal b) (decimal o) (decimal n) (encode_lower (v ∷ [])) ≡ Ok (record { line = line; block = b; offset = o; edit = Fill n v })
 unfolding fill_at
 fill_at-spelled line b o n v hb ho some few lt =
     rw (number_at-decimal line b hb, offset_at-decimal line o ho, count_at-decimal line n some few, byte_at-encode line v lt) refl
 
-rebuild_at-spelled : (line b : ℕ) → b ≤ 999999999 → rebuild_at line (decimal b) ≡ Ok (record { line = line; block = b; offset = 0; edit = Rebuild })
+rebuild_at-spelled : (line b : ℕ) → b ≤ number_limit → rebuild_at line (decimal b) ≡ Ok (record { line = line; block = b; offset = 0; edit = Rebuild })
 unfolding rebuild_at
 rebuild_at-spelled line b hb = rw (number_at-decimal line b hb) refl
 
-readdress_at-spelled : (line b : ℕ) (bytes : List ℕ) → b ≤ 999999999 → IsAddress bytes
+readdress_at-spelled : (line b : ℕ) (bytes : List ℕ) → b ≤ number_limit → IsAddress bytes
     → readdress_at line (decimal b) (address_word bytes) ≡ Ok (record { line = line; block = b; offset = 0; edit = Address bytes })
 unfolding readdress_at
 readdress_at-spelled line b bytes hb h = rw (number_at-decimal line b hb, address_at-spelled line bytes h) refl
 
-patch_at-spelled : (line b o : ℕ) (e : Edit) → b ≤ 999999999 → o ≤ 2047 → IsEditAt o e → has_form One e ≡ true
+patch_at-spelled : (line b o : ℕ) (e : Edit) → b ≤ number_limit → o ≤ offset_limit → IsEditAt o e → has_form One e ≡ true
     → patch_at line (edit_words b o e) ≡ Ok (record { line = line; block = b; offset = o; edit = e })
 unfolding patch_at edit_words
 patch_at-spelled line b o (Put bytes None) hb ho fits form = put_at-spelled line b o bytes hb ho fits.0
@@ -196,7 +197,7 @@ patch_at-spelled line b o Rebuild hb ho fits form =
     rebuild_at-spelled line b hb ∙ ap (λ (k : ℕ). Ok (record { line = line; block = b; offset = k; edit = Rebuild })) (sym fits)
 patch_at-spelled line b o (Address bytes) hb ho fits form = absurd cc
 
-patch_by-spelled : (version : Version) (line b o : ℕ) (e : Edit) → b ≤ 999999999 → o ≤ 2047 → IsEditAt o e → has_form version e ≡ true
+patch_by-spelled : (version : Version) (line b o : ℕ) (e : Edit) → b ≤ number_limit → o ≤ offset_limit → IsEditAt o e → has_form version e ≡ true
     → patch_by version line (edit_words b o e) ≡ Ok (record { line = line; block = b; offset = o; edit = e })
 unfolding patch_by edit_words
 patch_by-spelled One line b o e hb ho fits form = patch_at-spelled line b o e hb ho fits form
@@ -238,7 +239,7 @@ digits-plain : (w : List ℕ) → AllDigits 10 w → All (λ b. 33 ≤ b) w
 digits-plain [] h = All-nil (λ b. 33 ≤ b)
 digits-plain (b ∷ w) h = All-cons (λ b. 33 ≤ b) b w (omega (arith, digit-least b h.0)) (digits-plain w h.1)
 
-decimal-word : (n : ℕ) → n ≤ 999999999 → IsPlainWord (decimal n)
+decimal-word : (n : ℕ) → n ≤ number_limit → IsPlainWord (decimal n)
 decimal-word n le =
     let numeral = decimal_is_IsNumeral n (omega arith) in
     record { some = numeral.0.0; plain = digits-plain (decimal n) numeral.0.1 }
@@ -294,7 +295,7 @@ plain_bytes m s f =
 plain_address_word : (bytes : List ℕ) → IsAddress bytes → IsPlainWord (address_word bytes)
 plain_address_word bytes h = subst (λ (bs : List ℕ). IsPlainWord (address_word bs)) (sym h.are) (plain_bytes (bcd h.minute) (bcd h.second) (bcd h.fraction))
 
-edit_words-words : (b o : ℕ) (e : Edit) → b ≤ 999999999 → o ≤ 2047 → IsEditAt o e → AreWords (edit_words b o e)
+edit_words-words : (b o : ℕ) (e : Edit) → b ≤ number_limit → o ≤ offset_limit → IsEditAt o e → AreWords (edit_words b o e)
 unfolding edit_words
 edit_words-words b o (Put bytes None) hb ho fits =
     (plain_set, (decimal-word b hb, (decimal-word o (omega arith), (hex-word bytes fits.0.some fits.0.each, tt))))
@@ -328,7 +329,7 @@ lines-spelled ws rest h =
     ∙ ap (λ (l : List ℕ). l ∷ lines rest) (strip-plain (join_with_byte 32 ws) plain)
 
 -- a line that spells an edit is no comment, and its words are those of the edit
-words-spelled : (b o : ℕ) (e : Edit) → b ≤ 999999999 → o ≤ 2047 → IsEditAt o e → words (join_with_byte 32 (edit_words b o e)) ≡ edit_words b o e
+words-spelled : (b o : ℕ) (e : Edit) → b ≤ number_limit → o ≤ offset_limit → IsEditAt o e → words (join_with_byte 32 (edit_words b o e)) ≡ edit_words b o e
 unfolding edit_words
 words-spelled b o (Put bytes None) hb ho fits = words-join _ _ (edit_words-words b o (Put bytes None) hb ho fits)
 words-spelled b o (Put bytes (Some old)) hb ho fits = words-join _ _ (edit_words-words b o (Put bytes (Some old)) hb ho fits)
@@ -344,18 +345,18 @@ not_passed b o (Fill n v) = refl
 not_passed b o Rebuild = refl
 not_passed b o (Address bytes) = refl
 
-line_at-spelled : (version : Version) (line earlier : ℕ) (p : Patch) → IsPatch p → has_form version p.edit ≡ true → earlier < 65535 → line_at version line earlier (join_with_byte 32 (edit_words p.block p.offset p.edit)) ≡ Ok (Some (record p { line = line }))
+line_at-spelled : (version : Version) (line earlier : ℕ) (p : Patch) → IsPatch p → has_form version p.edit ≡ true → earlier < patch_limit → line_at version line earlier (join_with_byte 32 (edit_words p.block p.offset p.edit)) ≡ Ok (Some (record p { line = line }))
 unfolding line_at
 line_at-spelled version line earlier p fits form few =
     let found = words-spelled p.block p.offset p.edit fits.block fits.offset fits.edit in
     let passed = not_passed p.block p.offset p.edit in
     let reads = patch_by-spelled version line p.block p.offset p.edit fits.block fits.offset fits.edit form in
-    let test : nat_le 65535 earlier ≡ false = grind (arith, nat_tests) in
+    let test : nat_le patch_limit earlier ≡ false = grind (arith, nat_tests) in
     rw (found, passed, reads, test) refl
 
 patches_from-spelled : (version : Version) (line earlier : ℕ) (ps : List Patch) → All IsPatch ps → All (λ p. has_form version p.edit ≡ true) ps
-    → earlier + length ps ≤ 65535 → patches_from version line earlier (lines (flat_map spelled_patch ps)) ≡ Ok (numbered line ps)
-unfolding patches_from numbered
+    → earlier + length ps ≤ patch_limit → patches_from version line earlier (lines (flat_map spelled_patch ps)) ≡ Ok (on_lines_from line ps)
+unfolding patches_from on_lines_from
 patches_from-spelled version line earlier [] each forms few = refl
 patches_from-spelled version line earlier (p ∷ ps) each forms few =
     let fits = All-head IsPatch p ps each in
@@ -374,8 +375,8 @@ head-named : (version : Version) → head_version (codes "cdpatch" ∷ version_w
 head-named One = refl
 head-named Two = refl
 
-pub script-spelling : (version : Version) (ps : List Patch) → All IsPatch ps → All (λ p. has_form version p.edit ≡ true) ps → length ps ≤ 65535
-    → script (spelling version ps) ≡ Ok (numbered 2 ps)
+pub script-spelling : (version : Version) (ps : List Patch) → All IsPatch ps → All (λ p. has_form version p.edit ≡ true) ps → length ps ≤ patch_limit
+    → script (spelling version ps) ≡ Ok (on_lines_from 2 ps)
 unfolding script_from
 script-spelling version ps each forms few =
     let head = codes "cdpatch" ∷ version_word version ∷ [] in

@@ -1,10 +1,10 @@
 -- A line, cut at its spaces and tabs.
-use Rattle.std.proofs.Common.{◌≡◌, ◌-◌, ◌<◌, ◌≤◌, ℕ, zero, suc, true, false, List, [], ◌∷◌, ◌++◌, length, length-append, length-take, take, drop, slice_index, map, refl, subst, sym, ap, ◌∙◌, arith, append_assoc}
+use Rattle.std.proofs.Common.{◌≡◌, ◌+◌, ◌-◌, ◌<◌, ◌≤◌, ℕ, suc, Bool, true, false, cond, List, [], ◌∷◌, ◌++◌, length, length-append, length-take, take, drop, slice_index, map, subst, sym, ap, ◌∙◌, arith, append_assoc}
 use Rattle.std.specs.Prelude.{All, filter, not}
 use Rattle.std.specs.Borrow.{Bor}
 use Rattle.std.specs.List.{slice_split}
 use Rattle.std.proofs.lemmas.Bool.{cond-true, cond-false, false_from_ne_true, ne_eqb, eq-eqb}
-use Rattle.std.proofs.lemmas.List.{append-nil, get_or-take, get_or_default, length-map, map-append, take-append-drop, take-append-le, take_all}
+use Rattle.std.proofs.lemmas.List.{append-nil, get_or-take, get_or_default, map-append, take-append-drop, take_all, take_at}
 use Rattle.std.proofs.lemmas.List.Elements.{filter-append}
 use Rattle.std.proofs.lemmas.List.Splits.{slice_split_none, slice_split_at}
 use Rattle.std.proofs.Math.Seq.{drop-cons}
@@ -14,32 +14,34 @@ use Rattle.cd_script.specs.Words.{words, is_space, is_word}
 abbrev seen : List (Bor (List ℕ)) → List (List ℕ)
 seen = map (λ w. w.now)
 
--- ---- the words in front
+-- ---- a part that is put behind words
 
-take-front : (n : ℕ) (xs ys : List (List ℕ)) → take n (take n xs ++ ys) ≡ take n (xs ++ ys)
-take-front zero xs ys = refl
-take-front (suc n) [] ys = refl
-take-front (suc n) (x ∷ xs) ys = ap (λ (l : List (List ℕ)). x ∷ l) (take-front n xs ys)
-
-pub part_full : (n : ℕ) (ws : List (Bor (List ℕ))) (part : List ℕ) → length ws ≡ n → seen ws ≡ take n (seen ws ++ filter is_word (part ∷ []))
-part_full n ws part full =
-    let long = length-map ws (λ w. w.now) in
-    sym (take-append-le n (seen ws) (filter is_word (part ∷ [])) (omega arith) ∙ take_all n (seen ws) (omega arith))
-
-pub part_empty : (n : ℕ) (ws : List (Bor (List ℕ))) (part : List ℕ) → length ws ≤ n → length part ≡ 0 → seen ws ≡ take n (seen ws ++ filter is_word (part ∷ []))
-part_empty n ws part few empty =
-    let long = length-map ws (λ w. w.now) in
+pub part_empty : (ws : List (Bor (List ℕ))) (part : List ℕ) → length part ≡ 0 → seen ws ≡ seen ws ++ filter is_word (part ∷ [])
+part_empty ws part empty =
     let none : filter is_word (part ∷ []) ≡ [] = cond-false _ _ _ (ap not (eq-eqb (length part) 0 empty)) in
-    sym (ap (λ (l : List (List ℕ)). take n (seen ws ++ l)) none ∙ ap (take n) (append-nil (seen ws)) ∙ take_all n (seen ws) (omega arith))
+    sym (ap (λ (l : List (List ℕ)). seen ws ++ l) none ∙ append-nil (seen ws))
 
-pub part_pushed : (n : ℕ) (ws after : List (Bor (List ℕ))) (part : Bor (List ℕ)) → length ws < n → 0 < length part.now → after ≡ ws ++ part ∷ []
-    → seen after ≡ take n (seen ws ++ filter is_word (part.now ∷ []))
-part_pushed n ws after part few some pushed =
-    let long = length-map ws (λ w. w.now) in
+pub part_pushed : (ws after : List (Bor (List ℕ))) (part : Bor (List ℕ)) → 0 < length part.now → after ≡ ws ++ part ∷ []
+    → seen after ≡ seen ws ++ filter is_word (part.now ∷ [])
+part_pushed ws after part some pushed =
     let word : filter is_word (part.now ∷ []) ≡ part.now ∷ [] = cond-true _ _ _ (ap not (ne_eqb (length part.now) 0 (λ e. omega arith))) in
-    let fits : length (seen ws ++ part.now ∷ []) ≤ n = omega (arith, length-append (seen ws) (part.now ∷ [])) in
-    ap seen pushed ∙ map-append (λ w. w.now) ws (part ∷ [])
-    ∙ sym (ap (λ (l : List (List ℕ)). take n (seen ws ++ l)) word ∙ take_all n (seen ws ++ part.now ∷ []) fits)
+    ap seen pushed ∙ map-append (λ w. w.now) ws (part ∷ []) ∙ sym (ap (λ (l : List (List ℕ)). seen ws ++ l) word)
+
+one_or_none : (word : Bool) (part : List ℕ) → length (cond word (part ∷ []) []) ≤ 1
+one_or_none true part = omega arith
+one_or_none false part = omega arith
+
+pub part-most : (ws after : List (List ℕ)) (part : List ℕ) → after ≡ ws ++ filter is_word (part ∷ []) → length after ≤ length ws + 1
+part-most ws after part put =
+    omega (arith, ap (λ (l : List (List ℕ)). length l) put, length-append ws (filter is_word (part ∷ [])), one_or_none (is_word part) part)
+
+-- ---- the words that are looked at
+
+pub words_full : (n : ℕ) (ws rest all : List (List ℕ)) → ws ++ rest ≡ all → length ws ≡ n → ws ≡ take n all
+words_full n ws rest all parts full = sym (ap (take n) (sym parts) ∙ take_at ws rest n (omega arith))
+
+pub words_all : (n : ℕ) (ws all : List (List ℕ)) → ws ≡ all → length ws ≤ n → ws ≡ take n all
+words_all n ws all are few = sym (ap (take n) (sym are) ∙ take_all n ws few)
 
 -- ---- the parts of a line
 
@@ -74,8 +76,8 @@ words-last line never =
 
 -- ---- the loop
 
-pub part_taken : (n : ℕ) (ws after : List (List ℕ)) (line part : List ℕ) (rest : List (List ℕ)) (total : List (List ℕ))
-    → after ≡ take n (ws ++ filter is_word (part ∷ [])) → words line ≡ filter is_word (part ∷ []) ++ rest → take n (ws ++ words line) ≡ total → take n (after ++ rest) ≡ total
-part_taken n ws after line part rest total grown cut so_far =
-    ap (λ (l : List (List ℕ)). take n (l ++ rest)) grown ∙ take-front n (ws ++ filter is_word (part ∷ [])) rest
-    ∙ ap (take n) (append_assoc ws (filter is_word (part ∷ [])) rest) ∙ ap (λ (l : List (List ℕ)). take n (ws ++ l)) (sym cut) ∙ so_far
+pub part_taken : (ws after : List (List ℕ)) (line part : List ℕ) (rest total : List (List ℕ))
+    → after ≡ ws ++ filter is_word (part ∷ []) → words line ≡ filter is_word (part ∷ []) ++ rest → ws ++ words line ≡ total → after ++ rest ≡ total
+part_taken ws after line part rest total grown cut so_far =
+    ap (λ (l : List (List ℕ)). l ++ rest) grown ∙ append_assoc ws (filter is_word (part ∷ [])) rest
+    ∙ ap (λ (l : List (List ℕ)). ws ++ l) (sym cut) ∙ so_far

@@ -2,6 +2,7 @@
 use Rattle.std.specs.Prelude.{◌≡◌, ℕ, ◌+◌, ◌*◌, ◌/◌, ◌%◌, ◌<◌, ◌==◌, ◌&&◌, nat_lt, if◌then◌else◌, List, [], ◌∷◌, Option, Some, None}
 use Rattle.std.specs.Char.{is_ascii_digit}
 use Rattle.cd_script.specs.Hex.{◌>>=◌}
+use Rattle.cd_script.specs.Limits.{minute_limit, second_limit, fraction_limit}
 use Rattle.cd_script.specs.Number.{digits_value}
 
 -- two decimal digits in one byte
@@ -17,9 +18,9 @@ bcd_below limit high low =
 -- the minute 0 to 99, the second 0 to 59 and the fraction 0 to 74, two digits each
 unfoldable pub header_bytes : ℕ → ℕ → ℕ → ℕ → ℕ → ℕ → Option (List ℕ)
 header_bytes m n s t f g = do
-  minute ← bcd_below 100 m n
-  second ← bcd_below 60 s t
-  fraction ← bcd_below 75 f g
+  minute ← bcd_below minute_limit m n
+  second ← bcd_below second_limit s t
+  fraction ← bcd_below fraction_limit f g
   Some (minute ∷ second ∷ fraction ∷ [])
 
 -- MM:SS:FF, as the three bytes of a header
@@ -32,7 +33,7 @@ pub record IsAddress (bytes : List ℕ) : Type 0 where
   pub minute : ℕ
   pub second : ℕ
   pub fraction : ℕ
-  pub is_minute : minute < 100
-  pub is_second : second < 60
-  pub is_fraction : fraction < 75
+  pub is_minute : minute < minute_limit
+  pub is_second : second < second_limit
+  pub is_fraction : fraction < fraction_limit
   pub are : bytes ≡ bcd minute ∷ bcd second ∷ bcd fraction ∷ []

@@ -1,4 +1,4 @@
-pub mod Text
+pub mod Limits
 pub mod Patch
 pub mod Number
 pub mod Hex

@@ -9,6 +9,7 @@ use Rattle.cd_script.specs.declared.fault.ScriptFault.TheVariants.{Head, TooMany
 use Rattle.cd_script.specs.declared.patch.Patch.{Patch}
 use Rattle.cd_script.specs.declared.version.Version.{Version}
 use Rattle.cd_script.specs.declared.version.Version.TheVariants.{One, Two}
+use Rattle.cd_script.specs.Limits.{patch_limit}
 use Rattle.cd_script.specs.Line.{patch_by}
 use Rattle.cd_script.specs.Reading.{◌>>=◌}
 use Rattle.cd_script.specs.Words.{words}
@@ -32,9 +33,9 @@ abbrev pub head_version : List (List ℕ) → Option Version
 head_version (name ∷ version ∷ []) = if bytes_eq name (codes "cdpatch") then named_version version else None
 head_version other = None
 
--- a well-formed patch behind so many others: behind 65,535 it is one too many
+-- a well-formed patch behind so many others: behind as many as a script has at most it is one too many
 abbrev pub at_limit : ℕ → ℕ → Patch → Result (Option Patch) ScriptFault
-at_limit line earlier p = if nat_le 65535 earlier then Err (TooMany line) else Ok (Some p)
+at_limit line earlier p = if nat_le patch_limit earlier then Err (TooMany line) else Ok (Some p)
 
 -- the patch of a line behind so many others, none where the line is blank or a comment
 unfoldable pub line_at : Version → ℕ → ℕ → List ℕ → Result (Option Patch) ScriptFault

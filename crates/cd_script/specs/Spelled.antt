@@ -4,13 +4,13 @@ use Rattle.cd_script.specs.declared.patch.Edit.{Edit}
 use Rattle.cd_script.specs.declared.patch.Edit.TheVariants.{Put, Fill, Rebuild, Address}
 use Rattle.cd_script.specs.declared.spelled.SpelledPatch.{SpelledPatch}
 use Rattle.cd_script.specs.declared.spelled.SpelledEdit.{SpelledEdit}
-use Rattle.cd_script.specs.declared.spelled.SpelledEdit.TheVariants as spelled
+use Rattle.cd_script.specs.declared.spelled.SpelledEdit.TheVariants as spelled_edit
 
 abbrev pub as_edit : SpelledEdit → Edit
-as_edit (spelled.Put bytes was) = Put bytes was
-as_edit (spelled.Fill count value) = Fill count value
-as_edit spelled.Rebuild = Rebuild
-as_edit (spelled.Address bcd) = Address bcd
+as_edit (spelled_edit.Put bytes was) = Put bytes was
+as_edit (spelled_edit.Fill count value) = Fill count value
+as_edit spelled_edit.Rebuild = Rebuild
+as_edit (spelled_edit.Address bcd) = Address bcd
 
 abbrev pub as_patch : SpelledPatch → Patch
 as_patch s = record { line = s.line; block = s.block; offset = s.offset; edit = as_edit s.edit }

@@ -8,6 +8,7 @@ use Rattle.cd_script.specs.declared.patch.Edit.{Edit}
 use Rattle.cd_script.specs.declared.patch.Edit.TheVariants.{Put, Fill, Rebuild, Address}
 use Rattle.cd_script.specs.declared.version.Version.{Version}
 use Rattle.cd_script.specs.declared.version.Version.TheVariants.{One, Two}
+use Rattle.cd_script.specs.Limits.{patch_limit}
 use Rattle.cd_script.specs.Patch.{IsPatch}
 use Rattle.cd_script.specs.Script.{script}
 
@@ -57,14 +58,14 @@ has_form One Rebuild = true
 has_form One (Address bcd) = false
 has_form Two edit = true
 
--- the patches of lines in a row, the first of them numbered line
-unfoldable pub numbered : ℕ → List Patch → List Patch
-numbered line [] = []
-numbered line (p ∷ ps) = record p { line = line } ∷ numbered (line + 1) ps
+-- the patches of lines in a row, the first of them on_lines_from line
+unfoldable pub on_lines_from : ℕ → List Patch → List Patch
+on_lines_from line [] = []
+on_lines_from line (p ∷ ps) = record p { line = line } ∷ on_lines_from (line + 1) ps
 
 -- the text that spells patches in a version that has forms for them is a script of just these, on the lines behind the
 -- head line
 abbrev pub SpellingReads : Type 0
 SpellingReads =
-    (version : Version) (ps : List Patch) → All IsPatch ps → All (λ p. has_form version p.edit ≡ true) ps → length ps ≤ 65535
-    → script (spelling version ps) ≡ Ok (numbered 2 ps)
+    (version : Version) (ps : List Patch) → All IsPatch ps → All (λ p. has_form version p.edit ≡ true) ps → length ps ≤ patch_limit
+    → script (spelling version ps) ≡ Ok (on_lines_from 2 ps)

@@ -3,6 +3,7 @@ use Rattle.std.specs.Prelude.{ℕ, ◌==◌, ◌&&◌, nat_le, List, [], ◌∷�
 use Rattle.cd_script.specs.declared.fault.ScriptFault.{ScriptFault}
 use Rattle.cd_script.specs.declared.fault.ScriptFault.TheVariants.{Address, Number, Hex, Length, Offset}
 use Rattle.cd_script.specs.Address.{address}
+use Rattle.cd_script.specs.Limits.{bytes_limit, offset_limit}
 use Rattle.cd_script.specs.Number.{number}
 use Rattle.cd_script.specs.Hex.{hex_bytes}
 use Rattle.cd_script.specs.Reading.{◌>>=◌}
@@ -16,17 +17,17 @@ hex_at line word = ok_or (hex_bytes word) (Hex line)
 unfoldable pub offset_at : ℕ → List ℕ → Result ℕ ScriptFault
 offset_at line word = do
   offset ← number_at line word
-  if nat_le offset 2047 then Ok offset else Err (Offset line)
+  if nat_le offset offset_limit then Ok offset else Err (Offset line)
 
 unfoldable pub count_at : ℕ → List ℕ → Result ℕ ScriptFault
 count_at line word = do
   count ← number_at line word
-  if nat_le 1 count && nat_le count 4096 then Ok count else Err (Length line)
+  if nat_le 1 count && nat_le count bytes_limit then Ok count else Err (Length line)
 
 unfoldable pub new_at : ℕ → List ℕ → Result (List ℕ) ScriptFault
 new_at line word = do
   bytes ← hex_at line word
-  if nat_le 1 (length bytes) && nat_le (length bytes) 4096 then Ok bytes else Err (Length line)
+  if nat_le 1 (length bytes) && nat_le (length bytes) bytes_limit then Ok bytes else Err (Length line)
 
 -- as many old bytes as there are new ones
 unfoldable pub old_at : ℕ → List ℕ → List ℕ → Result (List ℕ) ScriptFault

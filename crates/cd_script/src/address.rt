@@ -3,12 +3,7 @@
 ghost use Rattle.std.specs.Prelude.{◌≡◌};
 ghost use Rattle.cd_script.specs.Address.{address, bcd_below, header_bytes};
 
-/// One more than the last minute, the last second of a minute and the last fraction of a second.
-const MINUTES: u8 = 100;
-
-const SECONDS: u8 = 60;
-
-const FRACTIONS: u8 = 75;
+use crate::limits::{FRACTIONS, MINUTES, SECONDS};
 
 /// The number below a limit that two decimal digits spell, in BCD.
 #[tactic(auto, unfolding(crate::specs::Address::bcd_below))]

@@ -4,11 +4,11 @@ use std::marker::Model;
 
 /// The bytes of a patch. Contracts see them as the list of their values.
 #[derive(Debug, Drop)]
-pub struct Bytes {
+pub struct PatchBytes {
     octets: Vec<u8>,
 }
 
-impl Model for Bytes {
+impl Model for PatchBytes {
     ghost use Rattle.std.specs.Prelude.{List, ℕ};
 
     ghost Value = { List ℕ };
@@ -16,16 +16,25 @@ impl Model for Bytes {
     ghost view = { λ b. b.octets.items };
 }
 
-impl Bytes {
-    pub(crate) fn new(octets: Vec<u8>) -> Bytes
+impl PatchBytes {
+    pub(crate) fn new(octets: Vec<u8>) -> Self
         ensures { result ≡ octets.items }
     {
-        Bytes { octets }
+        PatchBytes { octets }
     }
 
     /// The bytes, borrowed.
+    ///
+    /// # Examples
+    ///
+    /// ```
+    /// let script = parse(rt.alloc(), b"cdpatch 1\nset 5 0 4869\n")?;
+    /// if let Edit::Put { bytes, was: _ } = &script.patches()[0].edit {
+    ///     let text = bytes.as_slice(); // b"Hi"
+    /// }
+    /// ```
     pub fn as_slice(&self) -> &[u8]
-        ensures value { result.now ≡ self.now }
+        ensures { result.now ≡ self.now }
     {
         self.octets.as_slice()
     }

@@ -19,24 +19,24 @@ pub enum ScriptFault {
     /// The verb does not take this number of words, or the fifth of six is not `was`.
     #[error("wrong number of words")]
     Words(u32),
-    /// A number is not written with 1 to 9 decimal digits.
+    /// A number is not written with 1 to [`MAX_DIGITS`](crate::MAX_DIGITS) decimal digits.
     #[error("bad number")]
     Number(u32),
     /// A hex word has an odd number of digits, or a byte that is no hex digit.
     #[error("bad hex")]
     Hex(u32),
-    /// A count of 0 or over 4096, over 4096 new bytes, old bytes that are not as many as the new
-    /// ones, or a fill byte that is not one byte.
+    /// A count of 0 or over [`MAX_BYTES`](crate::MAX_BYTES), no new bytes or more than so many, old
+    /// bytes that are not as many as the new ones, or a fill byte that is not one byte.
     #[error("bad length")]
     Length(u32),
-    /// An offset over 2047.
+    /// An offset over [`MAX_OFFSET`](crate::MAX_OFFSET).
     #[error("offset over 2047")]
     Offset(u32),
     /// A header address is not `MM:SS:FF`, two digits each, with a second below 60 and a fraction
     /// below 75.
     #[error("bad address")]
     Address(u32),
-    /// A well-formed patch behind 65,535 others.
+    /// A well-formed patch behind [`MAX_PATCHES`](crate::MAX_PATCHES) others.
     #[error("more than 65535 patches")]
     TooMany(u32),
     /// Memory was refused.
@@ -47,15 +47,15 @@ pub enum ScriptFault {
 impl From<AllocError> for ScriptFault {
     ghost from_gives = { λ _ e. e ≡ NoMemory };
 
-    fn from(_error: AllocError) -> ScriptFault {
-        ScriptFault::NoMemory
+    fn from(_error: AllocError) -> Self {
+        Self::NoMemory
     }
 }
 
 impl<T: Drop> From<AllocFailed<T>> for ScriptFault {
     ghost from_gives = { λ _ e. e ≡ NoMemory };
 
-    fn from(_error: AllocFailed<T>) -> ScriptFault {
-        ScriptFault::NoMemory
+    fn from(_error: AllocFailed<T>) -> Self {
+        Self::NoMemory
     }
 }

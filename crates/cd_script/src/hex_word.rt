@@ -5,7 +5,7 @@ ghost use Rattle.std.specs.List.{list_all};
 ghost use Rattle.hex.specs.Hex.{is_hex_digit};
 ghost use Rattle.cd_script.specs.Hex.{hex_bytes};
 
-use crate::bytes::Bytes;
+use crate::bytes::PatchBytes;
 use std::alloc::{AllocError, Global};
 use std::marker::Model;
 
@@ -70,11 +70,11 @@ impl<'a> HexWord<'a> {
     }
 
     /// The bytes that it spells.
-    pub(crate) fn decode(&self, alloc: Global) -> Result<Bytes, AllocError>
+    pub(crate) fn decode(&self, alloc: Global) -> Result<PatchBytes, AllocError>
         ensures { IfOk result (λ bytes. bytes ≡ self.now) }
     {
         let mut octets = vec![in alloc; 0; self.len()]?;
         hex::decode_to_slice(self.digits, octets.as_mut_slice()).unwrap();
-        Ok(Bytes::new(octets))
+        Ok(PatchBytes::new(octets))
     }
 }

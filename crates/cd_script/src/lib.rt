@@ -12,20 +12,31 @@
 //! - `rebuild BLOCK`: EDC, Intermediate and parity of the block are made anew;
 //! - `address BLOCK MM:SS:FF`, in version 2 alone: the address in the header of the block becomes this one.
 //!
-//! BLOCK (0 to 999,999,999), OFFSET (0 to 2047) and COUNT (1 to 4096) are 1 to 9 decimal digits. NEW (1
-//! to 4096 bytes), OLD (as many bytes as NEW) and BYTE (one byte) are two hex digits for each byte, in
-//! either case. MM (00 to 99), SS (00 to 59) and FF (00 to 74) are two decimal digits each. A text has at most 67,108,864 bytes, and a script at most 65,535 patches.
+//! BLOCK, OFFSET (0 to [`MAX_OFFSET`]) and COUNT (1 to [`MAX_BYTES`]) are 1 to [`MAX_DIGITS`] decimal digits.
+//! NEW (1 to [`MAX_BYTES`] bytes), OLD (as many bytes as NEW) and BYTE (one byte) are two hex digits for each
+//! byte, in either case. MM (00 to 99), SS (00 to 59) and FF (00 to 74) are two decimal digits each. A text has
+//! at most [`MAX_TEXT`] bytes, and a script at most [`MAX_PATCHES`] patches.
 //!
 //! The first faulty line decides. In a line the verb is asked first, then the number of words, then the
 //! words from the left, and last of all whether the patch is one too many. A script's patches are ordered
 //! by their first blocks, those of one block as in the script; offsets play no part.
+//!
+//! [`parse`] reads a text, and answers a [`Script`] or the [`ScriptFault`] of its first faulty line:
+//!
+//! ```
+//! let script = parse(rt.alloc(), b"cdpatch 1\nfill 16 0 2048 00\nset 5 0 48656C6C6F\n")?;
+//! let blocks = script.patches().iter().map(|patch| patch.block); // 5 and 16
+//! ```
+//!
+//! Tests: crates/cd_patch_tests.
 #![tactic(auto)]
 
 mod address;
 mod bytes;
 mod fault;
 mod hex_word;
-pub mod laws;
+mod laws;
+mod limits;
 mod line;
 mod patch;
 mod script;
@@ -34,7 +45,12 @@ mod value;
 mod version;
 mod words;
 
-pub use bytes::Bytes;
+pub use bytes::PatchBytes;
 pub use fault::ScriptFault;
+pub use laws::{
+    first_stays, limits_agree, order_keeps_ties, order_permutes, order_rises, second_extends,
+    spelling_reads,
+};
+pub use limits::{MAX_BYTES, MAX_DIGITS, MAX_OFFSET, MAX_PATCHES, MAX_TEXT};
 pub use patch::{Edit, Patch};
-pub use script::{MAX_TEXT, Script, parse};
+pub use script::{Script, parse};

@@ -1,16 +1,16 @@
 //! One patch of a script.
 
-use crate::bytes::Bytes;
+use crate::bytes::PatchBytes;
 
 /// A patch: where it stands in the script, where it begins, and what it does there.
 #[derive(Debug, Drop)]
 pub struct Patch {
     /// The number of its line in the script, counted from 1.
     pub line: u32,
-    /// The block in which it begins, 0 to 999,999,999.
+    /// The block in which it begins, of at most [`MAX_DIGITS`](crate::MAX_DIGITS) digits.
     pub block: u32,
-    /// The user byte of that block at which it begins, 0 to 2047; 0 for a rebuild or an
-    /// address.
+    /// The user byte of that block at which it begins, 0 to [`MAX_OFFSET`](crate::MAX_OFFSET); 0 for a
+    /// rebuild or an address.
     pub offset: u16,
     /// What it does.
     pub edit: Edit,
@@ -21,14 +21,14 @@ pub struct Patch {
 pub enum Edit {
     /// User bytes become others.
     Put {
-        /// The new bytes, 1 to 4096.
-        bytes: Bytes,
+        /// The new bytes, 1 to [`MAX_BYTES`](crate::MAX_BYTES) of them.
+        bytes: PatchBytes,
         /// The bytes, as many, that have to stand there before; `None` where any may.
-        was: Option<Bytes>,
+        was: Option<PatchBytes>,
     },
     /// User bytes become one value.
     Fill {
-        /// How many, 1 to 4096.
+        /// How many, 1 to [`MAX_BYTES`](crate::MAX_BYTES).
         count: u16,
         /// What each becomes.
         value: u8,

@@ -9,14 +9,15 @@ ghost use Rattle.bstr.specs.Text.{lines_of, without_terminator};
 ghost use Rattle.cd_script.specs.declared.fault.ScriptFault.{ScriptFault};
 ghost use Rattle.cd_script.specs.declared.fault.ScriptFault.TheVariants.{NoMemory};
 ghost use Rattle.cd_script.specs.declared.patch.Patch.{Patch};
+ghost use Rattle.cd_script.specs.Limits.{patch_limit, text_limit};
 ghost use Rattle.cd_script.specs.Order.{order};
 ghost use Rattle.cd_script.specs.Patch.{IsPatch};
 ghost use Rattle.cd_script.specs.Reading.{Reads};
 ghost use Rattle.cd_script.specs.Script.{at_limit, head_version, is_passed_over, line_at, named_version, patches_from, script, script_from};
 ghost use Rattle.cd_script.specs.Spelled.{as_patch};
-ghost use Rattle.cd_script.specs.Text.{text_limit};
 
 use crate::fault::ScriptFault;
+use crate::limits::MAX_PATCHES;
 use crate::line::patch_of;
 use crate::patch::Patch;
 use crate::spelled::SpelledPatch;
@@ -25,12 +26,6 @@ use crate::words::words;
 use bstr::{ByteSlice, Lines};
 use std::alloc::{AllocError, Global};
 use std::marker::Model;
-
-/// The most bytes of a script's text, 64 MiB.
-pub const MAX_TEXT: usize = 67108864;
-
-/// The most patches of a script.
-const MAX_PATCHES: usize = 65535;
 
 /// A script's patches, by first block, those of one block as in the script.
 #[derive(Debug, Drop)]
@@ -53,10 +48,17 @@ impl Model for Script {
 
 impl Script {
     /// The patches, by first block, those of one block as in the script.
+    ///
+    /// # Examples
+    ///
+    /// ```
+    /// let script = parse(rt.alloc(), b"cdpatch 1\nrebuild 7\n")?;
+    /// let line = script.patches()[0].line; // 2
+    /// ```
     pub fn patches(&self) -> &[Patch]
         ensures patches { result.now ≡ self.now }
         ensures each { All IsPatch result.now }
-        ensures count { length result.now ≤ 65535 }
+        ensures count { length result.now ≤ patch_limit }
         ensures rising { IsNonDecreasingBy (λ p. p.block) result.now }
     {
         self.patches.as_slice()
@@ -106,10 +108,10 @@ struct Head {
 
 /// Reads on past the head line.
 fn head_of(lines: &mut Lines) -> Result<Head, ScriptFault>
-    requires { length lines.old ≤ MAX_TEXT }
+    requires { length lines.old ≤ text_limit }
     ensures ok { IfOk result (λ head.
         script_from 1 lines.old ≡ patches_from head.version (head.line + 1) 0 lines.new) }
-    ensures room { IfOk result (λ head. head.line + length lines.new ≤ MAX_TEXT) }
+    ensures room { IfOk result (λ head. head.line + length lines.new ≤ text_limit) }
     ensures err { IfErr result (λ e. script_from 1 lines.old ≡ Err e) }
 {
     let mut line = 1;
@@ -144,7 +146,7 @@ fn within_limit<'a>(
 
 /// The patch of a line behind so many others, none where the line is blank or a comment.
 #[tactic(auto, unfolding(crate::specs::Script::line_at))]
-fn line_of<'a>(
+fn patch_on_line<'a>(
     version: Version,
     line: u32,
     earlier: usize,
@@ -163,14 +165,14 @@ fn line_of<'a>(
 
 /// Looks for the first fault of the lines behind the head line.
 fn check_lines(head: Head, mut lines: Lines<'_>) -> Result<(), ScriptFault>
-    requires { head.line + length lines ≤ MAX_TEXT }
+    requires { head.line + length lines ≤ text_limit }
     ensures { result_err result ≡ result_err (patches_from head.version (head.line + 1) 0 lines.entry) }
 {
     let mut line = head.line;
     let mut count = 0;
     while let Some(text) = lines.next() {
         line += 1;
-        let found = line_of(head.version, line, count, text)?;
+        let found = patch_on_line(head.version, line, count, text)?;
         count += usize::from(found.is_some());
     }
     Ok(())
@@ -196,7 +198,7 @@ fn put_behind(
 
 /// The patches of the lines behind the head line, which have no fault.
 fn patches_of(alloc: Global, head: Head, mut lines: Lines<'_>) -> Result<Vec<Patch>, AllocError>
-    requires room { head.line + length lines ≤ MAX_TEXT }
+    requires room { head.line + length lines ≤ text_limit }
     requires sound { IsOk (patches_from head.version (head.line + 1) 0 lines) }
     ensures { IfOk result (λ ps. patches_from head.version (head.line + 1) 0 lines.entry ≡ Ok ps.items) }
 {
@@ -204,7 +206,7 @@ fn patches_of(alloc: Global, head: Head, mut lines: Lines<'_>) -> Result<Vec<Pat
     let mut line = head.line;
     while let Some(text) = lines.next() {
         line += 1;
-        let found = line_of(head.version, line, patches.len(), text).unwrap();
+        let found = patch_on_line(head.version, line, patches.len(), text).unwrap();
         put_behind(alloc, &mut patches, found)?;
     }
     Ok(patches)
@@ -213,7 +215,7 @@ fn patches_of(alloc: Global, head: Head, mut lines: Lines<'_>) -> Result<Vec<Pat
 /// The patches of the lines behind the head line, which stand in this part of the text, or their first
 /// fault, which is found before any memory is taken.
 fn read_patches(alloc: Global, head: Head, rest: &[u8]) -> Result<Vec<Patch>, ScriptFault>
-    requires { head.line + length (lines_of rest.now) ≤ MAX_TEXT }
+    requires { head.line + length (lines_of rest.now) ≤ text_limit }
     ensures ok { IfOk result (λ ps.
         patches_from head.version (head.line + 1) 0 (map without_terminator (lines_of rest.now)) ≡ Ok ps.items) }
     ensures err { IfErr result (λ e.
@@ -244,9 +246,18 @@ fn put_in_order(patches: &mut Vec<Patch>) -> Result<(), AllocError>
     sort_by(patches, |patch| patch.block)
 }
 
-/// The script of a text of at most 64 MiB: its patches by first block, or its first fault. An error
-/// other than want of memory is the fault of the first faulty line, and nothing is kept of it. That
-/// fault is found before any memory is taken.
+/// The script of a text of at most [`MAX_TEXT`](crate::MAX_TEXT) bytes: its patches by first block.
+///
+/// # Errors
+///
+/// The fault of the first faulty line, which is found before any memory is taken; or
+/// [`ScriptFault::NoMemory`], where the text has no fault and memory is refused.
+///
+/// # Examples
+///
+/// ```
+/// let fault = parse(rt.alloc(), b"cdpatch 1\n\nset 16 2048 41\n"); // Err(ScriptFault::Offset(3))
+/// ```
 pub fn parse(alloc: Global, text: &[u8]) -> Result<Script, ScriptFault>
     requires { length text.now ≤ text_limit }
     ensures ok { IfOk result (λ s. (ps : List Patch) × (script text.now ≡ Ok ps) × (s ≡ order ps)) }

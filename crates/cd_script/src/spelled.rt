@@ -2,7 +2,7 @@
 
 ghost use Rattle.std.specs.Prelude.{◌≡◌, IfOk};
 
-use crate::bytes::Bytes;
+use crate::bytes::PatchBytes;
 use crate::hex_word::HexWord;
 use crate::patch::{Edit, Patch};
 use std::alloc::{AllocError, Global};
@@ -34,7 +34,7 @@ pub(crate) enum SpelledEdit<'a> {
 }
 
 /// Old bytes, where there are some.
-fn decode_old(alloc: Global, was: Option<HexWord<'_>>) -> Result<Option<Bytes>, AllocError>
+fn decode_old(alloc: Global, was: Option<HexWord<'_>>) -> Result<Option<PatchBytes>, AllocError>
     ensures { IfOk result (λ old. old ≡ was.entry) }
 {
     match was {

@@ -7,20 +7,12 @@ ghost use Rattle.cd_script.specs.Value.{address_at, number_at, hex_at, offset_at
 use crate::address::address;
 use crate::fault::ScriptFault;
 use crate::hex_word::HexWord;
-
-/// The most digits of a number.
-const MAX_DIGITS: usize = 9;
-
-/// The last offset in the user bytes of a block.
-const MAX_OFFSET: u32 = 2047;
-
-/// The most bytes that a patch changes.
-const MAX_LENGTH: usize = 4096;
+use crate::limits::{MAX_BYTES, MAX_DIGITS, MAX_OFFSET};
 
 /// The value of 1 to 9 decimal digits.
 #[tactic(auto, unfolding(crate::specs::Number::number))]
 pub(crate) fn number(word: &[u8]) -> Option<u32>
-    ensures value { result ≡ number word.now }
+    ensures { result ≡ number word.now }
 {
     if word.is_empty() || word.len() > MAX_DIGITS {
         return None;
@@ -51,7 +43,7 @@ pub(crate) fn hex_of<'a>(line: u32, word: &'a [u8]) -> Result<HexWord<'a>, Scrip
     HexWord::new(word).ok_or(ScriptFault::Hex(line))
 }
 
-/// An offset in a block, 0 to 2047.
+/// An offset in a block, 0 to `MAX_OFFSET`.
 #[tactic(auto, unfolding(crate::specs::Value::offset_at))]
 pub(crate) fn offset_of(line: u32, word: &[u8]) -> Result<u16, ScriptFault>
     ensures { result ≡ offset_at line word.now }
@@ -63,26 +55,26 @@ pub(crate) fn offset_of(line: u32, word: &[u8]) -> Result<u16, ScriptFault>
     Ok(offset as u16)
 }
 
-/// How many bytes a fill changes, 1 to 4096.
+/// How many bytes a fill changes, 1 to `MAX_BYTES`.
 #[tactic(auto, unfolding(crate::specs::Value::count_at))]
 pub(crate) fn count_of(line: u32, word: &[u8]) -> Result<u16, ScriptFault>
     ensures { result ≡ count_at line word.now }
 {
     let count = number_of(line, word)?;
-    if count == 0 || count > MAX_LENGTH as u32 {
+    if count == 0 || count > MAX_BYTES as u32 {
         return Err(ScriptFault::Length(line));
     }
     Ok(count as u16)
 }
 
-/// New bytes, 1 to 4096.
+/// New bytes, 1 to `MAX_BYTES` of them.
 #[tactic(auto, unfolding(crate::specs::Value::new_at))]
 pub(crate) fn new_of<'a>(line: u32, word: &'a [u8]) -> Result<HexWord<'a>, ScriptFault>
     ensures { result ≡ new_at line word.now }
 {
     let bytes = hex_of(line, word)?;
     let count = bytes.len();
-    if count == 0 || count > MAX_LENGTH {
+    if count == 0 || count > MAX_BYTES {
         return Err(ScriptFault::Length(line));
     }
     Ok(bytes)

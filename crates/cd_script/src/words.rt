@@ -1,6 +1,6 @@
 //! The words of a line.
 
-ghost use Rattle.std.specs.Prelude.{◌≡◌, ◌∷◌, ◌++◌, [], filter, map, take};
+ghost use Rattle.std.specs.Prelude.{◌≡◌, ◌<◌, ◌≤◌, ◌↔◌, ◌∷◌, ◌++◌, [], IsTrue, filter, length, map, take};
 ghost use Rattle.memchr.specs.Find.{IsFirstByte};
 ghost use Rattle.cd_script.specs.Words.{is_space, is_word, words};
 
@@ -35,17 +35,21 @@ impl<'a> FirstWords<'a> {
         }
     }
 
-    /// Puts a part of a line behind the words, where it is a word and there is room.
-    fn put(&mut self, part: &'a [u8])
-        ensures { self.new ≡ take MOST_WORDS (self.old ++ filter is_word (part.now ∷ [])) }
+    /// Whether there are as many as are looked at.
+    fn is_full(&self) -> bool
+        ensures { IsTrue result ↔ MOST_WORDS ≤ length self.now }
     {
-        if self.parts.is_full() {
-            return;
+        self.parts.is_full()
+    }
+
+    /// Puts a part of a line behind the words, where it is a word.
+    fn put(&mut self, part: &'a [u8])
+        requires { length self.old < MOST_WORDS }
+        ensures { self.new ≡ self.old ++ filter is_word (part.now ∷ []) }
+    {
+        if !part.is_empty() {
+            self.parts.push(part);
         }
-        if part.is_empty() {
-            return;
-        }
-        self.parts.push(part);
     }
 
     /// The words.
@@ -72,6 +76,9 @@ pub(crate) fn words<'a>(line: &'a [u8]) -> FirstWords<'a>
     while let Some(end) = find_space(rest) {
         let (part, behind) = rest.split_at(end);
         words.put(part);
+        if words.is_full() {
+            return words;
+        }
         rest = &behind[1..];
     }
     words.put(rest);

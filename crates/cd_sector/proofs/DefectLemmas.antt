@@ -1,5 +1,5 @@
 -- Counting words that are no code words, and the test of a whole sector.
-use Rattle.std.proofs.Common.{◌≡◌, ℕ, ◌+◌, ◌-◌, ◌/◌, ◌%◌, ◌<◌, ◌≤◌, inl, inr, Bool, true, false, not, ◌&&◌, ◌||◌, cond, Decides, List, [], ◌∷◌, length, map, get_or, take, drop, refl, sym, ap, ◌∙◌, arith, lit<, lit≤}
+use Rattle.std.proofs.Common.{◌≡◌, ℕ, ◌+◌, ◌-◌, ◌/◌, ◌%◌, ◌<◌, ◌≤◌, inl, inr, Bool, true, false, not, ◌&&◌, ◌||◌, cond, Decides, List, [], ◌∷◌, length, map, get_or, take, drop, refl, sym, ap, subst, ◌∙◌, arith, lit<, lit≤}
 use Rattle.std.specs.Bool.{◌==◌, nat_lt}
 use Rattle.std.specs.List.{count_by, list_all, list_any, range_with_len, slice_range}
 use Rattle.std.proofs.Math.Bool.{and-false}
@@ -41,6 +41,13 @@ broken_more word count i number one plain weighted sums h before e =
     ∙ ap (λ a. cond {A = ℕ} (is_broken (a, get_or weighted i 0)) 1 0) (sums.first i h)
     ∙ ap (λ b. cond {A = ℕ} (is_broken (first_syndrome (word i), b)) 1 0) (sums.second i h))
     ∙ sym (sum_by-map-range_with_len_more (λ w. cond {A = ℕ} (is_broken w) 1 0) (λ k. (first_syndrome (word k), second_syndrome (word k))) 0 i i (omega arith))
+
+-- the count over as many words as there are sums
+pub broken_of : (word : ℕ → List ℕ) (count r : ℕ) (plain weighted : List ℕ) → length plain ≡ count → SumsOf word count plain weighted
+    → (SumsOf word (length plain) plain weighted → r ≡ count_by is_broken (all_syndromes word (length plain)))
+    → r ≡ count_by is_broken (all_syndromes word count)
+broken_of word count r plain weighted long sums h =
+    subst (λ n. r ≡ count_by is_broken (all_syndromes word n)) long (h (subst (λ n. SumsOf word n plain weighted) (sym long) sums))
 
 same_all : {X : Type 0} (p q : X → Bool) → ((x : X) → p x ≡ q x) → (xs : List X) → list_all p xs ≡ list_all q xs
 same_all p q h [] = refl

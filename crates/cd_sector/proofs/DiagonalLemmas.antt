@@ -13,7 +13,7 @@ use Rattle.cd_code.proofs.FieldLemmas.{double-zero}
 use Rattle.cd_code.proofs.SyndromeLemmas.{first_syndrome-nil, second_syndrome-nil, first_syndrome-push, second_syndrome-push}
 use Rattle.cd_sector.specs.CodeWords.{SumsOf, place_of, bytes_at, diagonal_input, diagonal_of}
 use Rattle.cd_sector.specs.DiagonalSteps.{HasTaken, bytes_taken, lane_place}
-use Rattle.cd_sector.specs.declared.diagonals.TheConstants.{RISING, TAKING}
+use Rattle.cd_sector.specs.declared.diagonals.TheConstants.{RISING, LANE_MASKS}
 use Rattle.cd_sector.proofs.ParityLemmas.{SumsOf-more, take-row}
 use mir.Syntax.{w8}
 use mir.Val.{Fits}
@@ -238,50 +238,50 @@ SumsOf-parity s count number first second plain weighted one one_weighted two tw
 
 -- ---- tables of lanes
 
-abbrev taking_at : ℕ → ℕ
-taking_at k = if nat_lt k 30 then 0 else if nat_lt k 116 then 255 else 0
+abbrev mask_at : ℕ → ℕ
+mask_at k = if nat_lt k 30 then 0 else if nat_lt k 116 then 255 else 0
 
-abbrev is_taking : ℕ → Bool
-is_taking k = get_or TAKING k 0 == taking_at k
+abbrev is_mask : ℕ → Bool
+is_mask k = get_or LANE_MASKS k 0 == mask_at k
 
-is_taking-all : agree_below is_taking (λ _. true) 146 ≡ true
-is_taking-all = refl
+is_mask-all : agree_below is_mask (λ _. true) 146 ≡ true
+is_mask-all = refl
 
-taking-entry : (k : ℕ) → k < 146 → get_or TAKING k 0 ≡ taking_at k
-taking-entry k h = eqb-true (get_or TAKING k 0) (taking_at k) (agree_below_at is_taking (λ _. true) 146 k is_taking-all h)
+lane_mask-entry : (k : ℕ) → k < 146 → get_or LANE_MASKS k 0 ≡ mask_at k
+lane_mask-entry k h = eqb-true (get_or LANE_MASKS k 0) (mask_at k) (agree_below_at is_mask (λ _. true) 146 k is_mask-all h)
 
-pub taking-yes : (k : ℕ) → 30 ≤ k → k < 116 → get_or TAKING k 0 ≡ 255
-taking-yes k low high =
-    taking-entry k (omega arith)
+pub lane_mask-yes : (k : ℕ) → 30 ≤ k → k < 116 → get_or LANE_MASKS k 0 ≡ 255
+lane_mask-yes k low high =
+    lane_mask-entry k (omega arith)
     ∙ cond-false (nat_lt k 30) 0 (if nat_lt k 116 then 255 else 0) (le-ltb k 30 low)
     ∙ cond-true (nat_lt k 116) 255 0 (lt-ltb k 116 high)
 
-pub taking-no : (k : ℕ) → k < 146 → (k < 30) ⊎ (116 ≤ k) → get_or TAKING k 0 ≡ 0
-taking-no k h (inl before) = taking-entry k h ∙ cond-true (nat_lt k 30) 0 (if nat_lt k 116 then 255 else 0) (lt-ltb k 30 before)
-taking-no k h (inr past) =
-    taking-entry k h
+pub lane_mask-no : (k : ℕ) → k < 146 → (k < 30) ⊎ (116 ≤ k) → get_or LANE_MASKS k 0 ≡ 0
+lane_mask-no k h (inl before) = lane_mask-entry k h ∙ cond-true (nat_lt k 30) 0 (if nat_lt k 116 then 255 else 0) (lt-ltb k 30 before)
+lane_mask-no k h (inr past) =
+    lane_mask-entry k h
     ∙ cond-false (nat_lt k 30) 0 (if nat_lt k 116 then 255 else 0) (le-ltb k 30 (omega arith))
     ∙ cond-false (nat_lt k 116) 255 0 (le-ltb k 116 past)
 
 -- lanes under a mask
-masked_lane : (lanes taking : List ℕ) → length lanes ≡ 32 → length taking ≡ 32 → (i : ℕ) → i < 32
-    → get_or (zip2 bit_and lanes taking) i 0 ≡ bit_and (get_or lanes i 0) (get_or taking i 0)
-masked_lane lanes taking hl ht i h = get_or-zip2 bit_and lanes taking i 0 0 0 (omega arith) (omega arith)
+mask_lanes-lane : (lanes mask : List ℕ) → length lanes ≡ 32 → length mask ≡ 32 → (i : ℕ) → i < 32
+    → get_or (zip2 bit_and lanes mask) i 0 ≡ bit_and (get_or lanes i 0) (get_or mask i 0)
+mask_lanes-lane lanes mask hl ht i h = get_or-zip2 bit_and lanes mask i 0 0 0 (omega arith) (omega arith)
 
-pub masked-takes : (lanes taking : List ℕ) → length lanes ≡ 32 → length taking ≡ 32 → Each1 (Fits w8) lanes
-    → (i : ℕ) → i < 32 → get_or taking i 0 ≡ 255 → get_or (zip2 bit_and lanes taking) i 0 ≡ get_or lanes i 0
-masked-takes lanes taking hl ht fits i h e =
+pub mask_lanes-takes : (lanes mask : List ℕ) → length lanes ≡ 32 → length mask ≡ 32 → Each1 (Fits w8) lanes
+    → (i : ℕ) → i < 32 → get_or mask i 0 ≡ 255 → get_or (zip2 bit_and lanes mask) i 0 ≡ get_or lanes i 0
+mask_lanes-takes lanes mask hl ht fits i h e =
     let x = get_or lanes i 0 in
     let small : x < 256 = Each1-get_or (λ n. n < 256) lanes i 0 (omega arith) (below_from_Fits w8 lanes fits) in
     let whole : x % 256 ≡ x = omega arith in
-    masked_lane lanes taking hl ht i h ∙ ap (bit_and x) e ∙ and_mask x 8 ∙ whole
+    mask_lanes-lane lanes mask hl ht i h ∙ ap (bit_and x) e ∙ and_mask x 8 ∙ whole
 
-pub masked-leaves : (lanes taking : List ℕ) → length lanes ≡ 32 → length taking ≡ 32
-    → (i : ℕ) → i < 32 → get_or taking i 0 ≡ 0 → get_or (zip2 bit_and lanes taking) i 0 ≡ 0
-masked-leaves lanes taking hl ht i h e =
+pub mask_lanes-leaves : (lanes mask : List ℕ) → length lanes ≡ 32 → length mask ≡ 32
+    → (i : ℕ) → i < 32 → get_or mask i 0 ≡ 0 → get_or (zip2 bit_and lanes mask) i 0 ≡ 0
+mask_lanes-leaves lanes mask hl ht i h e =
     let x = get_or lanes i 0 in
     let none : x % 1 ≡ 0 = omega arith in
-    masked_lane lanes taking hl ht i h ∙ ap (bit_and x) e ∙ and_mask x 0 ∙ none
+    mask_lanes-lane lanes mask hl ht i h ∙ ap (bit_and x) e ∙ and_mask x 0 ∙ none
 
 abbrev is_rising : ℕ → Bool
 is_rising i = get_or RISING i 0 == 2 * (15 - i / 2) + i % 2

@@ -1,15 +1,15 @@
 -- The EDC in its place: written there, and compared with what stands there.
-use Rattle.std.proofs.Common.{◌≡◌, ℕ, ◌+◌, ◌-◌, ◌<◌, ◌≤◌, ◌⊎◌, inl, inr, Bool, Decides, append_assoc, List, [], ◌++◌, length, get_or, take, drop, refl, sym, ap, ◌∙◌, arith}
-use Rattle.std.specs.Bool.{◌==◌}
-use Rattle.std.specs.Int.{to_le_bytes, w32}
+use Rattle.std.proofs.Common.{◌≡◌, ℕ, ◌+◌, ◌-◌, ◌<◌, ◌≤◌, ◌⊎◌, inl, inr, Bool, Decides, append_assoc, List, ◌++◌, length, get_or, take, drop, refl, sym, ap, ◌∙◌, arith}
+use Rattle.std.specs.Bool.{◌==◌, one_answer}
+use Rattle.std.specs.Prelude.{slice_range}
+use Rattle.std.specs.Int.{from_le_bytes, to_le_bytes, w32}
 use Rattle.std.proofs.lemmas.Bool.Decides.{Decides-eqb, Decides-like}
-use Rattle.std.proofs.lemmas.List.{get_or-take, get_or-drop, get_or_append_left, get_or-append_right, length-take, length-take-le, length-append, append_cancel_left, drop-drop}
+use Rattle.std.proofs.lemmas.List.{append_cancel_left, get_or-append_right, get_or-drop, get_or-take, get_or_append_left, length-append, length-take-le}
+use Rattle.std.proofs.lemmas.Nat.{from_le_bytes-to_le_bytes_4, le_bytes_4}
 use Rattle.std.proofs.Math.Seq.{take-add, take-append_seam}
-use Rattle.std.proofs.Math.ListN.{drop_of_length-le}
-use Rattle.std.specs.Bool.{one_answer}
 use Rattle.cd_code.specs.Edc.{IsEdc, bits, remainder}
 use Rattle.cd_code.specs.Field.{AreBytes}
-use Rattle.cd_code.proofs.ByteLemmas.{AreBytes-append, AreBytes-take, AreBytes-word}
+use Rattle.cd_code.proofs.ByteLemmas.{AreBytes-append, AreBytes-drop, AreBytes-take, AreBytes-word, front-same, length-part}
 use Rattle.cd_code.proofs.EdcLemmas.{edc_unique}
 
 -- a list that has four bytes in the place of the EDC
@@ -33,36 +33,33 @@ edc_written old new four size long e =
       ],
     )
 
-pub edc_written_at : (old new four : List ℕ) → length old ≡ 2352 → length four ≡ 4 → new ≡ take 2064 old ++ (four ++ drop 4 (drop 2064 old))
-    → (take 2068 new ≡ take 2064 old ++ four)
-    × ((k : ℕ) → (k < 2064) ⊎ (2068 ≤ k) → get_or new k 0 ≡ get_or old k 0)
-edc_written_at old new four size long e =
-    edc_written old new four size long (e ∙ ap (λ v. take 2064 old ++ (four ++ v)) (drop-drop 4 2064 old))
+-- the bytes up to the EDC's end, where its four bytes stand in their place
+edc_front : (new four : List ℕ) → slice_range new 2064 2068 ≡ four → take 2068 new ≡ take 2064 new ++ four
+edc_front new four e = take-add 2064 4 new ∙ ap (λ v. take 2064 new ++ v) e
 
 -- the EDC's word written in its place
-pub edc_filled : (old buf : List ℕ) (w : ℕ) → length old ≡ 2352 → IsEdc (take 2064 old) w
-    → buf ≡ to_le_bytes w32 w ++ drop 4 (take 4 (drop 2064 old))
-    → (remainder (bits (take 2068 (take 2064 old ++ (buf ++ drop 4 (drop 2064 old))))) ≡ 0)
-    × ((k : ℕ) → (k < 2064) ⊎ (2068 ≤ k) → get_or (take 2064 old ++ (buf ++ drop 4 (drop 2064 old))) k 0 ≡ get_or old k 0)
-edc_filled old buf w size edc e =
-    let mid = take 4 (drop 2064 old) in
-    let short : length mid ≤ 4 = omega (arith, length-take 4 (drop 2064 old)) in
-    let none : drop 4 mid ≡ [] = drop_of_length-le mid {i = 4} short in
-    let four : buf ≡ to_le_bytes w32 w = e ∙ ap (λ v. to_le_bytes w32 w ++ v) none in
-    let long : length buf ≡ 4 = ap length four in
-    let parts = edc_written_at old (take 2064 old ++ (buf ++ drop 4 (drop 2064 old))) buf size long refl in
-    (ap (λ v. remainder (bits v)) (parts.0 ∙ ap (λ v. take 2064 old ++ v) four) ∙ edc.divides, parts.1)
+pub edc_filled : (old new : List ℕ) (w : ℕ) → length old ≡ 2352 → length new ≡ 2352 → IsEdc (take 2064 old) w
+    → slice_range new 2064 2068 ≡ to_le_bytes w32 w
+    → ((k : ℕ) → (k < 2064) ⊎ (2068 ≤ k) → get_or new k 0 ≡ get_or old k 0)
+    → remainder (bits (take 2068 new)) ≡ 0
+edc_filled old new w old_size new_size edc put stays =
+    let front : take 2064 new ≡ take 2064 old =
+    front-same new old 2064 (omega arith) (omega arith) (λ i below. stays i (inl below)) in
+    ap (λ v. remainder (bits v)) (edc_front new (to_le_bytes w32 w) put ∙ ap (λ v. v ++ to_le_bytes w32 w) front) ∙ edc.divides
 
--- the test of the EDC's four bytes
-pub edc_told : (s four word : List ℕ) (w : ℕ) (r : Bool) → length s ≡ 2352 → AreBytes s
-    → four ≡ take 4 (drop 2064 s) → word ≡ to_le_bytes w32 w → IsEdc (take 2064 s) w → Decides r (four ≡ word)
+-- the test of the word that stands in the EDC's place
+pub edc_told : (s : List ℕ) (w stored : ℕ) (r : Bool) → length s ≡ 2352 → AreBytes s → IsEdc (take 2064 s) w
+    → stored ≡ from_le_bytes w32 (slice_range s 2064 2068) → Decides r (w ≡ stored)
     → r ≡ (remainder (bits (take 2068 s)) == 0)
-edc_told s four word w r size bytes e f edc told =
+edc_told s w stored r size bytes edc read told =
     let front = take 2064 s in
-    let split : take 2068 s ≡ front ++ four = take-add 2064 4 s ∙ ap (λ v. front ++ v) (sym e) in
+    let four = slice_range s 2064 2068 in
+    let split : take 2068 s ≡ front ++ four = edc_front s four refl in
     let front_len : length front ≡ 2064 = length-take-le 2064 s (omega (arith, size)) in
     let whole_len : length (take 2068 s) ≡ 2068 = length-take-le 2068 s (omega (arith, size)) in
-    let goal : Decides (remainder (bits (take 2068 s)) == 0) (four ≡ word) =
+    let right : w ≡ stored → four ≡ to_le_bytes w32 w =
+    λ same. sym (le_bytes_4 four w (length-part s 2064 4 (omega (arith, size))) (AreBytes-take _ 4 (AreBytes-drop s 2064 bytes)) (same ∙ read)) in
+    let goal : Decides (remainder (bits (take 2068 s)) == 0) (w ≡ stored) =
     Decides-like (remainder (bits (take 2068 s)) == 0)
     (λ none.
     let same : take 2068 s ≡ front ++ to_le_bytes w32 w =
@@ -77,7 +74,8 @@ edc_told s four word w r size bytes e f edc told =
           ∙ sym (get_or_append_left front (to_le_bytes w32 w) 0 i (omega (arith, front_len)) ∙ get_or-take 2064 s i 0 low);
     })
     (none ∙ sym edc.divides) in
-    append_cancel_left front four (to_le_bytes w32 w) (sym split ∙ same) ∙ sym f)
-    (λ same. ap (λ v. remainder (bits v)) (split ∙ ap (λ v. front ++ v) (same ∙ f)) ∙ edc.divides)
+    let found : four ≡ to_le_bytes w32 w = append_cancel_left front four (to_le_bytes w32 w) (sym split ∙ same) in
+    sym (read ∙ ap (from_le_bytes w32) found ∙ from_le_bytes-to_le_bytes_4 w edc.fits))
+    (λ same. ap (λ v. remainder (bits v)) (split ∙ ap (λ v. front ++ v) (right same)) ∙ edc.divides)
     (Decides-eqb (remainder (bits (take 2068 s))) 0) in
     one_answer r (remainder (bits (take 2068 s)) == 0) told goal

@@ -1,5 +1,5 @@
 -- What follows from the definitions alone; each is the contract of a function of `laws.rt`.
-use Rattle.std.specs.Prelude.{◌≡◌, ℕ, Decides, List, [], ◌∷◌, ◌++◌, length, slice_index}
+use Rattle.std.specs.Prelude.{◌≡◌, ◌↔◌, ℕ, IsTrue, List, [], ◌∷◌, ◌++◌, length, slice_index}
 use Rattle.cd_code.specs.Field.{AreBytes}
 use Rattle.cd_sector.specs.Carried.{IsCarried, sync_of}
 use Rattle.cd_sector.specs.Consistent.{IsConsistent, consistent, header_of, user_of}
@@ -7,7 +7,7 @@ use Rattle.cd_sector.specs.Defect.{defect_of}
 
 -- the test of a sector is the record of its parts
 abbrev pub ConsistentByParts : Type 0
-ConsistentByParts = (s : List ℕ) → Decides (consistent s) (IsConsistent s)
+ConsistentByParts = (s : List ℕ) → IsTrue (consistent s) ↔ IsConsistent s
 
 -- two consistent sectors with equal header and user data are equal
 abbrev pub SectorIsUnique : Type 0

@@ -6,6 +6,15 @@ ghost use Rattle.cd_sector.specs.Address.{address, bcd};
 /// The last block that has an address, which is 99:59:74.
 pub const MAX_BLOCK: u32 = 449_849;
 
+/// The number of fractions in a second, each of which is a block.
+const FRACTIONS: u32 = 75;
+
+/// The number of seconds in a minute.
+const SECONDS: u32 = 60;
+
+/// The fraction at which block 0 stands, which is second 2.
+const FIRST_BLOCK: u32 = 2 * FRACTIONS;
+
 /// Minute, second and fraction, each BCD, of a block that is counted from 0, which stands at two seconds; None
 /// past minute 99 (ECMA-130, the clause on the digital data structure of sectors).
 #[tactic(auto, unfolding(crate::specs::Address::address))]
@@ -16,11 +25,11 @@ pub fn address_of(block: u32) -> Option<[u8; 3]>
     if block > MAX_BLOCK {
         return None;
     }
-    let fractions = block + 150;
+    let fractions = block + FIRST_BLOCK;
     Some([
-        bcd_of(fractions / 4500),
-        bcd_of(fractions / 75 % 60),
-        bcd_of(fractions % 75),
+        bcd_of(fractions / (SECONDS * FRACTIONS)),
+        bcd_of(fractions / FRACTIONS % SECONDS),
+        bcd_of(fractions % FRACTIONS),
     ])
 }
 

@@ -1,6 +1,6 @@
 //! What is wrong with a sector, and whether it is consistent.
 
-ghost use Rattle.std.specs.Prelude.{◌≡◌, ℕ, ◌==◌, ◌<◌, ◌≤◌, ◌&&◌, Decides, cond, count_by, List, slice_index, slice_range, take, true};
+ghost use Rattle.std.specs.Prelude.{◌≡◌, ℕ, ◌==◌, ◌<◌, ◌≤◌, ◌&&◌, ◌↔◌, IsTrue, if◌then◌else◌, count_by, length, List, slice_index, slice_range, take, true};
 ghost use Rattle.std.specs.List.{list_all, list_any};
 ghost use Rattle.cd_code.specs.Edc.{bits, remainder};
 ghost use Rattle.cd_sector.specs.CodeWords.{SumsOf, column_of, diagonal_of};
@@ -9,8 +9,8 @@ ghost use Rattle.cd_sector.specs.Kind.{kind_of};
 ghost use Rattle.cd_sector.specs.Defect.{all_syndromes, defect_of, is_broken, is_nonzero, is_sound};
 
 use crate::diagonals::diagonal_sums;
+use crate::edc_field::stored_edc;
 use crate::kinds::{SectorKind, kind};
-use crate::parity::{COLUMNS, DIAGONALS};
 use crate::sector::{EDC, HEADER, INTERMEDIATE, P_PARITY, Q_PARITY, SECTOR_SIZE, Sector};
 use crate::sums::sum_of_bytes;
 use cd_code::{ColumnSums, column_sums, edc_of};
@@ -40,8 +40,8 @@ pub fn defect(s: &Sector) -> DefectReport
     DefectReport {
         zeros: !has_zeros(bytes),
         edc: !has_edc(bytes),
-        p: broken_columns(bytes),
-        q: broken_diagonals(bytes),
+        p: count_broken_columns(bytes),
+        q: count_broken_diagonals(bytes),
     }
 }
 
@@ -57,7 +57,7 @@ pub fn is_consistent(s: &Sector) -> bool
 /// equal remainders of the EDC's division and equal syndromes (ECMA-130, Annex A and the clause on the digital data
 /// structure of sectors).
 pub fn same_defect(a: &Sector, b: &Sector) -> bool
-    ensures same { Decides result (defect_of a.now ≡ defect_of b.now) }
+    ensures same { IsTrue result ↔ (defect_of a.now ≡ defect_of b.now) }
     ensures alone { result ≡ true → take 2064 a.now ≡ take 2064 b.now → a.now ≡ b.now }
 {
     is_whole(&sum_of_bytes(a.bytes(), b.bytes()))
@@ -77,7 +77,10 @@ fn has_mode1(s: &Sector) -> bool
 fn is_whole(bytes: &[u8; SECTOR_SIZE]) -> bool
     ensures { result ≡ is_sound (defect_of bytes.now) }
 {
-    has_zeros(bytes) && has_edc(bytes) && broken_columns(bytes) == 0 && broken_diagonals(bytes) == 0
+    has_zeros(bytes)
+        && has_edc(bytes)
+        && count_broken_columns(bytes) == 0
+        && count_broken_diagonals(bytes) == 0
 }
 
 /// Whether the Intermediate field is all 00.
@@ -91,23 +94,24 @@ fn has_zeros(bytes: &[u8; SECTOR_SIZE]) -> bool
 fn has_edc(bytes: &[u8; SECTOR_SIZE]) -> bool
     ensures { result ≡ (remainder (bits (take 2068 bytes.now)) == 0) }
 {
-    let word = edc_of(&bytes[..EDC]).to_le_bytes();
-    bytes[EDC..INTERMEDIATE] == word[..]
+    edc_of(&bytes[..EDC]) == stored_edc(bytes)
 }
 
-/// How many columns are no code words.
+/// The number of columns that are no code words.
 #[inline(never)]
-fn broken_columns(bytes: &[u8; SECTOR_SIZE]) -> u8
+fn count_broken_columns(bytes: &[u8; SECTOR_SIZE]) -> u8
     ensures { result ≡ count_by is_broken (all_syndromes (column_of bytes.now) 86) }
 {
-    broken(&all_column_sums(bytes), COLUMNS)
+    let sums = all_column_sums(bytes);
+    count_broken(&sums.plain, &sums.weighted)
 }
 
-/// How many diagonals are no code words.
-fn broken_diagonals(bytes: &[u8; SECTOR_SIZE]) -> u8
+/// The number of diagonals that are no code words.
+fn count_broken_diagonals(bytes: &[u8; SECTOR_SIZE]) -> u8
     ensures { result ≡ count_by is_broken (all_syndromes (diagonal_of bytes.now) 52) }
 {
-    broken(&diagonal_sums(bytes), DIAGONALS)
+    let sums = diagonal_sums(bytes);
+    count_broken(&sums.plain, &sums.weighted)
 }
 
 /// The syndromes of each column with its parity.
@@ -117,22 +121,23 @@ pub(crate) fn all_column_sums(bytes: &[u8; SECTOR_SIZE]) -> ColumnSums
     column_sums(bytes[HEADER..Q_PARITY].first_chunk().unwrap())
 }
 
-/// How many of the first `count` words have sums that are not both 0.
-fn broken(sums: &ColumnSums, count: usize) -> u8
-    requires { count ≤ 86 }
-    ensures { (word : ℕ → List ℕ) → SumsOf word count sums.now.plain sums.now.weighted
-        → result ≡ count_by is_broken (all_syndromes word count) }
+/// The number of words whose sums are not both 0.
+fn count_broken(plain: &[u8], weighted: &[u8]) -> u8
+    requires few { length plain.now ≤ 86 }
+    requires same { length weighted.now ≡ length plain.now }
+    ensures { (word : ℕ → List ℕ) → SumsOf word (length plain.now) plain.now weighted.now
+        → result ≡ count_by is_broken (all_syndromes word (length plain.now)) }
 {
     let mut number = 0;
-    for i in 0..count {
-        number += one_if_broken(sums.plain[i], sums.weighted[i]);
+    for i in 0..plain.len() {
+        number += one_if_broken(plain[i], weighted[i]);
     }
     number
 }
 
 /// 1 for a word with these syndromes that is no code word, else 0.
 fn one_if_broken(plain: u8, weighted: u8) -> u8
-    ensures { result ≡ cond (is_broken (plain, weighted)) 1 0 }
+    ensures { result ≡ (if is_broken (plain, weighted) then 1 else 0) }
 {
     if plain != 0 || weighted != 0 { 1 } else { 0 }
 }

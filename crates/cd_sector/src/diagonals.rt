@@ -6,14 +6,20 @@ ghost use Rattle.std.specs.Prelude.{◌≡◌, ℕ, ◌+◌, ◌-◌, ◌*◌, �
 ghost use Rattle.cd_sector.specs.CodeWords.{SumsOf, bytes_at, diagonal_input, diagonal_of};
 ghost use Rattle.cd_sector.specs.DiagonalSteps.{HasTaken, lane_place};
 
-use crate::parity::DIAGONALS;
+use crate::product_code::{COLUMNS, DIAGONALS, ROWS};
 use crate::sector::{HEADER, Q_PARITY, SECTOR_SIZE};
-use cd_code::{ColumnSums, LaneSums, lanes_at, put_lanes};
+use cd_code::{LaneSums, lanes_at, put_lanes};
 use std::simd::prelude::*;
+
+/// How far the last of sixteen neighbours is below the highest.
+const BELOW_TOP: usize = 15;
+
+/// The first of the words of the high sixteen diagonals, which is diagonal 10 of plane 0.
+pub(crate) const HIGH_WORDS: usize = 20;
 
 /// Lanes of which the 86 in the middle take a byte. From place 2 * k on, lane i of 32 takes one where 15 ≤ k + i / 2 < 58.
 #[rattlefmt::skip]
-static TAKING: [u8; 146] = [
+static LANE_MASKS: [u8; 146] = [
     0, 0, 0, 0, 0, 0, 0, 0, 0, 0, 0, 0, 0, 0, 0, 0, 0, 0, 0, 0, 0, 0, 0, 0, 0, 0, 0, 0, 0, 0, 255, 255,
     255, 255, 255, 255, 255, 255, 255, 255, 255, 255, 255, 255, 255, 255, 255, 255, 255, 255, 255, 255, 255, 255, 255, 255, 255, 255, 255, 255, 255, 255, 255, 255,
     255, 255, 255, 255, 255, 255, 255, 255, 255, 255, 255, 255, 255, 255, 255, 255, 255, 255, 255, 255, 255, 255, 255, 255, 255, 255, 255, 255, 255, 255, 255, 255,
@@ -83,11 +89,11 @@ impl Diagonals {
         ensures step { result.step ≡ end }
         ensures taken { HasTaken bytes.now result.top end result.sums.plain result.sums.weighted }
     {
-        let turn = self.step / 26;
+        let turn = self.step / ROWS;
         let mut sums = self.sums;
         for step in self.step..end {
-            let lanes = window(bytes, self.top, step, step - 26 * turn);
-            sums = sums.with_lanes(masked(lanes, taking(step + 15 - self.top)));
+            let lanes = window(bytes, self.top, step, step - ROWS * turn);
+            sums = sums.with_lanes(mask_lanes(lanes, lane_mask(step + BELOW_TOP - self.top)));
         }
         Diagonals {
             top: self.top,
@@ -108,10 +114,10 @@ impl Diagonals {
         ensures step { result.step ≡ end }
         ensures taken { HasTaken bytes.now result.top end result.sums.plain result.sums.weighted }
     {
-        let turn = self.step / 26;
+        let turn = self.step / ROWS;
         let mut sums = self.sums;
         for step in self.step..end {
-            sums = sums.with_lanes(window(bytes, self.top, step, step - 26 * turn));
+            sums = sums.with_lanes(window(bytes, self.top, step, step - ROWS * turn));
         }
         Diagonals {
             top: self.top,
@@ -132,11 +138,11 @@ impl Diagonals {
         ensures step { result.step ≡ end }
         ensures taken { HasTaken bytes.now result.top end result.sums.plain result.sums.weighted }
     {
-        let turn = self.step / 26;
+        let turn = self.step / ROWS;
         let mut sums = self.sums;
         for step in self.step..end {
-            let lanes = window(bytes, self.top, step, step - 26 * turn);
-            sums = sums.with_lanes_where(lanes, taking(step + 15 - self.top));
+            let lanes = window(bytes, self.top, step, step - ROWS * turn);
+            sums = sums.with_lanes_where(lanes, lane_mask(step + BELOW_TOP - self.top));
         }
         Diagonals {
             top: self.top,
@@ -150,11 +156,12 @@ impl Diagonals {
         ensures plain { (i : ℕ) → i < 32
             → slice_index result.plain i ≡ slice_index self.sums.plain (2 * (15 - i / 2) + i % 2) }
         ensures weighted { (i : ℕ) → i < 32
-            → slice_index result.weighted i ≡ slice_index self.sums.weighted (2 * (15 - i / 2) + i % 2) }
+            → slice_index result.weighted i
+            ≡ slice_index self.sums.weighted (2 * (15 - i / 2) + i % 2) }
     {
         LaneSums {
-            plain: turned(self.sums.plain),
-            weighted: turned(self.sums.weighted),
+            plain: reverse_pairs(self.sums.plain),
+            weighted: reverse_pairs(self.sums.weighted),
         }
     }
 }
@@ -166,32 +173,36 @@ fn window(bytes: &[u8; SECTOR_SIZE], top: usize, step: usize, row: usize) -> u8x
     requires inside { 2 * top ≤ 12 + 86 * row + 2 * step }
     requires last { step ≤ top + 43 }
     requires most { top ≤ 25 }
-    ensures { (i : ℕ) → i < 32 → slice_index result i ≡ slice_index bytes.now (lane_place top step i) }
+    ensures { (i : ℕ) → i < 32
+        → slice_index result i ≡ slice_index bytes.now (lane_place top step i) }
 {
-    lanes_at(bytes, HEADER + 86 * row + 2 * step - 2 * top)
+    lanes_at(bytes, HEADER + COLUMNS * row + 2 * step - 2 * top)
 }
 
 /// Which of 32 lanes take a byte, k steps after the first one began.
 #[inline(always)]
-fn taking(k: usize) -> u8x32
+fn lane_mask(k: usize) -> u8x32
     requires { k < 58 }
-    ensures takes { (i : ℕ) → i < 32 → 15 ≤ k + i / 2 → k + i / 2 < 58 → slice_index result i ≡ 255 }
-    ensures leaves { (i : ℕ) → i < 32 → (k + i / 2 < 15) ⊎ (58 ≤ k + i / 2) → slice_index result i ≡ 0 }
+    ensures takes { (i : ℕ) → i < 32 → 15 ≤ k + i / 2 → k + i / 2 < 58
+        → slice_index result i ≡ 255 }
+    ensures leaves { (i : ℕ) → i < 32 → (k + i / 2 < 15) ⊎ (58 ≤ k + i / 2)
+        → slice_index result i ≡ 0 }
 {
-    lanes_at(&TAKING, 2 * k)
+    lanes_at(&LANE_MASKS, 2 * k)
 }
 
-/// Lanes, and `00` where `taking` is `00`; elsewhere it is `FF`.
+/// Lanes, and `00` where `mask` is `00`; elsewhere it is `FF`.
 #[inline(always)]
-fn masked(lanes: u8x32, taking: u8x32) -> u8x32
-    ensures takes { (i : ℕ) → i < 32 → slice_index taking i ≡ 255 → slice_index result i ≡ slice_index lanes i }
-    ensures leaves { (i : ℕ) → i < 32 → slice_index taking i ≡ 0 → slice_index result i ≡ 0 }
+fn mask_lanes(lanes: u8x32, mask: u8x32) -> u8x32
+    ensures takes { (i : ℕ) → i < 32 → slice_index mask i ≡ 255
+        → slice_index result i ≡ slice_index lanes i }
+    ensures leaves { (i : ℕ) → i < 32 → slice_index mask i ≡ 0 → slice_index result i ≡ 0 }
 {
-    lanes & taking
+    lanes & mask
 }
 
 /// Sixteen pairs of lanes, the last one first.
-fn turned(v: u8x32) -> u8x32
+fn reverse_pairs(v: u8x32) -> u8x32
     ensures { (i : ℕ) → i < 32 → slice_index result i ≡ slice_index v (2 * (15 - i / 2) + i % 2) }
 {
     v.swizzle(RISING)
@@ -202,7 +213,8 @@ fn turned(v: u8x32) -> u8x32
 /// Where few diagonals take a byte the steps are parted in two, here and below: a loop so short is written out, with
 /// its masks as constants, and a register of which no lane takes a byte is left out.
 pub(crate) fn low_input_sums(bytes: &[u8; SECTOR_SIZE]) -> LaneSums
-    ensures { SumsOf (λ i. bytes_at bytes.now (diagonal_input (i % 2) (i / 2))) 20 result.plain result.weighted }
+    ensures { SumsOf (λ i. bytes_at bytes.now (diagonal_input (i % 2) (i / 2))) 20
+        result.plain result.weighted }
 {
     Diagonals::low(bytes)
         .at_the_beginning(bytes, 8)
@@ -215,7 +227,8 @@ pub(crate) fn low_input_sums(bytes: &[u8; SECTOR_SIZE]) -> LaneSums
 
 /// The syndromes of the first 43 bytes of diagonals 10 to 25.
 pub(crate) fn high_input_sums(bytes: &[u8; SECTOR_SIZE]) -> LaneSums
-    ensures { SumsOf (λ i. bytes_at bytes.now (diagonal_input ((20 + i) % 2) ((20 + i) / 2))) 32 result.plain result.weighted }
+    ensures { SumsOf (λ i. bytes_at bytes.now (diagonal_input ((20 + i) % 2) ((20 + i) / 2))) 32
+        result.plain result.weighted }
 {
     Diagonals::high(bytes)
         .at_the_beginning(bytes, 18)
@@ -228,30 +241,45 @@ pub(crate) fn high_input_sums(bytes: &[u8; SECTOR_SIZE]) -> LaneSums
         .rising()
 }
 
+/// Both syndromes of the 52 diagonals: entry `2N + plane` is of diagonal N of that plane (ECMA-130, Annex A).
+#[derive(Clone, Copy)]
+pub(crate) struct DiagonalSums {
+    /// The sum of each diagonal's bytes.
+    pub(crate) plain: [u8; DIAGONALS],
+    /// The sum of each diagonal's bytes times falling powers of alpha, down to 1 at the last byte.
+    pub(crate) weighted: [u8; DIAGONALS],
+}
+
 /// The sums of diagonals 0 to 9 out of the one, and of diagonals 10 to 25 out of the other.
-fn joined(low: LaneSums, high: LaneSums) -> ColumnSums
+fn join_halves(low: LaneSums, high: LaneSums) -> DiagonalSums
     ensures plain_low { (i : ℕ) → i < 20 → slice_index result.plain i ≡ slice_index low.plain i }
-    ensures plain_high { (i : ℕ) → i < 32 → slice_index result.plain (20 + i) ≡ slice_index high.plain i }
-    ensures weighted_low { (i : ℕ) → i < 20 → slice_index result.weighted i ≡ slice_index low.weighted i }
-    ensures weighted_high { (i : ℕ) → i < 32 → slice_index result.weighted (20 + i) ≡ slice_index high.weighted i }
+    ensures plain_high { (i : ℕ) → i < 32
+        → slice_index result.plain (20 + i) ≡ slice_index high.plain i }
+    ensures weighted_low { (i : ℕ) → i < 20
+        → slice_index result.weighted i ≡ slice_index low.weighted i }
+    ensures weighted_high { (i : ℕ) → i < 32
+        → slice_index result.weighted (20 + i) ≡ slice_index high.weighted i }
 {
-    let mut sums = ColumnSums::zero();
+    let mut sums = DiagonalSums {
+        plain: [0; DIAGONALS],
+        weighted: [0; DIAGONALS],
+    };
     put_lanes(&mut sums.plain, 0, low.plain);
-    put_lanes(&mut sums.plain, 20, high.plain);
+    put_lanes(&mut sums.plain, HIGH_WORDS, high.plain);
     put_lanes(&mut sums.weighted, 0, low.weighted);
-    put_lanes(&mut sums.weighted, 20, high.weighted);
+    put_lanes(&mut sums.weighted, HIGH_WORDS, high.weighted);
     sums
 }
 
 /// The syndromes of each diagonal with its parity.
-pub(crate) fn diagonal_sums(bytes: &[u8; SECTOR_SIZE]) -> ColumnSums
+pub(crate) fn diagonal_sums(bytes: &[u8; SECTOR_SIZE]) -> DiagonalSums
     ensures { SumsOf (diagonal_of bytes.now) 52 result.plain result.weighted }
 {
     let low = low_input_sums(bytes)
         .with_lanes(lanes_at(bytes, Q_PARITY))
         .with_lanes(lanes_at(bytes, Q_PARITY + DIAGONALS));
     let high = high_input_sums(bytes)
-        .with_lanes(lanes_at(bytes, Q_PARITY + 20))
-        .with_lanes(lanes_at(bytes, Q_PARITY + DIAGONALS + 20));
-    joined(low, high)
+        .with_lanes(lanes_at(bytes, Q_PARITY + HIGH_WORDS))
+        .with_lanes(lanes_at(bytes, Q_PARITY + DIAGONALS + HIGH_WORDS));
+    join_halves(low, high)
 }

@@ -1,14 +1,14 @@
 //! Making the one consistent sector with a given content.
 
-ghost use Rattle.std.specs.Prelude.{◌≡◌, ℕ, ◌+◌, ◌<◌, ◌≤◌, ◌⊎◌, List, [], ◌∷◌, ◌++◌, length, replicate, slice_index, take};
+ghost use Rattle.std.specs.Prelude.{◌≡◌, ℕ, ◌<◌, ◌≤◌, ◌⊎◌, List, [], ◌∷◌, ◌++◌, replicate, slice_index, take};
 ghost use Rattle.cd_code.specs.Edc.{bits, remainder};
 ghost use Rattle.cd_sector.specs.Consistent.{IsConsistent, header_of, user_of};
 ghost use Rattle.cd_sector.specs.Kind.{sync_field};
 
+use crate::edc_field::put_edc;
 use crate::kinds::SYNC;
 use crate::parity::fill_words;
-use crate::sector::{EDC, HEADER, INTERMEDIATE, MODE, SECTOR_SIZE, Sector, USER_DATA, USER_SIZE};
-use byteorder::{ByteOrder, LittleEndian};
+use crate::sector::{EDC, HEADER, MODE, SECTOR_SIZE, Sector, USER_DATA, USER_SIZE, put_part};
 use cd_code::edc_of;
 
 /// The one consistent sector with these three header bytes, which may be any, the mode byte 01 and this user
@@ -17,7 +17,8 @@ pub fn encode(header: [u8; 3], user: &[u8; USER_SIZE]) -> Sector
     ensures consistent { IsConsistent result }
     ensures header { header_of result ≡ header ++ 1 ∷ [] }
     ensures user { user_of result ≡ user.now }
-    ensures alone { (s : List ℕ) → IsConsistent s → header_of s ≡ header ++ 1 ∷ [] → user_of s ≡ user.now → s ≡ result }
+    ensures alone { (s : List ℕ) → IsConsistent s → header_of s ≡ header ++ 1 ∷ []
+        → user_of s ≡ user.now → s ≡ result }
 {
     let mut bytes = content(header, user);
     fill_edc(&mut bytes);
@@ -28,7 +29,8 @@ pub fn encode(header: [u8; 3], user: &[u8; USER_SIZE]) -> Sector
 /// A Mode 1 sector up to its user data, and 00 behind it.
 fn content(header: [u8; 3], user: &[u8; USER_SIZE]) -> [u8; SECTOR_SIZE]
     ensures { (k : ℕ) → k < 2352
-        → slice_index result k ≡ slice_index (sync_field ++ (header ++ 1 ∷ (user.now ++ replicate 288 0))) k }
+        → slice_index result k
+        ≡ slice_index (sync_field ++ (header ++ 1 ∷ (user.now ++ replicate 288 0))) k }
 {
     let mut bytes = [0; SECTOR_SIZE];
     put_part(&mut bytes, 0, &SYNC);
@@ -38,20 +40,12 @@ fn content(header: [u8; 3], user: &[u8; USER_SIZE]) -> [u8; SECTOR_SIZE]
     bytes
 }
 
-/// Writes bytes from place `at` on.
-fn put_part(bytes: &mut [u8; SECTOR_SIZE], at: usize, part: &[u8])
-    requires { at + length part.now ≤ 2352 }
-    ensures inside { (i : ℕ) → i < length part.now → slice_index bytes.new (at + i) ≡ slice_index part.now i }
-    ensures outside { (k : ℕ) → (k < at) ⊎ (at + length part.now ≤ k) → slice_index bytes.new k ≡ slice_index bytes.old k }
-{
-    bytes[at..at + part.len()].copy_from_slice(part);
-}
-
 /// Writes the EDC of bytes 0 to 2063 behind them (ECMA-130, the EDC field of a sector).
 fn fill_edc(bytes: &mut [u8; SECTOR_SIZE])
     ensures divides { remainder (bits (take 2068 bytes.new)) ≡ 0 }
-    ensures stays { (k : ℕ) → (k < 2064) ⊎ (2068 ≤ k) → slice_index bytes.new k ≡ slice_index bytes.old k }
+    ensures stays { (k : ℕ) → (k < 2064) ⊎ (2068 ≤ k)
+        → slice_index bytes.new k ≡ slice_index bytes.old k }
 {
     let word = edc_of(&bytes[..EDC]);
-    LittleEndian::write_u32(&mut bytes[EDC..INTERMEDIATE], word);
+    put_edc(bytes, word);
 }

@@ -6,15 +6,10 @@ ghost use Rattle.cd_code.specs.LaneWords.{AreColumns};
 ghost use Rattle.cd_code.specs.Syndrome.{IsCodeWord};
 ghost use Rattle.cd_sector.specs.CodeWords.{AllCodeWords, PairsPut, bytes_at, column_input, column_of, diagonal_of, place_of};
 
-use crate::diagonals::{high_input_sums, low_input_sums};
+use crate::diagonals::{HIGH_WORDS, high_input_sums, low_input_sums};
+use crate::product_code::{COLUMNS, DIAGONALS};
 use crate::sector::{HEADER, P_PARITY, Q_PARITY, SECTOR_SIZE, Sector};
-use cd_code::{ColumnLanes, LaneSums, column_lanes, put_lanes};
-
-/// The number of P columns over both planes.
-pub(crate) const COLUMNS: usize = 86;
-
-/// The number of Q diagonals over both planes.
-pub(crate) const DIAGONALS: usize = 52;
+use cd_code::{BACK_COLUMN, ColumnLanes, LaneSums, MIDDLE_COLUMN, column_lanes, put_lanes};
 
 /// Makes the 276 bytes of P and Q parity anew, from the 2076 bytes in front of them, in a sector of any kind
 /// (ECMA-130, Annex A).
@@ -39,12 +34,13 @@ pub(crate) fn fill_words(bytes: &mut [u8; SECTOR_SIZE])
 /// Makes the P parity of each column.
 fn fill_columns(bytes: &mut [u8; SECTOR_SIZE])
     ensures words { (i : ℕ) → i < 86 → IsCodeWord (column_of bytes.new i) }
-    ensures stays { (k : ℕ) → (k < 2076) ⊎ (2248 ≤ k) → slice_index bytes.new k ≡ slice_index bytes.old k }
+    ensures stays { (k : ℕ) → (k < 2076) ⊎ (2248 ≤ k)
+        → slice_index bytes.new k ≡ slice_index bytes.old k }
 {
     let lanes = column_input_lanes(bytes);
     put_pairs(bytes, P_PARITY, COLUMNS, lanes.front);
-    put_pairs(bytes, P_PARITY + 32, COLUMNS, lanes.middle);
-    put_pairs(bytes, P_PARITY + 54, COLUMNS, lanes.back);
+    put_pairs(bytes, P_PARITY + MIDDLE_COLUMN, COLUMNS, lanes.middle);
+    put_pairs(bytes, P_PARITY + BACK_COLUMN, COLUMNS, lanes.back);
 }
 
 /// Makes the Q parity of each diagonal.
@@ -55,7 +51,7 @@ fn fill_diagonals(bytes: &mut [u8; SECTOR_SIZE])
     let low = low_input_sums(bytes);
     let high = high_input_sums(bytes);
     put_pairs(bytes, Q_PARITY, DIAGONALS, low);
-    put_pairs(bytes, Q_PARITY + 20, DIAGONALS, high);
+    put_pairs(bytes, Q_PARITY + HIGH_WORDS, DIAGONALS, high);
 }
 
 /// The syndromes of the 24 bytes of each column in front of its parity.
@@ -63,7 +59,7 @@ fn fill_diagonals(bytes: &mut [u8; SECTOR_SIZE])
 fn column_input_lanes(bytes: &[u8; SECTOR_SIZE]) -> ColumnLanes
     ensures { AreColumns (λ i. bytes_at bytes.now (column_input (i % 2) (i / 2))) result }
 {
-    let (rows, _) = bytes[HEADER..P_PARITY].as_chunks::<86>();
+    let (rows, _) = bytes[HEADER..P_PARITY].as_chunks::<COLUMNS>();
     column_lanes(rows)
 }
 

@@ -1,7 +1,7 @@
 //! The 2352 bytes of one sector, and where its parts begin (ECMA-130, the clause on the digital data structure of
 //! sectors and Annex A). Places count from 0.
 
-ghost use Rattle.std.specs.Prelude.{◌≡◌, ◌<◌, List, ℕ, length, replicate, slice_index, slice_set};
+ghost use Rattle.std.specs.Prelude.{◌≡◌, ◌+◌, ◌<◌, ◌≤◌, ◌⊎◌, List, ℕ, length, replicate, slice_index, slice_set};
 ghost use Rattle.cd_code.specs.Field.{AreBytes};
 ghost use Rattle.cd_sector.specs.Consistent.{header_of, user_of};
 ghost use Rattle.cd_sector.specs.Reads.{CanRead, Reads};
@@ -138,6 +138,17 @@ impl Default for Sector {
     {
         Sector::from_bytes([0; SECTOR_SIZE])
     }
+}
+
+/// Writes `part` over the bytes of a sector from place `at` on, which counts from 0.
+pub fn put_part(bytes: &mut [u8; SECTOR_SIZE], at: usize, part: &[u8])
+    requires { at + length part.now ≤ SECTOR_SIZE }
+    ensures inside { (i : ℕ) → i < length part.now
+        → slice_index bytes.new (at + i) ≡ slice_index part.now i }
+    ensures outside { (k : ℕ) → (k < at) ⊎ (at + length part.now ≤ k)
+        → slice_index bytes.new k ≡ slice_index bytes.old k }
+{
+    bytes[at..at + part.len()].copy_from_slice(part);
 }
 
 /// Does nothing: its contract says of an array of bytes that each is below 256, whoever has written them.

@@ -7,7 +7,8 @@ use crate::sector::{SECTOR_SIZE, Sector};
 
 /// The sum of two sectors, byte by byte, in the field of the parity (ECMA-130, Annex A).
 pub fn sum_of(s: &Sector, t: &Sector) -> Sector
-    ensures sum { (i : ℕ) → slice_index result i ≡ bit_xor (slice_index s.now i) (slice_index t.now i) }
+    ensures sum { (i : ℕ)
+        → slice_index result i ≡ bit_xor (slice_index s.now i) (slice_index t.now i) }
     ensures size { length result ≡ length s.now }
     ensures each { AreBytes result }
 {

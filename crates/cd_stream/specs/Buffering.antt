@@ -1,5 +1,6 @@
 -- What a sink that holds bytes back shows beside what every sink does.
-use Rattle.std.specs.Prelude.{◌≡◌, ℕ, ◌-◌, ◌≤◌, Bool, List, [], ◌++◌, drop, if◌then◌else◌, length, nat_le, take, Result, Ok, Err, IsOk}
+use Rattle.std.specs.Prelude.{◌≡◌, ℕ, ◌-◌, ◌≤◌, Bool, List, [], ◌++◌, drop, if◌then◌else◌, length}
+use Rattle.std.specs.Prelude.{nat_le, take, Result, Ok, Err, IsOk}
 use Rattle.std.specs.Io.KnownBytes.{Keeps, append_known}
 use Rattle.cd_stream.specs.Stream.{Outgoing}
 use Rattle.cd_stream.specs.Transfer.{Counts}
@@ -10,8 +11,8 @@ abbrev pub buffers : {S : Type 0} → Buffered S → S
 buffers b = b.inner
 
 -- the bytes that it holds: taken, and not yet passed on
-abbrev pub held : {S : Type 0} → Buffered S → List ℕ
-held b = take (b.end - b.start) (drop b.start b.space.items)
+abbrev pub held_bytes : {S : Type 0} → Buffered S → List ℕ
+held_bytes b = take (b.end - b.start) (drop b.start b.space.items)
 
 -- the largest number of bytes that it holds
 abbrev pub space_of : {S : Type 0} → Buffered S → ℕ
@@ -25,26 +26,34 @@ abbrev pub is_finished : {S : Type 0} → Buffered S → Bool
 is_finished b = b.finished
 
 -- what the sink below has got, and then what it holds; the failures are those below
-abbrev pub buffered_taken : {S : Type 0} → (S → Outgoing) → Buffered S → Outgoing
-buffered_taken seen b = record { written = append_known (seen b.inner).written (held b); failures = (seen b.inner).failures; finished = b.finished }
+abbrev pub buffered_outgoing : {S : Type 0} → (S → Outgoing) → Buffered S → Outgoing
+buffered_outgoing seen b = record {
+  written = append_known (seen b.inner).written (held_bytes b);
+  failures = (seen b.inner).failures;
+  finished = b.finished;
+}
 
--- bytes that found no room are held once the others have been passed on, and more than its space not at all
+-- bytes that found no room are held once the others have been passed on, and more than its space
+-- not at all
 abbrev pub held_alone : {S : Type 0} → Buffered S → List ℕ → List ℕ
 held_alone b bytes = if nat_le (length bytes) (space_of b) then bytes else []
 
 -- what it holds after a write that succeeds
 abbrev pub held_after : {S : Type 0} → Buffered S → List ℕ → List ℕ
-held_after b bytes = if nat_le (length bytes) (room_behind b) then held b ++ bytes else held_alone b bytes
+held_after b bytes =
+    if nat_le (length bytes) (room_behind b) then held_bytes b ++ bytes else held_alone b bytes
 
 -- a write that fits: all of it is held, and nothing reaches the sink below
-pub record HoldsBack {S E : Type 0} (old new : Buffered S) (given : List ℕ) (result : Result ℕ E) : Type 0 where
+pub record HoldsBack {S E : Type 0} (old new : Buffered S) (given : List ℕ)
+    (result : Result ℕ E) : Type 0 where
   pub takes_all : result ≡ Ok (length given)
   pub below : buffers new ≡ buffers old
-  pub held : held new ≡ held old ++ given
+  pub held : held_bytes new ≡ held_bytes old ++ given
 
 -- passing on all that it holds; at Err a front of it has gone, and the rest is still held
-pub record PassesOn {S E : Type 0} (seen : S → Outgoing) (old new : Buffered S) (result : Result (Unit {0}) E) : Type 0 where
-  pub bytes : Keeps (buffered_taken seen old).written (buffered_taken seen new).written
+pub record PassesOn {S E : Type 0} (seen : S → Outgoing) (old new : Buffered S)
+    (result : Result (Unit {0}) E) : Type 0 where
+  pub bytes : Keeps (buffered_outgoing seen old).written (buffered_outgoing seen new).written
   pub count : Counts (seen old.inner).failures (seen new.inner).failures result
   pub finished : new.finished ≡ old.finished
   pub space : space_of new ≡ space_of old

@@ -1,5 +1,6 @@
 -- What the forms of sources and sinks show beside what every source and sink does.
-use Rattle.std.specs.Prelude.{ℕ, ◌+◌, ◌-◌, Bool, ◌&&◌, Some, length, min, nat_eq, replicate, take, List, drop}
+use Rattle.std.specs.Prelude.{ℕ, ◌+◌, ◌-◌, Bool, ◌&&◌, Some, length, min, nat_eq, replicate, take}
+use Rattle.std.specs.Prelude.{List, drop}
 use Rattle.std.specs.Borrow.{GName}
 use Rattle.cd_stream.specs.Stream.{Incoming, Outgoing}
 use Rattle.cd_stream.specs.declared.forms.fail_after.FailAfter.{FailAfter}
@@ -10,24 +11,28 @@ use Rattle.cd_stream.specs.declared.forms.zero_source.ZeroSource.{ZeroSource}
 
 -- ---- a slice as a source, and zeros
 
-abbrev pub slice_to_come : SliceSource → Incoming
-slice_to_come s = record { rest = Some s.rest.now; failures = 0; ended = s.ended }
+abbrev pub slice_incoming : SliceSource → Incoming
+slice_incoming s = record { rest = Some s.rest.now; failures = 0; ended = s.ended }
 
-abbrev pub zeros_to_come : ZeroSource → Incoming
-zeros_to_come s = record { rest = Some (replicate s.left 0); failures = 0; ended = s.ended }
+abbrev pub zeros_incoming : ZeroSource → Incoming
+zeros_incoming s = record { rest = Some (replicate s.left 0); failures = 0; ended = s.ended }
 
 -- ---- a slice as a sink
 
-abbrev pub slice_taken : SliceSink → Outgoing
-slice_taken s = record { written = Some (take s.used s.space.now); failures = s.failures; finished = s.finished }
+abbrev pub slice_outgoing : SliceSink → Outgoing
+slice_outgoing s = record {
+  written = Some (take s.used s.space.now);
+  failures = s.failures;
+  finished = s.finished;
+}
 
 -- what was written, at the front of the slice
 abbrev pub slice_written : SliceSink → List ℕ
 slice_written s = take s.used s.space.now
 
 -- the rest of the slice
-abbrev pub untouched : SliceSink → List ℕ
-untouched s = drop s.used s.space.now
+abbrev pub rest_of_slice : SliceSink → List ℕ
+rest_of_slice s = drop s.used s.space.now
 
 -- the caller's slice that it stands over, by its ghost name
 abbrev pub stands_over : SliceSink → GName
@@ -51,8 +56,8 @@ abbrev pub short_finished : {S : Type 0} → Short S → Bool
 short_finished s = s.finished
 
 -- as what it stands over; whether it is finished is told of its own calls
-abbrev pub short_taken : {S : Type 0} → (S → Outgoing) → Short S → Outgoing
-short_taken seen s = record (seen s.inner) { finished = s.finished }
+abbrev pub short_outgoing : {S : Type 0} → (S → Outgoing) → Short S → Outgoing
+short_outgoing seen s = record (seen s.inner) { finished = s.finished }
 
 -- ---- failing from some byte on
 
@@ -76,8 +81,15 @@ abbrev pub failures_with : {S : Type 0} → ℕ → FailAfter S → ℕ
 failures_with within f = min (within + f.own) 4294967295
 
 -- as what it stands over, with its own failures; once it has failed itself, no read tells the end
-abbrev pub failing_to_come : {S : Type 0} → (S → Incoming) → FailAfter S → Incoming
-failing_to_come seen f = record (seen f.inner) { failures = failures_with (seen f.inner).failures f; ended = (seen f.inner).ended && nat_eq f.own 0 }
+abbrev pub failing_incoming : {S : Type 0} → (S → Incoming) → FailAfter S → Incoming
+failing_incoming seen f = record (seen f.inner) {
+  failures = failures_with (seen f.inner).failures f;
+  ended = (seen f.inner).ended && nat_eq f.own 0;
+}
 
-abbrev pub failing_taken : {S : Type 0} → (S → Outgoing) → FailAfter S → Outgoing
-failing_taken seen f = record { written = (seen f.inner).written; failures = failures_with (seen f.inner).failures f; finished = f.finished }
+abbrev pub failing_outgoing : {S : Type 0} → (S → Outgoing) → FailAfter S → Outgoing
+failing_outgoing seen f = record {
+  written = (seen f.inner).written;
+  failures = failures_with (seen f.inner).failures f;
+  finished = f.finished;
+}

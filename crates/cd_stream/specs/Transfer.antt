@@ -1,5 +1,6 @@
 -- What one read and one write do to a source and a sink.
-use Rattle.std.specs.Prelude.{◌≡◌, ℕ, ◌+◌, ◌<◌, ◌≤◌, Bool, false, true, nat_eq, List, length, take, Result, Ok, Err, is_ok}
+use Rattle.std.specs.Prelude.{◌≡◌, ℕ, ◌+◌, ◌<◌, ◌≤◌, Bool, false, true, nat_eq, List, length, take}
+use Rattle.std.specs.Prelude.{Result, Ok, Err, is_ok}
 use Rattle.std.specs.Io.KnownBytes.{Appends, Consumes, IsAtEnd, Keeps}
 use Rattle.cd_stream.specs.Stream.{Incoming, Outgoing}
 
@@ -10,7 +11,8 @@ Counts old new (Err e) = new ≡ old + 1
 
 -- at Ok(n) the first n bytes of the buffer have come, none only at the end; at Err none has come
 abbrev pub Comes : {E : Type 0} → Incoming → Incoming → List ℕ → Result ℕ E → Type 0
-Comes old new buffer (Ok n) = (n ≤ length buffer) × Consumes old.rest new.rest (take n buffer) × (n ≡ 0 → IsAtEnd new.rest)
+Comes old new buffer (Ok n) =
+    (n ≤ length buffer) × Consumes old.rest new.rest (take n buffer) × (n ≡ 0 → IsAtEnd new.rest)
 Comes old new buffer (Err e) = Keeps old.rest new.rest
 
 -- whether a read answers that no byte came
@@ -20,17 +22,20 @@ tells_end (Err e) = false
 
 -- at Ok(n) the first n bytes, one at least, have gone out; at Err none has
 abbrev pub Goes : {E : Type 0} → Outgoing → Outgoing → List ℕ → Result ℕ E → Type 0
-Goes old new bytes (Ok n) = (0 < n) × (n ≤ length bytes) × Appends old.written new.written (take n bytes)
+Goes old new bytes (Ok n) =
+    (0 < n) × (n ≤ length bytes) × Appends old.written new.written (take n bytes)
 Goes old new bytes (Err e) = Keeps old.written new.written
 
 -- one read
-pub record Reads {E : Type 0} (old new : Incoming) (buffer : List ℕ) (result : Result ℕ E) : Type 0 where
+pub record Reads {E : Type 0} (old new : Incoming) (buffer : List ℕ)
+    (result : Result ℕ E) : Type 0 where
   pub bytes : Comes old new buffer result
   pub count : Counts old.failures new.failures result
   pub ended : new.ended ≡ tells_end result
 
 -- one write
-pub record Writes {E : Type 0} (old new : Outgoing) (given : List ℕ) (result : Result ℕ E) : Type 0 where
+pub record Writes {E : Type 0} (old new : Outgoing) (given : List ℕ)
+    (result : Result ℕ E) : Type 0 where
   pub bytes : Goes old new given result
   pub count : Counts old.failures new.failures result
   pub unfinished : new.finished ≡ false
@@ -41,30 +46,38 @@ pub record Flushes {E : Type 0} (old new : Outgoing) (result : Result (Unit {0})
   pub count : Counts old.failures new.failures result
   pub finished : new.finished ≡ is_ok result
 
--- at Ok(n) the first n bytes of the buffer have come, fewer than it holds only at the end; at Err the bytes of some front
+-- at Ok(n) the first n bytes of the buffer have come, fewer than it holds only at the end; at Err
+-- the bytes of some front
 abbrev pub ComesWhole : {E : Type 0} → Incoming → Incoming → List ℕ → Result ℕ E → Type 0
-ComesWhole old new buffer (Ok n) = (n ≤ length buffer) × Consumes old.rest new.rest (take n buffer) × (n < length buffer → IsAtEnd new.rest)
-ComesWhole old new buffer (Err e) = (n : ℕ) × (n < length buffer) × Consumes old.rest new.rest (take n buffer)
+ComesWhole old new buffer (Ok n) =
+    (n ≤ length buffer) × Consumes old.rest new.rest (take n buffer)
+    × (n < length buffer → IsAtEnd new.rest)
+ComesWhole old new buffer (Err e) =
+    (n : ℕ) × (n < length buffer) × Consumes old.rest new.rest (take n buffer)
 
--- a buffer is left with room only where the last read told the end; where it was filled, or a read failed, the last one
--- did not
+-- a buffer is left with room only where the last read told the end; where it was filled, or a read
+-- failed, the last one did not
 abbrev pub TellsEnd : {E : Type 0} → Incoming → List ℕ → Result ℕ E → Type 0
-TellsEnd new buffer (Ok n) = (n < length buffer → new.ended ≡ true) × (0 < n → n ≡ length buffer → new.ended ≡ false)
+TellsEnd new buffer (Ok n) =
+    (n < length buffer → new.ended ≡ true) × (0 < n → n ≡ length buffer → new.ended ≡ false)
 TellsEnd new buffer (Err e) = new.ended ≡ false
 
 -- at Ok all the bytes have gone out; at Err a front of them, without the last
 abbrev pub GoesWhole : {X E : Type 0} → Outgoing → Outgoing → List ℕ → Result X E → Type 0
 GoesWhole old new bytes (Ok x) = Appends old.written new.written bytes
-GoesWhole old new bytes (Err e) = (n : ℕ) × (n < length bytes) × Appends old.written new.written (take n bytes)
+GoesWhole old new bytes (Err e) =
+    (n : ℕ) × (n < length bytes) × Appends old.written new.written (take n bytes)
 
 -- as many reads as it takes
-pub record Fills {E : Type 0} (old new : Incoming) (buffer : List ℕ) (result : Result ℕ E) : Type 0 where
+pub record Fills {E : Type 0} (old new : Incoming) (buffer : List ℕ)
+    (result : Result ℕ E) : Type 0 where
   pub bytes : ComesWhole old new buffer result
   pub count : Counts old.failures new.failures result
   pub ended : TellsEnd new buffer result
 
 -- as many writes as it takes
-pub record Sends {X E : Type 0} (old new : Outgoing) (given : List ℕ) (result : Result X E) : Type 0 where
+pub record Sends {X E : Type 0} (old new : Outgoing) (given : List ℕ)
+    (result : Result X E) : Type 0 where
   pub bytes : GoesWhole old new given result
   pub count : Counts old.failures new.failures result
   pub unfinished : 0 < length given → new.finished ≡ false

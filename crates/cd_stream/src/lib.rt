@@ -1,4 +1,5 @@
-//! Where bytes come from and where they go: sources and sinks that count their failures, and a line of a text.
+//! Where bytes come from and where they go: sources and sinks that count their failures, and a line
+//! of a text.
 #![tactic(auto)]
 
 mod forms;

@@ -6,11 +6,12 @@ use arrayvec::ArrayVec;
 use itoa::Buffer;
 use std::marker::Model;
 
-/// The largest number of bytes in a line.
+/// The largest number of bytes in a line. The longest that is written tells where old bytes differ:
+/// 51 bytes of text and three numbers of up to ten digits.
 pub const LINE_SIZE: usize = 96;
 
 /// The bytes of a line that is being made. A contract sees their list.
-#[derive(Drop)]
+#[derive(Debug, Drop)]
 pub struct Line {
     bytes: ArrayVec<u8, LINE_SIZE>,
 }
@@ -36,7 +37,8 @@ impl Line {
         }
     }
 
-    /// Puts a text behind the line, for which there is room.
+    /// Puts a text behind the line, for which there is room: both together have at most
+    /// [`LINE_SIZE`] bytes.
     pub fn push_text(&mut self, text: &[u8])
         requires { length self.old + length text.now ≤ LINE_SIZE }
         ensures { self.new ≡ self.old ++ text.now }
@@ -44,7 +46,7 @@ impl Line {
         let _ = self.bytes.try_extend_from_slice(text);
     }
 
-    /// Puts a number in decimal behind the line, for which there is room.
+    /// Puts a number in decimal behind the line, which has room for ten digits.
     pub fn push_number(&mut self, number: u32)
         requires { length self.old + 10 ≤ LINE_SIZE }
         ensures line { self.new ≡ self.old ++ decimal number }

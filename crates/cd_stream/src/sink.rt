@@ -1,11 +1,14 @@
 //! Where bytes go.
 
 ghost use Rattle.std.specs.Prelude.{◌≡◌, ◌<◌, length};
-ghost use Rattle.cd_stream.specs.Stream.{Outgoing};
+ghost use Rattle.cd_stream.specs.Stream.{MayCount, Outgoing};
 ghost use Rattle.cd_stream.specs.Transfer.{Flushes, Writes};
 
+use thiserror::Error;
+
 /// A write or a flush failed. The sink has counted it.
-#[derive(Clone, Copy, Debug, PartialEq, Eq)]
+#[derive(Clone, Copy, Debug, PartialEq, Eq, Error)]
+#[error("a write or a flush failed")]
 pub struct SinkFailed;
 
 /// Takes bytes, one behind the other. Each failed write or flush is counted.
@@ -13,15 +16,25 @@ pub trait Sink {
     // What a contract sees of it.
     ghost seen: { Self → Outgoing };
 
-    /// Takes some bytes from the front of `bytes`, which are not none, and answers how many: at least 1.
+    /// Takes some bytes from the front of `bytes`, which are not none, and answers how many: at
+    /// least 1.
+    ///
+    /// # Errors
+    ///
+    /// [`SinkFailed`] where the write failed: no byte has gone out, and one failure more is
+    /// counted.
     fn write(&mut self, bytes: &[u8]) -> Result<usize, SinkFailed>
         requires some { 0 < length bytes.now }
-        requires countable { (seen self.old).failures < 4294967295 }
+        requires countable { MayCount (seen self.old).failures }
         ensures { Writes (seen self.old) (seen self.new) bytes.now result };
 
     /// Passes on all that it still holds back.
+    ///
+    /// # Errors
+    ///
+    /// [`SinkFailed`] where a write or the flush failed; one failure more is counted.
     fn finish(&mut self) -> Result<(), SinkFailed>
-        requires { (seen self.old).failures < 4294967295 }
+        requires { MayCount (seen self.old).failures }
         ensures { Flushes (seen self.old) (seen self.new) result };
 
     /// Whether the last call of `write` and `finish` was a `finish` that succeeded.

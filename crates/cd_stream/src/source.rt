@@ -1,11 +1,14 @@
 //! Where bytes come from.
 
 ghost use Rattle.std.specs.Prelude.{◌≡◌, ◌<◌, length};
-ghost use Rattle.cd_stream.specs.Stream.{Incoming};
+ghost use Rattle.cd_stream.specs.Stream.{Incoming, MayCount};
 ghost use Rattle.cd_stream.specs.Transfer.{Reads};
 
+use thiserror::Error;
+
 /// A read failed. The source has counted it.
-#[derive(Clone, Copy, Debug, PartialEq, Eq)]
+#[derive(Clone, Copy, Debug, PartialEq, Eq, Error)]
+#[error("a read failed")]
 pub struct SourceFailed;
 
 /// Bytes that come once, from front to back. Each failed read is counted.
@@ -13,10 +16,15 @@ pub trait Source {
     // What a contract sees of it.
     ghost seen: { Self → Incoming };
 
-    /// Reads some bytes to the front of `into`, which is not empty, and answers how many: 0 only at the end.
+    /// Reads some bytes to the front of `into`, which is not empty, and answers how many: 0 only at
+    /// the end.
+    ///
+    /// # Errors
+    ///
+    /// [`SourceFailed`] where the read failed: no byte has come, and one failure more is counted.
     fn read(&mut self, into: &mut [u8]) -> Result<usize, SourceFailed>
         requires room { 0 < length into.old }
-        requires countable { (seen self.old).failures < 4294967295 }
+        requires countable { MayCount (seen self.old).failures }
         ensures { Reads (seen self.old) (seen self.new) into.new result };
 
     /// How many reads have failed.

@@ -1,10 +1,9 @@
 //! cdpatch lists, audits and patches raw CD images.
 #![tactic(auto)]
 
-mod program;
-
+use cd_jobs::run_program;
 use std::process::ExitCode;
 
 fn main(rt: HostRuntime) -> ExitCode {
-    ExitCode::from(program::run(&rt))
+    ExitCode::from(run_program(&rt))
 }

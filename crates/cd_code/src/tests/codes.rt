@@ -1,3 +1,5 @@
+//! Worked values of the field, of syndromes and of parity, and the laws.
+
 use crate::{
     alpha_power, edc_is_unique, edc_of_sum, pair_change, pair_from, pair_is_unique, parity_pair,
     product_goes_by_bits, sum_goes_by_bits, syndromes, times,

@@ -1,3 +1,5 @@
+//! Worked EDC words, and the EDC against a division bit by bit.
+
 use crate::edc_of;
 
 #[test]

@@ -1,3 +1,5 @@
+//! Sums of rows and columns against the syndromes of each column.
+
 ghost use Rattle.std.specs.Prelude.{◌<◌};
 
 use crate::{ColumnSums, column_sums, row_sums, syndromes, times};

@@ -1,3 +1,5 @@
+//! Worked addresses of blocks.
+
 use crate::{MAX_BLOCK, address_of};
 
 #[test]

@@ -1,3 +1,5 @@
+//! What is reported of worked sectors, and the laws.
+
 ghost use Rattle.std.specs.Prelude.{◌<◌};
 
 use crate::tests::sectors::zeros_at;

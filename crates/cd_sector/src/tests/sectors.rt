@@ -1,7 +1,7 @@
 //! Sectors that several tests start from.
 ghost use Rattle.std.specs.Prelude.{◌<◌};
 
-use crate::{Sector, SectorKind, encode, fill_parity, kind};
+use crate::{Sector, SectorKind, edc_bytes, encode, fill_parity, kind, put_edc, stored_edc};
 use std::process::Abort;
 
 /// The consistent sector of the block with this address byte, its user data all 00.
@@ -56,6 +56,15 @@ fn parts_of_a_sector(rt: HostRuntime) {
     assert_eq!(rt; s.user()[0], s.byte(16));
     assert_eq!(rt; s.user()[2047], s.byte(2063));
     assert_eq!(rt; Sector::from_bytes(*s.bytes()), s);
+}
+
+#[test]
+fn the_edc_field(rt: HostRuntime) {
+    assert_eq!(rt; edc_bytes(0x9001_9000), [0x00, 0x90, 0x01, 0x90]);
+    let mut bytes = [0x00; 2352];
+    put_edc(&mut bytes, 0x9001_9000);
+    assert_eq!(rt; stored_edc(&bytes), 0x9001_9000);
+    assert_eq!(rt; Sector::from_bytes(bytes).byte(2066), 0x01);
 }
 
 #[test]

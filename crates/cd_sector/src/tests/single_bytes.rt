@@ -62,8 +62,8 @@ fn single_bytes_in_their_words(rt: HostRuntime) {
                 );
                 let sums = diagonal_sums(&bytes);
                 let wanted = diagonals_of_one(plane, n, byte);
-                assert_eq!(rt; sums.plain[..52], wanted.plain[..52], "byte {place}");
-                assert_eq!(rt; sums.weighted[..52], wanted.weighted[..52], "byte {place}");
+                assert_eq!(rt; sums.plain[..], wanted.plain[..52], "byte {place}");
+                assert_eq!(rt; sums.weighted[..], wanted.weighted[..52], "byte {place}");
                 bytes[place] = 0;
             }
         }

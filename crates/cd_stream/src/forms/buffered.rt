@@ -1,14 +1,16 @@
 //! A sink that holds bytes back.
 
 ghost use Rattle.std.specs.Prelude.{◌≡◌, ◌+◌, ◌≤◌, ◌++◌, drop, length, take};
+ghost use Rattle.cd_stream.specs.Stream.{MayCount};
 
 use crate::sink::{Sink, SinkFailed};
 
-/// Passes bytes on to another sink by the buffer: where a write finds no room, and at `finish`. Its space is as long as
-/// the bytes that it may hold back, so with a space of no bytes it passes on each write at once.
+/// Passes bytes on to another sink by the buffer: where a write finds no room, and at `finish`. Its
+/// space is as long as the bytes that it may hold back, so with a space of no bytes it passes on
+/// each write at once.
 ///
-/// A write or flush below that fails is a failure of the call that made it, and is not made again but by a further
-/// call. What it still holds when it is dropped is lost.
+/// A write or flush below that fails is a failure of the call that made it, and is not made again
+/// but by a further call. What it still holds when it is dropped is lost.
 #[derive(Debug, Drop)]
 pub struct Buffered<S> {
     inner: S,
@@ -23,16 +25,18 @@ pub struct Buffered<S> {
 
 impl<S: Sink> Buffered<S> {
     ghost use Rattle.std.specs.Prelude.{◌≡◌, ◌+◌, ◌<◌, ◌≤◌, [], ◌++◌, IfOk, false, length};
-    ghost use Rattle.cd_stream.specs.Buffering.{PassesOn, buffered_taken, buffers, held, held_alone, is_finished, room_behind, space_of};
+    ghost use Rattle.cd_stream.specs.Buffering.{PassesOn, buffered_outgoing, buffers, held_bytes};
+    ghost use Rattle.cd_stream.specs.Buffering.{held_alone, is_finished, room_behind, space_of};
     ghost use Rattle.cd_stream.specs.Transfer.{Writes};
 
     /// Stands over `inner`, and holds back at most as many bytes as `space` has.
     pub fn new(inner: S, space: Vec<u8>) -> Self
-        ensures seen { ⟦<Buffered<S> as Sink>⟧.seen result ≡ record (S.seen inner) { finished = false } }
+        ensures seen { ⟦<Buffered<S> as Sink>⟧.seen result
+            ≡ record (S.seen inner) { finished = false } }
         ensures over { buffers result ≡ inner }
         ensures space { space_of result ≡ length space.items }
         ensures room { room_behind result ≡ length space.items }
-        ensures empty { held result ≡ [] }
+        ensures empty { held_bytes result ≡ [] }
     {
         Buffered {
             inner,
@@ -46,7 +50,7 @@ impl<S: Sink> Buffered<S> {
     /// Puts `bytes`, for which there is room, after what it holds.
     fn hold(&mut self, bytes: &[u8])
         requires { length bytes.now ≤ room_behind self.old }
-        ensures held { held self.new ≡ held self.old ++ bytes.now }
+        ensures held { held_bytes self.new ≡ held_bytes self.old ++ bytes.now }
         ensures inner { buffers self.new ≡ buffers self.old }
         ensures space { space_of self.new ≡ space_of self.old }
         ensures room { room_behind self.new + length bytes.now ≡ room_behind self.old }
@@ -56,11 +60,12 @@ impl<S: Sink> Buffered<S> {
         self.end += bytes.len();
     }
 
-    /// Passes on all that it holds. Where a write fails, it still holds what that write and those after it had to pass.
+    /// Passes on all that it holds. Where a write fails, it still holds what that write and those
+    /// after it had to pass.
     #[cold]
     #[inline(never)]
     fn pass_on(&mut self) -> Result<(), SinkFailed>
-        requires { (S.seen (buffers self.old)).failures < 4294967295 }
+        requires { MayCount (S.seen (buffers self.old)).failures }
         ensures { PassesOn S.seen self.old self.new result }
     {
         while self.start < self.end {
@@ -71,17 +76,18 @@ impl<S: Sink> Buffered<S> {
         Ok(())
     }
 
-    /// Takes bytes for which there was no room: passes on what it holds, and holds them then. More than its space go to
-    /// the sink below.
+    /// Takes bytes for which there was no room: passes on what it holds, and holds them then. More
+    /// than its space go to the sink below.
     #[cold]
     #[inline(never)]
     fn write_on(&mut self, bytes: &[u8]) -> Result<usize, SinkFailed>
         requires some { 0 < length bytes.now }
         requires unfinished { is_finished self.old ≡ false }
-        requires countable { (S.seen (buffers self.old)).failures < 4294967295 }
-        ensures writes { Writes (buffered_taken S.seen self.old) (buffered_taken S.seen self.new) bytes.now result }
+        requires countable { MayCount (S.seen (buffers self.old)).failures }
+        ensures writes { Writes (buffered_outgoing S.seen self.old)
+            (buffered_outgoing S.seen self.new) bytes.now result }
         ensures space { space_of self.new ≡ space_of self.old }
-        ensures held { IfOk result (λ _. held self.new ≡ held_alone self.old bytes.now) }
+        ensures held { IfOk result (λ _. held_bytes self.new ≡ held_alone self.old bytes.now) }
     {
         self.pass_on()?;
         if bytes.len() > self.space.len() {
@@ -95,26 +101,36 @@ impl<S: Sink> Buffered<S> {
 /// Writes `bytes` over those of `space` from `place` on.
 fn put_at(space: &mut [u8], place: usize, bytes: &[u8])
     requires { place + length bytes.now ≤ length space.old }
-    ensures { space.new ≡ take place space.old ++ bytes.now ++ drop (place + length bytes.now) space.old }
+    ensures { space.new
+        ≡ take place space.old ++ bytes.now ++ drop (place + length bytes.now) space.old }
 {
     space[place..place + bytes.len()].copy_from_slice(bytes);
 }
 
 impl<S: Sink> Sink for Buffered<S> {
-    ghost use Rattle.std.specs.Prelude.{◌≡◌, ◌-◌, ◌<◌, ◌≤◌, [], IfOk, IsOk, drop, length, take, true};
+    ghost use Rattle.std.specs.Prelude.{◌≡◌, ◌-◌, ◌<◌, ◌≤◌, [], IfOk, IsOk, drop, length, take};
+    ghost use Rattle.std.specs.Prelude.{true};
     ghost use Rattle.std.specs.Io.KnownBytes.{append_known};
-    ghost use Rattle.cd_stream.specs.Buffering.{HoldsBack, buffered_taken, buffers, held, held_after, room_behind, space_of};
+    ghost use Rattle.cd_stream.specs.Buffering.{HoldsBack, buffered_outgoing, buffers, held_bytes};
+    ghost use Rattle.cd_stream.specs.Buffering.{held_after, room_behind, space_of};
     ghost use Rattle.cd_stream.specs.Transfer.{Flushes, Writes};
 
-    ghost seen = { λ s. record { written = append_known (S.seen s.inner).written (take (s.end - s.start) (drop s.start s.space.items)); failures = (S.seen s.inner).failures; finished = s.finished } };
+    ghost seen = { λ s. record {
+      written = append_known (S.seen s.inner).written
+          (take (s.end - s.start) (drop s.start s.space.items));
+      failures = (S.seen s.inner).failures;
+      finished = s.finished;
+    } };
 
     fn write(&mut self, bytes: &[u8]) -> Result<usize, SinkFailed>
         requires some { 0 < length bytes.now }
-        requires countable { (buffered_taken S.seen self.old).failures < 4294967295 }
-        ensures writes { Writes (buffered_taken S.seen self.old) (buffered_taken S.seen self.new) bytes.now result }
-        ensures fits { length bytes.now ≤ room_behind self.old → HoldsBack self.old self.new bytes.now result }
-        ensures held { IfOk result (λ _. held self.new ≡ held_after self.old bytes.now) }
-        ensures few { length (held self.new) ≤ space_of self.new }
+        requires countable { MayCount (buffered_outgoing S.seen self.old).failures }
+        ensures writes { Writes (buffered_outgoing S.seen self.old)
+            (buffered_outgoing S.seen self.new) bytes.now result }
+        ensures fits { length bytes.now ≤ room_behind self.old
+            → HoldsBack self.old self.new bytes.now result }
+        ensures held { IfOk result (λ _. held_bytes self.new ≡ held_after self.old bytes.now) }
+        ensures few { length (held_bytes self.new) ≤ space_of self.new }
         ensures space { space_of self.new ≡ space_of self.old }
     {
         self.finished = false;
@@ -126,12 +142,13 @@ impl<S: Sink> Sink for Buffered<S> {
     }
 
     fn finish(&mut self) -> Result<(), SinkFailed>
-        requires { (buffered_taken S.seen self.old).failures < 4294967295 }
-        ensures flushes { Flushes (buffered_taken S.seen self.old) (buffered_taken S.seen self.new) result }
+        requires { MayCount (buffered_outgoing S.seen self.old).failures }
+        ensures flushes { Flushes (buffered_outgoing S.seen self.old)
+            (buffered_outgoing S.seen self.new) result }
         ensures below { IsOk result → (S.seen (buffers self.new)).finished ≡ true }
-        ensures empty { IsOk result → held self.new ≡ [] }
+        ensures empty { IsOk result → held_bytes self.new ≡ [] }
         ensures room { IsOk result → room_behind self.new ≡ space_of self.new }
-        ensures few { length (held self.new) ≤ space_of self.new }
+        ensures few { length (held_bytes self.new) ≤ space_of self.new }
         ensures space { space_of self.new ≡ space_of self.old }
     {
         self.finished = false;

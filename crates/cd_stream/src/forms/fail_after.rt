@@ -1,6 +1,7 @@
 //! A source or a sink that fails from some byte on.
 
 ghost use Rattle.std.specs.Prelude.{◌≡◌, ◌<◌};
+ghost use Rattle.cd_stream.specs.Stream.{MayCount};
 
 use crate::sink::{Sink, SinkFailed};
 use crate::source::{Source, SourceFailed};
@@ -17,7 +18,8 @@ pub struct FailAfter<S> {
 
 impl<S> FailAfter<S> {
     ghost use Rattle.std.specs.Prelude.{◌≡◌, false};
-    ghost use Rattle.cd_stream.specs.Forms.{fail_after_finished, fails_over, own_failures, still_passes};
+    ghost use Rattle.cd_stream.specs.Forms.{fail_after_finished, fails_over, own_failures};
+    ghost use Rattle.cd_stream.specs.Forms.{still_passes};
 
     /// Stands over `inner`, and passes `count` bytes.
     pub fn new(inner: S, count: u64) -> Self
@@ -43,18 +45,25 @@ impl<S> FailAfter<S> {
 }
 
 impl<S: Source> Source for FailAfter<S> {
-    ghost use Rattle.std.specs.Prelude.{◌≡◌, ◌+◌, ◌<◌, ◌&&◌, IfOk, IsErr, OnErr, length, min, nat_eq};
-    ghost use Rattle.cd_stream.specs.Forms.{failing_to_come, fails_over, still_passes};
+    ghost use Rattle.std.specs.Prelude.{◌≡◌, ◌+◌, ◌<◌, ◌&&◌, IfOk, IsErr, OnErr, length, min};
+    ghost use Rattle.std.specs.Prelude.{nat_eq};
+    ghost use Rattle.cd_stream.specs.Forms.{failing_incoming, fails_over, still_passes};
     ghost use Rattle.cd_stream.specs.Transfer.{Counts, Reads};
 
-    ghost seen = { λ s. record { rest = (S.seen s.inner).rest; failures = min ((S.seen s.inner).failures + s.own) 4294967295; ended = (S.seen s.inner).ended && nat_eq s.own 0 } };
+    ghost seen = { λ s. record {
+      rest = (S.seen s.inner).rest;
+      failures = min ((S.seen s.inner).failures + s.own) 4294967295;
+      ended = (S.seen s.inner).ended && nat_eq s.own 0;
+    } };
 
     fn read(&mut self, into: &mut [u8]) -> Result<usize, SourceFailed>
         requires room { 0 < length into.old }
-        requires countable { (failing_to_come S.seen self.old).failures < 4294967295 }
-        ensures reads { Reads (failing_to_come S.seen self.old) (failing_to_come S.seen self.new) into.new result }
+        requires countable { MayCount (failing_incoming S.seen self.old).failures }
+        ensures reads { Reads (failing_incoming S.seen self.old) (failing_incoming S.seen self.new)
+            into.new result }
         ensures limit { still_passes self.old ≡ 0 → IsErr result }
-        ensures within { 0 < still_passes self.old → Counts (S.seen (fails_over self.old)).failures (S.seen (fails_over self.new)).failures result }
+        ensures within { 0 < still_passes self.old → Counts (S.seen (fails_over self.old)).failures
+            (S.seen (fails_over self.new)).failures result }
         ensures left { IfOk result (λ n. still_passes self.new + n ≡ still_passes self.old) }
         ensures left_on_err { OnErr result (still_passes self.new ≡ still_passes self.old) }
     {
@@ -75,17 +84,23 @@ impl<S: Source> Source for FailAfter<S> {
 
 impl<S: Sink> Sink for FailAfter<S> {
     ghost use Rattle.std.specs.Prelude.{◌≡◌, ◌+◌, ◌<◌, IfOk, IsErr, OnErr, length, min};
-    ghost use Rattle.cd_stream.specs.Forms.{failing_taken, fails_over, still_passes};
+    ghost use Rattle.cd_stream.specs.Forms.{failing_outgoing, fails_over, still_passes};
     ghost use Rattle.cd_stream.specs.Transfer.{Counts, Flushes, Writes};
 
-    ghost seen = { λ s. record { written = (S.seen s.inner).written; failures = min ((S.seen s.inner).failures + s.own) 4294967295; finished = s.finished } };
+    ghost seen = { λ s. record {
+      written = (S.seen s.inner).written;
+      failures = min ((S.seen s.inner).failures + s.own) 4294967295;
+      finished = s.finished;
+    } };
 
     fn write(&mut self, bytes: &[u8]) -> Result<usize, SinkFailed>
         requires some { 0 < length bytes.now }
-        requires countable { (failing_taken S.seen self.old).failures < 4294967295 }
-        ensures writes { Writes (failing_taken S.seen self.old) (failing_taken S.seen self.new) bytes.now result }
+        requires countable { MayCount (failing_outgoing S.seen self.old).failures }
+        ensures writes { Writes (failing_outgoing S.seen self.old)
+            (failing_outgoing S.seen self.new) bytes.now result }
         ensures limit { still_passes self.old ≡ 0 → IsErr result }
-        ensures within { 0 < still_passes self.old → Counts (S.seen (fails_over self.old)).failures (S.seen (fails_over self.new)).failures result }
+        ensures within { 0 < still_passes self.old → Counts (S.seen (fails_over self.old)).failures
+            (S.seen (fails_over self.new)).failures result }
         ensures left { IfOk result (λ n. still_passes self.new + n ≡ still_passes self.old) }
         ensures left_on_err { OnErr result (still_passes self.new ≡ still_passes self.old) }
     {
@@ -101,10 +116,12 @@ impl<S: Sink> Sink for FailAfter<S> {
     }
 
     fn finish(&mut self) -> Result<(), SinkFailed>
-        requires { (failing_taken S.seen self.old).failures < 4294967295 }
-        ensures flushes { Flushes (failing_taken S.seen self.old) (failing_taken S.seen self.new) result }
+        requires { MayCount (failing_outgoing S.seen self.old).failures }
+        ensures flushes { Flushes (failing_outgoing S.seen self.old)
+            (failing_outgoing S.seen self.new) result }
         ensures limit { still_passes self.old ≡ 0 → IsErr result }
-        ensures within { 0 < still_passes self.old → Flushes (S.seen (fails_over self.old)) (S.seen (fails_over self.new)) result }
+        ensures within { 0 < still_passes self.old
+            → Flushes (S.seen (fails_over self.old)) (S.seen (fails_over self.new)) result }
         ensures left { still_passes self.new ≡ still_passes self.old }
     {
         self.finished = false;

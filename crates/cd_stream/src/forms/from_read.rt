@@ -16,7 +16,8 @@ pub struct FromRead<R> {
 impl<R: Read> FromRead<R> {
     /// Stands over `reader`.
     pub fn new(reader: R) -> Self
-        ensures { ⟦<FromRead<R> as Source>⟧.seen result ≡ record { rest = R.remaining reader; failures = 0; ended = false } }
+        ensures { ⟦<FromRead<R> as Source>⟧.seen result
+            ≡ record { rest = R.remaining reader; failures = 0; ended = false } }
     {
         FromRead {
             reader,
@@ -27,7 +28,11 @@ impl<R: Read> FromRead<R> {
 }
 
 impl<R: Read> Source for FromRead<R> {
-    ghost seen = { λ s. record { rest = R.remaining s.reader; failures = s.failures; ended = s.ended } };
+    ghost seen = { λ s. record {
+      rest = R.remaining s.reader;
+      failures = s.failures;
+      ended = s.ended;
+    } };
 
     fn read(&mut self, into: &mut [u8]) -> Result<usize, SourceFailed> {
         match self.reader.read(into) {

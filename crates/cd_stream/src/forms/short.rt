@@ -1,11 +1,13 @@
 //! A source or a sink that moves few bytes a call.
 
 ghost use Rattle.std.specs.Prelude.{◌<◌};
+ghost use Rattle.cd_stream.specs.Stream.{MayCount};
 
 use crate::sink::{Sink, SinkFailed};
 use crate::source::{Source, SourceFailed};
 
-/// Passes at most a number of bytes in each call. Its count of failures is that of what it stands over.
+/// Passes at most a number of bytes in each call. Its count of failures is that of what it stands
+/// over.
 #[derive(Debug, Drop)]
 pub struct Short<S> {
     inner: S,
@@ -48,8 +50,9 @@ impl<S: Source> Source for Short<S> {
 
     fn read(&mut self, into: &mut [u8]) -> Result<usize, SourceFailed>
         requires room { 0 < length into.old }
-        requires countable { (S.seen (shortens self.old)).failures < 4294967295 }
-        ensures reads { Reads (S.seen (shortens self.old)) (S.seen (shortens self.new)) into.new result }
+        requires countable { MayCount (S.seen (shortens self.old)).failures }
+        ensures reads { Reads (S.seen (shortens self.old)) (S.seen (shortens self.new))
+            into.new result }
         ensures few { IfOk result (λ n. n ≤ passes_at_most self.old) }
         ensures most { passes_at_most self.new ≡ passes_at_most self.old }
     {
@@ -64,15 +67,20 @@ impl<S: Source> Source for Short<S> {
 
 impl<S: Sink> Sink for Short<S> {
     ghost use Rattle.std.specs.Prelude.{◌≡◌, ◌<◌, ◌≤◌, IfOk, length};
-    ghost use Rattle.cd_stream.specs.Forms.{passes_at_most, short_taken, shortens};
+    ghost use Rattle.cd_stream.specs.Forms.{passes_at_most, short_outgoing, shortens};
     ghost use Rattle.cd_stream.specs.Transfer.{Flushes, Writes};
 
-    ghost seen = { λ s. record { written = (S.seen s.inner).written; failures = (S.seen s.inner).failures; finished = s.finished } };
+    ghost seen = { λ s. record {
+      written = (S.seen s.inner).written;
+      failures = (S.seen s.inner).failures;
+      finished = s.finished;
+    } };
 
     fn write(&mut self, bytes: &[u8]) -> Result<usize, SinkFailed>
         requires some { 0 < length bytes.now }
-        requires countable { (short_taken S.seen self.old).failures < 4294967295 }
-        ensures writes { Writes (short_taken S.seen self.old) (short_taken S.seen self.new) bytes.now result }
+        requires countable { MayCount (short_outgoing S.seen self.old).failures }
+        ensures writes { Writes (short_outgoing S.seen self.old) (short_outgoing S.seen self.new)
+            bytes.now result }
         ensures few { IfOk result (λ n. n ≤ passes_at_most self.old) }
         ensures most { passes_at_most self.new ≡ passes_at_most self.old }
     {
@@ -82,8 +90,9 @@ impl<S: Sink> Sink for Short<S> {
     }
 
     fn finish(&mut self) -> Result<(), SinkFailed>
-        requires { (short_taken S.seen self.old).failures < 4294967295 }
-        ensures flushes { Flushes (short_taken S.seen self.old) (short_taken S.seen self.new) result }
+        requires { MayCount (short_outgoing S.seen self.old).failures }
+        ensures flushes { Flushes (short_outgoing S.seen self.old) (short_outgoing S.seen self.new)
+            result }
         ensures within { Flushes (S.seen (shortens self.old)) (S.seen (shortens self.new)) result }
         ensures most { passes_at_most self.new ≡ passes_at_most self.old }
     {

@@ -1,6 +1,7 @@
 //! Memory as a sink.
 
 ghost use Rattle.std.specs.Prelude.{◌≡◌, ◌≤◌, [], Some, false, length, take};
+ghost use Rattle.cd_stream.specs.Stream.{MayCount};
 
 use crate::sink::{Sink, SinkFailed};
 
@@ -16,13 +17,14 @@ pub struct SliceSink<'a> {
 
 impl<'a> SliceSink<'a> {
     ghost use Rattle.std.specs.Prelude.{◌≡◌, [], Some, false, length};
-    ghost use Rattle.cd_stream.specs.Forms.{room_of, slice_written, stands_over, untouched};
+    ghost use Rattle.cd_stream.specs.Forms.{room_of, slice_written, stands_over, rest_of_slice};
 
     /// Stands over `space`, from its front.
     pub fn new(space: &'a mut [u8]) -> Self
-        ensures seen { ⟦<SliceSink<'a> as Sink>⟧.seen result ≡ record { written = Some []; failures = 0; finished = false } }
+        ensures seen { ⟦<SliceSink<'a> as Sink>⟧.seen result
+            ≡ record { written = Some []; failures = 0; finished = false } }
         ensures room { room_of result ≡ length space.entry.now }
-        ensures rest { untouched result ≡ space.entry.now }
+        ensures rest { rest_of_slice result ≡ space.entry.now }
         ensures same_slice { stands_over result ≡ space.entry.ghost_name }
     {
         SliceSink {
@@ -42,21 +44,27 @@ impl<'a> SliceSink<'a> {
 }
 
 impl Sink for SliceSink<'_> {
-    ghost use Rattle.std.specs.Prelude.{◌≡◌, ◌+◌, ◌<◌, ◌↔◌, IfOk, IsOk, OnErr, Some, drop, false, is_ok, length, min, take};
-    ghost use Rattle.cd_stream.specs.Forms.{room_of, slice_taken, stands_over, untouched};
+    ghost use Rattle.std.specs.Prelude.{◌≡◌, ◌+◌, ◌<◌, ◌↔◌, IfOk, IsOk, OnErr, Some, drop, false};
+    ghost use Rattle.std.specs.Prelude.{is_ok, length, min, take};
+    ghost use Rattle.cd_stream.specs.Forms.{room_of, slice_outgoing, stands_over, rest_of_slice};
     ghost use Rattle.cd_stream.specs.Transfer.{Flushes, Writes};
 
-    ghost seen = { λ s. record { written = Some (take s.used s.space.now); failures = s.failures; finished = s.finished } };
+    ghost seen = { λ s. record {
+      written = Some (take s.used s.space.now);
+      failures = s.failures;
+      finished = s.finished;
+    } };
 
     fn write(&mut self, bytes: &[u8]) -> Result<usize, SinkFailed>
         requires some { 0 < length bytes.now }
-        requires countable { (slice_taken self.old).failures < 4294967295 }
-        ensures writes { Writes (slice_taken self.old) (slice_taken self.new) bytes.now result }
+        requires countable { MayCount (slice_outgoing self.old).failures }
+        ensures writes { Writes (slice_outgoing self.old) (slice_outgoing self.new)
+            bytes.now result }
         ensures room { IsOk result ↔ (0 < room_of self.old) }
         ensures taken { IfOk result (λ n. n ≡ min (length bytes.now) (room_of self.old)) }
         ensures room_left { IfOk result (λ n. room_of self.new + n ≡ room_of self.old) }
-        ensures rest { IfOk result (λ n. untouched self.new ≡ drop n (untouched self.old)) }
-        ensures rest_left { OnErr result (untouched self.new ≡ untouched self.old) }
+        ensures rest { IfOk result (λ n. rest_of_slice self.new ≡ drop n (rest_of_slice self.old)) }
+        ensures rest_left { OnErr result (rest_of_slice self.new ≡ rest_of_slice self.old) }
         ensures same_slice { stands_over self.new ≡ stands_over self.old }
     {
         self.finished = false;
@@ -72,11 +80,11 @@ impl Sink for SliceSink<'_> {
     }
 
     fn finish(&mut self) -> Result<(), SinkFailed>
-        requires { (slice_taken self.old).failures < 4294967295 }
-        ensures flushes { Flushes (slice_taken self.old) (slice_taken self.new) result }
+        requires { MayCount (slice_outgoing self.old).failures }
+        ensures flushes { Flushes (slice_outgoing self.old) (slice_outgoing self.new) result }
         ensures never_fails { IsOk result }
         ensures room { room_of self.new ≡ room_of self.old }
-        ensures rest { untouched self.new ≡ untouched self.old }
+        ensures rest { rest_of_slice self.new ≡ rest_of_slice self.old }
         ensures same_slice { stands_over self.new ≡ stands_over self.old }
     {
         self.finished = true;

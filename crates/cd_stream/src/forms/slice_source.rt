@@ -14,7 +14,8 @@ pub struct SliceSource<'a> {
 impl<'a> SliceSource<'a> {
     /// Stands over `bytes`.
     pub fn new(bytes: &'a [u8]) -> Self
-        ensures { ⟦<SliceSource<'a> as Source>⟧.seen result ≡ record { rest = Some bytes.entry.now; failures = 0; ended = false } }
+        ensures { ⟦<SliceSource<'a> as Source>⟧.seen result
+            ≡ record { rest = Some bytes.entry.now; failures = 0; ended = false } }
     {
         SliceSource {
             rest: bytes,
@@ -25,14 +26,14 @@ impl<'a> SliceSource<'a> {
 
 impl Source for SliceSource<'_> {
     ghost use Rattle.std.specs.Prelude.{◌<◌, IsOk, Some, length};
-    ghost use Rattle.cd_stream.specs.Forms.{slice_to_come};
+    ghost use Rattle.cd_stream.specs.Forms.{slice_incoming};
     ghost use Rattle.cd_stream.specs.Transfer.{Reads};
 
     ghost seen = { λ s. record { rest = Some s.rest.now; failures = 0; ended = s.ended } };
 
     fn read(&mut self, into: &mut [u8]) -> Result<usize, SourceFailed>
         requires { 0 < length into.old }
-        ensures reads { Reads (slice_to_come self.old) (slice_to_come self.new) into.new result }
+        ensures reads { Reads (slice_incoming self.old) (slice_incoming self.new) into.new result }
         ensures never_fails { IsOk result }
     {
         let n = into.len().min(self.rest.len());

@@ -16,7 +16,8 @@ pub struct ToWrite<W> {
 impl<W: Write> ToWrite<W> {
     /// Stands over `writer`.
     pub fn new(writer: W) -> Self
-        ensures { ⟦<ToWrite<W> as Sink>⟧.seen result ≡ record { written = W.contents writer; failures = 0; finished = false } }
+        ensures { ⟦<ToWrite<W> as Sink>⟧.seen result
+            ≡ record { written = W.contents writer; failures = 0; finished = false } }
     {
         ToWrite {
             writer,
@@ -27,7 +28,11 @@ impl<W: Write> ToWrite<W> {
 }
 
 impl<W: Write> Sink for ToWrite<W> {
-    ghost seen = { λ s. record { written = W.contents s.writer; failures = s.failures; finished = s.finished } };
+    ghost seen = { λ s. record {
+      written = W.contents s.writer;
+      failures = s.failures;
+      finished = s.finished;
+    } };
 
     fn write(&mut self, bytes: &[u8]) -> Result<usize, SinkFailed> {
         self.finished = false;

@@ -14,7 +14,8 @@ pub struct ZeroSource {
 impl ZeroSource {
     /// Gives `count` bytes.
     pub fn new(count: u64) -> Self
-        ensures { ⟦<ZeroSource as Source>⟧.seen result ≡ record { rest = Some (replicate count 0); failures = 0; ended = false } }
+        ensures { ⟦<ZeroSource as Source>⟧.seen result
+            ≡ record { rest = Some (replicate count 0); failures = 0; ended = false } }
     {
         ZeroSource {
             left: count,
@@ -25,14 +26,18 @@ impl ZeroSource {
 
 impl Source for ZeroSource {
     ghost use Rattle.std.specs.Prelude.{◌<◌, IsOk, Some, length, replicate};
-    ghost use Rattle.cd_stream.specs.Forms.{zeros_to_come};
+    ghost use Rattle.cd_stream.specs.Forms.{zeros_incoming};
     ghost use Rattle.cd_stream.specs.Transfer.{Reads};
 
-    ghost seen = { λ s. record { rest = Some (replicate s.left 0); failures = 0; ended = s.ended } };
+    ghost seen = { λ s. record {
+      rest = Some (replicate s.left 0);
+      failures = 0;
+      ended = s.ended;
+    } };
 
     fn read(&mut self, into: &mut [u8]) -> Result<usize, SourceFailed>
         requires { 0 < length into.old }
-        ensures reads { Reads (zeros_to_come self.old) (zeros_to_come self.new) into.new result }
+        ensures reads { Reads (zeros_incoming self.old) (zeros_incoming self.new) into.new result }
         ensures never_fails { IsOk result }
     {
         let n = self.left.min(into.len() as u64);

@@ -1,6 +1,9 @@
 //! A sink that holds bytes back: when they go to the sink below, and what stands after a failure.
 
-use crate::{Buffered, FailAfter, Sink, SinkFailed, SliceSink, ToWrite};
+use super::calls::Call::{self, Finish, Write as Put};
+use super::calls::all_answer;
+use crate::{Buffered, FailAfter, SinkFailed, SliceSink, ToWrite};
+use std::alloc::{AllocError, Global};
 use std::io::{self, Write};
 use std::test::Fail;
 
@@ -25,66 +28,108 @@ impl Write for Tallied {
     }
 }
 
-#[test]
-fn one_write_below_for_each_space(rt: HostRuntime) -> Result<(), Fail> {
+/// Calls of a sink with this much space over a writer, and what the writer has been given by then.
+struct OverWriter {
+    space: usize,
+    calls: &'static [Call],
+    writes: u8,
+    flushes: u8,
+    bytes: usize,
+}
+
+/// One write below for each space that is full; without space, each write at once.
+const OVER_WRITER: &[OverWriter] = &[
+    OverWriter {
+        space: 5,
+        calls: &[
+            Put(b"ab", Ok(2)),
+            Put(b"cd", Ok(2)),
+            Put(b"ef", Ok(2)),
+            Put(b"gh", Ok(2)),
+            Put(b"ijk", Ok(3)),
+            Finish(Ok(())),
+        ],
+        writes: 3,
+        flushes: 1,
+        bytes: 11,
+    },
+    OverWriter {
+        space: 0,
+        calls: &[Put(b"one line", Ok(8)), Put(b"another", Ok(7))],
+        writes: 2,
+        flushes: 0,
+        bytes: 15,
+    },
+];
+
+fn ends_over_writer(alloc: Global, row: &OverWriter) -> Result<bool, AllocError> {
     let mut writer = Tallied {
         writes: 0,
         flushes: 0,
         bytes: 0,
     };
-    let held = vec![in rt.alloc(); 0; 5]?;
+    let held = vec![in alloc; 0; row.space]?;
     let mut sink = Buffered::new(ToWrite::new(&mut writer), held);
-    assert_eq!(rt; sink.write(b"ab"), Ok(2));
-    assert_eq!(rt; sink.write(b"cd"), Ok(2));
-    assert_eq!(rt; sink.write(b"ef"), Ok(2));
-    assert_eq!(rt; sink.write(b"gh"), Ok(2));
-    assert_eq!(rt; sink.write(b"ijk"), Ok(3));
-    assert_eq!(rt; sink.finish(), Ok(()));
-    assert!(rt; sink.finished());
+    let so = all_answer(&mut sink, row.calls);
     drop(sink);
-    assert_eq!(rt; (writer.writes, writer.flushes, writer.bytes), (3, 1, 11));
+    Ok(
+        so && writer.writes == row.writes
+            && writer.flushes == row.flushes
+            && writer.bytes == row.bytes,
+    )
+}
+
+#[test]
+fn when_bytes_go_below(rt: HostRuntime) -> Result<(), Fail> {
+    for row in OVER_WRITER {
+        assert!(rt; ends_over_writer(rt.alloc(), row)?, "space {}", row.space);
+    }
     Ok(())
 }
 
-#[test]
-fn each_write_at_once_without_space(rt: HostRuntime) {
-    let mut writer = Tallied {
-        writes: 0,
-        flushes: 0,
-        bytes: 0,
-    };
-    let mut sink = Buffered::new(ToWrite::new(&mut writer), Vec::new(rt.alloc()));
-    assert_eq!(rt; sink.write(b"one line"), Ok(8));
-    assert_eq!(rt; sink.write(b"another"), Ok(7));
+/// Calls of a sink with this much space over memory that fails from some byte on, and what stands
+/// there by then.
+struct OverMemory {
+    space: usize,
+    passes: u64,
+    calls: &'static [Call],
+    memory: &'static [u8],
+}
+
+/// Nothing goes out after a failure by itself; more than the space goes past it.
+const OVER_MEMORY: &[OverMemory] = &[
+    OverMemory {
+        space: 4,
+        passes: 3,
+        calls: &[
+            Put(b"abcd", Ok(4)),
+            Put(b"e", Err(SinkFailed)),
+            Finish(Err(SinkFailed)),
+        ],
+        memory: b"abc\0\0\0\0\0",
+    },
+    OverMemory {
+        space: 2,
+        passes: u64::MAX,
+        calls: &[Put(b"a", Ok(1)), Put(b"bcde", Ok(4)), Put(b"fg", Ok(2))],
+        memory: b"abcde\0\0\0",
+    },
+];
+
+fn ends_over_memory(alloc: Global, row: &OverMemory) -> Result<bool, AllocError> {
+    let mut memory = [0; 8];
+    let held = vec![in alloc; 0; row.space]?;
+    let inner = FailAfter::new(SliceSink::new(&mut memory), row.passes);
+    let mut sink = Buffered::new(inner, held);
+    let so = all_answer(&mut sink, row.calls);
     drop(sink);
-    assert_eq!(rt; (writer.writes, writer.flushes, writer.bytes), (2, 0, 15));
+    Ok(so && memory.as_slice() == row.memory)
 }
 
 #[test]
-fn nothing_goes_out_after_a_failure_by_itself(rt: HostRuntime) -> Result<(), Fail> {
-    let mut space = [0; 8];
-    let held = vec![in rt.alloc(); 0; 4]?;
-    let mut sink = Buffered::new(FailAfter::new(SliceSink::new(&mut space), 3), held);
-    assert_eq!(rt; sink.write(b"abcd"), Ok(4));
-    assert_eq!(rt; sink.write(b"e"), Err(SinkFailed));
-    assert_eq!(rt; sink.failures(), 1);
-    assert_eq!(rt; sink.finish(), Err(SinkFailed));
-    assert!(rt; !sink.finished());
-    assert_eq!(rt; sink.failures(), 2);
-    drop(sink);
-    assert_eq!(rt; space, *b"abc\0\0\0\0\0");
-    Ok(())
-}
-
-#[test]
-fn more_than_its_space_goes_past_it(rt: HostRuntime) -> Result<(), Fail> {
-    let mut space = [0; 8];
-    let held = vec![in rt.alloc(); 0; 2]?;
-    let mut sink = Buffered::new(SliceSink::new(&mut space), held);
-    assert_eq!(rt; sink.write(b"a"), Ok(1));
-    assert_eq!(rt; sink.write(b"bcde"), Ok(4));
-    assert_eq!(rt; sink.write(b"fg"), Ok(2));
-    drop(sink);
-    assert_eq!(rt; space, *b"abcde\0\0\0");
+fn what_stands_below(rt: HostRuntime) -> Result<(), Fail> {
+    for row in OVER_MEMORY {
+        assert!(rt; ends_over_memory(rt.alloc(), row)?, "space {}", row.space);
+    }
     Ok(())
 }

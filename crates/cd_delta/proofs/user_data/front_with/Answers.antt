@@ -4,7 +4,7 @@ use Rattle.cd_delta.proofs.user_data.front_with.Goals as goal
 pub returns : goal.returns
 returns c =
     let first = c.put_part.ensures in
-    let second = c.put_edc.ensures in
+    let second = c.fill_edc.ensures in
     let same = c.from_bytes.ensures.bytes in
     let old = c.bytes.ensures.bytes in
     record {

@@ -15,7 +15,7 @@ returns-in-Err-clause-does g c = inr (record {
 })
 
 pub returns-in-Ok-clause-few : goal.returns-in-Ok-clause-few
-returns-in-Ok-clause-few g c = DoesJob-few _ _ _ _ _ _ _ c.do_job.ensures
+returns-in-Ok-clause-few g c = DoesJob-few _ _ _ _ _ _ _ _ _ c.do_job.ensures
 
 pub returns-in-Err-clause-few : goal.returns-in-Err-clause-few
 returns-in-Err-clause-few g c = Tells-few _ _ _ _ c.refuse.ensures

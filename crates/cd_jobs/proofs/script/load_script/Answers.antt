@@ -5,7 +5,7 @@ pub returns-in-Err-clause-loads : goal.returns-in-Err-clause-loads
 returns-in-Err-clause-loads g c = record {
   read = c.in-Err.ensures.read;
   consumes = c.in-Err.ensures.consumes;
-  answers = (assumption, (c.in-Err.fault, c.in-Err.ensures.answers, rw (← c.load_line.ensures) assumption));
+  answers = (assumption, (c.in-Err.fault, c.in-Err.ensures.answers, rw (← c.load_fault_line.ensures, ← c.as_bytes.ensures.value) assumption));
 }
 
 pub returns-in-Err-clause-whole : goal.returns-in-Err-clause-whole
@@ -14,4 +14,4 @@ returns-in-Err-clause-whole g c = tt
 pub returns-in-Err-clause-failed_reads : goal.returns-in-Err-clause-failed_reads
 returns-in-Err-clause-failed_reads g c =
     Stops-tells c.in-Err.fault c.in-Err.ensures.read (g.I.Source.seen c.args.file.now) (g.I.Source.seen c.read_all.new.file) (g.L.Sink.seen c.args.log.now) (g.L.Sink.seen c.fail.new.out) c.fail.result c.fail.ensures.status
-    c.in-Err.ensures.answers (rw (← c.load_line.ensures) c.fail.ensures.line)
+    c.in-Err.ensures.answers (rw (← c.load_fault_line.ensures, ← c.as_bytes.ensures.value) c.fail.ensures.line)

@@ -1,6 +1,6 @@
 use Rattle.std.proofs.Common.{◌≡◌, ◌-◌, ◌≤◌, length}
 use Rattle.std.specs.Io.KnownBytes.{Consumes}
-use Rattle.cd_script.specs.declared.script.TheConstants.{MAX_TEXT}
+use Rattle.cd_script.specs.declared.limits.TheConstants.{MAX_TEXT}
 use Rattle.cd_jobs.proofs.script.read_all.Given as goal
 
 abbrev pub invariant-loop-bytes : goal.invariant-loop-bytes

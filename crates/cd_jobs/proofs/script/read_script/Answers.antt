@@ -13,5 +13,5 @@ returns-in-Err-clause-line g c = (
     own = λ e is. let same = c.in-Err.ensures.refused e is in cc;
     other = c.in-Err.ensures.err;
   },
-  rw (← c.line_of.ensures, ← c.as_slice.ensures) c.fail.ensures.line,
+  rw (← c.script_fault_line.ensures, ← c.as_slice.ensures) c.fail.ensures.line,
 )

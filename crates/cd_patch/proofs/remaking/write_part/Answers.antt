@@ -1,21 +1,27 @@
-use Rattle.std.proofs.Common.{◌-◌, drop, take, ◌∙◌, arith}
-use Rattle.std.proofs.lemmas.List.{get_or-drop, get_or-take, length-drop, length-take-le}
+use Rattle.std.proofs.Common.{ap, length, sym, subst, ◌∙◌}
 use Rattle.cd_sector.specs.Consistent.{header_of}
-use Rattle.cd_patch.proofs.PartLemmas.{HasPart-written}
+use Rattle.cd_patch.specs.Parts.{HasPart, IsPart, bytes_of}
+use Rattle.cd_patch.proofs.PartLemmas.{HasPart-copied, HasPart-filled}
 use Rattle.cd_patch.proofs.remaking.write_part.Goals as goal
 
-pub returns : goal.returns
-returns c =
-    let bytes = c.args.bytes.now in
+pub returns-in-Borrowed : goal.returns-in-Borrowed
+returns-in-Borrowed c =
     let before = c.args.sector.now in
-    let part = c.part_in-part.result in
-    let count = part.end - part.first in
-    let at = c.part_in-part.ensures in
-    let rises = at.rises in
-    let within = at.within in
-    let rest = length-drop part.first bytes in
-    let cut = length-take-le count (drop part.first bytes) (omega arith) in
-    HasPart-written c.args.carry c.args.k c.args.offset part.place part.first part.end bytes (take count (drop part.first bytes)) (header_of before) before c.write.new.sector
-    at c.write.ensures.size (omega arith)
-    (λ i below. get_or-take count (drop part.first bytes) i 0 (omega arith) ∙ get_or-drop part.first bytes i 0)
-    c.write.ensures.made
+    let after = c.write.new.sector in
+    let part = c.part_of_block-part.result in
+    let count = c.len.ensures ∙ ap (λ b. length (bytes_of b)) c.in-Borrowed.is in
+    let at = subst (λ n. IsPart c.args.k c.args.offset n part.place part.first part.end) count c.part_of_block-part.ensures in
+    subst (λ b. HasPart c.args.carry c.args.k c.args.offset (bytes_of b) (header_of before) before after) (sym c.in-Borrowed.is)
+    (HasPart-copied c.args.carry c.args.k c.args.offset part.place part.first part.end c.in-Borrowed.bytes.now (header_of before) before after
+    at c.write.ensures.size c.write.ensures.made)
+
+pub returns-in-Repeated : goal.returns-in-Repeated
+returns-in-Repeated c =
+    let before = c.args.sector.now in
+    let after = c.write-in-Repeated.new.sector in
+    let part = c.part_of_block-part.result in
+    let count = c.len.ensures ∙ ap (λ b. length (bytes_of b)) c.in-Repeated.is in
+    let at = subst (λ n. IsPart c.args.k c.args.offset n part.place part.first part.end) count c.part_of_block-part.ensures in
+    subst (λ b. HasPart c.args.carry c.args.k c.args.offset (bytes_of b) (header_of before) before after) (sym c.in-Repeated.is)
+    (HasPart-filled c.args.carry c.args.k c.args.offset part.place part.first part.end c.in-Repeated.field-0 c.in-Repeated.value (header_of before) before after
+    at c.write-in-Repeated.ensures.size c.write-in-Repeated.ensures.made)

@@ -4,4 +4,4 @@ use Rattle.cd_script.proofs.address.address.Goals as goal
 
 pub returns-in-58 : goal.returns-in-58
 unfolding address
-returns-in-58 c = search (rules, tests) depth 2 fits 100
+returns-in-58 c = search (rules, tests)

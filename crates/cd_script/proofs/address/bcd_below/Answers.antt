@@ -4,4 +4,4 @@ use Rattle.cd_script.proofs.address.bcd_below.Goals as goal
 
 pub returns : goal.returns
 unfolding bcd_below
-returns c = search (rules, tests) depth 2 fits 100
+returns c = search (rules, tests)

@@ -12,4 +12,4 @@ loop-digit-preserved c =
     let i = c.loop-digit.digit-index in
     let more = list_all_more is_hex_digit c.args.word.now i 0 c.loop-digit-test.true in
     let digit = same_digits (get_or c.args.word.now i 0) in
-    search (rules, more, digit) depth 2 fits 100
+    search (rules, more, digit)

@@ -2,4 +2,4 @@ use Rattle.cd_script.proofs.OrderLemmas.{order-rises}
 use Rattle.cd_script.proofs.laws.order_rises.Goals as goal
 
 pub returns : goal.returns
-returns c = record { rises = order-rises }
+returns c = order-rises

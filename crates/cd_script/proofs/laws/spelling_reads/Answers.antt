@@ -2,4 +2,4 @@ use Rattle.cd_script.proofs.SpellingLemmas.{script-spelling}
 use Rattle.cd_script.proofs.laws.spelling_reads.Goals as goal
 
 pub returns : goal.returns
-returns c = record { reads = script-spelling }
+returns c = script-spelling

@@ -4,12 +4,12 @@ use Rattle.cd_script.proofs.line.fill.Goals as goal
 
 pub returns-in_err-count : goal.returns-in_err-count
 unfolding fill_at
-returns-in_err-count c = search rules depth 2 fits 100
+returns-in_err-count c = search rules
 
 pub returns-in_err-value : goal.returns-in_err-value
 unfolding fill_at
-returns-in_err-value c = search rules depth 2 fits 100
+returns-in_err-value c = search rules
 
 pub returns : goal.returns
 unfolding fill_at
-returns c = search rules depth 2 fits 100
+returns c = search rules

@@ -2,4 +2,4 @@ use Rattle.std.proofs.Common.{rules}
 use Rattle.cd_script.proofs.spelled.build_put.Goals as goal
 
 pub returns : goal.returns
-returns c = search rules depth 2 fits 100
+returns c = search rules

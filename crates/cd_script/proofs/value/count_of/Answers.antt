@@ -4,4 +4,4 @@ use Rattle.cd_script.proofs.value.count_of.Goals as goal
 
 pub returns : goal.returns
 unfolding count_at
-returns c = search (rules, tests) depth 2 fits 100
+returns c = search (rules, tests)

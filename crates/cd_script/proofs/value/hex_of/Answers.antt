@@ -4,4 +4,4 @@ use Rattle.cd_script.proofs.value.hex_of.Goals as goal
 
 pub returns : goal.returns
 unfolding hex_at
-returns c = search rules depth 2 fits 100
+returns c = search rules

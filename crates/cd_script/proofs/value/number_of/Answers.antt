@@ -4,4 +4,4 @@ use Rattle.cd_script.proofs.value.number_of.Goals as goal
 
 pub returns : goal.returns
 unfolding number_at
-returns c = search rules depth 2 fits 100
+returns c = search rules

@@ -4,8 +4,8 @@ use Rattle.cd_script.proofs.value.offset_of.Goals as goal
 
 pub returns-then-offset-gt-MAX_OFFSET : goal.returns-then-offset-gt-MAX_OFFSET
 unfolding offset_at
-returns-then-offset-gt-MAX_OFFSET c = search rules depth 2 fits 100
+returns-then-offset-gt-MAX_OFFSET c = search rules
 
 pub returns : goal.returns
 unfolding offset_at
-returns c = search rules depth 2 fits 100
+returns c = search rules

@@ -20,12 +20,12 @@ returns-clause-edc c =
 
 pub returns-clause-p : goal.returns-clause-p
 returns-clause-p c =
-    c.broken_columns.ensures
+    c.count_broken_columns.ensures
     ∙ ap (λ v. count_by is_broken (all_syndromes (column_of v) 86)) c.bytes-bytes.ensures.bytes
     ∙ ap (count_by is_broken) (sym (defect-columns c.args.s.now))
 
 pub returns-clause-q : goal.returns-clause-q
 returns-clause-q c =
-    c.broken_diagonals.ensures
+    c.count_broken_diagonals.ensures
     ∙ ap (λ v. count_by is_broken (all_syndromes (diagonal_of v) 52)) c.bytes-bytes.ensures.bytes
     ∙ ap (count_by is_broken) (sym (defect-diagonals c.args.s.now))

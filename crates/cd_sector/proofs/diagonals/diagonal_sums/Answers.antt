@@ -12,7 +12,7 @@ returns c =
     λ i h. c.lanes_at-3.ensures i h ∙ (let e : 2268 + i ≡ 2248 + (20 + i) = omega arith in ap (λ p. get_or s p 0) e) in
     let second : (i : ℕ) → i < 32 → get_or c.lanes_at-4.result i 0 ≡ get_or s (2300 + (20 + i)) 0 =
     λ i h. c.lanes_at-4.ensures i h ∙ (let e : 2320 + i ≡ 2300 + (20 + i) = omega arith in ap (λ p. get_or s p 0) e) in
-    SumsOf-joined (diagonal_of s) low.plain low.weighted high.plain high.weighted c.joined.result.plain c.joined.result.weighted
+    SumsOf-joined (diagonal_of s) low.plain low.weighted high.plain high.weighted c.join_halves.result.plain c.join_halves.result.weighted
     (SumsOf-parity s 20 (λ i. i) c.lanes_at.result c.lanes_at-2.result c.low_input_sums.result.plain c.low_input_sums.result.weighted
     c.with_lanes.result.plain c.with_lanes.result.weighted low.plain low.weighted (lit≤ tt) c.low_input_sums.ensures c.fits-bytes
     c.lanes_at.ensures c.lanes_at-2.ensures c.with_lanes.ensures.plain c.with_lanes.ensures.weighted
@@ -21,4 +21,4 @@ returns c =
     c.with_lanes-2.result.plain c.with_lanes-2.result.weighted high.plain high.weighted (lit≤ tt) c.high_input_sums.ensures c.fits-bytes
     first second c.with_lanes-2.ensures.plain c.with_lanes-2.ensures.weighted
     c.with_lanes-high.ensures.plain c.with_lanes-high.ensures.weighted)
-    c.joined.ensures.plain_low c.joined.ensures.plain_high c.joined.ensures.weighted_low c.joined.ensures.weighted_high
+    c.join_halves.ensures.plain_low c.join_halves.ensures.plain_high c.join_halves.ensures.weighted_low c.join_halves.ensures.weighted_high

@@ -1,6 +1,6 @@
 use Rattle.std.proofs.lemmas.Result.{err_from_is_err_and}
 use Rattle.cd_image.specs.Applying.{streams}
-use Rattle.cd_image.proofs.TurnLemmas.{Steps-unread}
+use Rattle.cd_image.proofs.AdvanceLemmas.{Steps-unread}
 use Rattle.cd_image.proofs.pass.Pass.read_next.Goals as goal
 
 pub returns-in_err-read_next-clause-goes : goal.returns-in_err-read_next-clause-goes

@@ -2,4 +2,4 @@ use Rattle.std.proofs.Common.{rules}
 use Rattle.cd_script.proofs.script.Script.patches.Goals as goal
 
 pub returns-clause-patches : goal.returns-clause-patches
-returns-clause-patches c = search rules depth 2 fits 100
+returns-clause-patches c = search rules

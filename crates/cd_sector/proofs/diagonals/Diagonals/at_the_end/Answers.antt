@@ -13,7 +13,7 @@ loop-step-preserved c =
     HasTaken-step c.args.bytes.now top step sums.plain sums.weighted
     c.with_lanes_where-sums.result.plain c.with_lanes_where-sums.result.weighted c.fits-bytes c.args.self.least c.loop-step.invariant
     (λ i h begun running.
-    let yes = c.taking.ensures.takes i h (omega arith) (omega arith) in (
+    let yes = c.lane_mask.ensures.takes i h (omega arith) (omega arith) in (
       new.plain i h yes ∙ ap (bit_xor (get_or sums.plain i 0)) (c.window-lanes.ensures i h),
       new.weighted i h yes ∙ ap (bit_xor (double (get_or sums.weighted i 0))) (c.window-lanes.ensures i h),
     ))
@@ -22,5 +22,5 @@ loop-step-preserved c =
       | inl before ↦ inl (omega arith)
       | inr past ↦ inr (omega arith)
     ] in
-    let no = c.taking.ensures.leaves i h place in
+    let no = c.lane_mask.ensures.leaves i h place in
     (new.plain_stays i h no, new.weighted_stays i h no))

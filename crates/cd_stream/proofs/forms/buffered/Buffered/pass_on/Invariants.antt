@@ -1,11 +1,11 @@
 use Rattle.std.proofs.Common.{◌-◌, ◌≡◌}
 use Rattle.std.specs.Io.KnownBytes.{Keeps}
-use Rattle.cd_stream.specs.Buffering.{buffered_taken, space_of}
+use Rattle.cd_stream.specs.Buffering.{buffered_outgoing, space_of}
 use Rattle.cd_stream.proofs.forms.buffered.Buffered.pass_on.Given as goal
 
 abbrev pub invariant-loop-self : goal.invariant-loop-self
 invariant-loop-self g l = record {
-  bytes : Keeps (buffered_taken g.S.Sink.seen l.initial.self).written (buffered_taken g.S.Sink.seen l.self).written;
+  bytes : Keeps (buffered_outgoing g.S.Sink.seen l.initial.self).written (buffered_outgoing g.S.Sink.seen l.self).written;
   counted : (g.S.Sink.seen l.self.inner).failures ≡ (g.S.Sink.seen l.initial.self.inner).failures;
   finished : l.self.finished ≡ l.initial.self.finished;
   space : space_of l.self ≡ space_of l.initial.self;

@@ -1,7 +1,7 @@
 use Rattle.std.proofs.Common.{◌<◌, length, refl, sym, subst, ◌∙◌, arith}
 use Rattle.std.specs.Io.KnownBytes.{append_known}
 use Rattle.cd_stream.specs.Transfer.{Counts}
-use Rattle.cd_stream.specs.Buffering.{buffered_taken, held}
+use Rattle.cd_stream.specs.Buffering.{buffered_outgoing, held_bytes}
 use Rattle.cd_stream.proofs.BufferLemmas.{Goes-past, IfOk-any, alone-past, between-none}
 use Rattle.cd_stream.proofs.forms.buffered.Buffered.write_on.Goals as goal
 
@@ -13,7 +13,7 @@ returns-then-bytes-len-clause-writes g c =
     let ends = c.in_ok-pass_on.ensures.empty refl in
     let none = between-none now.start now.end now.space.items ends.0 ends.1 in
     record {
-      bytes = Goes-past (buffered_taken seen c.args.self.now) (record past { written = append_known past.written (held now) }) (seen now.inner) past (held now) c.args.bytes.now c.write.result none refl c.pass_on.ensures.bytes c.write.ensures.bytes;
+      bytes = Goes-past (buffered_outgoing seen c.args.self.now) (record past { written = append_known past.written (held_bytes now) }) (seen now.inner) past (held_bytes now) c.args.bytes.now c.write.result none refl c.pass_on.ensures.bytes c.write.ensures.bytes;
       count = subst (λ k. Counts k past.failures c.write.result) c.in_ok-pass_on.ensures.count c.write.ensures.count;
       unfinished = c.pass_on.ensures.finished ∙ c.requires.unfinished;
     }

@@ -1,0 +1,247 @@
+-- One step of a pass, by what its calls have done.
+use Rattle.std.proofs.Common.{◌≡◌, ◌≢◌, ℕ, suc, ◌+◌, ◌-◌, ◌<◌, ◌≤◌, Bool, List, [], ◌∷◌, ◌++◌, length, take, drop, get_or, Option, None, Some, Result, Ok, Err, true, sym, ap, ◌∙◌, subst, arith, add-one, add-zero, take-append-drop, take_all}
+use Rattle.std.specs.Prelude.{All, IsSome}
+use Rattle.std.specs.List.{slice_get}
+use Rattle.std.specs.List.Sorted.{IsNonDecreasingBy}
+use Rattle.std.proofs.Math.Seq.{drop-cons, take-suc}
+use Rattle.std.proofs.lemmas.List.{get_or-drop, length-drop}
+use Rattle.std.proofs.lemmas.Option.{get_or_from_slice_get, slice_get-get_or, slice_get_within}
+use Rattle.std.specs.Io.KnownBytes.{Appends, Keeps}
+use Rattle.std.proofs.Math.ListN.{length-take}
+use Rattle.cd_stream.specs.Stream.{Incoming, Outgoing}
+use Rattle.cd_script.specs.Patch.{IsPatch}
+use Rattle.cd_script.specs.declared.patch.Patch.{Patch}
+use Rattle.cd_sector.specs.declared.sector.TheConstants.{SECTOR_SIZE}
+use Rattle.cd_image.specs.Applying.{Applies, Streams}
+use Rattle.cd_image.specs.InHand.{GainsSector, GainsTail, InHand, tail_bytes}
+use Rattle.cd_image.specs.Passing.{GoesOn, Going, IsEnded}
+use Rattle.cd_read.specs.Reading.{ReadsSector}
+use Rattle.cd_read.specs.declared.fault.Fault.{Fault}
+use Rattle.cd_read.specs.declared.fault.Fault.TheVariants.{Log, Read, TooLong, Write}
+use Rattle.cd_image.specs.declared.pass.Pass.{Pass}
+use Rattle.cd_image.proofs.ApplyLemmas.{Applies-beyond, Applies-read, Applies-write}
+use Rattle.cd_image.specs.PatchLog.{log_end}
+use Rattle.cd_image.specs.declared.patch_log.Tally.{Tally}
+use Rattle.cd_image.proofs.CloseLemmas.{Applies-behind, Applies-below, Applies-counts, Applies-flush, Applies-log_flush, Applies-ok, Applies-tail, counts, counts_are, tally_of_all}
+use Rattle.std.proofs.lemmas.List.Sums.{count_by-le-length}
+use Rattle.cd_patch.specs.Blocks.{block_limit}
+use Rattle.cd_patch.specs.Outcome.{is_applied}
+use Rattle.cd_image.proofs.KnownLemmas.{told_lengths}
+use Rattle.cd_image.proofs.PatchLogLemmas.{missing_lines}
+use Rattle.cd_image.proofs.PassingLemmas.{Going-end, Going-read, Going-send, Going-start}
+use Rattle.cd_read.specs.Image.{base_limit, sector_limit}
+
+-- one read of a sector, before the end
+module _ (carry : Bool) (taken left : List Patch) (base : ℕ) (start now : Streams) (pass : Pass) (image : Incoming) (unended : pass.window.tail ≡ None) (room : length pass.window.sectors < block_limit) (g : GoesOn carry taken left base start now pass) where
+  begun : Going carry taken left base start now pass.window.sectors pass.block pass.sectors pass.applied None
+  begun = subst (λ t. Going carry taken left base start now pass.window.sectors pass.block pass.sectors pass.applied t) unended g
+
+  pub Steps-unread : (bytes : List ℕ) (fault : Fault) → ReadsSector pass.sectors bytes now.image image (Err fault) → Applies carry (taken ++ left) base start (record now { image = image }) (Err fault)
+  Steps-unread bytes Read r = Applies-read carry taken left base start now pass.window.sectors pass.block pass.sectors pass.applied begun image r.came r.consumes room r.short r.within r.rose
+  Steps-unread bytes TooLong r = Applies-beyond carry taken left base start now pass.window.sectors pass.block pass.sectors pass.applied begun image r.came r.consumes room r.one r.full r.kept r.unended
+  Steps-unread bytes Write r = elim r [ ]
+  Steps-unread bytes Log r = elim r [ ]
+
+  pub Steps-read : (window : InHand) → GainsSector pass.sectors pass.window window now.image image
+      → Going carry taken left base start (record now { image = image }) window.sectors pass.block (pass.sectors + 1) pass.applied window.tail
+  Steps-read window gains =
+      subst (λ t. Going carry taken left base start (record now { image = image }) window.sectors pass.block (pass.sectors + 1) pass.applied t) (sym gains.tail)
+      (subst (λ (ws : List (List ℕ)). Going carry taken left base start (record now { image = image }) ws pass.block (pass.sectors + 1) pass.applied None) (sym gains.sectors)
+      (Going-read carry taken left base start now pass.window.sectors pass.block pass.sectors pass.applied begun image gains.bytes gains.comes.consumes gains.comes.kept gains.comes.size gains.comes.few room))
+
+  pub Steps-ended : (window : InHand) → GainsTail pass.sectors pass.window window now.image image
+      → Going carry taken left base start (record now { image = image }) window.sectors pass.block pass.sectors pass.applied window.tail
+  Steps-ended window gains =
+      subst (λ t. Going carry taken left base start (record now { image = image }) window.sectors pass.block pass.sectors pass.applied t) (sym gains.tail)
+      (subst (λ (ws : List (List ℕ)). Going carry taken left base start (record now { image = image }) ws pass.block pass.sectors pass.applied (Some (take gains.left gains.bytes))) (sym gains.sectors)
+      (Going-end carry taken left base start now pass.window.sectors pass.block pass.sectors pass.applied begun image (take gains.left gains.bytes) gains.comes.consumes gains.comes.kept
+      (omega (arith, gains.comes.size, gains.comes.short)) (omega (arith, gains.comes.size, gains.comes.within)) room gains.comes.at_end gains.comes.ended))
+
+-- the bytes of the first sector
+pub first_is : (window : List (List ℕ)) (sector bytes : List ℕ) (others : List (List ℕ)) → window ≡ sector ∷ others → bytes ≡ sector → window ≡ bytes ∷ others
+first_is window sector bytes others is same = is ∙ ap (λ (s : List ℕ). s ∷ others) (sym same)
+
+-- the first sector of a window goes out
+module _ (carry : Bool) (taken left : List Patch) (base : ℕ) (start now : Streams) (block count applied : ℕ) (end : Option (List ℕ)) (ahead : All (λ p. block < p.block) left) (out : Outgoing) where
+  pub Steps-sent : (window : List (List ℕ)) → Going carry taken left base start now window block count applied end → (sector : List ℕ) (others : List (List ℕ)) → window ≡ sector ∷ others → length sector ≡ SECTOR_SIZE
+      → Appends now.out.written out.written sector → out.failures ≡ now.out.failures → Going carry taken left base start (record now { out = out }) (drop 1 window) (block + 1) count applied end
+  Steps-sent window g sector others is size sent kept =
+      subst (λ (ws : List (List ℕ)). Going carry taken left base start (record now { out = out }) (drop 1 ws) (block + 1) count applied end) (sym is)
+      (Going-send carry taken left base start now sector others block count applied end (subst (λ (ws : List (List ℕ)). Going carry taken left base start now ws block count applied end) is g) out sent kept size ahead)
+
+  pub Steps-unsent : (window : List (List ℕ)) → Going carry taken left base start now window block count applied end → (sector : List ℕ) (others : List (List ℕ)) → window ≡ sector ∷ others → length sector ≡ SECTOR_SIZE
+      → (n : ℕ) → n < length sector → Appends now.out.written out.written (take n sector) → out.failures ≡ now.out.failures + 1 → Applies carry (taken ++ left) base start (record now { out = out }) (Err Write)
+  Steps-unsent window g sector others is size n inside sent failed =
+      Applies-write carry taken left base start now sector others block count applied end (subst (λ (ws : List (List ℕ)). Going carry taken left base start now ws block count applied end) is g) out n inside sent failed size ahead
+
+-- ---- steps among all patches
+
+-- the patch that is next stands in front of those behind it
+next_first : (ps : List Patch) (d : ℕ) (p : Patch) → slice_get ps d ≡ Some p → drop d ps ≡ p ∷ drop (suc d) ps
+next_first ps d p is = drop-cons ps d p (slice_get_within ps d p is) ∙ ap (λ q. q ∷ drop (suc d) ps) (get_or_from_slice_get ps d p p is)
+
+next_taken : (ps : List Patch) (d : ℕ) (p : Patch) → slice_get ps d ≡ Some p → take (suc d) ps ≡ take d ps ++ p ∷ []
+next_taken ps d p is = take-suc ps d p (slice_get_within ps d p is) ∙ ap (λ q. take d ps ++ q ∷ []) (get_or_from_slice_get ps d p p is)
+
+-- it is one of them
+pub is_patch : (ps : List Patch) (d : ℕ) (p : Patch) → slice_get ps d ≡ Some p → All IsPatch ps → IsPatch p
+is_patch ps d p is each = subst IsPatch (get_or_from_slice_get ps d p p is) (each d p (slice_get_within ps d p is))
+
+module _ (carry : Bool) (ps : List Patch) (d : ℕ) (base : ℕ) (start : Streams) where
+  -- nothing was decided
+  pub goes_same : (now : Streams) (pass : Pass) → pass.decided ≡ d → GoesOn carry (take d ps) (drop d ps) base start now pass → GoesOn carry (take pass.decided ps) (drop pass.decided ps) base start now pass
+  goes_same now pass same = subst (λ n. GoesOn carry (take n ps) (drop n ps) base start now pass) (sym same)
+
+  pub fault_same : (now : Streams) (fault : Fault) → Applies carry (take d ps ++ drop d ps) base start now (Err fault) → Applies carry ps base start now (Err fault)
+  fault_same now fault = subst (λ all. Applies carry all base start now (Err fault)) (take-append-drop d ps)
+
+  -- the next patch was
+  module _ (p : Patch) (is : slice_get ps d ≡ Some p) where
+    pub before_next : (now : Streams) (pass : Pass) → GoesOn carry (take d ps) (drop d ps) base start now pass → GoesOn carry (take d ps) (p ∷ drop (suc d) ps) base start now pass
+    before_next now pass = subst (λ left. GoesOn carry (take d ps) left base start now pass) (next_first ps d p is)
+
+    pub goes_taken : (now : Streams) (pass : Pass) → pass.decided ≡ d + 1 → GoesOn carry (take d ps ++ p ∷ []) (drop (suc d) ps) base start now pass
+        → GoesOn carry (take pass.decided ps) (drop pass.decided ps) base start now pass
+    goes_taken now pass more goes =
+        subst (λ n. GoesOn carry (take n ps) (drop n ps) base start now pass) (sym (more ∙ add-one d)) (subst (λ taken. GoesOn carry taken (drop (suc d) ps) base start now pass) (sym (next_taken ps d p is)) goes)
+
+    pub fault_taken : (now : Streams) (fault : Fault) → Applies carry (take d ps ++ p ∷ drop (suc d) ps) base start now (Err fault) → Applies carry ps base start now (Err fault)
+    fault_taken now fault = subst (λ all. Applies carry all base start now (Err fault)) (ap (λ left. take d ps ++ left) (sym (next_first ps d p is)) ∙ take-append-drop d ps)
+
+-- blocks rise: where the next patch does not begin at the front block, all that are left begin behind it
+pub strictly_ahead : (ps : List Patch) (d block : ℕ) → IsNonDecreasingBy (λ p. p.block) ps → All (λ p. block ≤ p.block) (drop d ps) → ((p : Patch) → slice_get ps d ≡ Some p → p.block ≢ block)
+    → All (λ p. block < p.block) (drop d ps)
+strictly_ahead ps d block rising ahead other = λ k e inside.
+    let size = length-drop d ps in
+    let within : d + k < length ps = omega arith in
+    let first : block ≤ (get_or (drop d ps) 0 e).block = ahead 0 e (omega arith) in
+    let at : get_or (drop d ps) 0 e ≡ get_or ps d e = get_or-drop d ps 0 e ∙ ap (λ n. get_or ps n e) (add-zero d) in
+    let here : get_or (drop d ps) k e ≡ get_or ps (d + k) e = get_or-drop d ps k e in
+    let differs : (get_or ps d e).block ≢ block = other (get_or ps d e) (slice_get-get_or ps d e (omega arith)) in
+    let rises : (get_or ps d e).block ≤ (get_or ps (d + k) e).block = rising d (d + k) e (omega arith) within in
+    omega (arith, ap (λ (p : Patch). p.block) at, ap (λ (p : Patch). p.block) here, first, differs, rises)
+
+-- ---- the end
+
+-- what lies behind a place, as a slice from there to the end
+pub rest_from : (ps : List Patch) (d : ℕ) → take (length ps - d) (drop d ps) ≡ drop d ps
+rest_from ps d = take_all (length ps - d) (drop d ps) (omega (arith, length-drop d ps))
+
+closed_by : (carry : Bool) (taken left : List Patch) (base : ℕ) (start now : Streams) (window : List (List ℕ)) (block sectors applied : ℕ) (end : Option (List ℕ)) → IsSome end
+    → Going carry taken left base start now window block sectors applied end → Going carry taken left base start now window block sectors applied (Some (tail_bytes end))
+closed_by carry taken left base start now window block sectors applied None never g = cc
+closed_by carry taken left base start now window block sectors applied (Some bytes) some g = g
+
+-- nothing waits, and the tail is known
+pub closed : (carry : Bool) (taken left : List Patch) (base : ℕ) (start now : Streams) (pass : Pass) (end : List ℕ) → IsEnded pass → end ≡ tail_bytes pass.window.tail → GoesOn carry taken left base start now pass
+    → Going carry taken left base start now [] pass.block pass.sectors pass.applied (Some end)
+closed carry taken left base start now pass end ended is g =
+    subst (λ (t : List ℕ). Going carry taken left base start now [] pass.block pass.sectors pass.applied (Some t)) (sym is)
+    (subst (λ (ws : List (List ℕ)). Going carry taken left base start now ws pass.block pass.sectors pass.applied (Some (tail_bytes pass.window.tail))) ended.empty
+    (closed_by carry taken left base start now pass.window.sectors pass.block pass.sectors pass.applied pass.window.tail ended.ended g))
+
+module _ (carry : Bool) (ps : List Patch) (base : ℕ) (start now : Streams) (pass : Pass) (end : List ℕ) (ended : IsEnded pass) (is : end ≡ tail_bytes pass.window.tail) (g : GoesOn carry (take pass.decided ps) (drop pass.decided ps) base start now pass) where
+  -- the whole of it, behind the last sector
+  whole : Going carry (take pass.decided ps) (drop pass.decided ps) base start now [] pass.block pass.sectors pass.applied (Some end)
+  whole = closed carry (take pass.decided ps) (drop pass.decided ps) base start now pass end ended is g
+
+  of_all : (after : Streams) (result : Result Tally Fault) → Applies carry (take pass.decided ps ++ drop pass.decided ps) base start after result → Applies carry ps base start after result
+  of_all after result = subst (λ all. Applies carry all base start after result) (take-append-drop pass.decided ps)
+
+  pub Closes-tail : (out : Outgoing) (m : ℕ) → m < length end → Appends now.out.written out.written (take m end) → out.failures ≡ now.out.failures + 1
+      → Applies carry ps base start (record now { out = out }) (Err Write)
+  Closes-tail out m inside went failed =
+      of_all (record now { out = out }) (Err Write)
+      (Applies-tail carry (take pass.decided ps) (drop pass.decided ps) base start now pass.block pass.sectors pass.applied end whole out m inside went failed)
+
+  -- the patches that are left are told
+  module _ (out : Outgoing) (sent : Appends now.out.written out.written end) (out_kept : out.failures ≡ now.out.failures) (rest : List Patch) (rest_is : rest ≡ drop pass.decided ps) where
+    pub Closes-behind : (log : Outgoing) (m : ℕ) → m < length (missing_lines rest) → Appends now.log.written log.written (take m (missing_lines rest)) → log.failures ≡ now.log.failures + 1
+        → Applies carry ps base start (record now { out = out; log = log }) (Err Log)
+    Closes-behind log m inside went failed =
+        of_all (record now { out = out; log = log }) (Err Log)
+        (Applies-behind carry (take pass.decided ps) (drop pass.decided ps) base start now pass.block pass.sectors pass.applied end whole out sent out_kept log m
+        (subst (λ left. m < length (missing_lines left)) rest_is inside) (subst (λ left. Appends now.log.written log.written (take m (missing_lines left))) rest_is went) failed)
+
+    module _ (lines : Outgoing) (told_rest : Appends now.log.written lines.written (missing_lines rest)) (lines_kept : lines.failures ≡ now.log.failures) (refused : ℕ) (sum : pass.applied + refused ≡ length ps) where
+      told : Appends now.log.written lines.written (missing_lines (drop pass.decided ps))
+      told = subst (λ left. Appends now.log.written lines.written (missing_lines left)) rest_is told_rest
+
+      all_sum : pass.applied + refused ≡ length (take pass.decided ps ++ drop pass.decided ps)
+      all_sum = sum ∙ sym (ap length (take-append-drop pass.decided ps))
+
+      last_line : log_end pass.applied refused ≡ counts carry (take pass.decided ps) (drop pass.decided ps) base start now pass.block pass.sectors pass.applied end whole
+      last_line = counts_are carry (take pass.decided ps) (drop pass.decided ps) base start now pass.block pass.sectors pass.applied end whole refused all_sum
+
+      pub Closes-counts : (log : Outgoing) (m : ℕ) → m < length (log_end pass.applied refused) → Appends lines.written log.written (take m (log_end pass.applied refused)) → log.failures ≡ lines.failures + 1
+          → Applies carry ps base start (record now { out = out; log = log }) (Err Log)
+      Closes-counts log m inside went failed =
+          of_all (record now { out = out; log = log }) (Err Log)
+          (Applies-counts carry (take pass.decided ps) (drop pass.decided ps) base start now pass.block pass.sectors pass.applied end whole out sent out_kept lines told lines_kept log m
+          (subst (λ l. m < length l) last_line inside) (subst (λ l. Appends lines.written log.written (take m l)) last_line went) failed)
+
+      module _ (counted : Outgoing) (ended_lines : Appends lines.written counted.written (log_end pass.applied refused)) (counts_kept : counted.failures ≡ lines.failures) where
+        whole_lines : Appends lines.written counted.written (counts carry (take pass.decided ps) (drop pass.decided ps) base start now pass.block pass.sectors pass.applied end whole)
+        whole_lines = subst (Appends lines.written counted.written) last_line ended_lines
+
+        pub Closes-flush : (out' : Outgoing) → Keeps out.written out'.written → out'.failures ≡ out.failures + 1 → Applies carry ps base start (record now { out = out'; log = counted }) (Err Write)
+        Closes-flush out' kept failed =
+            of_all (record now { out = out'; log = counted }) (Err Write)
+            (Applies-flush carry (take pass.decided ps) (drop pass.decided ps) base start now pass.block pass.sectors pass.applied end whole out sent out_kept lines told lines_kept counted whole_lines out' kept failed counts_kept)
+
+        module _ (out' : Outgoing) (kept : Keeps out.written out'.written) (flushed : out'.failures ≡ out.failures) (log : Outgoing) (log_kept : Keeps counted.written log.written) where
+          pub Closes-log_flush : log.failures ≡ counted.failures + 1 → out'.finished ≡ true → Applies carry ps base start (record now { out = out'; log = log }) (Err Log)
+          Closes-log_flush failed out_finished =
+              of_all (record now { out = out'; log = log }) (Err Log)
+              (Applies-log_flush carry (take pass.decided ps) (drop pass.decided ps) base start now pass.block pass.sectors pass.applied end whole out sent out_kept lines told lines_kept counted whole_lines out' kept flushed log log_kept counts_kept failed out_finished)
+
+          pub Closes-ok : log.failures ≡ counted.failures → out'.finished ≡ true → log.finished ≡ true
+              → Applies carry ps base start (record now { out = out'; log = log }) (Ok (record { applied = pass.applied; refused = refused; sectors = pass.sectors; tail = length end }))
+          Closes-ok log_well out_finished log_finished =
+              of_all (record now { out = out'; log = log }) (Ok (record { applied = pass.applied; refused = refused; sectors = pass.sectors; tail = length end }))
+              (Applies-ok carry (take pass.decided ps) (drop pass.decided ps) base start now pass.block pass.sectors pass.applied end whole out sent out_kept lines told lines_kept counted whole_lines out' kept flushed log _ log_kept counts_kept log_well out_finished log_finished
+              (tally_of_all carry (take pass.decided ps) (drop pass.decided ps) base start now pass.block pass.sectors pass.applied end whole refused all_sum))
+
+-- ---- how large the numbers of a pass are
+
+pub record Bounds (start now : Streams) (pass : Pass) : Type 0 where
+  pub reads : now.image.failures ≡ start.image.failures
+  pub writes : now.out.failures ≡ start.out.failures
+  pub logs : now.log.failures ≡ start.log.failures
+  pub sectors : pass.sectors ≤ sector_limit
+  pub block : pass.block ≤ base_limit + sector_limit
+  pub applied : pass.applied ≤ pass.decided
+
+pub bounds : (carry : Bool) (ps : List Patch) (base : ℕ) (start now : Streams) (pass : Pass) → base ≤ base_limit → GoesOn carry (take pass.decided ps) (drop pass.decided ps) base start now pass → Bounds start now pass
+bounds carry ps base start now pass low g =
+    let told = told_lengths carry (take pass.decided ps) (drop pass.decided ps) base start now pass.window.sectors pass.block pass.sectors pass.applied pass.window.tail g in
+    let few = count_by-le-length is_applied g.outcomes in
+    let taken = length-take pass.decided ps in
+    record {
+      reads = omega (arith, g.unfailed.reads);
+      writes = omega (arith, g.unfailed.writes);
+      logs = omega (arith, g.unfailed.logs);
+      sectors = omega (arith, g.within);
+      block = omega (arith, g.within, g.front, g.held, g.count);
+      applied = omega (arith, g.counted, few, told, taken);
+    }
+
+-- a new pass, behind the patches that begin below the image
+pub begun_pass : (carry : Bool) (ps : List Patch) (base : ℕ) (start : Streams) (log : Outgoing) (below : ℕ) (pass : Pass) → pass.window.sectors ≡ [] → pass.block ≡ base → pass.sectors ≡ 0 → pass.decided ≡ below → pass.applied ≡ 0 → pass.window.tail ≡ None
+    → All (λ p. p.block < base) (take below ps) → All (λ p. base ≤ p.block) (drop below ps) → Appends start.log.written log.written (missing_lines (take below ps)) → log.failures ≡ start.log.failures
+    → GoesOn carry (take pass.decided ps) (drop pass.decided ps) base start (record start { log = log }) pass
+begun_pass carry ps base start log below pass window block sectors decided applied tail under ahead told kept =
+    subst (λ n. GoesOn carry (take n ps) (drop n ps) base start (record start { log = log }) pass) (sym decided)
+    (subst (λ (ws : List (List ℕ)). Going carry (take below ps) (drop below ps) base start (record start { log = log }) ws pass.block pass.sectors pass.applied pass.window.tail) (sym window)
+    (subst (λ b. Going carry (take below ps) (drop below ps) base start (record start { log = log }) [] b pass.sectors pass.applied pass.window.tail) (sym block)
+    (subst (λ n. Going carry (take below ps) (drop below ps) base start (record start { log = log }) [] base n pass.applied pass.window.tail) (sym sectors)
+    (subst (λ n. Going carry (take below ps) (drop below ps) base start (record start { log = log }) [] base 0 n pass.window.tail) (sym applied)
+    (subst (λ t. Going carry (take below ps) (drop below ps) base start (record start { log = log }) [] base 0 0 t) (sym tail)
+    (Going-start carry (take below ps) (drop below ps) base start log under ahead told kept))))))
+
+-- the log fails before the first read
+pub Applies-first : (carry : Bool) (ps : List Patch) (base : ℕ) (start : Streams) (log : Outgoing) (below : ℕ) → All (λ p. p.block < base) (take below ps) → (n : ℕ) → n < length (missing_lines (take below ps))
+    → Appends start.log.written log.written (take n (missing_lines (take below ps))) → log.failures ≡ start.log.failures + 1 → Applies carry ps base start (record start { log = log }) (Err Log)
+Applies-first carry ps base start log below under n inside went failed =
+    subst (λ all. Applies carry all base start (record start { log = log }) (Err Log)) (take-append-drop below ps)
+    (Applies-below carry (take below ps) (drop below ps) base start log under n inside went failed)

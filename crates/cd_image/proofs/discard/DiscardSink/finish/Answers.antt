@@ -1,5 +1,0 @@
-use Rattle.std.proofs.Common.{rules}
-use Rattle.cd_image.proofs.discard.DiscardSink.finish.Goals as goal
-
-pub returns : goal.returns
-returns c = search rules

@@ -1,0 +1,9 @@
+//! Tests of cd_image (`apply`, `check`), cd_report (`list`, `audit`) and cd_read, on whole images.
+//!
+//! Rows that are applied: `applied`, `addresses`, `many_patches`, `noise`; refused: `refused`, `cut_images`; with damage carried:
+//! `carried`. Failures at each byte: `failing_patches`, `order`, `windows`, `failing_listings`, `writers`. Reports: `listings`,
+//! `audits`. The largest images and those with no end: `bounds`, `long_images`, `endless`.
+#![tactic(auto)]
+
+#[cfg(test)]
+mod tests;

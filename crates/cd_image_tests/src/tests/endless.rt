@@ -1,0 +1,104 @@
+//! Readers of std that have no end, and that fail on the way. They tell no contract which bytes are still to come.
+
+use super::calls::{Audits, Lists};
+use super::long_images::{expect_applied, expect_checked};
+use cd_image::{Fault, FromRead, Source, ToWrite, apply, audit, check, list};
+use cd_test_images::{NO_LIMIT, Reported, Written, report_of, script_of};
+use std::io::{self, ErrorKind, Read};
+use std::test::Fail;
+
+/// A report that ends by too long an image, with nothing written.
+pub fn too_long<A>() -> Reported<Result<A, Fault>> {
+    Reported {
+        answer: Err(Fault::TooLong),
+        finished: false,
+        text: Written::right(0),
+    }
+}
+
+#[test]
+fn a_listing(rt: HostRuntime) {
+    let mut image = FromRead::new(io::repeat(0));
+    let listed = report_of::<Lists, _>(&mut image, 0, &NO_LIMIT, "");
+    assert_eq!(rt; (listed, image.failures()), (too_long(), 0));
+}
+
+#[test]
+fn an_audit(rt: HostRuntime) {
+    let mut image = FromRead::new(io::repeat(0));
+    let audited = report_of::<Audits, _>(&mut image, 0, &NO_LIMIT, "");
+    assert_eq!(rt; (audited, image.failures()), (too_long(), 0));
+}
+
+const SCRIPT: &str = "cdpatch 1\nset 1000000 0 41\nset 7 0 41\n";
+
+/// The line of the patch at a block that comes.
+const LOG: &str = "line 3: refused: block 7 is not mode 1\n";
+
+#[test]
+fn patches_that_are_applied(rt: HostRuntime) -> Result<(), Fail> {
+    let script = script_of(rt.alloc(), SCRIPT)?;
+    let mut image = FromRead::new(io::repeat(0));
+    expect_applied(&rt, &mut image, &script, 0, Err(Fault::TooLong), LOG);
+    Ok(())
+}
+
+#[test]
+fn patches_that_are_checked(rt: HostRuntime) -> Result<(), Fail> {
+    let script = script_of(rt.alloc(), SCRIPT)?;
+    let mut image = FromRead::new(io::repeat(0));
+    expect_checked(&rt, &mut image, &script, 0, Err(Fault::TooLong), LOG);
+    Ok(())
+}
+
+/// A reader of bytes `00` with no end, one read of which fails.
+#[derive(Drop)]
+struct Faltering {
+    /// How many reads there are before that one.
+    left: Option<u32>,
+}
+
+impl Faltering {
+    fn new(left: u32) -> Self {
+        Faltering { left: Some(left) }
+    }
+}
+
+impl Read for Faltering {
+    fn read(&mut self, buf: &mut [u8]) -> io::Result<usize> {
+        self.left = match self.left {
+            Some(0) => {
+                self.left = None;
+                return Err(io::Error::from(ErrorKind::Interrupted));
+            }
+            left => left.map(|count| count.saturating_sub(1)),
+        };
+        buf.fill(0);
+        Ok(buf.len())
+    }
+}
+
+/// It is not read on, although the next read would succeed.
+#[test]
+fn a_read_that_fails(rt: HostRuntime) -> Result<(), Fail> {
+    let script = script_of(rt.alloc(), SCRIPT)?;
+    for reads in 0..12u32 {
+        let mut out = ToWrite::new(io::sink());
+        let mut log = ToWrite::new(io::sink());
+        let mut image = FromRead::new(Faltering::new(reads));
+        let listed = list(&mut image, 0, &mut out).err();
+        let is_listed = (listed, image.failures());
+        let mut image = FromRead::new(Faltering::new(reads));
+        let audited = audit(&mut image, 0, &mut out).err();
+        let is_audited = (audited, image.failures());
+        let mut image = FromRead::new(Faltering::new(reads));
+        let applied = apply(&mut image, &script, 0, false, &mut out, &mut log).err();
+        let is_applied = (applied, image.failures());
+        let mut image = FromRead::new(Faltering::new(reads));
+        let checked = check(&mut image, &script, 0, false, &mut log).err();
+        let is_checked = (checked, image.failures());
+        let ends = [is_listed, is_audited, is_applied, is_checked];
+        assert_eq!(rt; ends, [(Some(Fault::Read), 1); 4], "{reads} reads");
+    }
+    Ok(())
+}

@@ -1,0 +1,239 @@
+//! Patches on the largest images. A pass over more than 60,000,000 bytes is a test of its own.
+
+ghost use Rattle.std.specs.Prelude.{◌<◌, ◌≤◌};
+ghost use Rattle.cd_stream.specs.Stream.{MayCount};
+
+use cd_image::{
+    Fault, MAX_BASE, Sink, SliceSink, Source, Tally, ToWrite, ZeroSource, apply, check,
+};
+use cd_script::Script;
+use cd_test_images::{Failures, UNTOUCHED, Written, repeated, script_of, written_in};
+use std::alloc::Global;
+use std::io;
+use std::process::Abort;
+use std::test::Fail;
+
+/// How a call ended whose output is not kept.
+#[derive(Clone, Copy, Debug, PartialEq, Eq)]
+struct Ended {
+    answer: Result<Tally, Fault>,
+    failures: Failures,
+    finished: bool,
+    log: Written,
+}
+
+/// Nothing but the answer tells of a fault, and this log was told.
+fn unfailed(answer: Result<Tally, Fault>, log: &str) -> Ended {
+    Ended {
+        answer,
+        failures: Failures {
+            image: 0,
+            out: 0,
+            log: 0,
+        },
+        finished: answer.is_ok(),
+        log: Written::right(log.len()),
+    }
+}
+
+/// Applies a script, with an output that is not kept.
+pub fn expect_applied<I: Source>(
+    rt: &impl Abort,
+    image: &mut I,
+    script: &Script,
+    base: u32,
+    want: Result<Tally, Fault>,
+    log: &str,
+)
+    requires base { base ≤ MAX_BASE }
+    requires countable { MayCount (I.seen image.old).failures }
+{
+    let mut lines = [UNTOUCHED; 128];
+    let mut out = ToWrite::new(io::sink());
+    let mut told = SliceSink::new(&mut lines);
+    let answer = apply(image, script, base, false, &mut out, &mut told);
+    let finished = out.finished() && told.finished();
+    let failures = Failures {
+        image: image.failures(),
+        out: out.failures(),
+        log: told.failures(),
+    };
+    let count = told.written().len();
+    let log_written = written_in(&lines, count, log.as_bytes());
+    let ended = Ended {
+        answer,
+        failures,
+        finished,
+        log: log_written,
+    };
+    assert_eq!(rt; ended, unfailed(want, log), "apply: {log}");
+}
+
+/// Checks a script.
+pub fn expect_checked<I: Source>(
+    rt: &impl Abort,
+    image: &mut I,
+    script: &Script,
+    base: u32,
+    want: Result<Tally, Fault>,
+    log: &str,
+)
+    requires base { base ≤ MAX_BASE }
+    requires countable { MayCount (I.seen image.old).failures }
+{
+    let mut lines = [UNTOUCHED; 128];
+    let mut told = SliceSink::new(&mut lines);
+    let answer = check(image, script, base, false, &mut told);
+    let failures = Failures {
+        image: image.failures(),
+        out: 0,
+        log: told.failures(),
+    };
+    let finished = told.finished();
+    let count = told.written().len();
+    let log_written = written_in(&lines, count, log.as_bytes());
+    let ended = Ended {
+        answer,
+        failures,
+        finished,
+        log: log_written,
+    };
+    assert_eq!(rt; ended, unfailed(want, log), "check: {log}");
+}
+
+/// A script on so many bytes `00` from a block on, and how it ends.
+#[derive(Clone, Copy)]
+struct Long<'a> {
+    script: &'a str,
+    /// How many bytes `41` its last line ends with.
+    bytes: u32,
+    size: u64,
+    base: u32,
+    /// How many patches are refused in a million sectors, none being accepted; None where the image is too long.
+    refused: Option<u32>,
+    log: &'a str,
+}
+
+/// How a pass over the image ends.
+fn ending_of(long: &Long) -> Result<Tally, Fault> {
+    match long.refused {
+        Some(refused) => Ok(Tally {
+            applied: 0,
+            refused,
+            sectors: 1_000_000,
+            tail: 0,
+        }),
+        None => Err(Fault::TooLong),
+    }
+}
+
+fn applies(rt: &impl Abort, alloc: Global, long: &Long) -> Result<(), Fail>
+    requires { long.now.base ≤ MAX_BASE }
+{
+    let text = repeated(alloc, long.script, "41", long.bytes, "\n")?;
+    let script = script_of(alloc, text.as_str())?;
+    let mut image = ZeroSource::new(long.size);
+    expect_applied(
+        rt,
+        &mut image,
+        &script,
+        long.base,
+        ending_of(long),
+        long.log,
+    );
+    Ok(())
+}
+
+fn checks(rt: &impl Abort, alloc: Global, long: &Long) -> Result<(), Fail>
+    requires { long.now.base ≤ MAX_BASE }
+{
+    let text = repeated(alloc, long.script, "41", long.bytes, "\n")?;
+    let script = script_of(alloc, text.as_str())?;
+    let mut image = ZeroSource::new(long.size);
+    expect_checked(
+        rt,
+        &mut image,
+        &script,
+        long.base,
+        ending_of(long),
+        long.log,
+    );
+    Ok(())
+}
+
+const NO_PATCHES: Long = Long {
+    script: "cdpatch 1",
+    bytes: 0,
+    size: 2_352_000_000,
+    base: 0,
+    refused: Some(0),
+    log: "applied 0 refused 0\n",
+};
+
+#[test]
+fn no_patches_applied_to_a_million_sectors(rt: HostRuntime) -> Result<(), Fail> {
+    applies(&rt, rt.alloc(), &NO_PATCHES)
+}
+
+#[test]
+fn no_patches_checked_on_a_million_sectors(rt: HostRuntime) -> Result<(), Fail> {
+    checks(&rt, rt.alloc(), &NO_PATCHES)
+}
+
+const A_BYTE_TOO_MANY: Long = Long {
+    script: "cdpatch 1\nset 1000000 0 41",
+    bytes: 0,
+    size: 2_352_000_001,
+    base: 0,
+    refused: None,
+    log: "",
+};
+
+#[test]
+fn a_patch_applied_past_a_byte_too_many(rt: HostRuntime) -> Result<(), Fail> {
+    applies(&rt, rt.alloc(), &A_BYTE_TOO_MANY)
+}
+
+#[test]
+fn a_patch_checked_past_a_byte_too_many(rt: HostRuntime) -> Result<(), Fail> {
+    checks(&rt, rt.alloc(), &A_BYTE_TOO_MANY)
+}
+
+const OVER_THE_END: Long = Long {
+    script: "cdpatch 1\nset 999998 0 ",
+    bytes: 4096,
+    size: 2_352_000_000,
+    base: 0,
+    refused: Some(1),
+    log: "line 2: refused: block 999998 is not mode 1\napplied 0 refused 1\n",
+};
+
+#[test]
+fn a_patch_applied_over_the_end_of_a_million_sectors(rt: HostRuntime) -> Result<(), Fail> {
+    applies(&rt, rt.alloc(), &OVER_THE_END)
+}
+
+#[test]
+fn a_patch_checked_over_the_end_of_a_million_sectors(rt: HostRuntime) -> Result<(), Fail> {
+    checks(&rt, rt.alloc(), &OVER_THE_END)
+}
+
+const AT_THE_END: Long = Long {
+    script: "cdpatch 1\nset 1449849 0 41\nrebuild 1449848",
+    bytes: 0,
+    size: 2_352_000_000,
+    base: 449_849,
+    refused: Some(2),
+    log: "line 3: refused: block 1449848 is not mode 1\n\
+        line 2: refused: no block 1449849\napplied 0 refused 2\n",
+};
+
+#[test]
+fn patches_applied_at_the_end_of_a_million_sectors(rt: HostRuntime) -> Result<(), Fail> {
+    applies(&rt, rt.alloc(), &AT_THE_END)
+}
+
+#[test]
+fn patches_checked_at_the_end_of_a_million_sectors(rt: HostRuntime) -> Result<(), Fail> {
+    checks(&rt, rt.alloc(), &AT_THE_END)
+}

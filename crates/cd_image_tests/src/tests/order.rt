@@ -1,0 +1,193 @@
+//! In which order an image's lines and bytes go out, seen where the output, the log or the image fails at each byte: an
+//! image of two sectors and a tail, and patches below it, in it, over its end and past it.
+
+ghost use Rattle.std.specs.Prelude.{◌≡◌};
+
+use super::calls::OnImages;
+use super::failing_patches::{Ended, failed};
+use cd_image::{Fault, Tally};
+use cd_script::Script;
+use cd_test_images::Sample::{self, Filled, Zeros};
+use cd_test_images::{
+    ALL, Call, Ending, apply_within, check_within, done, image_of, passing, script_of,
+};
+use std::alloc::{AllocError, Global};
+use std::process::Abort;
+use std::test::Fail;
+
+const IMAGE: &[Sample] = &[Zeros(10), Zeros(11)];
+
+const TAIL: &[u8] = b"tail.";
+
+const SCRIPT: &str =
+    "cdpatch 1\nset 9 0 41\nset 10 0 42\nfill 11 2047 2 43\nset 12 0 44\nset 99 0 45\n";
+
+const PATCHED: &[Sample] = &[Filled(10, 0, 1, 66), Zeros(11)];
+
+/// The lines in order: that of the patch below the base, of block 10, of block 11, and those of the patches past the end
+/// with the last line.
+const LINES: [&[u8]; 4] = [
+    b"line 2: refused: no block 9\n",
+    b"line 3: applied\n",
+    b"line 4: refused: no block 12\n",
+    b"line 5: refused: no block 12\nline 6: refused: no block 99\napplied 1 refused 4\n",
+];
+
+/// The lengths of the log behind each of these, by the bytes above: 28, 16, 29, 29 and 29 and 20.
+const BELOW: usize = 28;
+
+const FIRST: usize = 44;
+
+const SECOND: usize = 73;
+
+const LOG_SIZE: usize = 151;
+
+const FIRST_SECTOR: usize = 2352;
+
+const BOTH_SECTORS: usize = 4704;
+
+const OUTPUT_SIZE: usize = 4709;
+
+const TALLY: Tally = Tally {
+    applied: 1,
+    refused: 4,
+    sectors: 2,
+    tail: 5,
+};
+
+/// The image, its script, the patched image and the log.
+#[derive(Drop)]
+struct Parts {
+    image: Vec<u8>,
+    script: Script,
+    whole: Vec<u8>,
+    log: Vec<u8>,
+}
+
+fn make_parts(alloc: Global) -> Result<Parts, Fail> {
+    let mut image = image_of(alloc, IMAGE)?;
+    image.extend_from_slice(TAIL)?;
+    let mut whole = image_of(alloc, PATCHED)?;
+    whole.extend_from_slice(TAIL)?;
+    let mut log = Vec::new(alloc);
+    for lines in LINES {
+        log.extend_from_slice(lines)?;
+    }
+    Ok(Parts {
+        image,
+        script: script_of(alloc, SCRIPT)?,
+        whole,
+        log,
+    })
+}
+
+impl Parts {
+    fn call(&self) -> Call<'_>
+        ensures { result.base ≡ 10 }
+    {
+        Call {
+            image: &self.image,
+            script: &self.script,
+            base: 10,
+            carry: false,
+            out: &self.whole,
+            log: &self.log,
+        }
+    }
+}
+
+/// The output fails after so many bytes.
+fn output_fails(rt: &impl Abort, alloc: Global, call: &Call, count: usize) -> Result<(), AllocError>
+    requires { call.now.base ≡ 10 }
+{
+    let told = match count {
+        0..FIRST_SECTOR => FIRST,
+        FIRST_SECTOR..OUTPUT_SIZE => SECOND,
+        _ => LOG_SIZE,
+    };
+    let ended = apply_within::<OnImages>(alloc, call, &passing(ALL, count as u64, ALL))?;
+    assert_eq!(rt;
+        ended,
+        failed(&ended, Fault::Write, count, told),
+        "output, {count}"
+    );
+    Ok(())
+}
+
+/// The log fails after so many bytes, of a call of each kind. Where all of it was told, the output is finished.
+fn log_fails(rt: &impl Abort, alloc: Global, call: &Call, count: usize) -> Result<(), AllocError>
+    requires { call.now.base ≡ 10 }
+{
+    let sent = match count {
+        0..FIRST => 0,
+        FIRST..SECOND => FIRST_SECTOR,
+        _ => OUTPUT_SIZE,
+    };
+    let limits = passing(ALL, ALL, count as u64);
+    let applied = apply_within::<OnImages>(alloc, call, &limits)?;
+    let wanted = Ending {
+        out_finished: count == LOG_SIZE,
+        ..failed(&applied, Fault::Log, sent, count)
+    };
+    assert_eq!(rt; applied, wanted, "log, {count}");
+    let checked = check_within::<OnImages>(alloc, call, &limits)?;
+    assert_eq!(rt;
+        checked,
+        failed(&checked, Fault::Log, 0, count),
+        "log, {count}"
+    );
+    Ok(())
+}
+
+/// Where the image has failed after so many bytes: the patch below the base was told, and that of block 10 only where its
+/// sector came; that of block 11 would ask for the end.
+fn is_begun(rt: &impl Abort, ended: &Ended, count: usize) {
+    let (sent, told) = (ended.out.count, ended.log.count);
+    assert_eq!(rt;
+        *ended,
+        failed(ended, Fault::Read, sent, told),
+        "image, {count}"
+    );
+    let is_first = told == FIRST && FIRST_SECTOR <= count;
+    assert!(rt; told == BELOW || is_first, "{told} of the log at {count}");
+    assert!(rt;
+        sent == 0 || sent == FIRST_SECTOR && is_first,
+        "{sent} of the output at {count}"
+    );
+}
+
+/// The image fails after so many bytes, of a call of each kind.
+fn image_fails(rt: &impl Abort, alloc: Global, call: &Call, count: usize) -> Result<(), AllocError>
+    requires { call.now.base ≡ 10 }
+{
+    let limits = passing(count as u64, ALL, ALL);
+    is_begun(rt, &apply_within::<OnImages>(alloc, call, &limits)?, count);
+    is_begun(rt, &check_within::<OnImages>(alloc, call, &limits)?, count);
+    Ok(())
+}
+
+#[test]
+fn each_fails_at_each_byte(rt: HostRuntime) -> Result<(), Fail> {
+    let parts = make_parts(rt.alloc())?;
+    let call = parts.call();
+    for count in 0..OUTPUT_SIZE + 1 {
+        output_fails(&rt, rt.alloc(), &call, count)?;
+        image_fails(&rt, rt.alloc(), &call, count)?;
+    }
+    for count in 0..LOG_SIZE + 1 {
+        log_fails(&rt, rt.alloc(), &call, count)?;
+    }
+    Ok(())
+}
+
+#[test]
+fn nothing_fails(rt: HostRuntime) -> Result<(), Fail> {
+    let parts = make_parts(rt.alloc())?;
+    let call = parts.call();
+    let limits = passing(4710, 4710, 152);
+    let applied = apply_within::<OnImages>(rt.alloc(), &call, &limits)?;
+    assert_eq!(rt; applied, done(Ok(TALLY), &call, OUTPUT_SIZE));
+    let checked = check_within::<OnImages>(rt.alloc(), &call, &limits)?;
+    assert_eq!(rt; checked, done(Ok(TALLY), &call, 0));
+    Ok(())
+}

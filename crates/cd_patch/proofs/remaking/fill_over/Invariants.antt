@@ -1,9 +1,0 @@
-use Rattle.std.proofs.Common.{replicate}
-use Rattle.cd_sector.specs.Consistent.{header_of}
-use Rattle.cd_patch.specs.Parts.{HasPart}
-use Rattle.cd_patch.proofs.PartLemmas.{MadeBelow}
-use Rattle.cd_patch.proofs.remaking.fill_over.Given as goal
-
-abbrev pub invariant-loop-k : goal.invariant-loop-k
-invariant-loop-k l =
-    MadeBelow (λ i before after. HasPart l.carry i l.offset (replicate l.count l.value) (header_of before) before after) l.k l.initial.sectors l.sectors

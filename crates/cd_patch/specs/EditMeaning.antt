@@ -1,0 +1,54 @@
+-- What each edit means: the one place where the edits of a script are told apart.
+use Rattle.std.specs.Prelude.{ℕ, Bool, true, false, not, ◌&&◌, List, [], ◌++◌, drop, replicate, Option, Some, None, unwrap_or}
+use Rattle.cd_script.specs.declared.patch.Edit.{Edit}
+use Rattle.cd_script.specs.declared.patch.Edit.TheVariants.{Put, Fill, Rebuild, Address}
+
+pub record EditMeaning : Type 0 where
+  -- the user bytes that it writes, from the patch's offset on
+  pub bytes : List ℕ
+  -- the bytes that have to stand in their place before; none where it does not ask
+  pub old : List ℕ
+  -- the address that it writes into the header
+  pub address : Option (List ℕ)
+  -- whether it builds on the sector as it is, and does not make it anew
+  pub builds_on : Bool
+
+-- what each row begins with: nothing is written or asked for, and the sector stays
+abbrev pub nothing : EditMeaning
+nothing = record { bytes = []; old = []; address = None; builds_on = true }
+
+-- a row for each edit
+abbrev pub meaning : Edit → EditMeaning
+meaning (Put bytes was) = record nothing { bytes = bytes; old = unwrap_or was [] }
+meaning (Fill count value) = record nothing { bytes = replicate count value }
+meaning Rebuild = record nothing { builds_on = false }
+meaning (Address bcd) = record nothing { address = Some bcd }
+
+-- the bytes that an edit writes
+abbrev pub new_bytes : Edit → List ℕ
+new_bytes edit = (meaning edit).bytes
+
+-- the bytes that have to stand in their place before
+abbrev pub old_bytes : Edit → List ℕ
+old_bytes edit = (meaning edit).old
+
+-- a header with this address, where there is one
+abbrev pub with_address : Option (List ℕ) → List ℕ → List ℕ
+with_address None header = header
+with_address (Some bcd) header = bcd ++ drop 3 header
+
+-- the header that an edit makes of one
+abbrev pub new_header : Edit → List ℕ → List ℕ
+new_header edit header = with_address (meaning edit).address header
+
+-- whether an edit builds on the sector as it is
+abbrev pub builds_on : Edit → Bool
+builds_on edit = (meaning edit).builds_on
+
+-- whether an edit is refused where a sector is damaged: not where damage is carried
+abbrev pub needs_consistent : Bool → Edit → Bool
+needs_consistent carry edit = builds_on edit && not carry
+
+-- whether an edit leaves a sector's damage as it was
+abbrev pub keeps_defect : Bool → Edit → Bool
+keeps_defect carry edit = builds_on edit && carry

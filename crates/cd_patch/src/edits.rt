@@ -1,0 +1,116 @@
+//! What each edit means: the one place where the edits of a script are told apart.
+
+ghost use Rattle.std.specs.Prelude.{◌≡◌, ◌+◌, ◌*◌, ◌≤◌, ◌&&◌, length, not};
+ghost use Rattle.cd_script.specs.Patch.{IsPatch};
+ghost use Rattle.cd_patch.specs.Blocks.{block_limit, blocks_met, blocks_spanned};
+ghost use Rattle.cd_patch.specs.EditMeaning.{meaning};
+ghost use Rattle.cd_patch.specs.Parts.{bytes_of};
+
+use cd_script::{Edit, Patch};
+use cd_sector::USER_SIZE;
+
+/// How many blocks a patch may meet: as many as its bytes can lie in, wherever they begin in the first.
+pub const MAX_BLOCKS_MET: usize = 3;
+
+/// User bytes that an edit writes.
+#[derive(Clone, Copy)]
+pub(crate) enum NewBytes<'a> {
+    /// These bytes of the patch.
+    Borrowed(&'a [u8]),
+    /// So many bytes of one value.
+    Repeated(usize, u8),
+}
+
+impl NewBytes<'_> {
+    /// How many bytes they are.
+    pub(crate) fn len(&self) -> usize
+        ensures { result ≡ length (bytes_of self.now) }
+    {
+        match self {
+            NewBytes::Borrowed(bytes) => bytes.len(),
+            NewBytes::Repeated(count, _) => *count,
+        }
+    }
+}
+
+/// What an edit means for the blocks that its patch meets.
+#[derive(Clone, Copy)]
+pub(crate) struct EditMeaning<'a> {
+    /// The user bytes that it writes, from the patch's offset on.
+    pub(crate) bytes: NewBytes<'a>,
+    /// The bytes that have to stand in their place before; none where it doesn't ask.
+    pub(crate) old: &'a [u8],
+    /// The address that it writes into the header: minute, second and fraction, each in BCD.
+    pub(crate) address: Option<[u8; 3]>,
+    /// Whether it builds on the sector as it is, and does not make it anew.
+    pub(crate) builds_on: bool,
+}
+
+impl EditMeaning<'_> {
+    /// Whether the edit is refused where a sector is damaged: not where damage is carried.
+    pub(crate) fn needs_consistent(&self, carry: bool) -> bool
+        ensures { result ≡ (self.now.builds_on && not carry) }
+    {
+        self.builds_on && !carry
+    }
+}
+
+/// What each row begins with: nothing is written or asked for, and the sector stays.
+const NOTHING: EditMeaning<'static> = EditMeaning {
+    bytes: NewBytes::Borrowed(&[]),
+    old: &[],
+    address: None,
+    builds_on: true,
+};
+
+/// The meaning of an edit: a row for each.
+pub(crate) fn meaning(edit: &Edit) -> EditMeaning<'_>
+    ensures bytes { bytes_of result.bytes ≡ (meaning edit.now).bytes }
+    ensures old { result.old.now ≡ (meaning edit.now).old }
+    ensures address { result.address ≡ (meaning edit.now).address }
+    ensures builds_on { result.builds_on ≡ (meaning edit.now).builds_on }
+{
+    match edit {
+        Edit::Put { bytes, was } => EditMeaning {
+            bytes: NewBytes::Borrowed(bytes.as_slice()),
+            old: match was {
+                Some(was) => was.as_slice(),
+                None => &[],
+            },
+            ..NOTHING
+        },
+        Edit::Fill { count, value } => EditMeaning {
+            bytes: NewBytes::Repeated(*count as usize, *value),
+            ..NOTHING
+        },
+        Edit::Rebuild => EditMeaning {
+            builds_on: false,
+            ..NOTHING
+        },
+        Edit::Address { bcd } => EditMeaning {
+            address: Some(*bcd),
+            ..NOTHING
+        },
+    }
+}
+
+/// The number of blocks that a patch meets, 1 to [`MAX_BLOCKS_MET`]: its first block, and those after it.
+pub fn blocks_met(patch: &Patch) -> usize
+    requires { IsPatch patch.now }
+    ensures number { result ≡ blocks_met patch.now }
+    ensures some { 1 ≤ result }
+    ensures few { result ≤ block_limit }
+    ensures limit { MAX_BLOCKS_MET ≡ block_limit }
+{
+    blocks_spanned(patch.offset, meaning(&patch.edit).bytes.len())
+}
+
+/// The number of blocks that so many user bytes from an offset on lie in; none are of one block.
+fn blocks_spanned(offset: u16, count: usize) -> usize
+    requires room { offset + count ≤ USER_SIZE * block_limit }
+    ensures number { result ≡ blocks_spanned offset count }
+    ensures some { 1 ≤ result }
+    ensures few { result ≤ block_limit }
+{
+    (offset as usize + count).saturating_sub(1) / USER_SIZE + 1
+}

@@ -1,0 +1,5 @@
+//! Tests of cd_delta (`tests::changes`), cd_script (`tests::scripts`) and cd_patch (`tests::patches`, `tests::laws`).
+#![tactic(auto)]
+
+#[cfg(test)]
+mod tests;

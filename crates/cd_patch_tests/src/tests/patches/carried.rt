@@ -1,0 +1,233 @@
+use super::made::{mixed_at, patched_at};
+use super::*;
+use cd_sector::encode;
+use cd_test_images::{encoded_anew, encoded_at, mixed_user, with_added, with_bytes};
+
+/// What is added to a byte that is damaged.
+const DAMAGE: u8 = 0x5A;
+
+/// A sector in which a byte is damaged.
+fn damaged_at(sector: &Sector, place: usize) -> Sector {
+    with_added(sector, place, DAMAGE)
+}
+
+/// An accepted patch, which carries damage, makes one sector of the other.
+fn makes(
+    rt: &impl Abort,
+    alloc: Global,
+    script: &str,
+    before: &Sector,
+    after: &Sector,
+) -> Result<(), Fail> {
+    let applied = Outcome::Applied;
+    takes(rt, alloc, script, true, &mut [*before], applied, &[*after])
+}
+
+const SET: &str = "cdpatch 2\nset 4 500 ABCD\n";
+
+const FILL: &str = "cdpatch 2\nfill 4 500 100 E5\n";
+
+/// Places in each region of a sector, and in the user data on both sides of what is written.
+const BESIDE: &[usize] = &[
+    12, 14, 16, 515, 616, 2063, 2064, 2067, 2068, 2075, 2076, 2247, 2248, 2351,
+];
+
+/// A damaged byte of each region stays as wrong as it was, beside the new bytes.
+#[test]
+fn patches_beside_damage(rt: HostRuntime) -> Result<(), Fail> {
+    let set = patched_at(4, 500, &[0xAB, 0xCD]);
+    let filled = patched_at(4, 500, &[0xE5; 100]);
+    for place in BESIDE {
+        let before = damaged_at(&mixed_at(4), *place);
+        makes(&rt, rt.alloc(), SET, &before, &damaged_at(&set, *place))?;
+        makes(&rt, rt.alloc(), FILL, &before, &damaged_at(&filled, *place))?;
+    }
+    Ok(())
+}
+
+const SET_ONE: &str = "cdpatch 2\nset 4 500 AB\n";
+
+const FILL_ALL: &str = "cdpatch 2\nfill 4 0 2048 E5\n";
+
+/// Where the damaged byte itself is written, its code words stay as wrong as they were.
+#[test]
+fn patches_over_damage(rt: HostRuntime) -> Result<(), Fail> {
+    let before = damaged_at(&mixed_at(4), 516);
+    let set = patched_at(4, 500, &[0xAB ^ DAMAGE]);
+    makes(&rt, rt.alloc(), SET_ONE, &before, &damaged_at(&set, 516))?;
+    let filled = damaged_at(&with_bytes(&before, 16, &[0xE5; 2048]), 516);
+    let filled = encoded_anew(&filled);
+    makes(
+        &rt,
+        rt.alloc(),
+        FILL_ALL,
+        &before,
+        &damaged_at(&filled, 516),
+    )
+}
+
+const ADDRESS: &str = "cdpatch 2\naddress 4 12:34:56\n";
+
+#[test]
+fn addresses_over_and_beside_damage(rt: HostRuntime) -> Result<(), Fail> {
+    let plain = encode([0x12, 0x34, 0x56], &mixed_user(4));
+    for place in &[16, 2063, 2064, 2068, 2076, 2351] {
+        let before = damaged_at(&mixed_at(4), *place);
+        makes(
+            &rt,
+            rt.alloc(),
+            ADDRESS,
+            &before,
+            &damaged_at(&plain, *place),
+        )?;
+    }
+    let before = damaged_at(&mixed_at(4), 13);
+    let after = damaged_at(&encode([0x12, 0x34 ^ DAMAGE, 0x56], &mixed_user(4)), 13);
+    makes(&rt, rt.alloc(), ADDRESS, &before, &after)
+}
+
+const REBUILD: &str = "cdpatch 2\nrebuild 4\n";
+
+/// A rebuild encodes the header and the user data as they stand, and carries nothing.
+#[test]
+fn rebuilds_carry_nothing(rt: HostRuntime) -> Result<(), Fail> {
+    for place in &[2064, 2068, 2076, 2351] {
+        let before = damaged_at(&mixed_at(4), *place);
+        makes(&rt, rt.alloc(), REBUILD, &before, &mixed_at(4))?;
+    }
+    let before = damaged_at(&mixed_at(4), 516);
+    makes(&rt, rt.alloc(), REBUILD, &before, &encoded_anew(&before))
+}
+
+/// A patch is refused so although damage is carried, and the sector stays as it was.
+fn refuses(
+    rt: &impl Abort,
+    alloc: Global,
+    script: &str,
+    before: &Sector,
+    expected: Outcome,
+) -> Result<(), Fail> {
+    takes(
+        rt,
+        alloc,
+        script,
+        true,
+        &mut [*before],
+        expected,
+        &[*before],
+    )
+}
+
+/// All but the damage is asked: the sync field and the mode.
+#[test]
+fn refusals_of_kinds_that_stay(rt: HostRuntime) -> Result<(), Fail> {
+    for place in &[0, 11, 15] {
+        let before = damaged_at(&mixed_at(4), *place);
+        for script in &[SET_ONE, REBUILD, ADDRESS] {
+            refuses(&rt, rt.alloc(), script, &before, Outcome::NotMode1(4))?;
+        }
+    }
+    Ok(())
+}
+
+/// All but the damage is asked: the block and the old bytes.
+#[test]
+fn refusals_that_stay(rt: HostRuntime) -> Result<(), Fail> {
+    let before = with_added(&mixed_at(4), 2351, 0x01);
+    let script = "cdpatch 2\nset 4 2047 ABCD\n";
+    refuses(&rt, rt.alloc(), script, &before, Outcome::NoBlock(5))?;
+    let [byte, ..] = mixed_user(4);
+    let wrong = byte ^ 0x01;
+    let script = format!(in rt.alloc(); "cdpatch 2\nset 4 0 AB was {wrong:02X}\n")?;
+    refuses(&rt, rt.alloc(), &script, &before, Outcome::Differs(4, 0))?;
+    let script = format!(in rt.alloc(); "cdpatch 2\nset 4 0 AB was {byte:02X}\n")?;
+    let after = with_added(&patched_at(4, 0, &[0xAB]), 2351, 0x01);
+    makes(&rt, rt.alloc(), &script, &before, &after)
+}
+
+/// Takes two patches, one after the other; both are accepted, and leave the old sector.
+fn gives_back(rt: &impl Abort, alloc: Global, script: &str, old: &Sector) -> Result<(), Fail> {
+    let read = script_of(alloc, script)?;
+    let mut sectors = [*old];
+    let mut is_applied = read.patches().len() == 2;
+    for patch in read.patches() {
+        let outcome = apply_patch(&mut sectors, patch, true);
+        is_applied = is_applied && outcome == Outcome::Applied;
+    }
+    assert!(rt; is_applied && sectors == [*old], "{script}");
+    Ok(())
+}
+
+const SET_AND_BACK: &str = "cdpatch 2\nset 4 505 ABCD\nset 4 505 3333\n";
+
+const FILL_AND_BACK: &str = "cdpatch 2\nfill 4 504 90 E5\nfill 4 504 90 33\n";
+
+const ADDRESS_AND_BACK: &str = "cdpatch 2\naddress 4 12:34:56\naddress 4 00:02:04\n";
+
+/// A patch and then the one that puts back the old bytes leave the sector as it was.
+#[test]
+fn there_and_back(rt: HostRuntime) -> Result<(), Fail> {
+    let whole = encoded_at(4, &[0x33; 2048]);
+    for place in &[13, 16, 516, 2064, 2068, 2076, 2351] {
+        let old = damaged_at(&whole, *place);
+        gives_back(&rt, rt.alloc(), SET_AND_BACK, &old)?;
+        gives_back(&rt, rt.alloc(), FILL_AND_BACK, &old)?;
+    }
+    for place in &[16, 2064, 2068, 2076, 2351] {
+        let old = damaged_at(&mixed_at(4), *place);
+        gives_back(&rt, rt.alloc(), ADDRESS_AND_BACK, &old)?;
+    }
+    Ok(())
+}
+
+/// Of three blocks the second is damaged.
+#[test]
+fn damage_within_a_span(rt: HostRuntime) -> Result<(), Fail> {
+    let bytes = hex_of(rt.alloc(), &mixed_user(9))?;
+    let script = format!(in rt.alloc(); "cdpatch 2\nset 4 2047 AB{bytes}CD\n")?;
+    let (first, third) = (patched_at(4, 2047, &[0xAB]), patched_at(6, 0, &[0xCD]));
+    let second = encoded_at(5, &mixed_user(9));
+    for place in &[2064, 2068, 2076, 2351] {
+        let mut sectors = [mixed_at(4), damaged_at(&mixed_at(5), *place), mixed_at(6)];
+        let after = [first, damaged_at(&second, *place), third];
+        let applied = Outcome::Applied;
+        takes(
+            &rt,
+            rt.alloc(),
+            &script,
+            true,
+            &mut sectors,
+            applied,
+            &after,
+        )?;
+    }
+    Ok(())
+}
+
+/// Without damage the same sector is made whether damage is carried or not, and the next one is not asked.
+fn makes_alike(rt: &impl Abort, alloc: Global, script: &str, after: Sector) -> Result<(), Fail> {
+    let next = with_added(&mixed_at(5), 2351, 0x01);
+    for carry in [false, true] {
+        let mut sectors = [mixed_at(4), next];
+        let applied = Outcome::Applied;
+        takes(
+            rt,
+            alloc,
+            script,
+            carry,
+            &mut sectors,
+            applied,
+            &[after, next],
+        )?;
+    }
+    Ok(())
+}
+
+#[test]
+fn nothing_to_carry(rt: HostRuntime) -> Result<(), Fail> {
+    makes_alike(&rt, rt.alloc(), SET, patched_at(4, 500, &[0xAB, 0xCD]))?;
+    makes_alike(&rt, rt.alloc(), FILL_ALL, encoded_at(4, &[0xE5; 2048]))?;
+    makes_alike(&rt, rt.alloc(), REBUILD, mixed_at(4))?;
+    let other = encode([0x12, 0x34, 0x56], &mixed_user(4));
+    makes_alike(&rt, rt.alloc(), ADDRESS, other)
+}

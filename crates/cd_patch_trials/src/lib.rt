@@ -1,5 +1,0 @@
-//! Tests of changes of sectors, scripts, and patches of sectors.
-#![tactic(auto)]
-
-#[cfg(test)]
-mod tests;

@@ -1,0 +1,10 @@
+//! Whole calls, at concrete sources and sinks.
+
+mod calls;
+mod command_line;
+mod hosts;
+mod patching;
+mod reports;
+mod script;
+mod streams;
+mod words;

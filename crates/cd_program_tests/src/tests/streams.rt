@@ -1,0 +1,66 @@
+//! Listings and audits of readers of std, and to writers of std, that fail.
+
+use super::calls::Lists;
+use cd_image::{FailAfter, FromRead, ToWrite, ZeroSource};
+use cd_jobs::{run_audit, run_list};
+use cd_test_images::{NO_LIMIT, Written, report_of};
+use std::io::{self, ErrorKind, Read, Write};
+
+/// A writer that takes all, and cannot pass it on, as on a full disk.
+#[derive(Drop)]
+pub struct Unflushed;
+
+impl Write for Unflushed {
+    fn write(&mut self, buf: &[u8]) -> io::Result<usize> {
+        Ok(buf.len())
+    }
+
+    fn flush(&mut self) -> io::Result<()> {
+        Err(io::Error::from(ErrorKind::Other))
+    }
+}
+
+#[test]
+fn a_failed_flush(rt: HostRuntime) {
+    let mut out = ToWrite::new(Unflushed);
+    let listed = run_list(&mut ZeroSource::new(2352), 0, &mut out);
+    let mut out = ToWrite::new(Unflushed);
+    let audited = run_audit(&mut ZeroSource::new(2352), 0, &mut out);
+    let mut out = ToWrite::new(Unflushed);
+    let mut image = FailAfter::new(ZeroSource::new(2352), 5);
+    let unread = run_audit(&mut image, 0, &mut out);
+    assert_eq!(rt; [listed, audited, unread], [2, 2, 2]);
+}
+
+/// A reader that has nothing, or fails.
+#[derive(Drop)]
+struct Nothing {
+    fails: bool,
+}
+
+impl Read for Nothing {
+    fn read(&mut self, _buf: &mut [u8]) -> io::Result<usize> {
+        if self.fails {
+            return Err(io::Error::from(ErrorKind::Other));
+        }
+        Ok(0)
+    }
+}
+
+#[test]
+fn a_failed_read_and_an_end(rt: HostRuntime) {
+    let mut failing = FromRead::new(Nothing { fails: true });
+    let line = "cdpatch: reading the image failed\n";
+    let failed = report_of::<Lists, _>(&mut failing, 0, &NO_LIMIT, line);
+    assert_eq!(rt;
+        (failed.answer, failed.text),
+        (2, Written::right(line.len()))
+    );
+    let mut ended = FromRead::new(Nothing { fails: false });
+    let text = "sectors 0 tail 0\n";
+    let listed = report_of::<Lists, _>(&mut ended, 0, &NO_LIMIT, text);
+    assert_eq!(rt;
+        (listed.answer, listed.text),
+        (0, Written::right(text.len()))
+    );
+}

@@ -1,0 +1,40 @@
+//! Why a call on an image ended early.
+
+ghost use Rattle.std.specs.Prelude.{◌≡◌};
+ghost use Rattle.cd_read.specs.declared.fault.Fault.TheVariants.{Read, Write};
+
+use cd_stream::{SinkFailed, SourceFailed};
+use thiserror::Error;
+
+/// Why a call on an image ended early. It ends at the first fault.
+#[derive(Clone, Copy, Debug, PartialEq, Eq, Drop, Error)]
+pub enum Fault {
+    /// A read of the image failed.
+    #[error("reading the image failed")]
+    Read,
+    /// A write to the output, or its flush, failed.
+    #[error("writing the output failed")]
+    Write,
+    /// A write to the log failed, or its flush.
+    #[error("writing the log failed")]
+    Log,
+    /// A byte was read behind the millionth sector.
+    #[error("the image has more than 1000000 sectors")]
+    TooLong,
+}
+
+impl From<SourceFailed> for Fault {
+    ghost from_gives = { λ _ fault. fault ≡ Read };
+
+    fn from(_: SourceFailed) -> Self {
+        Fault::Read
+    }
+}
+
+impl From<SinkFailed> for Fault {
+    ghost from_gives = { λ _ fault. fault ≡ Write };
+
+    fn from(_: SinkFailed) -> Self {
+        Fault::Write
+    }
+}

@@ -1,0 +1,8 @@
+//! Laws of the definitions, each the contract of a function that does nothing.
+
+ghost use Rattle.cd_read.specs.Image.{ImagesAreCut};
+
+/// Each list of bytes is its whole sectors and then its tail, and is cut so in one way alone.
+pub fn images_are_cut()
+    ensures { ImagesAreCut }
+{}

@@ -1,0 +1,62 @@
+//! Reading an image sector by sector, as far as an image may go.
+
+ghost use Rattle.std.specs.Prelude.{◌≡◌, ◌<◌, ◌≤◌};
+ghost use Rattle.cd_read.specs.Reading.{ReadsSector};
+ghost use Rattle.cd_stream.specs.Stream.{MayCount};
+ghost use Rattle.cd_read.specs.Image.{sector_limit};
+
+use crate::MAX_SECTORS;
+use crate::fault::Fault;
+use cd_sector::{SECTOR_SIZE, Sector};
+use cd_stream::{Source, fill};
+
+/// Reads the next sector of an image, after `count` others, to `sector`, in the place of its bytes.
+/// Where the image has ended, the answer is the number of bytes of its tail, which is then at the
+/// front of `sector`; after the last sector that an image may have not a byte may come.
+///
+/// # Errors
+///
+/// `Read` where a read of the image failed, `TooLong` where a byte came after the last sector that
+/// an image may have.
+pub fn read_sector<I: Source>(
+    image: &mut I,
+    count: u32,
+    sector: &mut Sector,
+) -> Result<Option<usize>, Fault>
+    requires countable { MayCount (I.seen image.old).failures }
+    requires few { count ≤ sector_limit }
+    ensures { ReadsSector count sector.new (I.seen image.old) (I.seen image.new) result }
+{
+    sector.read_with(image, |image, bytes| read_bytes(image, count, bytes))
+}
+
+/// The same to the bytes of a sector.
+fn read_bytes<I: Source>(
+    image: &mut I,
+    count: u32,
+    bytes: &mut [u8; SECTOR_SIZE],
+) -> Result<Option<usize>, Fault>
+    requires countable { MayCount (I.seen image.old).failures }
+    requires few { count ≤ sector_limit }
+    ensures { ReadsSector count bytes.new (I.seen image.old) (I.seen image.new) result }
+{
+    if count == MAX_SECTORS {
+        return read_end(image, bytes);
+    }
+    let length = fill(image, bytes)?;
+    if length < SECTOR_SIZE {
+        return Ok(Some(length));
+    }
+    Ok(None)
+}
+
+/// After the last sector that an image may have: reads a byte more, which must not come.
+fn read_end<I: Source>(image: &mut I, bytes: &mut [u8; SECTOR_SIZE]) -> Result<Option<usize>, Fault>
+    requires { MayCount (I.seen image.old).failures }
+    ensures { ReadsSector sector_limit bytes.new (I.seen image.old) (I.seen image.new) result }
+{
+    if image.read(&mut bytes[..1])? > 0 {
+        return Err(Fault::TooLong);
+    }
+    Ok(Some(0))
+}

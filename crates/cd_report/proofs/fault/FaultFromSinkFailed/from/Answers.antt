@@ -1,5 +1,0 @@
-use Rattle.std.proofs.Common.{refl}
-use Rattle.cd_report.proofs.fault.FaultFromSinkFailed.from.Goals as goal
-
-pub returns : goal.returns
-returns c = refl

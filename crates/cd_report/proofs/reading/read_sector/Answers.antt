@@ -1,5 +1,0 @@
-use Rattle.std.proofs.Common.{rules}
-use Rattle.cd_report.proofs.reading.read_sector.Goals as goal
-
-pub returns : goal.returns
-returns g c = search (rules, c.read_with.ensures)

@@ -1,0 +1,160 @@
+-- What is still to tell of an image, sector by sector: inner words of `list` and `audit`.
+use Rattle.std.specs.Prelude.{◌≡◌, ℕ, ◌+◌, ◌≤◌, true, List, [], ◌∷◌, ◌++◌, length, take, count_by}
+use Rattle.std.specs.Prelude.{map, if◌then◌else◌, Option, None, Some, Result, Ok, Err}
+use Rattle.std.specs.Io.KnownBytes.{Appends}
+use Rattle.cd_sector.specs.Consistent.{is_mode1}
+use Rattle.cd_sector.specs.Kind.{kind_of}
+use Rattle.cd_sector.specs.declared.kinds.SectorKind.{SectorKind}
+use Rattle.cd_stream.specs.Stream.{IsBeginning, Outgoing}
+use Rattle.cd_report.specs.AuditText.{audit_end, audit_lines, finding_count, is_any, is_damage}
+use Rattle.cd_report.specs.AuditText.{is_damaged}
+use Rattle.cd_read.specs.Image.{sectors, tail}
+use Rattle.cd_report.specs.Lines.{all_but_last, text_of}
+use Rattle.cd_report.specs.ListText.{list_end, run_line, run_lines}
+use Rattle.cd_report.specs.OpenRun.{EndsBefore, open_first, open_kinds}
+use Rattle.cd_report.specs.Report.{ReportSpec}
+use Rattle.cd_report.specs.Runs.{Run, runs}
+use Rattle.cd_report.specs.declared.auditing.AuditTally.{AuditTally}
+use Rattle.cd_report.specs.declared.findings.Findings.{Findings}
+use Rattle.cd_report.specs.declared.listing.ListTally.{ListTally}
+use Rattle.cd_report.specs.declared.listing.OpenRun.{OpenRun}
+
+-- by the sectors that follow: the lines that are due with them; by the length of the tail too: what
+-- goes out at the end, and the tally
+pub record Remaining (T : Type 0) : Type 0 where
+  pub lines : List (List ℕ) → List (List ℕ)
+  pub end : List (List ℕ) → ℕ → List ℕ
+  pub tally : List (List ℕ) → ℕ → T
+
+-- what is told of an image, from its front on
+abbrev pub spec_of : {T : Type 0} → Remaining T → ReportSpec T
+spec_of remaining = record {
+  text = λ image. text_of (remaining.lines (sectors image))
+      ++ remaining.end (sectors image) (length (tail image));
+  due = λ read. remaining.lines (sectors read);
+  tally = λ image. remaining.tally (sectors image) (length (tail image));
+}
+
+-- a sector was taken: the lines that were due with it went out, and the rest is still to tell
+pub record HasVisited {T : Type 0} (old new : Remaining T) (sector : List ℕ)
+    (out out' : Outgoing) : Type 0 where
+  pub sent : List (List ℕ)
+  pub appends : Appends out.written out'.written (text_of sent)
+  pub lines : (others : List (List ℕ)) → old.lines (sector ∷ others) ≡ sent ++ new.lines others
+  pub end : (others : List (List ℕ)) (left : ℕ)
+      → old.end (sector ∷ others) left ≡ new.end others left
+  pub tally : (others : List (List ℕ)) (left : ℕ)
+      → old.tally (sector ∷ others) left ≡ new.tally others left
+  pub nothing_due : new.lines [] ≡ []
+
+-- the write of the one line failed that was due with a sector
+pub record HasFailed {T : Type 0} (old : Remaining T) (sector : List ℕ)
+    (out out' : Outgoing) : Type 0 where
+  pub line : List ℕ
+  pub count : ℕ
+  pub behind : List (List ℕ) → List (List ℕ)
+  pub appends : Appends out.written out'.written (take count line)
+  pub lines : (others : List (List ℕ)) → old.lines (sector ∷ others) ≡ line ∷ behind others
+  pub last : behind [] ≡ []
+
+abbrev pub Visits : {T X E : Type 0} → Remaining T → Remaining T → List ℕ → Outgoing → Outgoing
+    → Result X E → Type 0
+Visits old new sector out out' (Ok x) = HasVisited old new sector out out'
+Visits old new sector out out' (Err e) = HasFailed old sector out out'
+
+-- the end of a text goes out, and the sink is finished
+abbrev pub Finishes : {X E : Type 0} → List ℕ → Outgoing → Outgoing → Result X E → Type 0
+Finishes text out out' (Ok x) = (out'.finished ≡ true) × Appends out.written out'.written text
+Finishes text out out' (Err e) =
+    (sent : List ℕ) × Appends out.written out'.written sent × IsBeginning sent text
+
+-- ---- a listing
+
+-- the line of the last run
+abbrev pub last_line : ℕ → List Run → List ℕ
+last_line first [] = []
+last_line first (run ∷ []) = run_line first run
+last_line first (run ∷ next ∷ others) = last_line (first + run.count) (next ∷ others)
+
+-- the lines of the runs that a sector of another kind has ended
+abbrev pub ended_lines : ℕ → List SectorKind → List (List ℕ)
+ended_lines first kinds = all_but_last (run_lines first (runs kinds))
+
+-- behind `count` sectors, with an open run
+abbrev pub list_remaining : ℕ → Option OpenRun → ℕ → Remaining ListTally
+list_remaining base run count = record {
+  lines = λ ss. ended_lines (open_first run (base + count)) (open_kinds run ++ map kind_of ss);
+  end = λ ss left.
+      last_line (open_first run (base + count)) (runs (open_kinds run ++ map kind_of ss))
+      ++ list_end (record { sectors = count + length ss; tail = left });
+  tally = λ ss left. record { sectors = count + length ss; tail = left };
+}
+
+-- a sector's kind was taken into the open run, or the run's line went out and another began
+pub record HasExtended (run : Option OpenRun) (next : OpenRun) (block : ℕ) (kind : SectorKind)
+    (out out' : Outgoing) : Type 0 where
+  pub sent : List (List ℕ)
+  pub appends : Appends out.written out'.written (text_of sent)
+  pub ends : EndsBefore (Some next) (block + 1)
+  pub lines : (others : List SectorKind)
+      → ended_lines (open_first run block) (open_kinds run ++ kind ∷ others)
+      ≡ sent ++ ended_lines next.first (open_kinds (Some next) ++ others)
+  pub end : (others : List SectorKind)
+      → last_line (open_first run block) (runs (open_kinds run ++ kind ∷ others))
+      ≡ last_line next.first (runs (open_kinds (Some next) ++ others))
+
+-- the write of the open run's line failed
+pub record FailsToExtend (run : Option OpenRun) (block : ℕ) (kind : SectorKind)
+    (out out' : Outgoing) : Type 0 where
+  pub line : List ℕ
+  pub count : ℕ
+  pub appends : Appends out.written out'.written (take count line)
+  pub lines : (others : List SectorKind)
+      → ended_lines (open_first run block) (open_kinds run ++ kind ∷ others)
+      ≡ line ∷ ended_lines block (kind ∷ others)
+
+-- at Ok a run is open that has it; at Err the run is as it was
+abbrev pub ExtendsRun : {E : Type 0} → Option OpenRun → Option OpenRun → ℕ → SectorKind → Outgoing
+    → Outgoing → Result (Unit {0}) E → Type 0
+ExtendsRun run run' block kind out out' (Ok x) =
+    (next : OpenRun) × (run' ≡ Some next) × HasExtended run next block kind out out'
+ExtendsRun run run' block kind out out' (Err e) =
+    (run' ≡ run) × FailsToExtend run block kind out out'
+
+-- ---- an audit
+
+-- the tally with what was found of one more sector
+abbrev pub tally_with : AuditTally → Option Findings → AuditTally
+tally_with tally None = record tally { sectors = tally.sectors + 1 }
+tally_with tally (Some found) = record {
+  sectors = tally.sectors + 1;
+  mode1 = tally.mode1 + 1;
+  damaged = tally.damaged + (if is_damage found.defect then 1 else 0);
+  findings = tally.findings + (if is_any (Some found) then 1 else 0);
+  tail = tally.tail;
+}
+
+-- the tally with more sectors, the first of which is `block`, and a tail
+abbrev pub tally_with_all : AuditTally → ℕ → List (List ℕ) → ℕ → AuditTally
+tally_with_all tally block ss left = record {
+  sectors = tally.sectors + length ss;
+  mode1 = tally.mode1 + count_by (λ sector. is_mode1 (kind_of sector)) ss;
+  damaged = tally.damaged + count_by is_damaged ss;
+  findings = tally.findings + finding_count block ss;
+  tail = left;
+}
+
+-- behind the sectors of the tally
+abbrev pub audit_remaining : ℕ → AuditTally → Remaining AuditTally
+audit_remaining base tally = record {
+  lines = λ ss. audit_lines (base + tally.sectors) ss;
+  end = λ ss left. audit_end (tally_with_all tally (base + tally.sectors) ss left);
+  tally = λ ss left. tally_with_all tally (base + tally.sectors) ss left;
+}
+
+-- no count is above that of the sectors
+pub record IsTallyOf (tally : AuditTally) (count : ℕ) : Type 0 where
+  pub sectors : tally.sectors ≡ count
+  pub mode1 : tally.mode1 ≤ count
+  pub damaged : tally.damaged ≤ count
+  pub findings : tally.findings ≤ count

@@ -1,0 +1,33 @@
+//! The EDC field of a sector: four bytes behind the user data, the least significant first (ECMA-130, the EDC field
+//! of a sector). They are read and written here alone.
+
+ghost use Rattle.std.specs.Prelude.{◌≡◌, ℕ, ◌<◌, ◌≤◌, ◌⊎◌, slice_index, slice_range};
+ghost use Rattle.std.specs.Int.{from_le_bytes, to_le_bytes, w32};
+
+use crate::sector::{EDC, INTERMEDIATE, SECTOR_SIZE, put_part};
+use byteorder::{ByteOrder, LittleEndian};
+
+/// The four bytes of an EDC word, as they stand in a sector (ECMA-130, the EDC field of a sector).
+pub fn edc_bytes(word: u32) -> [u8; 4]
+    ensures { result ≡ to_le_bytes w32 word }
+{
+    let mut bytes = [0; 4];
+    LittleEndian::write_u32(&mut bytes, word);
+    bytes
+}
+
+/// The word in the EDC field of a sector of these bytes, right or not (ECMA-130, the EDC field of a sector).
+pub fn stored_edc(bytes: &[u8; SECTOR_SIZE]) -> u32
+    ensures { result ≡ from_le_bytes w32 (slice_range bytes.now 2064 2068) }
+{
+    LittleEndian::read_u32(&bytes[EDC..INTERMEDIATE])
+}
+
+/// Makes `word` the word in the EDC field (ECMA-130, the EDC field of a sector).
+pub fn put_edc(bytes: &mut [u8; SECTOR_SIZE], word: u32)
+    ensures word { slice_range bytes.new 2064 2068 ≡ to_le_bytes w32 word }
+    ensures stays { (k : ℕ) → (k < 2064) ⊎ (2068 ≤ k)
+        → slice_index bytes.new k ≡ slice_index bytes.old k }
+{
+    put_part(bytes, EDC, &edc_bytes(word));
+}
