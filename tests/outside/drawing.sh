@@ -28,7 +28,8 @@ done
 for ((m = 0; m < 43; m++)); do
     [ $m = $column ] || diagonal_places+=($(((44 * m + 43 * ((row + 52 - column) % 26)) % 1118)))
 done
-for r in $row 24 25; do
+parity_rows=(24 25)
+for r in "$row" "${parity_rows[@]}"; do
     diagonal=$(((r + 52 - column) % 26))
     diagonal_pairs+=($((1118 + diagonal)) $((1144 + diagonal)))
 done
