@@ -12,7 +12,8 @@ image=$here/image
 script=$here/large.script
 out=$here/out
 buffer=65856
-window=7056
+# Each patch meets one block, so no more than one sector is in hand.
+in_hand=1
 prepare_large
 make_large 2351
 
@@ -98,8 +99,8 @@ image_failed() {
     case $2 in
         list) head -n -1 list.log | awk -F '[- ]' -v n=$sectors '$2 < n - 1' | cmp -s - before ;;
         audit) head -n -1 audit.log | awk -v n=$sectors '$1 < n' | cmp -s - before ;;
-        check) logged $((sectors - 3)) ;;
-        apply) logged $((sectors - 3)) && sent $((moved - window - buffer)) ;;
+        check) logged $((sectors - in_hand)) ;;
+        apply) logged $((sectors - in_hand)) && sent $((moved - 2352 * in_hand - buffer)) ;;
     esac
 }
 

@@ -189,9 +189,10 @@ judge 'a fault of the script' ended_without_output 2 'script line 2: bad hex\n'
 run apply missing wrong out
 judge 'a fault of the script comes before the image' ended_without_output 2 'script line 2: bad hex\n'
 
-{ echo 'cdpatch 1'; yes 'rebuild 0' | head -n 65536; } > many
+patches=$(limit 'patches of a script')
+{ echo 'cdpatch 1'; yes 'rebuild 0' | head -n $((patches + 1)); } > many
 run apply image many out
-judge 'a patch too many' ended_without_output 2 'script line 65537: more than 65535 patches\n'
+judge 'a patch too many' ended_without_output 2 "script line $((patches + 2)): more than $patches patches\n"
 
 truncate -s 67108865 long
 run apply image long out

@@ -75,7 +75,7 @@ judge 'a whole proof' test "$status" = 0
 judge 'its lines' wrote 'proving low' 'proved low, 1 of 4' 'proving left' 'proved left, 2 of 4' 'proving right' 'proved right, 3 of 4' \
     'proving program' 'proved program, 4 of 4' 'proved and built program'
 judge 'one at a time' cmp -s told <(printf '%s\n' 'low begins: lib' 'low ends' 'left begins: lib' 'left ends' 'right begins: lib' \
-    'right ends' 'program begins: run' 'program ends')
+    'right ends' 'program begins: run --jobs 1' 'program ends')
 judge 'no folder is left' test -z "$(find crates -name room)"
 
 prove
@@ -86,7 +86,7 @@ rm -r crates/*/out
 prove 8 x86-64-v3
 judge 'several at a time' test "$status" = 0 -a "$(grep -c ends told)" = 4
 judge 'each after those below it' not_in_told lacks
-judge 'the processor is handed on' in_told 'program begins: run --cpu x86-64-v3'
+judge 'the processor is handed on' in_told 'program begins: run --jobs 1 --cpu x86-64-v3'
 
 rm -r crates/*/out
 BROKEN=left prove 1
@@ -107,6 +107,11 @@ judge 'a run that is stopped' test $? = 130
 prove
 judge 'and begun again' test "$status" = 0
 judge 'goes on with what it had' in_told 'low goes on'
+
+rm -r crates/*/out
+yes '// long' | head -n 100 > crates/right/src/lib.rt
+prove 1
+judge 'the crates on the longest way come first' test "$(sed -n 's/ begins.*//p' told | paste -sd ' ')" = 'low right left program'
 
 printf '%s\n' 'program: low' 'low: program' > crates.txt
 prove

@@ -8,6 +8,7 @@ there is no Ctrl-C. The file END gets how the program ended: its status, or 'sig
 import fcntl
 import os
 import select
+import signal
 import subprocess
 import sys
 import termios
@@ -18,7 +19,9 @@ LIMIT = 5
 
 
 def take_terminal():
-    """Makes the terminal of the standard output the one that the program is stopped from."""
+    """Makes the terminal of the standard output the one that the program is stopped from, also where the tests run with
+    Ctrl-C ignored, as a shell starts what goes on in the background."""
+    signal.signal(signal.SIGINT, signal.SIG_DFL)
     os.setsid()
     fcntl.ioctl(1, termios.TIOCSCTTY, 0)
 

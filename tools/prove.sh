@@ -14,7 +14,9 @@ logs=$(mktemp -d)
 trap 'rm -rf "$logs"' EXIT
 
 declare -A needs=()    # of each crate of the repository, those that it names
-declare -A chain=()    # of each crate that the program needs, the longest way up to the program, in crates
+declare -A size=()     # of each crate that the program needs, its bytes
+declare -A bytes_above=()  # of each such crate, those of the crates on the longest way from it up to the program
+declare -A bytes_below=()  # of each such crate, those of the crates on the longest way from the bottom up to it
 declare -A running=()  # the crate of each process
 declare -A state=()    # of each crate that has begun: running, proved or failed
 proved=0
@@ -35,26 +37,49 @@ read_crates() {
     done
 }
 
-# mark CRATE LENGTH: notes the way of this length to the program, and those of the crates below.
-mark() {
-    local below
-    [ "$2" -gt "${chain[$1]:--1}" ] || return 0
-    if [ "$2" -gt "${#needs[@]}" ]; then
+# The bytes of a crate's text without its tests, and one more: roughly how long its proof takes.
+bytes_of() {
+    find "crates/$1" \( -name out -o -name tests \) -prune -o -name '*.rt' -print0 -o -name '*.antt' -print0 |
+        xargs -0 cat /dev/null | echo $(($(wc -c) + 1))
+}
+
+# measure_above CRATE BYTES NAMES: the crates of these names, of so many bytes, lead from a crate up to the program.
+measure_above() {
+    local name
+    if [[ " $3 " == *" $1 "* ]]; then
         echo "crates.txt: $1 stands on itself" >&2
         exit 1
     fi
-    chain[$1]=$2
-    for below in ${needs[$1]}; do
-        mark "$below" $(($2 + 1))
+    [[ -v size[$1] ]] || size[$1]=$(bytes_of "$1")
+    [ "$2" -ge "${bytes_above[$1]:-0}" ] || return 0
+    bytes_above[$1]=$2
+    for name in ${needs[$1]}; do
+        measure_above "$name" $(($2 + size[$1])) "$3 $1"
     done
+}
+
+measure_below() {
+    local name bytes most=0
+    for name in ${needs[$1]}; do
+        [[ -v bytes_below[$name] ]] || measure_below "$name"
+        bytes=$((bytes_below[$name] + size[$name]))
+        [ "$bytes" -le "$most" ] || most=$bytes
+    done
+    bytes_below[$1]=$most
+}
+
+# How long a crate may wait for those on the longest way to the program, in hundredths of that way.
+slack() {
+    local longest=$((bytes_below[$program] + size[$program]))
+    echo $((100 * (longest - bytes_above[$1] - size[$1] - bytes_below[$1]) / longest))
 }
 
 # Prints all crates below a crate, some more than once.
 all_below() {
-    local below
-    for below in ${needs[$1]}; do
-        echo "$below"
-        all_below "$below"
+    local name
+    for name in ${needs[$1]}; do
+        echo "$name"
+        all_below "$name"
     done
 }
 
@@ -113,9 +138,10 @@ prove_library() {
     return "$status"
 }
 
-# rt says that nothing has changed, and that it runs the program: neither is a proof.
+# rt says that nothing has changed, and that it runs the program: neither is a proof. There is one short function to prove,
+# after all crates below were read: copies of rattle that share the work would make it longer.
 prove_program() {
-    cd "crates/$1" && { rt run ${cpu:+--cpu "$cpu"} > /dev/null; } 2>&1 | sed -u '/^rt: \(nothing has changed\|running\) /d'
+    cd "crates/$1" && { rt run --jobs 1 ${cpu:+--cpu "$cpu"} > /dev/null; } 2>&1 | sed -u '/^rt: \(nothing has changed\|running\) /d'
 }
 
 # Hands rt's words on to the crate's log, and says that its proof begins. Of a crate that is proved already rt has no word.
@@ -127,27 +153,27 @@ tell() {
     fi
 }
 
-# Those far from the program come first, and get more of the processor: all others wait for them.
+# The crates on the longest way to the program come first, and get most of the processor: all others wait for them.
 begin() {
     local kind=library
     [ ! -f "crates/$1/src/main.rt" ] || kind=program
     state[$1]=running
     : > "$logs/$1"
     {
-        renice -n $((2 * (longest - chain[$1]))) "$BASHPID" > /dev/null
+        renice -n $(($(slack "$1") / 4)) "$BASHPID" > /dev/null
         "prove_$kind" "$1" < /dev/null | tell "$1"
     } &
     running[$!]=$1
 }
 
-# Begins those crates that can begin, the longest chain first.
+# Begins those crates that can begin.
 begin_ready() {
-    local name below
+    local name low
     for name in $order; do
         [ "${#running[@]}" -lt "$at_once" ] || return 0
         [[ ! -v state[$name] ]] || continue
-        for below in ${needs[$name]}; do
-            [ "${state[$below]:-}" = proved ] || continue 2
+        for low in ${needs[$name]}; do
+            [ "${state[$low]:-}" = proved ] || continue 2
         done
         begin "$name"
     done
@@ -160,9 +186,9 @@ note() {
         state[$1]=proved
         proved=$((proved + 1))
         if [ -s "$log" ]; then
-            echo "proved $1, $proved of ${#chain[@]}"
+            echo "proved $1, $proved of ${#bytes_above[@]}"
         else
-            echo "unchanged $1, $proved of ${#chain[@]}"
+            echo "unchanged $1, $proved of ${#bytes_above[@]}"
         fi
         return
     fi
@@ -188,9 +214,9 @@ if [[ ! -v needs[$program] ]]; then
     echo "crates.txt has no $program" >&2
     exit 1
 fi
-mark "$program" 0
-order=$(for name in "${!chain[@]}"; do echo "${chain[$name]} $name"; done | sort -k 1,1nr -k 2 | cut -d ' ' -f 2)
-longest=$(for name in "${!chain[@]}"; do echo "${chain[$name]}"; done | sort -n | tail -n 1)
+measure_above "$program" 0 ''
+measure_below "$program"
+order=$(for name in "${!bytes_above[@]}"; do echo "$(slack "$name") $name"; done | sort -k 1,1n -k 2 | cut -d ' ' -f 2)
 for most in "$(nproc)" "$(room_for)"; do
     [ -n "$at_once" ] && [ "$at_once" -le "$most" ] || at_once=$most
 done

@@ -5,10 +5,11 @@ import re
 from typing import NamedTuple
 
 from image import answer, cut, effect, findings, met, outcome, run
-from script import Patch, ScriptFault, ordered, script
+from script import MOST_BYTES, MOST_PATCHES, TOO_MANY, Patch, ScriptFault, ordered, script
 from sector import NO_DEFECT, SIZE, SYNC, WORDS, address_of, consistent, damage, defect, kind, sector_with
 
 LAST_BASE = 449849
+MOST_BLOCKS = (2047 + MOST_BYTES - 1) // 2048 + 1  # that a patch meets
 
 
 class Case(NamedTuple):
@@ -58,8 +59,8 @@ def some_sector(dice, block, name, state):
 
 def some_image(dice, base, carry):
     """Up to eight sectors in runs of one kind, many damaged or all good but one, and a tail that may begin as a sector does."""
-    sectors, count = [], dice.choice([0, 1, 1, 2, 3, 3, 3, 4, 5, 8])
-    odd = dice.choice([None, -1, 2, 2, dice.randint(0, 4)])
+    sectors, count = [], dice.choice([0, 1, 1, 2, *3 * [MOST_BLOCKS], MOST_BLOCKS + 1, 5, 8])
+    odd = dice.choice([None, -1, MOST_BLOCKS - 1, MOST_BLOCKS - 1, dice.randint(0, 4)])
     odd = None if carry else odd
     while len(sectors) < count:
         name = dice.choices(['mode1', 'mode0', 'mode2', 'other', 'nosync'], [76, 5, 7, 6, 6])[0]
@@ -84,11 +85,11 @@ def some_patch(dice, line, base, count, version):
     if verb == 'address':
         return Patch(line, max(block, 0), verb, 0, address_of(dice.choice([0, 4349, LAST_BASE, dice.randint(0, LAST_BASE)])))
     offset = dice.choice([0, 1, 2046, 2047, dice.randint(0, 2047)])
-    length = dice.choice([1, 2, 3, 2048, 4096, 4096, 2048 - offset, 2049 - offset, 4096 - offset, 4097 - offset,
-                          dice.randint(1, 4096)])
-    length = min(length, 4096)
-    if count > 2 and dice.random() < .25:
-        block, offset, length = base + dice.choice([0, 0, count - 3]), dice.choice([1, 2046, 2047]), 4096
+    length = dice.choice([1, 2, 3, 2048, MOST_BYTES, MOST_BYTES, 2048 - offset, 2049 - offset, 4096 - offset, 4097 - offset,
+                          dice.randint(1, MOST_BYTES)])
+    length = min(length, MOST_BYTES)
+    if count >= MOST_BLOCKS and dice.random() < .25:
+        block, offset, length = base + dice.choice([0, 0, count - MOST_BLOCKS]), dice.choice([1, 2046, 2047]), MOST_BYTES
     new = dice.choice([dice.randbytes(1) * length] if verb == 'fill' else [dice.randbytes(length), bytes(length)])
     was = b'' if verb == 'set' and dice.random() < .5 else None
     return Patch(line, max(block, 0), verb, offset, new, was)
@@ -146,13 +147,14 @@ def roles(dice, patch):
 
 
 NOT_NUMBERS = [b'x', b'-1', b'+1', b'1234567890', b'0000000000', b'0x1', b'1_0', b'1.', '\u0664'.encode(), b'1\r', b'1\0']
+LONG = b'00' * (MOST_BYTES + 1)
 WRONG = {
     'verb': [b'put', b'SET', b'sett', b'cdpatch', b'address', b'\x0bset', b'1', b'was', b'rebuild\r'],
     'number': NOT_NUMBERS,
     'offset': NOT_NUMBERS + 8 * [b'2048', b'000002048', b'999999999'],
-    'count': NOT_NUMBERS + 10 * [b'0', b'4097', b'000000000', b'999999999'],
-    'hex': 4 * [b'00' * 4097] + [b'4', b'4g', b'g', b'0x41', b'414', b'0' * 8193, b'41\r', b'4_', b'\xff\xff', b'+1'],
-    'old': [b'4', b'4g', b'00' * 4097, b'41' * 2, b'41' * 5, b'41' * 7],
+    'count': NOT_NUMBERS + 10 * [b'0', str(MOST_BYTES + 1).encode(), b'000000000', b'999999999'],
+    'hex': 4 * [LONG] + [b'4', b'4g', b'g', b'0x41', b'414', LONG[1:], b'41\r', b'4_', b'\xff\xff', b'+1'],
+    'old': [b'4', b'4g', LONG, b'41' * 2, b'41' * 5, b'41' * 7],
     'byte': [b'F', b'FFFF', b'0x', b'FFF', b'000000', b'gg'],
     'was': [b'were', b'WAS', b'wa', b'was\r', b'41'],
     'address': [b'00:60:00', b'00:00:75', b'0:00:00', b'00:00', b'00:00:00:00', b'aa:00:00', b'100:00:00', b'00-00-00',
@@ -180,8 +182,8 @@ def some_script(dice, image, base, carry):
     head = [b'cdpatch', str(version).encode()]
     state = dice.choices(['right', 'faulty', 'head', 'many'], [62, 28, 5, 5])[0]
     if state == 'many':
-        right, last = dice.choice([(65535, b''), (65535, b''), (65536, b''), (65536, b'put 0\n'), (65535, b'set 0 0 4\n')])
-        return b'cdpatch 1\n' + right * b'rebuild 999999999\n' + last, note
+        more, last = dice.choice([(0, b''), (0, b''), (1, b''), (1, b'put 0\n'), (0, b'set 0 0 4\n')])
+        return b'cdpatch 1\n' + (MOST_PATCHES + more) * b'rebuild 999999999\n' + last, note
     if state == 'head':
         head = dice.choice([[], [b'cdpatch'], [b'cdpatch', b'01'], [b'cdpatch', b'3'], head + [b'x'], [b'CDPATCH', b'1'],
                             [b'cdpatch', b'1\r'], [b'\xef\xbb\xbfcdpatch', b'1'], [b'set', b'0', b'0', b'41']])
@@ -254,14 +256,15 @@ def patch_kinds(case, patches):
     outcomes, _ = run(sectors, case.base, patches, case.carry)
     taken, now = ordered(patches), sectors
     yield 'patches not in order of lines' * (taken != sorted(patches))
-    yield 'no patch' * (not patches) + '65535 patches' * (len(patches) == 65535)
+    yield 'no patch' * (not patches) + 'most patches' * (len(patches) == MOST_PATCHES)
     for i, (patch, told) in enumerate(zip(taken[:100], outcomes)):
         label = 'differs' if 'differ' in told else re.sub(r'block \d+', 'block B', told)
         yield f'{patch.verb} {label}'
-        yield f'span of {len(met(patch))}'
+        yield f'span of {len(met(patch))}' if len(met(patch)) < MOST_BLOCKS else 'longest span'
         if told.endswith(('damaged', 'mode 1')) and len(met(patch)) > 1:
-            yield f'refused at block {int(told.split()[2]) - patch.block + 1} of a span'
-        yield 'length 1, 2048, 4096' * (len(patch.new) in (1, 2048, 4096))
+            place = int(told.split()[2]) - patch.block + 1
+            yield f'refused at block {place} of a span' if place < MOST_BLOCKS else 'refused at the last block of the longest span'
+        yield 'length 1, 2048 or most' * (len(patch.new) in (1, 2048, MOST_BYTES))
         yield 'offset 0, 2047' * (patch.verb != 'rebuild' and patch.offset in (0, 2047))
         yield 'below the base' * (patch.block < case.base)
         yield 'past the end' * (patch.block >= case.base + len(sectors))
@@ -290,7 +293,8 @@ def kinds_of(case):
             found |= set(patch_kinds(case, script(case.script)))
             found.add(f'version {2 if b"cdpatch 2" in b" ".join(case.script.split()) else 1}')
         except ScriptFault as fault:
-            found.add('fault: ' + str(fault).split(': ')[1])
+            told = str(fault).split(': ')[1]
+            found.add('fault: ' + ('too many patches' if told == TOO_MANY else told))
         for name, part in [('CR LF', b'\r\n'), ('tab', b'\t'), ('comment', b'#')]:
             found.add(name * (part in case.script))
         found.add('no LF at the end' * (not case.script.endswith(b'\n')))

@@ -4,6 +4,10 @@ import re
 from typing import NamedTuple, Optional
 
 
+MOST_PATCHES = 65535  # of a script
+MOST_BYTES = 4096  # that a patch changes
+
+
 class Patch(NamedTuple):
     """A patch: `new` is what a range, or for `address` the header bytes 12 to 14, become; `was` what the range must be."""
     line: int
@@ -18,6 +22,7 @@ class ScriptFault(Exception):
     """Why a script is refused: the text, and with `script` the line."""
 
 
+TOO_MANY = f'more than {MOST_PATCHES} patches'
 VERBS = {1: (b'set', b'fill', b'rebuild'), 2: (b'set', b'fill', b'rebuild', b'address')}
 NUMBERS_OF_WORDS = {b'set': (4, 6), b'fill': (5,), b'rebuild': (2,), b'address': (3,)}
 
@@ -71,12 +76,12 @@ def patch(line, found, version):
     demand(offset <= 2047, 'offset over 2047')
     if verb == b'fill':
         count = number(found[3])
-        demand(1 <= count <= 4096, 'bad length')
+        demand(1 <= count <= MOST_BYTES, 'bad length')
         byte = hexadecimal(found[4])
         demand(len(byte) == 1, 'bad length')
         return Patch(line, block, 'fill', offset, count * byte)
     new = hexadecimal(found[3])
-    demand(len(new) <= 4096, 'bad length')
+    demand(len(new) <= MOST_BYTES, 'bad length')
     was = hexadecimal(found[5]) if len(found) == 6 else None
     demand(was is None or len(was) == len(new), 'bad length')
     return Patch(line, block, 'set', offset, new, was)
@@ -94,7 +99,7 @@ def script(text):
                 version = int(found[1])
                 continue
             patches.append(patch(line, found, version))
-            demand(len(patches) <= 65535, 'more than 65535 patches')
+            demand(len(patches) <= MOST_PATCHES, TOO_MANY)
         except ScriptFault as fault:
             raise ScriptFault(f'script line {line}: {fault}') from None
     demand(version, f'script line {len(cut) + 1}: no cdpatch 1 line')

@@ -34,14 +34,14 @@ sed -n "s/^ *[\"']\([a-z]*\):[A-Z].*/\1/p" "$top/completions/_cdpatch" | sort > 
 judge 'the commands of the zsh completion' cmp -s wanted got
 sed -n 's/^complete .* -n __cdpatch_begins -a \([a-z]*\) .*/\1/p' "$top/completions/cdpatch.fish" | sort > got
 judge 'the commands of the fish completion' cmp -s wanted got
-options() { grep -o -e '--[a-z][a-z]*' | sort -u; }
+options() { grep -o -e '--[a-z][a-z-]*' | sort -u; }
 cat help ./*.help | options > wanted
-sed -n 's/^\.\(It\|Op\)\(.*\)/\2/p' "$top/man/cdpatch.1" | sed -n 's/.*Fl Fl \([a-z]*\).*/--\1/p' | sort -u > got
+sed -n 's/^\.\(It\|Op\)\(.*\)/\2/p' "$top/man/cdpatch.1" | sed -n 's/.*Fl Fl \([a-z-]*\).*/--\1/p' | sort -u > got
 judge 'the options of the man page' cmp -s wanted got
 grep -o "local .*options='[^']*'" "$top/completions/cdpatch.bash" | options > got
 judge 'the options of the bash completion' cmp -s wanted got
 grep -e "local -a" "$top/completions/_cdpatch" | options > got
 judge 'the options of the zsh completion' cmp -s wanted got
-sed -n 's/^complete .* -l \([a-z]*\) .*/--\1/p' "$top/completions/cdpatch.fish" | sort -u > got
+sed -n 's/^complete .* -l \([a-z-]*\) .*/--\1/p' "$top/completions/cdpatch.fish" | sort -u > got
 judge 'the options of the fish completion' cmp -s wanted got
 

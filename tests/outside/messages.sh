@@ -82,12 +82,13 @@ decides 'script line 3: bad hex' 2 'set 1 0 0x41'
 decides 'script line 3: bad hex' 2 'set 1 0 "HELLO"'
 decides 'script line 3: offset over 2047' 2 'set 1 2352 41'
 decides 'script line 3: bad length' 2 'set 1 0 41 was 4142'
-decides 'script line 3: bad length' 2 'fill 1 0 4097 00'
+decides 'script line 3: bad length' 2 "fill 1 0 $(($(limit 'bytes of a patch') + 1)) 00"
 patch 'address 1 00:60:00'
 sed -i '1s/1/2/' patch
 produces 'script line 3: bad address' 2 cdpatch check disc.bin patch
-{ echo 'cdpatch 1'; yes 'rebuild 0' | head -n 65536; } > many
-produces 'script line 65537: more than 65535 patches' 2 cdpatch check disc.bin many
+patches=$(limit 'patches of a script')
+{ echo 'cdpatch 1'; yes 'rebuild 0' | head -n $((patches + 1)); } > many
+produces "script line $((patches + 2)): more than $patches patches" 2 cdpatch check disc.bin many
 
 produces 'cdpatch: cannot open the image' 2 cdpatch list nothing
 produces 'cdpatch: cannot read the script' 2 cdpatch check disc.bin nothing
@@ -134,7 +135,8 @@ done 3< page
 # The program's messages: each is in the page.
 {
     LC_ALL=C grep -aoE 'cdpatch: [a-zA-Z0-9 ]+' "$program"
-    grep -oh '#\[error("[a-z][^"]*")\]' "$top/crates/cd_script/src/fault.rt" | sed -e 's/.*("//' -e 's/").*//' -e '/^no memory$/d'
+    grep -oh '#\[error("[a-z][^"]*")\]' "$top/crates/cd_script/src/fault.rt" |
+        sed -e 's/.*("//' -e 's/").*//' -e '/^no memory$/d' -e "s/{MAX_PATCHES}/$patches/"
 } | sort -u > told
 judge 'there are messages to look for' test "$(wc -l < told)" -gt 16
 while IFS= read -r message <&3; do

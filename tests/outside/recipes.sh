@@ -34,7 +34,7 @@ cdpatch apply both.bin made again3.bin > log
 judge 'a script from an image with two kinds of damage' cmp -s disc.bin again3.bin
 judge 'it rebuilds both sectors' test "$(grep -c '^rebuild' made)" = 2
 
-# More than 65,535 runs that differ: 72 blocks, each of 1024 runs.
+# More runs that differ than a script may have patches: 72 blocks, each of 1024 runs.
 for _ in 1 2 3 4 5 6 7 8 9; do cat disc.bin; done > long.bin
 { echo 'cdpatch 1'; for ((block = 0; block < 72; block++)); do echo "fill $block 0 2048 00"; done; } > zeros
 cdpatch apply long.bin zeros zeros.bin > log
@@ -45,15 +45,16 @@ cdpatch apply long.bin zeros zeros.bin > log
 } > every_other
 cdpatch apply zeros.bin every_other stripes.bin > log
 recipe 'script_of zeros.bin stripes.bin' > made
-judge 'a script of more than 65535 patches is made' test "$(wc -l < made)" = $((72 * 1024 + 1))
+judge 'a script of too many patches is made' test "$(wc -l < made)" = $((72 * 1024 + 1))
 cdpatch check zeros.bin made > log
 judge 'it is refused' test $? = 2
-judge 'by the line of the first that is too many' test "$(cat log)" = 'script line 65537: more than 65535 patches'
+most=$(limit 'patches of a script')
+judge 'by the line of the first that is too many' test "$(cat log)" = "script line $((most + 2)): more than $most patches"
 recipe 'apply_long zeros.bin made split.bin' > log
 judge 'and applied in parts' cmp -s stripes.bin split.bin
 judge 'that leave nothing' test -z "$(ls split.bin.part.* 2> /dev/null)"
 
-# Edits in an ISO image: a run over a border of blocks, one longer than a patch may be, and the image's first and last bytes.
+# Edits in an ISO image: a run over a border of blocks, one over several blocks, and the image's first and last bytes.
 recipe 'user_data disc.bin 0 7' > old.iso
 judge 'an ISO image has the user data' test "$(stat -c %s old.iso)" = 16384
 other() { LC_ALL=C tr '\000-\377' '\001-\377\000'; }

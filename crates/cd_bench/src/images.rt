@@ -1,7 +1,7 @@
 //! Whole calls on images: sectors come from one that is repeated, and go nowhere.
 
 use cd_image::{Sink, SinkFailed, Source, SourceFailed, apply};
-use cd_script::parse;
+use cd_script::{MAX_PATCHES, MAX_TEXT, parse};
 use cd_sector::{SECTOR_SIZE, Sector, encode};
 use std::alloc::{AllocError, Global};
 
@@ -95,7 +95,7 @@ pub(crate) fn apply_none_rounds(alloc: Global, rounds: u32) -> Result<u32, Alloc
     apply_text(alloc, b"cdpatch 1\n", rounds)
 }
 
-/// Five bytes in each of so many sectors, up to 65,535.
+/// Five bytes in each of so many sectors, up to [`MAX_PATCHES`].
 pub(crate) fn apply_each_rounds(alloc: Global, rounds: u32) -> Result<u32, AllocError> {
     let text = text_of(alloc, rounds)?;
     apply_text(alloc, text.as_slice(), rounds)
@@ -107,11 +107,11 @@ pub(crate) fn text_rounds(alloc: Global, rounds: u32) -> Result<u32, AllocError>
     Ok(u32::from(text.last().copied().unwrap_or(0)))
 }
 
-/// A script that sets five bytes in each of so many blocks, up to 65,535.
+/// A script that sets five bytes in each of so many blocks, up to [`MAX_PATCHES`].
 fn text_of(alloc: Global, count: u32) -> Result<Vec<u8>, AllocError> {
     let mut text = Vec::new(alloc);
     text.extend_from_slice(b"cdpatch 1\n")?;
-    for block in 0..count.min(65_535) {
+    for block in 0..count.min(MAX_PATCHES as u32) {
         let line = format!(in alloc; "set {block} 700 4142434445\n")?;
         text.extend_from_slice(line.as_bytes())?;
     }
@@ -120,7 +120,7 @@ fn text_of(alloc: Global, count: u32) -> Result<Vec<u8>, AllocError> {
 
 /// A script on so many sectors; the counts of its patches tell what it did.
 fn apply_text(alloc: Global, text: &[u8], count: u32) -> Result<u32, AllocError> {
-    if text.len() > 67_108_864 {
+    if text.len() > MAX_TEXT {
         return Ok(0);
     }
     let mut out = nowhere();

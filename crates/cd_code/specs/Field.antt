@@ -1,5 +1,5 @@
--- The field GF(2^8) of ECMA-130, Annex A: bytes as polynomials over GF(2), modulo x^8 + x^4 + x^3 + x^2 + 1.
--- The sum of two elements is std's `bit_xor`.
+-- The field GF(2^8) of ECMA-130, Annex A: bytes as polynomials over GF(2), modulo x^8 + x^4 + x^3 +
+-- x^2 + 1. The sum of two elements is std's `bit_xor`.
 use Rattle.std.specs.Prelude.{◌≡◌, ℕ, zero, suc, ◌==◌, ◌-◌, ◌*◌, ◌/◌, ◌%◌, ◌<◌, nat_lt, if◌then◌else◌, bit_xor, List, slice_index}
 
 -- an element times alpha, which is 2: a shift, and 1D added where x^8 has come up
@@ -9,7 +9,8 @@ double b = if nat_lt (b * 2) 256 then b * 2 else bit_xor (b * 2 - 256) 29
 -- the sum of `a` doubled k times, for each bit k that is set among the low bits of `b`
 abbrev pub product_of_bits : ℕ → ℕ → ℕ → ℕ
 product_of_bits zero a b = 0
-product_of_bits (suc n) a b = bit_xor (product_of_bits n (double a) (b / 2)) (if b % 2 == 1 then a else 0)
+product_of_bits (suc n) a b =
+    bit_xor (product_of_bits n (double a) (b / 2)) (if b % 2 == 1 then a else 0)
 
 -- the product of two elements
 unfoldable pub product : ℕ → ℕ → ℕ

@@ -1,5 +1,5 @@
--- The division by the EDC's generator sixteen bytes at a time (ECMA-130, the clause on the digital data structure of
--- sectors).
+-- The division by the EDC's generator sixteen bytes at a time (ECMA-130, the clause on the digital
+-- data structure of sectors).
 use Rattle.std.specs.Prelude.{◌≡◌, ℕ, List, ◌++◌, length, take, drop, replicate, bit_xor}
 use Rattle.std.specs.Simd.Lanes.{zip2}
 use Rattle.cd_code.specs.Edc.{bits, remainder}
@@ -7,10 +7,12 @@ use Rattle.cd_code.specs.Edc.{bits, remainder}
 -- sixteen bytes, and what the bytes 16, 28 and 31 places before each add to it
 abbrev pub folded : List ℕ → List ℕ → List ℕ → List ℕ
 folded older newer bytes =
-    zip2 bit_xor (zip2 bit_xor (zip2 bit_xor bytes newer) (take 16 (drop 4 (older ++ newer)))) (take 16 (drop 1 (older ++ newer)))
+    zip2 bit_xor
+    (zip2 bit_xor (zip2 bit_xor bytes newer) (take 16 (drop 4 (older ++ newer))))
+    (take 16 (drop 1 (older ++ newer)))
 
--- a list leaves what 32 bytes leave: the older sixteen, and the newer ones as far as bytes before the older ones had
--- been added to them
+-- a list leaves what 32 bytes leave: the older sixteen, and the newer ones as far as bytes before
+-- the older ones had been added to them
 pub record IsFolded (v older newer : List ℕ) : Type 0 where
   pub older_size : length older ≡ 16
   pub newer_size : length newer ≡ 16

@@ -11,7 +11,8 @@ SumByBits = (a b : ℕ) → bit_xor a b ≡ 2 * bit_xor (a / 2) (b / 2) + (a + b
 -- a product is the sum of as many doublings of `a` as `b` has set bits
 abbrev pub ProductByBits : Type 0
 ProductByBits =
-    (a b : ℕ) → a < 256 → b < 256 → product a b ≡ bit_xor (product (double a) (b / 2)) (if b % 2 == 1 then a else 0)
+    (a b : ℕ) → a < 256 → b < 256
+    → product a b ≡ bit_xor (product (double a) (b / 2)) (if b % 2 == 1 then a else 0)
 
 -- and it is 0 where `b` has none
 abbrev pub ProductOfNone : Type 0
@@ -30,7 +31,8 @@ PairIsUnique = (v w : List ℕ) → DifferAtMostInLast 2 v w → SameSums v w �
 
 -- the last four bytes of a list follow from the others and the remainder
 abbrev pub EdcIsUnique : Type 0
-EdcIsUnique = (v w : List ℕ) → DifferAtMostInLast 4 v w → remainder (bits v) ≡ remainder (bits w) → v ≡ w
+EdcIsUnique =
+    (v w : List ℕ) → DifferAtMostInLast 4 v w → remainder (bits v) ≡ remainder (bits w) → v ≡ w
 
 -- what the sum of two lists of one length leaves is the sum of what they leave
 abbrev pub RemainderOfSum : Type 0

@@ -21,7 +21,8 @@ pub record IsCodeWord (v : List ℕ) : Type 0 where
 -- two bytes behind any list with these syndromes make it a code word
 abbrev pub IsPair : ℕ → ℕ → ℕ → ℕ → Type 0
 IsPair plain weighted a b =
-    (v : List ℕ) → AreBytes v → first_syndrome v ≡ plain → second_syndrome v ≡ weighted → IsCodeWord (v ++ a ∷ b ∷ [])
+    (v : List ℕ) → AreBytes v → first_syndrome v ≡ plain → second_syndrome v ≡ weighted
+    → IsCodeWord (v ++ a ∷ b ∷ [])
 
 -- both syndromes of one list are those of the other
 pub record SameSums (v w : List ℕ) : Type 0 where
@@ -32,9 +33,11 @@ pub record SameSums (v w : List ℕ) : Type 0 where
 abbrev pub added : List ℕ → ℕ → ℕ → List ℕ
 added v place d = slice_set v place (bit_xor (slice_index v place) d)
 
--- in a word of `len` bytes to which `d` is added at `place`, `a` and `b` added to the last two keep the syndromes
+-- in a word of `len` bytes to which `d` is added at `place`, `a` and `b` added to the last two keep
+-- the syndromes
 pub record Balances (len place d a b : ℕ) : Type 0 where
-  pub keeps : (v : List ℕ) → AreBytes v → length v ≡ len → SameSums (added (added (added v place d) (len - 2) a) (len - 1) b) v
+  pub keeps : (v : List ℕ) → AreBytes v → length v ≡ len
+      → SameSums (added (added (added v place d) (len - 2) a) (len - 1) b) v
 
 -- column c of 26 rows of 86 bytes
 abbrev pub column : List ℕ → ℕ → List ℕ

@@ -27,6 +27,8 @@ pub struct ColumnSums {
 
 impl ColumnSums {
     /// The sums of 86 columns that have no row yet, all `00`.
+    ///
+    /// See the example of [`row_sums`].
     pub fn zero() -> Self
         ensures plain { result.plain ≡ replicate 86 0 }
         ensures weighted { result.weighted ≡ replicate 86 0 }
@@ -41,6 +43,15 @@ impl ColumnSums {
 /// Puts one more row of 86 bytes under the columns: it is added to the plain sums, and to the doubled
 /// weighted ones (ECMA-130, Annex A). For rows that come one at a time; [`column_sums`] has all of them, and keeps their
 /// sums in registers.
+///
+/// # Examples
+///
+/// ```
+/// let mut sums = ColumnSums::zero();
+/// row_sums(&[0x80; 86], &mut sums);
+/// row_sums(&[0x01; 86], &mut sums);
+/// assert_eq!(rt; (sums.plain[85], sums.weighted[85]), (0x81, 0x1C)); // 80 + 01, and 2 * 80 + 01
+/// ```
 pub fn row_sums(row: &[u8; 86], sums: &mut ColumnSums)
     ensures plain { (c : ℕ) → c < 86
         → slice_index sums.new.plain c
@@ -112,6 +123,14 @@ impl ColumnLanes {
 }
 
 /// Both syndromes of the 86 columns of any number of rows (ECMA-130, Annex A).
+///
+/// # Examples
+///
+/// ```
+/// let lanes = column_lanes(&[[0x80; 86], [0x01; 86]]); // two rows
+/// assert_eq!(rt; lanes.front.plain[0], 0x81); // 80 + 01, in column 0
+/// assert_eq!(rt; lanes.back.weighted[31], 0x1C); // 2 * 80 + 01, in column 85
+/// ```
 #[inline(always)]
 pub fn column_lanes(rows: &[[u8; 86]]) -> ColumnLanes
     ensures { AreColumns (column_of_rows rows.now) result }
@@ -124,6 +143,15 @@ pub fn column_lanes(rows: &[[u8; 86]]) -> ColumnLanes
 }
 
 /// Both syndromes of each of the 86 columns of 26 rows of 86 bytes (ECMA-130, Annex A).
+///
+/// # Examples
+///
+/// ```
+/// let mut rows = [0x00; 2236];
+/// rows[0] = 0x01; // column 0 is 01, and 25 times 00
+/// let sums = column_sums(&rows);
+/// assert_eq!(rt; (sums.plain[0], sums.weighted[0]), (0x01, alpha_power(25)));
+/// ```
 pub fn column_sums(rows: &[u8; 2236]) -> ColumnSums
     ensures plain { (c : ℕ) → c < 86
         → slice_index result.plain c ≡ first_syndrome (column rows.now c) }

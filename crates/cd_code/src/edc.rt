@@ -8,6 +8,13 @@ use crate::folding::Folded;
 
 /// The EDC word of any list of bytes, 32 bits: its four bytes, least significant first, make the list
 /// followed by them divisible by the generator (ECMA-130, the EDC field of a sector).
+///
+/// # Examples
+///
+/// ```
+/// assert_eq!(rt; edc_of(&[0x00; 2064]), 0);
+/// assert_eq!(rt; edc_of(&[0x01]), 0x9091_0101);
+/// ```
 pub fn edc_of(bytes: &[u8]) -> u32
     ensures word { IsEdc bytes.now result }
     ensures alone { (w : ℕ) → IsEdc bytes.now w → w ≡ result }

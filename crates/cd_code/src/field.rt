@@ -16,6 +16,13 @@ pub(crate) fn doubled(b: u8) -> u8
 }
 
 /// The product of two field elements (ECMA-130, Annex A).
+///
+/// # Examples
+///
+/// ```
+/// assert_eq!(rt; times(0x80, 0x02), 0x1D); // x^8 is x^4 + x^3 + x^2 + 1
+/// assert_eq!(rt; times(0x03, 0xF4), 0x01); // F4 is the inverse of 03
+/// ```
 pub fn times(a: u8, b: u8) -> u8
     ensures { result ≡ product a b }
 {
@@ -26,6 +33,13 @@ pub fn times(a: u8, b: u8) -> u8
 }
 
 /// The `n`-th power of alpha, which is `02` (ECMA-130, Annex A).
+///
+/// # Examples
+///
+/// ```
+/// assert_eq!(rt; alpha_power(8), 0x1D);
+/// assert_eq!(rt; alpha_power(255), 0x01); // from here on they come again
+/// ```
 pub fn alpha_power(n: u32) -> u8
     ensures { result ≡ power n }
 {

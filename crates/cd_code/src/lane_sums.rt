@@ -18,6 +18,8 @@ pub struct LaneSums {
 
 impl LaneSums {
     /// The sums of words that have no byte yet, all `00`.
+    ///
+    /// See the example of [`LaneSums::pairs`].
     #[inline(always)]
     pub fn zero() -> Self
         ensures plain { result.plain ≡ replicate 32 0 }
@@ -31,6 +33,8 @@ impl LaneSums {
 
     /// Puts one more byte behind each word: it is added to the plain sum, and to the doubled weighted one (ECMA-130,
     /// Annex A).
+    ///
+    /// See the example of [`LaneSums::pairs`].
     #[inline(always)]
     pub fn with_lanes(self, lanes: u8x32) -> Self
         ensures plain { (i : ℕ) → i < 32
@@ -47,6 +51,16 @@ impl LaneSums {
     }
 
     /// The same where `mask` is `FF`; where it is `00`, the word stays as it is (ECMA-130, Annex A).
+    ///
+    /// # Examples
+    ///
+    /// ```
+    /// let words = LaneSums::zero().with_lanes(u8x32::splat(0x80)); // 32 words 80
+    /// let longer = words.with_lanes_where(u8x32::splat(0x01), u8x32::splat(0xFF)); // 32 words 80 01
+    /// assert_eq!(rt; (longer.plain[0], longer.weighted[0]), (0x81, 0x1C)); // 80 + 01, and 2 * 80 + 01
+    /// let same = words.with_lanes_where(u8x32::splat(0x01), u8x32::splat(0x00));
+    /// assert_eq!(rt; (same.plain[0], same.weighted[0]), (0x80, 0x80)); // still 80
+    /// ```
     #[inline(always)]
     pub fn with_lanes_where(self, lanes: u8x32, mask: u8x32) -> Self
         ensures plain { (i : ℕ) → i < 32 → slice_index mask i ≡ 255
@@ -68,6 +82,14 @@ impl LaneSums {
     }
 
     /// The two parity bytes that make a code word of each word followed by them (ECMA-130, Annex A).
+    ///
+    /// # Examples
+    ///
+    /// ```
+    /// let words = LaneSums::zero().with_lanes(u8x32::splat(0x01)); // 32 words 01
+    /// let (first, second) = words.pairs();
+    /// assert_eq!(rt; (first[31], second[31]), (0x03, 0x02)); // 01 03 02 is a code word
+    /// ```
     pub fn pairs(self) -> (u8x32, u8x32)
         ensures { (i : ℕ) → i < 32
             → IsPair (slice_index self.plain i) (slice_index self.weighted i)

@@ -7,6 +7,8 @@ use crate::field::doubled;
 use std::simd::prelude::*;
 
 /// 32 bytes from place `at` on.
+///
+/// See the example of [`put_lanes`].
 #[inline(always)]
 pub fn lanes_at(bytes: &[u8], at: usize) -> u8x32
     requires { at + 32 ≤ length bytes.now }
@@ -16,6 +18,15 @@ pub fn lanes_at(bytes: &[u8], at: usize) -> u8x32
 }
 
 /// Writes 32 lanes from place `at` on.
+///
+/// # Examples
+///
+/// ```
+/// let lanes = lanes_at(&[0x07; 40], 8); // bytes 8 to 39
+/// let mut bytes = [0x00; 34];
+/// put_lanes(&mut bytes, 1, lanes);
+/// assert_eq!(rt; (bytes[0], bytes[1], bytes[33]), (0x00, 0x07, 0x00));
+/// ```
 #[inline(always)]
 pub fn put_lanes(bytes: &mut [u8], at: usize, lanes: u8x32)
     requires { at + 32 ≤ length bytes.old }

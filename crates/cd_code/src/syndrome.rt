@@ -7,6 +7,12 @@ use crate::field::{INVERSE_OF_THREE, alpha_power, doubled, times};
 
 /// The two syndromes of a list of bytes: the sum of all, and the sum of each times a power of alpha,
 /// which falls to 1 at the last byte (ECMA-130, Annex A).
+///
+/// # Examples
+///
+/// ```
+/// assert_eq!(rt; syndromes(&[0x80, 0x01]), (0x81, 0x1C)); // 80 + 01, and 2 * 80 + 01
+/// ```
 pub fn syndromes(v: &[u8]) -> (u8, u8)
     ensures first { result.0 ≡ first_syndrome v.now }
     ensures second { result.1 ≡ second_syndrome v.now }
@@ -22,6 +28,13 @@ pub fn syndromes(v: &[u8]) -> (u8, u8)
 
 /// The two parity bytes that make a code word of any list followed by them, from the list's own two
 /// syndromes, as [`syndromes`] gives them (ECMA-130, Annex A).
+///
+/// # Examples
+///
+/// ```
+/// let (plain, weighted) = syndromes(&[0x01]);
+/// assert_eq!(rt; pair_from(plain, weighted), (0x03, 0x02)); // as `parity_pair` of 01
+/// ```
 pub fn pair_from(plain: u8, weighted: u8) -> (u8, u8)
     ensures { IsPair plain weighted result.0 result.1 }
 {
@@ -30,6 +43,13 @@ pub fn pair_from(plain: u8, weighted: u8) -> (u8, u8)
 }
 
 /// The two parity bytes that make a code word of `v` followed by them (ECMA-130, Annex A).
+///
+/// # Examples
+///
+/// ```
+/// assert_eq!(rt; parity_pair(&[0x01]), (0x03, 0x02));
+/// assert_eq!(rt; syndromes(&[0x01, 0x03, 0x02]), (0x00, 0x00)); // a code word
+/// ```
 pub fn parity_pair(v: &[u8]) -> (u8, u8)
     ensures { IsCodeWord (v.now ++ result.0 ∷ result.1 ∷ []) }
 {
@@ -40,6 +60,12 @@ pub fn parity_pair(v: &[u8]) -> (u8, u8)
 /// What has to be added to the last two bytes of a list of `len` bytes, its parity, so that both its
 /// syndromes stay when `d` is added to the byte at `place` in front of them; neither is `00` unless `d` is (ECMA-130,
 /// Annex A).
+///
+/// # Examples
+///
+/// ```
+/// assert_eq!(rt; pair_change(3, 0, 0x01), (0x03, 0x02)); // 00 00 00 becomes 01 03 02
+/// ```
 pub fn pair_change(len: usize, place: usize, d: u8) -> (u8, u8)
     requires in_front { place + 2 < len }
     requires short { len ≤ 255 }

@@ -2,4 +2,5 @@
 
 mod codes;
 mod edc_words;
+mod examples;
 mod rows;

@@ -142,6 +142,13 @@ fn standard_input_job(alloc: Global) -> Result<Job, AllocError>
 /// # Errors
 ///
 /// The parser refuses the words or answers them by help, or memory runs out.
+///
+/// # Examples
+///
+/// ```
+/// let job = job_of(rt.alloc(), Vec::new(rt.alloc()))?; // no words
+/// assert!(rt; matches!(&job, Job::List { image, base: 0 } if image.as_str() == "-"));
+/// ```
 pub fn job_of(alloc: Global, words: Vec<String>) -> Result<Job, LineFault>
     ensures ok { IfOk result (IsJobOf (map string_bytes words.items)) }
     ensures base { IfOk result (λ job. base_in job ≤ MAX_BASE) }

@@ -173,6 +173,10 @@ fn with_command<'a>(
 }
 
 /// The parser of the command line.
+///
+/// # Errors
+///
+/// Memory was refused.
 pub fn command_line<'a>(alloc: Global) -> Result<Command<'a>, AllocError>
     ensures { IfOk result (λ c. app_of c ≡ command_line) }
 {

@@ -49,6 +49,13 @@ impl From<AllocError> for LineFault {
 
 impl LineFault {
     /// The status that the program ends with: 0 where help was asked for, and else 2.
+    ///
+    /// # Examples
+    ///
+    /// ```
+    /// let fault = LineFault::NoMemory;
+    /// assert_eq!(rt; fault.status(), 2);
+    /// ```
     pub fn status(&self) -> u8
         ensures { result ≡ status_of self.now }
     {
@@ -61,6 +68,8 @@ impl LineFault {
 
     /// The status that the program ends with where it printed the `refusal_line` of this text: 2
     /// where the text found no memory, and else that of the fault.
+    ///
+    /// See the example of [`refusal_line`].
     pub fn status_with(&self, parser_text: Option<&str>) -> u8
         ensures { result ≡ (if is_some parser_text.entry then status_of self.now
             else failed_status) }
@@ -73,6 +82,8 @@ impl LineFault {
 
     /// The parser's own text, with its last line feed. `None` where the parser, or the text, found
     /// no memory.
+    ///
+    /// See the example of [`refusal_line`].
     pub fn parser_text(&self, alloc: Global) -> Option<String>
         ensures { self.now ≡ NoMemory → result ≡ None }
     {
@@ -84,6 +95,15 @@ impl LineFault {
 }
 
 /// What the program prints for a fault, by the parser's text where there is one.
+///
+/// # Examples
+///
+/// ```
+/// let fault = LineFault::NoMemory;
+/// let text = fault.parser_text(rt.alloc()); // None
+/// assert_eq!(rt; refusal_line(text.as_deref()), NO_MEMORY);
+/// assert_eq!(rt; fault.status_with(text.as_deref()), 2);
+/// ```
 pub fn refusal_line(parser_text: Option<&str>) -> &str
     ensures { result.now ≡ printed (option_map (λ text. text.now) parser_text.entry) }
 {

@@ -3,7 +3,8 @@ use Rattle.std.specs.Prelude.{◌≡◌, ◌↔◌, ℕ, ◌+◌, ◌*◌, ◌<�
 use Rattle.cd_sector.specs.CodeWords.{diagonal_places, place_of}
 use Rattle.cd_delta.specs.ParityChanges.{diagonal_at}
 
--- the place in a row and a column is in the diagonal of their difference, at the column's number, and nowhere else in any
+-- the place in a row and a column is in the diagonal of their difference, at the column's number,
+-- and nowhere else in any
 abbrev pub OneDiagonal : Type 0
 OneDiagonal =
     (plane row column l n k : ℕ) → plane < 2 → row < 26 → column < 43 → l < 2 → n < 26 → k < 45

@@ -1,5 +1,5 @@
--- What a change of one byte changes in the parity of its sector (ECMA-130, Annex A). Place n of a plane is in row n / 43
--- and column n % 43; the P parity makes rows 24 and 25.
+-- What a change of one byte changes in the parity of its sector (ECMA-130, Annex A). Place n of a
+-- plane is in row n / 43 and column n % 43; the P parity makes rows 24 and 25.
 use Rattle.std.specs.Prelude.{ℕ, ◌+◌, ◌-◌, ◌/◌, ◌%◌, List, [], ◌∷◌, ◌++◌, fold}
 use Rattle.cd_code.specs.Syndrome.{added}
 use Rattle.cd_sector.specs.CodeWords.{diagonal_pair, place_of}

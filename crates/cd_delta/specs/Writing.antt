@@ -9,13 +9,14 @@ use Rattle.cd_sector.specs.CodeWords.{SameSyndromes}
 unfoldable pub written : List ℕ → ℕ → List ℕ → List ℕ
 written user offset bytes = take offset user ++ (bytes ++ drop (offset + length bytes) user)
 
--- the first `count` bytes of a list stand in a sector from `place` on; in front of the parity nothing else has changed,
--- and no syndrome has
+-- the first `count` bytes of a list stand in a sector from `place` on; in front of the parity
+-- nothing else has changed, and no syndrome has
 pub record IsWritten (old new : List ℕ) (place count : ℕ) (bytes : List ℕ) : Type 0 where
   pub size : length new ≡ length old
   pub each : AreBytes old → AreBytes new
   pub range : (i : ℕ) → i < count → slice_index new (place + i) ≡ slice_index bytes i
-  pub front : (i : ℕ) → i < 2076 → (i < place) ⊎ (place + count ≤ i) → slice_index new i ≡ slice_index old i
+  pub front : (i : ℕ) → i < 2076 → (i < place) ⊎ (place + count ≤ i)
+      → slice_index new i ≡ slice_index old i
   pub syndromes : SameSyndromes new old
 
 -- the EDC of the first 2064 bytes, with `error` added to it, stands behind them
@@ -34,15 +35,16 @@ pub record WithEdc (old new : List ℕ) (error : ℕ) : Type 0 where
   pub front : (i : ℕ) → i < 2076 → (i < 2064) ⊎ (2068 ≤ i) → slice_index new i ≡ slice_index old i
   pub syndromes : SameSyndromes new old
 
--- the bytes stand in the sector from `place` on, with the EDC behind the user data, to which `error` is added; in front
--- of the parity nothing else has changed, and no syndrome has
+-- the bytes stand in the sector from `place` on, with the EDC behind the user data, to which
+-- `error` is added; in front of the parity nothing else has changed, and no syndrome has
 pub record IsChanged (old new : List ℕ) (place : ℕ) (bytes : List ℕ) (error : ℕ) : Type 0 where
   pub fits : place + length bytes ≤ 2064
   pub size : length new ≡ 2352
   pub same_size : length new ≡ length old
   pub each : AreBytes new
   pub range : (i : ℕ) → i < length bytes → slice_index new (place + i) ≡ slice_index bytes i
-  pub front : (i : ℕ) → i < 2064 → (i < place) ⊎ (place + length bytes ≤ i) → slice_index new i ≡ slice_index old i
+  pub front : (i : ℕ) → i < 2064 → (i < place) ⊎ (place + length bytes ≤ i)
+      → slice_index new i ≡ slice_index old i
   pub zeros : (i : ℕ) → 2068 ≤ i → i < 2076 → slice_index new i ≡ slice_index old i
   pub edc : StoresEdc new error
   pub syndromes : SameSyndromes new old

@@ -13,6 +13,15 @@ use cd_sector::Sector;
 /// Makes `value` the byte at `place`, 12 to 2075, and carries the change into the eight parity bytes that follow
 /// from it, so that all 276 syndromes stay as they were (ECMA-130, Annex A). The sector may be of any kind, and
 /// need not be consistent.
+///
+/// # Examples
+///
+/// ```
+/// let mut sector = Sector::default(); // all 00: all columns and diagonals are code words
+/// change_byte(&mut sector, 12, 0x01);
+/// let report = defect(&sector); // and they stay so
+/// assert_eq!(rt; (sector.byte(12), report.p, report.q), (0x01, 0, 0));
+/// ```
 pub fn change_byte(s: &mut Sector, place: u16, value: u8)
     requires from { 12 ≤ place }
     requires below { place < 2076 }

@@ -17,6 +17,16 @@ use cd_sector::{EDC, HEADER, Sector, USER_DATA, stored_edc};
 /// Writes `bytes` into the 2048 bytes of user data of a Mode 1 sector, from `offset` on, and carries the sector's
 /// damage over: the EDC changes by the sum of the EDC words of bytes 0 to 2063 before and after, and all 276 syndromes
 /// stay (ECMA-130, the clause on the digital data structure of sectors and Annex A).
+///
+/// # Examples
+///
+/// ```
+/// let mut sector = encode([0x00, 0x02, 0x00], &[0x00; USER_SIZE]);
+/// sector.put(2351, 0xFF); // damage in the Q parity, to one diagonal
+/// assert_eq!(rt; kind(&sector), SectorKind::Mode1);
+/// carry_user(&mut sector, 0, &[0x41]);
+/// assert_eq!(rt; (sector.user()[0], defect(&sector).q), (0x41, 1)); // which stays
+/// ```
 pub fn carry_user(s: &mut Sector, offset: u16, bytes: &[u8])
     requires mode { kind_of s.old ≡ Mode1 }
     requires range { offset + length bytes.now ≤ 2048 }
@@ -38,6 +48,16 @@ pub fn carry_user(s: &mut Sector, offset: u16, bytes: &[u8])
 /// Makes `bcd` bytes 12 to 14 of a Mode 1 sector, which are its address (three bytes, BCD or not), and carries the
 /// sector's damage over: the EDC changes by the sum of the EDC words of bytes 0 to 2063 before and after, and all 276
 /// syndromes stay (ECMA-130, the clause on the digital data structure of sectors and Annex A).
+///
+/// # Examples
+///
+/// ```
+/// let mut sector = encode([0x00, 0x02, 0x00], &[0x00; USER_SIZE]);
+/// sector.put(2351, 0xFF); // damage in the Q parity, to one diagonal
+/// assert_eq!(rt; kind(&sector), SectorKind::Mode1);
+/// carry_header(&mut sector, [0x00, 0x02, 0x01]);
+/// assert_eq!(rt; (sector.header()[2], defect(&sector).q), (0x01, 1)); // which stays
+/// ```
 pub fn carry_header(s: &mut Sector, bcd: [u8; 3])
     requires mode { kind_of s.old ≡ Mode1 }
     ensures carried { IsCarried s.old (bcd ++ drop 3 (header_of s.old)) (user_of s.old) s.new }

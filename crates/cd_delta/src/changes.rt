@@ -37,6 +37,14 @@ struct Cell {
 /// sector, consistent or not: all 276 syndromes stay, and no other amounts at these places do that. None is `00` unless
 /// `d` is. First the two parity bytes of the P column, then those of
 /// the Q diagonals of the byte itself, of the first and of the second P byte (ECMA-130, Annex A).
+///
+/// # Examples
+///
+/// ```
+/// let [first, second, ..] = parity_changes(12, 0x01); // the P bytes of the column of byte 12
+/// assert_eq!(rt; (first.place, first.d), (2076, 0xF5));
+/// assert_eq!(rt; (second.place, second.d), (2162, 0xF4));
+/// ```
 pub fn parity_changes(place: u16, d: u8) -> [Change; 8]
     requires from { 12 ≤ place }
     requires below { place < 2076 }

@@ -16,6 +16,14 @@ use cd_sector::{HEADER, Sector};
 /// Makes `bcd` bytes 12 to 14 of a Mode 1 sector, which are its address (three bytes, BCD or not), then writes the
 /// EDC of bytes 0 to 2063 behind them, and carries both into the parity, so that all 276 syndromes stay as they were
 /// (ECMA-130, the clause on the digital data structure of sectors and Annex A). The sector need not be consistent.
+///
+/// # Examples
+///
+/// ```
+/// let mut sector = encode([0x00, 0x02, 0x00], &[0x41; USER_SIZE]); // block 0
+/// change_header(&mut sector, [0x00, 0x02, 0x01]);
+/// assert!(rt; sector == encode([0x00, 0x02, 0x01], &[0x41; USER_SIZE])); // block 1
+/// ```
 pub fn change_header(s: &mut Sector, bcd: [u8; 3])
     requires mode { kind_of s.old ≡ Mode1 }
     ensures header { header_of s.new ≡ bcd ++ drop 3 (header_of s.old) }

@@ -21,6 +21,14 @@ const MANY: usize = 40;
 /// Writes `bytes` into the 2048 bytes of user data of a Mode 1 sector, from `offset` on, then the EDC of bytes 0 to
 /// 2063 behind them, and carries both into the parity, so that all 276 syndromes stay as they were (ECMA-130, the
 /// clause on the digital data structure of sectors and Annex A). The sector need not be consistent.
+///
+/// # Examples
+///
+/// ```
+/// let mut sector = encode([0x00, 0x02, 0x00], &[0x00; USER_SIZE]);
+/// change_user(&mut sector, 0, &[0x41; USER_SIZE]);
+/// assert!(rt; sector == encode([0x00, 0x02, 0x00], &[0x41; USER_SIZE]));
+/// ```
 pub fn change_user(s: &mut Sector, offset: u16, bytes: &[u8])
     requires mode { kind_of s.old ≡ Mode1 }
     requires range { offset + length bytes.now ≤ 2048 }

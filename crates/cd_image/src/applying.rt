@@ -30,6 +30,17 @@ use cd_stream::{Sink, Source};
 ///
 /// `Read`, `Write` and `Log` where the image, `out` or `log` has failed, `TooLong` where a byte was
 /// read behind the millionth sector. A patch that is refused is no error: the tally counts it.
+///
+/// # Examples
+///
+/// ```
+/// let script = parse(rt.alloc(), b"cdpatch 1\nset 0 0 41\n")?;
+/// let sector = encode([0x00, 0x02, 0x00], &[0x00; USER_SIZE]); // block 0
+/// let (mut image, mut space) = (SliceSource::new(sector.bytes()), [0; SECTOR_SIZE]);
+/// let (mut out, mut log) = (SliceSink::new(&mut space), ToWrite::new(io::sink()));
+/// apply(&mut image, &script, 0, false, &mut out, &mut log)?;
+/// assert_eq!(rt; out.written().get(16), Some(&0x41)); // the first user byte
+/// ```
 pub fn apply<I: Source, O: Sink, L: Sink>(
     image: &mut I,
     script: &Script,
@@ -88,6 +99,16 @@ pub fn apply<I: Source, O: Sink, L: Sink>(
 /// # Errors
 ///
 /// Those of [`apply`], but for `Write`.
+///
+/// # Examples
+///
+/// ```
+/// let script = parse(rt.alloc(), b"cdpatch 1\nset 0 0 41\n")?;
+/// let mut space = [0; 64];
+/// let mut log = SliceSink::new(&mut space);
+/// check(&mut ZeroSource::new(0), &script, 0, false, &mut log)?; // no sector
+/// assert!(rt; log.written().starts_with(b"line 2: refused: no block 0\n"));
+/// ```
 pub fn check<I: Source, L: Sink>(
     image: &mut I,
     script: &Script,

@@ -8,6 +8,7 @@ mod calls;
 mod carried;
 mod cut_images;
 mod endless;
+mod examples;
 mod failing_listings;
 mod failing_patches;
 mod listings;

@@ -3,6 +3,7 @@ use Rattle.std.specs.Prelude.{ℕ, List, [], ◌++◌, codes, decimal}
 use Rattle.cd_command.specs.Fault.{no_memory}
 use Rattle.cd_read.specs.declared.fault.Fault.{Fault}
 use Rattle.cd_read.specs.declared.fault.Fault.TheVariants as fault
+use Rattle.cd_script.specs.Limits.{patch_limit}
 use Rattle.cd_script.specs.declared.fault.ScriptFault.{ScriptFault}
 use Rattle.cd_script.specs.declared.fault.ScriptFault.TheVariants as script_fault
 use Rattle.cd_jobs.specs.declared.host.OpenFault.{OpenFault}
@@ -46,6 +47,10 @@ unfoldable pub numbered_line : ℕ → List ℕ → List ℕ
 numbered_line number text =
     codes "script line " ++ decimal number ++ codes ": " ++ text ++ codes "\n"
 
+-- what is wrong with a script of too many patches
+unfoldable pub too_many : List ℕ
+too_many = codes "more than " ++ decimal patch_limit ++ codes " patches"
+
 -- the line of a script's fault
 unfoldable pub script_fault_line : ScriptFault → List ℕ
 script_fault_line (script_fault.Head line) = numbered_line line (codes "no cdpatch 1 line")
@@ -56,5 +61,5 @@ script_fault_line (script_fault.Hex line) = numbered_line line (codes "bad hex")
 script_fault_line (script_fault.Length line) = numbered_line line (codes "bad length")
 script_fault_line (script_fault.Offset line) = numbered_line line (codes "offset over 2047")
 script_fault_line (script_fault.Address line) = numbered_line line (codes "bad address")
-script_fault_line (script_fault.TooMany line) = numbered_line line (codes "more than 65535 patches")
+script_fault_line (script_fault.TooMany line) = numbered_line line too_many
 script_fault_line script_fault.NoMemory = codes "script: no memory\n"

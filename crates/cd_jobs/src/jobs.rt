@@ -146,6 +146,8 @@ fn do_check<H: Host, L: Sink>(
 }
 
 /// Patches the image of a name by the script in a file, into a new file.
+// In line in its caller, the pass would find fewer registers free.
+#[inline(never)]
 fn do_apply<H: Host, L: Sink>(
     alloc: Global,
     host: &mut H,
@@ -235,6 +237,16 @@ fn refuse<O: Sink>(alloc: Global, fault: &LineFault, out: &mut O) -> u8
 
 /// Does what the words behind the program's name ask for, and answers the status: 0, 1 where
 /// `audit` told of a sector or a patch was refused, 2 behind a fault. Every text goes to `out`.
+///
+/// # Examples
+///
+/// ```
+/// let words = vec![in rt.alloc(); String::from_str(rt.alloc(), "--help")?]?;
+/// let mut space = [0; 4096];
+/// let mut out = SliceSink::new(&mut space);
+/// let status = do_words(rt.alloc(), &mut System::new(&rt), words, &mut out);
+/// assert!(rt; status == 0 && out.written().starts_with(b"List, audit"));
+/// ```
 pub fn do_words<H: Host, O: Sink>(
     alloc: Global,
     host: &mut H,

@@ -2,13 +2,13 @@
 //! `cd_command::NO_MEMORY`.
 
 ghost use Rattle.std.specs.Prelude.{◌≡◌, ◌≤◌, length};
-ghost use Rattle.cd_jobs.specs.Messages.{fault_line, load_fault_line, numbered_line, open_fault_line, script_fault_line};
+ghost use Rattle.cd_jobs.specs.Messages.{fault_line, load_fault_line, numbered_line, open_fault_line, script_fault_line, too_many};
 
 use crate::host::OpenFault;
 use crate::script::LoadFault;
 use cd_command::NO_MEMORY;
 use cd_image::{Fault, Line};
-use cd_script::ScriptFault;
+use cd_script::{MAX_PATCHES, ScriptFault};
 
 /// There is no file of a script, or a read of it failed.
 pub const NO_SCRIPT: &str = "cdpatch: cannot read the script\n";
@@ -76,6 +76,19 @@ fn numbered_line(number: u32, text: &[u8]) -> Line
     line
 }
 
+/// What is wrong with a script of too many patches.
+#[tactic(auto, unfolding(crate::specs::Messages::too_many))]
+fn too_many() -> Line
+    ensures text { result ≡ too_many }
+    ensures size { length result ≤ 40 }
+{
+    let mut text = Line::new();
+    text.push_text(b"more than ");
+    text.push_number(MAX_PATCHES as u32);
+    text.push_text(b" patches");
+    text
+}
+
 /// The line of a script's fault.
 #[tactic(auto, unfolding(crate::specs::Messages::script_fault_line))]
 pub fn script_fault_line(fault: ScriptFault) -> Line
@@ -90,7 +103,7 @@ pub fn script_fault_line(fault: ScriptFault) -> Line
         ScriptFault::Length(line) => numbered_line(line, b"bad length"),
         ScriptFault::Offset(line) => numbered_line(line, b"offset over 2047"),
         ScriptFault::Address(line) => numbered_line(line, b"bad address"),
-        ScriptFault::TooMany(line) => numbered_line(line, b"more than 65535 patches"),
+        ScriptFault::TooMany(line) => numbered_line(line, too_many().as_slice()),
         ScriptFault::NoMemory => {
             let mut line = Line::new();
             line.push_text(b"script: no memory\n");

@@ -20,6 +20,8 @@ use std::{env, fs};
 
 /// Does what the words behind the program's name ask for, and answers the status. Every text goes
 /// to the standard output.
+///
+/// It has no example: it is the whole of `main`, and [`do_words`] is what a test runs.
 pub fn run_program(rt: &HostRuntime) -> u8
     ensures { result ≤ 2 }
 {

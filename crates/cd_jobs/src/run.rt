@@ -26,6 +26,10 @@ const FOUND: u8 = 1;
 const REFUSED: u8 = 1;
 
 /// Writes a line of the program's own and passes it on.
+///
+/// # Errors
+///
+/// A write failed, or the flush.
 pub fn say<O: Sink>(line: &[u8], out: &mut O) -> Result<(), SinkFailed>
     requires { MayCount (O.seen out.old).failures }
     ensures line { SaysLine line.now (O.seen out.old) (O.seen out.new) }
@@ -59,6 +63,15 @@ fn end_by<O: Sink>(fault: Fault, own: Fault, out: &mut O) -> u8
 
 /// Lists an image to `out`, of which the first block has the number `base`, and answers the status:
 /// 0, or 2 behind the line of a fault.
+///
+/// # Examples
+///
+/// ```
+/// let mut space = [0; 64];
+/// let mut out = SliceSink::new(&mut space);
+/// assert_eq!(rt; run_list(&mut ZeroSource::new(2352), 7, &mut out), 0);
+/// assert_eq!(rt; out.written(), b"7-7 nosync\nsectors 1 tail 0\n".as_slice());
+/// ```
 pub fn run_list<I: Source, O: Sink>(image: &mut I, base: u32, out: &mut O) -> u8
     requires base { base ≤ base_limit }
     requires image_countable { MayCount (I.seen image.old).failures }
@@ -92,6 +105,16 @@ fn audit_status_of(tally: &AuditTally) -> u8
 
 /// Audits an image to `out`, of which the first block has the number `base`, and answers the
 /// status: 0, 1 where it told of a sector, or 2 behind the line of a fault.
+///
+/// # Examples
+///
+/// ```
+/// let mut space = [0; 64];
+/// let mut out = SliceSink::new(&mut space);
+/// let mut image = FailAfter::new(ZeroSource::new(2352), 5);
+/// assert_eq!(rt; run_audit(&mut image, 0, &mut out), 2);
+/// assert!(rt; out.written().starts_with(b"cdpatch: reading the image"));
+/// ```
 pub fn run_audit<I: Source, O: Sink>(image: &mut I, base: u32, out: &mut O) -> u8
     requires base { base ≤ base_limit }
     requires image_countable { MayCount (I.seen image.old).failures }
@@ -126,6 +149,16 @@ fn status_of(tally: &Tally) -> u8
 /// Decides each patch of a script on an image, and tells of it to `log`: the answer is the status,
 /// 0, 1 where a patch is refused, or 2 behind the line of a fault. A log that has failed gets no
 /// line. Damage is carried or refused.
+///
+/// # Examples
+///
+/// ```
+/// let script = parse(rt.alloc(), b"cdpatch 1\nset 0 0 41\n")?;
+/// let (mut image, mut space) = (ZeroSource::new(0), [0; 64]);
+/// let mut log = SliceSink::new(&mut space);
+/// assert_eq!(rt; run_check(&mut image, &script, 0, false, &mut log), 1);
+/// assert!(rt; log.written().starts_with(b"line 2: refused: no block 0\n"));
+/// ```
 pub fn run_check<I: Source, L: Sink>(
     image: &mut I,
     script: &Script,
@@ -158,6 +191,16 @@ pub fn run_check<I: Source, L: Sink>(
 
 /// Patches an image to `out`, and tells of each patch to `log`: the answer is the status, 0, 1
 /// where a patch is refused, or 2 behind the line of a fault. A log that has failed gets no line.
+///
+/// # Examples
+///
+/// ```
+/// let script = parse(rt.alloc(), b"cdpatch 1\nset 0 0 41\n")?;
+/// let (mut image, mut space) = (ZeroSource::new(3), [7; 4]);
+/// let (mut out, mut log) = (SliceSink::new(&mut space), ToWrite::new(io::sink()));
+/// let status = run_apply(&mut image, &script, 0, false, &mut out, &mut log);
+/// assert_eq!(rt; (status, out.written().len()), (1, 3)); // no block 0, and the tail goes out
+/// ```
 pub fn run_apply<I: Source, O: Sink, L: Sink>(
     image: &mut I,
     script: &Script,

@@ -22,7 +22,7 @@ use std::alloc::{AllocError, Global};
 const CHUNK_SIZE: usize = 16_384;
 
 /// Why the file of a script was not read whole.
-#[derive(Clone, Copy)]
+#[derive(Clone, Copy, Debug)]
 pub enum LoadFault {
     /// A read of the file failed.
     Read,
@@ -59,6 +59,16 @@ impl From<AllocError> for LoadFault {
 /// # Errors
 ///
 /// The status 2, for a fault of the text or want of memory: its line goes to `log`.
+///
+/// # Examples
+///
+/// ```
+/// let mut space = [0; 64];
+/// let mut log = SliceSink::new(&mut space);
+/// let status = read_script(rt.alloc(), b"cdpatch 1\nset 0 0 4\n", &mut log).err();
+/// assert_eq!(rt; status, Some(2));
+/// assert_eq!(rt; log.written(), b"script line 2: bad hex\n".as_slice());
+/// ```
 pub fn read_script<L: Sink>(alloc: Global, text: &[u8], log: &mut L) -> Result<Script, u8>
     requires size { length text.now ≤ text_limit }
     requires countable { MayCount (L.seen log.old).failures }
@@ -102,6 +112,15 @@ fn read_all<I: Source>(alloc: Global, file: &mut I) -> Result<Vec<u8>, LoadFault
 ///
 /// The status 2, where a read fails, or a byte comes after that many, or memory is refused,
 /// whichever is first: a line in `log` says so.
+///
+/// # Examples
+///
+/// ```
+/// let mut log = ToWrite::new(io::sink());
+/// let mut file = SliceSource::new(b"cdpatch 1\n");
+/// let text = load_script(rt.alloc(), &mut file, &mut log).ok();
+/// assert_eq!(rt; text.as_deref(), Some(b"cdpatch 1\n".as_slice()));
+/// ```
 pub fn load_script<I: Source, L: Sink>(
     alloc: Global,
     file: &mut I,

@@ -7,6 +7,7 @@ use crate::host::{Host, OpenFault};
 use cd_image::{Buffered, FromRead, Sink, Source, ToWrite};
 use cd_sector::SECTOR_SIZE;
 use std::alloc::AllocError;
+use std::fmt::{self, Debug, Formatter};
 use std::fs;
 use std::fs::File;
 use std::io::{self, BufReader, IsTerminal, Read, Stdin, Stdout, Write};
@@ -24,6 +25,16 @@ pub enum Reader {
     StandardInput(Stdin),
 }
 
+impl Debug for Reader {
+    // `Stdin` has none.
+    fn fmt<W: fmt::Write>(&self, f: &mut Formatter<W>) -> fmt::Result {
+        match self {
+            Reader::File(file) => f.debug_tuple("File").field(file).finish(),
+            Reader::StandardInput(_) => f.write_str("StandardInput"),
+        }
+    }
+}
+
 impl Read for Reader {
     // Called once in 28 sectors. In line it would keep what is done for each sector from being put
     // in line.
@@ -38,7 +49,7 @@ impl Read for Reader {
 }
 
 /// A file whose flush is done when the system has written its data to the disk.
-#[derive(Drop)]
+#[derive(Debug, Drop)]
 pub struct Synced(File);
 
 impl Write for Synced {
@@ -60,8 +71,17 @@ pub struct System<'a> {
     rt: &'a HostRuntime,
 }
 
+impl Debug for System<'_> {
+    // `HostRuntime` has none.
+    fn fmt<W: fmt::Write>(&self, f: &mut Formatter<W>) -> fmt::Result {
+        f.debug_struct("System").finish_non_exhaustive()
+    }
+}
+
 impl<'a> System<'a> {
     /// The files and streams that the process of `rt` has.
+    ///
+    /// See the example of [`do_words`].
     pub fn new(rt: &'a HostRuntime) -> Self {
         System { rt }
     }
@@ -78,7 +98,7 @@ impl<'a> System<'a> {
     }
 
     /// The standard output. A terminal gets each line at once; a file or a pipe gets as many bytes
-    /// at a time as are read.
+    /// at a time as are read. It has no example: a test tells of itself on the same output.
     ///
     /// # Errors
     ///

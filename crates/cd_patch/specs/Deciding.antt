@@ -1,4 +1,5 @@
--- Whether a patch is accepted: the blocks that it meets are asked upwards, then the old bytes that it names.
+-- Whether a patch is accepted: the blocks that it meets are asked upwards, then the old bytes that
+-- it names.
 use Rattle.std.specs.Prelude.{ℕ, zero, suc, ◌+◌, ◌/◌, ◌%◌, ◌==◌, Bool, not, ◌&&◌, if◌then◌else◌, List, [], ◌∷◌, ◌++◌, drop, Option, Some, None, unwrap_or}
 use Rattle.cd_script.specs.declared.patch.Patch.{Patch}
 use Rattle.cd_sector.specs.Consistent.{consistent, is_mode1, user_of}
@@ -26,7 +27,8 @@ first_of (Some refusal) other = Some refusal
 abbrev pub first_refusal : List (List ℕ) → ℕ → Bool → ℕ → ℕ → Option Outcome
 first_refusal sectors base asks block zero = None
 first_refusal sectors base asks block (suc count) =
-    first_of (refusal_at asks block (sector_at sectors base block)) (first_refusal sectors base asks (block + 1) count)
+    first_of (refusal_at asks block (sector_at sectors base block))
+    (first_refusal sectors base asks (block + 1) count)
 
 -- the user data of a block
 abbrev pub user_at : Option (List ℕ) → List ℕ
@@ -36,7 +38,8 @@ user_at (Some sector) = user_of sector
 -- the user data of `count` blocks from one on, joined
 abbrev pub joined_user : List (List ℕ) → ℕ → ℕ → ℕ → List ℕ
 joined_user sectors base block zero = []
-joined_user sectors base block (suc count) = user_at (sector_at sectors base block) ++ joined_user sectors base (block + 1) count
+joined_user sectors base block (suc count) =
+    user_at (sector_at sectors base block) ++ joined_user sectors base (block + 1) count
 
 -- the user data of the blocks that a patch meets, joined
 unfoldable pub user_met : List (List ℕ) → ℕ → Patch → List ℕ
@@ -46,7 +49,8 @@ user_met sectors base p = joined_user sectors base p.block (blocks_met p)
 abbrev pub first_difference : ℕ → List ℕ → List ℕ → Option ℕ
 first_difference place bytes [] = None
 first_difference place [] (old ∷ others) = Some place
-first_difference place (b ∷ bytes) (old ∷ others) = if b == old then first_difference (place + 1) bytes others else Some place
+first_difference place (b ∷ bytes) (old ∷ others) =
+    if b == old then first_difference (place + 1) bytes others else Some place
 
 -- the block and offset of a place in the joined user data of blocks from one on
 abbrev pub by_difference : ℕ → Option ℕ → Outcome
@@ -57,4 +61,5 @@ by_difference block (Some place) = Differs (block + place / USER_SIZE) (place % 
 unfoldable pub outcome : Bool → List (List ℕ) → ℕ → Patch → Outcome
 outcome carry sectors base p =
     unwrap_or (first_refusal sectors base (needs_consistent carry p.edit) p.block (blocks_met p))
-    (by_difference p.block (first_difference p.offset (drop p.offset (user_met sectors base p)) (old_bytes p.edit)))
+    (by_difference p.block
+    (first_difference p.offset (drop p.offset (user_met sectors base p)) (old_bytes p.edit)))

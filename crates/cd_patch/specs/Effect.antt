@@ -23,10 +23,11 @@ abbrev pub MadeBy : Bool → List ℕ → List ℕ → List ℕ → List ℕ →
 MadeBy false old header user new = IsRemade header user new
 MadeBy true old header user new = IsCarried old header user new
 
--- what an edit makes of a sector to which it gives this user data: where damage is carried, each edit but `rebuild` keeps
--- the old defect; else the consistent sector
+-- what an edit makes of a sector to which it gives this user data: where damage is carried, each
+-- edit but `rebuild` keeps the old defect; else the consistent sector
 abbrev pub IsMade : Bool → Edit → List ℕ → List ℕ → List ℕ → Type 0
-IsMade carry edit old user new = MadeBy (keeps_defect carry edit) old (new_header edit (header_of old)) user new
+IsMade carry edit old user new =
+    MadeBy (keeps_defect carry edit) old (new_header edit (header_of old)) user new
 
 -- the user data of the blocks that a patch meets, joined, with the new bytes in the patch's range
 unfoldable pub patched_user : List (List ℕ) → ℕ → Patch → List ℕ
@@ -36,13 +37,17 @@ patched_user sectors base p = written (user_met sectors base p) p.offset (new_by
 unfoldable pub user_part : List ℕ → ℕ → List ℕ
 user_part user k = slice_range user (USER_SIZE * k) (USER_SIZE * (k + 1))
 
--- an accepted patch: each block that it meets has the header that the patch makes of its old one and its part of the
--- patched user data, and is consistent, or has the old defect where that is carried; every other is as it was
+-- an accepted patch: each block that it meets has the header that the patch makes of its old one
+-- and its part of the patched user data, and is consistent, or has the old defect where that is
+-- carried; every other is as it was
 pub record IsApplied (carry : Bool) (base : ℕ) (p : Patch) (old new : List (List ℕ)) : Type 0 where
   pub count : length new ≡ length old
-  pub met : (k : ℕ) (before after : List ℕ) → k < blocks_met p → sector_at old base (p.block + k) ≡ Some before → sector_at new base (p.block + k) ≡ Some after
+  pub met : (k : ℕ) (before after : List ℕ) → k < blocks_met p
+      → sector_at old base (p.block + k) ≡ Some before
+      → sector_at new base (p.block + k) ≡ Some after
       → IsMade carry p.edit before (user_part (patched_user old base p) k) after
-  pub others : (block : ℕ) → (block < p.block) ⊎ (p.block + blocks_met p ≤ block) → sector_at new base block ≡ sector_at old base block
+  pub others : (block : ℕ) → (block < p.block) ⊎ (p.block + blocks_met p ≤ block)
+      → sector_at new base block ≡ sector_at old base block
 
 -- a refused patch changes nothing
 abbrev pub EffectOf : Bool → Outcome → ℕ → Patch → List (List ℕ) → List (List ℕ) → Type 0

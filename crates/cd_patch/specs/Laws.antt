@@ -14,44 +14,56 @@ use Rattle.cd_patch.specs.declared.outcome.Outcome.TheVariants.{Applied, Damaged
 -- a run's outcomes and last sectors follow from the patches and the sectors
 abbrev pub RunIsDetermined : Type 0
 RunIsDetermined =
-    (carry : Bool) (ps : List Patch) (os os' : List Outcome) (base : ℕ) (old last last' : List (List ℕ))
-    → PatchRun carry ps os base old last → PatchRun carry ps os' base old last' → (os ≡ os') × (last ≡ last')
+    (carry : Bool) (ps : List Patch) (os os' : List Outcome) (base : ℕ)
+    (old last last' : List (List ℕ))
+    → PatchRun carry ps os base old last → PatchRun carry ps os' base old last'
+    → (os ≡ os') × (last ≡ last')
 
 -- each list of patches has a run on each list of sectors
 abbrev pub RunExists : Type 0
 RunExists =
-    (carry : Bool) (ps : List Patch) (base : ℕ) (old : List (List ℕ)) → All IsPatch ps → All IsSector old
-    → (os : List Outcome) × (last : List (List ℕ)) × PatchRun carry ps os base old last × All IsSector last
+    (carry : Bool) (ps : List Patch) (base : ℕ) (old : List (List ℕ)) → All IsPatch ps
+    → All IsSector old
+    → (os : List Outcome) × (last : List (List ℕ)) × PatchRun carry ps os base old last
+    × All IsSector last
 
--- where the first i + block_limit sectors are equal, the patches up to block base + i have equal outcomes, and leave equal sectors
--- 0 to i
+-- where the first i + block_limit sectors are equal, the patches up to block base + i have equal
+-- outcomes, and leave equal sectors 0 to i
 abbrev pub RunsAgree : Type 0
 RunsAgree =
-    (carry : Bool) (i base : ℕ) (ps : List Patch) (os os' : List Outcome) (old old' last last' : List (List ℕ))
-    → All IsPatch ps → IsNonDecreasingBy (λ p. p.block) ps → take (i + block_limit) old ≡ take (i + block_limit) old'
+    (carry : Bool) (i base : ℕ) (ps : List Patch) (os os' : List Outcome)
+    (old old' last last' : List (List ℕ))
+    → All IsPatch ps → IsNonDecreasingBy (λ p. p.block) ps
+    → take (i + block_limit) old ≡ take (i + block_limit) old'
     → PatchRun carry ps os base old last → PatchRun carry ps os' base old' last'
-    → ((k : ℕ) (p : Patch) → slice_get ps k ≡ Some p → p.block ≤ base + i → slice_get os k ≡ slice_get os' k)
+    → ((k : ℕ) (p : Patch) → slice_get ps k ≡ Some p → p.block ≤ base + i
+    → slice_get os k ≡ slice_get os' k)
     × (take (i + 1) last ≡ take (i + 1) last')
 
 abbrev pub RunLeavesOthers : Type 0
 RunLeavesOthers =
-    (carry : Bool) (ps : List Patch) (os : List Outcome) (base : ℕ) (old last : List (List ℕ)) → All IsPatch ps → All IsSector old
+    (carry : Bool) (ps : List Patch) (os : List Outcome) (base : ℕ) (old last : List (List ℕ))
+    → All IsPatch ps → All IsSector old
     → PatchRun carry ps os base old last → LeavesOthers carry ps os base old last
 
 -- these words leave one result
 abbrev pub LeavesOne : Type 0
 LeavesOne =
     (carry : Bool) (ps : List Patch) (os : List Outcome) (base : ℕ) (old last last' : List (List ℕ))
-    → LeavesOthers carry ps os base old last → LeavesOthers carry ps os base old last' → last ≡ last'
+    → LeavesOthers carry ps os base old last → LeavesOthers carry ps os base old last'
+    → last ≡ last'
 
 -- ---- where there is nothing to carry
 
 -- a patch that is accepted where no damage is carried is accepted where it is, and makes the same
 abbrev pub NothingToCarry : Type 0
 NothingToCarry =
-    (base : ℕ) (p : Patch) (old new : List (List ℕ)) → outcome false old base p ≡ Applied → Effect false base p old new
+    (base : ℕ) (p : Patch) (old new : List (List ℕ)) → outcome false old base p ≡ Applied
+    → Effect false base p old new
     → (outcome true old base p ≡ Applied) × Effect true base p old new
 
 -- where damage is carried no patch is refused for it
 abbrev pub NeverDamaged : Type 0
-NeverDamaged = (base block : ℕ) (p : Patch) (sectors : List (List ℕ)) → outcome true sectors base p ≢ Damaged block
+NeverDamaged =
+    (base block : ℕ) (p : Patch) (sectors : List (List ℕ))
+    → outcome true sectors base p ≢ Damaged block

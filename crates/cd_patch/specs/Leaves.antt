@@ -1,4 +1,5 @@
--- What patches leave of each sector, in the reader's words: its header, its bytes, and whether it is consistent or damaged.
+-- What patches leave of each sector, in the reader's words: its header, its bytes, and whether it
+-- is consistent or damaged.
 use Rattle.std.specs.Prelude.{◌≡◌, ℕ, ◌+◌, ◌-◌, ◌*◌, ◌<◌, nat_lt, nat_le, Bool, true, false, not, ◌&&◌, ◌||◌, if◌then◌else◌, List, [], ◌∷◌, All, length, slice_index, Some}
 use Rattle.cd_code.specs.Field.{AreBytes}
 use Rattle.cd_script.specs.declared.patch.Patch.{Patch}
@@ -26,7 +27,8 @@ is_touched [] os block = false
 is_touched (p ∷ ps) [] block = false
 is_touched (p ∷ ps) (o ∷ os) block = (is_applied o && meets p block) || is_touched ps os block
 
--- the user byte at an offset of a block that an accepted patch leaves of the byte before: its own where its range has it
+-- the user byte at an offset of a block that an accepted patch leaves of the byte before: its own
+-- where its range has it
 abbrev pub byte_by : Patch → ℕ → ℕ → ℕ → ℕ
 byte_by p block offset before =
     let place = USER_SIZE * (block - p.block) + offset in
@@ -46,7 +48,8 @@ abbrev pub header_left : List Patch → List Outcome → ℕ → List ℕ → Li
 header_left [] os block before = before
 header_left (p ∷ ps) [] block before = before
 header_left (p ∷ ps) (o ∷ os) block before =
-    header_left ps os block (if is_applied o && meets p block then new_header p.edit before else before)
+    header_left ps os block
+    (if is_applied o && meets p block then new_header p.edit before else before)
 
 -- an accepted patch that makes its sectors anew, a rebuild, meets the block
 abbrev pub is_rebuilt : List Patch → List Outcome → ℕ → Bool
@@ -60,25 +63,33 @@ pub record SameDamage (before after : List ℕ) : Type 0 where
   pub sync : sync_of after ≡ sync_of before
   pub defect : defect_of after ≡ defect_of before
 
--- a sector that no accepted patch meets is the old one; each other one has the header and the user bytes that the accepted
--- patches leave in order. Where no damage is carried it is consistent; where damage is carried it has the sync field and
--- the defect of the old one, or is consistent where it was rebuilt. A consistent one stays consistent
+-- a sector that no accepted patch meets is the old one; each other one has the header and the user
+-- bytes that the accepted patches leave in order. Where no damage is carried it is consistent;
+-- where damage is carried it has the sync field and the defect of the old one, or is consistent
+-- where it was rebuilt. A consistent one stays consistent
 pub record LeavesOthers (carry : Bool) (ps : List Patch) (os : List Outcome) (base : ℕ)
     (old last : List (List ℕ)) : Type 0 where
   pub count : length last ≡ length old
   pub sectors : All IsSector last
-  pub others : (block : ℕ) → is_touched ps os block ≡ false → sector_at last base block ≡ sector_at old base block
-  pub consistent : (block : ℕ) (before after : List ℕ) → carry ≡ false → is_touched ps os block ≡ true
-      → sector_at old base block ≡ Some before → sector_at last base block ≡ Some after → IsConsistent after
+  pub others : (block : ℕ) → is_touched ps os block ≡ false
+      → sector_at last base block ≡ sector_at old base block
+  pub consistent : (block : ℕ) (before after : List ℕ) → carry ≡ false
+      → is_touched ps os block ≡ true
+      → sector_at old base block ≡ Some before → sector_at last base block ≡ Some after
+      → IsConsistent after
   pub rebuilt : (block : ℕ) (before after : List ℕ) → is_rebuilt ps os block ≡ true
-      → sector_at old base block ≡ Some before → sector_at last base block ≡ Some after → IsConsistent after
+      → sector_at old base block ≡ Some before → sector_at last base block ≡ Some after
+      → IsConsistent after
   pub carried : (block : ℕ) (before after : List ℕ) → carry ≡ true → is_rebuilt ps os block ≡ false
-      → sector_at old base block ≡ Some before → sector_at last base block ≡ Some after → SameDamage before after
+      → sector_at old base block ≡ Some before → sector_at last base block ≡ Some after
+      → SameDamage before after
   pub stays : (block : ℕ) (before after : List ℕ) → IsConsistent before
-      → sector_at old base block ≡ Some before → sector_at last base block ≡ Some after → IsConsistent after
+      → sector_at old base block ≡ Some before → sector_at last base block ≡ Some after
+      → IsConsistent after
   pub header : (block : ℕ) (before after : List ℕ)
       → sector_at old base block ≡ Some before → sector_at last base block ≡ Some after
       → header_of after ≡ header_left ps os block (header_of before)
   pub user : (block offset : ℕ) (before after : List ℕ) → offset < USER_SIZE
       → sector_at old base block ≡ Some before → sector_at last base block ≡ Some after
-      → slice_index (user_of after) offset ≡ byte_left ps os block offset (slice_index (user_of before) offset)
+      → slice_index (user_of after) offset
+      ≡ byte_left ps os block offset (slice_index (user_of before) offset)

@@ -13,10 +13,12 @@ bytes_of (Repeated count value) = replicate count value
 
 -- each of the first `count` sectors has its 2048 bytes of user data
 abbrev pub HaveUsers : List (List ℕ) → ℕ → Type 0
-HaveUsers sectors count = (k : ℕ) → k < count → length (user_of (slice_index_or sectors k [])) ≡ USER_SIZE
+HaveUsers sectors count =
+    (k : ℕ) → k < count → length (user_of (slice_index_or sectors k [])) ≡ USER_SIZE
 
--- where a range of `count` bytes, which begins at `offset` in the joined user data, meets the block at number k among
--- them: at `place` of its user data stand bytes `first` to `end` of the range, and no other
+-- where a range of `count` bytes, which begins at `offset` in the joined user data, meets the block
+-- at number k among them: at `place` of its user data stand bytes `first` to `end` of the range,
+-- and no other
 pub record IsPart (k offset count place first end : ℕ) : Type 0 where
   pub rises : first ≤ end
   pub within : end ≤ count
@@ -25,12 +27,16 @@ pub record IsPart (k offset count place first end : ℕ) : Type 0 where
   pub from_start : (first ≡ 0) ⊎ (place ≡ 0)
   pub to_end : (end ≡ count) ⊎ (place + end ≡ USER_SIZE + first)
 
--- the sector at number k has this header and those of the bytes that lie in it, and is consistent or has the defect of the
--- one before
-pub record HasPart (carried : Bool) (k offset : ℕ) (bytes header before after : List ℕ) : Type 0 where
+-- the sector at number k has this header and those of the bytes that lie in it, and is consistent
+-- or has the defect of the one before
+pub record HasPart (carried : Bool) (k offset : ℕ)
+    (bytes header before after : List ℕ) : Type 0 where
   pub made : MadeBy carried before header (user_of after) after
-  pub inside : (i j : ℕ) → i < length bytes → j < USER_SIZE → USER_SIZE * k + j ≡ offset + i → slice_index (user_of after) j ≡ slice_index bytes i
-  pub outside : (j : ℕ) → j < USER_SIZE → (USER_SIZE * k + j < offset) ⊎ (offset + length bytes ≤ USER_SIZE * k + j) → slice_index (user_of after) j ≡ slice_index (user_of before) j
+  pub inside : (i j : ℕ) → i < length bytes → j < USER_SIZE → USER_SIZE * k + j ≡ offset + i
+      → slice_index (user_of after) j ≡ slice_index bytes i
+  pub outside : (j : ℕ) → j < USER_SIZE
+      → (USER_SIZE * k + j < offset) ⊎ (offset + length bytes ≤ USER_SIZE * k + j)
+      → slice_index (user_of after) j ≡ slice_index (user_of before) j
 
 -- as many sectors, each made of the one before by a rule for its number
 pub record EachMade (Rule : ℕ → List ℕ → List ℕ → Type 0) (old new : List (List ℕ)) : Type 0 where

@@ -13,8 +13,8 @@ pub record PatchStep (carry : Bool) (p : Patch) (o : Outcome) (base : ℕ) (old 
   pub effect : Effect carry base p old next
   pub others : GoesOn next
 
--- where damage is carried or not, the patches have these outcomes, and lead from the sectors `old`, the first of which is
--- block `base`, to `last`
+-- where damage is carried or not, the patches have these outcomes, and lead from the sectors `old`,
+-- the first of which is block `base`, to `last`
 abbrev pub PatchRun : Bool → List Patch → List Outcome → ℕ → List (List ℕ) → List (List ℕ) → Type 0
 PatchRun carry [] [] base old last = last ≡ old
 PatchRun carry [] (o ∷ os) base old last = ⊥

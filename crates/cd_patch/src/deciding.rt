@@ -86,8 +86,10 @@ pub(crate) fn know_user_size(sector: &Sector)
 /// The place, in the joined user data of the sectors, of the first byte from `offset` on that is not the old one.
 fn first_difference(sectors: &[Sector], offset: u16, old: &[u8]) -> Option<usize>
     requires { offset + length old.now ≤ 2048 * length sectors.now }
-    ensures value { (base count : ℕ) → HaveUsers sectors.now count → count ≤ length sectors.now → offset + length old.now ≤ 2048 * count
-        → result ≡ first_difference offset (drop offset (joined_user sectors.now base base count)) old.now }
+    ensures value { (base count : ℕ) → HaveUsers sectors.now count → count ≤ length sectors.now
+        → offset + length old.now ≤ 2048 * count
+        → result ≡ first_difference offset
+        (drop offset (joined_user sectors.now base base count)) old.now }
     ensures within { IfSome result (λ place. place < offset + length old.now) }
 {
     for (i, byte) in old.iter().enumerate() {

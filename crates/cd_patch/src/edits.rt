@@ -95,6 +95,15 @@ pub(crate) fn meaning(edit: &Edit) -> EditMeaning<'_>
 }
 
 /// The number of blocks that a patch meets, 1 to [`MAX_BLOCKS_MET`]: its first block, and those after it.
+///
+/// # Examples
+///
+/// ```
+/// let script = parse(rt.alloc(), b"cdpatch 1\nset 5 2047 4142\n")?;
+/// for patch in script.patches() {
+///     assert_eq!(rt; blocks_met(patch), 2); // the last user byte of block 5, the first of 6
+/// }
+/// ```
 pub fn blocks_met(patch: &Patch) -> usize
     requires { IsPatch patch.now }
     ensures number { result ≡ blocks_met patch.now }

@@ -20,6 +20,13 @@ pub enum Outcome {
 
 impl Outcome {
     /// Whether the patch was accepted.
+    ///
+    /// # Examples
+    ///
+    /// ```
+    /// assert!(rt; Outcome::Applied.is_applied());
+    /// assert!(rt; !Outcome::NoBlock(5).is_applied());
+    /// ```
     pub fn is_applied(self) -> bool
         ensures { result ≡ is_applied self }
     {

@@ -26,6 +26,16 @@ use cd_sector::{Sector, USER_SIZE, encode};
 /// ([`MAX_BLOCKS_MET`] serve any patch), and, where it is accepted, makes of each sector that it meets the one consistent sector
 /// with its old header, or the one with the patch's address, and its part of the patched user data. With `carry` no
 /// sector is refused for its damage, and each that is not made anew keeps its damage.
+///
+/// # Examples
+///
+/// ```
+/// let script = parse(rt.alloc(), b"cdpatch 1\nset 0 0 41\n")?;
+/// let mut sectors = [encode([0x00, 0x02, 0x00], &[0x00; USER_SIZE])]; // block 0
+/// for patch in script.patches() {
+///     assert_eq!(rt; apply_patch(&mut sectors, patch, false), Outcome::Applied);
+/// }
+/// ```
 pub fn apply_patch(sectors: &mut [Sector], patch: &Patch, carry: bool) -> Outcome
     requires { IsPatch patch.now }
     ensures outcome { result ≡ outcome carry sectors.old patch.now.block patch.now }
@@ -46,7 +56,8 @@ fn change(sectors: &mut [Sector], patch: &Patch, carry: bool)
     requires mode { All (λ s. kind_of s ≡ Mode1) sectors.old }
     requires sound { needs_consistent carry patch.now.edit ≡ true → All IsConsistent sectors.old }
     ensures { EachMade
-        (λ k before after. HasPart (keeps_defect carry patch.now.edit) k patch.now.offset (new_bytes patch.now.edit) (new_header patch.now.edit (header_of before)) before after)
+        (λ k before after. HasPart (keeps_defect carry patch.now.edit) k patch.now.offset
+        (new_bytes patch.now.edit) (new_header patch.now.edit (header_of before)) before after)
         sectors.old sectors.new }
 {
     for k in 0..sectors.len() {
@@ -60,8 +71,9 @@ fn change_sector(sector: &mut Sector, k: usize, patch: &Patch, carry: bool)
     requires met { k < blocks_met patch.now }
     requires mode { kind_of sector.old ≡ Mode1 }
     requires sound { needs_consistent carry patch.now.edit ≡ true → IsConsistent sector.old }
-    ensures { HasPart (keeps_defect carry patch.now.edit) k patch.now.offset (new_bytes patch.now.edit)
-        (new_header patch.now.edit (header_of sector.old)) sector.old sector.new }
+    ensures { HasPart (keeps_defect carry patch.now.edit) k patch.now.offset
+        (new_bytes patch.now.edit) (new_header patch.now.edit (header_of sector.old))
+        sector.old sector.new }
 {
     let edit = meaning(&patch.edit);
     if edit.builds_on {
@@ -78,7 +90,8 @@ fn change_sector(sector: &mut Sector, k: usize, patch: &Patch, carry: bool)
 fn write_address(sector: &mut Sector, bcd: [u8; 3], carry: bool)
     requires mode { kind_of sector.old ≡ Mode1 }
     requires sound { carry ≡ false → IsConsistent sector.old }
-    ensures { MadeBy carry sector.old (bcd ++ drop 3 (header_of sector.old)) (user_of sector.old) sector.new }
+    ensures { MadeBy carry sector.old (bcd ++ drop 3 (header_of sector.old))
+        (user_of sector.old) sector.new }
 {
     if carry {
         carry_header(sector, bcd);
@@ -108,7 +121,8 @@ fn write_part(sector: &mut Sector, k: usize, offset: u16, bytes: NewBytes<'_>, c
     requires offset { offset < USER_SIZE }
     requires some { USER_SIZE * k < offset + length (bytes_of bytes) }
     requires room { offset + length (bytes_of bytes) ≤ USER_SIZE * block_limit }
-    ensures { HasPart carry k offset (bytes_of bytes.entry) (header_of sector.old) sector.old sector.new }
+    ensures { HasPart carry k offset (bytes_of bytes.entry) (header_of sector.old)
+        sector.old sector.new }
 {
     let part = part_of_block(k, offset as usize, bytes.len());
     match bytes {
@@ -125,7 +139,8 @@ fn write(sector: &mut Sector, place: u16, bytes: &[u8], carry: bool)
     requires mode { kind_of sector.old ≡ Mode1 }
     requires range { place + length bytes.now ≤ 2048 }
     requires sound { carry ≡ false → IsConsistent sector.old }
-    ensures made { MadeBy carry sector.old (header_of sector.old) (written (user_of sector.old) place bytes.now) sector.new }
+    ensures made { MadeBy carry sector.old (header_of sector.old)
+        (written (user_of sector.old) place bytes.now) sector.new }
     ensures size { length (user_of sector.old) ≡ USER_SIZE }
 {
     know_user_size(sector);

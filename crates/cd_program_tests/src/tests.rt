@@ -2,6 +2,7 @@
 
 mod calls;
 mod command_line;
+mod examples;
 mod hosts;
 mod patching;
 mod reports;

@@ -18,6 +18,15 @@ use cd_stream::{Source, fill};
 ///
 /// `Read` where a read of the image failed, `TooLong` where a byte came after the last sector that
 /// an image may have.
+///
+/// # Examples
+///
+/// ```
+/// let mut image = ZeroSource::new(2352 + 3);
+/// let mut sector = Sector::default();
+/// assert_eq!(rt; read_sector(&mut image, 0, &mut sector), Ok(None)); // a whole one
+/// assert_eq!(rt; read_sector(&mut image, 1, &mut sector), Ok(Some(3))); // the tail
+/// ```
 pub fn read_sector<I: Source>(
     image: &mut I,
     count: u32,

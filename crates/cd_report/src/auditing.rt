@@ -124,6 +124,16 @@ impl Visitor for Auditor {
 ///
 /// `Read` where the image has failed, `Write` where `out` has, `TooLong` where a byte was read
 /// behind the millionth sector.
+///
+/// # Examples
+///
+/// ```
+/// let sector = encode([0x00, 0x02, 0x00], &[0x00; USER_SIZE]); // its address is that of block 0
+/// let mut space = [0; 64];
+/// let mut out = SliceSink::new(&mut space);
+/// audit(&mut SliceSource::new(sector.bytes()), 16, &mut out)?; // as block 16
+/// assert!(rt; out.written().starts_with(b"16 address\n"));
+/// ```
 pub fn audit<I: Source, O: Sink>(image: &mut I, base: u32, out: &mut O) -> Result<AuditTally, Fault>
     requires base { base ≤ base_limit }
     requires image_countable { MayCount (I.seen image.old).failures }

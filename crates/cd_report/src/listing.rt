@@ -173,6 +173,16 @@ impl Visitor for Lister {
 ///
 /// `Read` where the image has failed, `Write` where `out` has, `TooLong` where a byte was read
 /// behind the millionth sector.
+///
+/// # Examples
+///
+/// ```
+/// let mut space = [0; 64];
+/// let mut out = SliceSink::new(&mut space);
+/// let tally = list(&mut ZeroSource::new(2352 + 3), 0, &mut out)?; // a sector, and a tail
+/// assert_eq!(rt; (tally.sectors, tally.tail), (1, 3));
+/// assert_eq!(rt; out.written(), b"0-0 nosync\nsectors 1 tail 3\n".as_slice());
+/// ```
 pub fn list<I: Source, O: Sink>(image: &mut I, base: u32, out: &mut O) -> Result<ListTally, Fault>
     requires base { base ≤ base_limit }
     requires image_countable { MayCount (I.seen image.old).failures }

@@ -25,7 +25,8 @@ header_bytes m n s t f g = do
 
 -- MM:SS:FF, as the three bytes of a header
 unfoldable pub address : List ℕ → Option (List ℕ)
-address (m ∷ n ∷ c ∷ s ∷ t ∷ d ∷ f ∷ g ∷ []) = if c == 58 && d == 58 then header_bytes m n s t f g else None
+address (m ∷ n ∷ c ∷ s ∷ t ∷ d ∷ f ∷ g ∷ []) =
+    if c == 58 && d == 58 then header_bytes m n s t f g else None
 address other = None
 
 -- the three bytes of a minute, a second and a fraction

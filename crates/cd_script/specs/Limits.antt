@@ -25,7 +25,8 @@ digit_limit = 9
 abbrev pub number_limit : ℕ
 number_limit = 10 ^ digit_limit - 1
 
--- the minutes of an address, the seconds of a minute and the fractions of a second are fewer than these, from 0
+-- the minutes of an address, the seconds of a minute and the fractions of a second are fewer than
+-- these, from 0
 abbrev pub minute_limit : ℕ
 minute_limit = 100
 

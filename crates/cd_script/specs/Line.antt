@@ -77,4 +77,5 @@ patch_at line (verb ∷ rest) =
 unfoldable pub patch_by : Version → ℕ → List (List ℕ) → Result Patch ScriptFault
 patch_by One line ws = patch_at line ws
 patch_by Two line [] = patch_at line []
-patch_by Two line (verb ∷ rest) = if bytes_eq verb (codes "address") then address_line line rest else patch_at line (verb ∷ rest)
+patch_by Two line (verb ∷ rest) =
+    if bytes_eq verb (codes "address") then address_line line rest else patch_at line (verb ∷ rest)

@@ -10,4 +10,7 @@ digits_value = fold (λ n b. 10 * n + (b - 48)) 0
 
 -- decimal digits, at least one and as many as a number has at most
 unfoldable pub number : List ℕ → Option ℕ
-number w = if nat_le 1 (length w) && nat_le (length w) digit_limit && list_all is_ascii_digit w then Some (digits_value w) else None
+number w =
+    if nat_le 1 (length w) && nat_le (length w) digit_limit && list_all is_ascii_digit w
+    then Some (digits_value w)
+    else None

@@ -22,7 +22,9 @@ OrderRises = (ps : List Patch) → IsNonDecreasingBy (λ p. p.block) (order ps)
 
 -- the patches of any one block are those of the script, in the script's order
 abbrev pub OrderKeepsTies : Type 0
-OrderKeepsTies = (ps : List Patch) (block : ℕ) → filter (stands_in block) (order ps) ≡ filter (stands_in block) ps
+OrderKeepsTies =
+    (ps : List Patch) (block : ℕ)
+    → filter (stands_in block) (order ps) ≡ filter (stands_in block) ps
 
 -- the order has the patches of the script, each as often
 abbrev pub OrderPermutes : Type 0

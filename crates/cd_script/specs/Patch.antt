@@ -13,9 +13,11 @@ pub record IsBytes (bytes : List ℕ) : Type 0 where
   pub most : length bytes ≤ bytes_limit
   pub each : All (λ b. b < 256) bytes
 
--- an edit of so many bytes at an offset, with as many old bytes as new ones; a rebuild and an address stand at 0
+-- an edit of so many bytes at an offset, with as many old bytes as new ones; a rebuild and an
+-- address stand at 0
 abbrev pub IsEditAt : ℕ → Edit → Type 0
-IsEditAt offset (Put bytes was) = IsBytes bytes × IfSome was (λ old. IsBytes old × (length old ≡ length bytes))
+IsEditAt offset (Put bytes was) =
+    IsBytes bytes × IfSome was (λ old. IsBytes old × (length old ≡ length bytes))
 IsEditAt offset (Fill count value) = (1 ≤ count) × (count ≤ bytes_limit) × (value < 256)
 IsEditAt offset Rebuild = offset ≡ 0
 IsEditAt offset (Address bcd) = (offset ≡ 0) × IsAddress bcd

@@ -3,7 +3,8 @@ use Rattle.std.specs.Prelude.{◌≡◌, Result, Ok, Err}
 use Rattle.cd_script.specs.declared.fault.ScriptFault.{ScriptFault}
 
 infixl 10 ◌>>=◌
-abbrev pub ◌>>=◌ : {A B : Type 0} → Result A ScriptFault → (A → Result B ScriptFault) → Result B ScriptFault
+abbrev pub ◌>>=◌ : {A B : Type 0} → Result A ScriptFault → (A → Result B ScriptFault)
+    → Result B ScriptFault
 (Ok x) >>= f = f x
 (Err e) >>= f = Err e
 

@@ -26,23 +26,30 @@ is_passed_over (first ∷ rest) = begins_comment first
 
 -- the version that the second word of a head line names
 abbrev pub named_version : List ℕ → Option Version
-named_version word = if bytes_eq word (codes "1") then Some One else if bytes_eq word (codes "2") then Some Two else None
+named_version word =
+    if bytes_eq word (codes "1") then Some One
+    else if bytes_eq word (codes "2") then Some Two
+    else None
 
 -- the words are `cdpatch` and that of a version
 abbrev pub head_version : List (List ℕ) → Option Version
-head_version (name ∷ version ∷ []) = if bytes_eq name (codes "cdpatch") then named_version version else None
+head_version (name ∷ version ∷ []) =
+    if bytes_eq name (codes "cdpatch") then named_version version else None
 head_version other = None
 
--- a well-formed patch behind so many others: behind as many as a script has at most it is one too many
+-- a well-formed patch behind so many others: behind as many as a script has at most it is one too
+-- many
 abbrev pub at_limit : ℕ → ℕ → Patch → Result (Option Patch) ScriptFault
 at_limit line earlier p = if nat_le patch_limit earlier then Err (TooMany line) else Ok (Some p)
 
 -- the patch of a line behind so many others, none where the line is blank or a comment
 unfoldable pub line_at : Version → ℕ → ℕ → List ℕ → Result (Option Patch) ScriptFault
 line_at version line earlier text =
-    if is_passed_over (words text) then Ok None else patch_by version line (words text) >>= at_limit line earlier
+    if is_passed_over (words text) then Ok None
+    else patch_by version line (words text) >>= at_limit line earlier
 
--- the patches of the lines behind the head line, the first of them numbered line, behind so many patches
+-- the patches of the lines behind the head line, the first of them numbered line, behind so many
+-- patches
 unfoldable pub patches_from : Version → ℕ → ℕ → List (List ℕ) → Result (List Patch) ScriptFault
 patches_from version line earlier [] = Ok []
 patches_from version line earlier (text ∷ rest) = do

@@ -22,14 +22,17 @@ low_digit b = 48 + b % 16
 -- the three bytes of an address as MM:SS:FF
 unfoldable pub address_word : List ℕ → List ℕ
 address_word (minute ∷ second ∷ fraction ∷ []) =
-    high_digit minute ∷ low_digit minute ∷ 58 ∷ high_digit second ∷ low_digit second ∷ 58 ∷ high_digit fraction ∷ low_digit fraction ∷ []
+    high_digit minute ∷ low_digit minute ∷ 58 ∷ high_digit second ∷ low_digit second ∷ 58
+    ∷ high_digit fraction ∷ low_digit fraction ∷ []
 address_word other = []
 
 -- the words of the form that spells an edit
 unfoldable pub edit_words : ℕ → ℕ → Edit → List (List ℕ)
-edit_words block offset (Put bytes None) = codes "set" ∷ decimal block ∷ decimal offset ∷ encode_lower bytes ∷ []
+edit_words block offset (Put bytes None) =
+    codes "set" ∷ decimal block ∷ decimal offset ∷ encode_lower bytes ∷ []
 edit_words block offset (Put bytes (Some old)) =
-    codes "set" ∷ decimal block ∷ decimal offset ∷ encode_lower bytes ∷ codes "was" ∷ encode_lower old ∷ []
+    codes "set" ∷ decimal block ∷ decimal offset ∷ encode_lower bytes
+    ∷ codes "was" ∷ encode_lower old ∷ []
 edit_words block offset (Fill count value) =
     codes "fill" ∷ decimal block ∷ decimal offset ∷ decimal count ∷ encode_lower (value ∷ []) ∷ []
 edit_words block offset Rebuild = codes "rebuild" ∷ decimal block ∷ []
@@ -48,7 +51,8 @@ version_word Two = codes "2"
 
 -- the head line, and a line for each patch
 abbrev pub spelling : Version → List Patch → List ℕ
-spelling version ps = spelled_line (codes "cdpatch" ∷ version_word version ∷ []) ++ flat_map spelled_patch ps
+spelling version ps =
+    spelled_line (codes "cdpatch" ∷ version_word version ∷ []) ++ flat_map spelled_patch ps
 
 -- a version has a form for an edit: the first has none for an address
 abbrev pub has_form : Version → Edit → Bool
@@ -63,9 +67,10 @@ unfoldable pub on_lines_from : ℕ → List Patch → List Patch
 on_lines_from line [] = []
 on_lines_from line (p ∷ ps) = record p { line = line } ∷ on_lines_from (line + 1) ps
 
--- the text that spells patches in a version that has forms for them is a script of just these, on the lines behind the
--- head line
+-- the text that spells patches in a version that has forms for them is a script of just these, on
+-- the lines behind the head line
 abbrev pub SpellingReads : Type 0
 SpellingReads =
-    (version : Version) (ps : List Patch) → All IsPatch ps → All (λ p. has_form version p.edit ≡ true) ps → length ps ≤ patch_limit
+    (version : Version) (ps : List Patch) → All IsPatch ps
+    → All (λ p. has_form version p.edit ≡ true) ps → length ps ≤ patch_limit
     → script (spelling version ps) ≡ Ok (on_lines_from 2 ps)

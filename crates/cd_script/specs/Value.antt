@@ -27,7 +27,9 @@ count_at line word = do
 unfoldable pub new_at : ℕ → List ℕ → Result (List ℕ) ScriptFault
 new_at line word = do
   bytes ← hex_at line word
-  if nat_le 1 (length bytes) && nat_le (length bytes) bytes_limit then Ok bytes else Err (Length line)
+  if nat_le 1 (length bytes) && nat_le (length bytes) bytes_limit
+      then Ok bytes
+      else Err (Length line)
 
 -- as many old bytes as there are new ones
 unfoldable pub old_at : ℕ → List ℕ → List ℕ → Result (List ℕ) ScriptFault

@@ -18,12 +18,14 @@ use Rattle.cd_script.specs.Words.{words}
 
 -- the words are `cdpatch` and `1`
 abbrev pub is_first_head : List (List ℕ) → Bool
-is_first_head (name ∷ version ∷ []) = bytes_eq name (codes "cdpatch") && bytes_eq version (codes "1")
+is_first_head (name ∷ version ∷ []) =
+    bytes_eq name (codes "cdpatch") && bytes_eq version (codes "1")
 is_first_head other = false
 
 unfoldable pub first_line_at : ℕ → ℕ → List ℕ → Result (Option Patch) ScriptFault
 first_line_at line earlier text =
-    if is_passed_over (words text) then Ok None else patch_at line (words text) >>= at_limit line earlier
+    if is_passed_over (words text) then Ok None
+    else patch_at line (words text) >>= at_limit line earlier
 
 unfoldable pub first_patches_from : ℕ → ℕ → List (List ℕ) → Result (List Patch) ScriptFault
 first_patches_from line earlier [] = Ok []
@@ -47,7 +49,8 @@ first_script text = first_script_from 1 (lines text)
 -- the version that the head line of lines names
 unfoldable pub version_of : List (List ℕ) → Option Version
 version_of [] = None
-version_of (text ∷ rest) = if is_passed_over (words text) then version_of rest else head_version (words text)
+version_of (text ∷ rest) =
+    if is_passed_over (words text) then version_of rest else head_version (words text)
 
 -- a text whose head line does not name the second version says what it said before
 abbrev pub FirstStays : Type 0
@@ -61,5 +64,6 @@ has_new_verb (verb ∷ rest) = bytes_eq verb (codes "address")
 -- lines without the verb of the second version say in it what they say in the first
 abbrev pub SecondExtends : Type 0
 SecondExtends =
-    (line earlier : ℕ) (texts : List (List ℕ)) → All (λ text. has_new_verb (words text) ≡ false) texts
+    (line earlier : ℕ) (texts : List (List ℕ))
+    → All (λ text. has_new_verb (words text) ≡ false) texts
     → patches_from Two line earlier texts ≡ patches_from One line earlier texts

@@ -29,9 +29,10 @@ impl PatchBytes {
     ///
     /// ```
     /// let script = parse(rt.alloc(), b"cdpatch 1\nset 5 0 4869\n")?;
-    /// if let Edit::Put { bytes, was: _ } = &script.patches()[0].edit {
-    ///     let text = bytes.as_slice(); // b"Hi"
-    /// }
+    /// let Some(Edit::Put { bytes, .. }) = script.patches().first().map(|patch| &patch.edit) else {
+    ///     panic!(rt; "a patch of another kind");
+    /// };
+    /// assert_eq!(rt; bytes.as_slice(), b"Hi".as_slice());
     /// ```
     pub fn as_slice(&self) -> &[u8]
         ensures { result.now ≡ self.now }

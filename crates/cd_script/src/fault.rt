@@ -3,6 +3,7 @@
 ghost use Rattle.std.specs.Prelude.{◌≡◌};
 ghost use Rattle.cd_script.specs.declared.fault.ScriptFault.TheVariants.{NoMemory};
 
+use crate::limits::MAX_PATCHES;
 use std::alloc::{AllocError, AllocFailed};
 use thiserror::Error;
 
@@ -37,7 +38,7 @@ pub enum ScriptFault {
     #[error("bad address")]
     Address(u32),
     /// A well-formed patch behind [`MAX_PATCHES`](crate::MAX_PATCHES) others.
-    #[error("more than 65535 patches")]
+    #[error("more than {MAX_PATCHES} patches")]
     TooMany(u32),
     /// Memory was refused.
     #[error("no memory")]

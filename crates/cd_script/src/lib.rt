@@ -24,8 +24,8 @@
 //! [`parse`] reads a text, and answers a [`Script`] or the [`ScriptFault`] of its first faulty line:
 //!
 //! ```
-//! let script = parse(rt.alloc(), b"cdpatch 1\nfill 16 0 2048 00\nset 5 0 48656C6C6F\n")?;
-//! let blocks = script.patches().iter().map(|patch| patch.block); // 5 and 16
+//! let script = parse(rt.alloc(), b"cdpatch 1\nrebuild 16\nset 5 0 4869\n")?;
+//! assert_eq!(rt; script.patches().first().map(|patch| patch.block), Some(5)); // then that of 16
 //! ```
 //!
 //! Tests: crates/cd_patch_tests.

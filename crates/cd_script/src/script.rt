@@ -53,7 +53,7 @@ impl Script {
     ///
     /// ```
     /// let script = parse(rt.alloc(), b"cdpatch 1\nrebuild 7\n")?;
-    /// let line = script.patches()[0].line; // 2
+    /// assert_eq!(rt; script.patches().first().map(|patch| patch.line), Some(2));
     /// ```
     pub fn patches(&self) -> &[Patch]
         ensures patches { result.now ≡ self.now }
@@ -166,7 +166,8 @@ fn patch_on_line<'a>(
 /// Looks for the first fault of the lines behind the head line.
 fn check_lines(head: Head, mut lines: Lines<'_>) -> Result<(), ScriptFault>
     requires { head.line + length lines ≤ text_limit }
-    ensures { result_err result ≡ result_err (patches_from head.version (head.line + 1) 0 lines.entry) }
+    ensures { result_err result
+        ≡ result_err (patches_from head.version (head.line + 1) 0 lines.entry) }
 {
     let mut line = head.line;
     let mut count = 0;
@@ -184,10 +185,10 @@ fn put_behind(
     patches: &mut Vec<Patch>,
     found: Option<SpelledPatch<'_>>,
 ) -> Result<(), AllocError>
-    ensures ok { OnOk result
-        (patches.new.items ≡ patches.old.items ++ option_to_list (option_map as_patch found.entry)) }
-    ensures count { OnOk result
-        (vec_len patches.new ≡ vec_len patches.old + length (option_to_list (option_map as_patch found.entry))) }
+    ensures ok { OnOk result (patches.new.items
+        ≡ patches.old.items ++ option_to_list (option_map as_patch found.entry)) }
+    ensures count { OnOk result (vec_len patches.new
+        ≡ vec_len patches.old + length (option_to_list (option_map as_patch found.entry))) }
 {
     if let Some(spelled) = found {
         let patch = spelled.build(alloc)?;
@@ -200,7 +201,8 @@ fn put_behind(
 fn patches_of(alloc: Global, head: Head, mut lines: Lines<'_>) -> Result<Vec<Patch>, AllocError>
     requires room { head.line + length lines ≤ text_limit }
     requires sound { IsOk (patches_from head.version (head.line + 1) 0 lines) }
-    ensures { IfOk result (λ ps. patches_from head.version (head.line + 1) 0 lines.entry ≡ Ok ps.items) }
+    ensures { IfOk result (λ ps.
+        patches_from head.version (head.line + 1) 0 lines.entry ≡ Ok ps.items) }
 {
     let mut patches = Vec::new(alloc);
     let mut line = head.line;
@@ -217,11 +219,15 @@ fn patches_of(alloc: Global, head: Head, mut lines: Lines<'_>) -> Result<Vec<Pat
 fn read_patches(alloc: Global, head: Head, rest: &[u8]) -> Result<Vec<Patch>, ScriptFault>
     requires { head.line + length (lines_of rest.now) ≤ text_limit }
     ensures ok { IfOk result (λ ps.
-        patches_from head.version (head.line + 1) 0 (map without_terminator (lines_of rest.now)) ≡ Ok ps.items) }
-    ensures err { IfErr result (λ e.
-        e ≢ NoMemory → patches_from head.version (head.line + 1) 0 (map without_terminator (lines_of rest.now)) ≡ Err e) }
-    ensures refused { (e : ScriptFault) →
-        patches_from head.version (head.line + 1) 0 (map without_terminator (lines_of rest.now)) ≡ Err e → result ≡ Err e }
+        patches_from head.version (head.line + 1) 0
+        (map without_terminator (lines_of rest.now)) ≡ Ok ps.items) }
+    ensures err { IfErr result (λ e. e ≢ NoMemory
+        → patches_from head.version (head.line + 1) 0
+        (map without_terminator (lines_of rest.now)) ≡ Err e) }
+    ensures refused { (e : ScriptFault)
+        → patches_from head.version (head.line + 1) 0
+        (map without_terminator (lines_of rest.now)) ≡ Err e
+        → result ≡ Err e }
 {
     check_lines(head, rest.lines())?;
     let patches = patches_of(alloc, head, rest.lines())?;
@@ -256,7 +262,8 @@ fn put_in_order(patches: &mut Vec<Patch>) -> Result<(), AllocError>
 /// # Examples
 ///
 /// ```
-/// let fault = parse(rt.alloc(), b"cdpatch 1\n\nset 16 2048 41\n"); // Err(ScriptFault::Offset(3))
+/// let fault = parse(rt.alloc(), b"cdpatch 1\n\nset 16 2048 41\n").err();
+/// assert_eq!(rt; fault, Some(ScriptFault::Offset(3))); // in line 3
 /// ```
 pub fn parse(alloc: Global, text: &[u8]) -> Result<Script, ScriptFault>
     requires { length text.now ≤ text_limit }

@@ -1,5 +1,5 @@
--- The address of a block as a header writes it: minute, second and fraction in BCD (ECMA-130, the clause on the
--- digital data structure of sectors), with block 0 at two seconds.
+-- The address of a block as a header writes it: minute, second and fraction in BCD (ECMA-130, the
+-- clause on the digital data structure of sectors), with block 0 at two seconds.
 use Rattle.std.specs.Prelude.{ℕ, ◌+◌, ◌*◌, ◌/◌, ◌%◌, nat_lt, if◌then◌else◌, List, [], ◌∷◌, Option, Some, None}
 
 -- two decimal digits in one byte

@@ -1,5 +1,5 @@
--- The code words of a sector, each a list of places in it (ECMA-130, Annex A). Bytes 12 to 2351 are two planes of
--- 1170 places: the low and the high bytes of the words S(n).
+-- The code words of a sector, each a list of places in it (ECMA-130, Annex A). Bytes 12 to 2351 are
+-- two planes of 1170 places: the low and the high bytes of the words S(n).
 use Rattle.std.specs.Prelude.{◌≡◌, ℕ, ◌+◌, ◌*◌, ◌/◌, ◌%◌, ◌<◌, ◌≤◌, List, [], ◌∷◌, ◌++◌, map, slice_index}
 use Rattle.std.specs.List.{range_with_len}
 use Rattle.cd_code.specs.declared.lane_sums.LaneSums.{LaneSums}
@@ -42,23 +42,28 @@ diagonal_of s i = bytes_at s (diagonal_places (i % 2) (i / 2))
 
 -- all 276 syndromes of one sector are those of the other
 pub record SameSyndromes (s t : List ℕ) : Type 0 where
-  pub columns : (plane n : ℕ) → plane < 2 → n < 43 → SameSums (bytes_at s (column_places plane n)) (bytes_at t (column_places plane n))
-  pub diagonals : (plane n : ℕ) → plane < 2 → n < 26 → SameSums (bytes_at s (diagonal_places plane n)) (bytes_at t (diagonal_places plane n))
+  pub columns : (plane n : ℕ) → plane < 2 → n < 43
+      → SameSums (bytes_at s (column_places plane n)) (bytes_at t (column_places plane n))
+  pub diagonals : (plane n : ℕ) → plane < 2 → n < 26
+      → SameSums (bytes_at s (diagonal_places plane n)) (bytes_at t (diagonal_places plane n))
 
 -- all 86 columns and 52 diagonals are code words
 pub record AllCodeWords (s : List ℕ) : Type 0 where
   pub columns : (plane n : ℕ) → plane < 2 → n < 43 → IsCodeWord (bytes_at s (column_places plane n))
-  pub diagonals : (plane n : ℕ) → plane < 2 → n < 26 → IsCodeWord (bytes_at s (diagonal_places plane n))
+  pub diagonals : (plane n : ℕ) → plane < 2 → n < 26
+      → IsCodeWord (bytes_at s (diagonal_places plane n))
 
 -- the sums are those of the words from 0 on, `count` of them
 pub record SumsOf (word : ℕ → List ℕ) (count : ℕ) (plain weighted : List ℕ) : Type 0 where
   pub first : (i : ℕ) → i < count → slice_index plain i ≡ first_syndrome (word i)
   pub second : (i : ℕ) → i < count → slice_index weighted i ≡ second_syndrome (word i)
 
--- the pairs of 32 words stand in the sector, the first bytes from `at` on and the second ones `count` places behind; all
--- else is as it was
+-- the pairs of 32 words stand in the sector, the first bytes from `at` on and the second ones
+-- `count` places behind; all else is as it was
 pub record PairsPut (at count : ℕ) (sums : LaneSums) (old new : List ℕ) : Type 0 where
-  pub pairs : (i : ℕ) → i < 32 → IsPair (slice_index sums.plain i) (slice_index sums.weighted i) (slice_index new (at + i)) (slice_index new (at + count + i))
+  pub pairs : (i : ℕ) → i < 32
+      → IsPair (slice_index sums.plain i) (slice_index sums.weighted i)
+      (slice_index new (at + i)) (slice_index new (at + count + i))
   pub before : (k : ℕ) → k < at → slice_index new k ≡ slice_index old k
   pub between : (k : ℕ) → at + 32 ≤ k → k < at + count → slice_index new k ≡ slice_index old k
   pub behind : (k : ℕ) → at + count + 32 ≤ k → slice_index new k ≡ slice_index old k

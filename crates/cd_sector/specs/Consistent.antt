@@ -1,4 +1,5 @@
--- A consistent Mode 1 sector, and its content (ECMA-130, the clause on the digital data structure of sectors).
+-- A consistent Mode 1 sector, and its content (ECMA-130, the clause on the digital data structure
+-- of sectors).
 use Rattle.std.specs.Prelude.{◌≡◌, ℕ, ◌==◌, ◌<◌, ◌≤◌, nat_lt, Bool, true, false, ◌&&◌, List, length, take, slice_index, slice_range}
 use Rattle.std.specs.List.{list_all}
 use Rattle.cd_code.specs.Edc.{bits, remainder}
@@ -27,7 +28,8 @@ is_mode1 Other = false
 -- 2352 bytes of Mode 1 without a defect
 unfoldable pub consistent : List ℕ → Bool
 consistent s =
-    (((length s == 2352) && list_all (λ b. nat_lt b 256) s) && is_mode1 (kind_of s)) && is_sound (defect_of s)
+    (((length s == 2352) && list_all (λ b. nat_lt b 256) s) && is_mode1 (kind_of s))
+    && is_sound (defect_of s)
 
 -- the same part by part
 pub record IsConsistent (s : List ℕ) : Type 0 where

@@ -1,12 +1,13 @@
--- What is wrong with a sector: three parts that are all 0 in a sound one (ECMA-130, Annex A and the clause on the
--- digital data structure of sectors).
+-- What is wrong with a sector: three parts that are all 0 in a sound one (ECMA-130, Annex A and the
+-- clause on the digital data structure of sectors).
 use Rattle.std.specs.Prelude.{ℕ, ◌==◌, Bool, not, ◌&&◌, ◌||◌, List, map, take, slice_range}
 use Rattle.std.specs.List.{list_all, range_with_len}
 use Rattle.cd_code.specs.Edc.{bits, remainder}
 use Rattle.cd_code.specs.Syndrome.{first_syndrome, second_syndrome}
 use Rattle.cd_sector.specs.CodeWords.{column_of, diagonal_of}
 
--- the Intermediate field's bytes, what the division by the generator leaves, and the syndromes of each code word
+-- the Intermediate field's bytes, what the division by the generator leaves, and the syndromes of
+-- each code word
 pub record Defect : Type 0 where
   pub zeros : List ℕ
   pub rest : ℕ
@@ -15,7 +16,8 @@ pub record Defect : Type 0 where
 
 -- both syndromes of each of `count` words
 unfoldable pub all_syndromes : (ℕ → List ℕ) → ℕ → List (ℕ × ℕ)
-all_syndromes word count = map (λ i. (first_syndrome (word i), second_syndrome (word i))) (range_with_len 0 count)
+all_syndromes word count =
+    map (λ i. (first_syndrome (word i), second_syndrome (word i))) (range_with_len 0 count)
 
 -- the defect of a sector of any kind
 unfoldable pub defect_of : List ℕ → Defect
@@ -36,5 +38,6 @@ is_broken sums = is_nonzero sums.0 || is_nonzero sums.1
 -- every member is 0
 abbrev pub is_sound : Defect → Bool
 is_sound defect =
-    ((list_all (λ b. b == 0) defect.zeros && (defect.rest == 0)) && list_all (λ w. not (is_broken w)) defect.columns)
+    ((list_all (λ b. b == 0) defect.zeros && (defect.rest == 0))
+    && list_all (λ w. not (is_broken w)) defect.columns)
     && list_all (λ w. not (is_broken w)) defect.diagonals

@@ -10,8 +10,10 @@ sync_field = 0 ∷ 255 ∷ 255 ∷ 255 ∷ 255 ∷ 255 ∷ 255 ∷ 255 ∷ 255 �
 
 -- the kind of a sector with a sync field, by its mode byte
 abbrev pub kind_of_mode : ℕ → SectorKind
-kind_of_mode mode = if mode == 0 then Mode0 else if mode == 1 then Mode1 else if mode == 2 then Mode2 else Other
+kind_of_mode mode =
+    if mode == 0 then Mode0 else if mode == 1 then Mode1 else if mode == 2 then Mode2 else Other
 
 -- the kind of a sector's bytes; byte 15 is the mode byte
 unfoldable pub kind_of : List ℕ → SectorKind
-kind_of sector = if starts_with nat_eq sector sync_field then kind_of_mode (slice_index sector 15) else NoSync
+kind_of sector =
+    if starts_with nat_eq sector sync_field then kind_of_mode (slice_index sector 15) else NoSync

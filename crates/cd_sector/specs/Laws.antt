@@ -12,7 +12,8 @@ ConsistentByParts = (s : List ℕ) → IsTrue (consistent s) ↔ IsConsistent s
 -- two consistent sectors with equal header and user data are equal
 abbrev pub SectorIsUnique : Type 0
 SectorIsUnique =
-    (s t : List ℕ) → IsConsistent s → IsConsistent t → header_of s ≡ header_of t → user_of s ≡ user_of t → s ≡ t
+    (s t : List ℕ) → IsConsistent s → IsConsistent t → header_of s ≡ header_of t
+    → user_of s ≡ user_of t → s ≡ t
 
 -- a consistent sector with this header, whose mode byte is 1, and this user data
 pub record IsEncoded (header user s : List ℕ) : Type 0 where
@@ -23,7 +24,8 @@ pub record IsEncoded (header user s : List ℕ) : Type 0 where
 -- for any three header bytes and 2048 user bytes there is one
 abbrev pub SectorExists : Type 0
 SectorExists =
-    (header user : List ℕ) → AreBytes header → length header ≡ 3 → AreBytes user → length user ≡ 2048
+    (header user : List ℕ) → AreBytes header → length header ≡ 3 → AreBytes user
+    → length user ≡ 2048
     → (s : List ℕ) × IsEncoded header user s
 
 -- ---- damage carried
@@ -31,24 +33,30 @@ SectorExists =
 -- sectors with equal sync, header and user bytes and equal defects are equal
 abbrev pub SectorByDefect : Type 0
 SectorByDefect =
-    (s t : List ℕ) → length s ≡ 2352 → AreBytes s → length t ≡ 2352 → AreBytes t → sync_of s ≡ sync_of t
+    (s t : List ℕ) → length s ≡ 2352 → AreBytes s → length t ≡ 2352 → AreBytes t
+    → sync_of s ≡ sync_of t
     → header_of s ≡ header_of t → user_of s ≡ user_of t → defect_of s ≡ defect_of t → s ≡ t
 
 -- so there is at most one carried sector
 abbrev pub CarriedIsUnique : Type 0
-CarriedIsUnique = (old header user s t : List ℕ) → IsCarried old header user s → IsCarried old header user t → s ≡ t
+CarriedIsUnique =
+    (old header user s t : List ℕ) → IsCarried old header user s → IsCarried old header user t
+    → s ≡ t
 
 -- and for any four header bytes and 2048 user bytes there is one
 abbrev pub CarriedExists : Type 0
 CarriedExists =
-    (old header user : List ℕ) → length old ≡ 2352 → AreBytes old → AreBytes header → length header ≡ 4
+    (old header user : List ℕ) → length old ≡ 2352 → AreBytes old → AreBytes header
+    → length header ≡ 4
     → AreBytes user → length user ≡ 2048 → (s : List ℕ) × IsCarried old header user s
 
 -- what a consistent sector is carried to is consistent, where its mode byte is 1
 abbrev pub CarriedOfConsistent : Type 0
 CarriedOfConsistent =
-    (old header user s : List ℕ) → IsConsistent old → slice_index header 3 ≡ 1 → IsCarried old header user s → IsConsistent s
+    (old header user s : List ℕ) → IsConsistent old → slice_index header 3 ≡ 1
+    → IsCarried old header user s → IsConsistent s
 
 -- and each consistent sector is what any other is carried to
 abbrev pub ConsistentIsCarried : Type 0
-ConsistentIsCarried = (old s : List ℕ) → IsConsistent old → IsConsistent s → IsCarried old (header_of s) (user_of s) s
+ConsistentIsCarried =
+    (old s : List ℕ) → IsConsistent old → IsConsistent s → IsCarried old (header_of s) (user_of s) s

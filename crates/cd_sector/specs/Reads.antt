@@ -5,15 +5,18 @@ use Rattle.std.specs.Fn.{Once}
 
 -- what such a call is passed, and what it returns with what it leaves behind both references
 abbrev pub Reader : Type 0 → Type 0 → Type 0 → Type 1
-Reader F S R = Once F (MutBor S × (MutBor (List ℕ) × Unit {0})) (R × (MutBor S × (MutBor (List ℕ) × Unit {0})))
+Reader F S R =
+    Once F (MutBor S × (MutBor (List ℕ) × Unit {0})) (R × (MutBor S × (MutBor (List ℕ) × Unit {0})))
 
 -- it may be called at this source and these bytes
 abbrev pub CanRead : {F S R : Type 0} → Reader F S R → F → S → List ℕ → Type 0
 CanRead {F} {S} call read source bytes =
-    (from : MutBor S) (into : MutBor (List ℕ)) → from.now ≡ source → into.now ≡ bytes → call.pre read (from, (into, tt))
+    (from : MutBor S) (into : MutBor (List ℕ)) → from.now ≡ source → into.now ≡ bytes
+    → call.pre read (from, (into, tt))
 
 -- at this source and these bytes it may return `result`, and leave another source and other bytes
-pub record Reads {F S R : Type 0} (call : Reader F S R) (read : F) (source : S) (bytes : List ℕ) (result : R) (source' : S) (bytes' : List ℕ) : Type 0 where
+pub record Reads {F S R : Type 0} (call : Reader F S R) (read : F) (source : S) (bytes : List ℕ)
+    (result : R) (source' : S) (bytes' : List ℕ) : Type 0 where
   pub from : MutBor S
   pub from_is : from.now ≡ source
   pub into : MutBor (List ℕ)

@@ -17,6 +17,14 @@ const FIRST_BLOCK: u32 = 2 * FRACTIONS;
 
 /// Minute, second and fraction, each BCD, of a block that is counted from 0, which stands at two seconds; None
 /// past minute 99 (ECMA-130, the clause on the digital data structure of sectors).
+///
+/// # Examples
+///
+/// ```
+/// assert_eq!(rt; address_of(0), Some([0x00, 0x02, 0x00])); // 00:02:00
+/// assert_eq!(rt; address_of(449_849), Some([0x99, 0x59, 0x74])); // 99:59:74
+/// assert_eq!(rt; address_of(449_850), None);
+/// ```
 #[tactic(auto, unfolding(crate::specs::Address::address))]
 pub fn address_of(block: u32) -> Option<[u8; 3]>
     ensures value { result ≡ address block }

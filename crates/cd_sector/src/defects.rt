@@ -30,6 +30,15 @@ pub struct DefectReport {
 
 /// What is wrong with a sector of any kind, taken as one of Mode 1 (ECMA-130, Annex A and the clause on the
 /// digital data structure of sectors).
+///
+/// # Examples
+///
+/// ```
+/// let mut sector = encode([0x00, 0x02, 0x00], &[0x00; USER_SIZE]);
+/// sector.put(16, 0x01); // a byte of the user data, in one column and one diagonal
+/// let report = defect(&sector);
+/// assert_eq!(rt; (report.edc, report.p, report.q), (true, 1, 1));
+/// ```
 pub fn defect(s: &Sector) -> DefectReport
     ensures zeros { result.zeros ≡ list_any is_nonzero (defect_of s.now).zeros }
     ensures edc { result.edc ≡ is_nonzero (defect_of s.now).rest }
@@ -47,6 +56,15 @@ pub fn defect(s: &Sector) -> DefectReport
 
 /// Whether a sector is of Mode 1, without any defect (ECMA-130, Annex A and the clause on the digital data
 /// structure of sectors).
+///
+/// # Examples
+///
+/// ```
+/// let mut sector = encode([0x00, 0x02, 0x00], &[0x00; USER_SIZE]); // block 0, all zeros
+/// assert!(rt; is_consistent(&sector));
+/// sector.put(2351, 0xFF); // the last byte of Q parity
+/// assert!(rt; !is_consistent(&sector));
+/// ```
 pub fn is_consistent(s: &Sector) -> bool
     ensures { result ≡ consistent s.now }
 {
@@ -56,6 +74,15 @@ pub fn is_consistent(s: &Sector) -> bool
 /// Whether two sectors of any kind, taken as ones of Mode 1, have the same defect: equal bytes in the Intermediate field,
 /// equal remainders of the EDC's division and equal syndromes (ECMA-130, Annex A and the clause on the digital data
 /// structure of sectors).
+///
+/// # Examples
+///
+/// ```
+/// let sector = encode([0x00, 0x02, 0x00], &[0x00; USER_SIZE]);
+/// let other = encode([0x00, 0x02, 0x01], &[0x41; USER_SIZE]);
+/// assert!(rt; same_defect(&sector, &other)); // neither has any
+/// assert!(rt; !same_defect(&sector, &Sector::from_bytes([0xFF; SECTOR_SIZE])));
+/// ```
 pub fn same_defect(a: &Sector, b: &Sector) -> bool
     ensures same { IsTrue result ↔ (defect_of a.now ≡ defect_of b.now) }
     ensures alone { result ≡ true → take 2064 a.now ≡ take 2064 b.now → a.now ≡ b.now }

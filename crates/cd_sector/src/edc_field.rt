@@ -8,6 +8,12 @@ use crate::sector::{EDC, INTERMEDIATE, SECTOR_SIZE, put_part};
 use byteorder::{ByteOrder, LittleEndian};
 
 /// The four bytes of an EDC word, as they stand in a sector (ECMA-130, the EDC field of a sector).
+///
+/// # Examples
+///
+/// ```
+/// assert_eq!(rt; edc_bytes(0x9091_0101), [0x01, 0x01, 0x91, 0x90]);
+/// ```
 pub fn edc_bytes(word: u32) -> [u8; 4]
     ensures { result ≡ to_le_bytes w32 word }
 {
@@ -17,6 +23,8 @@ pub fn edc_bytes(word: u32) -> [u8; 4]
 }
 
 /// The word in the EDC field of a sector of these bytes, right or not (ECMA-130, the EDC field of a sector).
+///
+/// See the example of [`put_edc`].
 pub fn stored_edc(bytes: &[u8; SECTOR_SIZE]) -> u32
     ensures { result ≡ from_le_bytes w32 (slice_range bytes.now 2064 2068) }
 {
@@ -24,6 +32,15 @@ pub fn stored_edc(bytes: &[u8; SECTOR_SIZE]) -> u32
 }
 
 /// Makes `word` the word in the EDC field (ECMA-130, the EDC field of a sector).
+///
+/// # Examples
+///
+/// ```
+/// let mut bytes = [0x00; SECTOR_SIZE];
+/// put_edc(&mut bytes, 0x9091_0101);
+/// assert_eq!(rt; bytes[2067], 0x90); // the most significant byte is the last
+/// assert_eq!(rt; stored_edc(&bytes), 0x9091_0101);
+/// ```
 pub fn put_edc(bytes: &mut [u8; SECTOR_SIZE], word: u32)
     ensures word { slice_range bytes.new 2064 2068 ≡ to_le_bytes w32 word }
     ensures stays { (k : ℕ) → (k < 2064) ⊎ (2068 ≤ k)

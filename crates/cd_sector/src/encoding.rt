@@ -13,6 +13,14 @@ use cd_code::edc_of;
 
 /// The one consistent sector with these three header bytes, which may be any, the mode byte 01 and this user
 /// data (ECMA-130, the clause on the digital data structure of sectors and Annex A).
+///
+/// # Examples
+///
+/// ```
+/// let sector = encode([0x00, 0x02, 0x00], &[0x41; USER_SIZE]); // block 0
+/// assert_eq!(rt; kind(&sector), SectorKind::Mode1);
+/// assert_eq!(rt; stored_edc(sector.bytes()), edc_of(&sector.bytes()[..EDC]));
+/// ```
 pub fn encode(header: [u8; 3], user: &[u8; USER_SIZE]) -> Sector
     ensures consistent { IsConsistent result }
     ensures header { header_of result ≡ header ++ 1 ∷ [] }

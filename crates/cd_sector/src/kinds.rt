@@ -26,6 +26,14 @@ pub(crate) const SYNC: [u8; 12] = [0, 255, 255, 255, 255, 255, 255, 255, 255, 25
 
 /// The kind of a sector, from its sync field and its mode byte (ECMA-130, the clause on the digital data
 /// structure of sectors).
+///
+/// # Examples
+///
+/// ```
+/// let sector = encode([0x00, 0x02, 0x00], &[0x00; USER_SIZE]);
+/// assert_eq!(rt; kind(&sector), SectorKind::Mode1);
+/// assert_eq!(rt; kind(&Sector::default()), SectorKind::NoSync); // all 00
+/// ```
 #[tactic(auto, unfolding(crate::specs::Kind::kind_of))]
 pub fn kind(s: &Sector) -> SectorKind
     ensures { result ≡ kind_of s.now }

@@ -13,6 +13,15 @@ use cd_code::{BACK_COLUMN, ColumnLanes, LaneSums, MIDDLE_COLUMN, column_lanes, p
 
 /// Makes the 276 bytes of P and Q parity anew, from the 2076 bytes in front of them, in a sector of any kind
 /// (ECMA-130, Annex A).
+///
+/// # Examples
+///
+/// ```
+/// let mut sector = Sector::default(); // all 00
+/// sector.put(12, 0x01);
+/// fill_parity(&mut sector);
+/// assert_eq!(rt; [sector.byte(2076), sector.byte(2162)], [0xF5, 0xF4]); // P of its column
+/// ```
 pub fn fill_parity(s: &mut Sector)
     ensures words { AllCodeWords s.new }
     ensures stays { (i : ℕ) → i < 2076 → slice_index s.new i ≡ slice_index s.old i }

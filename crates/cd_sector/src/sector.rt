@@ -58,6 +58,13 @@ impl Model for Sector {
 
 impl Sector {
     /// The sector of these 2352 bytes.
+    ///
+    /// # Examples
+    ///
+    /// ```
+    /// let sector = Sector::from_bytes([0xA5; SECTOR_SIZE]);
+    /// assert_eq!(rt; *sector.bytes(), [0xA5; SECTOR_SIZE]);
+    /// ```
     pub fn from_bytes(bytes: [u8; SECTOR_SIZE]) -> Self
         ensures bytes { result ≡ bytes }
         ensures size { length result ≡ SECTOR_SIZE }
@@ -67,6 +74,8 @@ impl Sector {
     }
 
     /// All 2352 bytes, in order.
+    ///
+    /// See the example of [`Sector::from_bytes`].
     pub fn bytes(&self) -> &[u8; SECTOR_SIZE]
         ensures bytes { result.now ≡ self.now }
         ensures size { length result.now ≡ SECTOR_SIZE }
@@ -76,6 +85,8 @@ impl Sector {
     }
 
     /// The byte at `place`, which counts from 0.
+    ///
+    /// See the example of [`Sector::put`].
     pub fn byte(&self, place: usize) -> u8
         requires { place < SECTOR_SIZE }
         ensures { result ≡ slice_index self.now place }
@@ -84,6 +95,14 @@ impl Sector {
     }
 
     /// Makes `b` the byte at `place`, which counts from 0.
+    ///
+    /// # Examples
+    ///
+    /// ```
+    /// let mut sector = Sector::default(); // all 00
+    /// sector.put(16, 0x41);
+    /// assert_eq!(rt; (sector.byte(16), sector.byte(17)), (0x41, 0x00));
+    /// ```
     pub fn put(&mut self, place: usize, b: u8)
         requires { place < SECTOR_SIZE }
         ensures { self.new ≡ slice_set self.old place b }
@@ -93,6 +112,14 @@ impl Sector {
 
     /// Has `read` read the 2352 bytes from a source, in the place where they stand, with no array beside the sector. The
     /// answer is that of `read`.
+    ///
+    /// # Examples
+    ///
+    /// ```
+    /// let mut sector = Sector::default(); // all 00
+    /// sector.read_with(&mut 0x41, |source, bytes| bytes[16] = *source);
+    /// assert_eq!(rt; sector.byte(16), 0x41);
+    /// ```
     #[inline(always)]
     pub fn read_with<S, R, F: FnOnce(&mut S, &mut [u8; SECTOR_SIZE]) -> R>(
         &mut self,
@@ -109,6 +136,13 @@ impl Sector {
 
     /// The 4 bytes of the header, bytes 12 to 15: minute, second and fraction in BCD, and the mode (ECMA-130, the
     /// clause on the digital data structure of sectors).
+    ///
+    /// # Examples
+    ///
+    /// ```
+    /// let sector = encode([0x00, 0x02, 0x00], &[0x00; USER_SIZE]); // block 0, at 00:02:00
+    /// assert_eq!(rt; sector.header(), [0x00, 0x02, 0x00, 0x01]); // the last is the mode
+    /// ```
     pub fn header(&self) -> [u8; 4]
         ensures { result ≡ header_of self.now }
     {
@@ -122,6 +156,13 @@ impl Sector {
 
     /// The 2048 bytes of user data, bytes 16 to 2063 (ECMA-130, the clause on the digital data structure of
     /// sectors).
+    ///
+    /// # Examples
+    ///
+    /// ```
+    /// let sector = encode([0x00, 0x02, 0x00], &[0x41; USER_SIZE]);
+    /// assert_eq!(rt; sector.user(), [0x41; USER_SIZE].as_slice());
+    /// ```
     #[tactic(auto, unfolding(crate::specs::Consistent::user_of))]
     pub fn user(&self) -> &[u8]
         ensures user { result.now ≡ user_of self.now }
@@ -141,6 +182,14 @@ impl Default for Sector {
 }
 
 /// Writes `part` over the bytes of a sector from place `at` on, which counts from 0.
+///
+/// # Examples
+///
+/// ```
+/// let mut bytes = [0x00; SECTOR_SIZE];
+/// put_part(&mut bytes, HEADER, &[0x00, 0x02, 0x16]);
+/// assert_eq!(rt; (bytes[13], bytes[14], bytes[15]), (0x02, 0x16, 0x00));
+/// ```
 pub fn put_part(bytes: &mut [u8; SECTOR_SIZE], at: usize, part: &[u8])
     requires { at + length part.now ≤ SECTOR_SIZE }
     ensures inside { (i : ℕ) → i < length part.now

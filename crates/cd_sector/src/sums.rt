@@ -6,6 +6,14 @@ ghost use Rattle.cd_code.specs.Field.{AreBytes, IsSum};
 use crate::sector::{SECTOR_SIZE, Sector};
 
 /// The sum of two sectors, byte by byte, in the field of the parity (ECMA-130, Annex A).
+///
+/// # Examples
+///
+/// ```
+/// let sector = Sector::from_bytes([0x0F; SECTOR_SIZE]);
+/// let other = Sector::from_bytes([0xFF; SECTOR_SIZE]);
+/// assert_eq!(rt; sum_of(&sector, &other).byte(2351), 0xF0);
+/// ```
 pub fn sum_of(s: &Sector, t: &Sector) -> Sector
     ensures sum { (i : ℕ)
         → slice_index result i ≡ bit_xor (slice_index s.now i) (slice_index t.now i) }

@@ -3,6 +3,7 @@
 mod addresses;
 mod changes;
 mod counts;
+mod examples;
 mod reports;
 mod same_defects;
 mod sectors;

@@ -29,6 +29,15 @@ impl Model for Line {
 
 impl Line {
     /// A line without a byte.
+    ///
+    /// # Examples
+    ///
+    /// ```
+    /// let mut line = Line::new();
+    /// line.push_text(b"sectors ");
+    /// line.push_number(8);
+    /// assert_eq!(rt; line.as_slice(), b"sectors 8".as_slice());
+    /// ```
     pub fn new() -> Self
         ensures { result ≡ [] }
     {
@@ -39,6 +48,8 @@ impl Line {
 
     /// Puts a text behind the line, for which there is room: both together have at most
     /// [`LINE_SIZE`] bytes.
+    ///
+    /// See the example of [`Line::new`].
     pub fn push_text(&mut self, text: &[u8])
         requires { length self.old + length text.now ≤ LINE_SIZE }
         ensures { self.new ≡ self.old ++ text.now }
@@ -47,6 +58,8 @@ impl Line {
     }
 
     /// Puts a number in decimal behind the line, which has room for ten digits.
+    ///
+    /// See the example of [`Line::new`].
     pub fn push_number(&mut self, number: u32)
         requires { length self.old + 10 ≤ LINE_SIZE }
         ensures line { self.new ≡ self.old ++ decimal number }
@@ -56,6 +69,8 @@ impl Line {
     }
 
     /// The bytes so far.
+    ///
+    /// See the example of [`Line::new`].
     pub fn as_slice(&self) -> &[u8]
         ensures { result.now ≡ self.now }
     {

@@ -13,6 +13,15 @@ use crate::source::{Source, SourceFailed};
 /// # Errors
 ///
 /// [`SourceFailed`] where a read failed. What came before stands at the front of `into`.
+///
+/// # Examples
+///
+/// ```
+/// let mut source = SliceSource::new(b"abc");
+/// let mut into = [0; 4];
+/// assert_eq!(rt; fill(&mut source, &mut into), Ok(3)); // then it has ended
+/// assert_eq!(rt; into, *b"abc\0");
+/// ```
 pub fn fill<I: Source>(image: &mut I, into: &mut [u8]) -> Result<usize, SourceFailed>
     requires { MayCount (I.seen image.old).failures }
     ensures { Fills (I.seen image.old) (I.seen image.new) into.new result }
@@ -33,6 +42,15 @@ pub fn fill<I: Source>(image: &mut I, into: &mut [u8]) -> Result<usize, SourceFa
 /// # Errors
 ///
 /// [`SinkFailed`] where a write failed: a front of `bytes` has gone out, without the last.
+///
+/// # Examples
+///
+/// ```
+/// let mut space = [0; 3];
+/// let mut sink = SliceSink::new(&mut space);
+/// assert_eq!(rt; write_all(&mut sink, b"abcd"), Err(SinkFailed)); // no room for the last
+/// assert_eq!(rt; sink.written(), b"abc".as_slice());
+/// ```
 pub fn write_all<O: Sink>(out: &mut O, bytes: &[u8]) -> Result<(), SinkFailed>
     requires { MayCount (O.seen out.old).failures }
     ensures { Sends (O.seen out.old) (O.seen out.new) bytes.now result }

@@ -3,11 +3,11 @@
 ghost use Rattle.std.specs.Prelude.{◌≤◌};
 ghost use Rattle.cd_stream.specs.Stream.{MayCount};
 
+use crate::answers::Answer;
 use crate::written::{UNTOUCHED, Written, written_in};
 use cd_image::{FailAfter, MAX_BASE, Short, Sink, SliceSink, SliceSource, Source, Tally, fill};
 use cd_script::Script;
 use std::alloc::{AllocError, Global};
-use std::fmt::Debug;
 
 /// How many bytes pass: in all, before each call fails, and at most in a call.
 #[derive(Clone, Copy)]
@@ -77,23 +77,21 @@ pub struct Call<'a> {
 
 /// The two calls that take a script, of a crate that has them.
 pub trait Patching {
-    type Answer: Copy + Debug + PartialEq;
-
     /// What both answer where nothing fails.
-    fn answer(tally: Tally) -> Self::Answer;
+    fn answer(tally: Tally) -> Answer;
 
     fn apply<I: Source, O: Sink, L: Sink>(
         image: &mut I,
         call: &Call,
         out: &mut O,
         log: &mut L,
-    ) -> Self::Answer
+    ) -> Answer
         requires base { call.now.base ≤ MAX_BASE }
         requires image_countable { MayCount (I.seen image.old).failures }
         requires out_countable { MayCount (O.seen out.old).failures }
         requires log_countable { MayCount (L.seen log.old).failures };
 
-    fn check<I: Source, L: Sink>(image: &mut I, call: &Call, log: &mut L) -> Self::Answer
+    fn check<I: Source, L: Sink>(image: &mut I, call: &Call, log: &mut L) -> Answer
         requires base { call.now.base ≤ MAX_BASE }
         requires image_countable { MayCount (I.seen image.old).failures }
         requires log_countable { MayCount (L.seen log.old).failures };
@@ -109,8 +107,8 @@ pub struct Failures {
 
 /// How a call ended.
 #[derive(Clone, Copy, Debug, PartialEq, Eq)]
-pub struct Ending<A> {
-    pub answer: A,
+pub struct Ending {
+    pub answer: Answer,
     pub failures: Failures,
     pub out_finished: bool,
     pub log_finished: bool,
@@ -149,7 +147,7 @@ pub fn apply_within<C: Patching>(
     alloc: Global,
     call: &Call,
     limits: &Limits,
-) -> Result<Ending<C::Answer>, AllocError>
+) -> Result<Ending, AllocError>
     requires { call.now.base ≤ MAX_BASE }
 {
     let mut sent = vec![in alloc; UNTOUCHED; call.out.len()]?;
@@ -184,7 +182,7 @@ pub fn check_within<C: Patching>(
     alloc: Global,
     call: &Call,
     limits: &Limits,
-) -> Result<Ending<C::Answer>, AllocError>
+) -> Result<Ending, AllocError>
     requires { call.now.base ≤ MAX_BASE }
 {
     let mut told = vec![in alloc; UNTOUCHED; call.log.len()]?;

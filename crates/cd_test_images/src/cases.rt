@@ -3,6 +3,7 @@
 
 ghost use Rattle.std.specs.Prelude.{◌≤◌};
 
+use crate::answers::Answer;
 use crate::calls::{Call, Ending, Failures, PARTS, Patching, apply_within, by_parts, check_within};
 use crate::samples::{Sample, cut_image};
 use crate::scripts::script_of;
@@ -10,7 +11,6 @@ use crate::written::Written;
 use cd_image::{MAX_BASE, Tally};
 use cd_sector::SECTOR_SIZE;
 use std::alloc::Global;
-use std::fmt::Debug;
 use std::test::Fail;
 
 /// An image and a script, and the log and the output that they must give, damage being carried or not.
@@ -73,7 +73,7 @@ fn tally_of(log: &str, size: usize) -> Tally {
 }
 
 /// How a call ends in which nothing fails, which sends so much.
-pub fn done<A>(answer: A, call: &Call, sent: usize) -> Ending<A> {
+pub fn done(answer: Answer, call: &Call, sent: usize) -> Ending {
     Ending {
         answer,
         failures: Failures {
@@ -91,20 +91,15 @@ pub fn done<A>(answer: A, call: &Call, sent: usize) -> Ending<A> {
 
 /// What a call came to, and what it should have.
 #[derive(Debug, Drop)]
-struct Unlike<'a, A> {
+struct Unlike<'a> {
     call: &'static str,
     script: &'a str,
-    came: Ending<A>,
-    due: Ending<A>,
+    came: Ending,
+    due: Ending,
 }
 
 /// Fails where a call on a script has not ended as it should.
-fn ended_so<A: Copy + Debug + PartialEq>(
-    call: &'static str,
-    script: &str,
-    came: Ending<A>,
-    due: Ending<A>,
-) -> Result<(), Fail> {
+fn ended_so(call: &'static str, script: &str, came: Ending, due: Ending) -> Result<(), Fail> {
     if came == due {
         return Ok(());
     }

@@ -2,6 +2,7 @@
 //! them, of cd_image or of the program. It promises nothing.
 #![tactic(auto)]
 
+mod answers;
 mod calls;
 mod cases;
 mod reports;
@@ -12,16 +13,18 @@ mod texts;
 mod writers;
 mod written;
 
+pub use answers::Answer;
 pub use calls::{
     ALL, Call, Ending, Failures, Limit, Limits, NO_LIMIT, PARTS, Patching, apply_within, by_parts,
     check_within, passing,
 };
 pub use cases::{CARRYING, Case, PLAIN, Row, Way, done, expect, expect_row, expect_rows};
 pub use reports::{Reported, Reporting, report_of, report_within};
-pub use samples::{Sample, cut_image, image_of, sector_of};
+pub use samples::{Sample, cut_image, image_of, sector_of, sectors_of};
 pub use scripts::script_of;
 pub use sectors::{
-    carried, encoded_anew, encoded_at, flipped, joined, mixed_user, with_added, with_bytes,
+    carried, encoded_anew, encoded_at, flipped, joined, mixed_at, mixed_user, with_added,
+    with_bytes,
 };
 pub use texts::{is_front, is_text, repeated};
 pub use writers::Full;

@@ -3,16 +3,14 @@
 ghost use Rattle.std.specs.Prelude.{◌≤◌};
 ghost use Rattle.cd_stream.specs.Stream.{MayCount};
 
+use crate::answers::Answer;
 use crate::calls::{Limit, Limits};
 use crate::written::{UNTOUCHED, Written, written_in};
 use cd_image::{FailAfter, MAX_BASE, Short, Sink, SliceSink, SliceSource, Source};
-use std::fmt::Debug;
 
 /// A call that reports on an image.
 pub trait Reporting {
-    type Answer: Copy + Debug + PartialEq;
-
-    fn report<I: Source, O: Sink>(image: &mut I, base: u32, out: &mut O) -> Self::Answer
+    fn report<I: Source, O: Sink>(image: &mut I, base: u32, out: &mut O) -> Answer
         requires base { base ≤ MAX_BASE }
         requires image_countable { MayCount (I.seen image.old).failures }
         requires out_countable { MayCount (O.seen out.old).failures };
@@ -20,8 +18,8 @@ pub trait Reporting {
 
 /// How a report ended.
 #[derive(Clone, Copy, Debug, PartialEq, Eq)]
-pub struct Reported<A> {
-    pub answer: A,
+pub struct Reported {
+    pub answer: Answer,
     pub finished: bool,
     pub text: Written,
 }
@@ -32,7 +30,7 @@ pub fn report_of<R: Reporting, I: Source>(
     base: u32,
     limit: &Limit,
     text: &str,
-) -> Reported<R::Answer>
+) -> Reported
     requires base { base ≤ MAX_BASE }
     requires image_countable { MayCount (I.seen image.old).failures }
 {
@@ -50,12 +48,7 @@ pub fn report_of<R: Reporting, I: Source>(
 }
 
 /// The same of an image in memory, of which so much passes.
-pub fn report_within<R: Reporting>(
-    image: &[u8],
-    base: u32,
-    limits: &Limits,
-    text: &str,
-) -> Reported<R::Answer>
+pub fn report_within<R: Reporting>(image: &[u8], base: u32, limits: &Limits, text: &str) -> Reported
     requires { base ≤ MAX_BASE }
 {
     let image = FailAfter::new(SliceSource::new(image), limits.image.all);

@@ -19,6 +19,11 @@ pub fn encoded_at(block: u32, user: &[u8; 2048]) -> Sector {
     encode(address_of(block).unwrap_or([0, 0, 0]), user)
 }
 
+/// The consistent sector of a block, its user data mixed from the block's number.
+pub fn mixed_at(block: u8) -> Sector {
+    encoded_at(u32::from(block), &mixed_user(block))
+}
+
 /// The sector that a sector's header and user data are encoded to.
 pub fn encoded_anew(sector: &Sector) -> Sector {
     let [minute, second, fraction, _] = sector.header();

@@ -1,9 +1,9 @@
 //! Patches that are accepted: each sector that they meet is the one that the encoding from scratch gives.
 
-use super::calls::OnImages;
+use super::calls::expect_row;
 use super::patching::{expect_plain, expect_sectors};
 use cd_test_images::Sample::{self, Addressed, Blank, Damaged, Filled, Mode, Parted, Zeros};
-use cd_test_images::{PLAIN, Row, Way, expect_row, repeated, sector_of, with_bytes};
+use cd_test_images::{PLAIN, Row, Way, repeated, sector_of, with_bytes};
 use std::test::Fail;
 
 const ONE: &str = "line 2: applied\napplied 1 refused 0\n";
@@ -296,7 +296,7 @@ fn no_patches(rt: HostRuntime) -> Result<(), Fail> {
             carry: false,
             size,
         };
-        expect_row::<OnImages>(rt.alloc(), &NO_PATCHES, &way)?;
+        expect_row(rt.alloc(), &NO_PATCHES, &way)?;
     }
     Ok(())
 }
@@ -312,7 +312,7 @@ const BEFORE_A_TAIL: Row = Row {
 #[test]
 fn a_tail_behind_patched_sectors(rt: HostRuntime) -> Result<(), Fail> {
     for size in [2353, 4399, 4703] {
-        expect_row::<OnImages>(rt.alloc(), &BEFORE_A_TAIL, &Way { size, ..PLAIN })?;
+        expect_row(rt.alloc(), &BEFORE_A_TAIL, &Way { size, ..PLAIN })?;
     }
     Ok(())
 }
@@ -330,7 +330,7 @@ fn the_largest_base(rt: HostRuntime) -> Result<(), Fail> {
         base: 449_849,
         ..PLAIN
     };
-    expect_row::<OnImages>(rt.alloc(), &LARGEST_BASE, &way)
+    expect_row(rt.alloc(), &LARGEST_BASE, &way)
 }
 
 #[test]

@@ -2,11 +2,11 @@
 
 ghost use Rattle.std.specs.Prelude.{◌≤◌};
 
-use super::calls::Audits;
+use super::calls::{audit_within, expect_fault, expect_reported};
 use cd_image::{AuditTally, Fault, MAX_BASE};
 use cd_test_images::Sample::{self, Addressed, Blank, Damaged, Mode, Zeros};
 use cd_test_images::{
-    ALL, PARTS, Reported, Written, by_parts, image_of, passing, report_within, sector_of,
+    ALL, Answer, PARTS, Reported, Written, by_parts, image_of, passing, sector_of,
 };
 use std::alloc::{AllocError, Global};
 use std::process::Abort;
@@ -17,14 +17,14 @@ pub fn expect_audit(rt: &impl Abort, image: &[u8], base: u32, text: &str)
 {
     for most in PARTS {
         let limits = by_parts(*most, *most, *most);
-        let reported = report_within::<Audits>(image, base, &limits, text);
-        assert!(rt; reported.answer.is_ok(), "{text}{reported:?}");
+        let reported = audit_within(image, base, &limits, text);
+        expect_fault(rt, &reported, None, *most, text);
         let whole = Reported {
             answer: reported.answer,
             finished: true,
             text: Written::right(text.len()),
         };
-        assert_eq!(rt; reported, whole, "{text}");
+        expect_reported(rt, &reported, &whole, *most, text);
     }
 }
 
@@ -114,13 +114,13 @@ const ALL_KINDS: &[Audit] = &[Audit {
     text: "3 edc p=1 q=1\n6 address\nsectors 7 mode1 3 damaged 1 tail 0\n",
 }];
 
-const TALLY: AuditTally = AuditTally {
+const AUDITED: Answer = Answer::Audited(AuditTally {
     sectors: 1,
     mode1: 1,
     damaged: 1,
     findings: 1,
     tail: 0,
-};
+});
 
 /// A damaged sector, the text of its audit, and the length of its first line.
 #[derive(Clone, Copy)]
@@ -131,40 +131,35 @@ struct Failing {
 }
 
 /// How an audit ends that sends so many bytes of its text.
-fn ends(answer: Result<AuditTally, Fault>, sent: usize) -> Reported<Result<AuditTally, Fault>> {
+fn ends(answer: Answer, sent: usize) -> Reported {
     Reported {
         answer,
-        finished: answer.is_ok(),
+        finished: answer.fault().is_none(),
         text: Written::right(sent),
     }
 }
 
 /// The audit of a damaged sector whose image fails after so many bytes.
 fn image_fails(rt: &impl Abort, row: &Failing, image: &[u8], count: u64) {
-    let reported = report_within::<Audits>(image, 0, &passing(count, ALL, ALL), row.text);
+    let reported = audit_within(image, 0, &passing(count, ALL, ALL), row.text);
     let wanted = match count {
-        0..2352 => ends(Err(Fault::Read), 0),
-        2352 => ends(Err(Fault::Read), row.first_line),
-        _ => ends(Ok(TALLY), row.text.len()),
+        0..2352 => ends(Answer::Failed(Fault::Read), 0),
+        2352 => ends(Answer::Failed(Fault::Read), row.first_line),
+        _ => ends(AUDITED, row.text.len()),
     };
-    assert_eq!(rt;
-        reported,
-        wanted,
-        "{count} bytes of the image of {}",
-        row.text
-    );
+    expect_reported(rt, &reported, &wanted, count as usize, row.text);
 }
 
 /// The same to a sink that fails after so many bytes.
 fn sink_fails(rt: &impl Abort, row: &Failing, image: &[u8], count: usize) {
     let limits = passing(ALL, count as u64, ALL);
-    let reported = report_within::<Audits>(image, 0, &limits, row.text);
+    let reported = audit_within(image, 0, &limits, row.text);
     let wanted = if row.text.len() < count {
-        ends(Ok(TALLY), row.text.len())
+        ends(AUDITED, row.text.len())
     } else {
-        ends(Err(Fault::Write), count)
+        ends(Answer::Failed(Fault::Write), count)
     };
-    assert_eq!(rt; reported, wanted, "{count} bytes of {}", row.text);
+    expect_reported(rt, &reported, &wanted, count, row.text);
 }
 
 const FAILING: &[Failing] = &[

@@ -1,6 +1,6 @@
 //! The largest images, and std's readers and writers. A pass over more than 60,000,000 bytes is a test of its own.
 
-use super::calls::{Audits, Lists};
+use super::calls::{audit_of, expect_reported, list_of};
 use super::endless::too_long;
 use cd_image::{
     AuditTally, Fault, FromRead, ListTally, Sink, Source, ToWrite, ZeroSource, audit,
@@ -9,7 +9,7 @@ use cd_image::{
 };
 use cd_sector::{SECTOR_SIZE, Sector};
 use cd_test_images::Sample::Damaged;
-use cd_test_images::{Full, NO_LIMIT, Reported, Written, report_of, sector_of};
+use cd_test_images::{Answer, Full, Reported, Written, sector_of};
 use std::alloc::AllocError;
 use std::io::{self, Read, Write};
 
@@ -17,9 +17,9 @@ use std::io::{self, Read, Write};
 const MILLION: &str = "0-999999 nosync\nsectors 1000000 tail 0\n";
 
 /// How that listing ends.
-fn whole_listing() -> Reported<Result<ListTally, Fault>> {
+fn whole_listing() -> Reported {
     Reported {
-        answer: Ok(ListTally {
+        answer: Answer::Listed(ListTally {
             sectors: 1_000_000,
             tail: 0,
         }),
@@ -31,30 +31,31 @@ fn whole_listing() -> Reported<Result<ListTally, Fault>> {
 #[test]
 fn a_million_sectors(rt: HostRuntime) {
     let mut image = ZeroSource::new(2_352_000_000);
-    let listed = report_of::<Lists, _>(&mut image, 0, &NO_LIMIT, MILLION);
-    assert_eq!(rt; listed, whole_listing());
+    let listed = list_of(&mut image, MILLION);
+    expect_reported(&rt, &listed, &whole_listing(), 0, MILLION);
 }
 
 #[test]
 fn a_byte_behind_them(rt: HostRuntime) {
     let mut image = ZeroSource::new(2_352_000_001);
-    let listed = report_of::<Lists, _>(&mut image, 0, &NO_LIMIT, "");
-    assert_eq!(rt; listed, too_long());
+    let listed = list_of(&mut image, "");
+    expect_reported(&rt, &listed, &too_long(), 0, "");
 }
 
 #[test]
 fn an_audit_of_too_many(rt: HostRuntime) {
     let mut image = ZeroSource::new(2_352_000_001);
-    let audited = report_of::<Audits, _>(&mut image, 0, &NO_LIMIT, "");
-    assert_eq!(rt; audited, too_long());
+    let audited = audit_of(&mut image, "");
+    expect_reported(&rt, &audited, &too_long(), 0, "");
 }
 
 /// A reader of std that ends just where an image has to end: the read behind its last sector is of one byte.
 #[test]
 fn a_reader_of_a_million_sectors(rt: HostRuntime) {
     let mut image = FromRead::new(io::repeat(0).take(2_352_000_000));
-    let listed = report_of::<Lists, _>(&mut image, 0, &NO_LIMIT, MILLION);
-    assert_eq!(rt; (listed, image.failures()), (whole_listing(), 0));
+    let listed = list_of(&mut image, MILLION);
+    expect_reported(&rt, &listed, &whole_listing(), 0, MILLION);
+    assert_eq!(rt; image.failures(), 0);
 }
 
 /// A reader of one sector, over and over.

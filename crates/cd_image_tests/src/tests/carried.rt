@@ -1,13 +1,12 @@
 //! Images with damaged sectors, of which the damage is carried: what goes out is damaged as it was, and nowhere else.
 
 use super::audits::expect_audit;
-use super::calls::OnImages;
+use super::calls::{expect, expect_rows};
 use super::patching::expect_sectors;
 use cd_sector::{Sector, defect, same_defect};
 use cd_test_images::Sample::{self, Addressed, Blank, Damaged, Filled, Mode, Zeros};
 use cd_test_images::{
-    CARRYING, Case, Row, carried, encoded_at, expect, expect_rows, flipped, joined, sector_of,
-    with_added, with_bytes,
+    CARRYING, Case, Row, carried, encoded_at, flipped, joined, sector_of, with_added, with_bytes,
 };
 use std::alloc::{AllocError, Global};
 use std::process::Abort;
@@ -125,16 +124,26 @@ const WRITING: &[Writing] = &[
     },
 ];
 
-/// A damaged byte in each region, with a patch over it and beside it: what goes out has the same damage.
+/// One sector is damaged as another is.
+fn expect_same_damage(rt: &impl Abort, one: &Sector, other: &Sector, script: &str) {
+    assert_eq!(rt; defect(one), defect(other), "{script}");
+    assert!(rt; same_defect(one, other), "{script}");
+}
+
+/// What such a script makes of a damaged sector has the same damage.
+fn keeps_damage(rt: &impl Abort, alloc: Global, old: &Sector, row: &Writing) -> Result<(), Fail> {
+    let out = carried(old, &with_bytes(old, row.place, row.bytes));
+    expect_same_damage(rt, &out, old, row.script);
+    carries(rt, alloc, row.script, old, ONE, &out)
+}
+
+/// A damaged byte in each region, with a patch over it and beside it.
 #[test]
 fn damage_in_each_region(rt: HostRuntime) -> Result<(), Fail> {
     for place in PLACES {
         let old = sector_of(&Damaged(0, *place, 1));
         for row in WRITING {
-            let out = carried(&old, &with_bytes(&old, row.place, row.bytes));
-            assert_eq!(rt; defect(&out), defect(&old), "{}", row.script);
-            assert!(rt; same_defect(&out, &old), "{}", row.script);
-            carries(&rt, rt.alloc(), row.script, &old, ONE, &out)?;
+            keeps_damage(&rt, rt.alloc(), &old, row)?;
         }
     }
     Ok(())
@@ -232,14 +241,14 @@ fn carries_the_middle(alloc: Global, place: usize) -> Result<(), Fail> {
         log: ONE,
         out: &out,
     };
-    expect::<OnImages>(alloc, &case)?;
+    expect(alloc, &case)?;
     let case = Case {
         carry: false,
         log: "line 2: refused: block 8 is damaged\napplied 0 refused 1\n",
         out: &image,
         ..case
     };
-    expect::<OnImages>(alloc, &case)
+    expect(alloc, &case)
 }
 
 #[test]
@@ -307,7 +316,7 @@ fn a_rebuild_between_patches(rt: HostRuntime) -> Result<(), Fail> {
 #[test]
 fn rows(rt: HostRuntime) -> Result<(), Fail> {
     for rows in [NOTHING_TO_CARRY, USER_BYTE, IN_THEIR_TURN] {
-        expect_rows::<OnImages>(rt.alloc(), rows, &CARRYING)?;
+        expect_rows(rt.alloc(), rows, &CARRYING)?;
     }
     Ok(())
 }

@@ -1,9 +1,9 @@
 //! Images cut in their first bytes and about the ends of their sectors.
 
-use super::calls::OnImages;
+use super::calls::expect_row;
 use super::patching::expect_plain;
 use cd_test_images::Sample::{self, Filled, Zeros};
-use cd_test_images::{PLAIN, Row, Way, expect_row};
+use cd_test_images::{PLAIN, Row, Way};
 use std::alloc::Global;
 use std::ops::Range;
 use std::test::Fail;
@@ -29,7 +29,7 @@ const NO_BLOCK_1: Row = Row {
 /// The same at each of these sizes.
 fn expect_each(alloc: Global, row: &Row, sizes: Range<usize>) -> Result<(), Fail> {
     for size in sizes {
-        expect_row::<OnImages>(alloc, row, &Way { size, ..PLAIN })?;
+        expect_row(alloc, row, &Way { size, ..PLAIN })?;
     }
     Ok(())
 }

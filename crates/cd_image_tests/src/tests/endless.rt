@@ -1,16 +1,16 @@
 //! Readers of std that have no end, and that fail on the way. They tell no contract which bytes are still to come.
 
-use super::calls::{Audits, Lists};
+use super::calls::{audit_of, expect_reported, list_of};
 use super::long_images::{expect_applied, expect_checked};
 use cd_image::{Fault, FromRead, Source, ToWrite, apply, audit, check, list};
-use cd_test_images::{NO_LIMIT, Reported, Written, report_of, script_of};
+use cd_test_images::{Answer, Reported, Written, script_of};
 use std::io::{self, ErrorKind, Read};
 use std::test::Fail;
 
 /// A report that ends by too long an image, with nothing written.
-pub fn too_long<A>() -> Reported<Result<A, Fault>> {
+pub fn too_long() -> Reported {
     Reported {
-        answer: Err(Fault::TooLong),
+        answer: Answer::Failed(Fault::TooLong),
         finished: false,
         text: Written::right(0),
     }
@@ -19,15 +19,17 @@ pub fn too_long<A>() -> Reported<Result<A, Fault>> {
 #[test]
 fn a_listing(rt: HostRuntime) {
     let mut image = FromRead::new(io::repeat(0));
-    let listed = report_of::<Lists, _>(&mut image, 0, &NO_LIMIT, "");
-    assert_eq!(rt; (listed, image.failures()), (too_long(), 0));
+    let listed = list_of(&mut image, "");
+    expect_reported(&rt, &listed, &too_long(), 0, "");
+    assert_eq!(rt; image.failures(), 0);
 }
 
 #[test]
 fn an_audit(rt: HostRuntime) {
     let mut image = FromRead::new(io::repeat(0));
-    let audited = report_of::<Audits, _>(&mut image, 0, &NO_LIMIT, "");
-    assert_eq!(rt; (audited, image.failures()), (too_long(), 0));
+    let audited = audit_of(&mut image, "");
+    expect_reported(&rt, &audited, &too_long(), 0, "");
+    assert_eq!(rt; image.failures(), 0);
 }
 
 const SCRIPT: &str = "cdpatch 1\nset 1000000 0 41\nset 7 0 41\n";
@@ -39,7 +41,7 @@ const LOG: &str = "line 3: refused: block 7 is not mode 1\n";
 fn patches_that_are_applied(rt: HostRuntime) -> Result<(), Fail> {
     let script = script_of(rt.alloc(), SCRIPT)?;
     let mut image = FromRead::new(io::repeat(0));
-    expect_applied(&rt, &mut image, &script, 0, Err(Fault::TooLong), LOG);
+    expect_applied(&rt, &mut image, &script, 0, too_long().answer, LOG);
     Ok(())
 }
 
@@ -47,7 +49,7 @@ fn patches_that_are_applied(rt: HostRuntime) -> Result<(), Fail> {
 fn patches_that_are_checked(rt: HostRuntime) -> Result<(), Fail> {
     let script = script_of(rt.alloc(), SCRIPT)?;
     let mut image = FromRead::new(io::repeat(0));
-    expect_checked(&rt, &mut image, &script, 0, Err(Fault::TooLong), LOG);
+    expect_checked(&rt, &mut image, &script, 0, too_long().answer, LOG);
     Ok(())
 }
 

@@ -1,11 +1,9 @@
 //! Sources and sinks that fail at each byte: what went out is a beginning of the text.
 
-use super::calls::Lists;
+use super::calls::{expect_fault, expect_reported, list_within};
 use cd_image::Fault;
 use cd_test_images::Sample::{self, Blank, Mode};
-use cd_test_images::{
-    ALL, Reported, Written, cut_image, flipped, image_of, passing, report_within, sector_of,
-};
+use cd_test_images::{ALL, Reported, Written, cut_image, flipped, image_of, passing, sector_of};
 use std::alloc::AllocError;
 use std::process::Abort;
 
@@ -38,19 +36,15 @@ impl Due<'_> {
     /// Lists the image; where its read or the sink fails, it is by this fault and after so many bytes of the text.
     fn expect(&self, rt: &impl Abort, image: u64, out: u64, fault: Option<Fault>, sent: usize) {
         let limits = passing(image, out, ALL);
-        let reported = report_within::<Lists>(self.image, u32::from(self.base), &limits, self.text);
-        assert_eq!(rt;
-            reported.answer.err(),
-            fault,
-            "{image} and {out} of {}",
-            self.text
-        );
+        let reported = list_within(self.image, u32::from(self.base), &limits, self.text);
+        let number = image.min(out) as usize;
+        expect_fault(rt, &reported, fault, number, self.text);
         let wanted = Reported {
             answer: reported.answer,
             finished: fault.is_none(),
             text: Written::right(sent),
         };
-        assert_eq!(rt; reported, wanted, "{image} and {out} of {}", self.text);
+        expect_reported(rt, &reported, &wanted, number, self.text);
     }
 
     /// Each byte of the image in turn is the first that cannot be read, and then the sink takes each number of bytes.

@@ -2,21 +2,23 @@
 
 ghost use Rattle.std.specs.Prelude.{◌≡◌};
 
-use super::calls::OnImages;
+use super::calls::{apply_within, check_within, expect_at_most, expect_ending};
 use cd_image::{Fault, Tally};
+use cd_patch::MAX_BLOCKS_MET;
 use cd_script::Script;
+use cd_sector::SECTOR_SIZE;
 use cd_test_images::Sample::{self, Filled, Zeros};
 use cd_test_images::{
-    ALL, Call, Ending, Failures, Limits, Written, apply_within, by_parts, check_within, done,
-    image_of, passing, script_of,
+    ALL, Answer, Call, Ending, Failures, Limits, Written, by_parts, done, image_of, passing,
+    script_of,
 };
 use std::alloc::{AllocError, Global};
 use std::ops::Range;
 use std::process::Abort;
 use std::test::Fail;
 
-/// How `apply` or `check` ended.
-pub type Ended = Ending<Result<Tally, Fault>>;
+/// How many bytes may have been read and not sent.
+pub const IN_HAND: usize = MAX_BLOCKS_MET * SECTOR_SIZE;
 
 const IMAGE: &[Sample] = &[Zeros(0), Zeros(1), Zeros(2)];
 
@@ -26,12 +28,12 @@ const PATCHED: &[Sample] = &[Zeros(0), Filled(1, 0, 1, 65), Zeros(2)];
 
 const LOG: &[u8] = b"line 2: applied\napplied 1 refused 0\n";
 
-const TALLY: Tally = Tally {
+const PATCHING: Answer = Answer::Patched(Tally {
     applied: 1,
     refused: 0,
     sectors: 3,
     tail: 0,
-};
+});
 
 /// An image, its script, whether damage is carried, and the patched image.
 #[derive(Drop)]
@@ -82,9 +84,9 @@ fn make_parts(alloc: Global, carry: bool) -> Result<Parts, Fail> {
 
 /// How a call ends by this fault, after so many bytes of the output and the log: what it names has failed once, and nothing
 /// else has. What is left of the image is not compared.
-pub fn failed(ended: &Ended, fault: Fault, sent: usize, told: usize) -> Ended {
+pub fn failed(ended: &Ending, fault: Fault, sent: usize, told: usize) -> Ending {
     Ending {
-        answer: Err(fault),
+        answer: Answer::Failed(fault),
         failures: Failures {
             image: u32::from(fault == Fault::Read),
             out: u32::from(fault == Fault::Write),
@@ -104,27 +106,19 @@ fn image_fails(rt: &impl Abort, alloc: Global, call: &Call, count: usize) -> Res
     requires { call.now.base ≡ 0 }
 {
     let limits = passing(count as u64, ALL, ALL);
-    let applied = apply_within::<OnImages>(alloc, call, &limits)?;
+    let applied = apply_within(alloc, call, &limits)?;
     let (sent, told) = (applied.out.count, applied.log.count);
-    assert_eq!(rt;
-        applied,
-        failed(&applied, Fault::Read, sent, told),
-        "image, {count}"
-    );
-    let checked = check_within::<OnImages>(alloc, call, &limits)?;
+    let due = failed(&applied, Fault::Read, sent, told);
+    expect_ending(rt, &applied, &due, "image", count);
+    let checked = check_within(alloc, call, &limits)?;
     let seen = checked.log.count;
-    assert_eq!(rt;
-        checked,
-        failed(&checked, Fault::Read, 0, seen),
-        "image, {count}"
-    );
-    assert!(rt;
-        count <= sent.saturating_add(7056),
-        "of {count} only {sent}"
-    );
+    let due = failed(&checked, Fault::Read, 0, seen);
+    expect_ending(rt, &checked, &due, "image, checked", count);
+    expect_at_most(rt, "image read", count, sent.saturating_add(IN_HAND));
     if count < 4704 {
-        assert!(rt; sent <= 2352, "{sent} at {count}");
-        assert_eq!(rt; (told, seen), (0, 0), "lines at {count}");
+        expect_at_most(rt, "sent", sent, 2352);
+        expect_at_most(rt, "told", told, 0);
+        expect_at_most(rt, "told, checked", seen, 0);
     }
     Ok(())
 }
@@ -133,7 +127,7 @@ fn image_fails(rt: &impl Abort, alloc: Global, call: &Call, count: usize) -> Res
 fn output_fails(rt: &impl Abort, alloc: Global, call: &Call, count: usize) -> Result<(), AllocError>
     requires { call.now.base ≡ 0 }
 {
-    let ended = apply_within::<OnImages>(alloc, call, &passing(ALL, count as u64, ALL))?;
+    let ended = apply_within(alloc, call, &passing(ALL, count as u64, ALL))?;
     let told = match count {
         0..2352 => 0,
         2352..7056 => 16,
@@ -143,7 +137,7 @@ fn output_fails(rt: &impl Abort, alloc: Global, call: &Call, count: usize) -> Re
         out_finished: false,
         ..failed(&ended, Fault::Write, count, told)
     };
-    assert_eq!(rt; ended, wanted, "output, {count}");
+    expect_ending(rt, &ended, &wanted, "output", count);
     Ok(())
 }
 
@@ -152,19 +146,16 @@ fn log_fails(rt: &impl Abort, alloc: Global, call: &Call, count: usize) -> Resul
     requires { call.now.base ≡ 0 }
 {
     let limits = passing(ALL, ALL, count as u64);
-    let applied = apply_within::<OnImages>(alloc, call, &limits)?;
+    let applied = apply_within(alloc, call, &limits)?;
     let sent = if count < 16 { 2352 } else { 7056 };
     let wanted = Ending {
         out_finished: count == 36,
         ..failed(&applied, Fault::Log, sent, count)
     };
-    assert_eq!(rt; applied, wanted, "log, {count}");
-    let checked = check_within::<OnImages>(alloc, call, &limits)?;
-    assert_eq!(rt;
-        checked,
-        failed(&checked, Fault::Log, 0, count),
-        "log, {count}"
-    );
+    expect_ending(rt, &applied, &wanted, "log", count);
+    let checked = check_within(alloc, call, &limits)?;
+    let due = failed(&checked, Fault::Log, 0, count);
+    expect_ending(rt, &checked, &due, "log, checked", count);
     Ok(())
 }
 
@@ -177,10 +168,16 @@ fn nothing_fails(
 ) -> Result<(), AllocError>
     requires { call.now.base ≡ 0 }
 {
-    let applied = apply_within::<OnImages>(alloc, call, limits)?;
-    assert_eq!(rt; applied, done(Ok(TALLY), call, 7056));
-    let checked = check_within::<OnImages>(alloc, call, limits)?;
-    assert_eq!(rt; checked, done(Ok(TALLY), call, 0));
+    let applied = apply_within(alloc, call, limits)?;
+    expect_ending(rt, &applied, &done(PATCHING, call, 7056), "all passes", 0);
+    let checked = check_within(alloc, call, limits)?;
+    expect_ending(
+        rt,
+        &checked,
+        &done(PATCHING, call, 0),
+        "all passes, checked",
+        0,
+    );
     Ok(())
 }
 
@@ -190,6 +187,23 @@ enum Failing {
     Image,
     Output,
     Log,
+}
+
+/// It fails after so many bytes.
+fn fails_after(
+    rt: &impl Abort,
+    alloc: Global,
+    call: &Call,
+    failing: Failing,
+    count: usize,
+) -> Result<(), AllocError>
+    requires { call.now.base ≡ 0 }
+{
+    match failing {
+        Failing::Image => image_fails(rt, alloc, call, count),
+        Failing::Output => output_fails(rt, alloc, call, count),
+        Failing::Log => log_fails(rt, alloc, call, count),
+    }
 }
 
 /// It fails after each number of bytes of a range, where damage is carried or not.
@@ -203,11 +217,7 @@ fn fails_at_each(
     let parts = make_parts(alloc, carry)?;
     let call = parts.call();
     for count in range {
-        match failing {
-            Failing::Image => image_fails(rt, alloc, &call, count)?,
-            Failing::Output => output_fails(rt, alloc, &call, count)?,
-            Failing::Log => log_fails(rt, alloc, &call, count)?,
-        }
+        fails_after(rt, alloc, &call, failing, count)?;
     }
     Ok(())
 }
@@ -227,24 +237,47 @@ fn the_log_fails_at_each_byte(rt: HostRuntime) -> Result<(), Fail> {
     fails_at_each(&rt, rt.alloc(), false, Failing::Log, 0..37)
 }
 
-/// Each of the three alone, and then all of them, may pass one byte more than the whole.
-#[test]
-fn none_fails_behind_the_last_byte(rt: HostRuntime) -> Result<(), Fail> {
-    let parts = make_parts(rt.alloc(), false)?;
+/// Nothing fails within each of these limits.
+fn nothing_fails_within(
+    rt: &impl Abort,
+    alloc: Global,
+    carry: bool,
+    each: &[Limits],
+) -> Result<(), Fail> {
+    let parts = make_parts(alloc, carry)?;
     let call = parts.call();
-    for limits in [
-        passing(7057, ALL, ALL),
-        passing(ALL, 7057, ALL),
-        passing(ALL, ALL, 37),
-        passing(7057, 7057, 37),
-    ] {
-        nothing_fails(&rt, rt.alloc(), &call, &limits)?;
+    for limits in each {
+        nothing_fails(rt, alloc, &call, limits)?;
     }
     Ok(())
 }
 
+/// Each of the three alone, and then all of them, may pass one byte more than the whole.
+#[test]
+fn none_fails_behind_the_last_byte(rt: HostRuntime) -> Result<(), Fail> {
+    let each = [
+        passing(7057, ALL, ALL),
+        passing(ALL, 7057, ALL),
+        passing(ALL, ALL, 37),
+        passing(7057, 7057, 37),
+    ];
+    nothing_fails_within(&rt, rt.alloc(), false, &each)
+}
+
 /// So many bytes pass in a call.
-const FEW: [usize; 5] = [1, 2, 2351, 2353, usize::MAX];
+const FEW: &[usize] = &[1, 2, 2351, 2353, usize::MAX];
+
+/// Nothing fails by few bytes a call of the output and the log, beside so many of the image.
+fn few_beside(rt: &impl Abort, alloc: Global, call: &Call, image: usize) -> Result<(), AllocError>
+    requires { call.now.base ≡ 0 }
+{
+    for out in FEW {
+        for log in FEW {
+            nothing_fails(rt, alloc, call, &by_parts(image, *out, *log))?;
+        }
+    }
+    Ok(())
+}
 
 /// Every mixture of few bytes a call on each of the three.
 #[test]
@@ -252,27 +285,32 @@ fn few_bytes_a_call(rt: HostRuntime) -> Result<(), Fail> {
     let parts = make_parts(rt.alloc(), false)?;
     let call = parts.call();
     for image in FEW {
-        for out in FEW {
-            for log in FEW {
-                nothing_fails(&rt, rt.alloc(), &call, &by_parts(image, out, log))?;
-            }
-        }
+        few_beside(&rt, rt.alloc(), &call, *image)?;
     }
     Ok(())
 }
 
 /// At a border of a sector, within one, and after the end.
-const BORDERS: [Range<usize>; 5] = [0..2, 2351..2354, 3000..3001, 4703..4706, 7055..7057];
+const BORDERS: &[(usize, usize)] = &[
+    (0, 2),
+    (2351, 2354),
+    (3000, 3001),
+    (4703, 4706),
+    (7055, 7057),
+];
+
+/// It fails so where damage is carried.
+fn fails_at_borders(rt: &impl Abort, alloc: Global, failing: Failing) -> Result<(), Fail> {
+    for (first, end) in BORDERS {
+        fails_at_each(rt, alloc, true, failing, *first..*end)?;
+    }
+    Ok(())
+}
 
 #[test]
 fn failures_where_damage_is_carried(rt: HostRuntime) -> Result<(), Fail> {
-    for failing in [Failing::Image, Failing::Output] {
-        for range in BORDERS {
-            fails_at_each(&rt, rt.alloc(), true, failing, range)?;
-        }
-    }
+    fails_at_borders(&rt, rt.alloc(), Failing::Image)?;
+    fails_at_borders(&rt, rt.alloc(), Failing::Output)?;
     fails_at_each(&rt, rt.alloc(), true, Failing::Log, 0..37)?;
-    let parts = make_parts(rt.alloc(), true)?;
-    nothing_fails(&rt, rt.alloc(), &parts.call(), &passing(7057, 7057, 37))?;
-    Ok(())
+    nothing_fails_within(&rt, rt.alloc(), true, &[passing(7057, 7057, 37)])
 }

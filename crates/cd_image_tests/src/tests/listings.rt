@@ -2,11 +2,11 @@
 
 ghost use Rattle.std.specs.Prelude.{◌≤◌};
 
-use super::calls::Lists;
+use super::calls::{expect_reported, list_within};
 use cd_image::{ListTally, MAX_BASE};
 use cd_test_images::Sample::{self, Blank, Mode, Zeros};
 use cd_test_images::{
-    PARTS, Reported, Written, by_parts, cut_image, flipped, image_of, report_within, sector_of,
+    Answer, PARTS, Reported, Written, by_parts, cut_image, flipped, image_of, sector_of,
 };
 use std::alloc::{AllocError, Global};
 use std::process::Abort;
@@ -17,13 +17,13 @@ fn expect(rt: &impl Abort, image: &[u8], base: u32, text: &str, tally: ListTally
 {
     for most in PARTS {
         let limits = by_parts(*most, *most, *most);
-        let reported = report_within::<Lists>(image, base, &limits, text);
+        let reported = list_within(image, base, &limits, text);
         let whole = Reported {
-            answer: Ok(tally),
+            answer: Answer::Listed(tally),
             finished: true,
             text: Written::right(text.len()),
         };
-        assert_eq!(rt; reported, whole, "{text}");
+        expect_reported(rt, &reported, &whole, *most, text);
     }
 }
 

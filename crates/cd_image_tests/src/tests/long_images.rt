@@ -3,46 +3,44 @@
 ghost use Rattle.std.specs.Prelude.{◌<◌, ◌≤◌};
 ghost use Rattle.cd_stream.specs.Stream.{MayCount};
 
+use super::calls::{expect_ending, patched};
 use cd_image::{
     Fault, MAX_BASE, Sink, SliceSink, Source, Tally, ToWrite, ZeroSource, apply, check,
 };
 use cd_script::Script;
-use cd_test_images::{Failures, UNTOUCHED, Written, repeated, script_of, written_in};
+use cd_test_images::{
+    Answer, Ending, Failures, UNTOUCHED, Written, repeated, script_of, written_in,
+};
 use std::alloc::Global;
 use std::io;
 use std::process::Abort;
 use std::test::Fail;
 
-/// How a call ended whose output is not kept.
-#[derive(Clone, Copy, Debug, PartialEq, Eq)]
-struct Ended {
-    answer: Result<Tally, Fault>,
-    failures: Failures,
-    finished: bool,
-    log: Written,
-}
-
-/// Nothing but the answer tells of a fault, and this log was told.
-fn unfailed(answer: Result<Tally, Fault>, log: &str) -> Ended {
-    Ended {
+/// How a call ends in which nothing fails but by its answer, which tells this log. Its output is not kept.
+fn unfailed(answer: Answer, log: &str) -> Ending {
+    let finished = answer.fault().is_none();
+    Ending {
         answer,
         failures: Failures {
             image: 0,
             out: 0,
             log: 0,
         },
-        finished: answer.is_ok(),
+        out_finished: finished,
+        log_finished: finished,
+        out: Written::right(0),
         log: Written::right(log.len()),
+        left: None,
     }
 }
 
-/// Applies a script, with an output that is not kept.
+/// Applies a script, with an output that is not kept, and as finished as the log is beside it.
 pub fn expect_applied<I: Source>(
     rt: &impl Abort,
     image: &mut I,
     script: &Script,
     base: u32,
-    want: Result<Tally, Fault>,
+    want: Answer,
     log: &str,
 )
     requires base { base ≤ MAX_BASE }
@@ -59,14 +57,16 @@ pub fn expect_applied<I: Source>(
         log: told.failures(),
     };
     let count = told.written().len();
-    let log_written = written_in(&lines, count, log.as_bytes());
-    let ended = Ended {
-        answer,
+    let came = Ending {
+        answer: patched(answer),
         failures,
-        finished,
-        log: log_written,
+        out_finished: finished,
+        log_finished: finished,
+        out: Written::right(0),
+        log: written_in(&lines, count, log.as_bytes()),
+        left: None,
     };
-    assert_eq!(rt; ended, unfailed(want, log), "apply: {log}");
+    expect_ending(rt, &came, &unfailed(want, log), log, count);
 }
 
 /// Checks a script.
@@ -75,7 +75,7 @@ pub fn expect_checked<I: Source>(
     image: &mut I,
     script: &Script,
     base: u32,
-    want: Result<Tally, Fault>,
+    want: Answer,
     log: &str,
 )
     requires base { base ≤ MAX_BASE }
@@ -84,21 +84,23 @@ pub fn expect_checked<I: Source>(
     let mut lines = [UNTOUCHED; 128];
     let mut told = SliceSink::new(&mut lines);
     let answer = check(image, script, base, false, &mut told);
+    let finished = told.finished();
     let failures = Failures {
         image: image.failures(),
         out: 0,
         log: told.failures(),
     };
-    let finished = told.finished();
     let count = told.written().len();
-    let log_written = written_in(&lines, count, log.as_bytes());
-    let ended = Ended {
-        answer,
+    let came = Ending {
+        answer: patched(answer),
         failures,
-        finished,
-        log: log_written,
+        out_finished: finished,
+        log_finished: finished,
+        out: Written::right(0),
+        log: written_in(&lines, count, log.as_bytes()),
+        left: None,
     };
-    assert_eq!(rt; ended, unfailed(want, log), "check: {log}");
+    expect_ending(rt, &came, &unfailed(want, log), log, count);
 }
 
 /// A script on so many bytes `00` from a block on, and how it ends.
@@ -115,15 +117,15 @@ struct Long<'a> {
 }
 
 /// How a pass over the image ends.
-fn ending_of(long: &Long) -> Result<Tally, Fault> {
+fn ending_of(long: &Long) -> Answer {
     match long.refused {
-        Some(refused) => Ok(Tally {
+        Some(refused) => Answer::Patched(Tally {
             applied: 0,
             refused,
             sectors: 1_000_000,
             tail: 0,
         }),
-        None => Err(Fault::TooLong),
+        None => Answer::Failed(Fault::TooLong),
     }
 }
 

@@ -1,14 +1,13 @@
 //! Sectors of noise with a sync field and a mode byte.
 
-use super::calls::Audits;
+use super::calls::{audit_within, expect_reported};
 use super::patching::expect_sectors;
 use cd_image::AuditTally;
 use cd_sector::{DefectReport, Sector, defect};
 use cd_test_images::Sample::Mode;
-use cd_test_images::{
-    ALL, Reported, Written, encoded_anew, joined, passing, report_within, sector_of,
-};
+use cd_test_images::{ALL, Answer, Reported, Written, encoded_anew, joined, passing, sector_of};
 use std::alloc::{AllocError, Global};
+use std::process::Abort;
 use std::test::Fail;
 
 /// A sector of noise that is of Mode 1.
@@ -80,23 +79,27 @@ const TALLY: AuditTally = AuditTally {
     tail: 0,
 };
 
+/// The image is audited so.
+fn expect_text(rt: &impl Abort, image: &[u8], text: &str) {
+    let reported = audit_within(image, 0, &passing(ALL, ALL, ALL), text);
+    let wanted = Reported {
+        answer: Answer::Audited(TALLY),
+        finished: true,
+        text: Written::right(text.len()),
+    };
+    expect_reported(rt, &reported, &wanted, text.len(), text);
+}
+
 /// P and Q of each are damaged.
 #[test]
 fn an_audit_of_noise(rt: HostRuntime) -> Result<(), AllocError> {
     let sectors = three();
     for sector in &sectors {
         let found = defect(sector);
-        assert!(rt; found.p > 0, "no P of {found:?}");
-        assert!(rt; found.q > 0, "no Q of {found:?}");
+        assert!(rt; found.p > 0 && found.q > 0, "no P or no Q of {found:?}");
     }
     let text = audit_text(rt.alloc(), &sectors)?;
     let image = joined(rt.alloc(), &sectors)?;
-    let reported = report_within::<Audits>(&image, 0, &passing(ALL, ALL, ALL), &text);
-    let wanted = Reported {
-        answer: Ok(TALLY),
-        finished: true,
-        text: Written::right(text.len()),
-    };
-    assert_eq!(rt; reported, wanted);
+    expect_text(&rt, &image, &text);
     Ok(())
 }

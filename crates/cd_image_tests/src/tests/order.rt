@@ -3,14 +3,12 @@
 
 ghost use Rattle.std.specs.Prelude.{◌≡◌};
 
-use super::calls::OnImages;
-use super::failing_patches::{Ended, failed};
+use super::calls::{apply_within, check_within, expect_ending};
+use super::failing_patches::failed;
 use cd_image::{Fault, Tally};
 use cd_script::Script;
 use cd_test_images::Sample::{self, Filled, Zeros};
-use cd_test_images::{
-    ALL, Call, Ending, apply_within, check_within, done, image_of, passing, script_of,
-};
+use cd_test_images::{ALL, Answer, Call, Ending, done, image_of, passing, script_of};
 use std::alloc::{AllocError, Global};
 use std::process::Abort;
 use std::test::Fail;
@@ -26,7 +24,7 @@ const PATCHED: &[Sample] = &[Filled(10, 0, 1, 66), Zeros(11)];
 
 /// The lines in order: that of the patch below the base, of block 10, of block 11, and those of the patches past the end
 /// with the last line.
-const LINES: [&[u8]; 4] = [
+const LINES: &[&[u8]] = &[
     b"line 2: refused: no block 9\n",
     b"line 3: applied\n",
     b"line 4: refused: no block 12\n",
@@ -48,12 +46,12 @@ const BOTH_SECTORS: usize = 4704;
 
 const OUTPUT_SIZE: usize = 4709;
 
-const TALLY: Tally = Tally {
+const PATCHING: Answer = Answer::Patched(Tally {
     applied: 1,
     refused: 4,
     sectors: 2,
     tail: 5,
-};
+});
 
 /// The image, its script, the patched image and the log.
 #[derive(Drop)]
@@ -64,20 +62,28 @@ struct Parts {
     log: Vec<u8>,
 }
 
-fn make_parts(alloc: Global) -> Result<Parts, Fail> {
-    let mut image = image_of(alloc, IMAGE)?;
-    image.extend_from_slice(TAIL)?;
-    let mut whole = image_of(alloc, PATCHED)?;
-    whole.extend_from_slice(TAIL)?;
+/// Sectors, and the tail behind them.
+fn with_tail(alloc: Global, samples: &[Sample]) -> Result<Vec<u8>, AllocError> {
+    let mut bytes = image_of(alloc, samples)?;
+    bytes.extend_from_slice(TAIL)?;
+    Ok(bytes)
+}
+
+/// All lines.
+fn whole_log(alloc: Global) -> Result<Vec<u8>, AllocError> {
     let mut log = Vec::new(alloc);
     for lines in LINES {
         log.extend_from_slice(lines)?;
     }
+    Ok(log)
+}
+
+fn make_parts(alloc: Global) -> Result<Parts, Fail> {
     Ok(Parts {
-        image,
+        image: with_tail(alloc, IMAGE)?,
         script: script_of(alloc, SCRIPT)?,
-        whole,
-        log,
+        whole: with_tail(alloc, PATCHED)?,
+        log: whole_log(alloc)?,
     })
 }
 
@@ -105,12 +111,9 @@ fn output_fails(rt: &impl Abort, alloc: Global, call: &Call, count: usize) -> Re
         FIRST_SECTOR..OUTPUT_SIZE => SECOND,
         _ => LOG_SIZE,
     };
-    let ended = apply_within::<OnImages>(alloc, call, &passing(ALL, count as u64, ALL))?;
-    assert_eq!(rt;
-        ended,
-        failed(&ended, Fault::Write, count, told),
-        "output, {count}"
-    );
+    let ended = apply_within(alloc, call, &passing(ALL, count as u64, ALL))?;
+    let due = failed(&ended, Fault::Write, count, told);
+    expect_ending(rt, &ended, &due, "output", count);
     Ok(())
 }
 
@@ -124,29 +127,28 @@ fn log_fails(rt: &impl Abort, alloc: Global, call: &Call, count: usize) -> Resul
         _ => OUTPUT_SIZE,
     };
     let limits = passing(ALL, ALL, count as u64);
-    let applied = apply_within::<OnImages>(alloc, call, &limits)?;
+    let applied = apply_within(alloc, call, &limits)?;
     let wanted = Ending {
         out_finished: count == LOG_SIZE,
         ..failed(&applied, Fault::Log, sent, count)
     };
-    assert_eq!(rt; applied, wanted, "log, {count}");
-    let checked = check_within::<OnImages>(alloc, call, &limits)?;
-    assert_eq!(rt;
-        checked,
-        failed(&checked, Fault::Log, 0, count),
-        "log, {count}"
-    );
+    expect_ending(rt, &applied, &wanted, "log", count);
+    let checked = check_within(alloc, call, &limits)?;
+    let due = failed(&checked, Fault::Log, 0, count);
+    expect_ending(rt, &checked, &due, "log, checked", count);
     Ok(())
 }
 
 /// Where the image has failed after so many bytes: the patch below the base was told, and that of block 10 only where its
 /// sector came; that of block 11 would ask for the end.
-fn is_begun(rt: &impl Abort, ended: &Ended, count: usize) {
+fn is_begun(rt: &impl Abort, ended: &Ending, count: usize) {
     let (sent, told) = (ended.out.count, ended.log.count);
-    assert_eq!(rt;
-        *ended,
-        failed(ended, Fault::Read, sent, told),
-        "image, {count}"
+    expect_ending(
+        rt,
+        ended,
+        &failed(ended, Fault::Read, sent, told),
+        "image",
+        count,
     );
     let is_first = told == FIRST && FIRST_SECTOR <= count;
     assert!(rt; told == BELOW || is_first, "{told} of the log at {count}");
@@ -161,9 +163,17 @@ fn image_fails(rt: &impl Abort, alloc: Global, call: &Call, count: usize) -> Res
     requires { call.now.base ≡ 10 }
 {
     let limits = passing(count as u64, ALL, ALL);
-    is_begun(rt, &apply_within::<OnImages>(alloc, call, &limits)?, count);
-    is_begun(rt, &check_within::<OnImages>(alloc, call, &limits)?, count);
+    is_begun(rt, &apply_within(alloc, call, &limits)?, count);
+    is_begun(rt, &check_within(alloc, call, &limits)?, count);
     Ok(())
+}
+
+/// The output fails after so many bytes, and then the image does.
+fn either_fails(rt: &impl Abort, alloc: Global, call: &Call, count: usize) -> Result<(), AllocError>
+    requires { call.now.base ≡ 10 }
+{
+    output_fails(rt, alloc, call, count)?;
+    image_fails(rt, alloc, call, count)
 }
 
 #[test]
@@ -171,8 +181,7 @@ fn each_fails_at_each_byte(rt: HostRuntime) -> Result<(), Fail> {
     let parts = make_parts(rt.alloc())?;
     let call = parts.call();
     for count in 0..OUTPUT_SIZE + 1 {
-        output_fails(&rt, rt.alloc(), &call, count)?;
-        image_fails(&rt, rt.alloc(), &call, count)?;
+        either_fails(&rt, rt.alloc(), &call, count)?;
     }
     for count in 0..LOG_SIZE + 1 {
         log_fails(&rt, rt.alloc(), &call, count)?;
@@ -180,14 +189,23 @@ fn each_fails_at_each_byte(rt: HostRuntime) -> Result<(), Fail> {
     Ok(())
 }
 
+/// A call of each kind passes all, where each of the three may pass one byte more than the whole.
+fn all_passes(rt: &impl Abort, alloc: Global, call: &Call) -> Result<(), AllocError>
+    requires { call.now.base ≡ 10 }
+{
+    let limits = passing(4710, 4710, 152);
+    let applied = apply_within(alloc, call, &limits)?;
+    let due = done(PATCHING, call, OUTPUT_SIZE);
+    expect_ending(rt, &applied, &due, "all passes", 0);
+    let checked = check_within(alloc, call, &limits)?;
+    let due = done(PATCHING, call, 0);
+    expect_ending(rt, &checked, &due, "all passes, checked", 0);
+    Ok(())
+}
+
 #[test]
 fn nothing_fails(rt: HostRuntime) -> Result<(), Fail> {
     let parts = make_parts(rt.alloc())?;
-    let call = parts.call();
-    let limits = passing(4710, 4710, 152);
-    let applied = apply_within::<OnImages>(rt.alloc(), &call, &limits)?;
-    assert_eq!(rt; applied, done(Ok(TALLY), &call, OUTPUT_SIZE));
-    let checked = check_within::<OnImages>(rt.alloc(), &call, &limits)?;
-    assert_eq!(rt; checked, done(Ok(TALLY), &call, 0));
+    all_passes(&rt, rt.alloc(), &parts.call())?;
     Ok(())
 }

@@ -1,14 +1,14 @@
 //! What the tests of patching share: rows and sectors taken by `apply` and `check`.
 
-use super::calls::OnImages;
+use super::calls::{expect, expect_rows};
 use cd_sector::Sector;
-use cd_test_images::{Case, PLAIN, Row, Sample, expect, expect_rows, joined};
+use cd_test_images::{Case, PLAIN, Row, Sample, joined};
 use std::alloc::Global;
 use std::test::Fail;
 
 /// Applies and checks each script on its image from block 0 on.
 pub fn expect_plain(alloc: Global, rows: &[Row]) -> Result<(), Fail> {
-    expect_rows::<OnImages>(alloc, rows, &PLAIN)
+    expect_rows(alloc, rows, &PLAIN)
 }
 
 /// A script that leaves its image as it is, and its log.
@@ -52,5 +52,5 @@ pub fn expect_sectors(
         log,
         out: &out,
     };
-    expect::<OnImages>(alloc, &case)
+    expect(alloc, &case)
 }

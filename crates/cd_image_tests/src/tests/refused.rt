@@ -1,9 +1,9 @@
 //! Patches that are refused: they change nothing, and the log says why.
 
-use super::calls::OnImages;
+use super::calls::expect_rows;
 use super::patching::{Refused, expect_plain, expect_refused};
 use cd_test_images::Sample::{self, Blank, Damaged, Filled, Mode, Zeros};
-use cd_test_images::{PLAIN, Row, Way, expect_rows, repeated};
+use cd_test_images::{PLAIN, Row, Way, repeated};
 use std::test::Fail;
 
 const NO_BLOCK_0: &str = "line 2: refused: no block 0\napplied 0 refused 1\n";
@@ -100,12 +100,12 @@ fn blocks_in_the_tail(rt: HostRuntime) -> Result<(), Fail> {
         size: 2351,
         ..PLAIN
     };
-    expect_rows::<OnImages>(rt.alloc(), IN_A_TAIL_ALONE, &tail)?;
+    expect_rows(rt.alloc(), IN_A_TAIL_ALONE, &tail)?;
     let second = Way {
         size: 4703,
         ..PLAIN
     };
-    expect_rows::<OnImages>(rt.alloc(), IN_THE_TAIL, &second)
+    expect_rows(rt.alloc(), IN_THE_TAIL, &second)
 }
 
 const BELOW_THE_BASE: &[Row] = &[
@@ -126,7 +126,7 @@ const BELOW_THE_BASE: &[Row] = &[
 
 #[test]
 fn blocks_below_the_base(rt: HostRuntime) -> Result<(), Fail> {
-    expect_rows::<OnImages>(rt.alloc(), BELOW_THE_BASE, &Way { base: 10, ..PLAIN })
+    expect_rows(rt.alloc(), BELOW_THE_BASE, &Way { base: 10, ..PLAIN })
 }
 
 const TAIL_ALONE: &[Row] = &[
@@ -152,7 +152,7 @@ fn a_tail_alone_behind_the_base(rt: HostRuntime) -> Result<(), Fail> {
             carry: false,
             size,
         };
-        expect_rows::<OnImages>(rt.alloc(), TAIL_ALONE, &way)?;
+        expect_rows(rt.alloc(), TAIL_ALONE, &way)?;
     }
     Ok(())
 }

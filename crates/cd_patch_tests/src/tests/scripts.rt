@@ -5,26 +5,46 @@ mod faults;
 mod large;
 mod versions;
 
-use cd_script::{MAX_TEXT, ScriptFault, parse};
+use cd_script::{MAX_PATCHES, MAX_TEXT, ScriptFault, parse};
 use std::alloc::{AllocError, Global};
 use std::process::Abort;
+
+/// Texts, or lines, that have one fault, or none of them has any.
+#[derive(Clone, Copy)]
+struct Alike<'a> {
+    fault: Option<ScriptFault>,
+    texts: &'a [&'a str],
+}
+
+/// The most patches of a script.
+const MOST: u32 = MAX_PATCHES as u32;
+
+/// The line behind the head line and as many patches, a line each.
+const BEHIND_MOST: u32 = MOST + 2;
 
 /// Asserts the fault of a text, which has none where it is a script.
 fn expect_fault(
     rt: &impl Abort,
     alloc: Global,
     text: &[u8],
-    want: Option<ScriptFault>,
+    fault: Option<ScriptFault>,
     told: &str,
 ) {
     assert!(rt; text.len() <= MAX_TEXT);
-    assert!(rt; parse(alloc, text).err() == want, "{told}");
+    assert_eq!(rt; parse(alloc, text).err(), fault, "{told}");
 }
 
 /// Asserts the fault of each text.
-fn expect_faults(rt: &impl Abort, alloc: Global, rows: &[(&str, Option<ScriptFault>)]) {
-    for (text, want) in rows {
-        expect_fault(rt, alloc, text.as_bytes(), *want, text);
+fn expect_alike(rt: &impl Abort, alloc: Global, alike: &Alike) {
+    for text in alike.texts {
+        expect_fault(rt, alloc, text.as_bytes(), alike.fault, text);
+    }
+}
+
+/// The same of all.
+fn expect_faults(rt: &impl Abort, alloc: Global, all: &[Alike]) {
+    for alike in all {
+        expect_alike(rt, alloc, alike);
     }
 }
 
@@ -34,22 +54,35 @@ fn expect_fault_behind(
     alloc: Global,
     head: &str,
     line: &str,
-    want: Option<ScriptFault>,
+    fault: Option<ScriptFault>,
 ) -> Result<(), AllocError> {
     let text = format!(in alloc; "{head}\n{line}\n")?;
-    expect_fault(rt, alloc, text.as_bytes(), want, &text);
+    expect_fault(rt, alloc, text.as_bytes(), fault, &text);
     Ok(())
 }
 
 /// The same of each line.
+fn expect_alike_behind(
+    rt: &impl Abort,
+    alloc: Global,
+    head: &str,
+    alike: &Alike,
+) -> Result<(), AllocError> {
+    for line in alike.texts {
+        expect_fault_behind(rt, alloc, head, line, alike.fault)?;
+    }
+    Ok(())
+}
+
+/// The same of all.
 fn expect_faults_behind(
     rt: &impl Abort,
     alloc: Global,
     head: &str,
-    rows: &[(&str, Option<ScriptFault>)],
+    all: &[Alike],
 ) -> Result<(), AllocError> {
-    for (line, want) in rows {
-        expect_fault_behind(rt, alloc, head, line, *want)?;
+    for alike in all {
+        expect_alike_behind(rt, alloc, head, alike)?;
     }
     Ok(())
 }

@@ -1,18 +1,25 @@
-//! The calls of the program, which answer a status, as the tests take them.
+//! The calls of the program, which answer a status, as the tests take them, and the harness at each of them.
 
-use cd_image::{Sink, Source, Tally};
+ghost use Rattle.std.specs.Prelude.{◌≤◌};
+ghost use Rattle.cd_stream.specs.Stream.{MayCount};
+
+use cd_image::{MAX_BASE, Sink, Source, Tally};
 use cd_jobs::{run_apply, run_audit, run_check, run_list};
-use cd_test_images::{Call, Patching, Reporting};
+use cd_test_images::{
+    Answer, Call, Ending, Limit, Limits, NO_LIMIT, Patching, Reported, Reporting, Row, Way,
+    Written, report_of,
+};
+use std::alloc::{AllocError, Global};
+use std::process::Abort;
+use std::test::Fail;
 
 /// `run_apply` and `run_check`.
-pub struct InProgram;
+struct InProgram;
 
 impl Patching for InProgram {
-    type Answer = u8;
-
     /// 0 where no patch is refused, and else 1.
-    fn answer(tally: Tally) -> u8 {
-        u8::from(tally.refused > 0)
+    fn answer(tally: Tally) -> Answer {
+        Answer::Status(u8::from(tally.refused > 0))
     }
 
     fn apply<I: Source, O: Sink, L: Sink>(
@@ -20,33 +27,90 @@ impl Patching for InProgram {
         call: &Call,
         out: &mut O,
         log: &mut L,
-    ) -> u8 {
-        run_apply(image, call.script, call.base, call.carry, out, log)
+    ) -> Answer {
+        Answer::Status(run_apply(image, call.script, call.base, call.carry, out, log))
     }
 
-    fn check<I: Source, L: Sink>(image: &mut I, call: &Call, log: &mut L) -> u8 {
-        run_check(image, call.script, call.base, call.carry, log)
+    fn check<I: Source, L: Sink>(image: &mut I, call: &Call, log: &mut L) -> Answer {
+        Answer::Status(run_check(image, call.script, call.base, call.carry, log))
     }
 }
 
 /// `run_list`.
-pub struct Lists;
+struct Lists;
 
 impl Reporting for Lists {
-    type Answer = u8;
-
-    fn report<I: Source, O: Sink>(image: &mut I, base: u32, out: &mut O) -> u8 {
-        run_list(image, base, out)
+    fn report<I: Source, O: Sink>(image: &mut I, base: u32, out: &mut O) -> Answer {
+        Answer::Status(run_list(image, base, out))
     }
 }
 
 /// `run_audit`.
-pub struct Audits;
+struct Audits;
 
 impl Reporting for Audits {
-    type Answer = u8;
-
-    fn report<I: Source, O: Sink>(image: &mut I, base: u32, out: &mut O) -> u8 {
-        run_audit(image, base, out)
+    fn report<I: Source, O: Sink>(image: &mut I, base: u32, out: &mut O) -> Answer {
+        Answer::Status(run_audit(image, base, out))
     }
+}
+
+/// Applies a script within limits.
+pub fn apply_within(alloc: Global, call: &Call, limits: &Limits) -> Result<Ending, AllocError>
+    requires { call.now.base ≤ MAX_BASE }
+{
+    cd_test_images::apply_within::<InProgram>(alloc, call, limits)
+}
+
+/// Checks a script within limits.
+pub fn check_within(alloc: Global, call: &Call, limits: &Limits) -> Result<Ending, AllocError>
+    requires { call.now.base ≤ MAX_BASE }
+{
+    cd_test_images::check_within::<InProgram>(alloc, call, limits)
+}
+
+/// Applies and checks the script of each row, by as many bytes a call as there are, and by few.
+pub fn expect_rows(alloc: Global, rows: &[Row], way: &Way) -> Result<(), Fail>
+    requires { way.now.base ≤ MAX_BASE }
+{
+    cd_test_images::expect_rows::<InProgram>(alloc, rows, way)
+}
+
+/// A call has ended as it should. Its lines and a number are told of it.
+pub fn expect_ending(rt: &impl Abort, came: &Ending, due: &Ending, lines: &str, number: usize) {
+    assert_eq!(rt; *came, *due, "{lines}, {number}");
+}
+
+/// A report has ended as it should. A text is told of it.
+pub fn expect_reported(rt: &impl Abort, came: &Reported, due: &Reported, text: &str) {
+    assert_eq!(rt; *came, *due, "{text}");
+}
+
+/// A text has been written whole, and nothing behind it.
+pub fn expect_text(rt: &impl Abort, came: &Written, text: &str) {
+    assert_eq!(rt; *came, Written::right(text.len()), "{text}");
+}
+
+/// A call has answered this status. Words are told of it.
+pub fn expect_status(rt: &impl Abort, came: u8, due: u8, words: &str) {
+    assert_eq!(rt; came, due, "{words}");
+}
+
+/// A text is this one. Words are told of it.
+pub fn expect_same(rt: &impl Abort, came: &str, due: &str, words: &str) {
+    assert_eq!(rt; came, due, "{words}");
+}
+
+/// Lists an image from block 0 on, to memory that lets so much pass.
+pub fn list_of<I: Source>(image: &mut I, limit: &Limit, text: &str) -> Reported
+    requires { MayCount (I.seen image.old).failures }
+{
+    report_of::<Lists, _>(image, 0, limit, text)
+}
+
+/// Audits an image.
+pub fn audit_of<I: Source>(image: &mut I, base: u32, text: &str) -> Reported
+    requires base { base ≤ MAX_BASE }
+    requires image_countable { MayCount (I.seen image.old).failures }
+{
+    report_of::<Audits, _>(image, base, &NO_LIMIT, text)
 }

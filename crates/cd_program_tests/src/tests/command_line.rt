@@ -1,5 +1,6 @@
 //! The command line: what its words ask for, what refuses them, and help.
 
+use super::calls::{expect_same, expect_status};
 use cd_command::{Job, LineFault, NO_MEMORY, job_of, refusal_line};
 use std::alloc::{AllocError, Global};
 use std::process::Abort;
@@ -36,13 +37,18 @@ fn asked(alloc: Global, job: &Job) -> Result<String, AllocError> {
     }
 }
 
+/// What a line asks for, in words.
+fn asked_by(alloc: Global, line: &str) -> Result<String, AllocError> {
+    match &job_of(alloc, words_of(alloc, line)?) {
+        Ok(job) => asked(alloc, job),
+        Err(_) => String::from_str(alloc, "nothing"),
+    }
+}
+
 /// Each line asks for its job.
 fn expect_jobs(rt: &impl Abort, alloc: Global, rows: &[(&str, &str)]) -> Result<(), AllocError> {
     for (line, want) in rows {
-        match &job_of(alloc, words_of(alloc, line)?) {
-            Ok(job) => assert_eq!(rt; asked(alloc, job)?.as_str(), *want, "{line}"),
-            Err(_) => panic!(rt; "{line} is refused"),
-        }
+        expect_same(rt, &asked_by(alloc, line)?, want, line);
     }
     Ok(())
 }
@@ -123,6 +129,14 @@ fn is_refusal(fault: &LineFault) -> bool {
     }
 }
 
+/// Whether the parser refuses a line.
+fn refuses(alloc: Global, line: &str) -> Result<bool, AllocError> {
+    Ok(match &job_of(alloc, words_of(alloc, line)?) {
+        Err(fault) => is_refusal(fault),
+        Ok(_) => false,
+    })
+}
+
 #[test]
 fn refuses_words(rt: HostRuntime) -> Result<(), AllocError> {
     const LINES: &[&str] = &[
@@ -159,11 +173,7 @@ fn refuses_words(rt: HostRuntime) -> Result<(), AllocError> {
         "list x --version",
     ];
     for line in LINES {
-        let is_refused = match &job_of(rt.alloc(), words_of(rt.alloc(), line)?) {
-            Err(fault) => is_refusal(fault),
-            Ok(_) => false,
-        };
-        assert!(rt; is_refused, "{line}");
+        assert!(rt; refuses(rt.alloc(), line)?, "{line}");
     }
     Ok(())
 }
@@ -233,9 +243,8 @@ fn prints_want_of_memory(rt: HostRuntime) {
     let fault = LineFault::NoMemory;
     let text = fault.parser_text(rt.alloc());
     let line = refusal_line(text.as_deref());
-    assert_eq!(rt;
-        (fault.status(), fault.status_with(text.as_deref())),
-        (2, 2)
-    );
-    assert_eq!(rt; [line, NO_MEMORY], ["cdpatch: no memory\n"; 2]);
+    expect_status(&rt, fault.status(), 2, line);
+    expect_status(&rt, fault.status_with(text.as_deref()), 2, line);
+    expect_same(&rt, line, "cdpatch: no memory\n", "its line");
+    expect_same(&rt, NO_MEMORY, "cdpatch: no memory\n", "the line");
 }

@@ -2,12 +2,13 @@
 
 ghost use Rattle.cd_jobs.specs.Hosting.{any_answers};
 
+use super::calls::{expect_same, expect_status, expect_text};
 use super::command_line::words_of;
 use super::streams::Unflushed;
 use cd_image::{SliceSink, SliceSource, ToWrite};
 use cd_jobs::{Host, OpenFault, do_words};
 use cd_test_images::Sample::Zeros;
-use cd_test_images::{UNTOUCHED, Written, image_of, written_in};
+use cd_test_images::{UNTOUCHED, image_of, written_in};
 use std::alloc::{AllocError, Global};
 use std::process::Abort;
 
@@ -72,24 +73,39 @@ struct Asking {
     text: &'static str,
 }
 
+/// Gives the words of a row to the program, on a host that has this image.
+fn expect_row(
+    rt: &impl Abort,
+    alloc: Global,
+    image: &[u8],
+    row: &Asking,
+) -> Result<(), AllocError> {
+    let words = words_of(alloc, row.words)?;
+    let mut host = Memory {
+        image,
+        asked: String::new(alloc),
+        count: 0,
+        failing: row.failing,
+    };
+    let mut space = [UNTOUCHED; 128];
+    let mut out = SliceSink::new(&mut space);
+    let status = do_words(alloc, &mut host, words, &mut out);
+    let count = out.written().len();
+    expect_same(rt, host.asked.as_str(), row.asked, row.words);
+    expect_status(rt, status, row.status, row.words);
+    expect_text(
+        rt,
+        &written_in(&space, count, row.text.as_bytes()),
+        row.text,
+    );
+    Ok(())
+}
+
 /// Gives the words of each row to the program.
 fn expect_rows(rt: &impl Abort, alloc: Global, rows: &[Asking]) -> Result<(), AllocError> {
     let image = image_of(alloc, &[Zeros(0), Zeros(1)])?;
     for row in rows {
-        let mut host = Memory {
-            image: &image,
-            asked: String::new(alloc),
-            count: 0,
-            failing: row.failing,
-        };
-        let mut space = [UNTOUCHED; 128];
-        let mut out = SliceSink::new(&mut space);
-        let status = do_words(alloc, &mut host, words_of(alloc, row.words)?, &mut out);
-        let count = out.written().len();
-        let printed = written_in(&space, count, row.text.as_bytes());
-        assert_eq!(rt; host.asked.as_str(), row.asked, "asked by {}", row.words);
-        let wanted = (row.status, Written::right(row.text.len()));
-        assert_eq!(rt; (status, printed), wanted, "{}", row.words);
+        expect_row(rt, alloc, &image, row)?;
     }
     Ok(())
 }

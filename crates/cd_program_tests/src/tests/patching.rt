@@ -1,14 +1,21 @@
 //! Scripts on images: one row for each status, and one for each line of a fault. What is written otherwise is tested with the
 //! calls that the program makes.
 
-use super::calls::InProgram;
+ghost use Rattle.std.specs.Prelude.{◌≡◌};
+
+use super::calls::{
+    apply_within, check_within, expect_ending, expect_rows, expect_status, expect_text,
+};
 use cd_image::{SliceSink, ZeroSource};
 use cd_jobs::run_check;
+use cd_script::Script;
 use cd_test_images::Sample::{Damaged, Filled, Zeros};
 use cd_test_images::{
-    ALL, CARRYING, Call, Ending, Failures, PLAIN, Row, UNTOUCHED, Way, Written, apply_within,
-    check_within, done, expect_rows, image_of, passing, script_of, written_in,
+    ALL, Answer, CARRYING, Call, Ending, Failures, PLAIN, Row, UNTOUCHED, Way, Written, done,
+    image_of, passing, script_of, written_in,
 };
+use std::alloc::{AllocError, Global};
+use std::process::Abort;
 use std::test::Fail;
 
 const ALL_APPLIED: &[Row] = &[Row {
@@ -42,11 +49,11 @@ const BUT_FOR_DAMAGE: &[Row] = &[Row {
 /// The status is 0 where all patches are applied and 1 where one is refused; the base and `--carry` count.
 #[test]
 fn statuses(rt: HostRuntime) -> Result<(), Fail> {
-    expect_rows::<InProgram>(rt.alloc(), ALL_APPLIED, &PLAIN)?;
+    expect_rows(rt.alloc(), ALL_APPLIED, &PLAIN)?;
     let from_ten = Way { base: 10, ..PLAIN };
-    expect_rows::<InProgram>(rt.alloc(), ONE_REFUSED, &from_ten)?;
-    expect_rows::<InProgram>(rt.alloc(), FOR_DAMAGE, &PLAIN)?;
-    expect_rows::<InProgram>(rt.alloc(), BUT_FOR_DAMAGE, &CARRYING)
+    expect_rows(rt.alloc(), ONE_REFUSED, &from_ten)?;
+    expect_rows(rt.alloc(), FOR_DAMAGE, &PLAIN)?;
+    expect_rows(rt.alloc(), BUT_FOR_DAMAGE, &CARRYING)
 }
 
 const READ_LINE: &str = "cdpatch: reading the image failed\n";
@@ -172,9 +179,9 @@ const STOPPED: &[Stopped] = &[
 ];
 
 /// How a call of the status 2 ends, after so many bytes of the output.
-fn ended_by(ended: &Ending<u8>, failures: Failures, sent: usize, told: usize) -> Ending<u8> {
+fn ended_by(ended: &Ending, failures: Failures, sent: usize, told: usize) -> Ending {
     Ending {
-        answer: 2,
+        answer: Answer::Status(2),
         failures,
         out_finished: ended.out_finished,
         log_finished: failures.log == 0,
@@ -189,67 +196,100 @@ fn most(text: &str, limit: u64) -> usize {
     usize::try_from(limit).unwrap_or(usize::MAX).min(text.len())
 }
 
-#[test]
-fn one_of_the_three_fails(rt: HostRuntime) -> Result<(), Fail> {
-    let image = image_of(rt.alloc(), &[Zeros(0), Zeros(1), Zeros(2)])?;
-    let patched = image_of(rt.alloc(), &[Zeros(0), Filled(1, 0, 1, 65), Zeros(2)])?;
-    let script = script_of(rt.alloc(), "cdpatch 1\nset 1 0 41\n")?;
-    for row in STOPPED {
-        let call = Call {
-            image: &image,
-            script: &script,
+/// An image of three sectors, what a script makes of it, and the script.
+#[derive(Drop)]
+struct Parts {
+    image: Vec<u8>,
+    patched: Vec<u8>,
+    script: Script,
+}
+
+fn make_parts(alloc: Global) -> Result<Parts, Fail> {
+    Ok(Parts {
+        image: image_of(alloc, &[Zeros(0), Zeros(1), Zeros(2)])?,
+        patched: image_of(alloc, &[Zeros(0), Filled(1, 0, 1, 65), Zeros(2)])?,
+        script: script_of(alloc, "cdpatch 1\nset 1 0 41\n")?,
+    })
+}
+
+impl Parts {
+    /// The script on the image, with these lines for its log.
+    fn call<'a>(&'a self, lines: &'a str) -> Call<'a>
+        ensures { result.base ≡ 0 }
+    {
+        Call {
+            image: &self.image,
+            script: &self.script,
             base: 0,
             carry: false,
-            out: &patched,
-            log: row.lines.as_bytes(),
-        };
-        let limits = passing(row.image, row.out, row.log);
-        let told = most(row.lines, row.log);
-        let applied = apply_within::<InProgram>(rt.alloc(), &call, &limits)?;
-        let sent = applied.out.count;
-        let wanted = ended_by(&applied, row.failures, sent, told);
-        assert_eq!(rt; applied, wanted, "{} {} {}", row.image, row.out, row.log);
-        if row.out == ALL {
-            let checked = check_within::<InProgram>(rt.alloc(), &call, &limits)?;
-            let wanted = ended_by(&checked, row.failures, 0, told);
-            assert_eq!(rt; checked, wanted, "{} {} {}", row.image, row.out, row.log);
-        } else {
-            assert_eq!(rt; sent as u64, row.out, "bytes sent");
+            out: &self.patched,
+            log: lines.as_bytes(),
         }
+    }
+}
+
+/// A call of each kind ends by the status 2, or where the output fails the one that has an output.
+fn stops(rt: &impl Abort, alloc: Global, call: &Call, row: &Stopped) -> Result<(), AllocError>
+    requires { call.now.base ≡ 0 }
+{
+    let limits = passing(row.image, row.out, row.log);
+    let told = most(row.lines, row.log);
+    let applied = apply_within(alloc, call, &limits)?;
+    let sent = match row.out {
+        ALL => applied.out.count,
+        most => most as usize,
+    };
+    let wanted = ended_by(&applied, row.failures, sent, told);
+    expect_ending(rt, &applied, &wanted, row.lines, told);
+    if row.out == ALL {
+        let checked = check_within(alloc, call, &limits)?;
+        let wanted = ended_by(&checked, row.failures, 0, told);
+        expect_ending(rt, &checked, &wanted, row.lines, told);
     }
     Ok(())
 }
 
-/// The output fails at once, and the log in the line that says so; then nothing fails after the last byte of each.
 #[test]
-fn the_log_fails_in_the_line_of_a_fault(rt: HostRuntime) -> Result<(), Fail> {
-    let image = image_of(rt.alloc(), &[Zeros(0), Zeros(1), Zeros(2)])?;
-    let patched = image_of(rt.alloc(), &[Zeros(0), Filled(1, 0, 1, 65), Zeros(2)])?;
-    let script = script_of(rt.alloc(), "cdpatch 1\nset 1 0 41\n")?;
-    let call = Call {
-        image: &image,
-        script: &script,
-        base: 0,
-        carry: false,
-        out: &patched,
-        log: WRITE_LINE.as_bytes(),
-    };
+fn one_of_the_three_fails(rt: HostRuntime) -> Result<(), Fail> {
+    let parts = make_parts(rt.alloc())?;
+    for row in STOPPED {
+        stops(&rt, rt.alloc(), &parts.call(row.lines), row)?;
+    }
+    Ok(())
+}
+
+/// The output fails at once, and the log after so many bytes of the line that says so.
+fn both_fail(rt: &impl Abort, alloc: Global, call: &Call, count: usize) -> Result<(), AllocError>
+    requires { call.now.base ≡ 0 }
+{
     let both = Failures {
         image: 0,
         out: 1,
         log: 1,
     };
+    let ended = apply_within(alloc, call, &passing(ALL, 0, count as u64))?;
+    let wanted = ended_by(&ended, both, 0, count);
+    expect_ending(rt, &ended, &wanted, WRITE_LINE, count);
+    Ok(())
+}
+
+/// Nothing fails after the last byte of each.
+fn none_fails(rt: &impl Abort, alloc: Global, call: &Call) -> Result<(), AllocError>
+    requires { call.now.base ≡ 0 }
+{
+    let ended = apply_within(alloc, call, &passing(7057, 7057, 37))?;
+    let due = done(Answer::Status(0), call, 7056);
+    expect_ending(rt, &ended, &due, LOG, 0);
+    Ok(())
+}
+
+#[test]
+fn the_log_fails_in_the_line_of_a_fault(rt: HostRuntime) -> Result<(), Fail> {
+    let parts = make_parts(rt.alloc())?;
     for count in 0..35usize {
-        let limits = passing(ALL, 0, count as u64);
-        let ended = apply_within::<InProgram>(rt.alloc(), &call, &limits)?;
-        assert_eq!(rt; ended, ended_by(&ended, both, 0, count), "{count}");
+        both_fail(&rt, rt.alloc(), &parts.call(WRITE_LINE), count)?;
     }
-    let call = Call {
-        log: LOG.as_bytes(),
-        ..call
-    };
-    let ended = apply_within::<InProgram>(rt.alloc(), &call, &passing(7057, 7057, 37))?;
-    assert_eq!(rt; ended, done(0, &call, 7056));
+    none_fails(&rt, rt.alloc(), &parts.call(LOG))?;
     Ok(())
 }
 
@@ -263,6 +303,7 @@ fn a_byte_too_many(rt: HostRuntime) -> Result<(), Fail> {
     let status = run_check(&mut image, &script, 0, false, &mut log);
     let count = log.written().len();
     let told = written_in(&lines, count, TOO_LONG.as_bytes());
-    assert_eq!(rt; (status, told), (2, Written::right(TOO_LONG.len())));
+    expect_status(&rt, status, 2, TOO_LONG);
+    expect_text(&rt, &told, TOO_LONG);
     Ok(())
 }

@@ -1,9 +1,9 @@
 //! Listings and audits: one row for each status, and one for each line of a fault after what went out.
 
-use super::calls::{Audits, Lists};
+use super::calls::{audit_of, expect_reported, list_of};
 use cd_image::{FailAfter, MAX_BASE, SliceSource, ZeroSource};
 use cd_test_images::Sample::{self, Damaged, Zeros};
-use cd_test_images::{ALL, Limit, NO_LIMIT, Reported, Written, image_of, report_of};
+use cd_test_images::{ALL, Answer, Limit, NO_LIMIT, Reported, Written, image_of};
 use std::alloc::AllocError;
 use std::process::Abort;
 
@@ -26,13 +26,13 @@ fn expect_lists(rt: &impl Abort, rows: &[Listing]) {
             all: row.taken,
             ..NO_LIMIT
         };
-        let listed = report_of::<Lists, _>(&mut image, 0, &limit, row.text);
+        let listed = list_of(&mut image, &limit, row.text);
         let wanted = Reported {
-            answer: row.status,
+            answer: Answer::Status(row.status),
             finished: listed.finished,
             text: Written::right(row.text.len()),
         };
-        assert_eq!(rt; listed, wanted, "{}", row.text);
+        expect_reported(rt, &listed, &wanted, row.text);
     }
 }
 
@@ -125,13 +125,13 @@ fn audits(rt: HostRuntime) -> Result<(), AllocError> {
         let image = image_of(rt.alloc(), row.image)?;
         let mut image = FailAfter::new(SliceSource::new(&image), row.read);
         assert!(rt; row.base <= MAX_BASE);
-        let audited = report_of::<Audits, _>(&mut image, row.base, &NO_LIMIT, row.text);
+        let audited = audit_of(&mut image, row.base, row.text);
         let wanted = Reported {
-            answer: row.status,
+            answer: Answer::Status(row.status),
             finished: audited.finished,
             text: Written::right(row.text.len()),
         };
-        assert_eq!(rt; audited, wanted, "{}", row.text);
+        expect_reported(&rt, &audited, &wanted, row.text);
     }
     Ok(())
 }

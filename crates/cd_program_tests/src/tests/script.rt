@@ -3,12 +3,21 @@
 ghost use Rattle.std.specs.Prelude.{◌<◌};
 ghost use Rattle.cd_stream.specs.Stream.{MayCount};
 
+use super::calls::expect_text;
 use cd_image::{FailAfter, Short, Sink, SliceSink, SliceSource, Source, ZeroSource};
 use cd_jobs::{load_script, read_script};
-use cd_script::MAX_TEXT;
-use cd_test_images::{ALL, UNTOUCHED, Written, is_front, is_text, repeated, written_in};
+use cd_script::{MAX_BYTES, MAX_PATCHES, MAX_TEXT, Patch};
+use cd_test_images::{ALL, UNTOUCHED, is_front, is_text, repeated, written_in};
 use std::alloc::{AllocError, Global};
 use std::process::Abort;
+
+/// A status, whether the log is finished, and how often what may fail has failed.
+type Ends = (Option<u8>, bool, u32);
+
+/// A reading has ended so, which has this line.
+fn expect_ends(rt: &impl Abort, came: Ends, due: Ends, line: &str) {
+    assert_eq!(rt; came, due, "{line}");
+}
 
 /// A text that is read as a script: it gives its line, none where it is one, and then the status 2.
 fn expect_line(rt: &impl Abort, alloc: Global, text: &[u8], line: &str) {
@@ -19,9 +28,9 @@ fn expect_line(rt: &impl Abort, alloc: Global, text: &[u8], line: &str) {
     let ends = (status, log.finished(), log.failures());
     let count = log.written().len();
     let want = if line.is_empty() { None } else { Some(2) };
-    assert_eq!(rt; ends, (want, want.is_some(), 0), "the status of {line}");
+    expect_ends(rt, ends, (want, want.is_some(), 0), line);
     let told = written_in(&space, count, line.as_bytes());
-    assert_eq!(rt; told, Written::right(line.len()), "{line}");
+    expect_text(rt, &told, line);
 }
 
 const BAD_ADDRESS: &str = "script line 2: bad address\n";
@@ -87,6 +96,9 @@ fn faults_have_their_lines(rt: HostRuntime) {
     }
 }
 
+/// As many hex digits as new bytes may have.
+const MOST_DIGITS: u32 = 2 * MAX_BYTES as u32;
+
 /// A text, and so many copies of a part after it, and the line that they give.
 #[derive(Clone, Copy)]
 struct Long {
@@ -102,19 +114,19 @@ fn long_scripts(rt: HostRuntime) -> Result<(), AllocError> {
         Long {
             front: "cdpatch 1\nset 0 0 ",
             part: "0",
-            count: 8192,
+            count: MOST_DIGITS,
             line: "",
         },
         Long {
             front: "cdpatch 1\nset 0 0 ",
             part: "0",
-            count: 8193,
+            count: MOST_DIGITS + 1,
             line: "script line 2: bad hex\n",
         },
         Long {
             front: "cdpatch 1\nset 0 0 ",
             part: "0",
-            count: 8194,
+            count: MOST_DIGITS + 2,
             line: "script line 2: bad length\n",
         },
         Long {
@@ -123,23 +135,22 @@ fn long_scripts(rt: HostRuntime) -> Result<(), AllocError> {
             count: 1_000_000,
             line: "script line 2: wrong number of words\n",
         },
-        Long {
-            front: "cdpatch 1\n",
-            part: "rebuild 0\n",
-            count: 65_535,
-            line: "",
-        },
-        Long {
-            front: "cdpatch 1\n",
-            part: "rebuild 0\n",
-            count: 65_536,
-            line: "script line 65537: more than 65535 patches\n",
-        },
     ];
     for row in ROWS {
         let text = repeated(rt.alloc(), row.front, row.part, row.count, "")?;
         expect_line(&rt, rt.alloc(), text.as_bytes(), row.line);
     }
+    Ok(())
+}
+
+#[test]
+fn as_many_patches_as_there_may_be(rt: HostRuntime) -> Result<(), AllocError> {
+    let count = MAX_PATCHES as u32;
+    let text = repeated(rt.alloc(), "cdpatch 1\n", "rebuild 0\n", count, "")?;
+    expect_line(&rt, rt.alloc(), text.as_bytes(), "");
+    let text = repeated(rt.alloc(), "cdpatch 1\n", "rebuild 0\n", count + 1, "")?;
+    let line = format!(in rt.alloc(); "script line {}: more than {count} patches\n", count + 2)?;
+    expect_line(&rt, rt.alloc(), text.as_bytes(), &line);
     Ok(())
 }
 
@@ -161,19 +172,38 @@ fn as_many_lines_as_there_may_be(rt: HostRuntime) -> Result<(), AllocError> {
     expect_longest(&rt, rt.alloc(), b'\n', line)
 }
 
+/// The lines of three patches.
+fn three_lines(patches: &[Patch]) -> Option<[u32; 3]> {
+    match patches {
+        [first, second, third] => Some([first.line, second.line, third.line]),
+        _ => None,
+    }
+}
+
 #[test]
 fn patches_are_in_order(rt: HostRuntime) {
     let mut space = [0; 8];
     let text = b"cdpatch 1\nset 5 0 41\nset 4 2047 4242\nset 5 1 43\n";
     let answer = read_script(rt.alloc(), text, &mut SliceSink::new(&mut space));
-    let Ok(script) = &answer else {
-        panic!(rt; "no script");
+    let lines = match &answer {
+        Ok(script) => three_lines(script.patches()),
+        Err(_) => None,
     };
-    let [first, second, third] = script.patches() else {
-        panic!(rt; "not three patches");
-    };
-    assert_eq!(rt; [first.line, second.line, third.line], [3, 2, 4]);
+    assert_eq!(rt; lines, Some([3, 2, 4]));
     assert!(rt; is_text(&space, ""), "a line was written");
+}
+
+/// A reading has ended by the status 2, and its log has failed once, after so many bytes of a line.
+fn expect_failed_log(
+    rt: &impl Abort,
+    status: Option<u8>,
+    failures: u32,
+    space: &[u8],
+    line: &str,
+    count: usize,
+) {
+    assert_eq!(rt; (status, failures), (Some(2), 1), "{count} of {line}");
+    assert!(rt; is_front(space, line, count), "{count} of {line}");
 }
 
 /// A log that passes so many bytes alone: they are the front of the line. The last passes all, and fails to finish.
@@ -185,8 +215,8 @@ fn a_log_that_fails(rt: HostRuntime) {
         let mut space = [0; 64];
         let mut log = FailAfter::new(SliceSink::new(&mut space), count as u64);
         let status = read_script(rt.alloc(), TEXT, &mut log).err();
-        assert_eq!(rt; (status, log.failures()), (Some(2), 1), "{count}");
-        assert!(rt; is_front(&space, LINE, count), "the line, {count}");
+        let failures = log.failures();
+        expect_failed_log(&rt, status, failures, &space, LINE, count);
     }
 }
 
@@ -195,10 +225,11 @@ fn expect_loaded<I: Source>(rt: &impl Abort, alloc: Global, file: &mut I, bytes:
     requires { MayCount (I.seen file.old).failures }
 {
     let mut space = [0; 64];
-    let Ok(loaded) = load_script(alloc, file, &mut SliceSink::new(&mut space)) else {
-        panic!(rt; "not loaded");
+    let is_loaded = match load_script(alloc, file, &mut SliceSink::new(&mut space)) {
+        Ok(loaded) => loaded.as_slice() == bytes,
+        Err(_) => false,
     };
-    assert_eq!(rt; loaded.as_slice(), bytes);
+    assert!(rt; is_loaded, "other bytes, or a status");
     assert!(rt; is_text(&space, ""), "a line was written");
 }
 
@@ -221,6 +252,11 @@ struct File {
     line: &'static str,
 }
 
+/// So many bytes have been read, or none.
+fn expect_size(rt: &impl Abort, came: Option<usize>, due: Option<usize>) {
+    assert_eq!(rt; came, due);
+}
+
 fn expect_files(rt: &impl Abort, alloc: Global, rows: &[File]) {
     for row in rows {
         let mut space = [UNTOUCHED; 64];
@@ -230,13 +266,14 @@ fn expect_files(rt: &impl Abort, alloc: Global, rows: &[File]) {
             Ok(bytes) => Ok(bytes.len()),
             Err(status) => Err(status),
         };
-        let ends = (loaded, log.finished(), file.failures());
+        let ends = (loaded.err(), log.finished(), file.failures());
         let failures = u32::from(row.read <= row.size);
         let count = log.written().len();
-        let wanted = (row.loaded, row.loaded.is_err(), failures);
-        assert_eq!(rt; ends, wanted, "{} of {}", row.read, row.size);
+        let wanted = (row.loaded.err(), row.loaded.is_err(), failures);
+        expect_ends(rt, ends, wanted, row.line);
+        expect_size(rt, loaded.ok(), row.loaded.ok());
         let told = written_in(&space, count, row.line.as_bytes());
-        assert_eq!(rt; told, Written::right(row.line.len()), "{}", row.line);
+        expect_text(rt, &told, row.line);
     }
 }
 
@@ -268,9 +305,9 @@ fn the_longest_file(rt: HostRuntime) {
         &rt,
         rt.alloc(),
         &[File {
-            size: 67_108_864,
+            size: MAX_TEXT as u64,
             read: ALL,
-            loaded: Ok(67_108_864),
+            loaded: Ok(MAX_TEXT),
             line: "",
         }],
     );
@@ -283,7 +320,7 @@ fn a_byte_too_many(rt: HostRuntime) {
         &rt,
         rt.alloc(),
         &[File {
-            size: 67_108_865,
+            size: MAX_TEXT as u64 + 1,
             read: ALL,
             loaded: Err(2),
             line: TOO_LONG,
@@ -335,6 +372,6 @@ fn a_file_that_fails_and_a_full_log(rt: HostRuntime) {
     let mut log = SliceSink::new(&mut space);
     let mut file = FailAfter::new(ZeroSource::new(1), 0);
     let status = load_script(rt.alloc(), &mut file, &mut log).err();
-    assert_eq!(rt; (status, log.failures()), (Some(2), 1));
-    assert!(rt; is_text(&space, "cdpatch: c"), "the line");
+    let failures = log.failures();
+    expect_failed_log(&rt, status, failures, &space, "cdpatch: c", 10);
 }

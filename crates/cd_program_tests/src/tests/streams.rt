@@ -1,9 +1,9 @@
 //! Listings and audits of readers of std, and to writers of std, that fail.
 
-use super::calls::Lists;
+use super::calls::list_of;
 use cd_image::{FailAfter, FromRead, ToWrite, ZeroSource};
 use cd_jobs::{run_audit, run_list};
-use cd_test_images::{NO_LIMIT, Written, report_of};
+use cd_test_images::{Answer, NO_LIMIT, Written};
 use std::io::{self, ErrorKind, Read, Write};
 
 /// A writer that takes all, and cannot pass it on, as on a full disk.
@@ -51,16 +51,16 @@ impl Read for Nothing {
 fn a_failed_read_and_an_end(rt: HostRuntime) {
     let mut failing = FromRead::new(Nothing { fails: true });
     let line = "cdpatch: reading the image failed\n";
-    let failed = report_of::<Lists, _>(&mut failing, 0, &NO_LIMIT, line);
+    let failed = list_of(&mut failing, &NO_LIMIT, line);
     assert_eq!(rt;
         (failed.answer, failed.text),
-        (2, Written::right(line.len()))
+        (Answer::Status(2), Written::right(line.len()))
     );
     let mut ended = FromRead::new(Nothing { fails: false });
     let text = "sectors 0 tail 0\n";
-    let listed = report_of::<Lists, _>(&mut ended, 0, &NO_LIMIT, text);
+    let listed = list_of(&mut ended, &NO_LIMIT, text);
     assert_eq!(rt;
         (listed.answer, listed.text),
-        (0, Written::right(text.len()))
+        (Answer::Status(0), Written::right(text.len()))
     );
 }

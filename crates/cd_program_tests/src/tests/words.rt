@@ -1,8 +1,10 @@
 //! Words, on real files in a folder of each test's own, and a sink of the test's own.
 
+use super::calls::expect_status;
 use super::command_line::words_of;
 use cd_image::SliceSink;
 use cd_jobs::{System, do_words};
+use cd_script::MAX_PATCHES;
 use cd_test_images::Sample::{self, Filled, Mode, Zeros};
 use cd_test_images::{UNTOUCHED, Written, image_of, repeated, written_in};
 use std::alloc::{AllocError, Global};
@@ -57,10 +59,10 @@ type Left = &'static [(&'static str, Option<Content>)];
 
 /// Words, of which those after a `@` name files of the folder, their status, what they print, and what is then there.
 #[derive(Clone, Copy)]
-struct Row {
+struct Row<'a> {
     words: &'static str,
     status: u8,
-    text: &'static str,
+    text: &'a str,
     left: Left,
 }
 
@@ -90,6 +92,13 @@ enum Wrong {
     },
 }
 
+/// The path of a test's folder.
+fn folder_of(rt: &HostRuntime, name: &str) -> Result<PathBuf, Fail> {
+    let id = process::id(rt.process());
+    let name = format!(in rt.alloc(); "cdpatch-{name}-{id}")?;
+    Ok(env::temp_dir(rt)?.join(rt.alloc(), name)?)
+}
+
 /// A folder of a test's own, with an image of three sectors, a script of one patch, and a link to nothing.
 #[derive(Drop)]
 struct Scratch {
@@ -98,9 +107,7 @@ struct Scratch {
 
 impl Scratch {
     fn make(rt: &HostRuntime, name: &str) -> Result<Self, Fail> {
-        let id = process::id(rt.process());
-        let name = format!(in rt.alloc(); "cdpatch-{name}-{id}")?;
-        let folder = env::temp_dir(rt)?.join(rt.alloc(), name)?;
+        let folder = folder_of(rt, name)?;
         fs::create_dir(rt, &folder)?;
         let scratch = Scratch { folder };
         symlink(rt, "nothing", scratch.path(rt, "dangling")?)?;
@@ -138,20 +145,31 @@ impl Scratch {
         })
     }
 
+    /// A word, or the path of the file that it names.
+    fn word(&self, rt: &HostRuntime, word: &str) -> Result<String, AllocError> {
+        match word.strip_prefix('@') {
+            Some(name) => String::from_str(rt.alloc(), self.path(rt, name)?.as_str()),
+            None => String::from_str(rt.alloc(), word),
+        }
+    }
+
     /// The words, with the paths of those that name files.
     fn words(&self, rt: &HostRuntime, words: &str) -> Result<Vec<String>, AllocError> {
         let mut all = Vec::new(rt.alloc());
         for word in words.split_whitespace() {
-            all.push(match word.strip_prefix('@') {
-                Some(name) => String::from_str(rt.alloc(), self.path(rt, name)?.as_str())?,
-                None => String::from_str(rt.alloc(), word)?,
-            })?;
+            all.push(self.word(rt, word)?)?;
         }
         Ok(all)
     }
 
     /// Gives a row's words to the program.
     fn expect(&self, rt: &HostRuntime, row: &Row) -> Result<(), Fail> {
+        self.expect_printed(rt, row)?;
+        self.expect_left(rt, row)
+    }
+
+    /// What a row's words print, and their status.
+    fn expect_printed(&self, rt: &HostRuntime, row: &Row) -> Result<(), Fail> {
         let words = self.words(rt, row.words)?;
         let mut space = [UNTOUCHED; 256];
         let mut out = SliceSink::new(&mut space);
@@ -166,10 +184,30 @@ impl Scratch {
                 printed,
             }));
         }
+        Ok(())
+    }
+
+    /// What a row's words leave in the folder.
+    fn expect_left(&self, rt: &HostRuntime, row: &Row) -> Result<(), Fail> {
+        let words = row.words;
         for (name, content) in row.left {
             if !self.has(rt, name, content)? {
                 return Err(Fail::from(Wrong::File { words, name }));
             }
+        }
+        Ok(())
+    }
+
+    /// Gives words to the program that are refused, and leave this.
+    fn expect_refused(&self, rt: &HostRuntime, refused: &Refused, left: Left) -> Result<(), Fail> {
+        for words in refused.words {
+            let row = Row {
+                words,
+                status: 2,
+                text: refused.text,
+                left,
+            };
+            self.expect(rt, &row)?;
         }
         Ok(())
     }
@@ -189,10 +227,10 @@ fn expect_rows(rt: &HostRuntime, name: &str, files: Files, rows: &[Row]) -> Resu
     scratch.remove(rt)
 }
 
-/// Words that are refused with the status 2 and this text, and leave no output.
+/// Words that are refused with the status 2 and this text.
 #[derive(Clone, Copy)]
-struct Refused {
-    text: &'static str,
+struct Refused<'a> {
+    text: &'a str,
     words: &'static [&'static str],
 }
 
@@ -204,16 +242,8 @@ fn expect_refused(
 ) -> Result<(), Fail> {
     let scratch = Scratch::make(rt, name)?;
     scratch.put(rt, files)?;
-    for Refused { text, words } in refused {
-        for words in *words {
-            let row = Row {
-                words,
-                status: 2,
-                text,
-                left: NO_OUT,
-            };
-            scratch.expect(rt, &row)?;
-        }
+    for row in refused {
+        scratch.expect_refused(rt, row, NO_OUT)?;
     }
     scratch.remove(rt)
 }
@@ -296,17 +326,18 @@ fn patching_of_files(rt: HostRuntime) -> Result<(), Fail> {
 
 #[test]
 fn scripts_that_are_refused(rt: HostRuntime) -> Result<(), Fail> {
+    const MOST: u32 = MAX_PATCHES as u32;
     const LONG: &str = "cdpatch: the script is longer than 67108864 bytes\n";
     const WRONG: &str = "script line 2: bad hex\n";
     const EMPTY: &str = "script line 1: no cdpatch 1 line\n";
-    const MANY: &str = "script line 65537: more than 65535 patches\n";
     const FILES: Files = &[
         ("long", Blank(67_108_865)),
         ("wrong", Text("cdpatch 1\nset 1 0 4\n")),
         ("empty", Text("")),
-        ("many", Repeated("cdpatch 1\n", "rebuild 0\n", 65_536)),
+        ("many", Repeated("cdpatch 1\n", "rebuild 0\n", MOST + 1)),
     ];
-    const REFUSED: &[Refused] = &[
+    let many = format!(in rt.alloc(); "script line {}: more than {} patches\n", MOST + 2, MOST)?;
+    let refused = [
         Refused {
             text: NO_SCRIPT,
             words: &[
@@ -331,11 +362,11 @@ fn scripts_that_are_refused(rt: HostRuntime) -> Result<(), Fail> {
             words: &["check @image @empty", "apply @missing @empty @out"],
         },
         Refused {
-            text: MANY,
+            text: &many,
             words: &["check @image @many", "apply @missing @many @out"],
         },
     ];
-    expect_refused(&rt, "scripts", FILES, REFUSED)
+    expect_refused(&rt, "scripts", FILES, &refused)
 }
 
 #[test]
@@ -386,15 +417,11 @@ fn outputs_that_are_refused(rt: HostRuntime) -> Result<(), Fail> {
     ];
     let scratch = Scratch::make(&rt, "outputs")?;
     scratch.put(&rt, FILES)?;
-    for words in WORDS {
-        let row = Row {
-            words,
-            status: 2,
-            text: NO_OUTPUT,
-            left: LEFT,
-        };
-        scratch.expect(&rt, &row)?;
-    }
+    let refused = Refused {
+        text: NO_OUTPUT,
+        words: WORDS,
+    };
+    scratch.expect_refused(&rt, &refused, LEFT)?;
     scratch.remove(&rt)
 }
 
@@ -404,6 +431,16 @@ struct Printed {
     words: &'static str,
     status: u8,
     part: &'static str,
+}
+
+/// The status of a row's words, and whether its text stands in what they print.
+fn ended_by(rt: &HostRuntime, row: &Printed) -> Result<(u8, bool), AllocError> {
+    let words = words_of(rt.alloc(), row.words)?;
+    let mut space = [0; 4096];
+    let mut out = SliceSink::new(&mut space);
+    let status = do_words(rt.alloc(), &mut System::new(rt), words, &mut out);
+    let text = str::from_utf8(&space).unwrap_or("");
+    Ok((status, text.contains(row.part)))
 }
 
 #[test]
@@ -436,13 +473,9 @@ fn words_that_ask_for_no_job(rt: HostRuntime) -> Result<(), AllocError> {
         },
     ];
     for row in ROWS {
-        let mut space = [0; 4096];
-        let mut out = SliceSink::new(&mut space);
-        let words = words_of(rt.alloc(), row.words)?;
-        let status = do_words(rt.alloc(), &mut System::new(&rt), words, &mut out);
-        let text = str::from_utf8(&space).unwrap_or("");
-        assert_eq!(rt; status, row.status, "{}", row.words);
-        assert!(rt; text.contains(row.part), "{} prints {text}", row.words);
+        let (status, is_there) = ended_by(&rt, row)?;
+        expect_status(&rt, status, row.status, row.words);
+        assert!(rt; is_there, "{} prints no {}", row.words, row.part);
     }
     Ok(())
 }

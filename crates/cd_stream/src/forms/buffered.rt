@@ -30,6 +30,15 @@ impl<S: Sink> Buffered<S> {
     ghost use Rattle.cd_stream.specs.Transfer.{Writes};
 
     /// Stands over `inner`, and holds back at most as many bytes as `space` has.
+    ///
+    /// # Examples
+    ///
+    /// ```
+    /// let mut memory = [0; 4];
+    /// let mut sink = Buffered::new(SliceSink::new(&mut memory), vec![in rt.alloc(); 0; 8]?);
+    /// assert_eq!(rt; sink.write(b"abcde"), Ok(5)); // it holds them back
+    /// assert_eq!(rt; sink.finish(), Err(SinkFailed)); // below there is no room for the last
+    /// ```
     pub fn new(inner: S, space: Vec<u8>) -> Self
         ensures seen { ⟦<Buffered<S> as Sink>⟧.seen result
             ≡ record (S.seen inner) { finished = false } }

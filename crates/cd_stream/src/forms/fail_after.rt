@@ -22,6 +22,15 @@ impl<S> FailAfter<S> {
     ghost use Rattle.cd_stream.specs.Forms.{still_passes};
 
     /// Stands over `inner`, and passes `count` bytes.
+    ///
+    /// # Examples
+    ///
+    /// ```
+    /// let mut space = [0; 4];
+    /// let mut sink = FailAfter::new(SliceSink::new(&mut space), 2);
+    /// assert_eq!(rt; write_all(&mut sink, b"abc"), Err(SinkFailed)); // from the third byte on
+    /// assert_eq!(rt; sink.get_ref().written(), b"ab".as_slice());
+    /// ```
     pub fn new(inner: S, count: u64) -> Self
         ensures over { fails_over result ≡ inner }
         ensures limit { still_passes result ≡ count }
@@ -37,6 +46,8 @@ impl<S> FailAfter<S> {
     }
 
     /// What it stands over.
+    ///
+    /// See the example of [`FailAfter::new`].
     pub fn get_ref(&self) -> &S
         ensures { result.now ≡ fails_over self.now }
     {

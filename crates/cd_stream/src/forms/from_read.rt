@@ -15,6 +15,15 @@ pub struct FromRead<R> {
 
 impl<R: Read> FromRead<R> {
     /// Stands over `reader`.
+    ///
+    /// # Examples
+    ///
+    /// ```
+    /// let mut source = FromRead::new(b"abc".as_slice()); // a slice is a reader
+    /// let mut into = [0; 4];
+    /// assert_eq!(rt; source.read(&mut into), Ok(3));
+    /// assert_eq!(rt; into, *b"abc\0");
+    /// ```
     pub fn new(reader: R) -> Self
         ensures { ⟦<FromRead<R> as Source>⟧.seen result
             ≡ record { rest = R.remaining reader; failures = 0; ended = false } }

@@ -21,6 +21,15 @@ impl<S> Short<S> {
     ghost use Rattle.cd_stream.specs.Forms.{passes_at_most, short_finished, shortens};
 
     /// Stands over `inner`, and passes at most `most` bytes a call: 1 where that is 0.
+    ///
+    /// # Examples
+    ///
+    /// ```
+    /// let mut space = [0; 4];
+    /// let mut sink = Short::new(SliceSink::new(&mut space), 2);
+    /// assert_eq!(rt; sink.write(b"abc"), Ok(2)); // at most 2 bytes a call
+    /// assert_eq!(rt; sink.get_ref().written(), b"ab".as_slice());
+    /// ```
     pub fn new(inner: S, most: usize) -> Self
         ensures over { shortens result ≡ inner }
         ensures most { passes_at_most result ≡ max most 1 }
@@ -34,6 +43,8 @@ impl<S> Short<S> {
     }
 
     /// What it stands over.
+    ///
+    /// See the example of [`Short::new`].
     pub fn get_ref(&self) -> &S
         ensures { result.now ≡ shortens self.now }
     {

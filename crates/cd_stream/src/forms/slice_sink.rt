@@ -20,6 +20,15 @@ impl<'a> SliceSink<'a> {
     ghost use Rattle.cd_stream.specs.Forms.{room_of, slice_written, stands_over, rest_of_slice};
 
     /// Stands over `space`, from its front.
+    ///
+    /// # Examples
+    ///
+    /// ```
+    /// let mut space = [0; 4];
+    /// let mut sink = SliceSink::new(&mut space);
+    /// assert_eq!(rt; sink.write(b"ab"), Ok(2));
+    /// assert_eq!(rt; sink.written(), b"ab".as_slice());
+    /// ```
     pub fn new(space: &'a mut [u8]) -> Self
         ensures seen { ⟦<SliceSink<'a> as Sink>⟧.seen result
             ≡ record { written = Some []; failures = 0; finished = false } }
@@ -36,6 +45,8 @@ impl<'a> SliceSink<'a> {
     }
 
     /// The bytes that were written, in their order: the front of the slice.
+    ///
+    /// See the example of [`SliceSink::new`].
     pub fn written(&self) -> &[u8]
         ensures { result.now ≡ slice_written self.now }
     {

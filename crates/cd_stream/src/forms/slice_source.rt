@@ -13,6 +13,15 @@ pub struct SliceSource<'a> {
 
 impl<'a> SliceSource<'a> {
     /// Stands over `bytes`.
+    ///
+    /// # Examples
+    ///
+    /// ```
+    /// let mut source = SliceSource::new(b"abc");
+    /// let mut into = [0; 2];
+    /// assert_eq!(rt; source.read(&mut into), Ok(2));
+    /// assert_eq!(rt; into, *b"ab");
+    /// ```
     pub fn new(bytes: &'a [u8]) -> Self
         ensures { ⟦<SliceSource<'a> as Source>⟧.seen result
             ≡ record { rest = Some bytes.entry.now; failures = 0; ended = false } }

@@ -15,6 +15,15 @@ pub struct ToWrite<W> {
 
 impl<W: Write> ToWrite<W> {
     /// Stands over `writer`.
+    ///
+    /// # Examples
+    ///
+    /// ```
+    /// let mut bytes = Vec::new(rt.alloc()); // a vector is a writer
+    /// let mut sink = ToWrite::new(&mut bytes);
+    /// assert_eq!(rt; sink.write(b"abc"), Ok(3));
+    /// assert_eq!(rt; bytes.as_slice(), b"abc".as_slice());
+    /// ```
     pub fn new(writer: W) -> Self
         ensures { ⟦<ToWrite<W> as Sink>⟧.seen result
             ≡ record { written = W.contents writer; failures = 0; finished = false } }

@@ -13,6 +13,14 @@ pub struct ZeroSource {
 
 impl ZeroSource {
     /// Gives `count` bytes.
+    ///
+    /// # Examples
+    ///
+    /// ```
+    /// let mut into = [7; 4];
+    /// assert_eq!(rt; fill(&mut ZeroSource::new(3), &mut into), Ok(3));
+    /// assert_eq!(rt; into, [0, 0, 0, 7]);
+    /// ```
     pub fn new(count: u64) -> Self
         ensures { ⟦<ZeroSource as Source>⟧.seen result
             ≡ record { rest = Some (replicate count 0); failures = 0; ended = false } }

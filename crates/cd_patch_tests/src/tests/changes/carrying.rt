@@ -3,7 +3,7 @@
 ghost use Rattle.std.specs.Prelude.{◌+◌, ◌≤◌};
 
 use super::*;
-use cd_sector::{DefectReport, SECTOR_SIZE, defect, encode, same_defect};
+use cd_sector::{EDC, encode, same_defect};
 use cd_test_images::{carried, flipped, mixed_user, with_added, with_bytes};
 
 /// Places in the header, the user data, the EDC, the Intermediate field, and the P and Q parity.
@@ -12,7 +12,7 @@ const PLACES: &[usize] = &[
 ];
 
 /// What is added to the EDC's bytes where the last byte but one of the user data has been `01`.
-const EDC_BYTES: &[(usize, u8)] = &[(2064, 0x00), (2065, 0x90), (2066, 0x01), (2067, 0x90)];
+const EDC_DIFFERENCE: [u8; 4] = [0x00, 0x90, 0x01, 0x90];
 
 const FOUND: DefectReport = DefectReport {
     zeros: false,
@@ -29,13 +29,13 @@ fn the_edc_by_the_words_before_and_after(rt: HostRuntime) {
     let mut s = damaged;
     carry(&rt, &mut s, 2046, &[0x00]);
     let mut wanted = sound;
-    for (place, d) in EDC_BYTES {
-        wanted = with_added(&wanted, *place, *d);
+    for (n, difference) in EDC_DIFFERENCE.iter().enumerate() {
+        wanted = with_added(&wanted, EDC + n, *difference);
     }
-    let is_written = s.bytes()[..2068] == wanted.bytes()[..2068];
-    let is_found = defect(&s) == FOUND && same_defect(&s, &damaged);
+    expect_front(&rt, &s, &wanted.bytes()[..2068], FOUND, 2062);
+    assert!(rt; same_defect(&s, &damaged));
     carry(&rt, &mut s, 2046, &[0x01]);
-    assert!(rt; is_written && is_found && s == damaged);
+    expect_sector(&rt, &s, &damaged, "back");
 }
 
 #[test]
@@ -44,8 +44,26 @@ fn a_flipped_byte_of_q_parity(rt: HostRuntime) {
     let mut s = with_added(&encode(ADDRESS, &user), 2351, 0xFF);
     carry(&rt, &mut s, 0, &[0x41]);
     user[0] = 0x41;
-    assert!(rt; s == with_added(&encode(ADDRESS, &user), 2351, 0xFF));
+    let wanted = with_added(&encode(ADDRESS, &user), 2351, 0xFF);
+    expect_sector(&rt, &s, &wanted, "one byte");
 }
+
+/// What came of a damaged sector that was carried there and back.
+#[derive(Clone, Copy, Debug, PartialEq)]
+struct Carried {
+    /// The first byte that was not that of the sum.
+    wrong_there: Option<usize>,
+    /// Whether the damage was the same there.
+    same_there: bool,
+    /// The first byte that was not the old one again.
+    wrong_back: Option<usize>,
+}
+
+const RIGHT: Carried = Carried {
+    wrong_there: None,
+    same_there: true,
+    wrong_back: None,
+};
 
 /// `len` new bytes written into a damaged sector and then the old ones back again, as the sums say.
 fn carry_there_and_back(rt: &impl Abort, old: &Sector, offset: usize, len: usize)
@@ -55,13 +73,14 @@ fn carry_there_and_back(rt: &impl Abort, old: &Sector, offset: usize, len: usize
     let content = with_bytes(old, 16 + offset, &new[..len]);
     let mut s = *old;
     carry(rt, &mut s, offset as u16, &new[..len]);
-    let is_carried = s == carried(old, &content) && same_defect(&s, old);
-    let is_as_damaged = defect(&s) == defect(old);
+    let there = s;
     carry(rt, &mut s, offset as u16, &old.user()[offset..offset + len]);
-    assert!(rt;
-        is_carried && is_as_damaged && s == *old,
-        "{len} bytes from {offset}"
-    );
+    let came = Carried {
+        wrong_there: wrong_at(&there, &carried(old, &content)),
+        same_there: same_defect(&there, old) && defect(&there) == defect(old),
+        wrong_back: wrong_at(&s, old),
+    };
+    assert_eq!(rt; came, RIGHT, "{len} bytes from {offset}");
 }
 
 /// A damaged byte in each region, with bytes written over it and beside it, few and many.
@@ -88,9 +107,14 @@ fn carry_to_and_back(rt: &impl Abort, old: &Sector, bcd: [u8; 3]) {
     let content = with_bytes(old, 12, &bcd);
     let mut s = *old;
     carry_to(rt, &mut s, bcd);
-    let is_carried = s == carried(old, &content) && same_defect(&s, old);
+    let there = s;
     carry_to(rt, &mut s, [minute, second, fraction]);
-    assert!(rt; is_carried && s == *old);
+    let came = Carried {
+        wrong_there: wrong_at(&there, &carried(old, &content)),
+        same_there: same_defect(&there, old),
+        wrong_back: wrong_at(&s, old),
+    };
+    assert_eq!(rt; came, RIGHT, "{bcd:?}");
 }
 
 #[test]
@@ -132,8 +156,11 @@ fn consistent_sectors(rt: HostRuntime) {
     let (mut one, mut other) = (old, old);
     carry(&rt, &mut one, 0, &new);
     change(&rt, &mut other, 0, &new);
-    assert!(rt; one == encode(ADDRESS, &new) && one == other);
+    expect_sector(&rt, &one, &encode(ADDRESS, &new), "carried user data");
+    expect_sector(&rt, &other, &one, "changed user data");
     carry_to(&rt, &mut one, [0x12, 0x34, 0x56]);
     change_to(&rt, &mut other, [0x12, 0x34, 0x56]);
-    assert!(rt; one == encode([0x12, 0x34, 0x56], &new) && one == other);
+    let due = encode([0x12, 0x34, 0x56], &new);
+    expect_sector(&rt, &one, &due, "carried address");
+    expect_sector(&rt, &other, &due, "changed address");
 }

@@ -1,5 +1,5 @@
 use super::*;
-use cd_sector::{DefectReport, defect, encode};
+use cd_sector::encode;
 use cd_test_images::{mixed_user, with_added, with_bytes};
 
 const BEFORE: &[[u8; 3]] = &[[0x00, 0x02, 0x00], [0x99, 0x59, 0x74], [0xFF, 0xFF, 0xFF]];
@@ -21,10 +21,54 @@ fn encoded_sectors(rt: HostRuntime) {
         for after in AFTER {
             let mut s = encode(*before, &user);
             change_to(&rt, &mut s, *after);
-            assert!(rt; s == encode(*after, &user));
+            let wrong = wrong_at(&s, &encode(*after, &user));
+            assert_eq!(rt; wrong, None, "{before:?} to {after:?}");
         }
     }
 }
+
+/// A difference that is added to the byte at a place.
+#[derive(Clone, Copy)]
+struct Damage {
+    place: usize,
+    difference: u8,
+}
+
+/// Places in each region of a sector.
+const DAMAGE: &[Damage] = &[
+    Damage {
+        place: 12,
+        difference: 0x10,
+    },
+    Damage {
+        place: 16,
+        difference: 0x01,
+    },
+    Damage {
+        place: 2063,
+        difference: 0x80,
+    },
+    Damage {
+        place: 2064,
+        difference: 0x01,
+    },
+    Damage {
+        place: 2068,
+        difference: 0xFF,
+    },
+    Damage {
+        place: 2075,
+        difference: 0x02,
+    },
+    Damage {
+        place: 2076,
+        difference: 0x01,
+    },
+    Damage {
+        place: 2351,
+        difference: 0x01,
+    },
+];
 
 /// Another address leaves the damage in the parity, and each byte of the sync field, mode and user data.
 fn leaves_damage(rt: &impl Abort, old: &Sector, place: usize) {
@@ -32,30 +76,18 @@ fn leaves_damage(rt: &impl Abort, old: &Sector, place: usize) {
     change_to(rt, &mut s, [0x01, 0x23, 0x45]);
     let front = with_bytes(old, 12, &[0x01, 0x23, 0x45]);
     let front = with_bytes(&front, 2064, &s.bytes()[2064..2068]);
-    let is_front = s.bytes()[..2076] == front.bytes()[..2076];
     let wanted = DefectReport {
         edc: false,
         ..defect(old)
     };
-    assert!(rt; is_front && defect(&s) == wanted, "byte {place}");
+    expect_front(rt, &s, &front.bytes()[..2076], wanted, place);
 }
-
-/// Places in each region of a sector, and what is added to the byte there.
-const DAMAGE: &[(usize, u8)] = &[
-    (12, 0x10),
-    (16, 0x01),
-    (2063, 0x80),
-    (2064, 0x01),
-    (2068, 0xFF),
-    (2075, 0x02),
-    (2076, 0x01),
-    (2351, 0x01),
-];
 
 #[test]
 fn damaged_sectors(rt: HostRuntime) {
     let sound = encode(ADDRESS, &mixed_user(7));
-    for (place, d) in DAMAGE {
-        leaves_damage(&rt, &with_added(&sound, *place, *d), *place);
+    for damage in DAMAGE {
+        let old = with_added(&sound, damage.place, damage.difference);
+        leaves_damage(&rt, &old, damage.place);
     }
 }

@@ -1,7 +1,7 @@
 ghost use Rattle.std.specs.Prelude.{◌+◌, ◌<◌, ◌≤◌};
 
 use super::*;
-use cd_sector::{DefectReport, defect, encode};
+use cd_sector::encode;
 use cd_test_images::flipped;
 
 /// A xorshift generator.
@@ -51,8 +51,13 @@ fn only_the_edc_of_a_damaged_sector(rt: HostRuntime) {
     let sound = encode(ADDRESS, &[0; 2048]);
     let mut s = flipped(&sound, 2064);
     change(&rt, &mut s, 0, &[]);
-    let is_mended = s.bytes()[..2068] == sound.bytes()[..2068];
-    assert!(rt; is_mended && defect(&s) == PARITY_ALONE);
+    expect_front(&rt, &s, &sound.bytes()[..2068], PARITY_ALONE, 2064);
+}
+
+/// Asserts that a sector into which so many bytes were written is the one that is encoded with this user data.
+fn expect_user(rt: &impl Abort, s: &Sector, user: &[u8; 2048], offset: usize, len: usize) {
+    let wrong = wrong_at(s, &encode(ADDRESS, user));
+    assert_eq!(rt; wrong, None, "{len} bytes from {offset}");
 }
 
 #[test]
@@ -61,12 +66,19 @@ fn the_last_user_byte(rt: HostRuntime) {
     let mut s = encode(ADDRESS, &user);
     change(&rt, &mut s, 2047, &[0x41]);
     user[2047] = 0x41;
-    assert!(rt; s == encode(ADDRESS, &user));
+    expect_user(&rt, &s, &user, 2047, 1);
 }
 
-/// A range of the user data, of which half are short.
-fn range(random: &mut Random) -> (usize, usize)
-    ensures { result.0 + result.1 ≤ 2048 }
+/// So many bytes of the user data, from an offset on.
+#[derive(Clone, Copy)]
+struct Span {
+    offset: usize,
+    len: usize,
+}
+
+/// A random span of the user data; half of them are short.
+fn random_span(random: &mut Random) -> Span
+    ensures { result.offset + result.len ≤ 2048 }
 {
     let offset = random.below(2049);
     let most = if random.below(2) == 0 && offset < 1900 {
@@ -74,7 +86,8 @@ fn range(random: &mut Random) -> (usize, usize)
     } else {
         2048 - offset
     };
-    (offset, random.below(most + 1))
+    let len = random.below(most + 1);
+    Span { offset, len }
 }
 
 #[test]
@@ -82,12 +95,12 @@ fn ranges_of_encoded_sectors(rt: HostRuntime) {
     let mut random = Random { state: 0x2545_F491 };
     let mut user = random.bytes();
     for _round in 0..60u8 {
-        let (offset, len) = range(&mut random);
+        let Span { offset, len } = random_span(&mut random);
         let new = random.bytes();
         let mut s = encode(ADDRESS, &user);
         change(&rt, &mut s, offset as u16, &new[..len]);
         user[offset..offset + len].copy_from_slice(&new[..len]);
-        assert!(rt; s == encode(ADDRESS, &user), "{len} bytes from {offset}");
+        expect_user(&rt, &s, &user, offset, len);
     }
 }
 
@@ -99,7 +112,7 @@ fn change_against_encode(rt: &impl Abort, old: &[u8; 2048], new: &[u8; 2048], le
     user[1..1 + len].copy_from_slice(&new[..len]);
     let mut s = encode(ADDRESS, old);
     change(rt, &mut s, 1, &new[..len]);
-    assert!(rt; s == encode(ADDRESS, &user), "{len} bytes");
+    expect_user(rt, &s, &user, 1, len);
 }
 
 #[test]
@@ -133,13 +146,13 @@ fn ranges_of_damaged_sectors(rt: HostRuntime) {
     for round in 0..60usize {
         let mut s = with_damage(&sound, &mut random, round);
         let before = defect(&s);
-        let (offset, len) = range(&mut random);
+        let Span { offset, len } = random_span(&mut random);
         let new = random.bytes();
         change(&rt, &mut s, offset as u16, &new[..len]);
         let wanted = DefectReport {
             edc: false,
             ..before
         };
-        assert!(rt; defect(&s) == wanted, "round {round}");
+        assert_eq!(rt; defect(&s), wanted, "round {round}");
     }
 }

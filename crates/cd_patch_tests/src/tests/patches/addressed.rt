@@ -1,62 +1,109 @@
-use super::made::Made::{Added, Addressed, Old};
 use super::*;
+use cd_test_images::Sample::{MixedAddressed, MixedDamaged};
 
-const ADDRESSES: &[(&str, [u8; 3])] = &[
-    ("cdpatch 2\naddress 4 00:02:04\n", [0x00, 0x02, 0x04]),
-    ("cdpatch 2\naddress 4 00:02:05\n", [0x00, 0x02, 0x05]),
-    ("cdpatch 2\naddress 4 00:00:00\n", [0x00, 0x00, 0x00]),
-    ("cdpatch 2\naddress 4 99:59:74\n", [0x99, 0x59, 0x74]),
-    ("cdpatch 2\naddress 4 12:34:56\n", [0x12, 0x34, 0x56]),
+const ADDRESSES: &[Row] = &[
+    Row {
+        script: "cdpatch 2\naddress 4 00:02:04\n",
+        after: &[MixedAddressed([0x00, 0x02, 0x04], 4), Mixed(5)],
+        ..ON_TWO
+    },
+    Row {
+        script: "cdpatch 2\naddress 4 00:02:05\n",
+        after: &[MixedAddressed([0x00, 0x02, 0x05], 4), Mixed(5)],
+        ..ON_TWO
+    },
+    Row {
+        script: "cdpatch 2\naddress 4 00:00:00\n",
+        after: &[MixedAddressed([0x00, 0x00, 0x00], 4), Mixed(5)],
+        ..ON_TWO
+    },
+    Row {
+        script: "cdpatch 2\naddress 4 99:59:74\n",
+        after: &[MixedAddressed([0x99, 0x59, 0x74], 4), Mixed(5)],
+        ..ON_TWO
+    },
+    Row {
+        script: "cdpatch 2\naddress 4 12:34:56\n",
+        after: &[MixedAddressed([0x12, 0x34, 0x56], 4), Mixed(5)],
+        ..ON_TWO
+    },
 ];
 
 #[test]
 fn addresses(rt: HostRuntime) -> Result<(), Fail> {
-    for (script, address) in ADDRESSES {
-        let row = Taken {
-            script,
-            before: &[Old(4), Old(5)],
-            outcome: Outcome::Applied,
-            after: &[Addressed(*address, 4), Old(5)],
-        };
-        take_each(&rt, rt.alloc(), false, &[row])?;
-    }
-    Ok(())
+    take_each(&rt, rt.alloc(), ADDRESSES)
 }
 
 /// Header bytes that are no BCD are an address like any other, and the next sector is not asked.
+const NO_ADDRESS: Row = Row {
+    script: "cdpatch 2\naddress 4 00:02:04\n",
+    before: &[
+        MixedAddressed([0xFF, 0xAB, 0xCD], 4),
+        MixedDamaged(5, 2351, 0x01),
+    ],
+    outcome: Outcome::Applied,
+    after: &[Mixed(4), MixedDamaged(5, 2351, 0x01)],
+};
+
 #[test]
 fn a_header_that_is_no_address(rt: HostRuntime) -> Result<(), Fail> {
-    take_each(
-        &rt,
-        rt.alloc(),
-        false,
-        &[Taken {
-            script: "cdpatch 2\naddress 4 00:02:04\n",
-            before: &[Addressed([0xFF, 0xAB, 0xCD], 4), Added(5, 2351, 0x01)],
-            outcome: Outcome::Applied,
-            after: &[Old(4), Added(5, 2351, 0x01)],
-        }],
-    )
+    take_each(&rt, rt.alloc(), &[NO_ADDRESS])
 }
 
+const MISSING: Refusal = Refusal {
+    script: "cdpatch 2\naddress 4 00:02:05\n",
+    before: &[],
+    outcome: Outcome::NoBlock(4),
+};
+
+const NOT_MODE_1: Refusal = Refusal {
+    before: &[MixedDamaged(4, 15, 1 ^ 0)],
+    outcome: Outcome::NotMode1(4),
+    ..MISSING
+};
+
+const DAMAGED: Refusal = Refusal {
+    before: &[MixedDamaged(4, 12, 0x01)],
+    outcome: Outcome::Damaged(4),
+    ..MISSING
+};
+
 /// The block is asked as by a patch of its user data: there, of Mode 1, and consistent.
+const REFUSED: &[Refusal] = &[
+    MISSING,
+    NOT_MODE_1,
+    Refusal {
+        before: &[MixedDamaged(4, 15, 1 ^ 2)],
+        ..NOT_MODE_1
+    },
+    Refusal {
+        before: &[MixedDamaged(4, 15, 1 ^ 3)],
+        ..NOT_MODE_1
+    },
+    DAMAGED,
+    Refusal {
+        before: &[MixedDamaged(4, 16, 0x01)],
+        ..DAMAGED
+    },
+    Refusal {
+        before: &[MixedDamaged(4, 2064, 0x01)],
+        ..DAMAGED
+    },
+    Refusal {
+        before: &[MixedDamaged(4, 2068, 0x01)],
+        ..DAMAGED
+    },
+    Refusal {
+        before: &[MixedDamaged(4, 2076, 0x01)],
+        ..DAMAGED
+    },
+    Refusal {
+        before: &[MixedDamaged(4, 2351, 0x01)],
+        ..DAMAGED
+    },
+];
+
 #[test]
 fn refused_addresses(rt: HostRuntime) -> Result<(), Fail> {
-    const SCRIPT: &str = "cdpatch 2\naddress 4 00:02:05\n";
-    refuse_each(
-        &rt,
-        rt.alloc(),
-        &[
-            (SCRIPT, &[], Outcome::NoBlock(4)),
-            (SCRIPT, &[Added(4, 15, 1 ^ 0)], Outcome::NotMode1(4)),
-            (SCRIPT, &[Added(4, 15, 1 ^ 2)], Outcome::NotMode1(4)),
-            (SCRIPT, &[Added(4, 15, 1 ^ 3)], Outcome::NotMode1(4)),
-            (SCRIPT, &[Added(4, 12, 0x01)], Outcome::Damaged(4)),
-            (SCRIPT, &[Added(4, 16, 0x01)], Outcome::Damaged(4)),
-            (SCRIPT, &[Added(4, 2064, 0x01)], Outcome::Damaged(4)),
-            (SCRIPT, &[Added(4, 2068, 0x01)], Outcome::Damaged(4)),
-            (SCRIPT, &[Added(4, 2076, 0x01)], Outcome::Damaged(4)),
-            (SCRIPT, &[Added(4, 2351, 0x01)], Outcome::Damaged(4)),
-        ],
-    )
+    refuse_each(&rt, rt.alloc(), REFUSED)
 }

@@ -1,102 +1,148 @@
-use super::made::Made::{Added, Blank, Old};
 use super::*;
-use cd_test_images::mixed_user;
+use cd_test_images::Sample::{Blank, MixedDamaged};
+
+const DAMAGED_4: Sample = MixedDamaged(4, 2351, 0x01);
+
+const DAMAGED_5: Sample = MixedDamaged(5, 2351, 0x01);
+
+const DAMAGED_6: Sample = MixedDamaged(6, 2351, 0x01);
+
+/// Three blocks are filled, and there is none.
+const FILL: Refusal = Refusal {
+    script: "cdpatch 1\nfill 4 2047 4096 00\n",
+    before: &[],
+    outcome: Outcome::NoBlock(4),
+};
+
+const MISSING: &[Refusal] = &[
+    FILL,
+    Refusal {
+        before: &[Mixed(4)],
+        outcome: Outcome::NoBlock(5),
+        ..FILL
+    },
+    Refusal {
+        before: &[Mixed(4), Mixed(5)],
+        outcome: Outcome::NoBlock(6),
+        ..FILL
+    },
+    Refusal {
+        script: "cdpatch 1\nrebuild 4\n",
+        ..FILL
+    },
+    Refusal {
+        script: "cdpatch 1\nset 999999999 0 AB\n",
+        before: &[],
+        outcome: Outcome::NoBlock(999_999_999),
+    },
+    Refusal {
+        script: "cdpatch 1\nset 999999999 2047 ABCD\n",
+        before: &[Mixed(4)],
+        outcome: Outcome::NoBlock(1_000_000_000),
+    },
+];
 
 #[test]
 fn blocks_that_are_missing(rt: HostRuntime) -> Result<(), Fail> {
-    const FILL: &str = "cdpatch 1\nfill 4 2047 4096 00\n";
-    refuse_each(
-        &rt,
-        rt.alloc(),
-        &[
-            (FILL, &[], Outcome::NoBlock(4)),
-            (FILL, &[Old(4)], Outcome::NoBlock(5)),
-            (FILL, &[Old(4), Old(5)], Outcome::NoBlock(6)),
-            ("cdpatch 1\nrebuild 4\n", &[], Outcome::NoBlock(4)),
-            (
-                "cdpatch 1\nset 999999999 0 AB\n",
-                &[],
-                Outcome::NoBlock(999999999),
-            ),
-            (
-                "cdpatch 1\nset 999999999 2047 ABCD\n",
-                &[Old(4)],
-                Outcome::NoBlock(1000000000),
-            ),
-        ],
-    )
+    refuse_each(&rt, rt.alloc(), MISSING)
 }
 
 #[test]
 fn blocks_of_many_bytes_that_are_missing(rt: HostRuntime) -> Result<(), Fail> {
-    let bytes = hex_of(rt.alloc(), &mixed_user(9))?;
-    let script = format!(in rt.alloc(); "cdpatch 1\nset 4 2047 AB{bytes}CD\n")?;
-    refuse_each(
-        &rt,
-        rt.alloc(),
-        &[
-            (&script, &[], Outcome::NoBlock(4)),
-            (&script, &[Old(4)], Outcome::NoBlock(5)),
-            (&script, &[Old(4), Old(5)], Outcome::NoBlock(6)),
-        ],
-    )
+    let script = set_on_three(rt.alloc(), 1)?;
+    let set = Refusal {
+        script: &script,
+        before: &[],
+        outcome: Outcome::NoBlock(4),
+    };
+    let behind_one = Refusal {
+        before: &[Mixed(4)],
+        outcome: Outcome::NoBlock(5),
+        ..set
+    };
+    let behind_two = Refusal {
+        before: &[Mixed(4), Mixed(5)],
+        outcome: Outcome::NoBlock(6),
+        ..set
+    };
+    refuse_each(&rt, rt.alloc(), &[set, behind_one, behind_two])
 }
 
 /// The lowest block that refuses is told, and of one block its mode first.
+const UPWARDS: &[Refusal] = &[
+    Refusal {
+        before: &[DAMAGED_4],
+        outcome: Outcome::Damaged(4),
+        ..FILL
+    },
+    Refusal {
+        before: &[DAMAGED_4, DAMAGED_5, Mixed(6)],
+        outcome: Outcome::Damaged(4),
+        ..FILL
+    },
+    Refusal {
+        before: &[Mixed(4), DAMAGED_5],
+        outcome: Outcome::Damaged(5),
+        ..FILL
+    },
+    Refusal {
+        before: &[Mixed(4), Mixed(5), DAMAGED_6],
+        outcome: Outcome::Damaged(6),
+        ..FILL
+    },
+    Refusal {
+        before: &[Mixed(4), Mixed(5), MixedDamaged(6, 15, 1 ^ 2)],
+        outcome: Outcome::NotMode1(6),
+        ..FILL
+    },
+    Refusal {
+        before: &[DAMAGED_4, MixedDamaged(5, 15, 1 ^ 2), Mixed(6)],
+        outcome: Outcome::Damaged(4),
+        ..FILL
+    },
+    Refusal {
+        before: &[MixedDamaged(4, 15, 1 ^ 2), DAMAGED_5, Mixed(6)],
+        outcome: Outcome::NotMode1(4),
+        ..FILL
+    },
+];
+
 #[test]
 fn blocks_are_asked_upwards(rt: HostRuntime) -> Result<(), Fail> {
-    const FILL: &str = "cdpatch 1\nfill 4 2047 4096 00\n";
-    const DAMAGED_4: Made = Added(4, 2351, 0x01);
-    const DAMAGED_5: Made = Added(5, 2351, 0x01);
-    const DAMAGED_6: Made = Added(6, 2351, 0x01);
-    refuse_each(
-        &rt,
-        rt.alloc(),
-        &[
-            (FILL, &[DAMAGED_4], Outcome::Damaged(4)),
-            (FILL, &[DAMAGED_4, DAMAGED_5, Old(6)], Outcome::Damaged(4)),
-            (FILL, &[Old(4), DAMAGED_5], Outcome::Damaged(5)),
-            (FILL, &[Old(4), Old(5), DAMAGED_6], Outcome::Damaged(6)),
-            (
-                FILL,
-                &[Old(4), Old(5), Added(6, 15, 1 ^ 2)],
-                Outcome::NotMode1(6),
-            ),
-            (
-                FILL,
-                &[DAMAGED_4, Added(5, 15, 1 ^ 2), Old(6)],
-                Outcome::Damaged(4),
-            ),
-            (
-                FILL,
-                &[Added(4, 15, 1 ^ 2), DAMAGED_5, Old(6)],
-                Outcome::NotMode1(4),
-            ),
-        ],
-    )
+    refuse_each(&rt, rt.alloc(), UPWARDS)
 }
 
-const OTHER_MODES: &[Made] = &[
-    Added(4, 15, 1 ^ 0),
-    Added(4, 15, 1 ^ 2),
-    Added(4, 15, 1 ^ 3),
-    Added(4, 0, 0x01),
+const OTHER_MODES: &[Sample] = &[
+    MixedDamaged(4, 15, 1 ^ 0),
+    MixedDamaged(4, 15, 1 ^ 2),
+    MixedDamaged(4, 15, 1 ^ 3),
+    MixedDamaged(4, 0, 0x01),
     Blank,
 ];
+
+const OF_ONE_BLOCK: &[&str] = &[
+    "cdpatch 1\nset 4 0 AB\n",
+    "cdpatch 1\nfill 4 0 1 AB\n",
+    "cdpatch 1\nrebuild 4\n",
+];
+
+/// Each script is refused by the mode of this sector.
+fn refuse_mode(rt: &impl Abort, alloc: Global, first: Sample) -> Result<(), Fail> {
+    for script in OF_ONE_BLOCK {
+        let row = Refusal {
+            script,
+            before: &[first, Mixed(5), Mixed(6)],
+            outcome: Outcome::NotMode1(4),
+        };
+        refuse_each(rt, alloc, &[row])?;
+    }
+    Ok(())
+}
 
 #[test]
 fn other_modes(rt: HostRuntime) -> Result<(), Fail> {
     for first in OTHER_MODES {
-        let before = &[*first, Old(5), Old(6)];
-        refuse_each(
-            &rt,
-            rt.alloc(),
-            &[
-                ("cdpatch 1\nset 4 0 AB\n", before, Outcome::NotMode1(4)),
-                ("cdpatch 1\nfill 4 0 1 AB\n", before, Outcome::NotMode1(4)),
-                ("cdpatch 1\nrebuild 4\n", before, Outcome::NotMode1(4)),
-            ],
-        )?;
+        refuse_mode(&rt, rt.alloc(), *first)?;
     }
     Ok(())
 }
@@ -109,8 +155,13 @@ fn differs(
     next: u8,
     outcome: Outcome,
 ) -> Result<(), Fail> {
-    let script = format!(in alloc; "cdpatch 1\nset 4 2047 ABCD was {old:02x}{next:02x}\n")?;
-    refuse_each(rt, alloc, &[(&script, &[Old(4), Old(5), Old(6)], outcome)])
+    let script = set_where(alloc, old, next)?;
+    let row = Refusal {
+        script: &script,
+        before: &[Mixed(4), Mixed(5), Mixed(6)],
+        outcome,
+    };
+    refuse_each(rt, alloc, &[row])
 }
 
 #[test]
@@ -129,23 +180,21 @@ fn the_last_old_byte_of_many_differs(rt: HostRuntime) -> Result<(), Fail> {
     let old = hex_of(rt.alloc(), &user)?;
     let new = hex_of(rt.alloc(), &[0; 2048])?;
     let script = format!(in rt.alloc(); "cdpatch 1\nset 4 0 {new} was {old}\n")?;
-    let differs = Outcome::Differs(4, 2047);
-    refuse_each(
-        &rt,
-        rt.alloc(),
-        &[(&script, &[Old(4), Old(5), Old(6)], differs)],
-    )
+    let row = Refusal {
+        script: &script,
+        before: &[Mixed(4), Mixed(5), Mixed(6)],
+        outcome: Outcome::Differs(4, 2047),
+    };
+    refuse_each(&rt, rt.alloc(), &[row])
 }
+
+const DAMAGE_AND_OLD_BYTES: Refusal = Refusal {
+    script: "cdpatch 1\nset 4 0 AB was AB\n",
+    before: &[DAMAGED_4, Mixed(5), Mixed(6)],
+    outcome: Outcome::Damaged(4),
+};
 
 #[test]
 fn damage_is_told_before_old_bytes(rt: HostRuntime) -> Result<(), Fail> {
-    refuse_each(
-        &rt,
-        rt.alloc(),
-        &[(
-            "cdpatch 1\nset 4 0 AB was AB\n",
-            &[Added(4, 2351, 0x01), Old(5), Old(6)],
-            Outcome::Damaged(4),
-        )],
-    )
+    refuse_each(&rt, rt.alloc(), &[DAMAGE_AND_OLD_BYTES])
 }

@@ -1,82 +1,209 @@
 use super::*;
+use cd_script::MAX_BYTES;
 use cd_script::ScriptFault::{Head, Hex, Length, TooMany, Verb, Words};
 use cd_test_images::{repeated, script_of};
 use std::test::Fail;
+
+/// The most bytes of a patch.
+const LONGEST: u32 = MAX_BYTES as u32;
+
+/// So many patches, what follows them, and the fault of all.
+#[derive(Clone, Copy)]
+struct Many {
+    count: u32,
+    rest: &'static str,
+    fault: Option<ScriptFault>,
+}
 
 /// A head line, so many lines `set 0 0 41`, and what follows.
 fn patches_then(alloc: Global, count: u32, rest: &str) -> Result<String, AllocError> {
     repeated(alloc, "cdpatch 1\n", "set 0 0 41\n", count, rest)
 }
 
-const MOST: &[(u32, &str, Option<ScriptFault>)] = &[
-    (65535, "", None),
-    (65535, "\n# no patch\n\n", None),
-    (65536, "", Some(TooMany(65537))),
-    (65535, "\n#\nrebuild 0\nput\n", Some(TooMany(65539))),
-    (65535, "set 0 0 4", Some(Hex(65537))),
-    (65535, "put", Some(Verb(65537))),
+const AS_MANY: Many = Many {
+    count: MOST,
+    rest: "",
+    fault: None,
+};
+
+const MANY: &[Many] = &[
+    AS_MANY,
+    Many {
+        rest: "\n# no patch\n\n",
+        ..AS_MANY
+    },
+    Many {
+        count: MOST + 1,
+        rest: "",
+        fault: Some(TooMany(BEHIND_MOST)),
+    },
+    Many {
+        rest: "\n#\nrebuild 0\nput\n",
+        fault: Some(TooMany(BEHIND_MOST + 2)),
+        ..AS_MANY
+    },
+    Many {
+        rest: "set 0 0 4",
+        fault: Some(Hex(BEHIND_MOST)),
+        ..AS_MANY
+    },
+    Many {
+        rest: "put",
+        fault: Some(Verb(BEHIND_MOST)),
+        ..AS_MANY
+    },
 ];
 
 #[test]
 fn most_patches(rt: HostRuntime) -> Result<(), AllocError> {
-    for (count, rest, want) in MOST {
-        let text = patches_then(rt.alloc(), *count, rest)?;
-        expect_fault(&rt, rt.alloc(), text.as_bytes(), *want, rest);
+    for row in MANY {
+        let text = patches_then(rt.alloc(), row.count, row.rest)?;
+        expect_fault(&rt, rt.alloc(), text.as_bytes(), row.fault, row.rest);
     }
     Ok(())
 }
 
 #[test]
 fn count_of_patches(rt: HostRuntime) -> Result<(), Fail> {
-    let text = patches_then(rt.alloc(), 65535, "")?;
+    let text = patches_then(rt.alloc(), MOST, "")?;
     let script = script_of(rt.alloc(), &text)?;
-    assert!(rt; script.patches().len() == 65535);
+    assert_eq!(rt; script.patches().len(), MAX_PATCHES);
     Ok(())
 }
 
-const LONG_WORDS: &[(&str, &str, u32, Option<ScriptFault>)] = &[
-    ("cdpatch 1\nset 0 0 ", "0", 8192, None),
-    ("cdpatch 1\nset 0 0 ", "0", 8193, Some(Hex(2))),
-    ("cdpatch 1\nset 0 0 ", "0", 8194, Some(Length(2))),
-    ("cdpatch 1\nset", " 0", 1000000, Some(Words(2))),
-    ("cdpatch 1\n", "\n", 1000000, None),
-];
+/// A beginning, so many copies of a part behind it, and the fault of both.
+#[derive(Clone, Copy)]
+struct Long {
+    front: &'static str,
+    part: &'static str,
+    count: u32,
+    fault: Option<ScriptFault>,
+}
+
+const DIGITS: Long = Long {
+    front: "cdpatch 1\nset 0 0 ",
+    part: "0",
+    count: 2 * LONGEST,
+    fault: None,
+};
 
 /// Line 2 is `set 0 0` and so many digits `0`, or `set` and so many words `0`.
+const LONG: &[Long] = &[
+    DIGITS,
+    Long {
+        count: 2 * LONGEST + 1,
+        fault: Some(Hex(2)),
+        ..DIGITS
+    },
+    Long {
+        count: 2 * LONGEST + 2,
+        fault: Some(Length(2)),
+        ..DIGITS
+    },
+    Long {
+        front: "cdpatch 1\nset",
+        part: " 0",
+        count: 1_000_000,
+        fault: Some(Words(2)),
+    },
+    Long {
+        front: "cdpatch 1\n",
+        part: "\n",
+        count: 1_000_000,
+        fault: None,
+    },
+];
+
 #[test]
 fn long_words(rt: HostRuntime) -> Result<(), AllocError> {
-    for (front, part, count, want) in LONG_WORDS {
-        let text = repeated(rt.alloc(), front, part, *count, "")?;
-        expect_fault(&rt, rt.alloc(), text.as_bytes(), *want, front);
+    for row in LONG {
+        let text = repeated(rt.alloc(), row.front, row.part, row.count, "")?;
+        expect_fault(&rt, rt.alloc(), text.as_bytes(), row.fault, row.front);
     }
     Ok(())
 }
 
-const LONG_OLD_BYTES: &[(u32, u32, Option<ScriptFault>)] = &[
-    (4096, 4096, None),
-    (4096, 4095, Some(Length(2))),
-    (4096, 4097, Some(Length(2))),
-    (4097, 4097, Some(Length(2))),
+/// So many new bytes, so many old ones, and the fault of both.
+#[derive(Clone, Copy)]
+struct Lengths {
+    new: u32,
+    old: u32,
+    fault: Option<ScriptFault>,
+}
+
+const LENGTHS: &[Lengths] = &[
+    Lengths {
+        new: LONGEST,
+        old: LONGEST,
+        fault: None,
+    },
+    Lengths {
+        new: LONGEST,
+        old: LONGEST - 1,
+        fault: Some(Length(2)),
+    },
+    Lengths {
+        new: LONGEST,
+        old: LONGEST + 1,
+        fault: Some(Length(2)),
+    },
+    Lengths {
+        new: LONGEST + 1,
+        old: LONGEST + 1,
+        fault: Some(Length(2)),
+    },
 ];
 
 /// Line 2 is `set 0 0 NEW was OLD`, of so many bytes each.
+fn expect_lengths(rt: &impl Abort, alloc: Global, row: &Lengths) -> Result<(), AllocError> {
+    let Lengths { new, old, fault } = *row;
+    let front = repeated(alloc, "cdpatch 1\nset 0 0 ", "41", new, " was ")?;
+    let text = repeated(alloc, &front, "42", old, "")?;
+    let told = format!(in alloc; "{new} and {old}")?;
+    expect_fault(rt, alloc, text.as_bytes(), fault, &told);
+    Ok(())
+}
+
 #[test]
 fn long_old_bytes(rt: HostRuntime) -> Result<(), AllocError> {
-    for (new, old, want) in LONG_OLD_BYTES {
-        let front = repeated(rt.alloc(), "cdpatch 1\nset 0 0 ", "41", *new, " was ")?;
-        let text = repeated(rt.alloc(), &front, "42", *old, "")?;
-        let told = format!(in rt.alloc(); "{new} and {old}")?;
-        expect_fault(&rt, rt.alloc(), text.as_bytes(), *want, &told);
+    for row in LENGTHS {
+        expect_lengths(&rt, rt.alloc(), row)?;
     }
+    Ok(())
+}
+
+/// Line 2 fills so many bytes.
+fn expect_fill(
+    rt: &impl Abort,
+    alloc: Global,
+    count: u32,
+    fault: Option<ScriptFault>,
+) -> Result<(), AllocError> {
+    let line = format!(in alloc; "fill 0 0 {count} FF")?;
+    expect_fault_behind(rt, alloc, "cdpatch 1", &line, fault)
+}
+
+#[test]
+fn long_fills(rt: HostRuntime) -> Result<(), AllocError> {
+    expect_fill(&rt, rt.alloc(), LONGEST, None)?;
+    expect_fill(&rt, rt.alloc(), LONGEST + 1, Some(Length(2)))
+}
+
+/// As many bytes as a text has at most.
+fn expect_longest(
+    rt: &impl Abort,
+    alloc: Global,
+    byte: u8,
+    fault: ScriptFault,
+) -> Result<(), AllocError> {
+    let text = vec![in alloc; byte; MAX_TEXT]?;
+    expect_fault(rt, alloc, &text, Some(fault), "bytes alike");
     Ok(())
 }
 
 /// The longest texts: as many bytes 0, and as many line feeds.
 #[test]
 fn longest_texts(rt: HostRuntime) -> Result<(), AllocError> {
-    for (byte, want) in &[(0, Head(1)), (b'\n', Head(67108865))] {
-        let text = vec![in rt.alloc(); *byte; MAX_TEXT]?;
-        expect_fault(&rt, rt.alloc(), &text, Some(*want), "bytes alike");
-    }
-    Ok(())
+    expect_longest(&rt, rt.alloc(), 0, Head(1))?;
+    expect_longest(&rt, rt.alloc(), b'\n', Head(MAX_TEXT as u32 + 1))
 }

@@ -1,40 +1,55 @@
+use super::accepted::expect_patches;
 use super::*;
-use cd_script::Edit;
 use cd_script::ScriptFault::{Address, Head, Hex, Length, Number, Offset, TooMany, Verb, Words};
-use cd_test_images::{repeated, script_of};
+use cd_test_images::repeated;
 use std::test::Fail;
 
-/// Asserts what the word of an address is read as, in line 2 of a script of version 2.
-fn expect_address(rt: &impl Abort, alloc: Global, word: &str, want: &[u8; 3]) -> Result<(), Fail> {
-    let text = format!(in alloc; "cdpatch 2\naddress 7 {word}\n")?;
-    let script = script_of(alloc, &text)?;
-    let [patch] = script.patches() else {
-        panic!(rt; "{word}");
-    };
-    let is_read = match &patch.edit {
-        Edit::Address { bcd } => bcd == want,
-        Edit::Put { .. } | Edit::Fill { .. } | Edit::Rebuild => false,
-    };
-    assert!(rt;
-        is_read && (patch.line, patch.block, patch.offset) == (2, 7, 0),
-        "{word}"
-    );
-    Ok(())
+/// The word of an address, and what it is read as.
+#[derive(Clone, Copy)]
+struct Word {
+    word: &'static str,
+    bcd: [u8; 3],
 }
 
-const ADDRESSES: &[(&str, [u8; 3])] = &[
-    ("00:00:00", [0x00, 0x00, 0x00]),
-    ("00:02:00", [0x00, 0x02, 0x00]),
-    ("99:59:74", [0x99, 0x59, 0x74]),
-    ("12:34:56", [0x12, 0x34, 0x56]),
-    ("90:50:70", [0x90, 0x50, 0x70]),
-    ("09:09:09", [0x09, 0x09, 0x09]),
+const ADDRESSES: &[Word] = &[
+    Word {
+        word: "00:00:00",
+        bcd: [0x00, 0x00, 0x00],
+    },
+    Word {
+        word: "00:02:00",
+        bcd: [0x00, 0x02, 0x00],
+    },
+    Word {
+        word: "99:59:74",
+        bcd: [0x99, 0x59, 0x74],
+    },
+    Word {
+        word: "12:34:56",
+        bcd: [0x12, 0x34, 0x56],
+    },
+    Word {
+        word: "90:50:70",
+        bcd: [0x90, 0x50, 0x70],
+    },
+    Word {
+        word: "09:09:09",
+        bcd: [0x09, 0x09, 0x09],
+    },
 ];
+
+/// Asserts what the word of an address is read as, in line 2 of a script of version 2.
+fn expect_address(rt: &impl Abort, alloc: Global, row: &Word) -> Result<(), Fail> {
+    let Word { word, bcd } = *row;
+    let script = format!(in alloc; "cdpatch 2\naddress 7 {word}\n")?;
+    let patches = format!(in alloc; "2: 7 0 address {bcd:?}; ")?;
+    expect_patches(rt, alloc, &script, &patches)
+}
 
 #[test]
 fn addresses(rt: HostRuntime) -> Result<(), Fail> {
-    for (word, want) in ADDRESSES {
-        expect_address(&rt, rt.alloc(), word, want)?;
+    for row in ADDRESSES {
+        expect_address(&rt, rt.alloc(), row)?;
     }
     Ok(())
 }
@@ -84,118 +99,172 @@ const BAD_ADDRESSES: [&str; 41] = [
     "00\u{b2}02:00",
 ];
 
+fn expect_bad(rt: &impl Abort, alloc: Global, word: &str) -> Result<(), AllocError> {
+    let line = format!(in alloc; "address 0 {word}")?;
+    expect_fault_behind(rt, alloc, "cdpatch 2", &line, Some(Address(2)))
+}
+
 #[test]
 fn bad_addresses(rt: HostRuntime) -> Result<(), AllocError> {
     for word in &BAD_ADDRESSES {
-        let line = format!(in rt.alloc(); "address 0 {word}")?;
-        expect_fault_behind(&rt, rt.alloc(), "cdpatch 2", &line, Some(Address(2)))?;
+        expect_bad(&rt, rt.alloc(), word)?;
     }
     Ok(())
 }
 
-const IN_ORDER: &[(&str, Option<ScriptFault>)] = &[
-    ("address 0 00:02:00", None),
-    ("address 999999999 00:02:00", None),
-    ("address", Some(Words(2))),
-    ("address 0", Some(Words(2))),
-    ("address x", Some(Words(2))),
-    ("address 0 00:02:00 0", Some(Words(2))),
-    ("address x 00:60:00 0", Some(Words(2))),
-    ("address 0 00: 02:00", Some(Words(2))),
-    ("address x 00:60:00", Some(Number(2))),
-    ("address -1 0", Some(Number(2))),
-    ("address 1234567890 00:02:00", Some(Number(2))),
-    ("Address 0 00:02:00", Some(Verb(2))),
-    ("addresses 0 00:02:00", Some(Verb(2))),
-    ("addres 0 00:02:00", Some(Verb(2))),
+/// The number of words first, then the block, then the address.
+const IN_ORDER: &[Alike] = &[
+    Alike {
+        fault: None,
+        texts: &["address 0 00:02:00", "address 999999999 00:02:00"],
+    },
+    Alike {
+        fault: Some(Words(2)),
+        texts: &[
+            "address",
+            "address 0",
+            "address x",
+            "address 0 00:02:00 0",
+            "address x 00:60:00 0",
+            "address 0 00: 02:00",
+        ],
+    },
+    Alike {
+        fault: Some(Number(2)),
+        texts: &[
+            "address x 00:60:00",
+            "address -1 0",
+            "address 1234567890 00:02:00",
+        ],
+    },
+    Alike {
+        fault: Some(Verb(2)),
+        texts: &[
+            "Address 0 00:02:00",
+            "addresses 0 00:02:00",
+            "addres 0 00:02:00",
+        ],
+    },
 ];
 
-/// The number of words first, then the block, then the address.
 #[test]
 fn order_of_faults(rt: HostRuntime) -> Result<(), AllocError> {
     expect_faults_behind(&rt, rt.alloc(), "cdpatch 2", IN_ORDER)
 }
 
-const LAST_LINES: &[(&str, Option<ScriptFault>)] = &[
-    ("", None),
-    ("address 0 00:60:00", Some(Address(65537))),
-    ("address 0 00:02:00", Some(TooMany(65537))),
-];
+/// As many addresses as a script has patches at most, and a last line.
+fn expect_last(
+    rt: &impl Abort,
+    alloc: Global,
+    last: &str,
+    fault: Option<ScriptFault>,
+) -> Result<(), AllocError> {
+    let text = repeated(alloc, "cdpatch 2\n", "address 0 00:02:00\n", MOST, last)?;
+    expect_fault(rt, alloc, text.as_bytes(), fault, last);
+    Ok(())
+}
 
 /// A bad address is told before the patch is one too many.
 #[test]
 fn addresses_too_many(rt: HostRuntime) -> Result<(), AllocError> {
-    for (last, want) in LAST_LINES {
-        let text = repeated(
-            rt.alloc(),
-            "cdpatch 2\n",
-            "address 0 00:02:00\n",
-            65535,
-            last,
-        )?;
-        expect_fault(&rt, rt.alloc(), text.as_bytes(), *want, last);
-    }
-    Ok(())
+    let (bad, good) = ("address 0 00:60:00", "address 0 00:02:00");
+    expect_last(&rt, rt.alloc(), "", None)?;
+    expect_last(&rt, rt.alloc(), bad, Some(Address(BEHIND_MOST)))?;
+    expect_last(&rt, rt.alloc(), good, Some(TooMany(BEHIND_MOST)))
 }
-
-const IN_THE_FIRST: &[(&str, Option<ScriptFault>)] = &[
-    ("address 0 00:02:00", Some(Verb(2))),
-    ("address 0 00:60:00", Some(Verb(2))),
-    ("address x 00:60:00", Some(Verb(2))),
-    ("address 0", Some(Verb(2))),
-    ("address", Some(Verb(2))),
-];
 
 /// In version 1 the verb is unknown, whatever follows it.
+const IN_THE_FIRST: Alike = Alike {
+    fault: Some(Verb(2)),
+    texts: &[
+        "address 0 00:02:00",
+        "address 0 00:60:00",
+        "address x 00:60:00",
+        "address 0",
+        "address",
+    ],
+};
+
 #[test]
 fn first_version_has_no_addresses(rt: HostRuntime) -> Result<(), AllocError> {
-    expect_faults_behind(&rt, rt.alloc(), "cdpatch 1", IN_THE_FIRST)
+    expect_alike_behind(&rt, rt.alloc(), "cdpatch 1", &IN_THE_FIRST)
 }
 
-const IN_BOTH: &[(&str, Option<ScriptFault>)] = &[
-    ("set 0 0 41", None),
-    ("set 0 0 41 was 42", None),
-    ("fill 999999999 2047 4096 FF", None),
-    ("rebuild 0", None),
-    ("", None),
-    ("# address", None),
-    ("#address 0 00:60:00", None),
-    ("cdpatch 1", Some(Verb(2))),
-    ("cdpatch 2", Some(Verb(2))),
-    ("put 0 0 41", Some(Verb(2))),
-    ("set 0 0", Some(Words(2))),
-    ("set x 9999 4", Some(Number(2))),
-    ("set 0 2048 4", Some(Offset(2))),
-    ("set 0 0 4", Some(Hex(2))),
-    ("fill 0 0 0 FF", Some(Length(2))),
-    ("set address 0 41", Some(Number(2))),
+/// Each other line says the same in both versions.
+const IN_BOTH: &[Alike] = &[
+    Alike {
+        fault: None,
+        texts: &[
+            "set 0 0 41",
+            "set 0 0 41 was 42",
+            "fill 999999999 2047 4096 FF",
+            "rebuild 0",
+            "",
+            "# address",
+            "#address 0 00:60:00",
+        ],
+    },
+    Alike {
+        fault: Some(Verb(2)),
+        texts: &["cdpatch 1", "cdpatch 2", "put 0 0 41"],
+    },
+    Alike {
+        fault: Some(Words(2)),
+        texts: &["set 0 0"],
+    },
+    Alike {
+        fault: Some(Number(2)),
+        texts: &["set x 9999 4", "set address 0 41"],
+    },
+    Alike {
+        fault: Some(Offset(2)),
+        texts: &["set 0 2048 4"],
+    },
+    Alike {
+        fault: Some(Hex(2)),
+        texts: &["set 0 0 4"],
+    },
+    Alike {
+        fault: Some(Length(2)),
+        texts: &["fill 0 0 0 FF"],
+    },
 ];
 
-/// Each other line says the same in both versions.
 #[test]
 fn both_versions(rt: HostRuntime) -> Result<(), AllocError> {
     expect_faults_behind(&rt, rt.alloc(), "cdpatch 1", IN_BOTH)?;
     expect_faults_behind(&rt, rt.alloc(), "cdpatch 2", IN_BOTH)
 }
 
-const HEADS: &[(&str, Option<ScriptFault>)] = &[
-    ("cdpatch 1", None),
-    ("cdpatch 2", None),
-    ("\t cdpatch  2\r", None),
-    ("cdpatch 0", Some(Head(1))),
-    ("cdpatch 3", Some(Head(1))),
-    ("cdpatch 02", Some(Head(1))),
-    ("cdpatch 12", Some(Head(1))),
-    ("cdpatch 2.", Some(Head(1))),
-    ("cdpatch 1 2", Some(Head(1))),
-    ("cdpatch 2 2", Some(Head(1))),
-    ("address 0 00:02:00", Some(Head(1))),
-];
+const HEADS: Alike = Alike {
+    fault: None,
+    texts: &["cdpatch 1", "cdpatch 2", "\t cdpatch  2\r"],
+};
+
+const NO_HEADS: Alike = Alike {
+    fault: Some(Head(1)),
+    texts: &[
+        "cdpatch 0",
+        "cdpatch 3",
+        "cdpatch 02",
+        "cdpatch 12",
+        "cdpatch 2.",
+        "cdpatch 1 2",
+        "cdpatch 2 2",
+        "address 0 00:02:00",
+    ],
+};
+
+/// Asserts the fault of each of these head lines before a patch.
+fn expect_heads(rt: &impl Abort, alloc: Global, heads: &Alike) -> Result<(), AllocError> {
+    for head in heads.texts {
+        expect_fault_behind(rt, alloc, head, "rebuild 0", heads.fault)?;
+    }
+    Ok(())
+}
 
 #[test]
 fn heads(rt: HostRuntime) -> Result<(), AllocError> {
-    for (head, want) in HEADS {
-        expect_fault_behind(&rt, rt.alloc(), head, "rebuild 0", *want)?;
-    }
-    Ok(())
+    expect_heads(&rt, rt.alloc(), &HEADS)?;
+    expect_heads(&rt, rt.alloc(), &NO_HEADS)
 }

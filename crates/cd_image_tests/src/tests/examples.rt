@@ -1,0 +1,48 @@
+//! The examples of the rustdoc of cd_read, cd_report and cd_image.
+
+use cd_image::{SliceSink, SliceSource, ToWrite, ZeroSource, apply, audit, check, list};
+use cd_read::read_sector;
+use cd_script::parse;
+use cd_sector::{SECTOR_SIZE, Sector, USER_SIZE, encode};
+use std::io;
+use std::test::Fail;
+
+#[test]
+fn reading_and_reports(rt: HostRuntime) -> Result<(), Fail> {
+    let mut image = ZeroSource::new(2352 + 3);
+    let mut sector = Sector::default();
+    assert_eq!(rt; read_sector(&mut image, 0, &mut sector), Ok(None)); // a whole one
+    assert_eq!(rt; read_sector(&mut image, 1, &mut sector), Ok(Some(3))); // the tail
+
+    let mut space = [0; 64];
+    let mut out = SliceSink::new(&mut space);
+    let tally = list(&mut ZeroSource::new(2352 + 3), 0, &mut out)?; // a sector, and a tail
+    assert_eq!(rt; (tally.sectors, tally.tail), (1, 3));
+    assert_eq!(rt; out.written(), b"0-0 nosync\nsectors 1 tail 3\n".as_slice());
+
+    let sector = encode([0x00, 0x02, 0x00], &[0x00; USER_SIZE]); // its address is that of block 0
+    let mut space = [0; 64];
+    let mut out = SliceSink::new(&mut space);
+    audit(&mut SliceSource::new(sector.bytes()), 16, &mut out)?; // as block 16
+    assert!(rt; out.written().starts_with(b"16 address\n"));
+
+    Ok(())
+}
+
+#[test]
+fn patching(rt: HostRuntime) -> Result<(), Fail> {
+    let script = parse(rt.alloc(), b"cdpatch 1\nset 0 0 41\n")?;
+    let sector = encode([0x00, 0x02, 0x00], &[0x00; USER_SIZE]); // block 0
+    let (mut image, mut space) = (SliceSource::new(sector.bytes()), [0; SECTOR_SIZE]);
+    let (mut out, mut log) = (SliceSink::new(&mut space), ToWrite::new(io::sink()));
+    apply(&mut image, &script, 0, false, &mut out, &mut log)?;
+    assert_eq!(rt; out.written().get(16), Some(&0x41)); // the first user byte
+
+    let script = parse(rt.alloc(), b"cdpatch 1\nset 0 0 41\n")?;
+    let mut space = [0; 64];
+    let mut log = SliceSink::new(&mut space);
+    check(&mut ZeroSource::new(0), &script, 0, false, &mut log)?; // no sector
+    assert!(rt; log.written().starts_with(b"line 2: refused: no block 0\n"));
+
+    Ok(())
+}

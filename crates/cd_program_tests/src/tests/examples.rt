@@ -1,0 +1,74 @@
+//! The examples of the rustdoc of cd_command and cd_jobs.
+
+use cd_command::{Job, LineFault, NO_MEMORY, job_of, refusal_line};
+use cd_image::{FailAfter, SliceSink, SliceSource, ToWrite, ZeroSource};
+use cd_jobs::{
+    System, do_words, load_script, read_script, run_apply, run_audit, run_check, run_list,
+};
+use cd_script::parse;
+use std::io;
+use std::test::Fail;
+
+#[test]
+fn words(rt: HostRuntime) -> Result<(), Fail> {
+    let job = job_of(rt.alloc(), Vec::new(rt.alloc()))?; // no words
+    assert!(rt; matches!(&job, Job::List { image, base: 0 } if image.as_str() == "-"));
+
+    let fault = LineFault::NoMemory;
+    assert_eq!(rt; fault.status(), 2);
+
+    let fault = LineFault::NoMemory;
+    let text = fault.parser_text(rt.alloc()); // None
+    assert_eq!(rt; refusal_line(text.as_deref()), NO_MEMORY);
+    assert_eq!(rt; fault.status_with(text.as_deref()), 2);
+
+    let words = vec![in rt.alloc(); String::from_str(rt.alloc(), "--help")?]?;
+    let mut space = [0; 4096];
+    let mut out = SliceSink::new(&mut space);
+    let status = do_words(rt.alloc(), &mut System::new(&rt), words, &mut out);
+    assert!(rt; status == 0 && out.written().starts_with(b"List, audit"));
+
+    Ok(())
+}
+
+#[test]
+fn scripts_and_their_files(rt: HostRuntime) {
+    let mut space = [0; 64];
+    let mut log = SliceSink::new(&mut space);
+    let status = read_script(rt.alloc(), b"cdpatch 1\nset 0 0 4\n", &mut log).err();
+    assert_eq!(rt; status, Some(2));
+    assert_eq!(rt; log.written(), b"script line 2: bad hex\n".as_slice());
+
+    let mut log = ToWrite::new(io::sink());
+    let mut file = SliceSource::new(b"cdpatch 1\n");
+    let text = load_script(rt.alloc(), &mut file, &mut log).ok();
+    assert_eq!(rt; text.as_deref(), Some(b"cdpatch 1\n".as_slice()));
+}
+
+#[test]
+fn statuses(rt: HostRuntime) -> Result<(), Fail> {
+    let mut space = [0; 64];
+    let mut out = SliceSink::new(&mut space);
+    assert_eq!(rt; run_list(&mut ZeroSource::new(2352), 7, &mut out), 0);
+    assert_eq!(rt; out.written(), b"7-7 nosync\nsectors 1 tail 0\n".as_slice());
+
+    let mut space = [0; 64];
+    let mut out = SliceSink::new(&mut space);
+    let mut image = FailAfter::new(ZeroSource::new(2352), 5);
+    assert_eq!(rt; run_audit(&mut image, 0, &mut out), 2);
+    assert!(rt; out.written().starts_with(b"cdpatch: reading the image"));
+
+    let script = parse(rt.alloc(), b"cdpatch 1\nset 0 0 41\n")?;
+    let (mut image, mut space) = (ZeroSource::new(0), [0; 64]);
+    let mut log = SliceSink::new(&mut space);
+    assert_eq!(rt; run_check(&mut image, &script, 0, false, &mut log), 1);
+    assert!(rt; log.written().starts_with(b"line 2: refused: no block 0\n"));
+
+    let script = parse(rt.alloc(), b"cdpatch 1\nset 0 0 41\n")?;
+    let (mut image, mut space) = (ZeroSource::new(3), [7; 4]);
+    let (mut out, mut log) = (SliceSink::new(&mut space), ToWrite::new(io::sink()));
+    let status = run_apply(&mut image, &script, 0, false, &mut out, &mut log);
+    assert_eq!(rt; (status, out.written().len()), (1, 3)); // no block 0, and the tail goes out
+
+    Ok(())
+}
