@@ -22,14 +22,19 @@ judge() {
 }
 
 # A repository in which `right` and `left` stand on `low`, the program on all three, and tests on the program.
-mkdir -p tools bin crates/{low,left,right,program,tests}/src
+mkdir -p tools kit/{bin,rlibs} crates/{low,left,right,program,tests}/src
 cp "$top/tools/prove.sh" tools
-touch crates/program/src/main.rt
+touch crates/program/src/main.rt kit/START-HERE.md kit/bin/rtlib.py
 printf '%s\n' 'program: left right' 'left: low bstr' '# the lowest' 'right: low' 'low:' 'tests: program' > crates.txt
 
 # An rt that tells in `told` what it is called for, which of a crate's libraries lack, and whether its earlier work is there.
-cat > bin/rt << 'EOF_RT'
+cat > kit/bin/rt << 'EOF_RT'
 #!/usr/bin/env bash
+kit=$(dirname "$(dirname "$(realpath "$0")")")
+if [ "$1" = doc ]; then
+    echo "$kit/START-HERE.md"
+    exit
+fi
 name=$(basename "$PWD")
 grep -q "^$name:" ../../crates.txt || exit 1
 below=$(sed -n "s/^$name: *//p" ../../crates.txt)
@@ -41,10 +46,20 @@ if [ -e out/rlib/built ]; then
     exit 0
 fi
 [ ! -e out/incremental/begun ] || echo "$name goes on" >> "$TOLD"
-mkdir -p out/incremental
-touch out/incremental/begun
 echo "$name begins: $*" >> "$TOLD"
 echo "rt: chose --jobs 4 for $name" >&2
+program=
+[ "$1" = lib ] || program='--toolchain tools'
+"$kit/bin/rattle" build --crate-name "$name" --incremental out/incremental $program -o out/it || exit
+echo "$name ends" >> "$TOLD"
+EOF_RT
+
+# A rattle that tells its words, but for the crate's name.
+cat > kit/bin/rattle << 'EOF_RATTLE'
+#!/usr/bin/env bash
+name=$(basename "$PWD")
+words="$* "
+echo "$name ${words/--crate-name $name /}" >> "$TOLD"
 sleep "$([ "$name" = "${SLOW-}" ] && echo 60 || echo 0.2)"
 if [ "$name" = "${BROKEN-}" ]; then
     printf '%s\n' 'a note' './proofs/Answers.antt:1:1: error: it is false' 'another'
@@ -52,10 +67,15 @@ if [ "$name" = "${BROKEN-}" ]; then
 fi
 mkdir -p out/rlib
 touch out/rlib/built
-echo "$name ends" >> "$TOLD"
-EOF_RT
-chmod +x bin/rt
-export TOLD=$scratch/told PATH="$scratch/bin:$PATH"
+EOF_RATTLE
+chmod +x kit/bin/*
+export TOLD=$scratch/told PATH="$scratch/kit/bin:$PATH"
+
+# keep CRATE: what `rt check` keeps of its work on a crate.
+keep() {
+    mkdir -p "crates/$1/out/incremental"
+    touch "crates/$1/out/incremental/begun"
+}
 
 # prove WORD..: a run of tools/prove.sh with these words, its text in `log` and its status in `status`.
 prove() {
@@ -74,8 +94,10 @@ prove 1
 judge 'a whole proof' test "$status" = 0
 judge 'its lines' wrote 'proving low' 'proved low, 1 of 4' 'proving left' 'proved left, 2 of 4' 'proving right' 'proved right, 3 of 4' \
     'proving program' 'proved program, 4 of 4' 'proved and built program'
-judge 'one at a time' cmp -s told <(printf '%s\n' 'low begins: lib' 'low ends' 'left begins: lib' 'left ends' 'right begins: lib' \
-    'right ends' 'program begins: run --jobs 1' 'program ends')
+judge 'one at a time' cmp -s <(grep ' begins\| ends' told) <(printf '%s\n' 'low begins: lib' 'low ends' 'left begins: lib' 'left ends' \
+    'right begins: lib' 'right ends' 'program begins: run --jobs 1' 'program ends')
+judge 'of a library the statements are kept' in_told 'left build --statements -o out/it '
+judge 'the program is built as rt does it' in_told 'program build --incremental out/incremental --toolchain tools -o out/it '
 judge 'no folder is left' test -z "$(find crates -name room)"
 
 prove
@@ -94,10 +116,13 @@ judge 'a crate that fails' test "$status" = 1
 judge 'its first error, and how to see all' wrote 'proving low' 'proved low, 1 of 4' 'proving left' \
     'FAILED left: ./proofs/Answers.antt:1:1: error: it is false' '  all of it: (cd crates/left && rt check)' 'not proved,'
 judge 'nothing begins behind it' not_in_told '^\(right\|program\) begins'
+keep left
 prove
-judge 'mended, it goes on with what it had' in_told 'left goes on'
+judge 'mended, it goes on with what rt check had' in_told 'left goes on'
+judge 'as rt does it' in_told 'left build --incremental out/incremental -o out/it '
 
 rm -r crates/*/out
+keep low
 : > told
 SLOW=low bash tools/prove.sh program > log 2> errors < /dev/null &
 until grep -q begins told; do sleep 0.1; done
