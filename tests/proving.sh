@@ -138,6 +138,9 @@ yes '// long' | head -n 100 > crates/right/src/lib.rt
 prove 1
 judge 'the crates on the longest way come first' test "$(sed -n 's/ begins.*//p' told | paste -sd ' ')" = 'low right left program'
 
+PATH=/usr/bin:/bin prove
+judge 'with no rt nothing begins' test "$status" = 1 -a ! -s log
+
 printf '%s\n' 'program: low' 'low: program' > crates.txt
 prove
 judge 'crates that stand on one another' test "$status" = 1

@@ -121,7 +121,8 @@ move_kept() {
 # other flags.
 make_lean_rt() {
     local kit part
-    kit=$(dirname "$(rt doc)")
+    kit=$(rt doc) || exit 1
+    kit=$(dirname "$kit")
     mkdir -p "$lean/bin"
     for part in "$kit"/* "$kit"/bin/*; do
         case ${part#"$kit"/} in
