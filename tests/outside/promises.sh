@@ -55,7 +55,7 @@ for crate in "${library_crates[@]}" cdpatch; do
     while IFS= read -r path; do
         path=${path#"$top/crates/$crate/"}
         case $path in
-            src/lib.rt | src/main.rt | specs/Lib.antt | src/tests.rt | src/tests/*) continue ;;
+            src/lib.rt | src/main.rt | specs/Lib.antt) continue ;;
         esac
         grep -qxF "$path" placed || grep -qxF "${path%/*}/" placed || left_out+=" $path"
     done < <(find "$top/crates/$crate" -name out -prune -o \( -path '*/src/*.rt' -o -path '*/specs/*.antt' \) -print | sort)

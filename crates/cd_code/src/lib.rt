@@ -1,7 +1,5 @@
 //! The codes of a CD-ROM sector (ECMA-130): the field GF(2^8), the syndromes and parity bytes of the
 //! product code of Annex A, and the error detection code of the clause on sectors.
-//!
-//! Tests: `src/tests/`.
 #![tactic(auto)]
 
 mod columns;
@@ -24,6 +22,3 @@ pub use lane_sums::LaneSums;
 pub use lanes::{lanes_at, put_lanes};
 pub use laws::{edc_is_unique, edc_of_sum, pair_is_unique, product_goes_by_bits, sum_goes_by_bits};
 pub use syndrome::{pair_change, pair_from, parity_pair, syndromes};
-
-#[cfg(test)]
-mod tests;

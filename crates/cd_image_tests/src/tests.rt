@@ -1,4 +1,4 @@
-//! Images, scripts, and what they must give.
+//! Streams, images, scripts, and what they must give.
 
 mod addresses;
 mod applied;
@@ -18,5 +18,6 @@ mod noise;
 mod order;
 mod patching;
 mod refused;
+mod streams;
 mod windows;
 mod writers;

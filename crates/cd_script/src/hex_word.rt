@@ -10,7 +10,7 @@ use std::alloc::{AllocError, Global};
 use std::marker::Model;
 
 /// An even number of hex digits, in either case. Contracts see the bytes that they spell.
-#[derive(Debug, Drop)]
+#[derive(Drop)]
 pub(crate) struct HexWord<'a> {
     digits: &'a [u8],
 }

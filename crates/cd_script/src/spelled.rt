@@ -8,7 +8,7 @@ use crate::patch::{Edit, Patch};
 use std::alloc::{AllocError, Global};
 
 /// A patch that has no bytes of its own: a line can be checked without memory.
-#[derive(Debug, Drop)]
+#[derive(Drop)]
 pub(crate) struct SpelledPatch<'a> {
     pub(crate) line: u32,
     pub(crate) block: u32,
@@ -17,7 +17,7 @@ pub(crate) struct SpelledPatch<'a> {
 }
 
 /// What a patch does.
-#[derive(Debug, Drop)]
+#[derive(Drop)]
 pub(crate) enum SpelledEdit<'a> {
     Put {
         bytes: HexWord<'a>,

@@ -1,8 +1,6 @@
 //! A sector of a CD-ROM as ECMA-130 lays it out: 2352 bytes, of which the sync field and the mode byte
 //! tell the kind. For Mode 1: making the one consistent sector with a given content, and telling what is
 //! wrong with a sector.
-//!
-//! Tests: `src/tests/`.
 #![tactic(auto)]
 
 mod addresses;
@@ -33,6 +31,3 @@ pub use product_code::{
 };
 pub use sector::{EDC, HEADER, INTERMEDIATE, SECTOR_SIZE, Sector, USER_DATA, USER_SIZE, put_part};
 pub use sums::sum_of;
-
-#[cfg(test)]
-mod tests;

@@ -20,6 +20,3 @@ pub use line::{LINE_SIZE, Line};
 pub use sink::{Sink, SinkFailed};
 pub use source::{Source, SourceFailed};
 pub use transfer::{fill, write_all};
-
-#[cfg(test)]
-mod tests;

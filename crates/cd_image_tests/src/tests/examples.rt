@@ -1,11 +1,81 @@
-//! The examples of the rustdoc of cd_read, cd_report and cd_image.
+//! The examples of the rustdoc of cd_stream, cd_read, cd_report and cd_image.
 
-use cd_image::{SliceSink, SliceSource, ToWrite, ZeroSource, apply, audit, check, list};
+use cd_image::{apply, audit, check, list};
 use cd_read::read_sector;
 use cd_script::parse;
 use cd_sector::{SECTOR_SIZE, Sector, USER_SIZE, encode};
+use cd_stream::{
+    Buffered, FailAfter, FromRead, Line, Short, Sink, SinkFailed, SliceSink, SliceSource, Source,
+    ToWrite, ZeroSource, fill, write_all,
+};
+use std::alloc::AllocError;
 use std::io;
 use std::test::Fail;
+
+#[test]
+fn sources(rt: HostRuntime) {
+    let mut source = SliceSource::new(b"abc");
+    let mut into = [0; 4];
+    assert_eq!(rt; fill(&mut source, &mut into), Ok(3)); // then it has ended
+    assert_eq!(rt; into, *b"abc\0");
+
+    let mut source = SliceSource::new(b"abc");
+    let mut into = [0; 2];
+    assert_eq!(rt; source.read(&mut into), Ok(2));
+    assert_eq!(rt; into, *b"ab");
+
+    let mut into = [7; 4];
+    assert_eq!(rt; fill(&mut ZeroSource::new(3), &mut into), Ok(3));
+    assert_eq!(rt; into, [0, 0, 0, 7]);
+
+    let mut source = FromRead::new(b"abc".as_slice()); // a slice is a reader
+    let mut into = [0; 4];
+    assert_eq!(rt; source.read(&mut into), Ok(3));
+    assert_eq!(rt; into, *b"abc\0");
+}
+
+#[test]
+fn sinks(rt: HostRuntime) {
+    let mut space = [0; 3];
+    let mut sink = SliceSink::new(&mut space);
+    assert_eq!(rt; write_all(&mut sink, b"abcd"), Err(SinkFailed)); // no room for the last
+    assert_eq!(rt; sink.written(), b"abc".as_slice());
+
+    let mut space = [0; 4];
+    let mut sink = SliceSink::new(&mut space);
+    assert_eq!(rt; sink.write(b"ab"), Ok(2));
+    assert_eq!(rt; sink.written(), b"ab".as_slice());
+
+    let mut space = [0; 4];
+    let mut sink = Short::new(SliceSink::new(&mut space), 2);
+    assert_eq!(rt; sink.write(b"abc"), Ok(2)); // at most 2 bytes a call
+    assert_eq!(rt; sink.get_ref().written(), b"ab".as_slice());
+
+    let mut space = [0; 4];
+    let mut sink = FailAfter::new(SliceSink::new(&mut space), 2);
+    assert_eq!(rt; write_all(&mut sink, b"abc"), Err(SinkFailed)); // from the third byte on
+    assert_eq!(rt; sink.get_ref().written(), b"ab".as_slice());
+}
+
+#[test]
+fn lines_and_buffers(rt: HostRuntime) -> Result<(), AllocError> {
+    let mut line = Line::new();
+    line.push_text(b"sectors ");
+    line.push_number(8);
+    assert_eq!(rt; line.as_slice(), b"sectors 8".as_slice());
+
+    let mut bytes = Vec::new(rt.alloc()); // a vector is a writer
+    let mut sink = ToWrite::new(&mut bytes);
+    assert_eq!(rt; sink.write(b"abc"), Ok(3));
+    assert_eq!(rt; bytes.as_slice(), b"abc".as_slice());
+
+    let mut memory = [0; 4];
+    let mut sink = Buffered::new(SliceSink::new(&mut memory), vec![in rt.alloc(); 0; 8]?);
+    assert_eq!(rt; sink.write(b"abcde"), Ok(5)); // it holds them back
+    assert_eq!(rt; sink.finish(), Err(SinkFailed)); // below there is no room for the last
+
+    Ok(())
+}
 
 #[test]
 fn reading_and_reports(rt: HostRuntime) -> Result<(), Fail> {

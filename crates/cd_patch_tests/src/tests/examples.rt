@@ -1,10 +1,154 @@
-//! The examples of the rustdoc of cd_delta, cd_patch and cd_script.
+//! The examples of the rustdoc of cd_code, cd_sector, cd_delta, cd_patch and cd_script.
 
+use cd_code::{
+    ColumnSums, LaneSums, alpha_power, column_lanes, column_sums, edc_of, lanes_at, pair_change,
+    pair_from, parity_pair, put_lanes, row_sums, syndromes, times,
+};
 use cd_delta::{carry_header, carry_user, change_byte, change_header, change_user, parity_changes};
 use cd_patch::{Outcome, apply_patch, blocks_met};
 use cd_script::{Edit, ScriptFault, parse};
-use cd_sector::{Sector, SectorKind, USER_SIZE, defect, encode, kind};
+use cd_sector::{
+    EDC, HEADER, SECTOR_SIZE, Sector, SectorKind, USER_SIZE, address_of, defect, edc_bytes, encode,
+    fill_parity, is_consistent, kind, put_edc, put_part, same_defect, stored_edc, sum_of,
+};
+use std::simd::prelude::*;
 use std::test::Fail;
+
+#[test]
+fn field_and_edc(rt: HostRuntime) {
+    assert_eq!(rt; times(0x80, 0x02), 0x1D); // x^8 is x^4 + x^3 + x^2 + 1
+    assert_eq!(rt; times(0x03, 0xF4), 0x01); // F4 is the inverse of 03
+
+    assert_eq!(rt; alpha_power(8), 0x1D);
+    assert_eq!(rt; alpha_power(255), 0x01); // from here on they come again
+
+    assert_eq!(rt; edc_of(&[0x00; 2064]), 0);
+    assert_eq!(rt; edc_of(&[0x01]), 0x9091_0101);
+}
+
+#[test]
+fn pairs_of_a_word(rt: HostRuntime) {
+    assert_eq!(rt; syndromes(&[0x80, 0x01]), (0x81, 0x1C)); // 80 + 01, and 2 * 80 + 01
+
+    let (plain, weighted) = syndromes(&[0x01]);
+    assert_eq!(rt; pair_from(plain, weighted), (0x03, 0x02)); // as `parity_pair` of 01
+
+    assert_eq!(rt; parity_pair(&[0x01]), (0x03, 0x02));
+    assert_eq!(rt; syndromes(&[0x01, 0x03, 0x02]), (0x00, 0x00)); // a code word
+
+    assert_eq!(rt; pair_change(3, 0, 0x01), (0x03, 0x02)); // 00 00 00 becomes 01 03 02
+}
+
+#[test]
+fn columns_of_rows(rt: HostRuntime) {
+    let mut sums = ColumnSums::zero();
+    row_sums(&[0x80; 86], &mut sums);
+    row_sums(&[0x01; 86], &mut sums);
+    assert_eq!(rt; (sums.plain[85], sums.weighted[85]), (0x81, 0x1C)); // 80 + 01, and 2 * 80 + 01
+
+    let lanes = column_lanes(&[[0x80; 86], [0x01; 86]]); // two rows
+    assert_eq!(rt; lanes.front.plain[0], 0x81); // 80 + 01, in column 0
+    assert_eq!(rt; lanes.back.weighted[31], 0x1C); // 2 * 80 + 01, in column 85
+
+    let mut rows = [0x00; 2236];
+    rows[0] = 0x01; // column 0 is 01, and 25 times 00
+    let sums = column_sums(&rows);
+    assert_eq!(rt; (sums.plain[0], sums.weighted[0]), (0x01, alpha_power(25)));
+}
+
+#[test]
+fn lanes_of_words(rt: HostRuntime) {
+    let words = LaneSums::zero().with_lanes(u8x32::splat(0x80)); // 32 words 80
+    let longer = words.with_lanes_where(u8x32::splat(0x01), u8x32::splat(0xFF)); // 32 words 80 01
+    assert_eq!(rt; (longer.plain[0], longer.weighted[0]), (0x81, 0x1C)); // 80 + 01, and 2 * 80 + 01
+    let same = words.with_lanes_where(u8x32::splat(0x01), u8x32::splat(0x00));
+    assert_eq!(rt; (same.plain[0], same.weighted[0]), (0x80, 0x80)); // still 80
+
+    let words = LaneSums::zero().with_lanes(u8x32::splat(0x01)); // 32 words 01
+    let (first, second) = words.pairs();
+    assert_eq!(rt; (first[31], second[31]), (0x03, 0x02)); // 01 03 02 is a code word
+
+    let lanes = lanes_at(&[0x07; 40], 8); // bytes 8 to 39
+    let mut bytes = [0x00; 34];
+    put_lanes(&mut bytes, 1, lanes);
+    assert_eq!(rt; (bytes[0], bytes[1], bytes[33]), (0x00, 0x07, 0x00));
+}
+
+#[test]
+fn whole_sectors(rt: HostRuntime) {
+    let sector = encode([0x00, 0x02, 0x00], &[0x41; USER_SIZE]); // block 0
+    assert_eq!(rt; kind(&sector), SectorKind::Mode1);
+    assert_eq!(rt; stored_edc(sector.bytes()), edc_of(&sector.bytes()[..EDC]));
+
+    let sector = encode([0x00, 0x02, 0x00], &[0x00; USER_SIZE]);
+    assert_eq!(rt; kind(&sector), SectorKind::Mode1);
+    assert_eq!(rt; kind(&Sector::default()), SectorKind::NoSync); // all 00
+
+    let mut sector = Sector::default(); // all 00
+    sector.put(12, 0x01);
+    fill_parity(&mut sector);
+    assert_eq!(rt; [sector.byte(2076), sector.byte(2162)], [0xF5, 0xF4]); // P of its column
+
+    let sector = Sector::from_bytes([0x0F; SECTOR_SIZE]);
+    let other = Sector::from_bytes([0xFF; SECTOR_SIZE]);
+    assert_eq!(rt; sum_of(&sector, &other).byte(2351), 0xF0);
+}
+
+#[test]
+fn defects(rt: HostRuntime) {
+    let mut sector = encode([0x00, 0x02, 0x00], &[0x00; USER_SIZE]);
+    sector.put(16, 0x01); // a byte of the user data, in one column and one diagonal
+    let report = defect(&sector);
+    assert_eq!(rt; (report.edc, report.p, report.q), (true, 1, 1));
+
+    let mut sector = encode([0x00, 0x02, 0x00], &[0x00; USER_SIZE]); // block 0, all zeros
+    assert!(rt; is_consistent(&sector));
+    sector.put(2351, 0xFF); // the last byte of Q parity
+    assert!(rt; !is_consistent(&sector));
+
+    let sector = encode([0x00, 0x02, 0x00], &[0x00; USER_SIZE]);
+    let other = encode([0x00, 0x02, 0x01], &[0x41; USER_SIZE]);
+    assert!(rt; same_defect(&sector, &other)); // neither has any
+    assert!(rt; !same_defect(&sector, &Sector::from_bytes([0xFF; SECTOR_SIZE])));
+}
+
+#[test]
+fn bytes_of_a_sector(rt: HostRuntime) {
+    let sector = Sector::from_bytes([0xA5; SECTOR_SIZE]);
+    assert_eq!(rt; *sector.bytes(), [0xA5; SECTOR_SIZE]);
+
+    let mut sector = Sector::default(); // all 00
+    sector.put(16, 0x41);
+    assert_eq!(rt; (sector.byte(16), sector.byte(17)), (0x41, 0x00));
+
+    let mut sector = Sector::default(); // all 00
+    sector.read_with(&mut 0x41, |source, bytes| bytes[16] = *source);
+    assert_eq!(rt; sector.byte(16), 0x41);
+
+    let mut bytes = [0x00; SECTOR_SIZE];
+    put_part(&mut bytes, HEADER, &[0x00, 0x02, 0x16]);
+    assert_eq!(rt; (bytes[13], bytes[14], bytes[15]), (0x02, 0x16, 0x00));
+}
+
+#[test]
+fn parts_of_a_sector(rt: HostRuntime) {
+    let sector = encode([0x00, 0x02, 0x00], &[0x00; USER_SIZE]); // block 0, at 00:02:00
+    assert_eq!(rt; sector.header(), [0x00, 0x02, 0x00, 0x01]); // the last is the mode
+
+    let sector = encode([0x00, 0x02, 0x00], &[0x41; USER_SIZE]);
+    assert_eq!(rt; sector.user(), [0x41; USER_SIZE].as_slice());
+
+    assert_eq!(rt; address_of(0), Some([0x00, 0x02, 0x00])); // 00:02:00
+    assert_eq!(rt; address_of(449_849), Some([0x99, 0x59, 0x74])); // 99:59:74
+    assert_eq!(rt; address_of(449_850), None);
+
+    assert_eq!(rt; edc_bytes(0x9091_0101), [0x01, 0x01, 0x91, 0x90]);
+
+    let mut bytes = [0x00; SECTOR_SIZE];
+    put_edc(&mut bytes, 0x9091_0101);
+    assert_eq!(rt; bytes[2067], 0x90); // the most significant byte is the last
+    assert_eq!(rt; stored_edc(&bytes), 0x9091_0101);
+}
 
 #[test]
 fn changes(rt: HostRuntime) {

@@ -1,4 +1,4 @@
-use Rattle.std.proofs.Common.{None}
+use Rattle.std.proofs.Common.{None, rules}
 use Rattle.cd_report.specs.ListText.{list_report}
 use Rattle.cd_report.specs.Report.{Reports}
 use Rattle.cd_report.specs.Scanning.{list_remaining, spec_of}
@@ -43,3 +43,6 @@ returns-clause-ended g c = Reports-ended _ (done g c)
 
 pub returns-clause-by_end : goal.returns-clause-by_end
 returns-clause-by_end g c = Reports-by_end _ (done g c)
+
+pub scan-requires-clause-start : goal.scan-requires-clause-start
+scan-requires-clause-start g c = search rules

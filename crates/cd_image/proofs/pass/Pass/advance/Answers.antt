@@ -1,4 +1,4 @@
-use Rattle.std.proofs.Common.{suc, take, drop, length, arith}
+use Rattle.std.proofs.Common.{suc, take, drop, length, arith, rules}
 use Rattle.std.proofs.lemmas.Option.{slice_get_within}
 use Rattle.std.proofs.lemmas.Result.{err_from_is_err_and}
 use Rattle.cd_image.specs.Applying.{streams}
@@ -79,3 +79,9 @@ returns-in_ok-write_front-clause-goes g c = λ base start going.
     let log = g.L.Sink.seen c.args.log.now in
     goes_same c.args.carry ps d base start (streams image (g.O.Sink.seen c.write_front.new.out) log) c.write_front.new.self c.in_ok-write_front.ensures.decided
     (c.in_ok-write_front.ensures.goes c.args.carry (take d ps) (drop d ps) base start image log (strictly_ahead ps d c.args.self.now.block c.requires.patches.rising going.ahead c.in_default.ensures.none) going)
+
+pub apply_front-requires-clause-reach : goal.apply_front-requires-clause-reach
+apply_front-requires-clause-reach g c = search rules
+
+pub read_next-requires-clause-room : goal.read_next-requires-clause-room
+read_next-requires-clause-room g c = search rules

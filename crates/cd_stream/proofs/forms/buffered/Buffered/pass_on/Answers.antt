@@ -1,4 +1,4 @@
-use Rattle.std.proofs.Common.{◌-◌, arith, ap, drop, ◌∙◌}
+use Rattle.std.proofs.Common.{◌-◌, arith, ap, drop, ◌∙◌, rules}
 use Rattle.std.proofs.Math.ListN.{length-take}
 use Rattle.cd_stream.proofs.BufferLemmas.{Keeps-passed, between}
 use Rattle.cd_stream.proofs.forms.buffered.Buffered.pass_on.Goals as goal
@@ -15,3 +15,9 @@ loop-self-preserved g c =
       finished = before.finished;
       space = before.space;
     }
+
+pub returns : goal.returns
+returns g c = search rules
+
+pub returns-in_err-self : goal.returns-in_err-self
+returns-in_err-self g c = search rules

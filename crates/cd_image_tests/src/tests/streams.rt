@@ -1,0 +1,7 @@
+//! Sources and sinks at concrete types.
+
+mod buffering;
+mod calls;
+mod forms;
+mod one_call;
+mod std_streams;

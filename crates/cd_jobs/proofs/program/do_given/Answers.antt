@@ -1,0 +1,8 @@
+use Rattle.std.proofs.Common.{rules}
+use Rattle.cd_jobs.proofs.program.do_given.Goals as goal
+
+pub returns-in-Err-2-clause-no_text : goal.returns-in-Err-2-clause-no_text
+returns-in-Err-2-clause-no_text g c = search rules
+
+pub returns-in-Ok-clause-does : goal.returns-in-Ok-clause-does
+returns-in-Ok-clause-does g c = search rules

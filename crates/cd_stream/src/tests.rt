@@ -1,8 +1,0 @@
-//! Sources and sinks at concrete types.
-
-mod buffering;
-mod calls;
-mod examples;
-mod forms;
-mod one_call;
-mod std_streams;
