@@ -37,7 +37,7 @@ Status:
   1  a patch was refused, or audit has a finding
   2  an I/O error, an invalid script, or invalid arguments; OUT may be short
 
-cdpatch 0.1.0";
+cdpatch 1.0.0";
 
 /// What `list` does.
 pub const LIST_ABOUT: &str = "List the kinds of an image's sectors";
