@@ -100,7 +100,7 @@ image_failed() {
         list) head -n -1 list.log | awk -F '[- ]' -v n=$sectors '$2 < n - 1' | cmp -s - before ;;
         audit) head -n -1 audit.log | awk -v n=$sectors '$1 < n' | cmp -s - before ;;
         check) logged $((sectors - in_hand)) ;;
-        apply) logged $((sectors - in_hand)) && sent $((moved - 2352 * in_hand - buffer)) ;;
+        apply) logged $((sectors - in_hand)) && sent $((2352 * (sectors - in_hand))) ;;
     esac
 }
 
@@ -146,9 +146,11 @@ out_refused() {
 
 # ---- standard output
 
+# A failed write of the log: what was sent to the output by then is written, so many bytes at least.
+sent_by_then=0
 log_failed() {
     ended_at_fault && within log "$right_log" && [ "$(stat -c %s log)" = "$(moved_before)" ] || return
-    [ "$2" != apply ] || within out "$right_out"
+    [ "$2" != apply ] || sent "$sent_by_then"
 }
 
 # ---- short counts
@@ -215,6 +217,8 @@ outputs_fail() {
     each openat out "error=EIO error=ENOSPC error=EROFS" out_refused apply "$image" "$script" "$out"
     each write out "$errors retval=0" out_failed apply "$image" "$script" "$out"
     each write out 'retval=1 retval=2351' out_taken_in_part apply "$image" "$script" "$out"
+    # This log is written when the output is finished.
+    sent_by_then=$(stat -c %s patched)
     each write log "$errors retval=0" log_failed apply "$image" "$script" "$out"
     each write log 'retval=1 retval=100' log_taken_in_part apply "$image" "$script" "$out"
     each close out "$errors" as_ever apply "$image" "$script" "$out"
@@ -275,6 +279,7 @@ long_texts_fail() {
     echo 'applied 9000 refused 0' >> long.log
     right_status=0
     right_out=image
+    sent_by_then=$((3 * 2352))
     each write log "$errors retval=0" log_failed check "$image" "$here/long.script"
     each write log 'retval=1 retval=2351' log_taken_in_part check "$image" "$here/long.script"
     each write log "$errors retval=0" log_failed apply "$image" "$here/long.script" "$out"

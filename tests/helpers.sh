@@ -8,32 +8,12 @@ program=$(realpath "${1:-$top/cdpatch}")
 vectors=$top/crates/cd_vectors/data/cdrkit-8.bin
 . "$tests/judging.sh"
 cd "$scratch" || exit 1
-skipped=()
-
-# Counts what could not be tested here, and tells it.
-skip() {
-    skipped+=("$1")
-    echo "skipped: $1"
-}
-
-# missing COMMAND PACKAGE NAME: whether there is no such command; then what it was wanted for is skipped.
-missing() {
-    command -v "$1" > /dev/null && return 1
-    skip "$3, which wants $1 (Debian's package $2)"
-}
 
 # compiled NAME PURPOSE: whether a library of the C source of this name could be made, as NAME.so; else its purpose is skipped.
 compiled() {
     gcc -shared -fPIC -O2 -o "$1.so" "$tests/$1.c" -ldl 2> compiler_errors ||
         skip "$2, which wants gcc and the C library's headers (Debian's packages gcc and libc6-dev)"
     [ -e "$1.so" ]
-}
-
-# Prints the counts, and answers whether nothing failed.
-finish() {
-    echo "${#skipped[@]} skipped"
-    echo "$passed passed, $failed failed"
-    [ "$failed" = 0 ]
 }
 
 # run WORD..: the program with these words, its text in `log`.
@@ -52,6 +32,14 @@ ended() {
 # A run ended so, and there is no file `out`.
 ended_without_output() {
     ended "$1" "$2" && [ ! -e out ] && [ ! -L out ]
+}
+
+# states PAGE SENTENCE: counts whether a page has a sentence, which the tests beside this run.
+states() {
+    judge "$1 states: $2" has_sentence "$@"
+}
+has_sentence() {
+    tr -s ' \n' ' ' < "$top/$1" | grep -qF -- "$2"
 }
 
 # keep: what stands in `image` and `script` is what they have to keep.

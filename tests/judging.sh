@@ -1,9 +1,10 @@
-# What all tests of the built program share: a scratch folder, which is gone afterwards, and the counts.
+# What all tests that run as processes share: a scratch directory, which is gone afterwards, and the counts.
 
 scratch=$(mktemp -d)
 trap 'rm -rf "$scratch"' EXIT
 passed=0
 failed=0
+skipped=()
 
 # limit NAME: the number that ends a row of the man page's table of limits.
 limit() {
@@ -20,4 +21,27 @@ judge() {
         failed=$((failed + 1))
         echo "FAILED: $name"
     fi
+}
+
+# Counts what could not be tested here, and says so; it fails if WHOLE is set.
+skip() {
+    if [ -n "${WHOLE-}" ]; then
+        judge "$1" false
+    else
+        skipped+=("$1")
+        echo "skipped: $1"
+    fi
+}
+
+# missing COMMAND PACKAGE [NAME]: whether there is no such command; then what it was wanted for is skipped.
+missing() {
+    command -v "$1" > /dev/null && return 1
+    skip "${3-a part}, which wants $1 (Debian's package $2)"
+}
+
+# Prints the counts, and answers whether nothing failed.
+finish() {
+    [ ${#skipped[@]} = 0 ] || echo "${#skipped[@]} skipped"
+    echo "$passed passed, $failed failed"
+    [ "$failed" = 0 ]
 }

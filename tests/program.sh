@@ -239,6 +239,8 @@ told_by_parser() {
 }
 refused apply image script
 refused apply image script out more
+refused apply image script out --base 5 --carry more
+refused apply --base 5 --carry -- image script out more
 refused check image
 refused check image script more
 refused list image image

@@ -3,29 +3,15 @@
 # 'N passed, M failed'.
 set -u
 top=$(cd "$(dirname "$0")/.." && pwd)
-scratch=$(mktemp -d)
-trap 'rm -rf "$scratch"' EXIT
+. "$top/tests/judging.sh"
 cd "$scratch" || exit 1
-passed=0
-failed=0
 
-# judge NAME CONDITION..: counts whether a condition holds.
-judge() {
-    local name=$1
-    shift
-    if "$@"; then
-        passed=$((passed + 1))
-    else
-        failed=$((failed + 1))
-        echo "FAILED: $name"
-    fi
-}
-
-# A repository in which `right` and `left` stand on `low`, the program on all three, and tests on the program.
-mkdir -p tools kit/{bin,rlibs} crates/{low,left,right,program,tests}/src
+# A repository in which `right` and `left` stand on `low`, the program on all three, tests on the program, and a static library on
+# `left`.
+mkdir -p tools kit/{bin,rlibs} crates/{low,left,right,program,tests,for_c}/src
 cp "$top/tools/prove.sh" tools
 touch crates/program/src/main.rt kit/START-HERE.md kit/bin/rtlib.py
-printf '%s\n' 'program: left right' 'left: low bstr' '# the lowest' 'right: low' 'low:' 'tests: program' > crates.txt
+printf '%s\n' 'program: left right' 'left: low bstr' '# the lowest' 'right: low' 'low:' 'tests: program' 'for_c staticlib: left' > crates.txt
 
 # An rt that tells in `told` what it is called for, which of a crate's libraries lack, and whether its earlier work is there.
 cat > kit/bin/rt << 'EOF_RT'
@@ -36,11 +22,16 @@ if [ "$1" = doc ]; then
     exit
 fi
 name=$(basename "$PWD")
-grep -q "^$name:" ../../crates.txt || exit 1
-below=$(sed -n "s/^$name: *//p" ../../crates.txt)
+grep -qE "^$name( staticlib)?:" ../../crates.txt || exit 1
+below=$(sed -nE "s/^$name( staticlib)?: *//p" ../../crates.txt)
 for crate in $below; do
     [ ! -d "../$crate" ] || [ -e "../$crate/out/rlib/built" ] || echo "$name lacks $crate" >> "$TOLD"
 done
+# A static library is built each time, whatever was kept of the work.
+if grep -q "^$name staticlib" ../../crates.txt; then
+    echo "$name begins: $*" | tee -a "$TOLD" > "out/lib$name.a"
+    exit
+fi
 if [ -e out/rlib/built ]; then
     [ "$1" = lib ] || printf '%s\n' 'rt: nothing has changed since the last proved build' "rt: running out/$name" >&2
     exit 0
@@ -80,7 +71,7 @@ keep() {
 # prove WORD..: a run of tools/prove.sh with these words, its text in `log` and its status in `status`.
 prove() {
     : > told
-    bash tools/prove.sh program "$@" > log 2> errors < /dev/null
+    bash tools/prove.sh "${goals:-program}" "$@" > log 2> errors < /dev/null
     status=$?
 }
 
@@ -109,6 +100,17 @@ prove 8 x86-64-v3
 judge 'several at a time' test "$status" = 0 -a "$(grep -c ends told)" = 4
 judge 'each after those below it' not_in_told lacks
 judge 'the processor is handed on' in_told 'program begins: run --jobs 1 --cpu x86-64-v3'
+
+rm -r crates/*/out
+goals='program for_c' prove 2
+judge 'a program and a static library' test "$status" = 0 -a "$(grep -c '^proved [a-z_]*, ' log)" = 4
+judge 'are both told' grep -q '^proved and built program for_c in ' log
+judge 'the library is built for any processor and for a newer one' cmp -s <(cat crates/for_c/out/libfor_c{,-x86-64-v3}.a) \
+    <(printf '%s\n' 'for_c begins: lib' 'for_c begins: lib --cpu x86-64-v3')
+judge 'it comes after those below it' not_in_told lacks
+rm -r crates/*/out
+goals=for_c prove 2
+judge 'what a static library does not need is not proved' cmp -s <(sed -n 's/ begins:.*//p' told) <(printf '%s\n' low left for_c for_c)
 
 rm -r crates/*/out
 BROKEN=left prove 1
@@ -146,5 +148,4 @@ prove
 judge 'crates that stand on one another' test "$status" = 1
 judge 'are told' grep -q 'stands on itself$' errors
 
-echo "$passed passed, $failed failed"
-[ "$failed" = 0 ]
+finish

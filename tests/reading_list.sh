@@ -26,6 +26,7 @@ visit() {
     [[ $file != *.antt ]] || files+=("$file")
 }
 
+visit crates/cd_memory/src/run.rt
 visit crates/cd_image/src/applying.rt
 visit crates/cd_stream/src/source.rt
 visit crates/cd_stream/src/sink.rt

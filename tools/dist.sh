@@ -1,19 +1,29 @@
 #!/usr/bin/env bash
-# `tools/dist.sh PROGRAM FOLDER` makes the tarball of a release in FOLDER, and its checksum beside it: the program, the man page,
-# the completions, the pages, and the Makefile that installs them. Its bytes follow from those of these files alone.
+# `tools/dist.sh PROGRAM LIBRARY DIRECTORY` makes the tarball of a release in DIRECTORY, and its checksum beside it: the program, the
+# library with its header, the man pages, the completions, the recipes, the pages for users, and a Makefile that only installs them.
+# The pages lack what only works in the sources. The bytes follow from those of these files only.
 set -euo pipefail
 program=$(realpath "$1")
-folder=$(realpath "$2")
+library=$(realpath "$2")
+folder=$(realpath "$3")
 cd "$(dirname "$0")/.."
 version=$("$program" --help | tail -n 1)
 name=cdpatch-${version#cdpatch }-x86_64-linux
 scratch=$(mktemp -d)
 trap 'rm -rf "$scratch"' EXIT
-mkdir -p "$scratch/$name"/{docs,man,completions}
+mkdir -p "$scratch/$name"/{docs,man,completions,include,share,library/x86-64-v3}
 cp "$program" "$scratch/$name/cdpatch"
-cp Makefile README.md CHANGELOG.md "$scratch/$name"
-cp docs/*.md docs/*.svg "$scratch/$name/docs"
-cp man/cdpatch.1 "$scratch/$name/man"
+{ printf '%s\n' 'all:' "	@echo 'Everything is built: make install installs it.'" ''; cat install.mk; } > "$scratch/$name/Makefile"
+cp CHANGELOG.md "$scratch/$name"
+cp docs/{SCRIPTS,TRANSLATE,REPAIR,TRUST}.md docs/{sector,apply}.svg "$scratch/$name/docs"
+for page in README.md docs/INSTALL.md; do
+    sed '/^<!-- sources -->$/,/^<!-- end of sources -->$/d' "$page" > "$scratch/$name/$page"
+done
+cp share/recipes.sh "$scratch/$name/share"
+cp man/cdpatch.1 man/libcdpatch.3 "$scratch/$name/man"
+cp include/cdpatch.h include/cdpatch.pc.in "$scratch/$name/include"
+cp "$library"/libcdpatch.{a,so.1} "$scratch/$name/library"
+cp "$library/x86-64-v3/libcdpatch.so.1" "$scratch/$name/library/x86-64-v3"
 cp completions/_cdpatch completions/cdpatch.bash completions/cdpatch.fish "$scratch/$name/completions"
 chmod -R u=rwX,go=rX "$scratch/$name"
 tar -C "$scratch" --format=ustar --sort=name --mtime="@${SOURCE_DATE_EPOCH:-0}" --owner=0 --group=0 --numeric-owner -cf - "$name" |

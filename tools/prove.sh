@@ -1,12 +1,13 @@
 #!/usr/bin/env bash
-# Proves a program and the crates below it, and builds it: `bash tools/prove.sh PROGRAM [AT_ONCE [CPU]]`. The crates and their
-# order are those of crates.txt. A crate begins once all below it are proved, at most AT_ONCE of them side by side, and no more
-# than there are processors and memory for. CPU is the processor that the program is built for, if it is not any x86-64-v2.
+# Proves programs and static libraries and the crates below them, and builds them: `bash tools/prove.sh 'NAME ..' [AT_ONCE [CPU]]`.
+# The crates and their order are those of crates.txt. A crate begins once all below it are proved, at most AT_ONCE of them side by
+# side, and no more than there are processors and memory for. CPU is the processor that they are built for, if it is not any
+# x86-64-v2; a static library NAME is out/libNAME.a, and built for x86-64-v3 as well, as out/libNAME-x86-64-v3.a.
 set -u -o pipefail
 # Each crate gets a process group, so that an interrupt can end all that it started.
 set -m
 cd "$(dirname "$0")/.." || exit 1
-program=$1
+read -ra goals <<< "$1"
 at_once=${2:-}
 cpu=${3:-}
 most_memory=2000000 # KiB, of one crate's proof
@@ -15,8 +16,9 @@ lean=$logs/kit
 trap 'rm -rf "$logs"' EXIT
 
 declare -A needs=()    # of each crate of the repository, those that it names
-declare -A size=()     # of each crate that the program needs, its bytes
-declare -A bytes_above=()  # of each such crate, those of the crates on the longest way from it up to the program
+declare -A static=()   # the static libraries
+declare -A size=()     # of each crate that the goals need, its bytes
+declare -A bytes_above=()  # of each such crate, those of the crates on the longest way from it up to a goal
 declare -A bytes_below=()  # of each such crate, those of the crates on the longest way from the bottom up to it
 declare -A running=()  # the crate of each process
 declare -A state=()    # of each crate that has begun: running, proved or failed
@@ -28,6 +30,7 @@ read_crates() {
     while IFS=: read -r name words; do
         read -r name rest <<< "${name%%#*}"
         [ -z "$name" ] || needs[$name]=${words%%#*}
+        [ "$rest" != staticlib ] || static[$name]=yes
     done < crates.txt
     for name in "${!needs[@]}"; do
         words=
@@ -44,7 +47,7 @@ bytes_of() {
         xargs -0 cat /dev/null | echo $(($(wc -c) + 1))
 }
 
-# measure_above CRATE BYTES NAMES: the crates of these names, of so many bytes, lead from a crate up to the program.
+# measure_above CRATE BYTES NAMES: the crates of these names, of so many bytes, lead from a crate up to a goal.
 measure_above() {
     local name
     if [[ " $3 " == *" $1 "* ]]; then
@@ -69,10 +72,19 @@ measure_below() {
     bytes_below[$1]=$most
 }
 
-# How long a crate may wait for those on the longest way to the program, in hundredths of that way.
+# How long a crate may wait for those on the longest way to a goal, in hundredths of that way.
 slack() {
-    local longest=$((bytes_below[$program] + size[$program]))
     echo $((100 * (longest - bytes_above[$1] - size[$1] - bytes_below[$1]) / longest))
+}
+
+# The bytes of the crates on the longest way from the bottom up to a goal, with the goal.
+measure_longest() {
+    local goal
+    longest=0
+    for goal in "${goals[@]}"; do
+        measure_below "$goal"
+        [ $((bytes_below[$goal] + size[$goal])) -le "$longest" ] || longest=$((bytes_below[$goal] + size[$goal]))
+    done
 }
 
 # Prints all crates below a crate, some more than once.
@@ -165,11 +177,22 @@ prove_library() {
     move_kept "$out" "$room/crates/$name/out"
     # What `rt check` has kept of its work is not proved again.
     [ ! -d "$room/crates/$name/out/incremental" ] || rt=rt
-    (cd "$room/crates/$name" && "$rt" lib 2>&1)
+    if [[ -v static[$name] ]]; then
+        build_static "$rt" "$name" "$room/crates/$name" "$out"
+    else
+        (cd "$room/crates/$name" && "$rt" lib 2>&1)
+    fi
     status=$?
     move_kept "$room/crates/$name/out" "$out"
     rm -rf "$room"
     return "$status"
+}
+
+# build_static RT CRATE FOLDER OUT: what is built for the one processor is gone when it is built for the other.
+build_static() {
+    local made=$3/out/lib$2.a
+    (cd "$3" && "$1" lib ${cpu:+--cpu "$cpu"} 2>&1) && mv "$made" "$4/lib$2.a" || return
+    (cd "$3" && "$1" lib --cpu x86-64-v3 2>&1) && mv "$made" "$4/lib$2-x86-64-v3.a"
 }
 
 # rt says that nothing has changed, and that it runs the program: neither is a proof. There is one short function to prove,
@@ -187,7 +210,7 @@ tell() {
     fi
 }
 
-# The crates on the longest way to the program come first, and get most of the processor: all others wait for them.
+# The crates on the longest way to a goal come first, and get most of the processor: all others wait for them.
 begin() {
     local kind=library
     [ ! -f "crates/$1/src/main.rt" ] || kind=program
@@ -244,12 +267,14 @@ stop() {
 }
 
 read_crates
-if [[ ! -v needs[$program] ]]; then
-    echo "crates.txt has no $program" >&2
-    exit 1
-fi
-measure_above "$program" 0 ''
-measure_below "$program"
+for name in "${goals[@]}"; do
+    if [[ ! -v needs[$name] ]]; then
+        echo "crates.txt has no $name" >&2
+        exit 1
+    fi
+    measure_above "$name" 0 ''
+done
+measure_longest
 make_lean_rt
 order=$(for name in "${!bytes_above[@]}"; do echo "$(slack "$name") $name"; done | sort -k 1,1n -k 2 | cut -d ' ' -f 2)
 for most in "$(nproc)" "$(room_for)"; do
@@ -271,4 +296,4 @@ if [ "$failed" -gt 0 ]; then
     echo "not proved, after $took"
     exit 1
 fi
-echo "proved and built $program in $took"
+echo "proved and built ${goals[*]} in $took"

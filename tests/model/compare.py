@@ -1,4 +1,4 @@
-"""Random cases by the model and by the program, byte for byte: `run PROGRAM [--cases N] [--seed S]`, `run self-check`."""
+"""Random cases by the model and by the program, byte for byte: `run PROGRAM [--cases N] [--seed S]`."""
 
 import argparse
 import shlex
@@ -11,7 +11,6 @@ from multiprocessing import Pool
 from pathlib import Path
 
 from cases import kinds_of, some_case, wanted
-from self_check import self_check
 
 KINDS = Path(__file__).with_name('kinds.txt').read_text().splitlines()
 FLOOR = 200  # of so many cases, on the whole, each kind must have one
@@ -60,7 +59,7 @@ def compared(given, kept):
 def words_of_the_call():
     """What the words of the command line ask for."""
     words = argparse.ArgumentParser(prog='tests/model/run', description='Compares a program with the model.')
-    words.add_argument('program', help="the program, or 'self-check' for the model alone")
+    words.add_argument('program')
     words.add_argument('--cases', type=int, default=300)
     words.add_argument('--seed', default='1')
     words.add_argument('--first', type=int, default=0, help='the number of the first case')
@@ -69,15 +68,9 @@ def words_of_the_call():
 
 
 def main():
-    """The self-check, the cases, the count of each kind of case, and of what passed and failed."""
+    """The cases, the count of each kind of case, and of what passed and failed."""
     given = words_of_the_call()
-    wrong, checked = self_check()
-    for line in wrong:
-        print(f'FAILED: the model itself: {line}')
-    if wrong or given.program == 'self-check':
-        print(f'{checked - len(wrong)} passed, {len(wrong)} failed')
-        return int(bool(wrong))
-    print(f'the model gives {checked} worked values and sectors of another encoder; seed {given.seed}', flush=True)
+    print(f'seed {given.seed}', flush=True)
     kept = tempfile.mkdtemp(prefix='cdpatch-model-')
     counts, failed = compared(given, kept)
     if not failed:
@@ -87,7 +80,7 @@ def main():
     rare = [name for name in KINDS if counts[name] < given.cases // FLOOR]
     for name in rare:
         print(f'FAILED: too few cases of this kind: {name}')
-    print(f'{1 + given.cases - len(failed)} passed, {len(failed) + len(rare)} failed')
+    print(f'{given.cases - len(failed)} passed, {len(failed) + len(rare)} failed')
     return int(bool(failed or rare))
 
 

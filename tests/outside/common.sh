@@ -3,8 +3,13 @@
 . "$top/tests/judging.sh"
 mkdir "$scratch/bin"
 ln -s "$program" "$scratch/bin/cdpatch"
+# Where the pages look for the functions that come with the program.
+mkdir -p "$scratch/share/cdpatch"
+ln -s "$top/share/recipes.sh" "$scratch/share/cdpatch/recipes.sh"
 PATH=$scratch/bin:$PATH
 export HOME=$scratch
+library=$top/library
+[ -e "$library/libcdpatch.a" ] || { library=$scratch/library && bash "$top/tools/library.sh" "$library"; }
 
 # same NAME WANTED GOT: counts whether two files are equal, and shows how they differ.
 same() {
@@ -16,16 +21,6 @@ same() {
     fi
 }
 
-# missing COMMAND PACKAGE: whether there is no such command; then says so, or fails where WHOLE is set.
-missing() {
-    command -v "$1" > /dev/null && return 1
-    if [ -n "${WHOLE-}" ]; then
-        judge "$1, of Debian's package $2, is needed" false
-    else
-        echo "skipped: what needs $1 (Debian's package $2)"
-    fi
-}
-
 # enter NAME: goes into a new folder with the image of eight sectors, and the sources' crates and pages beside it.
 enter() {
     mkdir "$scratch/$1"
@@ -34,3 +29,10 @@ enter() {
     ln -s "$top/crates" crates
     ln -s "$program" cdpatch
 }
+
+# The shell and the awk of the examples: the plainest that are there.
+mkdir "$scratch/plain"
+ln -s "$(command -v mawk || command -v awk)" "$scratch/plain/awk"
+missing mawk mawk
+plain="sh"
+missing dash dash || plain="dash"

@@ -1,11 +1,4 @@
-# The examples of the README, the man page and docs/SCRIPTS.md, as a reader pastes them.
-
-# The shell and the awk of the examples: the plainest that are there.
-mkdir "$scratch/plain"
-ln -s "$(command -v mawk || command -v awk)" "$scratch/plain/awk"
-missing mawk mawk
-plain="sh"
-missing dash dash || plain="dash"
+# The examples of the README, the man page and the pages in docs/, as a reader pastes them: here, and from an unpacked tarball.
 
 # Runs one command of a transcript, and compares what it prints with what the transcript shows.
 transcript_step() {
@@ -33,12 +26,12 @@ transcript() {
 }
 
 # blocks_of PAGE: the fenced blocks of a page, as files NUMBER.sh with what each is to print in NUMBER.wanted, which is that of the
-# block of text after it, or nothing. A block that needs a command, as in '```sh pv', says so in NUMBER.needs.
+# block of text after it, or nothing. A block that needs commands, as in '```sh pv', has them in NUMBER.needs.
 blocks_of() {
     awk '
         /^```sh/ { number++; file = sprintf("%03d.sh", number); printf "" > file
             printf "" > sprintf("%03d.wanted", number)
-            if ($2 != "") print $2 > sprintf("%03d.needs", number)
+            if (sub(/^```sh /, "")) print > sprintf("%03d.needs", number)
             next }
         /^```text/ { file = sprintf("%03d.wanted", number); next }
         /^```/ { file = ""; next }
@@ -46,16 +39,30 @@ blocks_of() {
         END { print number + 0 }' "$1"
 }
 
-# page NAME PAGE: runs the blocks of a page in one shell, in a new folder, and compares what each prints.
+# packaged COMMAND: the Debian package that has a command.
+packaged() {
+    case $1 in
+        chdman) echo mame-tools ;;
+        *) echo "$1" ;;
+    esac
+}
+
+# page NAME PAGE: runs the blocks of a page in one shell, in a new directory, and compares what each prints.
 page() {
-    local name=$1 block needs
-    enter "$name"
+    local name=$1 block needs command
+    mkdir "$scratch/$name"
+    cd "$scratch/$name" || exit 1
     mkdir blocks
     cd blocks || exit 1
     judge "$name has blocks" test "$(blocks_of "$2")" -gt 0
     for needs in *.needs; do
         [ -e "$needs" ] || continue
-        if missing "$(cat "$needs")" "$(cat "$needs")"; then rm "${needs%.needs}.sh"; fi
+        for command in $(cat "$needs"); do
+            if missing "$command" "$(packaged "$command")" "$name, block ${needs%.needs}"; then
+                rm "${needs%.needs}.sh"
+                break
+            fi
+        done
     done
     cd ..
     for block in blocks/*.sh; do
@@ -70,14 +77,59 @@ page() {
     done
 }
 
-page readme "$top/README.md"
+# manual NAME PAGE: runs the examples of the man page in a new directory.
+manual() {
+    mkdir "$scratch/$1"
+    cd "$scratch/$1" || exit 1
+    sed -n '/^\.Bd -literal/,/^\.Ed/{/^\./!p}' "$2" | sed 's/\\e/\\/g' > example
+    transcript "the man page of $1" < example
+}
+
+# pages NAME DIRECTORY MANUAL: pastes all pages for users that are in a directory.
+pages() {
+    local name
+    page "$1-readme" "$2/README.md"
+    for name in SCRIPTS TRANSLATE REPAIR; do
+        page "$1-$name" "$2/docs/$name.md"
+    done
+    manual "$1-manual" "$3"
+}
+
+pages sources "$top" "$top/man/cdpatch.1"
 for drawing in sector apply; do
     judge "the README shows $drawing.svg" grep -q "](docs/$drawing.svg)$" "$top/README.md"
     judge "$drawing.svg is there" grep -q '^</svg>$' "$top/docs/$drawing.svg"
 done
 
-enter manual
-sed -n '/^\.Bd -literal/,/^\.Ed/{/^\./!p}' "$top/man/cdpatch.1" | sed 's/\\e/\\/g' > example
-transcript 'the man page' < example
-
-page scripts "$top/docs/SCRIPTS.md"
+# The tarball, unpacked in an empty directory and installed, with nothing else of the project on the path.
+if ! missing make make 'the pages of the tarball'; then
+    mkdir "$scratch/from_tarball"
+    cd "$scratch/from_tarball" || exit 1
+    bash "$top/tools/dist.sh" "$program" "$library" . > checksum
+    tar -xzf ./*.tar.gz
+    rm ./*.tar.gz*
+    make --no-print-directory -s -C cdpatch-* > said
+    judge 'make in the tarball installs nothing' test "$(cat said)" = 'Everything is built: make install installs it.'
+    make --no-print-directory -s -C cdpatch-* install PREFIX="$PWD/prefix"
+    rm -r cdpatch-*
+    installed=$PWD/prefix
+    path=$PATH
+    # The tools that the pages name, those that every system has, and the shell.
+    mkdir "$scratch/named"
+    for name in awk bash cat cmp cp cut dash date dd diff dirname find grep gunzip gzip head iconv ls ln mkdir mktemp mv od rm sed sh \
+        sha256sum sort tail test touch tr uniq wc xargs yes bchunk chdman genisoimage isoinfo perl pv xdelta3; do
+        ! command -v "$name" > /dev/null || ln -s "$(command -v "$name")" "$scratch/named/$name"
+    done
+    PATH=$installed/bin:$scratch/named
+    judge 'the program is the installed one' test "$(command -v cdpatch)" = "$installed/bin/cdpatch"
+    pages tarball "$installed/share/doc/cdpatch" "$installed/share/man/man1/cdpatch.1"
+    PATH=$path
+    # Its pages name no command and no file that is only in the sources.
+    cd "$installed/share/doc/cdpatch" || exit 1
+    grep -nE 'crates/cd_vectors/data|make (check|test|dist|quick)|^ *make( |$)|sources -->' README.md docs/{SCRIPTS,TRANSLATE,REPAIR,INSTALL}.md > only
+    judge "the installed pages have only what works there: $(head -n 1 only)" test ! -s only
+    rm only
+    while IFS=: read -r page link <&3; do
+        judge "installed $page: $link is there" test -e "$(dirname "$page")/$link"
+    done 3< <(grep -oE '\]\([^) ]*\)' README.md CHANGELOG.md docs/*.md | sed -e 's/](//' -e 's/)$//' -e '/:#/d' -e 's/#.*//' | grep -v ':http')
+fi

@@ -1,20 +1,31 @@
 # `make install` and `make uninstall`: for a package, below other folders, and of nothing.
 
-built() { make --no-print-directory -s -C "$top" PROGRAM="$program" "$@"; }
+built() { make --no-print-directory -s -C "$top" PROGRAM="$program" LIBRARY="$library" "$@"; }
 files() { (cd "$1" && find . ! -type d | sort); }
 
 installed_for_a_package() {
     judge 'make install' built install DESTDIR="$PWD/root" PREFIX=/usr
     : > wanted
+    printf '%s\n' libdir=/usr/lib includedir=/usr/include '' 'Name: cdpatch' 'Description: EDC and P/Q parity of CD-ROM sectors' \
+        "Version: $(cdpatch --help | sed -n '$s/cdpatch //p')" 'Libs: -L${libdir} -lcdpatch' 'Cflags: -I${includedir}' > cdpatch.pc
     while read -r path source <&3; do
         judge "$path is $source" cmp -s "$source" "root/$path"
         echo "$path" >> wanted
     done 3<< EOF
 ./usr/bin/cdpatch $program
+./usr/include/cdpatch.h $top/include/cdpatch.h
+./usr/lib/glibc-hwcaps/x86-64-v3/libcdpatch.so.1 $library/x86-64-v3/libcdpatch.so.1
+./usr/lib/libcdpatch.a $library/libcdpatch.a
+./usr/lib/libcdpatch.so $library/libcdpatch.so.1
+./usr/lib/libcdpatch.so.1 $library/libcdpatch.so.1
+./usr/lib/pkgconfig/cdpatch.pc $PWD/cdpatch.pc
 ./usr/share/bash-completion/completions/cdpatch $top/completions/cdpatch.bash
-$(for page in CHANGELOG.md README.md docs/*.md docs/*.svg; do echo "./usr/share/doc/cdpatch/$page $top/$page"; done)
+./usr/share/cdpatch/recipes.sh $top/share/recipes.sh
+$(for page in CHANGELOG.md docs/{REPAIR,SCRIPTS,TRANSLATE,TRUST}.md docs/{apply,sector}.svg; do echo "./usr/share/doc/cdpatch/$page $top/$page"; done)
+$(for page in README.md docs/INSTALL.md; do echo "./usr/share/doc/cdpatch/$page $PWD/$page"; done)
 ./usr/share/fish/vendor_completions.d/cdpatch.fish $top/completions/cdpatch.fish
 ./usr/share/man/man1/cdpatch.1 $top/man/cdpatch.1
+./usr/share/man/man3/libcdpatch.3 $top/man/libcdpatch.3
 ./usr/share/zsh/site-functions/_cdpatch $top/completions/_cdpatch
 EOF
     files root > got
@@ -22,6 +33,7 @@ EOF
     same 'it installs these files and no more' wanted got
     judge 'the installed program runs' test "$(root/usr/bin/cdpatch list disc.bin | tail -n 1)" = 'sectors 8 tail 0'
     judge 'the program may be run by all' test "$(stat -c %a root/usr/bin/cdpatch)" = 755
+    judge 'the link of the library stands beside it' test "$(readlink root/usr/lib/libcdpatch.so)" = libcdpatch.so.1
     judge 'the man page may be read by all' test "$(stat -c %a root/usr/share/man/man1/cdpatch.1)" = 644
     touch root/usr/bin/another
     judge 'make uninstall' built uninstall DESTDIR="$PWD/root" PREFIX=/usr
@@ -41,11 +53,16 @@ installed_elsewhere() {
     judge 'and away from there' test -z "$(files 'with space')$(files zsh)"
     built install PROGRAM="$PWD/nothing" DESTDIR="$PWD/none" 2> /dev/null
     judge 'nothing that was built, nothing installed' test $? != 0 -a ! -e none
+    built install LIBRARY="$PWD/nothing" DESTDIR="$PWD/none" 2> /dev/null
+    judge 'no library that was built, nothing installed' test $? != 0 -a ! -e none
 }
 
 if ! missing make make; then
     enter installing
-    ln -s "$top/docs" docs
+    mkdir docs
+    # These pages are installed without the parts for the sources.
+    for page in README.md docs/INSTALL.md; do sed '/^<!-- sources/,/^<!-- end/d' "$top/$page" > "$page"; done
+    judge 'the README has parts for the sources only' test "$(wc -l < README.md)" -lt "$(wc -l < "$top/README.md")"
     installed_for_a_package
     installed_elsewhere
 fi

@@ -1,7 +1,7 @@
 # The man page: its form, and the version, which help and the changelog have too.
 
 enter page
-version=$(sed -n 's/^## \([0-9.]*\).*/\1/p' "$top/CHANGELOG.md" | head -n 1)
+version=$(sed -n 's/^## \([0-9][0-9.]*\).*/\1/p' "$top/CHANGELOG.md" | head -n 1)
 judge 'the changelog has a version' test -n "$version"
 judge 'help ends with the version' test "$(cdpatch --help | tail -n 1)" = "cdpatch $version"
 judge 'the README has the version' grep -q "^The version is $version " "$top/README.md"

@@ -99,6 +99,7 @@ produces 'cdpatch: cannot make the output file' 2 cdpatch apply disc.bin script 
 produces 'cdpatch: cannot make the output file' 2 cdpatch apply disc.bin script nowhere/out
 produces 'cdpatch: reading the image failed' 2 cdpatch list "$PWD"
 produces 'cdpatch: writing the output failed' 2 bash -c "trap '' XFSZ; ulimit -f 4; cdpatch apply disc.bin script out; exit \$?"
+produces 'cdpatch: cannot open the root directory' 2 bash -c 'exec <&-; ulimit -n 3; exec cdpatch list disc.bin'
 truncate -s 2352000001 endless
 produces 'cdpatch: the image has more than 1000000 sectors' 2 cdpatch list endless
 rm longest endless

@@ -3,7 +3,9 @@
 # one, and a test runs it.
 
 enter promises
-library_crates=(cd_code cd_sector cd_delta cd_script cd_patch cd_stream cd_read cd_report cd_image cd_command cd_jobs)
+library_crates=(cd_code cd_sector cd_delta cd_script cd_patch cd_stream cd_read cd_report cd_image cd_command cd_jobs cd_memory)
+# Those, and what C calls: a static library, which no crate of tests can stand on.
+crates_with_contracts=("${library_crates[@]}" cd_c)
 contracts=$top/docs/CONTRACTS.md
 map=$top/docs/MAP.md
 
@@ -13,13 +15,13 @@ sources() { find "$top/crates/$1/src" -name '*.rt' ! -path '*/tests/*' ! -name t
 # The words that the definitions of a crate declare.
 declared() {
     cat "$top/crates/$1"/specs/*.antt 2> /dev/null \
-        | sed -nE 's/^(abbrev pub|unfoldable pub|pub record|pub data) +([A-Za-z_]+).*/\2/p' | sort -u
+        | sed -nE 's/^ *(abbrev pub|unfoldable pub|pub record|pub data) +([A-Za-z_]+).*/\2/p' | sort -u
 }
 
 # The words of the clauses of a crate's public functions.
 cited() {
     sources "$1" | xargs awk '
-        /^ *pub fn / { public = 1 }
+        /^ *pub (extern "C" )?fn / { public = 1 }
         /^ *(pub\(crate\) |pub\(super\) )?fn / { public = 0 }
         /^ *\{/ || /^\{/ { clause = 0; public = 0 }
         /^ *(requires|ensures) / { clause = 1 }
@@ -27,7 +29,7 @@ cited() {
 }
 
 grep -oE '`[A-Za-z_:]+`' "$contracts" | tr -d '`' | sed 's/.*:://' | sort -u > named
-for crate in "${library_crates[@]}"; do
+for crate in "${crates_with_contracts[@]}"; do
     comm -12 <(declared "$crate") <(cited "$crate") > public
     left_out=$(comm -23 public named | paste -sd ' ')
     judge "docs/CONTRACTS.md has what contracts of $crate cite: ${left_out:-all}" test -z "$left_out"
@@ -35,18 +37,27 @@ for crate in "${library_crates[@]}"; do
     judge "docs/CONTRACTS.md has a part on $crate" test -n "$heading"
     # The third column of the part on this crate: functions of the sources.
     sed -n "/^## .*($crate)\$/,/^## /s/^|[^|]*|[^|]*|\([^|]*\)|.*/\1/p" "$contracts" | grep -oE '`[a-z_]+`' | tr -d '`' | sort -u > functions
-    sources "$crate" | xargs sed -nE 's/^ *(pub )?(const )?fn ([a-z_0-9]+).*/\3/p' | sort -u > there
+    sources "$crate" | xargs sed -nE 's/^ *(pub )?(extern "C" )?(const )?fn ([a-z_0-9]+).*/\4/p' | sort -u > there
     cat "$top"/crates/cd_*/src/*.rt | sed -nE 's/^ *pub fn ([a-z_0-9]+).*/\1/p' | sort -u > public_functions
     unknown=$(comm -23 functions <(sort -u there public_functions) | paste -sd ' ')
     judge "docs/CONTRACTS.md: functions of $crate that are not there: ${unknown:-none}" test -z "$unknown"
 done
-for crate in "${library_crates[@]}"; do declared "$crate"; done | sort -u > all_declared
-sed -n 's/^|[^|]*|\([^|]*\)|.*/\1/p' "$contracts" | sed '/Wrong bodies/,$d' | grep -oE '`[A-Za-z_]+`' | tr -d '`' | sort -u > definitions
+for crate in "${crates_with_contracts[@]}"; do declared "$crate"; done | sort -u > all_declared
+# The second column of all tables: definitions, and in the one of them wrong bodies.
+awk '/^\| Clause \| Wrong bodies/ { bodies = 1 } /^$/ { bodies = 0 } { print > (bodies ? "bodies" : "tables") }' "$contracts"
+second_column() { sed -n 's/^|[^|]*|\([^|]*\)|.*/\1/p' "$1"; }
+second_column tables | grep -oE '`[A-Za-z_]+`' | tr -d '`' | sort -u > definitions
 unknown=$(comm -23 definitions <(sort -u all_declared <(printf '%s\n' bit_xor lines Incoming Outgoing)) | paste -sd ' ')
 judge "docs/CONTRACTS.md: definitions that are not there: ${unknown:-none}" test -z "$unknown"
+unknown=
+while IFS= read -r body; do
+    ls "$top"/crates/cd_*/must-fail/"$body.edit" > /dev/null 2>&1 || unknown+=" $body"
+done < <(second_column bodies | grep -oE '`[a-z_.0-9]+\.[a-z_.0-9]+`' | tr -d '`')
+judge "docs/CONTRACTS.md: wrong bodies that are not there:${unknown:- none}" test -z "$unknown"
+judge 'docs/CONTRACTS.md names wrong bodies' test "$(second_column bodies | grep -c '`')" -gt 10
 
 # Each file of code and of definitions has its place in docs/MAP.md, by its path or its folder, and each path there is a file.
-for crate in "${library_crates[@]}" cdpatch; do
+for crate in "${crates_with_contracts[@]}" cdpatch; do
     grep "| $crate |" "$map" | grep -oE '`(src|specs)/[A-Za-z_/.]*`' | tr -d '`' | sort -u > placed
     while IFS= read -r path; do
         judge "docs/MAP.md: $crate/$path is there" test -e "$top/crates/$crate/$path"

@@ -3,7 +3,8 @@
 # pack FOLDER: a tarball of the program, of a copy of the sources in this folder, into `made` there.
 pack() {
     mkdir -p "$1/made"
-    (cd "$top" && cp -r --parents Makefile README.md CHANGELOG.md docs man completions tools "$OLDPWD/$1")
+    (cd "$top" && cp -r --parents Makefile install.mk share README.md CHANGELOG.md docs man completions include tools "$OLDPWD/$1")
+    cp -r "$library" "$1/library"
     cp "$program" "$1/cdpatch"
     make --no-print-directory -s -C "$1" dist distdir=made > "$1/told"
 }
@@ -26,13 +27,15 @@ released() {
     judge 'it unpacks into one folder of its own name' test "./$(ls unpacked).tar.gz" = "$name"
     # Neither the toolchain nor the program of these tests is on the path.
     PATH=/usr/bin:/bin make --no-print-directory -s -C unpacked/* install DESTDIR="$PWD/root" PREFIX=/usr
-    make --no-print-directory -s -C "$top" PROGRAM="$program" install DESTDIR="$PWD/wanted" PREFIX=/usr
+    make --no-print-directory -s -C "$top" PROGRAM="$program" LIBRARY="$library" install DESTDIR="$PWD/wanted" PREFIX=/usr
     judge 'make install in it installs what make install in the sources does' diff -r wanted root
     judge 'the program is as it was' cmp -s "$program" root/usr/bin/cdpatch
     judge 'the tarball has no file that is not installed, but the Makefile' test \
         "$(find unpacked -type f | wc -l)" = "$(($(find root -type f | wc -l) + 1))"
     make --no-print-directory -s -C one dist distdir=made PROGRAM="$PWD/nothing" 2> log
     judge 'nothing that was built, nothing packed' test $? != 0
+    make --no-print-directory -s -C one dist distdir=made LIBRARY="$PWD/nothing" 2> log
+    judge 'no library that was built, nothing packed' test $? != 0
 }
 
 # What two builds in different folders could differ in.

@@ -9,22 +9,27 @@ use Rattle.cd_code.specs.Field.{AreBytes, double}
 use Rattle.cd_code.specs.LaneWords.{AreSums, column_of_rows}
 use Rattle.cd_code.specs.Syndrome.{column, first_syndrome, second_syndrome}
 use Rattle.cd_code.specs.declared.lane_sums.LaneSums.{LaneSums}
-use Rattle.cd_code.proofs.ListLemmas.{get_or-first_chunks}
+use Rattle.cd_code.proofs.general.Lists.{get_or-first_chunks}
 use Rattle.cd_code.proofs.SyndromeLemmas.{first_syndrome-nil, second_syndrome-nil, first_syndrome-push, second_syndrome-push}
 
 -- no byte yet
-pub AreSums-none : (sums : LaneSums) → sums.plain ≡ replicate 32 0 → sums.weighted ≡ replicate 32 0 → AreSums (λ _. []) sums
+pub AreSums-none : (sums : LaneSums) → sums.plain ≡ replicate 32 0 → sums.weighted ≡ replicate 32 0
+    → AreSums (λ _. []) sums
 AreSums-none sums e f = record {
   plain = λ i h. ap (λ v. get_or v i 0) e ∙ get_or-replicate 32 i 0 0 h ∙ sym first_syndrome-nil;
-  weighted = λ i h. ap (λ v. get_or v i 0) f ∙ get_or-replicate 32 i 0 0 h ∙ sym second_syndrome-nil;
+  weighted = λ i h.
+      ap (λ v. get_or v i 0) f ∙ get_or-replicate 32 i 0 0 h ∙ sym second_syndrome-nil;
 }
 
 -- one byte more in each word
-pub AreSums-more : (word longer : ℕ → List ℕ) (sums next : LaneSums) (lanes : List ℕ) → AreSums word sums
+pub AreSums-more : (word longer : ℕ → List ℕ) (sums next : LaneSums) (lanes : List ℕ)
+    → AreSums word sums
     → ((i : ℕ) → i < 32 → get_or lanes i 0 < 256)
     → ((i : ℕ) → i < 32 → longer i ≡ word i ++ get_or lanes i 0 ∷ [])
-    → ((i : ℕ) → i < 32 → get_or next.plain i 0 ≡ bit_xor (get_or sums.plain i 0) (get_or lanes i 0))
-    → ((i : ℕ) → i < 32 → get_or next.weighted i 0 ≡ bit_xor (double (get_or sums.weighted i 0)) (get_or lanes i 0))
+    → ((i : ℕ) → i < 32
+    → get_or next.plain i 0 ≡ bit_xor (get_or sums.plain i 0) (get_or lanes i 0))
+    → ((i : ℕ) → i < 32
+    → get_or next.weighted i 0 ≡ bit_xor (double (get_or sums.weighted i 0)) (get_or lanes i 0))
     → AreSums longer next
 AreSums-more word longer sums next lanes are bytes more plain weighted = record {
   plain = λ i h.
@@ -32,16 +37,20 @@ AreSums-more word longer sums next lanes are bytes more plain weighted = record 
       ∙ sym (ap first_syndrome (more i h) ∙ first_syndrome-push (word i) (get_or lanes i 0));
   weighted = λ i h.
       weighted i h ∙ ap (λ z. bit_xor (double z) (get_or lanes i 0)) (are.weighted i h)
-      ∙ sym (ap second_syndrome (more i h) ∙ second_syndrome-push (word i) (get_or lanes i 0) (bytes i h));
+      ∙ sym (ap second_syndrome (more i h)
+      ∙ second_syndrome-push (word i) (get_or lanes i 0) (bytes i h));
 }
 
 -- 32 bytes of a row, from place `at` on
-pub AreSums-row : (word longer : ℕ → List ℕ) (at : ℕ) (row lanes : List ℕ) (sums next : LaneSums) → AreBytes row → at + 32 ≤ 86
+pub AreSums-row : (word longer : ℕ → List ℕ) (at : ℕ) (row lanes : List ℕ) (sums next : LaneSums)
+    → AreBytes row → at + 32 ≤ 86
     → ((i : ℕ) → i < 32 → get_or lanes i 0 ≡ get_or row (at + i) 0)
     → ((c : ℕ) → c < 86 → longer c ≡ word c ++ get_or row c 0 ∷ [])
     → AreSums (λ i. word (at + i)) sums
-    → ((i : ℕ) → i < 32 → get_or next.plain i 0 ≡ bit_xor (get_or sums.plain i 0) (get_or lanes i 0))
-    → ((i : ℕ) → i < 32 → get_or next.weighted i 0 ≡ bit_xor (double (get_or sums.weighted i 0)) (get_or lanes i 0))
+    → ((i : ℕ) → i < 32
+    → get_or next.plain i 0 ≡ bit_xor (get_or sums.plain i 0) (get_or lanes i 0))
+    → ((i : ℕ) → i < 32
+    → get_or next.weighted i 0 ≡ bit_xor (double (get_or sums.weighted i 0)) (get_or lanes i 0))
     → AreSums (λ i. longer (at + i)) next
 AreSums-row word longer at row lanes sums next bytes room is more are plain weighted =
     AreSums-more (λ i. word (at + i)) (λ i. longer (at + i)) sums next lanes are
@@ -49,21 +58,28 @@ AreSums-row word longer at row lanes sums next bytes room is more are plain weig
     (λ i h. more (at + i) (omega arith) ∙ ap (λ b. word (at + i) ++ b ∷ []) (sym (is i h)))
     plain weighted
 
-pub AreSums-from_zero : (word : ℕ → List ℕ) (sums : LaneSums) → AreSums (λ i. word (0 + i)) sums → AreSums word sums
+pub AreSums-from_zero : (word : ℕ → List ℕ) (sums : LaneSums) → AreSums (λ i. word (0 + i)) sums
+    → AreSums word sums
 AreSums-from_zero word sums are = record {
-  plain = λ i h. are.plain i h ∙ (let e : 0 + i ≡ i = omega arith in ap (λ k. first_syndrome (word k)) e);
-  weighted = λ i h. are.weighted i h ∙ (let e : 0 + i ≡ i = omega arith in ap (λ k. second_syndrome (word k)) e);
+  plain = λ i h.
+      are.plain i h ∙ (let e : 0 + i ≡ i = omega arith in ap (λ k. first_syndrome (word k)) e);
+  weighted = λ i h.
+      are.weighted i h ∙ (let e : 0 + i ≡ i = omega arith in ap (λ k. second_syndrome (word k)) e);
 }
 
-pub AreSums-to_zero : (word : ℕ → List ℕ) (sums : LaneSums) → AreSums word sums → AreSums (λ i. word (0 + i)) sums
+pub AreSums-to_zero : (word : ℕ → List ℕ) (sums : LaneSums) → AreSums word sums
+    → AreSums (λ i. word (0 + i)) sums
 AreSums-to_zero word sums are = record {
-  plain = λ i h. are.plain i h ∙ (let e : i ≡ 0 + i = omega arith in ap (λ k. first_syndrome (word k)) e);
-  weighted = λ i h. are.weighted i h ∙ (let e : i ≡ 0 + i = omega arith in ap (λ k. second_syndrome (word k)) e);
+  plain = λ i h.
+      are.plain i h ∙ (let e : i ≡ 0 + i = omega arith in ap (λ k. first_syndrome (word k)) e);
+  weighted = λ i h.
+      are.weighted i h ∙ (let e : i ≡ 0 + i = omega arith in ap (λ k. second_syndrome (word k)) e);
 }
 
 -- one more row under the columns
 pub column_of_rows-more : (rows : List (List ℕ)) (d : List ℕ) (k c : ℕ) → k < length rows
-    → column_of_rows (take (k + 1) rows) c ≡ column_of_rows (take k rows) c ++ get_or (get_or rows k d) c 0 ∷ []
+    → column_of_rows (take (k + 1) rows) c
+    ≡ column_of_rows (take k rows) c ++ get_or (get_or rows k d) c 0 ∷ []
 column_of_rows-more rows d k c h =
     ap (λ v. column_of_rows v c) (take_more rows k d h)
     ∙ map-append (λ row. get_or row c 0) (take k rows) (get_or rows k d ∷ [])
@@ -75,8 +91,10 @@ pub put_thrice : (zero one two three front middle back : List ℕ)
     → ((k : ℕ) → (k < 32) ⊎ (32 + 32 ≤ k) → get_or two k 0 ≡ get_or one k 0)
     → ((i : ℕ) → i < 32 → get_or three (54 + i) 0 ≡ get_or back i 0)
     → ((k : ℕ) → (k < 54) ⊎ (54 + 32 ≤ k) → get_or three k 0 ≡ get_or two k 0)
-    → (value : ℕ → ℕ) → ((i : ℕ) → i < 32 → get_or front i 0 ≡ value i) → ((i : ℕ) → i < 32 → get_or middle i 0 ≡ value (32 + i))
-    → ((i : ℕ) → i < 32 → get_or back i 0 ≡ value (54 + i)) → (c : ℕ) → c < 86 → get_or three c 0 ≡ value c
+    → (value : ℕ → ℕ) → ((i : ℕ) → i < 32 → get_or front i 0 ≡ value i)
+    → ((i : ℕ) → i < 32 → get_or middle i 0 ≡ value (32 + i))
+    → ((i : ℕ) → i < 32 → get_or back i 0 ≡ value (54 + i)) → (c : ℕ) → c < 86
+    → get_or three c 0 ≡ value c
 put_thrice zero one two three front middle back p q q' r r' value a b e c h = elim (cases_lt c 54) [
   | inl lower ↦ r' c (inl lower) ∙ elim (cases_lt c 32) [
     | inl first ↦
@@ -84,18 +102,22 @@ put_thrice zero one two three front middle back p q q' r r' value a b e c h = el
         q' c (inl first) ∙ ap (λ k. get_or one k 0) (sym place) ∙ p c first ∙ a c first
     | inr second ↦
         let place : 32 + (c - 32) ≡ c = omega arith in
-        ap (λ k. get_or two k 0) (sym place) ∙ q (c - 32) (omega arith) ∙ b (c - 32) (omega arith) ∙ ap value place
+        ap (λ k. get_or two k 0) (sym place) ∙ q (c - 32) (omega arith) ∙ b (c - 32) (omega arith)
+        ∙ ap value place
   ]
   | inr upper ↦
       let place : 54 + (c - 54) ≡ c = omega arith in
-      ap (λ k. get_or three k 0) (sym place) ∙ r (c - 54) (omega arith) ∙ e (c - 54) (omega arith) ∙ ap value place
+      ap (λ k. get_or three k 0) (sym place) ∙ r (c - 54) (omega arith) ∙ e (c - 54) (omega arith)
+      ∙ ap value place
 ]
 
 -- a column of the 26 chunks of 86 bytes
-pub column_of_chunks : (flat : List ℕ) (chunks : List (List ℕ)) (n c : ℕ) → chunks ≡ first_chunks 86 n flat → n ≡ 26 → length chunks ≡ n → c < 86
+pub column_of_chunks : (flat : List ℕ) (chunks : List (List ℕ)) (n c : ℕ)
+    → chunks ≡ first_chunks 86 n flat → n ≡ 26 → length chunks ≡ n → c < 86
     → column_of_rows chunks c ≡ column flat c
 column_of_chunks flat chunks n c front number long h =
-    let size : length (column_of_rows chunks c) ≡ 26 = length-map chunks (λ row. get_or row c 0) ∙ long ∙ number in
+    let size : length (column_of_rows chunks c) ≡ 26 =
+    length-map chunks (λ row. get_or row c 0) ∙ long ∙ number in
     let other : length (column flat c) ≡ 26 = refl in
     ext_get_or 0 (column_of_rows chunks c) (column flat c) (size ∙ sym other)
     (λ m inside.
@@ -107,4 +129,5 @@ column_of_chunks flat chunks n c front number long h =
     ∙ get_or-take 86 (drop (m * 86) flat) c 0 h
     ∙ get_or-drop (m * 86) flat c 0
     ∙ ap (λ k. get_or flat k 0) place
-    ∙ sym (get_or-map-range_with_len (λ k. get_or flat (86 * k + c) 0) 0 26 m m 0 below (omega arith)))
+    ∙ sym (get_or-map-range_with_len (λ k. get_or flat (86 * k + c) 0) 0 26 m m 0 below
+    (omega arith)))

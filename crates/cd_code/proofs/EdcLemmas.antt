@@ -10,8 +10,9 @@ use Rattle.cd_code.specs.Edc.{IsEdc, low_bits, bits, generator, divide_step, rem
 use Rattle.cd_code.specs.Field.{AreBytes, IsSum}
 use Rattle.cd_code.specs.Laws.{DifferAtMostInLast}
 use Rattle.cd_code.proofs.ByteLemmas.{AreBytes-four, AreBytes-tail, AreBytes-word}
-use Rattle.cd_code.proofs.ListLemmas.{DifferAtMostInLast-tail, eight_of}
-use Rattle.cd_code.proofs.XorLemmas.{xor_half, xor_low, xor_twice_left, xor_swap, same_from_xor}
+use Rattle.cd_code.proofs.ListLemmas.{DifferAtMostInLast-tail}
+use Rattle.cd_code.proofs.general.Lists.{list_of_eight}
+use Rattle.cd_code.proofs.general.Xor.{xor_half, xor_low, xor_twice_left, xor_swap, same_from_xor}
 
 -- ---- one step
 
@@ -31,13 +32,18 @@ carry-xor (suc (suc x)) y h _ = absurd (omega arith)
 
 step-low : (r b : ℕ) → r * 2 + b < 2 ^ 32 → divide_step r b ≡ r * 2 + b
 unfolding divide_step
-step-low r b h = cond-true (nat_lt (r * 2 + b) (2 ^ 32)) (r * 2 + b) (bit_xor (r * 2 + b) generator) (lt-ltb (r * 2 + b) (2 ^ 32) h)
+step-low r b h =
+    cond-true (nat_lt (r * 2 + b) (2 ^ 32)) (r * 2 + b) (bit_xor (r * 2 + b) generator)
+    (lt-ltb (r * 2 + b) (2 ^ 32) h)
 
 step-high : (r b : ℕ) → 2 ^ 32 ≤ r * 2 + b → divide_step r b ≡ bit_xor (r * 2 + b) generator
 unfolding divide_step
-step-high r b h = cond-false (nat_lt (r * 2 + b) (2 ^ 32)) (r * 2 + b) (bit_xor (r * 2 + b) generator) (le-ltb (r * 2 + b) (2 ^ 32) h)
+step-high r b h =
+    cond-false (nat_lt (r * 2 + b) (2 ^ 32)) (r * 2 + b) (bit_xor (r * 2 + b) generator)
+    (le-ltb (r * 2 + b) (2 ^ 32) h)
 
-step-carry : (r b : ℕ) → r < 2 ^ 32 → b < 2 → divide_step r b ≡ bit_xor (r * 2 + b) (carry (r / 2 ^ 31))
+step-carry : (r b : ℕ) → r < 2 ^ 32 → b < 2
+    → divide_step r b ≡ bit_xor (r * 2 + b) (carry (r / 2 ^ 31))
 step-carry r b hr hb = elim (cases_lt (r * 2 + b) (2 ^ 32)) [
   | inl h ↦
       let e : r / 2 ^ 31 ≡ 0 = omega arith in
@@ -54,25 +60,31 @@ step-lt r b hr hb = elim (cases_lt (r * 2 + b) (2 ^ 32)) [
       let low = r * 2 + b - 2 ^ 32 in
       let low_lt : low < 2 ^ 32 = omega arith in
       let split : r * 2 + b ≡ 1 * 2 ^ 32 + low = omega arith in
-      let blocks : bit_xor (1 * 2 ^ 32 + low) (1 * 2 ^ 32 + 0x8001801B) ≡ bit_xor 1 1 * 2 ^ 32 + bit_xor low 0x8001801B =
+      let blocks : bit_xor (1 * 2 ^ 32 + low) (1 * 2 ^ 32 + 0x8001801B)
+      ≡ bit_xor 1 1 * 2 ^ 32 + bit_xor low 0x8001801B =
       xor_block 32 1 1 low 0x8001801B low_lt (lit< tt) in
       let small : bit_xor low 0x8001801B < 2 ^ 32 = xor_lt 32 low 0x8001801B low_lt (lit< tt) in
       let e : divide_step r b ≡ bit_xor low 0x8001801B =
-      step-high r b h ∙ ap (λ z. bit_xor z generator) split ∙ blocks ∙ (let z : bit_xor 1 1 * 2 ^ 32 + bit_xor low 0x8001801B ≡ bit_xor low 0x8001801B = omega arith in z) in
+      step-high r b h ∙ ap (λ z. bit_xor z generator) split ∙ blocks
+      ∙ (let z : bit_xor 1 1 * 2 ^ 32 + bit_xor low 0x8001801B
+      ≡ bit_xor low 0x8001801B = omega arith in z) in
       rw e small
 ]
 
-bits_joined : (r s b c : ℕ) → b < 2 → c < 2 → bit_xor r s * 2 + bit_xor b c ≡ bit_xor (r * 2 + b) (s * 2 + c)
+bits_joined : (r s b c : ℕ) → b < 2 → c < 2
+    → bit_xor r s * 2 + bit_xor b c ≡ bit_xor (r * 2 + b) (s * 2 + c)
 bits_joined r s b c hb hc = sym (xor_block 1 r s b c hb hc)
 
-pub step-xor : (r s b c : ℕ) → r < 2 ^ 32 → s < 2 ^ 32 → b < 2 → c < 2 → divide_step (bit_xor r s) (bit_xor b c) ≡ bit_xor (divide_step r b) (divide_step s c)
+pub step-xor : (r s b c : ℕ) → r < 2 ^ 32 → s < 2 ^ 32 → b < 2 → c < 2
+    → divide_step (bit_xor r s) (bit_xor b c) ≡ bit_xor (divide_step r b) (divide_step s c)
 step-xor r s b c hr hs hb hc =
     step-carry (bit_xor r s) (bit_xor b c) (xor_lt 32 r s hr hs) (xor_lt 1 b c hb hc)
     ∙ ap (λ z. bit_xor z (carry (bit_xor r s / 2 ^ 31))) (bits_joined r s b c hb hc)
     ∙ ap (bit_xor (bit_xor (r * 2 + b) (s * 2 + c)))
     (ap carry (xor_shr r s 31) ∙ carry-xor (r / 2 ^ 31) (s / 2 ^ 31) (omega arith) (omega arith))
     ∙ xor_swap (r * 2 + b) (s * 2 + c) (carry (r / 2 ^ 31)) (carry (s / 2 ^ 31))
-    ∙ sym (ap (λ z. bit_xor z (divide_step s c)) (step-carry r b hr hb) ∙ ap (bit_xor (bit_xor (r * 2 + b) (carry (r / 2 ^ 31)))) (step-carry s c hs hc))
+    ∙ sym (ap (λ z. bit_xor z (divide_step s c)) (step-carry r b hr hb)
+    ∙ ap (bit_xor (bit_xor (r * 2 + b) (carry (r / 2 ^ 31)))) (step-carry s c hs hc))
 
 -- ---- n bits of a number
 
@@ -87,21 +99,25 @@ after_bits-fold (suc n) r x = after_bits-fold n (divide_step r (x % 2)) (x / 2)
 
 pub after_bits-lt : (n r x : ℕ) → r < 2 ^ 32 → after_bits n r x < 2 ^ 32
 after_bits-lt zero r x h = h
-after_bits-lt (suc n) r x h = after_bits-lt n (divide_step r (x % 2)) (x / 2) (step-lt r (x % 2) h (omega arith))
+after_bits-lt (suc n) r x h =
+    after_bits-lt n (divide_step r (x % 2)) (x / 2) (step-lt r (x % 2) h (omega arith))
 
-pub after_bits-xor : (n r s x y : ℕ) → r < 2 ^ 32 → s < 2 ^ 32 → after_bits n (bit_xor r s) (bit_xor x y) ≡ bit_xor (after_bits n r x) (after_bits n s y)
+pub after_bits-xor : (n r s x y : ℕ) → r < 2 ^ 32 → s < 2 ^ 32
+    → after_bits n (bit_xor r s) (bit_xor x y) ≡ bit_xor (after_bits n r x) (after_bits n s y)
 after_bits-xor zero r s x y hr hs = refl
 after_bits-xor (suc n) r s x y hr hs =
     ap (λ z. after_bits n (divide_step (bit_xor r s) z) (bit_xor x y / 2)) (xor_low x y)
     ∙ ap (after_bits n (divide_step (bit_xor r s) (bit_xor (x % 2) (y % 2)))) (xor_half x y)
-    ∙ ap (λ z. after_bits n z (bit_xor (x / 2) (y / 2))) (step-xor r s (x % 2) (y % 2) hr hs (omega arith) (omega arith))
+    ∙ ap (λ z. after_bits n z (bit_xor (x / 2) (y / 2)))
+    (step-xor r s (x % 2) (y % 2) hr hs (omega arith) (omega arith))
     ∙ after_bits-xor n (divide_step r (x % 2)) (divide_step s (y % 2)) (x / 2) (y / 2)
     (step-lt r (x % 2) hr (omega arith)) (step-lt s (y % 2) hs (omega arith))
 
 halves : (x m : ℕ) → x / 2 / 2 ^ m ≡ x / 2 ^ suc m
 halves x m = shr-shr x 1 m ∙ (let e : 1 + m ≡ suc m = omega arith in ap (λ k. x / 2 ^ k) e)
 
-pub after_bits-more : (m n r x : ℕ) → after_bits (m + n) r x ≡ after_bits n (after_bits m r x) (x / 2 ^ m)
+pub after_bits-more : (m n r x : ℕ)
+    → after_bits (m + n) r x ≡ after_bits n (after_bits m r x) (x / 2 ^ m)
 after_bits-more zero n r x =
     let e : zero + n ≡ n = omega arith in
     let h : x ≡ x / 2 ^ 0 = omega arith in
@@ -123,7 +139,8 @@ after_bits-mod (suc n) r x y h =
     split : (n x : ℕ) → x % 2 ^ suc n ≡ (x / 2 % 2 ^ n) * 2 + x % 2
     split n x = (let e : suc n ≡ n + 1 = omega arith in ap (λ k. x % 2 ^ k) e) ∙ mod-pow-add x n 1
 
-    low_parts : (n x y : ℕ) → x % 2 ^ suc n ≡ y % 2 ^ suc n → (x % 2 ≡ y % 2) × (x / 2 % 2 ^ n ≡ y / 2 % 2 ^ n)
+    low_parts : (n x y : ℕ) → x % 2 ^ suc n ≡ y % 2 ^ suc n
+        → (x % 2 ≡ y % 2) × (x / 2 % 2 ^ n ≡ y / 2 % 2 ^ n)
     low_parts n x y h =
         let e = split n x in
         let f = split n y in
@@ -138,26 +155,33 @@ after_bits-zero zero = refl
 after_bits-zero (suc n) = ap (λ z. after_bits n z 0) step-zero ∙ after_bits-zero n
 
 -- as long as nothing reaches the top, only a 0 leaves 0
-pub after_bits-none : (n k r x : ℕ) → k + n ≡ 32 → r < 2 ^ k → x < 2 ^ n → after_bits n r x ≡ 0 → (r ≡ 0) × (x ≡ 0)
+pub after_bits-none : (n k r x : ℕ) → k + n ≡ 32 → r < 2 ^ k → x < 2 ^ n → after_bits n r x ≡ 0
+    → (r ≡ 0) × (x ≡ 0)
 after_bits-none zero k r x e hr hx none = (none, omega arith)
 after_bits-none (suc n) k r x e hr hx none =
-    let top : 2 ^ suc k ≤ 2 ^ 32 = pow-le-pow_right {n = 2} (lit< tt) {i = suc k} {j = 32} (omega arith) in
+    let top : 2 ^ suc k ≤ 2 ^ 32 =
+    pow-le-pow_right {n = 2} (lit< tt) {i = suc k} {j = 32} (omega arith) in
     let twice : 2 ^ suc k ≡ 2 ^ k * 2 = pow-suc 2 k in
     let fits : r * 2 + x % 2 < 2 ^ suc k = omega arith in
     let low = step-low r (x % 2) (omega arith) in
-    let rest = after_bits-none n (suc k) (r * 2 + x % 2) (x / 2) (omega arith) fits (half_below n x hx)
+    let rest =
+    after_bits-none n (suc k) (r * 2 + x % 2) (x / 2) (omega arith) fits (half_below n x hx)
     (ap (λ z. after_bits n z (x / 2)) (sym low) ∙ none) in
     (omega (arith, rest.0), omega (arith, rest.0, rest.1))
   where
     half_below : (n x : ℕ) → x < 2 ^ suc n → x / 2 < 2 ^ n
     half_below n x h = shr_below x n 1 (let e : n + 1 ≡ suc n = omega arith in rw e h)
 
-pub after_bits-injective : (n r x y : ℕ) → n ≤ 32 → r < 2 ^ 32 → x < 2 ^ n → y < 2 ^ n → after_bits n r x ≡ after_bits n r y → x ≡ y
+pub after_bits-injective : (n r x y : ℕ) → n ≤ 32 → r < 2 ^ 32 → x < 2 ^ n → y < 2 ^ n
+    → after_bits n r x ≡ after_bits n r y → x ≡ y
 after_bits-injective n r x y hn hr hx hy same =
     let none : after_bits n 0 (bit_xor x y) ≡ 0 =
     ap (λ z. after_bits n z (bit_xor x y)) (sym (xor_self r))
-    ∙ after_bits-xor n r r x y hr hr ∙ ap (λ z. bit_xor z (after_bits n r y)) same ∙ xor_self (after_bits n r y) in
-    same_from_xor x y (after_bits-none n (32 - n) 0 (bit_xor x y) (omega arith) (pow_pos (32 - n)) (xor_lt n x y hx hy) none).1
+    ∙ after_bits-xor n r r x y hr hr ∙ ap (λ z. bit_xor z (after_bits n r y)) same
+    ∙ xor_self (after_bits n r y) in
+    same_from_xor x y
+    (after_bits-none n (32 - n) 0 (bit_xor x y) (omega arith) (pow_pos (32 - n))
+    (xor_lt n x y hx hy) none).1
 
 -- ---- bytes
 
@@ -195,12 +219,14 @@ pub number-lt : (v : List ℕ) → AreBytes v → number v < 2 ^ (8 * length v)
 number-lt [] h = lit< tt
 number-lt (x ∷ v) h =
     let more : 8 * suc (length v) ≡ 8 * length v + 8 = omega arith in
-    let e : 2 ^ (8 * suc (length v)) ≡ 2 ^ (8 * length v) * 256 = ap (λ k. 2 ^ k) more ∙ pow-add 2 (8 * length v) 8 in
+    let e : 2 ^ (8 * suc (length v)) ≡ 2 ^ (8 * length v) * 256 =
+    ap (λ k. 2 ^ k) more ∙ pow-add 2 (8 * length v) 8 in
     let rest = number-lt v (λ i. h (suc i)) in
     let low : x < 256 = h 0 in
     rw e (omega arith)
 
-pub after-number : (r : ℕ) (v : List ℕ) → AreBytes v → after r v ≡ after_bits (8 * length v) r (number v)
+pub after-number : (r : ℕ) (v : List ℕ) → AreBytes v
+    → after r v ≡ after_bits (8 * length v) r (number v)
 after-number r [] h = refl
 after-number r (x ∷ v) h =
     let more : 8 + 8 * length v ≡ 8 * suc (length v) = omega arith in
@@ -214,7 +240,8 @@ after-number r (x ∷ v) h =
     ∙ sym (after_bits-more 8 (8 * length v) r n)
     ∙ ap (λ k. after_bits k r n) more
 
-pub number-injective : (v w : List ℕ) → AreBytes v → AreBytes w → length v ≡ length w → number v ≡ number w → v ≡ w
+pub number-injective : (v w : List ℕ) → AreBytes v → AreBytes w → length v ≡ length w
+    → number v ≡ number w → v ≡ w
 number-injective [] [] hv hw e same = refl
 number-injective [] (y ∷ w) hv hw e same = absurd (omega arith)
 number-injective (x ∷ v) [] hv hw e same = absurd (omega arith)
@@ -222,7 +249,9 @@ number-injective (x ∷ v) (y ∷ w) hv hw e same =
     let a : x < 256 = hv 0 in
     let b : y < 256 = hw 0 in
     let first : x ≡ y = omega arith in
-    let rest = number-injective v w (AreBytes-tail x v hv) (AreBytes-tail y w hw) (omega arith) (omega arith) in
+    let rest =
+    number-injective v w (AreBytes-tail x v hv) (AreBytes-tail y w hw) (omega arith)
+    (omega arith) in
     ap (λ z. z ∷ v) first ∙ ap (λ z. y ∷ z) rest
 
 pub after-word : (r w : ℕ) → w < 2 ^ 32 → after r (to_le_bytes w32 w) ≡ after_bits 32 r w
@@ -259,12 +288,15 @@ Ends-xor : (r s w u : ℕ) → Ends r w → Ends s u → Ends (bit_xor r s) (bit
 Ends-xor r s w u h k = record {
   left = xor_lt 32 r s h.left k.left;
   fits = xor_lt 32 w u h.fits k.fits;
-  ends = after_bits-xor 32 r s w u h.left k.left ∙ ap (λ z. bit_xor z (after_bits 32 s u)) h.ends ∙ xor_zero_l (after_bits 32 s u) ∙ k.ends;
+  ends =
+      after_bits-xor 32 r s w u h.left k.left ∙ ap (λ z. bit_xor z (after_bits 32 s u)) h.ends
+      ∙ xor_zero_l (after_bits 32 s u) ∙ k.ends;
 }
 
 Ends-shift : (r w : ℕ) → Ends r w → Ends (after_bits 8 r (w % 256)) (w / 256)
 Ends-shift r w h =
-    let low : after_bits 8 r (w % 256) ≡ after_bits 8 r w = after_bits-mod 8 r (w % 256) w (omega arith) in
+    let low : after_bits 8 r (w % 256) ≡ after_bits 8 r w =
+    after_bits-mod 8 r (w % 256) w (omega arith) in
     let three : after_bits 24 (after_bits 8 r (w % 256)) (w / 256) ≡ 0 =
     ap (λ z. after_bits 24 z (w / 256)) low ∙ sym (after_bits-more 8 24 r w) ∙ h.ends in
     let fits = h.fits in
@@ -287,14 +319,17 @@ IsEdc-nil = IsEdc-from [] 0 (record { left = lit< tt; fits = lit< tt; ends = aft
 pub IsEdc-same : (v w : List ℕ) (t : ℕ) → after 0 v ≡ after 0 w → IsEdc v t → IsEdc w t
 IsEdc-same v w t e h = IsEdc-from w t (rw e at (Ends-from v t h))
 
-pub IsEdc-same_front : (u v rest b : List ℕ) (t : ℕ) → remainder (bits u) ≡ remainder (bits v) → u ++ rest ≡ b → IsEdc (v ++ rest) t → IsEdc b t
+pub IsEdc-same_front : (u v rest b : List ℕ) (t : ℕ) → remainder (bits u) ≡ remainder (bits v)
+    → u ++ rest ≡ b → IsEdc (v ++ rest) t → IsEdc b t
 IsEdc-same_front u v rest b t same whole h =
     let front : after 0 u ≡ after 0 v = sym (remainder-after u) ∙ same ∙ remainder-after v in
     IsEdc-same (v ++ rest) b t
-    (after-append 0 v rest ∙ ap (λ z. after z rest) (sym front) ∙ sym (after-append 0 u rest) ∙ ap (after 0) whole) h
+    (after-append 0 v rest ∙ ap (λ z. after z rest) (sym front) ∙ sym (after-append 0 u rest)
+    ∙ ap (after 0) whole) h
 
 -- one more byte behind a list
-pub IsEdc-push : (v : List ℕ) (w x t : ℕ) → IsEdc v w → IsEdc (bit_xor (w % 256) x ∷ []) t → IsEdc (v ++ x ∷ []) (bit_xor (w / 256) t)
+pub IsEdc-push : (v : List ℕ) (w x t : ℕ) → IsEdc v w → IsEdc (bit_xor (w % 256) x ∷ []) t
+    → IsEdc (v ++ x ∷ []) (bit_xor (w / 256) t)
 IsEdc-push v w x t h k =
     let r = after 0 v in
     let y = bit_xor (w % 256) x in
@@ -304,25 +339,30 @@ IsEdc-push v w x t h k =
     ∙ ap (λ z. after_bits 8 z (bit_xor (w % 256) y)) (sym (xor_zero_r r))
     ∙ after_bits-xor 8 r 0 (w % 256) y (after-lt 0 v (lit< tt)) (lit< tt)) in
     IsEdc-from (v ++ x ∷ []) (bit_xor (w / 256) t)
-    (rw e at (Ends-xor (after_bits 8 r (w % 256)) (after_bits 8 0 y) (w / 256) t (Ends-shift r w (Ends-from v w h)) (Ends-from (y ∷ []) t k)))
+    (rw e at (Ends-xor (after_bits 8 r (w % 256)) (after_bits 8 0 y) (w / 256) t
+    (Ends-shift r w (Ends-from v w h)) (Ends-from (y ∷ []) t k)))
 
 -- bytes after a sum are bytes after one term, and zeros after the other
-pub after-xor_zeros : (r s : ℕ) (v : List ℕ) → r < 2 ^ 32 → s < 2 ^ 32 → after (bit_xor r s) v ≡ bit_xor (after r (replicate (length v) 0)) (after s v)
+pub after-xor_zeros : (r s : ℕ) (v : List ℕ) → r < 2 ^ 32 → s < 2 ^ 32
+    → after (bit_xor r s) v ≡ bit_xor (after r (replicate (length v) 0)) (after s v)
 after-xor_zeros r s [] hr hs = refl
 after-xor_zeros r s (x ∷ v) hr hs =
     ap (λ z. after (after_bits 8 (bit_xor r s) z) v) (sym (xor_zero_l x))
     ∙ ap (λ z. after z v) (after_bits-xor 8 r s 0 x hr hs)
-    ∙ after-xor_zeros (after_bits 8 r 0) (after_bits 8 s x) v (after_bits-lt 8 r 0 hr) (after_bits-lt 8 s x hs)
+    ∙ after-xor_zeros (after_bits 8 r 0) (after_bits 8 s x) v (after_bits-lt 8 r 0 hr)
+    (after_bits-lt 8 s x hs)
 
 -- a byte in front of a list: its own word with zeros behind it, and the list's
-pub IsEdc-cons : (y : ℕ) (v : List ℕ) (t w : ℕ) → IsEdc (y ∷ replicate (length v) 0) t → IsEdc v w → IsEdc (y ∷ v) (bit_xor t w)
+pub IsEdc-cons : (y : ℕ) (v : List ℕ) (t w : ℕ) → IsEdc (y ∷ replicate (length v) 0) t → IsEdc v w
+    → IsEdc (y ∷ v) (bit_xor t w)
 IsEdc-cons y v t w h k =
     let r = after_bits 8 0 y in
     let r_lt : r < 2 ^ 32 = after_bits-lt 8 0 y (lit< tt) in
     let e : bit_xor (after r (replicate (length v) 0)) (after 0 v) ≡ after 0 (y ∷ v) =
     sym (ap (λ z. after z v) (sym (xor_zero_r r)) ∙ after-xor_zeros r 0 v r_lt (lit< tt)) in
     IsEdc-from (y ∷ v) (bit_xor t w)
-    (rw e at (Ends-xor (after r (replicate (length v) 0)) (after 0 v) t w (Ends-from (y ∷ replicate (length v) 0) t h) (Ends-from v w k)))
+    (rw e at (Ends-xor (after r (replicate (length v) 0)) (after 0 v) t w
+    (Ends-from (y ∷ replicate (length v) 0) t h) (Ends-from v w k)))
 
 -- four bytes behind a list, and its word: the bytes of their sum
 pub after-four : (v : List ℕ) (w : ℕ) (four : List ℕ) → IsEdc v w → AreBytes four → length four ≡ 4
@@ -332,7 +372,8 @@ after-four v w four h bytes long =
     let n = number four in
     let y = bit_xor w n in
     let ends = Ends-from v w h in
-    let n_lt : n < 2 ^ 32 = (let e : 8 * length four ≡ 32 = omega arith in rw e at (number-lt four bytes)) in
+    let n_lt : n < 2 ^ 32 =
+    (let e : 8 * length four ≡ 32 = omega arith in rw e at (number-lt four bytes)) in
     let y_lt : y < 2 ^ 32 = xor_lt 32 w n h.fits n_lt in
     let eights : 8 * length four ≡ 32 = omega arith in
     after-append 0 v four
@@ -353,7 +394,8 @@ IsEdc-unique v w u h k =
     after_bits-injective 32 (after 0 v) w u (lit≤ tt) a.left h.fits k.fits (a.ends ∙ sym b.ends)
 
 -- lists that differ at most in their last four bytes, and leave the same, are equal
-same_from_after : (r : ℕ) (v w : List ℕ) → r < 2 ^ 32 → DifferAtMostInLast 4 v w → after r v ≡ after r w → v ≡ w
+same_from_after : (r : ℕ) (v w : List ℕ) → r < 2 ^ 32 → DifferAtMostInLast 4 v w
+    → after r v ≡ after r w → v ≡ w
 same_from_after r [] [] hr d same = refl
 same_from_after r [] (y ∷ w) hr d same = let e = d.same_length in absurd (omega arith)
 same_from_after r (x ∷ v) [] hr d same = let e = d.same_length in absurd (omega arith)
@@ -363,41 +405,55 @@ same_from_after r (x ∷ v) (y ∷ w) hr d same = elim (cases_lt (length v) 4) [
       let same_length = d.same_length in
       let lengths : 8 * suc (length w) ≡ n = omega arith in
       let right_lt : number (y ∷ w) < 2 ^ n = rw lengths at (number-lt (y ∷ w) d.bytes_right) in
-      let numbers = after_bits-injective n r (number (x ∷ v)) (number (y ∷ w)) (omega arith) hr (number-lt (x ∷ v) d.bytes_left) right_lt
-      (sym (after-number r (x ∷ v) d.bytes_left) ∙ same ∙ after-number r (y ∷ w) d.bytes_right ∙ ap (λ k. after_bits k r (number (y ∷ w))) lengths) in
+      let numbers =
+      after_bits-injective n r (number (x ∷ v)) (number (y ∷ w)) (omega arith) hr
+      (number-lt (x ∷ v) d.bytes_left) right_lt
+      (sym (after-number r (x ∷ v) d.bytes_left) ∙ same ∙ after-number r (y ∷ w) d.bytes_right
+      ∙ ap (λ k. after_bits k r (number (y ∷ w))) lengths) in
       number-injective (x ∷ v) (y ∷ w) d.bytes_left d.bytes_right d.same_length numbers
   | inr long ↦
       let first : x ≡ y = d.front 0 (omega arith) in
-      let rest = same_from_after (after_bits 8 r x) v w (after_bits-lt 8 r x hr) (DifferAtMostInLast-tail 4 x y v w d)
+      let rest =
+      same_from_after (after_bits 8 r x) v w (after_bits-lt 8 r x hr)
+      (DifferAtMostInLast-tail 4 x y v w d)
       (same ∙ ap (λ z. after (after_bits 8 r z) w) (sym first)) in
       ap (λ z. z ∷ v) first ∙ ap (λ z. y ∷ z) rest
 ]
 
-pub edc_unique : (v w : List ℕ) → DifferAtMostInLast 4 v w → remainder (bits v) ≡ remainder (bits w) → v ≡ w
-edc_unique v w d same = same_from_after 0 v w (lit< tt) d (sym (remainder-after v) ∙ same ∙ remainder-after w)
+pub edc_unique : (v w : List ℕ) → DifferAtMostInLast 4 v w → remainder (bits v) ≡ remainder (bits w)
+    → v ≡ w
+edc_unique v w d same =
+    same_from_after 0 v w (lit< tt) d (sym (remainder-after v) ∙ same ∙ remainder-after w)
 
--- eight bytes behind a list: the first four are added to the word, and each of the eight then stands alone
-pub IsEdc-eight : (v b ys : List ℕ) (w n t₇ t₆ t₅ t₄ t₃ t₂ t₁ t₀ : ℕ) → IsEdc v w → AreBytes b → length b ≡ 8
+-- eight bytes behind a list: the first four are added to the word, and each of the eight then
+-- stands alone
+pub IsEdc-eight : (v b ys : List ℕ) (w n t₇ t₆ t₅ t₄ t₃ t₂ t₁ t₀ : ℕ) → IsEdc v w → AreBytes b
+    → length b ≡ 8
     → n ≡ from_le_bytes w32 (get_or b 0 0 ∷ get_or b 1 0 ∷ get_or b 2 0 ∷ get_or b 3 0 ∷ [])
     → ys ≡ to_le_bytes w32 (bit_xor w n)
     → IsEdc (get_or ys 0 0 ∷ replicate 7 0) t₇ → IsEdc (get_or ys 1 0 ∷ replicate 6 0) t₆
     → IsEdc (get_or ys 2 0 ∷ replicate 5 0) t₅ → IsEdc (get_or ys 3 0 ∷ replicate 4 0) t₄
     → IsEdc (get_or b 4 0 ∷ replicate 3 0) t₃ → IsEdc (get_or b 5 0 ∷ replicate 2 0) t₂
     → IsEdc (get_or b 6 0 ∷ replicate 1 0) t₁ → IsEdc (get_or b 7 0 ∷ []) t₀
-    → IsEdc (v ++ b) (bit_xor t₇ (bit_xor t₆ (bit_xor t₅ (bit_xor t₄ (bit_xor t₃ (bit_xor t₂ (bit_xor t₁ t₀)))))))
+    → IsEdc (v ++ b)
+    (bit_xor t₇ (bit_xor t₆ (bit_xor t₅ (bit_xor t₄ (bit_xor t₃ (bit_xor t₂ (bit_xor t₁ t₀)))))))
 IsEdc-eight v b ys w n t₇ t₆ t₅ t₄ t₃ t₂ t₁ t₀ h bytes long num split h₇ h₆ h₅ h₄ h₃ h₂ h₁ h₀ =
     let four = get_or b 0 0 ∷ get_or b 1 0 ∷ get_or b 2 0 ∷ get_or b 3 0 ∷ [] in
     let last = get_or b 4 0 ∷ get_or b 5 0 ∷ get_or b 6 0 ∷ get_or b 7 0 ∷ [] in
     let head = get_or ys 0 0 ∷ get_or ys 1 0 ∷ get_or ys 2 0 ∷ get_or ys 3 0 ∷ [] in
     let same_number : n ≡ number four = num ∙ omega arith in
-    let four_bytes : AreBytes four = AreBytes-four (get_or b 0 0) (get_or b 1 0) (get_or b 2 0) (get_or b 3 0) (bytes 0) (bytes 1) (bytes 2) (bytes 3) in
+    let four_bytes : AreBytes four =
+    AreBytes-four (get_or b 0 0) (get_or b 1 0) (get_or b 2 0) (get_or b 3 0) (bytes 0)
+    (bytes 1) (bytes 2) (bytes 3) in
     let heads : to_le_bytes w32 (bit_xor w n) ≡ head =
     ap (λ z. get_or z 0 0 ∷ get_or z 1 0 ∷ get_or z 2 0 ∷ get_or z 3 0 ∷ []) (sym split) in
     let front : after 0 (v ++ four) ≡ after 0 head =
-    after-four v w four h four_bytes refl ∙ ap (λ z. after 0 (to_le_bytes w32 (bit_xor w z))) (sym same_number) ∙ ap (after 0) heads in
-    let parts : b ≡ four ++ last = eight_of b long in
+    after-four v w four h four_bytes refl
+    ∙ ap (λ z. after 0 (to_le_bytes w32 (bit_xor w z))) (sym same_number) ∙ ap (after 0) heads in
+    let parts : b ≡ four ++ last = list_of_eight b long in
     let whole : after 0 (head ++ last) ≡ after 0 (v ++ b) =
-    sym (ap (λ z. after 0 (v ++ z)) parts ∙ ap (after 0) (sym (append_assoc v four last)) ∙ after-append 0 (v ++ four) last
+    sym (ap (λ z. after 0 (v ++ z)) parts ∙ ap (after 0) (sym (append_assoc v four last))
+    ∙ after-append 0 (v ++ four) last
     ∙ ap (λ z. after z last) front ∙ sym (after-append 0 head last)) in
     IsEdc-same (head ++ last) (v ++ b) _ whole
     (IsEdc-cons (get_or ys 0 0) _ t₇ _ h₇
@@ -409,7 +465,8 @@ IsEdc-eight v b ys w n t₇ t₆ t₅ t₄ t₃ t₂ t₁ t₀ h bytes long num 
     (IsEdc-cons (get_or b 6 0) _ t₁ _ h₁ h₀)))))))
 
 -- what a sum, byte by byte, of two lists leaves
-pub after-sum : (r s : ℕ) (u v w : List ℕ) → r < 2 ^ 32 → s < 2 ^ 32 → length u ≡ length v → length u ≡ length w
+pub after-sum : (r s : ℕ) (u v w : List ℕ) → r < 2 ^ 32 → s < 2 ^ 32 → length u ≡ length v
+    → length u ≡ length w
     → ((i : ℕ) → i < length u → get_or u i 0 ≡ bit_xor (get_or v i 0) (get_or w i 0))
     → after (bit_xor r s) u ≡ bit_xor (after r v) (after s w)
 after-sum r s [] [] [] hr hs e f h = refl
@@ -420,18 +477,21 @@ after-sum r s (x ∷ u) (y ∷ v) [] hr hs e f h = absurd (omega arith)
 after-sum r s (x ∷ u) (y ∷ v) (z ∷ w) hr hs e f h =
     ap (λ n. after (after_bits 8 (bit_xor r s) n) u) (h 0 (omega arith))
     ∙ ap (λ n. after n u) (after_bits-xor 8 r s y z hr hs)
-    ∙ after-sum (after_bits 8 r y) (after_bits 8 s z) u v w (after_bits-lt 8 r y hr) (after_bits-lt 8 s z hs)
+    ∙ after-sum (after_bits 8 r y) (after_bits 8 s z) u v w (after_bits-lt 8 r y hr)
+    (after_bits-lt 8 s z hs)
     (omega arith) (omega arith) (λ i k. h (suc i) (omega arith))
 
 pub remainder-sum : (u v w : List ℕ) → length u ≡ length v → length u ≡ length w → IsSum u v w
     → remainder (bits u) ≡ bit_xor (remainder (bits v)) (remainder (bits w))
 remainder-sum u v w e f h =
     remainder-after u ∙ after-sum 0 0 u v w (lit< tt) (lit< tt) e f (λ i _. h.byte i)
-    ∙ sym (ap (λ n. bit_xor n (remainder (bits w))) (remainder-after v) ∙ ap (bit_xor (after 0 v)) (remainder-after w))
+    ∙ sym (ap (λ n. bit_xor n (remainder (bits w))) (remainder-after v)
+    ∙ ap (bit_xor (after 0 v)) (remainder-after w))
 
 pub IsEdc-sum : (u v w : List ℕ) → length u ≡ length v → length u ≡ length w → IsSum u v w
     → (a b : ℕ) → IsEdc v a → IsEdc w b → IsEdc u (bit_xor a b)
 IsEdc-sum u v w e f h a b one two =
-    let left : bit_xor (after 0 v) (after 0 w) ≡ after 0 u = sym (after-sum 0 0 u v w (lit< tt) (lit< tt) e f (λ i _. h.byte i)) in
+    let left : bit_xor (after 0 v) (after 0 w) ≡ after 0 u =
+    sym (after-sum 0 0 u v w (lit< tt) (lit< tt) e f (λ i _. h.byte i)) in
     let both = Ends-xor (after 0 v) (after 0 w) a b (Ends-from v a one) (Ends-from w b two) in
     IsEdc-from u (bit_xor a b) (rw left at both)

@@ -22,13 +22,18 @@ is_row-all : agree_below is_row (λ _. true) 8 ≡ true
 unfolding bits remainder divide_step
 is_row-all = refl
 
-pub word_at-IsEdc : (zeros byte : ℕ) → zeros < 8 → byte < 256 → IsEdc (byte ∷ replicate zeros 0) (word_at zeros byte)
+pub word_at-IsEdc : (zeros byte : ℕ) → zeros < 8 → byte < 256
+    → IsEdc (byte ∷ replicate zeros 0) (word_at zeros byte)
 word_at-IsEdc zeros byte hz hb =
     let row = agree_below_at is_row (λ _. true) 8 zeros is_row-all hz in
     let both = agree_below_at (is_word_at zeros) (λ _. true) 256 byte row hb in
     let word = word_at zeros byte in
-    let parts = and_parts (nat_lt word (2 ^ 32)) (remainder (bits ((byte ∷ replicate zeros 0) ++ to_le_bytes w32 word)) == 0) both in
+    let parts =
+    and_parts (nat_lt word (2 ^ 32))
+    (remainder (bits ((byte ∷ replicate zeros 0) ++ to_le_bytes w32 word)) == 0) both in
     record {
       fits = ltb-true word (2 ^ 32) parts.0;
-      divides = eqb-true (remainder (bits ((byte ∷ replicate zeros 0) ++ to_le_bytes w32 word))) 0 parts.1;
+      divides =
+          eqb-true (remainder
+          (bits ((byte ∷ replicate zeros 0) ++ to_le_bytes w32 word))) 0 parts.1;
     }

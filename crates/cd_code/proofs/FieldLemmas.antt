@@ -5,7 +5,7 @@ use Rattle.std.specs.Int.Bits.{xor_self, xor_zero_l, xor_zero_r}
 use Rattle.std.proofs.lemmas.Nat.{xor_shr, xor_lt, shr_below}
 use Rattle.std.proofs.lemmas.Bool.{agree_below, agree_below_at, eqb-true, ltb-true, cond-true, cond-false, lt-ltb, le-ltb}
 use Rattle.cd_code.specs.Field.{double, power, product, product_of_bits}
-use Rattle.cd_code.proofs.XorLemmas.{xor_half, xor_low, xor_twofold, xor_swap}
+use Rattle.cd_code.proofs.general.Xor.{xor_half, xor_low, xor_twofold, xor_swap}
 
 -- what leaves at the top of a doubled byte: x^8 and the polynomial's other terms
 abbrev pub lift : ℕ → ℕ
@@ -28,10 +28,12 @@ is_byte_doubled-all = refl
 
 pub double-lift : (b : ℕ) → b < 256 → double b ≡ bit_xor (b * 2) (lift (b / 128))
 double-lift b h =
-    eqb-true (double b) (bit_xor (b * 2) (lift (b / 128))) (agree_below_at doubles_by_lift (λ _. true) 256 b doubles_by_lift-all h)
+    eqb-true (double b) (bit_xor (b * 2) (lift (b / 128)))
+    (agree_below_at doubles_by_lift (λ _. true) 256 b doubles_by_lift-all h)
 
 pub double-lt : (b : ℕ) → b < 256 → double b < 256
-double-lt b h = ltb-true (double b) 256 (agree_below_at is_byte_doubled (λ _. true) 256 b is_byte_doubled-all h)
+double-lt b h =
+    ltb-true (double b) 256 (agree_below_at is_byte_doubled (λ _. true) 256 b is_byte_doubled-all h)
 
 lift-xor : (x y : ℕ) → x < 2 → y < 2 → lift (bit_xor x y) ≡ bit_xor (lift x) (lift y)
 lift-xor zero zero _ _ = refl
@@ -43,7 +45,8 @@ lift-xor (suc zero) (suc (suc y)) _ h = absurd (omega arith)
 lift-xor (suc (suc x)) y h _ = absurd (omega arith)
 
 -- doubling is linear
-pub double-xor : (a b : ℕ) → a < 256 → b < 256 → double (bit_xor a b) ≡ bit_xor (double a) (double b)
+pub double-xor : (a b : ℕ) → a < 256 → b < 256
+    → double (bit_xor a b) ≡ bit_xor (double a) (double b)
 double-xor a b ha hb =
     let whole = double-lift (bit_xor a b) (xor_lt 8 a b ha hb) in
     let tops : lift (bit_xor a b / 128) ≡ bit_xor (lift (a / 128)) (lift (b / 128)) =
@@ -52,7 +55,8 @@ double-xor a b ha hb =
     ∙ ap (λ z. bit_xor z (lift (bit_xor a b / 128))) (xor_twofold a b)
     ∙ ap (bit_xor (bit_xor (a * 2) (b * 2))) tops
     ∙ xor_swap (a * 2) (b * 2) (lift (a / 128)) (lift (b / 128))
-    ∙ sym (ap (λ z. bit_xor z (double b)) (double-lift a ha) ∙ ap (bit_xor (bit_xor (a * 2) (lift (a / 128)))) (double-lift b hb))
+    ∙ sym (ap (λ z. bit_xor z (double b)) (double-lift a ha)
+    ∙ ap (bit_xor (bit_xor (a * 2) (lift (a / 128)))) (double-lift b hb))
 
 -- the term of a product at one bit
 abbrev pub term : ℕ → ℕ → ℕ
@@ -86,14 +90,18 @@ double-term x a = by_test (x == 1)
     by_test false = sym double-zero
 
 -- a product is linear in its second factor
-product_of_bits-xor : (n a b c : ℕ) → product_of_bits n a (bit_xor b c) ≡ bit_xor (product_of_bits n a b) (product_of_bits n a c)
+product_of_bits-xor : (n a b c : ℕ)
+    → product_of_bits n a (bit_xor b c) ≡ bit_xor (product_of_bits n a b) (product_of_bits n a c)
 product_of_bits-xor zero a b c = refl
 product_of_bits-xor (suc n) a b c =
     ap (λ z. bit_xor (product_of_bits n (double a) z) (term (bit_xor b c % 2) a)) (xor_half b c)
-    ∙ ap (λ z. bit_xor z (term (bit_xor b c % 2) a)) (product_of_bits-xor n (double a) (b / 2) (c / 2))
-    ∙ ap (bit_xor (bit_xor (product_of_bits n (double a) (b / 2)) (product_of_bits n (double a) (c / 2))))
+    ∙ ap (λ z. bit_xor z (term (bit_xor b c % 2) a))
+    (product_of_bits-xor n (double a) (b / 2) (c / 2))
+    ∙ ap (bit_xor (bit_xor (product_of_bits n (double a) (b / 2))
+    (product_of_bits n (double a) (c / 2))))
     (ap (λ z. term z a) (xor_low b c) ∙ term-xor (b % 2) (c % 2) a (omega arith) (omega arith))
-    ∙ xor_swap (product_of_bits n (double a) (b / 2)) (product_of_bits n (double a) (c / 2)) (term (b % 2) a) (term (c % 2) a)
+    ∙ xor_swap (product_of_bits n (double a) (b / 2)) (product_of_bits n (double a) (c / 2))
+    (term (b % 2) a) (term (c % 2) a)
 
 pub product-xor : (a b c : ℕ) → product a (bit_xor b c) ≡ bit_xor (product a b) (product a c)
 unfolding product
@@ -102,18 +110,22 @@ product-xor a b c = product_of_bits-xor 8 a b c
 product_of_bits-lt : (n a b : ℕ) → a < 256 → product_of_bits n a b < 256
 product_of_bits-lt zero a b h = lit< tt
 product_of_bits-lt (suc n) a b h =
-    xor_lt 8 (product_of_bits n (double a) (b / 2)) (term (b % 2) a) (product_of_bits-lt n (double a) (b / 2) (double-lt a h)) (term-lt (b % 2) a h)
+    xor_lt 8 (product_of_bits n (double a) (b / 2)) (term (b % 2) a)
+    (product_of_bits-lt n (double a) (b / 2) (double-lt a h)) (term-lt (b % 2) a h)
 
 pub product-lt : (a b : ℕ) → a < 256 → product a b < 256
 unfolding product
 product-lt a b h = product_of_bits-lt 8 a b h
 
-product_of_bits-double : (n a b : ℕ) → a < 256 → product_of_bits n (double a) b ≡ double (product_of_bits n a b)
+product_of_bits-double : (n a b : ℕ) → a < 256
+    → product_of_bits n (double a) b ≡ double (product_of_bits n a b)
 product_of_bits-double zero a b h = sym double-zero
 product_of_bits-double (suc n) a b h =
-    ap (λ z. bit_xor z (term (b % 2) (double a))) (product_of_bits-double n (double a) (b / 2) (double-lt a h))
+    ap (λ z. bit_xor z (term (b % 2) (double a)))
+    (product_of_bits-double n (double a) (b / 2) (double-lt a h))
     ∙ ap (bit_xor (double (product_of_bits n (double a) (b / 2)))) (double-term (b % 2) a)
-    ∙ sym (double-xor (product_of_bits n (double a) (b / 2)) (term (b % 2) a) (product_of_bits-lt n (double a) (b / 2) (double-lt a h)) (term-lt (b % 2) a h))
+    ∙ sym (double-xor (product_of_bits n (double a) (b / 2)) (term (b % 2) a)
+    (product_of_bits-lt n (double a) (b / 2) (double-lt a h)) (term-lt (b % 2) a h))
 
 -- to double a factor is to double the product
 pub product-double : (a b : ℕ) → a < 256 → product (double a) b ≡ double (product a b)
@@ -128,7 +140,8 @@ unfolding product double
 is_one_neutral-all = refl
 
 pub product-one : (b : ℕ) → b < 256 → product 1 b ≡ b
-product-one b h = eqb-true (product 1 b) b (agree_below_at is_one_neutral (λ _. true) 256 b is_one_neutral-all h)
+product-one b h =
+    eqb-true (product 1 b) b (agree_below_at is_one_neutral (λ _. true) 256 b is_one_neutral-all h)
 
 -- n doublings
 abbrev pub doubles : ℕ → ℕ → ℕ
@@ -142,7 +155,8 @@ power-lt (suc n) = double-lt (power n) (power-lt n)
 -- to multiply by a power of alpha is to double that many times
 pub product-power : (n b : ℕ) → b < 256 → product (power n) b ≡ doubles n b
 product-power zero b h = product-one b h
-product-power (suc n) b h = product-double (power n) b (power-lt n) ∙ ap double (product-power n b h)
+product-power (suc n) b h =
+    product-double (power n) b (power-lt n) ∙ ap double (product-power n b h)
 
 pub power-doubles : (n : ℕ) → power n ≡ doubles n 1
 power-doubles zero = refl
@@ -161,7 +175,8 @@ is_undone_by_inverse-all = refl
 
 pub third_tripled : (b : ℕ) → b < 256 → bit_xor (double (product 244 b)) (product 244 b) ≡ b
 third_tripled b h =
-    eqb-true (bit_xor (double (product 244 b)) (product 244 b)) b (agree_below_at is_undone_by_inverse (λ _. true) 256 b is_undone_by_inverse-all h)
+    eqb-true (bit_xor (double (product 244 b)) (product 244 b)) b
+    (agree_below_at is_undone_by_inverse (λ _. true) 256 b is_undone_by_inverse-all h)
 
 abbrev is_redone_by_inverse : ℕ → Bool
 is_redone_by_inverse b = product 244 (bit_xor (double b) b) == b
@@ -172,7 +187,8 @@ is_redone_by_inverse-all = refl
 
 pub tripled_third : (b : ℕ) → b < 256 → product 244 (bit_xor (double b) b) ≡ b
 tripled_third b h =
-    eqb-true (product 244 (bit_xor (double b) b)) b (agree_below_at is_redone_by_inverse (λ _. true) 256 b is_redone_by_inverse-all h)
+    eqb-true (product 244 (bit_xor (double b) b)) b
+    (agree_below_at is_redone_by_inverse (λ _. true) 256 b is_redone_by_inverse-all h)
 
 -- one more bit of fuel changes nothing where the factor has no such bit
 product_of_bits-fuel : (n a b : ℕ) → b < 2 ^ n → product_of_bits (suc n) a b ≡ product_of_bits n a b
@@ -180,24 +196,31 @@ product_of_bits-fuel zero a b h =
     let e : b ≡ 0 = omega arith in
     ap (λ z. bit_xor (product_of_bits zero (double a) (z / 2)) (term (z % 2) a)) e
 product_of_bits-fuel (suc n) a b h =
-    ap (λ z. bit_xor z (term (b % 2) a)) (product_of_bits-fuel n (double a) (b / 2) (half_below n b h))
+    ap (λ z. bit_xor z (term (b % 2) a))
+    (product_of_bits-fuel n (double a) (b / 2) (half_below n b h))
   where
     half_below : (n b : ℕ) → b < 2 ^ suc n → b / 2 < 2 ^ n
     half_below n b h = shr_below b n 1 (let e : n + 1 ≡ suc n = omega arith in rw e h)
 
-pub product-by_bits : (a b : ℕ) → b < 256 → product a b ≡ bit_xor (product (double a) (b / 2)) (term (b % 2) a)
+pub product-by_bits : (a b : ℕ) → b < 256
+    → product a b ≡ bit_xor (product (double a) (b / 2)) (term (b % 2) a)
 unfolding product
 product-by_bits a b h =
-    ap (λ z. bit_xor z (term (b % 2) a)) (sym (product_of_bits-fuel 7 (double a) (b / 2) (omega arith)))
+    ap (λ z. bit_xor z (term (b % 2) a))
+    (sym (product_of_bits-fuel 7 (double a) (b / 2) (omega arith)))
 
 -- the two cases of doubling
 pub double-below : (b : ℕ) → b < 128 → double b ≡ b * 2
 unfolding double
-double-below b h = cond-true (nat_lt (b * 2) 256) (b * 2) (bit_xor (b * 2 - 256) 29) (lt-ltb (b * 2) 256 (omega arith))
+double-below b h =
+    cond-true (nat_lt (b * 2) 256) (b * 2) (bit_xor (b * 2 - 256) 29)
+    (lt-ltb (b * 2) 256 (omega arith))
 
 pub double-above : (b : ℕ) → 128 ≤ b → double b ≡ bit_xor (b * 2 - 256) 29
 unfolding double
-double-above b h = cond-false (nat_lt (b * 2) 256) (b * 2) (bit_xor (b * 2 - 256) 29) (le-ltb (b * 2) 256 (omega arith))
+double-above b h =
+    cond-false (nat_lt (b * 2) 256) (b * 2) (bit_xor (b * 2 - 256) 29)
+    (le-ltb (b * 2) 256 (omega arith))
 
 product_of_bits-zero_left : (n b : ℕ) → product_of_bits n 0 b ≡ 0
 product_of_bits-zero_left zero b = refl

@@ -17,23 +17,33 @@ doubles_the_last-all = refl
 pub exponents-power : (n : ℕ) → n < 510 → get_or EXPONENTS n 0 ≡ power n
 exponents-power zero h = refl
 exponents-power (suc n) h =
-    let step = eqb-true (get_or EXPONENTS (n + 1) 0) (double (get_or EXPONENTS n 0)) (agree_below_at doubles_the_last (λ _. true) 509 n doubles_the_last-all (omega arith)) in
+    let step =
+    eqb-true (get_or EXPONENTS (n + 1) 0) (double (get_or EXPONENTS n 0))
+    (agree_below_at doubles_the_last (λ _. true) 509 n doubles_the_last-all (omega arith)) in
     let next : n + 1 ≡ suc n = omega arith in
     ap (λ k. get_or EXPONENTS k 0) (sym next) ∙ step ∙ ap double (exponents-power n (omega arith))
 
 -- each element but 0 has its logarithm
 abbrev has_logarithm : ℕ → Bool
-has_logarithm n = nat_lt (get_or LOGARITHMS (n + 1) 0) 255 && (get_or EXPONENTS (get_or LOGARITHMS (n + 1) 0) 0 == n + 1)
+has_logarithm n =
+    nat_lt (get_or LOGARITHMS (n + 1) 0) 255 &&
+    (get_or EXPONENTS (get_or LOGARITHMS (n + 1) 0) 0 == n + 1)
 
 has_logarithm-all : agree_below has_logarithm (λ _. true) 255 ≡ true
 has_logarithm-all = refl
 
-logarithms_at : (n : ℕ) → n < 255 → (get_or LOGARITHMS (n + 1) 0 < 255) × (power (get_or LOGARITHMS (n + 1) 0) ≡ n + 1)
+logarithms_at : (n : ℕ) → n < 255
+    → (get_or LOGARITHMS (n + 1) 0 < 255) × (power (get_or LOGARITHMS (n + 1) 0) ≡ n + 1)
 logarithms_at n h =
     let log = get_or LOGARITHMS (n + 1) 0 in
-    let parts = and_parts (nat_lt log 255) (get_or EXPONENTS log 0 == n + 1) (agree_below_at has_logarithm (λ _. true) 255 n has_logarithm-all h) in
-    let below : log < 255 = ltb-true log 255 parts.0 in
-    (below, sym (exponents-power log (omega arith)) ∙ eqb-true (get_or EXPONENTS log 0) (n + 1) parts.1)
+    let parts =
+    and_parts (nat_lt log 255) (get_or EXPONENTS log 0 == n + 1)
+    (agree_below_at has_logarithm (λ _. true) 255 n has_logarithm-all h) in
+    let below : log < 255 = ltb-true log 255 parts.0 in (
+      below,
+      sym (exponents-power log (omega arith))
+          ∙ eqb-true (get_or EXPONENTS log 0) (n + 1) parts.1,
+    )
 
 pub logarithms-lt : (a : ℕ) → 0 < a → a < 256 → get_or LOGARITHMS a 0 < 255
 logarithms-lt a some below =
@@ -56,7 +66,8 @@ doubles-doubles (suc m) n b =
 -- a product of powers
 pub product-powers : (m n : ℕ) → product (power m) (power n) ≡ power (m + n)
 product-powers m n =
-    product-power m (power n) (power-lt n) ∙ ap (doubles m) (power-doubles n) ∙ doubles-doubles m n 1 ∙ sym (power-doubles (m + n))
+    product-power m (power n) (power-lt n) ∙ ap (doubles m) (power-doubles n)
+    ∙ doubles-doubles m n 1 ∙ sym (power-doubles (m + n))
 
 -- the order of alpha
 power_order : power 255 ≡ 1
@@ -64,7 +75,8 @@ power_order = sym (exponents-power 255 (lit< tt)) ∙ refl
 
 power-turn : (n : ℕ) → power (255 + n) ≡ power n
 power-turn n =
-    sym (product-powers 255 n) ∙ ap (λ z. product z (power n)) power_order ∙ product-power 0 (power n) (power-lt n)
+    sym (product-powers 255 n) ∙ ap (λ z. product z (power n)) power_order
+    ∙ product-power 0 (power n) (power-lt n)
 
 power-turns : (k r : ℕ) → power (k * 255 + r) ≡ power r
 power-turns zero r = let e : zero * 255 + r ≡ r = omega arith in ap power e
@@ -87,29 +99,37 @@ is_one_above-none = refl
 power-one : (n : ℕ) → 0 < n → n < 255 → power n ≡ 1 → ⊥
 power-one n some below one =
     let e : n - 1 + 1 ≡ n = omega arith in
-    let never = eqb-false (get_or EXPONENTS (n - 1 + 1) 0) 1 (agree_below_at is_one_above (λ _. false) 254 (n - 1) is_one_above-none (omega arith)) in
+    let never =
+    eqb-false (get_or EXPONENTS (n - 1 + 1) 0) 1
+    (agree_below_at is_one_above (λ _. false) 254 (n - 1) is_one_above-none (omega arith)) in
     never (exponents-power (n - 1 + 1) (omega arith) ∙ ap power e ∙ one)
 
 -- an element but 0 is another one n doublings later, up to the 255th
-pub product-power_moves : (n d : ℕ) → 0 < n → n < 255 → 0 < d → d < 256 → product (power n) d ≡ d → ⊥
+pub product-power_moves : (n d : ℕ) → 0 < n → n < 255 → 0 < d → d < 256 → product (power n) d ≡ d
+    → ⊥
 product-power_moves n d some below nonzero byte same =
     let m = get_or LOGARITHMS d 0 in
     let m_lt : m < 255 = logarithms-lt d nonzero byte in
     let is : power m ≡ d = power-logarithms d nonzero byte in
-    let moved : power (n + m) ≡ power m = sym (product-powers n m) ∙ ap (product (power n)) is ∙ same ∙ sym is in
+    let moved : power (n + m) ≡ power m =
+    sym (product-powers n m) ∙ ap (product (power n)) is ∙ same ∙ sym is in
     let back : 255 - m + (n + m) ≡ 255 + n = omega arith in
     let whole : 255 - m + m ≡ 255 = omega arith in
     power-one n some below
-    (sym (power-turn n) ∙ ap power (sym back) ∙ sym (product-powers (255 - m) (n + m)) ∙ ap (product (power (255 - m))) moved
+    (sym (power-turn n) ∙ ap power (sym back) ∙ sym (product-powers (255 - m) (n + m))
+    ∙ ap (product (power (255 - m))) moved
     ∙ product-powers (255 - m) m ∙ ap power whole ∙ power_order)
 
 -- nor is it that of one doubling
-pub product-power_moves_on : (n d : ℕ) → 1 < n → n < 256 → 0 < d → d < 256 → product (power n) d ≡ double d → ⊥
+pub product-power_moves_on : (n d : ℕ) → 1 < n → n < 256 → 0 < d → d < 256
+    → product (power n) d ≡ double d → ⊥
 product-power_moves_on n d some below nonzero byte same =
     let e : 254 + n ≡ 255 + (n - 1) = omega arith in
     let turned : doubles 254 (doubles n d) ≡ product (power (n - 1)) d =
-    doubles-doubles 254 n d ∙ sym (product-power (254 + n) d byte) ∙ ap (λ k. product (power k) d) e ∙ ap (λ z. product z d) (power-turn (n - 1)) in
+    doubles-doubles 254 n d ∙ sym (product-power (254 + n) d byte) ∙ ap (λ k. product (power k) d) e
+    ∙ ap (λ z. product z d) (power-turn (n - 1)) in
     let round : doubles 254 (double d) ≡ d =
-    doubles-doubles 254 1 d ∙ sym (product-power 255 d byte) ∙ ap (λ z. product z d) power_order ∙ product-power 0 d byte in
+    doubles-doubles 254 1 d ∙ sym (product-power 255 d byte) ∙ ap (λ z. product z d) power_order
+    ∙ product-power 0 d byte in
     product-power_moves (n - 1) d (omega arith) (omega arith) nonzero byte
     (sym turned ∙ ap (doubles 254) (sym (product-power n d byte) ∙ same) ∙ round)

@@ -11,7 +11,7 @@ use Rattle.std.proofs.lemmas.Simd.{length-zip2, get_or-zip2, pick_l-range_with_l
 use Rattle.cd_code.specs.Edc.{bits, divide_step, remainder}
 use Rattle.cd_code.specs.Folding.{IsFolded, folded}
 use Rattle.cd_code.proofs.EdcLemmas.{step-xor, step-lt, after, after-lt, after-append, after-sum, after-xor_zeros, after_bits, after_bits-lt, after_bits-xor, after_bits-zero, remainder-after}
-use Rattle.cd_code.proofs.XorLemmas.{xor_swap}
+use Rattle.cd_code.proofs.general.Xor.{xor_swap}
 
 -- ---- k bytes 00
 
@@ -34,14 +34,16 @@ zeros-lt : (k r : ℕ) → r < 2 ^ 32 → zeros k r < 2 ^ 32
 unfolding zeros
 zeros-lt k r h = after_bits-lt (8 * k) r 0 h
 
-zeros-xor : (k r s : ℕ) → r < 2 ^ 32 → s < 2 ^ 32 → zeros k (bit_xor r s) ≡ bit_xor (zeros k r) (zeros k s)
+zeros-xor : (k r s : ℕ) → r < 2 ^ 32 → s < 2 ^ 32
+    → zeros k (bit_xor r s) ≡ bit_xor (zeros k r) (zeros k s)
 unfolding zeros
 zeros-xor k r s hr hs = after_bits-xor (8 * k) r s 0 0 hr hs
 
 zeros-more : (m n r : ℕ) → zeros n (zeros m r) ≡ zeros (m + n) r
 unfolding zeros
 zeros-more m n r =
-    zero_bits-more (8 * m) (8 * n) r ∙ (let e : 8 * m + 8 * n ≡ 8 * (m + n) = omega arith in ap (λ k. after_bits k r 0) e)
+    zero_bits-more (8 * m) (8 * n) r
+    ∙ (let e : 8 * m + 8 * n ≡ 8 * (m + n) = omega arith in ap (λ k. after_bits k r 0) e)
 
 zeros-step : (k r : ℕ) → zeros k (divide_step r 0) ≡ divide_step (zeros k r) 0
 unfolding zeros
@@ -83,10 +85,12 @@ step-bit (suc zero) h = refl
 step-bit (suc (suc b)) h = absurd (omega arith)
 
 -- one step before zeros is a step behind them, and the bit's own zeros
-zeros-after_step : (k r b : ℕ) → r < 2 ^ 32 → b < 2 → zeros k (divide_step r b) ≡ bit_xor (divide_step (zeros k r) 0) (zeros k b)
+zeros-after_step : (k r b : ℕ) → r < 2 ^ 32 → b < 2
+    → zeros k (divide_step r b) ≡ bit_xor (divide_step (zeros k r) 0) (zeros k b)
 zeros-after_step k r b hr hb =
     let parts : divide_step r b ≡ bit_xor (divide_step r 0) b =
-    ap (λ z. divide_step z b) (sym (xor_zero_r r)) ∙ ap (divide_step (bit_xor r 0)) (sym (xor_zero_l b))
+    ap (λ z. divide_step z b) (sym (xor_zero_r r))
+    ∙ ap (divide_step (bit_xor r 0)) (sym (xor_zero_l b))
     ∙ step-xor r 0 0 b hr (lit< tt) (lit< tt) hb ∙ ap (bit_xor (divide_step r 0)) (step-bit b hb) in
     let small : b < 2 ^ 32 = omega arith in
     ap (zeros k) parts ∙ zeros-xor k (divide_step r 0) b (step-lt r 0 hr (lit< tt)) small
@@ -100,16 +104,23 @@ four-step r b hr hb h =
     let x_lt : x < 2 ^ 32 = zeros-lt 16 r hr in
     let y_lt : y < 2 ^ 32 = zeros-lt 4 r hr in
     let z_lt : z < 2 ^ 32 = zeros-lt 1 r hr in
-    let step : (s t : ℕ) → s < 2 ^ 32 → t < 2 ^ 32 → divide_step (bit_xor s t) 0 ≡ bit_xor (divide_step s 0) (divide_step t 0) =
+    let step : (s t : ℕ) → s < 2 ^ 32 → t < 2 ^ 32
+    → divide_step (bit_xor s t) 0 ≡ bit_xor (divide_step s 0) (divide_step t 0) =
     λ s t hs ht. step-xor s t 0 0 hs ht (lit< tt) (lit< tt) in
-    let stepped : divide_step (zeros 32 r) 0 ≡ bit_xor (divide_step x 0) (bit_xor (divide_step y 0) (divide_step z 0)) =
-    ap (λ s. divide_step s 0) h ∙ step x (bit_xor y z) x_lt (xor_lt 32 y z y_lt z_lt) ∙ ap (bit_xor (divide_step x 0)) (step y z y_lt z_lt) in
+    let stepped : divide_step (zeros 32 r) 0
+    ≡ bit_xor (divide_step x 0) (bit_xor (divide_step y 0) (divide_step z 0)) =
+    ap (λ s. divide_step s 0) h ∙ step x (bit_xor y z) x_lt (xor_lt 32 y z y_lt z_lt)
+    ∙ ap (bit_xor (divide_step x 0)) (step y z y_lt z_lt) in
     zeros-after_step 32 r b hr hb
     ∙ ap (λ s. bit_xor s (zeros 32 b)) stepped
-    ∙ ap (bit_xor (bit_xor (divide_step x 0) (bit_xor (divide_step y 0) (divide_step z 0)))) (four-bit b hb)
-    ∙ xor_swap (divide_step x 0) (bit_xor (divide_step y 0) (divide_step z 0)) (zeros 16 b) (bit_xor (zeros 4 b) (zeros 1 b))
-    ∙ ap (bit_xor (bit_xor (divide_step x 0) (zeros 16 b))) (xor_swap (divide_step y 0) (divide_step z 0) (zeros 4 b) (zeros 1 b))
-    ∙ sym (ap (λ s. bit_xor s (bit_xor (zeros 4 (divide_step r b)) (zeros 1 (divide_step r b)))) (zeros-after_step 16 r b hr hb)
+    ∙ ap (bit_xor (bit_xor (divide_step x 0) (bit_xor (divide_step y 0) (divide_step z 0))))
+    (four-bit b hb)
+    ∙ xor_swap (divide_step x 0) (bit_xor (divide_step y 0) (divide_step z 0)) (zeros 16 b)
+    (bit_xor (zeros 4 b) (zeros 1 b))
+    ∙ ap (bit_xor (bit_xor (divide_step x 0) (zeros 16 b)))
+    (xor_swap (divide_step y 0) (divide_step z 0) (zeros 4 b) (zeros 1 b))
+    ∙ sym (ap (λ s. bit_xor s (bit_xor (zeros 4 (divide_step r b)) (zeros 1 (divide_step r b))))
+    (zeros-after_step 16 r b hr hb)
     ∙ ap (bit_xor (bit_xor (divide_step x 0) (zeros 16 b)))
     (ap (λ s. bit_xor s (zeros 1 (divide_step r b))) (zeros-after_step 4 r b hr hb)
     ∙ ap (bit_xor (bit_xor (divide_step y 0) (zeros 4 b))) (zeros-after_step 1 r b hr hb)))
@@ -117,11 +128,13 @@ four-step r b hr hb h =
 four-bits : (n r x : ℕ) → r < 2 ^ 32 → HasFour r → HasFour (after_bits n r x)
 four-bits zero r x hr h = h
 four-bits (suc n) r x hr h =
-    four-bits n (divide_step r (x % 2)) (x / 2) (step-lt r (x % 2) hr (omega arith)) (four-step r (x % 2) hr (omega arith) h)
+    four-bits n (divide_step r (x % 2)) (x / 2) (step-lt r (x % 2) hr (omega arith))
+    (four-step r (x % 2) hr (omega arith) h)
 
 four-after : (r : ℕ) (v : List ℕ) → r < 2 ^ 32 → HasFour r → HasFour (after r v)
 four-after r [] hr h = h
-four-after r (x ∷ v) hr h = four-after (after_bits 8 r x) v (after_bits-lt 8 r x hr) (four-bits 8 r x hr h)
+four-after r (x ∷ v) hr h =
+    four-after (after_bits 8 r x) v (after_bits-lt 8 r x hr) (four-bits 8 r x hr h)
 
 -- ---- lists
 
@@ -136,7 +149,8 @@ left-append u v =
     ∙ ap (λ z. bit_xor z (after 0 v)) (after-zeros (length v) (after 0 u))
 
 -- a sum of two lists
-left-sum : (u v : List ℕ) → length u ≡ length v → after 0 (zip2 bit_xor u v) ≡ bit_xor (after 0 u) (after 0 v)
+left-sum : (u v : List ℕ) → length u ≡ length v
+    → after 0 (zip2 bit_xor u v) ≡ bit_xor (after 0 u) (after 0 v)
 left-sum u v e =
     let long = length-zip2 bit_xor u v e in
     after-sum 0 0 (zip2 bit_xor u v) u v (lit< tt) (lit< tt) long (omega arith)
@@ -144,7 +158,8 @@ left-sum u v e =
 
 -- n bytes of two lists of n, from place m on
 left-window : (m n : ℕ) (a b : List ℕ) → length a ≡ n → length b ≡ n → m ≤ n
-    → after 0 (take n (drop m (a ++ b))) ≡ bit_xor (zeros m (after 0 a)) (bit_xor (zeros n (after 0 (take m a))) (after 0 (take m b)))
+    → after 0 (take n (drop m (a ++ b)))
+    ≡ bit_xor (zeros m (after 0 a)) (bit_xor (zeros n (after 0 (take m a))) (after 0 (take m b)))
 left-window m n a b ha hb h =
     let rest = drop m a in
     let front = take m b in
@@ -153,12 +168,15 @@ left-window m n a b ha hb h =
     let p = after 0 (take m a) in
     let d = after 0 rest in
     let window : take n (drop m (a ++ b)) ≡ rest ++ front =
-    ap (take n) (drop-append-le m a b (omega arith)) ∙ ap (λ k. take k (rest ++ b)) (sym rest_len) ∙ take-append-add rest b m in
+    ap (take n) (drop-append-le m a b (omega arith)) ∙ ap (λ k. take k (rest ++ b)) (sym rest_len)
+    ∙ take-append-add rest b m in
     let whole : zeros m (after 0 a) ≡ bit_xor (zeros n p) (zeros m d) =
     ap (λ v. zeros m (after 0 v)) (sym (take-append-drop m a))
     ∙ ap (zeros m) (left-append (take m a) rest)
-    ∙ zeros-xor m (zeros (length rest) p) d (zeros-lt (length rest) p (left-lt (take m a))) (left-lt rest)
-    ∙ ap (λ z. bit_xor z (zeros m d)) (zeros-more (length rest) m p ∙ ap (λ k. zeros k p) rest_len) in
+    ∙ zeros-xor m (zeros (length rest) p) d (zeros-lt (length rest) p (left-lt (take m a)))
+    (left-lt rest)
+    ∙ ap (λ z. bit_xor z (zeros m d))
+    (zeros-more (length rest) m p ∙ ap (λ k. zeros k p) rest_len) in
     ap (after 0) window ∙ left-append rest front
     ∙ ap (λ k. bit_xor (zeros k d) (after 0 front)) front_len
     ∙ sym (ap (λ z. bit_xor z (bit_xor (zeros n p) (after 0 front))) whole
@@ -175,8 +193,10 @@ left-folded a b c ha hb hc =
     let far = take 16 (drop 4 (a ++ b)) in
     let near = take 16 (drop 1 (a ++ b)) in
     let both : length (a ++ b) ≡ 32 = omega (arith, length-append a b) in
-    let far_len : length far ≡ 16 = omega (arith, length-take 16 (drop 4 (a ++ b)), length-drop 4 (a ++ b)) in
-    let near_len : length near ≡ 16 = omega (arith, length-take 16 (drop 1 (a ++ b)), length-drop 1 (a ++ b)) in
+    let far_len : length far ≡ 16 =
+    omega (arith, length-take 16 (drop 4 (a ++ b)), length-drop 4 (a ++ b)) in
+    let near_len : length near ≡ 16 =
+    omega (arith, length-take 16 (drop 1 (a ++ b)), length-drop 1 (a ++ b)) in
     let one = zip2 bit_xor c b in
     let one_len : length one ≡ 16 = length-zip2 bit_xor c b (hc ∙ sym hb) ∙ hc in
     let two = zip2 bit_xor one far in
@@ -184,51 +204,73 @@ left-folded a b c ha hb hc =
     left-sum two near (two_len ∙ sym near_len)
     ∙ ap (λ z. bit_xor z (after 0 near)) (left-sum one far (one_len ∙ sym far_len))
     ∙ ap (λ z. bit_xor (bit_xor z (after 0 far)) (after 0 near)) (left-sum c b (hc ∙ sym hb))
-    ∙ ap (λ z. bit_xor (bit_xor (bit_xor (after 0 c) (after 0 b)) z) (after 0 near)) (left-window 4 16 a b ha hb (lit≤ tt))
-    ∙ ap (bit_xor (bit_xor (bit_xor (after 0 c) (after 0 b)) (bit_xor (zeros 4 (after 0 a)) (bit_xor (zeros 16 (after 0 (take 4 a))) (after 0 (take 4 b))))))
+    ∙ ap (λ z. bit_xor (bit_xor (bit_xor (after 0 c) (after 0 b)) z) (after 0 near))
+    (left-window 4 16 a b ha hb (lit≤ tt))
+    ∙ ap (bit_xor (bit_xor (bit_xor (after 0 c) (after 0 b))
+    (bit_xor (zeros 4 (after 0 a)) (bit_xor (zeros 16 (after 0 (take 4 a))) (after 0 (take 4 b))))))
     (left-window 1 16 a b ha hb (lit≤ tt))
 
-length-folded : (a b c : List ℕ) → length a ≡ 16 → length b ≡ 16 → length c ≡ 16 → length (folded a b c) ≡ 16
+length-folded : (a b c : List ℕ) → length a ≡ 16 → length b ≡ 16 → length c ≡ 16
+    → length (folded a b c) ≡ 16
 length-folded a b c ha hb hc =
     let both : length (a ++ b) ≡ 32 = omega (arith, length-append a b) in
     let far = take 16 (drop 4 (a ++ b)) in
     let near = take 16 (drop 1 (a ++ b)) in
-    let far_len : length far ≡ 16 = omega (arith, length-take 16 (drop 4 (a ++ b)), length-drop 4 (a ++ b)) in
-    let near_len : length near ≡ 16 = omega (arith, length-take 16 (drop 1 (a ++ b)), length-drop 1 (a ++ b)) in
+    let far_len : length far ≡ 16 =
+    omega (arith, length-take 16 (drop 4 (a ++ b)), length-drop 4 (a ++ b)) in
+    let near_len : length near ≡ 16 =
+    omega (arith, length-take 16 (drop 1 (a ++ b)), length-drop 1 (a ++ b)) in
     let one_len : length (zip2 bit_xor c b) ≡ 16 = length-zip2 bit_xor c b (hc ∙ sym hb) ∙ hc in
-    let two_len : length (zip2 bit_xor (zip2 bit_xor c b) far) ≡ 16 = length-zip2 bit_xor (zip2 bit_xor c b) far (one_len ∙ sym far_len) ∙ one_len in
-    length-zip2 bit_xor (zip2 bit_xor (zip2 bit_xor c b) far) near (two_len ∙ sym near_len) ∙ two_len
+    let two_len : length (zip2 bit_xor (zip2 bit_xor c b) far) ≡ 16 =
+    length-zip2 bit_xor (zip2 bit_xor c b) far (one_len ∙ sym far_len) ∙ one_len in
+    length-zip2 bit_xor (zip2 bit_xor (zip2 bit_xor c b) far) near (two_len ∙ sym near_len)
+    ∙ two_len
 
 -- what the 32 bytes of two registers leave
 abbrev left_of : List ℕ → List ℕ → ℕ
 left_of a b =
-    bit_xor (zeros 16 (after 0 a)) (bit_xor (bit_xor (bit_xor (after 0 b) (after 0 a)) (after 0 (take 4 a))) (after 0 (take 1 a)))
+    bit_xor (zeros 16 (after 0 a))
+    (bit_xor (bit_xor (bit_xor (after 0 b) (after 0 a)) (after 0 (take 4 a))) (after 0 (take 1 a)))
 
-left-registers : (a b : List ℕ) → length a ≡ 16 → length b ≡ 16 → after 0 (a ++ folded (replicate 16 0) a b) ≡ left_of a b
+left-registers : (a b : List ℕ) → length a ≡ 16 → length b ≡ 16
+    → after 0 (a ++ folded (replicate 16 0) a b) ≡ left_of a b
 left-registers a b ha hb =
     let zs = replicate 16 0 in
     let none : (k : ℕ) → after 0 (replicate k 0) ≡ 0 = λ k. after-zeros k 0 ∙ zeros-zero k in
     let four = after 0 (take 4 a) in
     let one = after 0 (take 1 a) in
-    let clear : (k n s : ℕ) → bit_xor (zeros k (after 0 zs)) (bit_xor (zeros 16 (after 0 (replicate n 0))) s) ≡ s =
+    let clear : (k n s : ℕ)
+    → bit_xor (zeros k (after 0 zs)) (bit_xor (zeros 16 (after 0 (replicate n 0))) s) ≡ s =
     λ k n s.
     ap (λ z. bit_xor (zeros k z) (bit_xor (zeros 16 (after 0 (replicate n 0))) s)) (none 16)
     ∙ ap (λ z. bit_xor z (bit_xor (zeros 16 (after 0 (replicate n 0))) s)) (zeros-zero k)
     ∙ xor_zero_l (bit_xor (zeros 16 (after 0 (replicate n 0))) s)
-    ∙ ap (λ z. bit_xor (zeros 16 z) s) (none n) ∙ ap (λ z. bit_xor z s) (zeros-zero 16) ∙ xor_zero_l s in
+    ∙ ap (λ z. bit_xor (zeros 16 z) s) (none n) ∙ ap (λ z. bit_xor z s) (zeros-zero 16)
+    ∙ xor_zero_l s in
     left-append a (folded zs a b)
-    ∙ ap (λ k. bit_xor (zeros k (after 0 a)) (after 0 (folded zs a b))) (length-folded zs a b refl ha hb)
+    ∙ ap (λ k. bit_xor (zeros k (after 0 a)) (after 0 (folded zs a b)))
+    (length-folded zs a b refl ha hb)
     ∙ ap (bit_xor (zeros 16 (after 0 a)))
     (left-folded zs a b refl ha hb
-    ∙ ap (λ z. bit_xor (bit_xor (bit_xor (after 0 b) (after 0 a)) z) (bit_xor (zeros 1 (after 0 zs)) (bit_xor (zeros 16 (after 0 (replicate 1 0))) one))) (clear 4 4 four)
+    ∙ ap (λ z. bit_xor (bit_xor (bit_xor (after 0 b) (after 0 a)) z)
+    (bit_xor (zeros 1 (after 0 zs)) (bit_xor (zeros 16 (after 0 (replicate 1 0))) one)))
+    (clear 4 4 four)
     ∙ ap (bit_xor (bit_xor (bit_xor (after 0 b) (after 0 a)) four)) (clear 1 1 one))
 
 -- equal bits at each place
 ten_terms : (za ya xa zb zp zq b c p q : ℕ)
     → bit_xor (bit_xor (bit_xor za (bit_xor ya xa)) (bit_xor (bit_xor (bit_xor zb za) zp) zq)) c
-    ≡ bit_xor zb (bit_xor (bit_xor (bit_xor (bit_xor (bit_xor (bit_xor c b) (bit_xor ya (bit_xor zp p))) (bit_xor xa (bit_xor zq q))) b) p) q)
+    ≡ bit_xor zb (bit_xor
+    (bit_xor (bit_xor
+    (bit_xor (bit_xor (bit_xor c b) (bit_xor ya (bit_xor zp p)))
+    (bit_xor xa (bit_xor zq q))) b) p) q)
 ten_terms za ya xa zb zp zq b c p q =
-    same_from_bits (bit_xor (bit_xor (bit_xor za (bit_xor ya xa)) (bit_xor (bit_xor (bit_xor zb za) zp) zq)) c) (bit_xor zb (bit_xor (bit_xor (bit_xor (bit_xor (bit_xor (bit_xor c b) (bit_xor ya (bit_xor zp p))) (bit_xor xa (bit_xor zq q))) b) p) q)) (λ i.
+    same_from_bits (bit_xor
+    (bit_xor (bit_xor za (bit_xor ya xa)) (bit_xor (bit_xor (bit_xor zb za) zp) zq)) c)
+    (bit_xor zb (bit_xor
+    (bit_xor (bit_xor
+    (bit_xor (bit_xor (bit_xor c b) (bit_xor ya (bit_xor zp p)))
+    (bit_xor xa (bit_xor zq q))) b) p) q)) (λ i.
     omega (
       arith,
       bit_at_xor ya xa i,
@@ -237,7 +279,8 @@ ten_terms za ya xa zb zp zq b c p q =
       bit_at_xor (bit_xor zb za) zp i,
       bit_at_xor (bit_xor (bit_xor zb za) zp) zq i,
       bit_at_xor (bit_xor za (bit_xor ya xa)) (bit_xor (bit_xor (bit_xor zb za) zp) zq) i,
-      bit_at_xor (bit_xor (bit_xor za (bit_xor ya xa)) (bit_xor (bit_xor (bit_xor zb za) zp) zq)) c i,
+      bit_at_xor (bit_xor (bit_xor za (bit_xor ya xa))
+          (bit_xor (bit_xor (bit_xor zb za) zp) zq)) c i,
       bit_at_xor c b i,
       bit_at_xor zp p i,
       bit_at_xor ya (bit_xor zp p) i,
@@ -245,14 +288,23 @@ ten_terms za ya xa zb zp zq b c p q =
       bit_at_xor zq q i,
       bit_at_xor xa (bit_xor zq q) i,
       bit_at_xor (bit_xor (bit_xor c b) (bit_xor ya (bit_xor zp p))) (bit_xor xa (bit_xor zq q)) i,
-      bit_at_xor (bit_xor (bit_xor (bit_xor c b) (bit_xor ya (bit_xor zp p))) (bit_xor xa (bit_xor zq q))) b i,
-      bit_at_xor (bit_xor (bit_xor (bit_xor (bit_xor c b) (bit_xor ya (bit_xor zp p))) (bit_xor xa (bit_xor zq q))) b) p i,
-      bit_at_xor (bit_xor (bit_xor (bit_xor (bit_xor (bit_xor c b) (bit_xor ya (bit_xor zp p))) (bit_xor xa (bit_xor zq q))) b) p) q i,
-      bit_at_xor zb (bit_xor (bit_xor (bit_xor (bit_xor (bit_xor (bit_xor c b) (bit_xor ya (bit_xor zp p))) (bit_xor xa (bit_xor zq q))) b) p) q) i,
+      bit_at_xor (bit_xor (bit_xor (bit_xor c b) (bit_xor ya (bit_xor zp p)))
+          (bit_xor xa (bit_xor zq q))) b i,
+      bit_at_xor (bit_xor
+          (bit_xor (bit_xor (bit_xor c b) (bit_xor ya (bit_xor zp p)))
+          (bit_xor xa (bit_xor zq q))) b) p i,
+      bit_at_xor (bit_xor
+          (bit_xor (bit_xor (bit_xor (bit_xor c b) (bit_xor ya (bit_xor zp p)))
+          (bit_xor xa (bit_xor zq q))) b) p) q i,
+      bit_at_xor zb (bit_xor
+          (bit_xor (bit_xor
+          (bit_xor (bit_xor (bit_xor c b) (bit_xor ya (bit_xor zp p)))
+          (bit_xor xa (bit_xor zq q))) b) p) q) i,
     ))
 
 -- sixteen more bytes
-pub IsFolded-step : (v a b c : List ℕ) → IsFolded v a b → length c ≡ 16 → IsFolded (v ++ c) b (folded a b c)
+pub IsFolded-step : (v a b c : List ℕ) → IsFolded v a b → length c ≡ 16
+    → IsFolded (v ++ c) b (folded a b c)
 IsFolded-step v a b c h hc =
     let ha = h.older_size in
     let hb = h.newer_size in
@@ -260,21 +312,27 @@ IsFolded-step v a b c h hc =
     let rb = after 0 b in
     let rp = after 0 (take 4 a) in
     let rq = after 0 (take 1 a) in
-    let x : (k r s : ℕ) → r < 2 ^ 32 → s < 2 ^ 32 → zeros k (bit_xor r s) ≡ bit_xor (zeros k r) (zeros k s) = zeros-xor in
+    let x : (k r s : ℕ) → r < 2 ^ 32 → s < 2 ^ 32
+    → zeros k (bit_xor r s) ≡ bit_xor (zeros k r) (zeros k s) = zeros-xor in
     let la = left-lt a in
     let lb = left-lt b in
     let lp = left-lt (take 4 a) in
     let lq = left-lt (take 1 a) in
     let two : bit_xor rb ra < 2 ^ 32 = xor_lt 32 rb ra lb la in
     let three : bit_xor (bit_xor rb ra) rp < 2 ^ 32 = xor_lt 32 (bit_xor rb ra) rp two lp in
-    let four : bit_xor (bit_xor (bit_xor rb ra) rp) rq < 2 ^ 32 = xor_lt 32 (bit_xor (bit_xor rb ra) rp) rq three lq in
+    let four : bit_xor (bit_xor (bit_xor rb ra) rp) rq < 2 ^ 32 =
+    xor_lt 32 (bit_xor (bit_xor rb ra) rp) rq three lq in
     let left : after 0 v ≡ left_of a b =
-    sym (remainder-after v) ∙ h.same ∙ remainder-after (a ++ folded (replicate 16 0) a b) ∙ left-registers a b ha hb in
+    sym (remainder-after v) ∙ h.same ∙ remainder-after (a ++ folded (replicate 16 0) a b)
+    ∙ left-registers a b ha hb in
     let moved : zeros 16 (after 0 v)
-    ≡ bit_xor (bit_xor (zeros 16 ra) (bit_xor (zeros 4 ra) (zeros 1 ra))) (bit_xor (bit_xor (bit_xor (zeros 16 rb) (zeros 16 ra)) (zeros 16 rp)) (zeros 16 rq)) =
+    ≡ bit_xor (bit_xor (zeros 16 ra) (bit_xor (zeros 4 ra) (zeros 1 ra)))
+    (bit_xor (bit_xor
+    (bit_xor (zeros 16 rb) (zeros 16 ra)) (zeros 16 rp)) (zeros 16 rq)) =
     ap (zeros 16) left
     ∙ x 16 (zeros 16 ra) (bit_xor (bit_xor (bit_xor rb ra) rp) rq) (zeros-lt 16 ra la) four
-    ∙ ap (λ z. bit_xor z (zeros 16 (bit_xor (bit_xor (bit_xor rb ra) rp) rq))) (zeros-more 16 16 ra ∙ four-after 0 a (lit< tt) four-zero)
+    ∙ ap (λ z. bit_xor z (zeros 16 (bit_xor (bit_xor (bit_xor rb ra) rp) rq)))
+    (zeros-more 16 16 ra ∙ four-after 0 a (lit< tt) four-zero)
     ∙ ap (bit_xor (bit_xor (zeros 16 ra) (bit_xor (zeros 4 ra) (zeros 1 ra))))
     (x 16 (bit_xor (bit_xor rb ra) rp) rq three lq
     ∙ ap (λ z. bit_xor z (zeros 16 rq))
@@ -285,10 +343,14 @@ IsFolded-step v a b c h hc =
       older_size = hb;
       newer_size = n_len;
       same =
-          remainder-after (v ++ c) ∙ left-append v c ∙ ap (λ k. bit_xor (zeros k (after 0 v)) (after 0 c)) hc
+          remainder-after (v ++ c) ∙ left-append v c
+          ∙ ap (λ k. bit_xor (zeros k (after 0 v)) (after 0 c)) hc
           ∙ ap (λ z. bit_xor z (after 0 c)) moved
-          ∙ ten_terms (zeros 16 ra) (zeros 4 ra) (zeros 1 ra) (zeros 16 rb) (zeros 16 rp) (zeros 16 rq) rb (after 0 c) (after 0 (take 4 b)) (after 0 (take 1 b))
-          ∙ ap (λ z. bit_xor (zeros 16 rb) (bit_xor (bit_xor (bit_xor z rb) (after 0 (take 4 b))) (after 0 (take 1 b)))) (sym (left-folded a b c ha hb hc))
+          ∙ ten_terms (zeros 16 ra) (zeros 4 ra) (zeros 1 ra) (zeros 16 rb) (zeros 16 rp)
+          (zeros 16 rq) rb (after 0 c) (after 0 (take 4 b)) (after 0 (take 1 b))
+          ∙ ap (λ z. bit_xor (zeros 16 rb)
+          (bit_xor (bit_xor (bit_xor z rb) (after 0 (take 4 b))) (after 0 (take 1 b))))
+          (sym (left-folded a b c ha hb hc))
           ∙ sym (remainder-after (b ++ folded (replicate 16 0) b n) ∙ left-registers b n hb n_len);
     }
 
@@ -298,13 +360,16 @@ IsFolded-nil = record { older_size = refl; newer_size = refl; same = refl }
 
 -- sixteen bytes, cut out of a list by position
 pub folded_by_position : (a b c : List ℕ) → length a ≡ 16 → length b ≡ 16
-    → zip2 bit_xor (zip2 bit_xor (zip2 bit_xor c b) (pick_l 0 (a ++ b) (range_with_len 4 16))) (pick_l 0 (a ++ b) (range_with_len 1 16))
+    → zip2 bit_xor (zip2 bit_xor (zip2 bit_xor c b) (pick_l 0 (a ++ b) (range_with_len 4 16)))
+    (pick_l 0 (a ++ b) (range_with_len 1 16))
     ≡ folded a b c
 folded_by_position a b c ha hb =
     let both : length (a ++ b) ≡ 32 = omega (arith, length-append a b) in
-    ap (λ z. zip2 bit_xor (zip2 bit_xor (zip2 bit_xor c b) z) (pick_l 0 (a ++ b) (range_with_len 1 16)))
+    ap (λ z. zip2 bit_xor (zip2 bit_xor (zip2 bit_xor c b) z)
+    (pick_l 0 (a ++ b) (range_with_len 1 16)))
     (pick_l-range_with_len 0 (a ++ b) 4 16 (omega arith))
-    ∙ ap (zip2 bit_xor (zip2 bit_xor (zip2 bit_xor c b) (take 16 (drop 4 (a ++ b))))) (pick_l-range_with_len 0 (a ++ b) 1 16 (omega arith))
+    ∙ ap (zip2 bit_xor (zip2 bit_xor (zip2 bit_xor c b) (take 16 (drop 4 (a ++ b)))))
+    (pick_l-range_with_len 0 (a ++ b) 1 16 (omega arith))
 
 -- 64 more bytes
 pub IsFolded-block : (v a b x y z w block : List ℕ) → IsFolded v a b → length block ≡ 64
@@ -323,9 +388,13 @@ IsFolded-block v a b x y z w block h long ex ey ez ew =
     ∙ ap (λ u. u ++ four) (take-add 32 16 block ∙ ap (λ u. u ++ three) (take-add 16 16 block)) in
     let one_in = rw (← ex) at (IsFolded-step v a b one h (part 0 (lit≤ tt))) in
     let two_in = rw (← ey) at (IsFolded-step (v ++ one) b x two one_in (part 16 (lit≤ tt))) in
-    let three_in = rw (← ez) at (IsFolded-step ((v ++ one) ++ two) x y three two_in (part 32 (lit≤ tt))) in
-    let four_in = rw (← ew) at (IsFolded-step (((v ++ one) ++ two) ++ three) y z four three_in (part 48 (lit≤ tt))) in
+    let three_in =
+    rw (← ez) at (IsFolded-step ((v ++ one) ++ two) x y three two_in (part 32 (lit≤ tt))) in
+    let four_in =
+    rw (← ew) at (IsFolded-step (((v ++ one) ++ two) ++ three) y z four three_in
+    (part 48 (lit≤ tt))) in
     let joined : (((v ++ one) ++ two) ++ three) ++ four ≡ v ++ block =
-    (let e : (((v ++ one) ++ two) ++ three) ++ four ≡ v ++ (((one ++ two) ++ three) ++ four) = simp append_assoc in e)
+    (let e : (((v ++ one) ++ two) ++ three) ++ four
+    ≡ v ++ (((one ++ two) ++ three) ++ four) = simp append_assoc in e)
     ∙ ap (λ u. v ++ u) (sym parts) in
     rw joined at four_in

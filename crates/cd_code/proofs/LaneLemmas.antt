@@ -10,7 +10,7 @@ use Rattle.std.proofs.lemmas.Simd.{below_from_Fits, Each1-get_or, length-chunk, 
 use lib.Dec.{leb}
 use Rattle.cd_code.specs.Field.{double, product}
 use Rattle.cd_code.proofs.FieldLemmas.{double-zero}
-use Rattle.cd_code.proofs.XorLemmas.{xor_twice_left}
+use Rattle.cd_code.proofs.general.Xor.{xor_twice_left}
 use mir.Syntax.{w8}
 use mir.Val.{Fits}
 
@@ -27,20 +27,25 @@ is_lane_double-all = refl
 
 pub lanes_doubled : (v : List ℕ) → Each1 (λ x. x < 256) v
     → zip2 bit_xor (zip2 (λ a b. (a + b) % 256) v v)
-    (sel_l (map (top 7) (zip2 (λ a b. cond (leb a b) 255 0) (replicate (length v) 128) v)) (replicate (length v) 29) (replicate (length v) 0))
+    (sel_l (map (top 7) (zip2 (λ a b. cond (leb a b) 255 0) (replicate (length v) 128) v))
+    (replicate (length v) 29) (replicate (length v) 0))
     ≡ map double v
 lanes_doubled [] h = refl
 lanes_doubled (x ∷ v) h =
-    let here : lane_doubled x ≡ double x = eqb-true (lane_doubled x) (double x) (agree_below_at is_lane_double (λ _. true) 256 x is_lane_double-all h.0) in
+    let here : lane_doubled x ≡ double x =
+    eqb-true (lane_doubled x) (double x)
+    (agree_below_at is_lane_double (λ _. true) 256 x is_lane_double-all h.0) in
     both here (lanes_doubled v h.1)
   where
     both : {x y : ℕ} {v w : List ℕ} → x ≡ y → v ≡ w → x ∷ v ≡ y ∷ w
     both {x} {y} {v} {w} e f = ap (λ z. z ∷ v) e ∙ ap (λ z. y ∷ z) f
 
 -- the n bytes of a row from a place on, added to n lanes that are put back there
-pub lanes_added : (f : ℕ → ℕ) (at n : ℕ) (sums row lanes : List ℕ) → at + n ≤ length sums → at + n ≤ length row
+pub lanes_added : (f : ℕ → ℕ) (at n : ℕ) (sums row lanes : List ℕ) → at + n ≤ length sums
+    → at + n ≤ length row
     → lanes ≡ map f (chunk at n sums) → (c : ℕ) → at ≤ c → c < at + n
-    → get_or (put_chunk at sums (zip2 bit_xor lanes (chunk at n row))) c 0 ≡ bit_xor (f (get_or sums c 0)) (get_or row c 0)
+    → get_or (put_chunk at sums (zip2 bit_xor lanes (chunk at n row))) c 0
+    ≡ bit_xor (f (get_or sums c 0)) (get_or row c 0)
 lanes_added f at n sums row lanes hs hr e c from to =
     let j = c - at in
     let place : at + j ≡ c = omega arith in
@@ -53,17 +58,21 @@ lanes_added f at n sums row lanes hs hr e c from to =
     ap (λ z. get_or z j 0) e ∙ get_or-map f (chunk at n sums) j 0 0 (omega arith)
     ∙ ap f (get_or-chunk at n sums j 0 (omega arith) ∙ ap (λ k. get_or sums k 0) place) in
     ap (λ k. get_or (put_chunk at sums (zip2 bit_xor lanes (chunk at n row))) k 0) (sym place)
-    ∙ get_or-put_chunk_at at sums (zip2 bit_xor lanes (chunk at n row)) j 0 (omega arith) (omega arith)
+    ∙ get_or-put_chunk_at at sums (zip2 bit_xor lanes (chunk at n row)) j 0 (omega arith)
+    (omega arith)
     ∙ get_or-zip2 bit_xor lanes (chunk at n row) j 0 0 0 (omega arith) (omega arith)
     ∙ ap (λ z. bit_xor z (get_or (chunk at n row) j 0)) lane
-    ∙ ap (bit_xor (f (get_or sums c 0))) (get_or-chunk at n row j 0 (omega arith) ∙ ap (λ k. get_or row k 0) place)
+    ∙ ap (bit_xor (f (get_or sums c 0)))
+    (get_or-chunk at n row j 0 (omega arith) ∙ ap (λ k. get_or row k 0) place)
 
 -- the sums outside of those lanes stay
 pub lanes_below : (at n : ℕ) (sums row lanes : List ℕ) (c : ℕ) → c < at
     → get_or (put_chunk at sums (zip2 bit_xor lanes (chunk at n row))) c 0 ≡ get_or sums c 0
-lanes_below at n sums row lanes c h = get_or-put_chunk_below at sums (zip2 bit_xor lanes (chunk at n row)) c 0 h
+lanes_below at n sums row lanes c h =
+    get_or-put_chunk_below at sums (zip2 bit_xor lanes (chunk at n row)) c 0 h
 
-pub lanes_above : (at n : ℕ) (sums row lanes : List ℕ) → at + n ≤ length row → length lanes ≡ n → (c : ℕ) → at + n ≤ c
+pub lanes_above : (at n : ℕ) (sums row lanes : List ℕ) → at + n ≤ length row → length lanes ≡ n
+    → (c : ℕ) → at + n ≤ c
     → get_or (put_chunk at sums (zip2 bit_xor lanes (chunk at n row))) c 0 ≡ get_or sums c 0
 lanes_above at n sums row lanes hr long c h =
     let row_taken : length (chunk at n row) ≡ n = length-chunk at n row hr in
@@ -79,16 +88,22 @@ get_or-doubled [] i = sym double-zero
 get_or-doubled (x ∷ v) zero = refl
 get_or-doubled (x ∷ v) (suc i) = get_or-doubled v i
 
-pub lanes_doubled_added : (weighted lanes doubled : List ℕ) → length weighted ≡ 32 → length lanes ≡ 32 → doubled ≡ map double weighted
-    → (i : ℕ) → i < 32 → get_or (zip2 bit_xor doubled lanes) i 0 ≡ bit_xor (double (get_or weighted i 0)) (get_or lanes i 0)
+pub lanes_doubled_added : (weighted lanes doubled : List ℕ) → length weighted ≡ 32
+    → length lanes ≡ 32 → doubled ≡ map double weighted
+    → (i : ℕ) → i < 32
+    → get_or (zip2 bit_xor doubled lanes) i 0
+    ≡ bit_xor (double (get_or weighted i 0)) (get_or lanes i 0)
 lanes_doubled_added weighted lanes doubled hw hl e i h =
     let long : length doubled ≡ 32 = ap length e ∙ length-map weighted double ∙ hw in
     get_or-zip2 bit_xor doubled lanes i 0 0 0 (omega arith) (omega arith)
-    ∙ ap (λ z. bit_xor z (get_or lanes i 0)) (ap (λ v. get_or v i 0) e ∙ get_or-map double weighted i 0 0 (omega arith))
+    ∙ ap (λ z. bit_xor z (get_or lanes i 0))
+    (ap (λ v. get_or v i 0) e ∙ get_or-map double weighted i 0 0 (omega arith))
 
 -- F4 is alpha to the 7, 6, 5, 4 and 2
 abbrev times_f4 : ℕ → ℕ
-times_f4 x = double (double (bit_xor (double (double (bit_xor (double (bit_xor (double (bit_xor (double x) x)) x)) x))) x))
+times_f4 x =
+    double (double (bit_xor
+    (double (double (bit_xor (double (bit_xor (double (bit_xor (double x) x)) x)) x))) x))
 
 abbrev is_times_f4 : ℕ → Bool
 is_times_f4 x = times_f4 x == product 244 x
@@ -98,29 +113,39 @@ unfolding double product
 is_times_f4-all = refl
 
 pub times_inverse : (x : ℕ) → x < 256 → times_f4 x ≡ product 244 x
-times_inverse x h = eqb-true (times_f4 x) (product 244 x) (agree_below_at is_times_f4 (λ _. true) 256 x is_times_f4-all h)
+times_inverse x h =
+    eqb-true (times_f4 x) (product 244 x)
+    (agree_below_at is_times_f4 (λ _. true) 256 x is_times_f4-all h)
 
 -- a lane of the two that a mask chooses from
-select_lanes-lane : (old new mask : List ℕ) → length old ≡ 32 → length new ≡ 32 → length mask ≡ 32 → (i : ℕ) → i < 32
+select_lanes-lane : (old new mask : List ℕ) → length old ≡ 32 → length new ≡ 32 → length mask ≡ 32
+    → (i : ℕ) → i < 32
     → get_or (zip2 bit_xor old (zip2 bit_and (zip2 bit_xor old new) mask)) i 0
-    ≡ bit_xor (get_or old i 0) (bit_and (bit_xor (get_or old i 0) (get_or new i 0)) (get_or mask i 0))
+    ≡ bit_xor (get_or old i 0)
+    (bit_and (bit_xor (get_or old i 0) (get_or new i 0)) (get_or mask i 0))
 select_lanes-lane old new mask ho hn ht i h =
-    let both_len : length (zip2 bit_xor old new) ≡ 32 = length-zip2 bit_xor old new (ho ∙ sym hn) ∙ ho in
+    let both_len : length (zip2 bit_xor old new) ≡ 32 =
+    length-zip2 bit_xor old new (ho ∙ sym hn) ∙ ho in
     let masked_len : length (zip2 bit_and (zip2 bit_xor old new) mask) ≡ 32 =
     length-zip2 bit_and (zip2 bit_xor old new) mask (both_len ∙ sym ht) ∙ both_len in
-    get_or-zip2 bit_xor old (zip2 bit_and (zip2 bit_xor old new) mask) i 0 0 0 (omega arith) (omega arith)
+    get_or-zip2 bit_xor old (zip2 bit_and (zip2 bit_xor old new) mask) i 0 0 0 (omega arith)
+    (omega arith)
     ∙ ap (bit_xor (get_or old i 0))
     (get_or-zip2 bit_and (zip2 bit_xor old new) mask i 0 0 0 (omega arith) (omega arith)
-    ∙ ap (λ z. bit_and z (get_or mask i 0)) (get_or-zip2 bit_xor old new i 0 0 0 (omega arith) (omega arith)))
+    ∙ ap (λ z. bit_and z (get_or mask i 0))
+    (get_or-zip2 bit_xor old new i 0 0 0 (omega arith) (omega arith)))
 
-pub select_lanes-new : (old new mask : List ℕ) → length old ≡ 32 → length new ≡ 32 → length mask ≡ 32
+pub select_lanes-new : (old new mask : List ℕ) → length old ≡ 32 → length new ≡ 32
+    → length mask ≡ 32
     → Each1 (Fits w8) old → Each1 (Fits w8) new → (i : ℕ) → i < 32 → get_or mask i 0 ≡ 255
     → get_or (zip2 bit_xor old (zip2 bit_and (zip2 bit_xor old new) mask)) i 0 ≡ get_or new i 0
 select_lanes-new old new mask ho hn ht fo fn i h e =
     let a = get_or old i 0 in
     let b = get_or new i 0 in
-    let a_lt : a < 256 = Each1-get_or (λ x. x < 256) old i 0 (omega arith) (below_from_Fits w8 old fo) in
-    let b_lt : b < 256 = Each1-get_or (λ x. x < 256) new i 0 (omega arith) (below_from_Fits w8 new fn) in
+    let a_lt : a < 256 =
+    Each1-get_or (λ x. x < 256) old i 0 (omega arith) (below_from_Fits w8 old fo) in
+    let b_lt : b < 256 =
+    Each1-get_or (λ x. x < 256) new i 0 (omega arith) (below_from_Fits w8 new fn) in
     let sum_lt : bit_xor a b < 256 = xor_lt 8 a b a_lt b_lt in
     let whole : bit_xor a b % 256 ≡ bit_xor a b = omega arith in
     select_lanes-lane old new mask ho hn ht i h
@@ -128,7 +153,8 @@ select_lanes-new old new mask ho hn ht fo fn i h e =
     ∙ ap (bit_xor a) (and_mask (bit_xor a b) 8 ∙ whole)
     ∙ xor_twice_left a b
 
-pub select_lanes-old : (old new mask : List ℕ) → length old ≡ 32 → length new ≡ 32 → length mask ≡ 32
+pub select_lanes-old : (old new mask : List ℕ) → length old ≡ 32 → length new ≡ 32
+    → length mask ≡ 32
     → (i : ℕ) → i < 32 → get_or mask i 0 ≡ 0
     → get_or (zip2 bit_xor old (zip2 bit_and (zip2 bit_xor old new) mask)) i 0 ≡ get_or old i 0
 select_lanes-old old new mask ho hn ht i h e =

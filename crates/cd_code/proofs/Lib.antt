@@ -8,4 +8,4 @@ pub mod FoldingLemmas
 pub mod LaneLemmas
 pub mod ListLemmas
 pub mod SyndromeLemmas
-pub mod XorLemmas
+pub mod general

@@ -1,4 +1,4 @@
--- The error detection code of ECMA-130's clause on sectors, as division of polynomials over GF(2).
+-- The error detection code (ECMA-130, 14), as division of polynomials over GF(2).
 use Rattle.std.specs.Prelude.{◌≡◌, ℕ, zero, suc, ◌+◌, ◌*◌, ◌/◌, ◌%◌, ◌^◌, ◌<◌, nat_lt, if◌then◌else◌, bit_xor, List, [], ◌∷◌, ◌++◌, fold}
 use Rattle.std.specs.Int.{to_le_bytes, w32}
 

@@ -2,7 +2,7 @@
 -- x^2 + 1. The sum of two elements is std's `bit_xor`.
 use Rattle.std.specs.Prelude.{◌≡◌, ℕ, zero, suc, ◌==◌, ◌-◌, ◌*◌, ◌/◌, ◌%◌, ◌<◌, nat_lt, if◌then◌else◌, bit_xor, List, slice_index}
 
--- an element times alpha, which is 2: a shift, and 1D added where x^8 has come up
+-- an element times alpha, which is 2: a shift, and 1D added if x^8 has come up
 unfoldable pub double : ℕ → ℕ
 double b = if nat_lt (b * 2) 256 then b * 2 else bit_xor (b * 2 - 256) 29
 

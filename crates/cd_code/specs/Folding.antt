@@ -1,5 +1,5 @@
--- The division by the EDC's generator sixteen bytes at a time (ECMA-130, the clause on the digital
--- data structure of sectors).
+-- Plumbing of `edc_of`: the division by the EDC's generator, sixteen bytes at a time
+-- (ECMA-130, 14).
 use Rattle.std.specs.Prelude.{◌≡◌, ℕ, List, ◌++◌, length, take, drop, replicate, bit_xor}
 use Rattle.std.specs.Simd.Lanes.{zip2}
 use Rattle.cd_code.specs.Edc.{bits, remainder}

@@ -1,4 +1,5 @@
--- Words whose syndromes stand side by side in registers (ECMA-130, Annex A).
+-- Plumbing of `column_lanes` and `LaneSums`: words whose syndromes stand side by side in registers
+-- (ECMA-130, Annex A).
 use Rattle.std.specs.Prelude.{◌≡◌, ℕ, ◌+◌, ◌<◌, List, map, slice_index}
 use Rattle.cd_code.specs.Syndrome.{first_syndrome, second_syndrome}
 use Rattle.cd_code.specs.declared.columns.ColumnLanes.{ColumnLanes}

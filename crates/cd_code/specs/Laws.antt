@@ -1,10 +1,10 @@
--- What follows from the definitions alone; each is the contract of a function of `laws.rt`.
+-- What follows from the definitions; each law is the contract of a function of `laws.rt`.
 use Rattle.std.specs.Prelude.{◌≡◌, ℕ, ◌==◌, ◌+◌, ◌*◌, ◌/◌, ◌%◌, ◌<◌, if◌then◌else◌, bit_xor, List, length, slice_index}
 use Rattle.cd_code.specs.Field.{AreBytes, IsSum, double, product}
 use Rattle.cd_code.specs.Edc.{IsEdc, bits, remainder}
 use Rattle.cd_code.specs.Syndrome.{SameSums}
 
--- a sum goes bit by bit
+-- two elements are added bit by bit
 abbrev pub SumByBits : Type 0
 SumByBits = (a b : ℕ) → bit_xor a b ≡ 2 * bit_xor (a / 2) (b / 2) + (a + b) % 2
 
@@ -14,7 +14,7 @@ ProductByBits =
     (a b : ℕ) → a < 256 → b < 256
     → product a b ≡ bit_xor (product (double a) (b / 2)) (if b % 2 == 1 then a else 0)
 
--- and it is 0 where `b` has none
+-- a product with 0 is 0
 abbrev pub ProductOfNone : Type 0
 ProductOfNone = (a : ℕ) → product a 0 ≡ 0
 

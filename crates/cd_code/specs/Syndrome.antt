@@ -18,7 +18,7 @@ pub record IsCodeWord (v : List ℕ) : Type 0 where
   pub first : first_syndrome v ≡ 0
   pub second : second_syndrome v ≡ 0
 
--- two bytes behind any list with these syndromes make it a code word
+-- any list with these two syndromes, followed by the bytes `a` and `b`, is a code word
 abbrev pub IsPair : ℕ → ℕ → ℕ → ℕ → Type 0
 IsPair plain weighted a b =
     (v : List ℕ) → AreBytes v → first_syndrome v ≡ plain → second_syndrome v ≡ weighted
@@ -33,8 +33,8 @@ pub record SameSums (v w : List ℕ) : Type 0 where
 abbrev pub added : List ℕ → ℕ → ℕ → List ℕ
 added v place d = slice_set v place (bit_xor (slice_index v place) d)
 
--- in a word of `len` bytes to which `d` is added at `place`, `a` and `b` added to the last two keep
--- the syndromes
+-- in a word of `len` bytes: if `d` is added to the byte at `place`, `a` to the first parity byte
+-- and `b` to the second (the last two bytes of the word), both syndromes stay as they were
 pub record Balances (len place d a b : ℕ) : Type 0 where
   pub keeps : (v : List ℕ) → AreBytes v → length v ≡ len
       → SameSums (added (added (added v place d) (len - 2) a) (len - 1) b) v

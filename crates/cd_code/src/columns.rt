@@ -1,5 +1,5 @@
-//! The syndromes of the 86 columns of rows that lie one behind the other, all columns of a row side by
-//! side (ECMA-130, Annex A).
+//! The syndromes of the 86 columns of rows of 86 bytes, all columns of a row side by side
+//! (ECMA-130, Annex A).
 
 ghost use Rattle.std.specs.Prelude.{◌≡◌, ℕ, ◌<◌, List, [], ◌∷◌, ◌++◌, bit_xor, replicate, slice_index};
 ghost use Rattle.cd_code.specs.Field.{double};
@@ -60,6 +60,7 @@ pub fn row_sums(row: &[u8; 86], sums: &mut ColumnSums)
         → slice_index sums.new.weighted c
         ≡ bit_xor (double (slice_index sums.old.weighted c)) (slice_index row.now c) }
 {
+    // LLVM makes vectors of a plain loop too, so the lanes gain little. The contract is the same.
     add_lanes(&mut sums.plain, row, 0);
     add_lanes(&mut sums.plain, row, 32);
     double_and_add_lanes(&mut sums.weighted, row, 0);
@@ -67,7 +68,9 @@ pub fn row_sums(row: &[u8; 86], sums: &mut ColumnSums)
     add_rest(&mut sums.plain, &mut sums.weighted, row, 64);
 }
 
-/// Both syndromes of 86 columns of rows, in registers (ECMA-130, Annex A).
+/// Both syndromes of 86 columns of rows, in registers (ECMA-130, Annex A). Public for cd_sector,
+/// whose parity is computed in the same registers. The middle and the back lanes overlap, since 86
+/// columns are not three times 32.
 #[derive(Clone, Copy, Debug)]
 pub struct ColumnLanes {
     /// Those of columns 0 to 31.

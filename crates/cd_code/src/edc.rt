@@ -1,4 +1,4 @@
-//! The error detection code (ECMA-130, the clause on the digital data structure of sectors).
+//! The error detection code (ECMA-130, 14).
 
 ghost use Rattle.std.specs.Prelude.{◌≡◌, ℕ, ◌<◌, List, [], ◌∷◌, ◌++◌, replicate};
 ghost use Rattle.cd_code.specs.Edc.{IsEdc};
@@ -6,8 +6,8 @@ ghost use Rattle.cd_code.specs.Edc.{IsEdc};
 use crate::edc_tables::WORDS;
 use crate::folding::Folded;
 
-/// The EDC word of any list of bytes, 32 bits: its four bytes, least significant first, make the list
-/// followed by them divisible by the generator (ECMA-130, the EDC field of a sector).
+/// The EDC word of any list of bytes, 32 bits: the list, and then the word's four bytes with the
+/// least significant first, are divisible by the generator (ECMA-130, 14).
 ///
 /// # Examples
 ///
@@ -19,6 +19,8 @@ pub fn edc_of(bytes: &[u8]) -> u32
     ensures word { IsEdc bytes.now result }
     ensures alone { (w : ℕ) → IsEdc bytes.now w → w ≡ result }
 {
+    // Sixteen bytes at a time are added to those 16, 28 and 31 places after them: a multiple of the
+    // generator has only these four terms. The tables take what is left.
     let (blocks, rest) = bytes.as_chunks::<64>();
     let mut folded = Folded::zero();
     for block in blocks {
@@ -28,7 +30,7 @@ pub fn edc_of(bytes: &[u8]) -> u32
     with_bytes(with_bytes(with_bytes(0, &older), &newer), rest)
 }
 
-/// The EDC word of a list whose word is known, with more bytes behind it.
+/// The EDC word of a list followed by `bytes`, from the EDC word of the list.
 fn with_bytes(word: u32, bytes: &[u8]) -> u32
     ensures { (v : List ℕ) → IsEdc v word → IsEdc (v ++ bytes.now) result }
 {
@@ -43,7 +45,7 @@ fn with_bytes(word: u32, bytes: &[u8]) -> u32
     word
 }
 
-/// The EDC word of a list whose word is known, with one more byte behind it.
+/// The EDC word of a list followed by one byte, from the EDC word of the list.
 fn with_byte(word: u32, byte: u8) -> u32
     ensures { (v : List ℕ) → IsEdc v word → IsEdc (v ++ byte ∷ []) result }
 {
@@ -51,8 +53,9 @@ fn with_byte(word: u32, byte: u8) -> u32
     (word >> 8) ^ word_of(low ^ byte, 0)
 }
 
-/// The EDC word of a list whose word is known, with eight more bytes behind it: the first four are added to
-/// the word, and each of the eight then stands alone.
+/// The EDC word of a list followed by eight bytes, from the EDC word of the list. The word is added
+/// to the first four bytes; then the words of the eight bytes, each followed by zeros, are added
+/// up.
 fn with_eight(word: u32, bytes: &[u8; 8]) -> u32
     ensures { (v : List ℕ) → IsEdc v word → IsEdc (v ++ bytes.now) result }
 {
@@ -67,7 +70,8 @@ fn with_eight(word: u32, bytes: &[u8; 8]) -> u32
                         ^ (word_of(sixth, 2) ^ (word_of(seventh, 1) ^ word_of(eighth, 0)))))))
 }
 
-/// The EDC word of a byte followed by `zeros` bytes of 00, out of the table.
+/// Proof step: an entry of the table, whose rule is this clause: the EDC word of a byte followed by
+/// `zeros` bytes of 00.
 fn word_of(byte: u8, zeros: usize) -> u32
     requires { zeros < 8 }
     ensures { IsEdc (byte ∷ replicate zeros 0) result }

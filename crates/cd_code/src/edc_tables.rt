@@ -1,5 +1,5 @@
-//! EDC words of single bytes with zeros behind them (ECMA-130, the clause on the digital data structure
-//! of sectors).
+//! EDC words of single bytes followed by zeros (ECMA-130, 14). The checker computes the rule of the
+//! tables over all entries, in one test.
 
 /// Row k, entry b: the EDC word of the byte b followed by k bytes of 00.
 #[rattlefmt::skip]

@@ -46,7 +46,7 @@ pub fn alpha_power(n: u32) -> u8
     exponent((n % 255) as usize)
 }
 
-/// Alpha to the `n`, out of the table.
+/// Proof step: an entry of the table, whose rule is this clause: alpha to the `n`.
 fn exponent(n: usize) -> u8
     requires { n < 510 }
     ensures { result ≡ power n }
@@ -54,7 +54,8 @@ fn exponent(n: usize) -> u8
     EXPONENTS[n]
 }
 
-/// The power of alpha that an element other than 0 is, out of the table.
+/// Proof step: an entry of the table, whose rule is this clause: the power of alpha that an element
+/// other than 0 is.
 fn logarithm(a: u8) -> u8
     requires { 0 < a }
     ensures below { result < 255 }

@@ -1,6 +1,6 @@
-//! The division by the EDC's generator, sixteen bytes at a time. The generator divides
-//! x^248 + x^120 + x^24 + 1, so nothing changes in the remainder where a byte is left out and added to the bytes
-//! 16, 28 and 31 places behind it (ECMA-130, the clause on the digital data structure of sectors).
+//! The division by the EDC's generator, sixteen bytes at a time (ECMA-130, 14). The generator
+//! divides x^248 + x^120 + x^24 + 1. So the remainder stays the same if a byte is left out and
+//! added to the bytes 16, 28 and 31 places after it.
 
 ghost use Rattle.std.specs.Prelude.{◌≡◌, ℕ, ◌+◌, ◌≤◌, List, [], ◌++◌, drop, take};
 ghost use Rattle.cd_code.specs.Edc.{bits, remainder};
@@ -8,14 +8,14 @@ ghost use Rattle.cd_code.specs.Folding.{IsFolded, folded};
 
 use std::simd::prelude::*;
 
-/// Sixteen of two times sixteen places, from the fifth on.
+/// Of two registers of sixteen bytes: the sixteen places from the fifth on.
 const FROM_FIFTH: [usize; 16] = [4, 5, 6, 7, 8, 9, 10, 11, 12, 13, 14, 15, 16, 17, 18, 19];
 
-/// The same from the second on.
+/// Of two registers of sixteen bytes: the sixteen places from the second on.
 const FROM_SECOND: [usize; 16] = [1, 2, 3, 4, 5, 6, 7, 8, 9, 10, 11, 12, 13, 14, 15, 16];
 
-/// The last 32 bytes of a list, to which all bytes before them have been added. A byte is added to those behind it
-/// when they come, so the newer bytes still lack what the older ones give them.
+/// The last 32 bytes of a list, to which all bytes before them have been added. A byte is added to
+/// those after it when they come, so the newer sixteen still lack what the older sixteen give them.
 #[derive(Clone, Copy)]
 pub(crate) struct Folded {
     older: u8x16,
@@ -34,7 +34,7 @@ impl Folded {
         }
     }
 
-    /// The list with 64 more bytes behind it.
+    /// The list followed by 64 more bytes.
     #[inline(always)]
     pub(crate) fn with_block(self, block: &[u8; 64]) -> Self
         ensures { (v : List ℕ) → IsFolded v self.older self.newer
@@ -50,7 +50,7 @@ impl Folded {
         }
     }
 
-    /// Two times sixteen bytes that leave the list's remainder.
+    /// The 32 bytes, with nothing left to add: they have the remainder of the whole list.
     pub(crate) fn halves(self) -> ([u8; 16], [u8; 16])
         ensures { (v : List ℕ) → IsFolded v self.older self.newer
             → remainder (bits v) ≡ remainder (bits (result.0 ++ result.1)) }
@@ -69,7 +69,7 @@ fn load16(block: &[u8; 64], at: usize) -> u8x16
     u8x16::from_slice(&block[at..])
 }
 
-/// Sixteen bytes of a list, and what the 32 bytes before them add to them.
+/// Sixteen bytes of a list, with what the 32 bytes before them add to them.
 #[inline(always)]
 fn fold_step(older: u8x16, newer: u8x16, bytes: u8x16) -> u8x16
     ensures { result ≡ folded older newer bytes }

@@ -7,7 +7,8 @@ ghost use Rattle.cd_code.specs.Syndrome.{IsPair};
 use crate::lanes::doubled_lanes;
 use std::simd::prelude::*;
 
-/// Both syndromes of 32 words, by lane (ECMA-130, Annex A).
+/// Both syndromes of 32 words, by lane (ECMA-130, Annex A). Public for cd_sector, whose diagonals
+/// are computed in the same registers.
 #[derive(Clone, Copy, Debug)]
 pub struct LaneSums {
     /// The sum of each word's bytes.
@@ -31,8 +32,8 @@ impl LaneSums {
         }
     }
 
-    /// Puts one more byte behind each word: it is added to the plain sum, and to the doubled weighted one (ECMA-130,
-    /// Annex A).
+    /// Appends one byte to each word: adds it to the plain sum, and to the doubled weighted one
+    /// (ECMA-130, Annex A).
     ///
     /// See the example of [`LaneSums::pairs`].
     #[inline(always)]
@@ -50,7 +51,8 @@ impl LaneSums {
         }
     }
 
-    /// The same where `mask` is `FF`; where it is `00`, the word stays as it is (ECMA-130, Annex A).
+    /// Appends one byte to each word whose `mask` is `FF`; a word whose `mask` is `00` stays as it
+    /// is (ECMA-130, Annex A).
     ///
     /// # Examples
     ///
@@ -121,7 +123,7 @@ fn times_inverse_of_three(v: u8x32) -> u8x32
     doubled_lanes(doubled_lanes(five))
 }
 
-/// The lanes of `new` where `mask` is `FF`, and of `old` where it is `00`.
+/// For each lane that of `new` if `mask` is `FF`, and that of `old` if it is `00`.
 #[inline(always)]
 fn select_lanes(old: u8x32, new: u8x32, mask: u8x32) -> u8x32
     ensures new { (i : ℕ) → i < 32 → slice_index mask i ≡ 255

@@ -2,12 +2,12 @@
 
 ghost use Rattle.cd_code.specs.Laws.{EdcIsUnique, EdcOfSum, PairIsUnique, ProductByBits, ProductOfNone, RemainderOfSum, SumByBits};
 
-/// A sum of field elements goes bit by bit.
+/// Two field elements are added bit by bit.
 pub fn sum_goes_by_bits()
     ensures { SumByBits }
 {}
 
-/// A product of field elements goes by the bits of its second factor.
+/// A product is the sum of as many doublings of one factor as the other has set bits.
 pub fn product_goes_by_bits()
     ensures by_bits { ProductByBits }
     ensures none { ProductOfNone }

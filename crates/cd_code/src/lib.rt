@@ -1,5 +1,30 @@
-//! The codes of a CD-ROM sector (ECMA-130): the field GF(2^8), the syndromes and parity bytes of the
-//! product code of Annex A, and the error detection code of the clause on sectors.
+//! The codes of a CD-ROM sector (ECMA-130): the field GF(2^8) and the code words of Annex A, and
+//! the error detection code of clause 14.
+//!
+//! A code word is a list of bytes whose two syndromes are `00`: the sum of its bytes, and the sum
+//! of each byte times a power of alpha, which falls to 1 at the last byte. Its last two bytes are
+//! its parity:
+//!
+//! ```
+//! assert_eq!(rt; parity_pair(&[0x01]), (0x03, 0x02));
+//! assert_eq!(rt; syndromes(&[0x01, 0x03, 0x02]), (0x00, 0x00)); // a code word
+//! ```
+//!
+//! The EDC of a list of bytes is what they leave when they are divided by the generator of clause
+//! 14, as 32 bits:
+//!
+//! ```
+//! assert_eq!(rt; edc_of(&[0x00; 2064]), 0);
+//! assert_eq!(rt; edc_of(&[0x01]), 0x9091_0101);
+//! ```
+//!
+//! [`column_sums`], [`column_lanes`] and [`LaneSums`] compute many syndromes side by side, for a
+//! sector's 86 columns and 52 diagonals. A list may have any length. No call takes memory.
+//!
+//! [`times`], [`alpha_power`], [`syndromes`], [`pair_from`], [`parity_pair`] and [`row_sums`] are
+//! for other users of the codes: cdpatch calls them only in tests and benchmarks.
+//!
+//! Tests: `crates/cd_patch_tests/src/tests/codes`.
 #![tactic(auto)]
 
 mod columns;

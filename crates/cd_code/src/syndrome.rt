@@ -57,9 +57,9 @@ pub fn parity_pair(v: &[u8]) -> (u8, u8)
     pair_from(plain, weighted)
 }
 
-/// What has to be added to the last two bytes of a list of `len` bytes, its parity, so that both its
-/// syndromes stay when `d` is added to the byte at `place` in front of them; neither is `00` unless `d` is (ECMA-130,
-/// Annex A).
+/// What has to be added to the last two bytes of a list of `len` bytes, its parity, so that both
+/// its syndromes stay when `d` is added to the byte at `place` before them; neither is `00` unless
+/// `d` is (ECMA-130, Annex A).
 ///
 /// # Examples
 ///

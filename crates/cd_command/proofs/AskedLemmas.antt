@@ -30,7 +30,8 @@ command_line_free = refl
 -- ---- refusals
 
 module _ (app : App) (is : app ≡ command_line) where
-  pub taken-no_memory : (words : List Text) (e : Error) (fault : LineFault) → (words ≡ [] → ⊥) → (takes app words ≡ true → kind_of e ≡ OutOfMemory)
+  pub taken-no_memory : (words : List Text) (e : Error) (fault : LineFault) → (words ≡ [] → ⊥)
+      → (takes app words ≡ true → kind_of e ≡ OutOfMemory)
       → fault ≡ fault_from e → IsTaken words → fault ≡ NoMemory
   unfolding IsTaken
   taken-no_memory [] e fault some passes made taken = absurd (some refl)
@@ -39,14 +40,19 @@ module _ (app : App) (is : app ≡ command_line) where
       made ∙ rw memory refl
 
   pub fault-has_kind : (words : List Text) (e : Error) (fault : LineFault) → (words ≡ [] → ⊥)
-      → (is_simple_and_free app ≡ true → HasKind (fault_of app words) e) → fault ≡ fault_from e → HasKindOf words fault
+      → (is_simple_and_free app ≡ true → HasKind (fault_of app words) e) → fault ≡ fault_from e
+      → HasKindOf words fault
   unfolding kinds_of
   fault-has_kind [] e fault some kinds made = absurd (some refl)
   fault-has_kind (w ∷ ws) e fault some kinds made =
-      let of_line : HasKind (fault_of command_line (w ∷ ws)) e = subst (λ (a : App). HasKind (fault_of a (w ∷ ws)) e) is (kinds (ap is_simple_and_free is ∙ command_line_free)) in
+      let of_line : HasKind (fault_of command_line (w ∷ ws)) e =
+      subst (λ (a : App). HasKind (fault_of a (w ∷ ws)) e) is
+      (kinds (ap is_simple_and_free is ∙ command_line_free)) in
       rw made (go (is_out_of_memory (kind_of e)) refl of_line)
     where
-      go : (b : Bool) → is_out_of_memory (kind_of e) ≡ b → HasKind (fault_of command_line (w ∷ ws)) e → HasKindOf (w ∷ ws) (cond b NoMemory (Parser e))
+      go : (b : Bool) → is_out_of_memory (kind_of e) ≡ b
+          → HasKind (fault_of command_line (w ∷ ws)) e
+          → HasKindOf (w ∷ ws) (cond b NoMemory (Parser e))
       go true out h = tt
       go false out (inl memory) = let bad : true ≡ false = rw memory at out in cc
       go false out (inr among) = among
@@ -57,16 +63,20 @@ pub none-kinds : (words : List Text) → words ≡ [] → kinds_of words ≡ []
 unfolding kinds_of
 none-kinds words none = rw none refl
 
-pub some-kinds : (app : App) (words : List Text) → app ≡ command_line → (is_simple_and_free app ≡ true → fault_of app words ≡ []) → kinds_of words ≡ []
+pub some-kinds : (app : App) (words : List Text) → app ≡ command_line
+    → (is_simple_and_free app ≡ true → fault_of app words ≡ []) → kinds_of words ≡ []
 unfolding kinds_of
 some-kinds app [] is kinds = refl
-some-kinds app (w ∷ ws) is kinds = ap (λ a. fault_of a (w ∷ ws)) (sym is) ∙ kinds (ap is_simple_and_free is ∙ command_line_free)
+some-kinds app (w ∷ ws) is kinds =
+    ap (λ a. fault_of a (w ∷ ws)) (sym is) ∙ kinds (ap is_simple_and_free is ∙ command_line_free)
 
-pub none-asks : (words : List Text) (job : Job) → words ≡ [] → Lists (45 ∷ []) 0 job → IsJobOf words job
+pub none-asks : (words : List Text) (job : Job) → words ≡ [] → Lists (45 ∷ []) 0 job
+    → IsJobOf words job
 unfolding IsJobOf
 none-asks words job e h = rw e h
 
-pub some-asks : (words : List Text) (job : Job) (p : Text × List Row) → (words ≡ [] → ⊥) → subcommand_of command_line words ≡ Some p → HasMatches p job → IsJobOf words job
+pub some-asks : (words : List Text) (job : Job) (p : Text × List Row) → (words ≡ [] → ⊥)
+    → subcommand_of command_line words ≡ Some p → HasMatches p job → IsJobOf words job
 unfolding IsJobOf
 some-asks [] job p some is h = absurd (some refl)
 some-asks (w ∷ ws) job p some is h = rw is h
@@ -78,10 +88,13 @@ pub record IsEntered (words : List Text) (m : ArgMatches) : Type 0 where
   pub is : subcommand_of command_line words ≡ Some matches
   pub complete : IsComplete matches
 
-pub entered : (app : App) (words : List Text) (m : ArgMatches) → app ≡ command_line → HasMatchesOf app words m
+pub entered : (app : App) (words : List Text) (m : ArgMatches) → app ≡ command_line
+    → HasMatchesOf app words m
     → (is_simple_and_free app ≡ true → fault_of app words ≡ []) → IsEntered words m
 entered app words m is has kinds =
-    let none : fault_of command_line words ≡ [] = ap (λ a. fault_of a words) (sym is) ∙ kinds (ap is_simple_and_free is ∙ command_line_free) in
+    let none : fault_of command_line words ≡ [] =
+    ap (λ a. fault_of a words) (sym is)
+    ∙ kinds (ap is_simple_and_free is ∙ command_line_free) in
     let named = no_fault-named words none in
     let rows = (has (ap is_simple is ∙ command_line_simple)).1 in
     record {
@@ -92,7 +105,8 @@ entered app words m is has kinds =
     }
 
 module _ {Z : Type 0} where
-  rows-some : (o : Option (Box SubCommand Z)) (p : Text × List Row) → subcommand_rows o ≡ Some p → is_some o ≡ true
+  rows-some : (o : Option (Box SubCommand Z)) (p : Text × List Row) → subcommand_rows o ≡ Some p
+      → is_some o ≡ true
   rows-some None p e = cc
   rows-some (Some b) p e = refl
 
@@ -101,27 +115,34 @@ module _ {Z : Type 0} where
   rows-name None p e = cc
   rows-name (Some b) p e = ap (option_map (λ (q : Text × List Row). q.0)) e
 
-pub entered-some : (words : List Text) (m : ArgMatches) → IsEntered words m → is_some (out-ArgMatches m).subcommand ≡ true
+pub entered-some : (words : List Text) (m : ArgMatches) → IsEntered words m
+    → is_some (out-ArgMatches m).subcommand ≡ true
 entered-some words m h = rows-some (out-ArgMatches m).subcommand h.matches h.rows
 
 -- the parts that `subcommand` gives are the entered command's
-pub entered-parts : (words : List Text) (m : ArgMatches) (h : IsEntered words m) (name : Text) (rows : List Row)
-    → Some name ≡ option_map (λ b. (out-SubCommand (box_value b)).name.now) (out-ArgMatches m).subcommand
+pub entered-parts : (words : List Text) (m : ArgMatches) (h : IsEntered words m) (name : Text)
+    (rows : List Row)
+    → Some name ≡ option_map (λ b. (out-SubCommand (box_value b)).name.now)
+    (out-ArgMatches m).subcommand
     → Some rows ≡ option_map (λ (p : Text × List Row). p.1) (subcommand_rows_of m)
     → h.matches ≡ (name, rows)
 entered-parts words m h name rows named found =
-    let some_name : Some name ≡ Some h.matches.0 = named ∙ rows-name (out-ArgMatches m).subcommand h.matches h.rows in
-    let some_rows : Some rows ≡ Some h.matches.1 = found ∙ ap (option_map (λ (p : Text × List Row). p.1)) h.rows in
+    let some_name : Some name ≡ Some h.matches.0 =
+    named ∙ rows-name (out-ArgMatches m).subcommand h.matches h.rows in
+    let some_rows : Some rows ≡ Some h.matches.1 =
+    found ∙ ap (option_map (λ (p : Text × List Row). p.1)) h.rows in
     let same_name : h.matches.0 ≡ name = cc in
     let same_rows : h.matches.1 ≡ rows = cc in
     ap₂ (λ (x : Text) (y : List Row). (x, y)) same_name same_rows
 
 -- ---- whether there are words
 
-pub map-none : {X : Type 0} (f : X → Text) (xs : List X) (n : ℕ) → n ≡ length xs → (n == 0) ≡ true → map f xs ≡ []
+pub map-none : {X : Type 0} (f : X → Text) (xs : List X) (n : ℕ) → n ≡ length xs → (n == 0) ≡ true
+    → map f xs ≡ []
 map-none f [] n is e = refl
 map-none f (x ∷ xs) n is e = let none : n ≡ 0 = eqb-true n 0 e in absurd (omega arith)
 
-pub map-some : {X : Type 0} (f : X → Text) (xs : List X) (n : ℕ) → n ≡ length xs → (n == 0) ≡ false → map f xs ≡ [] → ⊥
+pub map-some : {X : Type 0} (f : X → Text) (xs : List X) (n : ℕ) → n ≡ length xs → (n == 0) ≡ false
+    → map f xs ≡ [] → ⊥
 map-some f [] n is e none = let bad : true ≡ false = rw is at e in cc
 map-some f (x ∷ xs) n is e none = cc

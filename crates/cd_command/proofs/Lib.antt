@@ -1,6 +1,5 @@
 mod AskedLemmas
 mod DefinitionLemmas
-mod GetterLemmas
 mod TakenLemmas
-mod WalkLemmas
 pub mod StatusLemmas
+pub mod general

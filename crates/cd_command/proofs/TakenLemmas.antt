@@ -23,43 +23,57 @@ use Rattle.clap.specs.declared.parser.matches.ValueSource.{ValueSource}
 use Rattle.clap.specs.declared.parser.matches.ValueSource.TheVariants.{DefaultValue}
 use Rattle.clap.proofs.ValueTestLemmas.{accepts-Accepts}
 use Rattle.cd_command.specs.CommandLine.{HasBase, IsComplete, apply_shape, base_rule, carry_rule, check_shape, command_line, image_shape, max_base, program_shape, text_rule}
-use Rattle.cd_command.proofs.WalkLemmas.{AllStart, Each, Each-find, IsUsedBy, Starts, Uses, level_parts, level_starts, neither}
+use Rattle.cd_command.proofs.general.Rows.{AllStart, Each, Each-find, IsUsedBy, Starts, Uses, level_parts, level_starts, neither}
 
 -- ---- the row of an argument with a default
 
-has_row-values : (id : Text) (s : ValueSource) (values : List Text) (missing rows : List Row) → has_row id missing ≡ true
+has_row-values : (id : Text) (s : ValueSource) (values : List Text) (missing rows : List Row)
+    → has_row id missing ≡ true
     → has_row id (at_row id (more_values s values) missing rows) ≡ true
 has_row-values id s values missing [] there = there
-has_row-values id s values missing (r ∷ rs) there = go (bytes_eq r.id id) refl (has_row-values id s values missing rs there)
+has_row-values id s values missing (r ∷ rs) there =
+    go (bytes_eq r.id id) refl (has_row-values id s values missing rs there)
   where
-    go : (b : Bool) → bytes_eq r.id id ≡ b → has_row id (at_row id (more_values s values) missing rs) ≡ true
-        → has_row id (cond b (more_values s values r ++ rs) (r ∷ at_row id (more_values s values) missing rs)) ≡ true
+    go : (b : Bool) → bytes_eq r.id id ≡ b
+        → has_row id (at_row id (more_values s values) missing rs) ≡ true
+        → has_row id (cond b (more_values s values r ++ rs)
+        (r ∷ at_row id (more_values s values) missing rs)) ≡ true
     go true e rest = rw e refl
     go false e rest = rw e rest
 
-has_row-stays : (wanted id : Text) (s : ValueSource) (values : List Text) (missing rows : List Row) → has_row wanted rows ≡ true
+has_row-stays : (wanted id : Text) (s : ValueSource) (values : List Text) (missing rows : List Row)
+    → has_row wanted rows ≡ true
     → has_row wanted (at_row id (more_values s values) missing rows) ≡ true
 has_row-stays wanted id s values missing [] there = cc
-has_row-stays wanted id s values missing (r ∷ rs) there = go (bytes_eq r.id id) (bytes_eq r.id wanted) refl (has_row-stays wanted id s values missing rs)
+has_row-stays wanted id s values missing (r ∷ rs) there =
+    go (bytes_eq r.id id) (bytes_eq r.id wanted) refl (has_row-stays wanted id s values missing rs)
   where
-    go : (b t : Bool) → bytes_eq r.id wanted ≡ t → (has_row wanted rs ≡ true → has_row wanted (at_row id (more_values s values) missing rs) ≡ true)
-        → has_row wanted (cond b (more_values s values r ++ rs) (r ∷ at_row id (more_values s values) missing rs)) ≡ true
+    go : (b t : Bool) → bytes_eq r.id wanted ≡ t
+        → (has_row wanted rs ≡ true
+        → has_row wanted (at_row id (more_values s values) missing rs) ≡ true)
+        → has_row wanted
+        (cond b (more_values s values r ++ rs) (r ∷ at_row id (more_values s values) missing rs))
+        ≡ true
     go true t e rest = there
     go false true e rest = rw e refl
     go false false e rest = rw e (rest (rw e at there))
 
-default_stays : (wanted : Text) (a : Rule) (rows : List Row) → has_row wanted rows ≡ true → has_row wanted (with_default rows a) ≡ true
+default_stays : (wanted : Text) (a : Rule) (rows : List Row) → has_row wanted rows ≡ true
+    → has_row wanted (with_default rows a) ≡ true
 default_stays wanted a rows there = go (has_row a.id rows) a.defaults
   where
-    go : (b : Bool) (vs : List Text) → has_row wanted (cond b rows (default_rows a.id (reading_by a) vs rows)) ≡ true
+    go : (b : Bool) (vs : List Text)
+        → has_row wanted (cond b rows (default_rows a.id (reading_by a) vs rows)) ≡ true
     go true vs = there
     go false [] = there
     go false (v ∷ vs) = has_row-stays wanted a.id DefaultValue (v ∷ vs) _ rows there
 
-default_there : (a : Rule) (v : Text) (vs : List Text) (rows : List Row) → a.defaults ≡ v ∷ vs → bytes_eq a.id a.id ≡ true → has_row a.id (with_default rows a) ≡ true
+default_there : (a : Rule) (v : Text) (vs : List Text) (rows : List Row) → a.defaults ≡ v ∷ vs
+    → bytes_eq a.id a.id ≡ true → has_row a.id (with_default rows a) ≡ true
 default_there a v vs rows e same = go (has_row a.id rows) refl
   where
-    go : (b : Bool) → has_row a.id rows ≡ b → has_row a.id (cond b rows (default_rows a.id (reading_by a) a.defaults rows)) ≡ true
+    go : (b : Bool) → has_row a.id rows ≡ b
+        → has_row a.id (cond b rows (default_rows a.id (reading_by a) a.defaults rows)) ≡ true
     go true there = there
     go false none = rw e (has_row-values a.id DefaultValue (v ∷ vs) _ rows (rw same refl))
 
@@ -73,7 +87,8 @@ has_row-found : (id : Text) (rows : List Row) → has_row id rows ≡ true → F
 has_row-found id [] there = cc
 has_row-found id (r ∷ rs) there = go (bytes_eq r.id id) refl (has_row-found id rs)
   where
-    go : (b : Bool) → bytes_eq r.id id ≡ b → (has_row id rs ≡ true → Found id rs) → Found id (r ∷ rs)
+    go : (b : Bool) → bytes_eq r.id id ≡ b → (has_row id rs ≡ true → Found id rs)
+        → Found id (r ∷ rs)
     go true e rest = record { row = r; is = rw e refl; same = e }
     go false e rest =
         let f = rest (rw e at there) in
@@ -83,20 +98,27 @@ has_row-found id (r ∷ rs) there = go (bytes_eq r.id id) refl (has_row-found id
 
 -- a text of `--base` is a number in the range, and is read without a minus
 abbrev IsBaseText : Text → Reading → Text → Type 0
-IsBaseText id how text = id ≡ codes "base" → (how ≡ WithoutMinus) × IsSignedIn (pos 0) (pos max_base) text
+IsBaseText id how text =
+    id ≡ codes "base" → (how ≡ WithoutMinus) × IsSignedIn (pos 0) (pos max_base) text
 
-first_given : (id : Text) (rows : List Row) → AllStart IsBaseText rows → is_given id rows ≡ true → IsSome (first_of id rows)
-first_given id rows starts given = go (find (λ r. bytes_eq r.id id) rows) (Each-find (Starts IsBaseText) (λ r. bytes_eq r.id id) rows starts) given
+first_given : (id : Text) (rows : List Row) → AllStart IsBaseText rows → is_given id rows ≡ true
+    → IsSome (first_of id rows)
+first_given id rows starts given =
+    go (find (λ r. bytes_eq r.id id) rows)
+    (Each-find (Starts IsBaseText) (λ r. bytes_eq r.id id) rows starts) given
   where
-    go : (o : Option Row) → ((r : Row) → o ≡ Some r → Starts IsBaseText r) → option_map_or (λ r. explicit_source r.source) o false ≡ true
+    go : (o : Option Row) → ((r : Row) → o ≡ Some r → Starts IsBaseText r)
+        → option_map_or (λ r. explicit_source r.source) o false ≡ true
         → is_some (option_and_then (λ (r : Row). slice_get r.values 0) o) ≡ true
     go None known e = cc
     go (Some r) known e = rw (known r refl).is_first refl
 
-base_read : (rows : List Row) → AllStart IsBaseText rows → has_row (codes "base") rows ≡ true → HasBase rows
+base_read : (rows : List Row) → AllStart IsBaseText rows → has_row (codes "base") rows ≡ true
+    → HasBase rows
 base_read rows starts there =
     let f = has_row-found (codes "base") rows there in
-    let s = Each-find (Starts IsBaseText) (λ r. bytes_eq r.id (codes "base")) rows starts f.row f.is in
+    let s =
+    Each-find (Starts IsBaseText) (λ r. bytes_eq r.id (codes "base")) rows starts f.row f.is in
     let q = s.holds ((bytes_eq-Decides f.row.id (codes "base")).0 f.same) in
     let text : row_text f.row ≡ Some (without_minus s.first) = rw (s.is_first, q.0) refl in
     record { text = s.first; read = rw f.is text; accepted = q.1 }
@@ -107,11 +129,15 @@ base_read rows starts there =
 abbrev leaf : Shape → Shape
 leaf s = built_leaf (inherited (with_leaf_noted (marked_built program_shape)) s)
 
-accepted_value : (v : Text) (vs : List Text) → values_kinds false (vp.Signed (pos 0) (pos max_base)) (v ∷ vs) ≡ [] → IsSignedIn (pos 0) (pos max_base) v
+accepted_value : (v : Text) (vs : List Text)
+    → values_kinds false (vp.Signed (pos 0) (pos max_base)) (v ∷ vs) ≡ []
+    → IsSignedIn (pos 0) (pos max_base) v
 accepted_value v vs e = go (accepts false (vp.Signed (pos 0) (pos max_base)) v) refl e
   where
     go : (b : Bool) → accepts false (vp.Signed (pos 0) (pos max_base)) v ≡ b
-        → or_else (if b then [] else ValueValidation ∷ []) (values_kinds false (vp.Signed (pos 0) (pos max_base)) vs) ≡ [] → IsSignedIn (pos 0) (pos max_base) v
+        → or_else (if b then [] else ValueValidation ∷ [])
+        (values_kinds false (vp.Signed (pos 0) (pos max_base)) vs) ≡ []
+        → IsSignedIn (pos 0) (pos max_base) v
     go true is none = accepts-Accepts false (vp.Signed (pos 0) (pos max_base)) v is
     go false is none = cc
 
@@ -127,10 +153,17 @@ carry_built = filled carry_rule
 abbrev help_built : Rule
 help_built = filled help_rule
 
-text_use : (index : ℕ) (id : Text) → (id ≡ codes "base" → ⊥) → (again : Bool) (values : List Text) (rows : List Row)
-    → use_fault again (text_built index id) values rows ≡ [] → Uses IsBaseText (text_built index id) values
+text_use : (index : ℕ) (id : Text) → (id ≡ codes "base" → ⊥)
+    → (again : Bool) (values : List Text) (rows : List Row)
+    → use_fault again (text_built index id) values rows ≡ []
+    → Uses IsBaseText (text_built index id) values
 text_use index id other again [] rows e = cc
-text_use index id other again (v ∷ vs) rows e = record { replacing = refl; first = v; is_first = refl; holds = λ is. absurd (other is) }
+text_use index id other again (v ∷ vs) rows e = record {
+  replacing = refl;
+  first = v;
+  is_first = refl;
+  holds = λ is. absurd (other is);
+}
 
 -- texts that begin with other bytes
 differ : (a b : ℕ) (s t : Text) → (a ≡ b → ⊥) → a ∷ s ≡ b ∷ t → ⊥
@@ -140,28 +173,52 @@ differ a b s t other e = other (ap (λ (l : List ℕ). slice_index l 0) e)
 not_base : codes "carry" ≡ codes "base" → ⊥
 not_base is = differ 99 98 _ _ (λ e. omega arith) is
 
-carry_use : (again : Bool) (values : List Text) (rows : List Row) → use_fault again carry_built values rows ≡ [] → Uses IsBaseText carry_built values
-carry_use again [] rows e = record { replacing = refl; first = codes "true"; is_first = refl; holds = λ is. absurd (not_base is) }
-carry_use again (v ∷ vs) rows e = record { replacing = refl; first = v; is_first = refl; holds = λ is. absurd (not_base is) }
+carry_use : (again : Bool) (values : List Text) (rows : List Row)
+    → use_fault again carry_built values rows ≡ [] → Uses IsBaseText carry_built values
+carry_use again [] rows e = record {
+  replacing = refl;
+  first = codes "true";
+  is_first = refl;
+  holds = λ is. absurd (not_base is);
+}
+carry_use again (v ∷ vs) rows e = record {
+  replacing = refl;
+  first = v;
+  is_first = refl;
+  holds = λ is. absurd (not_base is);
+}
 
-base_use : (again : Bool) (values : List Text) (rows : List Row) → use_fault again base_built values rows ≡ [] → Uses IsBaseText base_built values
+base_use : (again : Bool) (values : List Text) (rows : List Row)
+    → use_fault again base_built values rows ≡ [] → Uses IsBaseText base_built values
 base_use again [] rows e = cc
 base_use again (v ∷ vs) rows e =
-    let range = neither (range_kinds 1 1 (length (v ∷ vs))) (action_fault Set again base_built (v ∷ vs) rows) e in
-    let values = neither (repeat_fault again (codes "base") rows) (values_fault base_built (v ∷ vs)) range.1 in
-    record { replacing = refl; first = v; is_first = refl; holds = λ is. (refl, accepted_value v vs values.1) }
+    let range =
+    neither (range_kinds 1 1 (length (v ∷ vs)))
+    (action_fault Set again base_built (v ∷ vs) rows) e in
+    let values =
+    neither (repeat_fault again (codes "base") rows)
+    (values_fault base_built (v ∷ vs)) range.1 in
+    record {
+      replacing = refl;
+      first = v;
+      is_first = refl;
+      holds = λ is. (refl, accepted_value v vs values.1);
+    }
 
-help_use : (again : Bool) (values : List Text) (rows : List Row) → use_fault again help_built values rows ≡ [] → Uses IsBaseText help_built values
+help_use : (again : Bool) (values : List Text) (rows : List Row)
+    → use_fault again help_built values rows ≡ [] → Uses IsBaseText help_built values
 help_use again values rows e =
     let range = neither (range_kinds 0 0 (length values)) (DisplayHelp ∷ []) e in
     let none = range.1 in cc
 
-base_default : (v : Text) (vs : List Text) → base_built.defaults ≡ v ∷ vs → IsBaseText (codes "base") WithoutMinus v
+base_default : (v : Text) (vs : List Text) → base_built.defaults ≡ v ∷ vs
+    → IsBaseText (codes "base") WithoutMinus v
 base_default v vs e is =
     let same : codes "0" ≡ v = ap (λ (ts : List Text). slice_index_or ts 0 v) e in
     (refl, rw (← same) (accepts-Accepts false (vp.Signed (pos 0) (pos max_base)) (codes "0") refl))
 
-text_used : (index : ℕ) (id : Text) → (id ≡ codes "base" → ⊥) → IsUsedBy IsBaseText (text_built index id)
+text_used : (index : ℕ) (id : Text) → (id ≡ codes "base" → ⊥)
+    → IsUsedBy IsBaseText (text_built index id)
 text_used index id other = record { use_of = text_use index id other; default_of = λ v vs e. cc }
 
 image_used : IsUsedBy IsBaseText (text_built 1 (codes "image"))
@@ -196,7 +253,8 @@ required_given : (b rest : Bool) → (not b || rest) ≡ false → (b ≡ true) 
 required_given true rest e = (refl, e)
 required_given false rest e = cc
 
-no_check : (help subcommand argument : Bool) → check_kinds help subcommand argument ≡ [] → (subcommand ≡ false) × (argument ≡ false)
+no_check : (help subcommand argument : Bool) → check_kinds help subcommand argument ≡ []
+    → (subcommand ≡ false) × (argument ≡ false)
 no_check true subcommand argument e = cc
 no_check false true argument e = cc
 no_check false false true e = cc
@@ -206,13 +264,19 @@ subcommand_met : (b : Bool) → (not b && true) ≡ false → b ≡ true
 subcommand_met true e = refl
 subcommand_met false e = cc
 
--- the last checks of a level pass only where a subcommand that is required was met, and each argument
+-- the last checks of a level pass only where a subcommand that is required was met, and each
+-- argument
 -- that is required was given
 check_parts : (s : Shape) (rows : List Row) (met : Bool) → check_fault s rows met ≡ []
     → ((not met && s.subcommand_required) ≡ false)
-    × ((not (s.subcommand_negates_reqs && met) && list_any (λ (a : Rule). a.required && not (is_given a.id rows)) s.rules) ≡ false)
-check_parts s rows met e = no_check (not met && (s.arg_required_else_help && not (list_any (λ (r : Row). explicit_source r.source) rows))) (not met && s.subcommand_required)
-    (not (s.subcommand_negates_reqs && met) && list_any (λ (a : Rule). a.required && not (is_given a.id rows)) s.rules) e
+    × ((not (s.subcommand_negates_reqs && met) && list_any
+    (λ (a : Rule). a.required && not (is_given a.id rows)) s.rules) ≡ false)
+check_parts s rows met e =
+    no_check (not met &&
+    (s.arg_required_else_help && not (list_any (λ (r : Row). explicit_source r.source) rows)))
+    (not met && s.subcommand_required)
+    (not (s.subcommand_negates_reqs && met) && list_any
+    (λ (a : Rule). a.required && not (is_given a.id rows)) s.rules) e
 
 -- what the rows of a command have where its words give no kind
 module _ (s : Shape) (by : Each (IsUsedBy IsBaseText) s.rules) (words : List Text) (e : level_fault s [] nothing_held words false [] ≡ []) where
@@ -225,34 +289,48 @@ module _ (s : Shape) (by : Each (IsUsedBy IsBaseText) s.rules) (words : List Tex
   level_start : AllStart IsBaseText level_rows
   level_start = level_starts IsBaseText s by [] words false [] e
 
-  level_checked : (not (s.subcommand_negates_reqs && false) && list_any (λ (a : Rule). a.required && not (is_given a.id level_rows)) s.rules) ≡ false
+  level_checked :
+      (not (s.subcommand_negates_reqs && false)
+      && list_any (λ (a : Rule). a.required && not (is_given a.id level_rows)) s.rules) ≡ false
   level_checked = (check_parts s level_rows false (level_parts s [] words false [] e).checks).1
 
 -- the option `--base` has a row behind its default
-based : (rows : List Row) → has_row (codes "base") (with_default (with_default rows base_built) help_built) ≡ true
-based rows = default_stays (codes "base") help_built (with_default rows base_built) (default_there base_built (codes "0") [] rows refl refl)
+based : (rows : List Row)
+    → has_row (codes "base") (with_default (with_default rows base_built) help_built) ≡ true
+based rows =
+    default_stays (codes "base") help_built (with_default rows base_built)
+    (default_there base_built (codes "0") [] rows refl refl)
 
 -- the image and the base of a command's matches
 pub record HasImage (rows : List Row) : Type 0 where
   pub image : IsSome (first_of (codes "image") rows)
   pub base : HasBase rows
 
-image_level : (name : Text) (words : List Text) → level_fault (leaf (image_shape name)) [] nothing_held words false [] ≡ [] → HasImage (rows_at (leaf (image_shape name)) words).1
+image_level : (name : Text) (words : List Text)
+    → level_fault (leaf (image_shape name)) [] nothing_held words false [] ≡ []
+    → HasImage (rows_at (leaf (image_shape name)) words).1
 image_level name words e =
     let s = leaf (image_shape name) in
     let rows = level_rows s (image_rules name) words e in
     let starts = level_start s (image_rules name) words e in
-    let image = required_given (is_given (codes "image") rows) false (level_checked s (image_rules name) words e) in
+    let image =
+    required_given (is_given (codes "image") rows) false
+    (level_checked s (image_rules name) words e) in
     record {
       image = first_given (codes "image") rows starts image.0;
-      base = base_read rows starts (based (with_default (held_rows s (image_rules name) words e) (text_built 1 (codes "image"))));
+      base =
+          base_read rows starts
+          (based (with_default (held_rows s (image_rules name) words e)
+          (text_built 1 (codes "image"))));
     }
 
 -- ---- the program
 
 -- where a command's words give no kind, its matches are complete
 abbrev IsSound : Shape → Type 0
-IsSound s = (words : List Text) → level_fault s [] nothing_held words false [] ≡ [] → IsComplete (rows_at s words)
+IsSound s =
+    (words : List Text) → level_fault s [] nothing_held words false [] ≡ []
+    → IsComplete (rows_at s words)
 
 list_sound : IsSound (leaf (image_shape (codes "list")))
 list_sound words e =
@@ -291,7 +369,8 @@ check_sound words e =
     let s = leaf check_shape in
     let rows = level_rows s check_rules words e in
     let starts = level_start s check_rules words e in
-    let image = required_given (is_given (codes "image") rows) _ (level_checked s check_rules words e) in
+    let image =
+    required_given (is_given (codes "image") rows) _ (level_checked s check_rules words e) in
     let script = required_given (is_given (codes "script") rows) false image.1 in
     let text = with_default (held_rows s check_rules words e) (text_built 1 (codes "image")) in
     record {
@@ -299,7 +378,9 @@ check_sound words e =
       image = first_given (codes "image") rows starts image.0;
       script = λ is. first_given (codes "script") rows starts script.0;
       out = λ e. absurd (differ 99 97 _ _ (λ e. omega arith) e);
-      base = base_read rows starts (based (with_default (with_default text (text_built 2 (codes "script"))) carry_built));
+      base =
+          base_read rows starts
+          (based (with_default (with_default text (text_built 2 (codes "script"))) carry_built));
     }
 
 apply_sound : IsSound (leaf apply_shape)
@@ -307,16 +388,21 @@ apply_sound words e =
     let s = leaf apply_shape in
     let rows = level_rows s apply_rules words e in
     let starts = level_start s apply_rules words e in
-    let image = required_given (is_given (codes "image") rows) _ (level_checked s apply_rules words e) in
+    let image =
+    required_given (is_given (codes "image") rows) _ (level_checked s apply_rules words e) in
     let script = required_given (is_given (codes "script") rows) _ image.1 in
     let out = required_given (is_given (codes "out") rows) false script.1 in
-    let text = with_default (with_default (held_rows s apply_rules words e) (text_built 1 (codes "image"))) (text_built 2 (codes "script")) in
+    let text =
+    with_default (with_default (held_rows s apply_rules words e) (text_built 1 (codes "image")))
+    (text_built 2 (codes "script")) in
     record {
       name = inr (inr (inr refl));
       image = first_given (codes "image") rows starts image.0;
       script = λ is. first_given (codes "script") rows starts script.0;
       out = λ is. first_given (codes "out") rows starts out.0;
-      base = base_read rows starts (based (with_default (with_default text (text_built 3 (codes "out"))) carry_built));
+      base =
+          base_read rows starts
+          (based (with_default (with_default text (text_built 3 (codes "out"))) carry_built));
     }
 
 -- the command that the words name, with what its matches have
@@ -325,13 +411,18 @@ pub record Named (words : List Text) : Type 0 where
   pub is : subcommand_of command_line words ≡ Some matches
   pub complete : IsComplete matches
 
-named_at : (app : App) (stop : Option (Text × List Text)) → Each IsSound app.subs → entered_fault app stop ≡ [] → is_some (entered app stop) ≡ true
+named_at : (app : App) (stop : Option (Text × List Text)) → Each IsSound app.subs
+    → entered_fault app stop ≡ [] → is_some (entered app stop) ≡ true
     → (p : Text × List Row) × (entered app stop ≡ Some p) × IsComplete p
 named_at app None sound e there = cc
-named_at app (Some q) sound e there = go (find (λ s. answers_to q.0 (label_of s)) app.subs) (Each-find IsSound (λ s. answers_to q.0 (label_of s)) app.subs sound) e there
+named_at app (Some q) sound e there =
+    go (find (λ s. answers_to q.0 (label_of s)) app.subs)
+    (Each-find IsSound (λ s. answers_to q.0 (label_of s)) app.subs sound) e there
   where
-    go : (o : Option Shape) → ((s : Shape) → o ≡ Some s → IsSound s) → option_map_or (λ s. level_fault s [] nothing_held q.1 false []) o [] ≡ []
-        → is_some (option_map (λ s. rows_at s q.1) o) ≡ true → (p : Text × List Row) × (option_map (λ s. rows_at s q.1) o ≡ Some p) × IsComplete p
+    go : (o : Option Shape) → ((s : Shape) → o ≡ Some s → IsSound s)
+        → option_map_or (λ s. level_fault s [] nothing_held q.1 false []) o [] ≡ []
+        → is_some (option_map (λ s. rows_at s q.1) o) ≡ true
+        → (p : Text × List Row) × (option_map (λ s. rows_at s q.1) o ≡ Some p) × IsComplete p
     go None known e there = cc
     go (Some s) known e there = (rows_at s q.1, refl, known s refl q.1 e)
 
@@ -340,9 +431,15 @@ unfolding command_line
 no_fault-named words e =
     let program = built command_line in
     let stop = stop_after program.top.rules (names_of program) words in
-    let parts = level_parts program.top (names_of program) words (is_some (entered program stop)) (entered_fault program stop) e in
+    let parts =
+    level_parts program.top (names_of program) words (is_some (entered program stop))
+    (entered_fault program stop) e in
     let end = (walk program.top.rules (names_of program) nothing_held words).held in
-    let checked = check_parts program.top (finished program.top.rules end) (is_some (entered program stop)) parts.checks in
+    let checked =
+    check_parts program.top (finished program.top.rules end)
+    (is_some (entered program stop)) parts.checks in
     let there = subcommand_met (is_some (entered program stop)) checked.0 in
-    let named = named_at program stop (list_sound, (audit_sound, (check_sound, (apply_sound, tt)))) parts.enters there in
+    let named =
+    named_at program stop
+    (list_sound, (audit_sound, (check_sound, (apply_sound, tt)))) parts.enters there in
     record { matches = named.0; is = named.1; complete = named.2 }

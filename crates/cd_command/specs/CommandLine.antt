@@ -15,11 +15,11 @@ use Rattle.cd_command.specs.declared.job.Job.TheVariants as job
 abbrev pub max_base : ℕ
 max_base = 449849
 
--- a text that a command needs
+-- a text that a command requires
 abbrev pub text_rule : Text → Rule
 text_rule id = record (new_rule id) { value_names = 1; required = true }
 
--- the option `--base N`, a number of 0 to 449849, and 0 where it is not used
+-- the option `--base N`, a number of 0 to 449849; 0 if it is not used
 abbrev pub base_rule : Rule
 base_rule = record (new_rule (codes "base")) {
   long = Some (codes "base");
@@ -28,7 +28,7 @@ base_rule = record (new_rule (codes "base")) {
   parser = Some (vp.Signed (pos 0) (pos max_base));
 }
 
--- the flag `--carry`, which is not used where it is not there
+-- the flag `--carry`
 abbrev pub carry_rule : Rule
 carry_rule = record (new_rule (codes "carry")) {
   long = Some (codes "carry");
@@ -52,11 +52,11 @@ apply_shape = record (new_shape (codes "apply")) {
       ∷ carry_rule ∷ base_rule ∷ [];
 }
 
--- a command with one more argument
+-- plumbing: a command with one more argument
 abbrev pub with_rule : Shape → Rule → Shape
 with_rule s a = record s { rules = s.rules ++ a ∷ [] }
 
--- the program, of which a command is required
+-- the program, which requires a command
 abbrev pub program_shape : Shape
 program_shape = record (new_shape (codes "cdpatch")) {
   is_leaf = false;
@@ -65,7 +65,7 @@ program_shape = record (new_shape (codes "cdpatch")) {
   subcommand_required = true;
 }
 
--- the program before its commands
+-- plumbing: the program before its commands
 abbrev pub program_app : App
 program_app = record { top = record program_shape { is_leaf = true }; subs = [] }
 
@@ -119,17 +119,18 @@ abbrev pub Lists : Text → ℕ → Job → Type 0
 Lists text first (job.List image base) = (string_bytes image ≡ text) × (base ≡ first)
 Lists text first _ = ⊥
 
--- for no words the standard input is listed from block 0, else the job is what the definition of
--- the matches gives for the words
+-- without arguments the standard input is listed from block 0; else the job is that of the command
+-- and the matches that the definition gives for the arguments
 unfoldable pub IsJobOf : List Text → Job → Type 0
 IsJobOf [] job = Lists (codes "-") 0 job
 IsJobOf (w ∷ ws) job = IsSomeAnd (subcommand_of command_line (w ∷ ws)) (λ p. HasMatches p job)
 
--- there are no words, or the definition takes them
+-- there are no arguments, or the definition accepts them
 unfoldable pub IsTaken : List Text → Type 0
 IsTaken [] = ⊤
 IsTaken (w ∷ ws) = takes command_line (w ∷ ws) ≡ true
 
+-- the number of the first block, of any job
 abbrev pub base_in : Job → ℕ
 base_in (job.List image base) = base
 base_in (job.Audit image base) = base
@@ -138,13 +139,13 @@ base_in (job.Apply image script out base carry) = base
 
 -- ---- what the matches of words that are taken have
 
--- a text that was accepted for `--base`, and is read by it
+-- plumbing: the text of `--base` was accepted, and is the number that is read
 pub record HasBase (rows : List Row) : Type 0 where
   pub text : Text
   pub read : one_of (codes "base") rows ≡ Some (without_minus text)
   pub accepted : IsSignedIn (pos 0) (pos max_base) text
 
--- the matches name a command, and have its texts and a base
+-- plumbing: the matches name a command, and have its texts and a base
 pub record IsComplete (p : Text × List Row) : Type 0 where
   pub name : (p.0 ≡ codes "list") ⊎ (p.0 ≡ codes "audit") ⊎ (p.0 ≡ codes "check")
       ⊎ (p.0 ≡ codes "apply")

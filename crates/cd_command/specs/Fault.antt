@@ -1,6 +1,6 @@
--- Why the command line gives no job, and what is printed of it.
+-- Why the command line gives no job, and what is printed then.
 use Rattle.std.specs.Prelude.{⊤, ℕ, Bool, true, false, List, Option, Some, None, codes}
-use Rattle.std.specs.Prelude.{if◌then◌else◌, ◌++◌, ◌∷◌, []}
+use Rattle.std.specs.Prelude.{if◌then◌else◌, is_some, ◌++◌, ◌∷◌, []}
 use Rattle.clap.specs.Words.{IsAmong, Kinds, Text, fault_of, kind_of}
 use Rattle.clap.specs.declared.error.Error.{Error}
 use Rattle.clap.specs.declared.error.kind.ErrorKind.{ErrorKind}
@@ -10,27 +10,30 @@ use Rattle.cd_command.specs.CommandLine.{command_line}
 use Rattle.cd_command.specs.declared.fault.LineFault.{LineFault}
 use Rattle.cd_command.specs.declared.fault.LineFault.TheVariants.{Parser, NoMemory}
 
+-- whether the parser's error is want of memory
 abbrev pub is_out_of_memory : ErrorKind → Bool
 is_out_of_memory OutOfMemory = true
 is_out_of_memory _ = false
 
--- the parser's want of memory is want of memory, and its other errors are kept
+-- the parser's want of memory is `NoMemory`, and its other errors are kept
 abbrev pub fault_from : Error → LineFault
 fault_from e = if is_out_of_memory (kind_of e) then NoMemory else Parser e
 
--- the status where all was done, and that of a fault or of words that are refused
+-- the status if all was done
 abbrev pub done_status : ℕ
 done_status = 0
 
+-- the status after a fault, and if the arguments are refused
 abbrev pub failed_status : ℕ
 failed_status = 2
 
--- help that was asked for is no failure
+-- help that was asked for is not a failure
 abbrev pub kind_status : ErrorKind → ℕ
 kind_status DisplayHelp = done_status
 kind_status DisplayVersion = done_status
 kind_status _ = failed_status
 
+-- the status that a fault gives
 abbrev pub status_of : LineFault → ℕ
 status_of (Parser e) = kind_status (kind_of e)
 status_of NoMemory = failed_status
@@ -39,17 +42,21 @@ status_of NoMemory = failed_status
 abbrev pub no_memory : Text
 no_memory = codes "cdpatch: no memory\n"
 
--- the parser's text where there is one, and else the line for want of memory
+-- the parser's text if there is one, and else the line for want of memory
 abbrev pub printed : Option Text → Text
 printed (Some text) = text
 printed None = no_memory
 
--- the kinds of error that the definition gives for the words: none for no words
+-- the status then: that of the fault if its text was printed, else that of a failure
+abbrev pub printed_status : LineFault → Option Text → ℕ
+printed_status fault text = if is_some text then status_of fault else failed_status
+
+-- the kinds of error that the definition gives for the arguments: none if there are none
 unfoldable pub kinds_of : List Text → Kinds
 kinds_of [] = []
 kinds_of (w ∷ ws) = fault_of command_line (w ∷ ws)
 
--- the parser's error has a kind that the definition gives for the words
+-- the parser's error has a kind that the definition gives for the arguments
 abbrev pub HasKindOf : List Text → LineFault → Type 0
 HasKindOf words (Parser e) = IsAmong (kind_of e) (kinds_of words)
 HasKindOf words NoMemory = ⊤

@@ -1,4 +1,4 @@
-//! The job that the words ask for.
+//! The job that the arguments ask for.
 ghost use Rattle.std.specs.Prelude.{◌≡◌, ◌≤◌, IfOk, IfErr, OnOk, IsSome, Some, [], map, option_map, string_bytes, codes};
 ghost use Rattle.clap.specs.Words.{first_of, found_of, rows_of};
 ghost use Rattle.cd_command.specs.CommandLine.{HasBase, HasMatches, IsComplete, IsJobOf, IsTaken};
@@ -11,7 +11,7 @@ use crate::{Job, LineFault};
 use clap::ArgMatches;
 use std::alloc::{AllocError, Global};
 
-/// A text of a command's matches.
+/// The text of an argument that the command requires.
 fn text_of(alloc: Global, matches: &ArgMatches<'_>, id: &str) -> Result<String, AllocError>
     requires { IsSome (first_of id.now (rows_of (found_of matches.now))) }
     ensures { IfOk result (λ text. first_of id.now (rows_of (found_of matches.now))
@@ -21,7 +21,7 @@ fn text_of(alloc: Global, matches: &ArgMatches<'_>, id: &str) -> Result<String, 
     String::from_str(alloc, text)
 }
 
-/// The base of a command's matches.
+/// The number after `--base`, or its default.
 fn base_of(matches: &ArgMatches<'_>) -> u32
     requires { HasBase (rows_of (found_of matches.now)) }
     ensures value { base_of (rows_of (found_of matches.now)) ≡ Some result }
@@ -30,7 +30,8 @@ fn base_of(matches: &ArgMatches<'_>) -> u32
     matches.get_one::<u32>("base").unwrap()
 }
 
-/// Whether a flag with this text is used.
+/// Whether a flag with this text is used. clap's clauses name the text that the parser holds:
+/// "true" if the flag is used.
 fn is_set(text: Option<&str>) -> bool
     ensures { result ≡ is_set (option_map (λ text. text.now) text.entry) }
 {
@@ -40,14 +41,14 @@ fn is_set(text: Option<&str>) -> bool
     }
 }
 
-/// Whether a command's matches have the flag `--carry`.
+/// Whether `--carry` is used.
 fn carry_of(matches: &ArgMatches<'_>) -> bool
     ensures { result ≡ carry_of (rows_of (found_of matches.now)) }
 {
     is_set(matches.get_str("carry"))
 }
 
-/// The job of the matches of `list`.
+/// `list IMAGE [--base N]`.
 fn list_job(alloc: Global, matches: &ArgMatches<'_>) -> Result<Job, AllocError>
     requires image { IsSome (first_of (codes "image") (rows_of (found_of matches.now))) }
     requires base { HasBase (rows_of (found_of matches.now)) }
@@ -59,7 +60,7 @@ fn list_job(alloc: Global, matches: &ArgMatches<'_>) -> Result<Job, AllocError>
     Ok(Job::List { image, base })
 }
 
-/// The job of the matches of `audit`.
+/// `audit IMAGE [--base N]`.
 fn audit_job(alloc: Global, matches: &ArgMatches<'_>) -> Result<Job, AllocError>
     requires image { IsSome (first_of (codes "image") (rows_of (found_of matches.now))) }
     requires base { HasBase (rows_of (found_of matches.now)) }
@@ -71,7 +72,7 @@ fn audit_job(alloc: Global, matches: &ArgMatches<'_>) -> Result<Job, AllocError>
     Ok(Job::Audit { image, base })
 }
 
-/// The job of the matches of `check`.
+/// `check IMAGE SCRIPT [--carry] [--base N]`.
 fn check_job(alloc: Global, matches: &ArgMatches<'_>) -> Result<Job, AllocError>
     requires image { IsSome (first_of (codes "image") (rows_of (found_of matches.now))) }
     requires script { IsSome (first_of (codes "script") (rows_of (found_of matches.now))) }
@@ -91,7 +92,7 @@ fn check_job(alloc: Global, matches: &ArgMatches<'_>) -> Result<Job, AllocError>
     })
 }
 
-/// The job of the matches of `apply`.
+/// `apply IMAGE SCRIPT OUT [--carry] [--base N]`.
 fn apply_job(alloc: Global, matches: &ArgMatches<'_>) -> Result<Job, AllocError>
     requires image { IsSome (first_of (codes "image") (rows_of (found_of matches.now))) }
     requires script { IsSome (first_of (codes "script") (rows_of (found_of matches.now))) }
@@ -114,7 +115,7 @@ fn apply_job(alloc: Global, matches: &ArgMatches<'_>) -> Result<Job, AllocError>
     })
 }
 
-/// The job of a command's matches.
+/// The job of a command, by its name and the parser's matches.
 fn entered_job(alloc: Global, name: &str, matches: &ArgMatches<'_>) -> Result<Job, AllocError>
     requires { IsComplete (name.now, rows_of (found_of matches.now)) }
     ensures job { IfOk result (HasMatches (name.now, rows_of (found_of matches.now))) }
@@ -128,7 +129,7 @@ fn entered_job(alloc: Global, name: &str, matches: &ArgMatches<'_>) -> Result<Jo
     }
 }
 
-/// The job of no words.
+/// The job without arguments: the standard input is listed, from block 0.
 fn standard_input_job(alloc: Global) -> Result<Job, AllocError>
     ensures { IfOk result (Lists (codes "-") 0) }
 {
@@ -136,8 +137,8 @@ fn standard_input_job(alloc: Global) -> Result<Job, AllocError>
     Ok(Job::List { image, base: 0 })
 }
 
-/// The job that the words behind the program's name ask for: for no words the listing of the
-/// standard input from block 0, and else the command that the words name, which is required.
+/// The job that the arguments after the program's name ask for: without any the listing of the
+/// standard input from block 0, and else the command that they name, which is required.
 ///
 /// # Errors
 ///
@@ -156,7 +157,7 @@ pub fn job_of(alloc: Global, words: Vec<String>) -> Result<Job, LineFault>
     // A job comes only of words in which the definition finds no fault, and which ask for no help.
     ensures taken { OnOk result (kinds_of (map string_bytes words.items) ≡ []) }
 
-    // No words, and words that the definition takes, are refused for want of memory alone.
+    // No words, and words that the definition takes, are refused only for want of memory.
     ensures refused { IfErr result (λ fault. IsTaken (map string_bytes words.items)
         → fault ≡ NoMemory) }
     ensures kind { IfErr result (HasKindOf (map string_bytes words.items)) }

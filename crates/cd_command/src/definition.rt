@@ -1,4 +1,4 @@
-//! What the parser is told of the command line.
+//! The command line, as clap is to parse it.
 ghost use Rattle.std.specs.Prelude.{◌≡◌, IfOk, IsOkAnd, codes, false};
 ghost use Rattle.clap.specs.Simple.{new_shape};
 ghost use Rattle.clap.specs.Words.{app_of, rule_of, shape_of, with_subcommand};
@@ -13,7 +13,7 @@ use clap::{Arg, ArgAction, Command, value_parser};
 use std::alloc::{AllocError, Global};
 
 /// The largest number that the first block of an image may have: the last block with an address.
-// Its own number, and not cd_sector's: for one constant this crate would wait for that one's proof.
+// Its own number, since for one constant this crate would wait for cd_sector's proof. The clauses name it, so both are checked.
 pub const MAX_BASE: u32 = 449_849;
 
 /// A text that a command needs.
@@ -85,7 +85,7 @@ fn carry_argument<'a>(alloc: Global) -> Arg<'a>
         .help("Patch damaged sectors too, and keep their damage")
 }
 
-/// A command before its arguments, with the texts above and below them in its help.
+/// A command before its arguments, with the texts before and after them in its help.
 fn described<'a>(alloc: Global, name: &'a str, about: &'a str, more: &'a str) -> Command<'a>
     ensures shape { shape_of result ≡ new_shape name.now }
     ensures local { (out-Command result).has_globals ≡ false }
@@ -93,7 +93,8 @@ fn described<'a>(alloc: Global, name: &'a str, about: &'a str, more: &'a str) ->
     Command::new(alloc, name).about(about).after_help(more)
 }
 
-/// A command, where memory was found for it, with one more argument.
+/// Proof step: a command with one more argument, if memory was found for the command. It takes the
+/// `Result`, since each `?` in a function that holds one of clap's commands costs seconds to prove.
 fn with_argument<'a>(
     command: Result<Command<'a>, AllocError>,
     argument: Arg<'a>,
@@ -160,7 +161,8 @@ fn program<'a>(alloc: Global) -> Result<Command<'a>, AllocError>
         .bin_name("cdpatch")
 }
 
-/// The program, where memory was found for it and for the command, with one more command.
+/// Proof step: the program with one more command, if memory was found for both. Both come as a
+/// `Result`, as in `with_argument`.
 fn with_command<'a>(
     program: Result<Command<'a>, AllocError>,
     command: Result<Command<'a>, AllocError>,

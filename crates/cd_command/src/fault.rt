@@ -7,19 +7,19 @@ use clap::error::ErrorKind;
 use std::alloc::{AllocError, Global};
 use thiserror::Error;
 
-/// The status of the program where all was done.
+/// The status of the program if all was done.
 pub const DONE: u8 = 0;
 
-/// The status of a fault or of words that are refused.
+/// The status after a fault, and if the arguments are refused.
 pub const FAILED: u8 = 2;
 
 /// What is printed for want of memory.
 pub const NO_MEMORY: &str = "cdpatch: no memory\n";
 
-/// Why the command line gives no job.
+/// Why the command line gives no job. It keeps the parser's error, so it needs clap.
 #[derive(Debug, Drop, Error)]
 pub enum LineFault {
-    /// The parser refuses the words, or answers them by help.
+    /// The parser refuses the arguments, or answers them by help.
     #[error("{0}")]
     Parser(clap::Error),
     /// Memory ran out, in the parser or beside it.
@@ -48,7 +48,7 @@ impl From<AllocError> for LineFault {
 }
 
 impl LineFault {
-    /// The status that the program ends with: 0 where help was asked for, and else 2.
+    /// The status that the program ends with: 0 if help was asked for, and else 2.
     ///
     /// # Examples
     ///
@@ -66,8 +66,8 @@ impl LineFault {
         if is_help { DONE } else { FAILED }
     }
 
-    /// The status that the program ends with where it printed the `refusal_line` of this text: 2
-    /// where the text found no memory, and else that of the fault.
+    /// The status that the program ends with if it printed the `refusal_line` of this text: 2
+    /// if the text found no memory, and else that of the fault.
     ///
     /// See the example of [`refusal_line`].
     pub fn status_with(&self, parser_text: Option<&str>) -> u8
@@ -80,7 +80,7 @@ impl LineFault {
         }
     }
 
-    /// The parser's own text, with its last line feed. `None` where the parser, or the text, found
+    /// The parser's own text, with its last line feed. `None` if the parser, or the text, found
     /// no memory.
     ///
     /// See the example of [`refusal_line`].
@@ -94,7 +94,8 @@ impl LineFault {
     }
 }
 
-/// What the program prints for a fault, by the parser's text where there is one.
+/// What the program prints for a fault: the parser's text if there is one, else the line for want
+/// of memory. Apart from `parser_text`, so that this line needs no memory.
 ///
 /// # Examples
 ///

@@ -1,4 +1,4 @@
-//! The texts of help that tell what the words are for.
+//! The texts of help.
 
 /// What the program is.
 pub const PROGRAM_ABOUT: &str =
@@ -9,33 +9,34 @@ pub const PROGRAM_MORE: &str = "\
 Without arguments cdpatch lists the image on standard input; on a terminal end
 it with Ctrl-D. 'cdpatch COMMAND --help' has more on a command.
 
-A script is a text file: the line 'cdpatch 1', and then a patch a line. Lines
-that begin with '#', and empty ones, are skipped.
+A script is a text file: the line 'cdpatch 1', then one patch per line. Empty
+lines and lines that begin with '#' are skipped.
 
     cdpatch 1
-    # five user bytes of block 1 from offset 16 on, if these are there now
+    # write five bytes at offset 16 of block 1, but only if these are there now
     set 1 16 48454C4C4F was 71FE284B05
-    # the same, whatever is there
+    # the same, whatever is there now
     set 1 16 48454C4C4F
-    # 2048 bytes 00 from offset 0 of block 2 on
+    # 2048 bytes 00, starting at offset 0 of block 2
     fill 2 0 2048 00
-    # EDC and parity of block 3, damaged or not, made anew for its user data
+    # EDC and parity of block 3, recalculated from its user data
     rebuild 3
 
 Blocks, offsets (0 to 2047) and counts (1 to 4096) are decimal, bytes are hex.
-A patch that runs past the end of a block continues in the next one. Where the
+A patch that runs past the end of a block continues in the next one. If the
 first line is 'cdpatch 2', 'address 3 00:02:03' writes the address in a header.
 
     cdpatch check disc.bin changes            what apply would do
     cdpatch apply disc.bin changes new.bin    the patched image, in a new file
 
-Every message goes to standard output, those of faults too. Only OUT has the
-patched image. Only Mode 1 sectors are patched.
+All messages, including errors, go to standard output; the patched image goes
+to OUT. Only Mode 1 sectors are patched.
 
 Status:
   0  done
   1  a patch was refused, or audit has a finding
-  2  an I/O error, an invalid script, or invalid arguments; OUT may be short
+  2  an I/O error, an invalid script, or invalid arguments; OUT may be
+     incomplete
 
 cdpatch 1.0.0";
 
@@ -44,8 +45,8 @@ pub const LIST_ABOUT: &str = "List the kinds of an image's sectors";
 
 /// What `list` writes, and its statuses.
 pub const LIST_MORE: &str = "\
-For each run of sectors of equal kind it prints FIRST-LAST KIND: the numbers of
-two blocks, and nosync, mode0, mode1, mode2 or other. Then it prints
+For each run of sectors of one kind it prints FIRST-LAST KIND: the first and
+last block, and nosync, mode0, mode1, mode2 or other. Then it prints
 'sectors S tail T', with T bytes after the last whole sector.
 
 Status: 0 done, 2 an I/O error.";
@@ -63,7 +64,7 @@ found:
   p=N      N of the 86 P columns are not code words
   q=N      N of the 52 Q diagonals are not code words
 Then it prints 'sectors S mode1 M damaged D tail T'. Other sectors are not
-audited, nor one that lost its sync field or mode byte: compare M with S.
+audited, nor are those that lost sync field or mode byte: compare M with S.
 
 Status: 0 nothing found, 1 something found, 2 an I/O error.";
 
@@ -76,9 +77,9 @@ For each patch it prints 'line L: applied' or 'line L: refused: WHY', ordered by
 blocks, and then 'applied A refused R'. No file is written.
 'cdpatch --help' has an example of a script.
 
-With --carry no sector is refused for its damage, and each one that is not
-rebuilt keeps the damage it had. Use it where the damage must stay to be seen,
-or before a 'rebuild' that makes the sector sound.
+With --carry patches on damaged sectors are accepted, and each sector keeps its
+damage unless it is rebuilt. Use it to keep damage visible, or before a
+'rebuild' that makes the sector valid.
 
 Status: 0 all applied, 1 a patch refused, 2 an I/O error or an invalid script.";
 
@@ -89,11 +90,11 @@ pub const APPLY_ABOUT: &str = "Patch an image by a script, into a new file";
 pub const APPLY_MORE: &str = "\
 For each patch it prints 'line L: applied' or 'line L: refused: WHY', ordered by
 blocks, and then 'applied A refused R'. A refused patch changes nothing. OUT is
-as long as the image. After a fault OUT has a prefix of the patched image.
+as long as the image. After an error OUT has a prefix of the patched image.
 'cdpatch --help' has an example of a script.
 
-With --carry no sector is refused for its damage, and each one that is not
-rebuilt keeps the damage it had. Use it where the damage must stay to be seen,
-or before a 'rebuild' that makes the sector sound.
+With --carry patches on damaged sectors are accepted, and each sector keeps its
+damage unless it is rebuilt. Use it to keep damage visible, or before a
+'rebuild' that makes the sector valid.
 
 Status: 0 all applied, 1 a patch refused, 2 an I/O error or an invalid script.";

@@ -1,8 +1,14 @@
 -- A sector to which changes are added one after another.
-use Rattle.std.proofs.Common.{◌≡◌, ℕ, zero, suc, ◌<◌, ◌≤◌, All, Contains, List, [], ◌∷◌, length, map, get_or, bit_xor, refl, sym, ◌∙◌, arith}
-use Rattle.std.proofs.lemmas.List.{get_or-map, get_or-set_same, get_or-set_other, length-map}
+use Rattle.std.proofs.Common.{◌≡◌, ◌≢◌, ℕ, zero, suc, ◌<◌, ◌≤◌, All, Contains, List, [], ◌∷◌}
+use Rattle.std.proofs.Common.{◌++◌, length, map, set, get_or, bit_xor, refl, sym, ap, ◌∙◌, arith}
+use Rattle.std.specs.List.{AllByRecursion}
+use Rattle.std.proofs.lemmas.List.{get_or-map, get_or-set_same, get_or-set_other}
+use Rattle.std.proofs.lemmas.List.{length-map, length-set, set_comm}
+use Rattle.std.proofs.lemmas.Nat.{xor_lt}
+use Rattle.cd_code.specs.Field.{AreBytes}
 use Rattle.cd_code.specs.Syndrome.{added}
-use Rattle.cd_code.proofs.XorLemmas.{xor_twice_left}
+use Rattle.cd_code.proofs.ByteLemmas.{AreBytes-set}
+use Rattle.cd_code.proofs.general.Xor.{xor_twice_left}
 use Rattle.cd_delta.specs.declared.changes.Change.{Change}
 use Rattle.cd_delta.specs.ParityChanges.{changed}
 
@@ -34,3 +40,33 @@ pub added-value : (s : List ℕ) (place value : ℕ) → place < length s
 added-value s place value inside =
     get_or-set_same s place (bit_xor (get_or s place 0) (bit_xor (get_or s place 0) value)) 0 inside
     ∙ xor_twice_left (get_or s place 0) value
+
+-- a sector with a change is as long
+pub length-added : (s : List ℕ) (place d : ℕ) → length (added s place d) ≡ length s
+length-added s place d = length-set s place (bit_xor (get_or s place 0) d)
+
+-- and still of bytes
+pub AreBytes-added : (s : List ℕ) (place d : ℕ) → AreBytes s → d < 256
+    → AreBytes (added s place d)
+AreBytes-added s place d bytes low =
+    let x = get_or s place 0 in
+    AreBytes-set s place (bit_xor x d) bytes (xor_lt 8 x d (bytes place) low)
+
+-- changes of two bytes can change places
+added-comm : (s : List ℕ) (p q d e : ℕ) → q ≢ p → added (added s p d) q e ≡ added (added s q e) p d
+added-comm s p q d e apart =
+    let x = bit_xor (get_or s p 0) d in
+    let y = bit_xor (get_or s q 0) e in
+    let other : p ≢ q = (λ same. apart (sym same)) in
+    ap (λ n. set (set s p x) q (bit_xor n e)) (get_or-set_other s p q x 0 apart)
+    ∙ set_comm s p q x y other
+    ∙ ap (λ n. set (set s q y) p (bit_xor n d)) (sym (get_or-set_other s q p y 0 other))
+
+-- a change can come after others that are of other bytes
+pub changed-past : (c : Change) (others cs : List Change) (s : List ℕ)
+    → AllByRecursion (λ e. e.place ≢ c.place) others
+    → changed s (c ∷ (others ++ cs)) ≡ changed s (others ++ (c ∷ cs))
+changed-past c [] cs s apart = refl
+changed-past c (e ∷ others) cs s apart =
+    ap (λ t. changed t (others ++ cs)) (added-comm s c.place e.place c.d e.d apart.0)
+    ∙ changed-past c others cs (added s e.place e.d) apart.1

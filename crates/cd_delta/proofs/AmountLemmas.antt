@@ -5,18 +5,19 @@ use Rattle.std.specs.List.{AllByRecursion, IsDistinct}
 use Rattle.std.proofs.lemmas.Bool.{eqb-false}
 use Rattle.std.proofs.lemmas.List.{get_or-set_same, length-set}
 use Rattle.std.proofs.lemmas.Map.Keys.{IsDistinct-head, IsDistinct-tail}
-use Rattle.std.proofs.lemmas.Nat.{xor_lt}
 use Rattle.cd_code.specs.Edc.{bits, remainder}
 use Rattle.cd_code.specs.Field.{AreBytes}
 use Rattle.cd_code.specs.Syndrome.{SameSums, added}
-use Rattle.cd_code.proofs.ByteLemmas.{AreBytes-set, front-same}
-use Rattle.cd_code.proofs.XorLemmas.{xor_cancel}
+use Rattle.cd_code.proofs.general.Lists.{front-same}
+use Rattle.cd_code.proofs.general.Xor.{xor_cancel}
 use Rattle.cd_sector.specs.CodeWords.{SameSyndromes}
 use Rattle.cd_sector.proofs.SectorLemmas.{sector_same}
 use Rattle.cd_delta.specs.declared.changes.Change.{Change}
 use Rattle.cd_delta.specs.ParityChanges.{changed}
+use Rattle.cd_delta.proofs.AddLemmas.{AreBytes-added, length-added}
 use Rattle.cd_delta.proofs.AddLemmas.{changed-other, places_of, places_of-behind}
-use Rattle.cd_delta.proofs.KeepLemmas.{AreCarried, Eight, IsDistinct-carried, SameSyndromes-carried, listed}
+use Rattle.cd_delta.proofs.KeepLemmas.{AreCarried, Eight, listed}
+use Rattle.cd_delta.proofs.KeepLemmas.{IsDistinct-carried, SameSyndromes-carried}
 use Rattle.cd_delta.proofs.WritingLemmas.{SameSyndromes-trans}
 
 -- ---- none is 0
@@ -33,45 +34,43 @@ All-eight P t p q r s (suc (suc (suc (suc (suc (suc zero)))))) c h = s.0
 All-eight P t p q r s (suc (suc (suc (suc (suc (suc (suc zero))))))) c h = s.1
 All-eight P t p q r s (suc (suc (suc (suc (suc (suc (suc (suc i)))))))) c h = absurd (omega arith)
 
-pub nonzero-carried : (plane row column place d : ℕ) (t : Eight) → AreCarried plane row column place d t → d ≢ 0
+-- where the byte changes, each of the eight does
+pub nonzero-carried : {byte : Change} {t : Eight} → AreCarried byte t → byte.d ≢ 0
     → All (λ c. c.d ≢ 0) (listed t)
-nonzero-carried plane row column place d t c some =
+nonzero-carried {byte} {t} c some =
     let pair = c.of_column.nonzero some in
-    All-eight (λ e. e.d ≢ 0) t pair (c.of_own.nonzero some) (c.of_first.nonzero pair.0) (c.of_second.nonzero pair.1)
+    All-eight (λ e. e.d ≢ 0) t pair (c.of_own.nonzero some) (c.of_first.nonzero pair.0)
+    (c.of_second.nonzero pair.1)
 
-inside-carried : (plane row column place d : ℕ) (t : Eight) → AreCarried plane row column place d t
+-- the eight places are those of parity bytes
+inside-carried : {byte : Change} {t : Eight} → AreCarried byte t
     → All (λ c. (2076 ≤ c.place) × (c.place < 2352)) (listed t)
-inside-carried plane row column place d t c =
-    let hp = c.in_plane in
-    let hc = c.in_columns in
-    let p_at = c.of_column.first_at in
-    let q_at = c.of_column.second_at in
-    let a_at = c.of_own.first_at in
-    let b_at = c.of_own.second_at in
-    let e_at = c.of_first.first_at in
-    let f_at = c.of_first.second_at in
-    let g_at = c.of_second.first_at in
-    let h_at = c.of_second.second_at in
+inside-carried {byte} {t} c =
     All-eight (λ e. (2076 ≤ e.place) × (e.place < 2352)) t
-    ((omega arith, omega arith), (omega arith, omega arith)) ((omega arith, omega arith), (omega arith, omega arith))
-    ((omega arith, omega arith), (omega arith, omega arith)) ((omega arith, omega arith), (omega arith, omega arith))
+    ((omega arith, omega arith), (omega arith, omega arith))
+    ((omega arith, omega arith), (omega arith, omega arith))
+    ((omega arith, omega arith), (omega arith, omega arith))
+    ((omega arith, omega arith), (omega arith, omega arith))
 
-bytes-carried : (plane row column place d : ℕ) (t : Eight) → AreCarried plane row column place d t → All (λ c. c.d < 256) (listed t)
-bytes-carried plane row column place d t c =
+-- the eight amounts are bytes
+bytes-carried : {byte : Change} {t : Eight} → AreCarried byte t → All (λ c. c.d < 256) (listed t)
+bytes-carried {byte} {t} c =
     All-eight (λ e. e.d < 256) t c.of_column.bytes c.of_own.bytes c.of_first.bytes c.of_second.bytes
 
 -- ---- no others
 
+-- a sector stays as long under any changes
 length-changed : (cs : List Change) (s : List ℕ) → length (changed s cs) ≡ length s
 length-changed [] s = refl
-length-changed (c ∷ cs) s =
-    length-changed cs (added s c.place c.d) ∙ length-set s c.place (bit_xor (get_or s c.place 0) c.d)
+length-changed (c ∷ cs) s = length-changed cs (added s c.place c.d) ∙ length-added s c.place c.d
 
-AreBytes-changed : (cs : List Change) (s : List ℕ) → AreBytes s → All (λ c. c.d < 256) cs → AreBytes (changed s cs)
+-- and stays one of bytes
+AreBytes-changed : (cs : List Change) (s : List ℕ) → AreBytes s → All (λ c. c.d < 256) cs
+    → AreBytes (changed s cs)
 AreBytes-changed [] s h low = h
 AreBytes-changed (c ∷ cs) s h low =
-    let byte : bit_xor (get_or s c.place 0) c.d < 256 = xor_lt 8 (get_or s c.place 0) c.d (h c.place) (low 0 c (omega arith)) in
-    AreBytes-changed cs (added s c.place c.d) (AreBytes-set s c.place (bit_xor (get_or s c.place 0) c.d) h byte)
+    let bytes = AreBytes-added s c.place c.d h (low 0 c (omega arith)) in
+    AreBytes-changed cs (added s c.place c.d) bytes
     (λ i e below. low (suc i) e (omega arith))
 
 -- a number that differs from all of a list is none of them
@@ -146,12 +145,13 @@ amounts_alone cs es s t places distinct inside low_c low_e bytes size one two =
     (SameSyndromes-trans one (SameSyndromes-sym two)) in
     sym (same_changes cs es t (sym places) distinct (λ i c below. (let h = inside i c below in let e = h.1 in omega arith)) same)
 
-pub alone-carried : (plane row column place d : ℕ) (t : Eight) → AreCarried plane row column place d t → d < 256
-    → (others : List Change) → places_of others ≡ places_of (listed t) → All (λ c. c.d < 256) others
-    → (s : List ℕ) → AreBytes s → length s ≡ 2352 → SameSyndromes (changed (added s place d) others) s → others ≡ listed t
-alone-carried plane row column place d t c low others places bytes s each size kept =
-    let byte : bit_xor (get_or s place 0) d < 256 = xor_lt 8 (get_or s place 0) d (each place) low in
-    amounts_alone (listed t) others s (added s place d) places (IsDistinct-carried plane row column place d t c)
-    (inside-carried plane row column place d t c) (bytes-carried plane row column place d t c) bytes
-    (AreBytes-set s place (bit_xor (get_or s place 0) d) each byte) (length-set s place (bit_xor (get_or s place 0) d) ∙ size)
-    (SameSyndromes-carried plane row column place d t c s each size) kept
+-- no other amounts at the eight places keep all syndromes
+pub alone-carried : {byte : Change} {t : Eight} → AreCarried byte t → (others : List Change)
+    → places_of others ≡ places_of (listed t) → All (λ c. c.d < 256) others
+    → (s : List ℕ) → AreBytes s → length s ≡ 2352
+    → SameSyndromes (changed s (byte ∷ others)) s → others ≡ listed t
+alone-carried {byte} {t} c others places bytes s each size kept =
+    amounts_alone (listed t) others s (changed s (byte ∷ [])) places (IsDistinct-carried c)
+    (inside-carried c) (bytes-carried c) bytes
+    (AreBytes-added s byte.place byte.d each c.in_bytes) (length-added s byte.place byte.d ∙ size)
+    (SameSyndromes-carried c s each size) kept

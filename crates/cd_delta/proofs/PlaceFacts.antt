@@ -1,182 +1,108 @@
--- At which index of a column or a diagonal a place of the sector stands (ECMA-130, Annex A).
-use Rattle.std.proofs.Common.{◌≡◌, ◌≢◌, ◌↔◌, ◌⊎◌, ℕ, ◌+◌, ◌*◌, ◌%◌, ◌<◌, ◌≤◌, inl, inr, get_or, refl, sym, ap, ◌∙◌, arith}
-use Rattle.std.proofs.lemmas.Bool.{cases_eq, cases_lt}
+-- Which places the columns and the diagonals of a plane have (ECMA-130, Annex A).
+use Rattle.std.proofs.Common.{◌≡◌, ◌↔◌, ℕ, ◌+◌, ◌*◌, ◌%◌, ◌<◌, ◌≤◌, get_or}
+use Rattle.std.proofs.Common.{refl, sym, ap, ◌∙◌, arith}
 use Rattle.cd_sector.specs.CodeWords.{place_of, column_places, diagonal_places}
-use Rattle.cd_sector.proofs.PlaceLemmas.{length-column_places, length-diagonal_places, column_place, diagonal_place, diagonal_place-first, diagonal_place-second}
+use Rattle.cd_sector.proofs.PlaceLemmas.{length-column_places, length-diagonal_places}
+use Rattle.cd_sector.proofs.PlaceLemmas.{column_place, diagonal_place}
+use Rattle.cd_sector.proofs.PlaceLemmas.{diagonal_place-first, diagonal_place-second}
 use Rattle.cd_delta.specs.ParityChanges.{diagonal_at}
-use Rattle.cd_delta.proofs.WordLemmas.{Lies, Misses}
+use Rattle.cd_delta.proofs.WordLemmas.{AreApart, IsIn, Misses, Words}
 
 -- ---- columns
 
-pub column-lies : (plane row column q : ℕ) → plane < 2 → row < 26 → column < 43 → q ≡ place_of plane (43 * row + column)
-    → Lies (column_places plane column) row q
-column-lies plane row column q hp hr hc e =
-    let long = length-column_places plane column in
-    record {
-      below = omega arith;
-      inside = omega arith;
-      at = column_place plane column row hr ∙ sym e;
-      alone = λ k h same.
-          let within : k < 26 = omega arith in
-          let place = column_place plane column k within in
-          omega arith;
-    }
+abbrev pub columns : Words
+columns = record { places = column_places; count = 43; len = 26 }
 
--- a place of another column
-pub column-misses : (plane n p r c q : ℕ) → plane < 2 → n < 43 → p < 2 → c < 43 → q ≡ place_of p (43 * r + c)
-    → (plane ≢ p) ⊎ (n ≢ c) → Misses (column_places plane n) q
-column-misses plane n p r c q hplane hn hp hc e apart =
-    let long = length-column_places plane n in
-    record {
-      nowhere = λ k h same.
-          let within : k < 26 = omega arith in
-          let place = column_place plane n k within in
-          elim apart [ inl other ↦ other (omega arith) | inr other ↦ other (omega arith) ];
-    }
+-- index k of column n is row k
+column_row : (l n k q : ℕ) → IsIn columns l n k q → q ≡ place_of l (43 * k + n)
+column_row l n k q is = sym is.at ∙ column_place l n k is.index
 
--- a place behind all columns
-pub column-misses_behind : (plane n p m q : ℕ) → plane < 2 → n < 43 → p < 2 → 1118 ≤ m → q ≡ place_of p m
-    → Misses (column_places plane n) q
-column-misses_behind plane n p m q hplane hn hp hm e =
-    let long = length-column_places plane n in
-    record {
-      nowhere = λ k h same.
-          let within : k < 26 = omega arith in
-          let place = column_place plane n k within in
-          omega arith;
-    }
+-- a place is in one column only
+pub columns_apart : AreApart columns
+columns_apart = record {
+  size = length-column_places;
+  below = λ l n k q is. let e = column_row l n k q is in omega arith;
+  apart = λ l n k p m i q is other.
+      let e = column_row l n k q is in
+      let f = column_row p m i q other in
+      (omega arith, omega arith, omega arith);
+}
+
+-- the byte in a row is at the row's number in its column
+pub in_column : (plane row column q : ℕ) → plane < 2 → row < 26 → column < 43
+    → q ≡ place_of plane (43 * row + column) → IsIn columns plane column row q
+in_column plane row column q hp hr hc e =
+    record { plane = hp; word = hc; index = hr; at = column_place plane column row hr ∙ sym e }
+
+-- no place after the rows is in a column
+pub misses_column : (l n q : ℕ) → l < 2 → n < 43 → 2248 ≤ q → Misses (column_places l n) q
+misses_column l n q hl hn behind k h same =
+    let long = length-column_places l n in
+    let k_in : k < 26 = omega arith in
+    let at = column_place l n k k_in in
+    omega arith
 
 -- ---- diagonals
+
+abbrev pub diagonals : Words
+diagonals = record { places = diagonal_places; count = 26; len = 45 }
 
 -- the row and the column of byte m of diagonal n
 diagonal_number : (m n : ℕ) → m < 43 → n < 26 → (44 * m + 43 * n) % 1118 ≡ 43 * ((m + n) % 26) + m
 diagonal_number m n hm hn = omega arith
 
-pub diagonal_at-lt : (row column : ℕ) → diagonal_at row column < 26
-diagonal_at-lt row column = omega arith
+-- index k of a diagonal is column k; the two parity bytes stand at 43 and 44
+record IsDiagonalPlace (l n k q : ℕ) : Type 0 where
+  pub front : k < 43 → q ≡ place_of l (43 * ((k + n) % 26) + k)
+  pub first : k ≡ 43 → q ≡ place_of l (1118 + n)
+  pub second : k ≡ 44 → q ≡ place_of l (1144 + n)
 
--- the place at each of the 45 indices
-abbrev DiagonalPlace : ℕ → ℕ → ℕ → ℕ → Type 0
-DiagonalPlace plane n k q =
-    ((k < 43) × (q ≡ place_of plane (43 * ((k + n) % 26) + k)))
-    ⊎ (((k ≡ 43) × (q ≡ place_of plane (1118 + n))) ⊎ ((k ≡ 44) × (q ≡ place_of plane (1144 + n))))
+-- each place of a diagonal is one of these
+diagonal_index : (l n k q : ℕ) → IsIn diagonals l n k q → IsDiagonalPlace l n k q
+diagonal_index l n k q is =
+    let at : (j : ℕ) → k ≡ j → q ≡ get_or (diagonal_places l n) j 0 =
+    (λ j e. sym is.at ∙ ap (λ i. get_or (diagonal_places l n) i 0) e) in
+    record {
+      front = λ h.
+          at k refl ∙ diagonal_place l n k h ∙ ap (place_of l) (diagonal_number k n h is.word);
+      first = λ e. at 43 e ∙ diagonal_place-first l n;
+      second = λ e. at 44 e ∙ diagonal_place-second l n;
+    }
 
-diagonal_index : (plane n k : ℕ) → n < 26 → k < 45 → DiagonalPlace plane n k (get_or (diagonal_places plane n) k 0)
-diagonal_index plane n k hn hk = elim (cases_lt k 43) [
-  | inl front ↦ inl (front, diagonal_place plane n k front ∙ ap (place_of plane) (diagonal_number k n front hn))
-  | inr past ↦ elim (cases_eq k 43) [
-    | inl at ↦ inr (inl (at, ap (λ j. get_or (diagonal_places plane n) j 0) at ∙ diagonal_place-first plane n))
-    | inr not ↦
-        let last : k ≡ 44 = omega arith in
-        inr (inr (last, ap (λ j. get_or (diagonal_places plane n) j 0) last ∙ diagonal_place-second plane n))
-  ]
-]
+-- a place is in one diagonal only
+pub diagonals_apart : AreApart diagonals
+diagonals_apart = record {
+  size = length-diagonal_places;
+  below = λ l n k q is. let e = diagonal_index l n k q is in grind arith;
+  apart = λ l n k p m i q is other.
+      let e = diagonal_index l n k q is in
+      let f = diagonal_index p m i q other in
+      (grind arith, grind arith, grind arith);
+}
 
-pub diagonal-lies : (plane row column n q : ℕ) → plane < 2 → row < 26 → column < 43 → n ≡ diagonal_at row column
-    → q ≡ place_of plane (43 * row + column) → Lies (diagonal_places plane n) column q
-diagonal-lies plane row column n q hp hr hc hn e =
-    let long = length-diagonal_places plane n in
-    let lt : n < 26 = omega arith in
-    let number = diagonal_number column n hc lt in
+-- the byte in a row and a column is at the column's number in their diagonal
+pub in_diagonal : (plane row column q : ℕ) → plane < 2 → row < 26 → column < 43
+    → q ≡ place_of plane (43 * row + column)
+    → IsIn diagonals plane (diagonal_at row column) column q
+in_diagonal plane row column q hp hr hc e =
+    let n = diagonal_at row column in
+    let number = diagonal_number column n hc (omega arith) in
     let back : (column + n) % 26 ≡ row = omega arith in
-    let here = diagonal_place plane n column hc in
-    record {
-      below = omega arith;
-      inside = omega arith;
-      at = omega arith;
-      alone = λ k h same.
-          elim (diagonal_index plane n k lt (omega arith)) [
-            | inl front ↦ omega arith
-            | inr past ↦ elim past [ inl first ↦ omega arith | inr second ↦ omega arith ]
-          ];
-    }
+    let place = diagonal_place plane n column hc in
+    record { plane = hp; word = omega arith; index = omega arith; at = omega arith }
 
-pub diagonal-lies_first : (plane n q : ℕ) → plane < 2 → n < 26 → q ≡ place_of plane (1118 + n) → Lies (diagonal_places plane n) 43 q
-diagonal-lies_first plane n q hp hn e =
-    let long = length-diagonal_places plane n in
-    record {
-      below = omega arith;
-      inside = omega arith;
-      at = diagonal_place-first plane n ∙ sym e;
-      alone = λ k h same.
-          elim (diagonal_index plane n k hn (omega arith)) [
-            | inl front ↦ omega arith
-            | inr past ↦ elim past [ inl first ↦ omega arith | inr second ↦ omega arith ]
-          ];
-    }
-
-pub diagonal-lies_second : (plane n q : ℕ) → plane < 2 → n < 26 → q ≡ place_of plane (1144 + n) → Lies (diagonal_places plane n) 44 q
-diagonal-lies_second plane n q hp hn e =
-    let long = length-diagonal_places plane n in
-    record {
-      below = omega arith;
-      inside = omega arith;
-      at = diagonal_place-second plane n ∙ sym e;
-      alone = λ k h same.
-          elim (diagonal_index plane n k hn (omega arith)) [
-            | inl front ↦ omega arith
-            | inr past ↦ elim past [ inl first ↦ omega arith | inr second ↦ omega arith ]
-          ];
-    }
-
--- a place of another diagonal
-pub diagonal-misses : (plane n p r c q : ℕ) → plane < 2 → n < 26 → p < 2 → r < 26 → c < 43 → q ≡ place_of p (43 * r + c)
-    → (plane ≢ p) ⊎ (n ≢ diagonal_at r c) → Misses (diagonal_places plane n) q
-diagonal-misses plane n p r c q hplane hn hp hr hc e apart =
-    let long = length-diagonal_places plane n in
-    record {
-      nowhere = λ k h same.
-          elim (diagonal_index plane n k hn (omega arith)) [
-            | inl front ↦ elim apart [ inl other ↦ other (omega arith) | inr other ↦ other (omega arith) ]
-            | inr past ↦ elim past [ inl first ↦ omega arith | inr second ↦ omega arith ]
-          ];
-    }
-
--- the parity of another diagonal
-pub diagonal-misses_first : (plane n p m q : ℕ) → plane < 2 → n < 26 → p < 2 → m < 26 → q ≡ place_of p (1118 + m)
-    → (plane ≢ p) ⊎ (n ≢ m) → Misses (diagonal_places plane n) q
-diagonal-misses_first plane n p m q hplane hn hp hm e apart =
-    let long = length-diagonal_places plane n in
-    record {
-      nowhere = λ k h same.
-          elim (diagonal_index plane n k hn (omega arith)) [
-            | inl front ↦ omega arith
-            | inr past ↦ elim past [
-              | inl first ↦ elim apart [ inl other ↦ other (omega arith) | inr other ↦ other (omega arith) ]
-              | inr second ↦ omega arith
-            ]
-          ];
-    }
-
-pub diagonal-misses_second : (plane n p m q : ℕ) → plane < 2 → n < 26 → p < 2 → m < 26 → q ≡ place_of p (1144 + m)
-    → (plane ≢ p) ⊎ (n ≢ m) → Misses (diagonal_places plane n) q
-diagonal-misses_second plane n p m q hplane hn hp hm e apart =
-    let long = length-diagonal_places plane n in
-    record {
-      nowhere = λ k h same.
-          elim (diagonal_index plane n k hn (omega arith)) [
-            | inl front ↦ omega arith
-            | inr past ↦ elim past [
-              | inl first ↦ omega arith
-              | inr second ↦ elim apart [ inl other ↦ other (omega arith) | inr other ↦ other (omega arith) ]
-            ]
-          ];
-    }
-
--- ---- the one diagonal of a row and a column
-
-pub one_diagonal-told : (plane row column l n k : ℕ) → plane < 2 → row < 26 → column < 43 → l < 2 → n < 26 → k < 45
+-- the one diagonal of a row and a column
+pub one_diagonal-told : (plane row column l n k : ℕ) → plane < 2 → row < 26 → column < 43
+    → l < 2 → n < 26 → k < 45
     → (get_or (diagonal_places l n) k 0 ≡ place_of plane (43 * row + column))
     ↔ ((l ≡ plane) × (n ≡ diagonal_at row column) × (k ≡ column))
-one_diagonal-told plane row column l n k hp hr hc hl hn hk = (
-  λ same. elim (diagonal_index l n k hn hk) [
-    | inl front ↦ (omega arith, omega arith, omega arith)
-    | inr past ↦ elim past [ inl first ↦ absurd (omega arith) | inr second ↦ absurd (omega arith) ]
-  ],
-  λ is.
-      let here = diagonal-lies plane row column (diagonal_at row column) (place_of plane (43 * row + column)) hp hr hc refl refl in
-      ap (λ i. get_or (diagonal_places i n) k 0) is.0
-      ∙ ap (λ i. get_or (diagonal_places plane i) k 0) is.1
-      ∙ ap (λ i. get_or (diagonal_places plane (diagonal_at row column)) i 0) is.2
-      ∙ here.at,
-)
+one_diagonal-told plane row column l n k hp hr hc hl hn hk =
+    let q = place_of plane (43 * row + column) in
+    let here = in_diagonal plane row column q hp hr hc refl in (
+      λ same.
+          let m = diagonal_at row column in
+          let is : IsIn diagonals l n k q =
+          record { plane = hl; word = hn; index = hk; at = same } in
+          diagonals_apart.apart l n k plane m column q is here,
+      λ is. let at = here.at in cc,
+    )

@@ -1,7 +1,6 @@
 -- A sector into whose user data bytes were written, and then the EDC.
 use Rattle.std.proofs.Common.{◌≡◌, ◌⊎◌, ℕ, ◌+◌, ◌-◌, ◌^◌, ◌<◌, ◌≤◌, inl, inr, List, ◌++◌, length, get_or, take, drop, bit_xor, refl, sym, ap, subst, ◌∙◌, arith, lit<}
-use lib.Pointwise.{pointwise}
-use Rattle.std.specs.Prelude.{nat_eq, if◌then◌else◌, slice_range}
+use Rattle.std.specs.Prelude.{slice_range}
 use Rattle.std.specs.Int.{from_le_bytes, to_le_bytes, w32}
 use Rattle.std.specs.Int.Bits.{xor_zero_l, xor_zero_r}
 use Rattle.std.proofs.Math.Seq.{take-add}
@@ -10,33 +9,15 @@ use Rattle.std.proofs.lemmas.List.{ext_get_or, get_or-append_right, get_or_appen
 use Rattle.std.proofs.lemmas.Nat.{from_le_bytes-to_le_bytes_4, xor_lt}
 use Rattle.cd_code.specs.Edc.{IsEdc, bits, remainder}
 use Rattle.cd_code.specs.Field.{AreBytes}
-use Rattle.cd_code.proofs.ByteLemmas.{front-same, get_or-part, length-part, part-list, part-same}
+use Rattle.cd_code.proofs.general.Lists.{front-same, get_or-part, length-part, part-list, part-same}
 use Rattle.cd_code.proofs.EdcLemmas.{Ends-from, after, after-append, after-lt, after-word, after_bits, after_bits-xor, after_bits-zero, remainder-after}
 use Rattle.cd_sector.specs.CodeWords.{SameSyndromes}
 use Rattle.cd_sector.specs.Consistent.{IsConsistent, header_of, user_of}
-use Rattle.cd_sector.specs.Kind.{kind_of, kind_of_mode, sync_field}
-use Rattle.cd_sector.specs.declared.kinds.SectorKind.{SectorKind}
-use Rattle.cd_sector.specs.declared.kinds.SectorKind.TheVariants.{NoSync}
+use Rattle.cd_sector.specs.Kind.{kind_of}
 use Rattle.cd_delta.specs.Writing.{IsChanged, IsWritten, StoresEdc, WithEdc, written}
+use Rattle.cd_sector.proofs.SectorLemmas.{header_of-same, kind_of-same}
 use Rattle.cd_sector.proofs.SumLemmas.{AllCodeWords-same}
 use Rattle.cd_delta.proofs.WritingLemmas.{SameSyndromes-trans}
-
--- ---- kind and header
-
-kind_from : List ℕ → ℕ → SectorKind
-kind_from front mode = if pointwise nat_eq sync_field front then kind_of_mode mode else NoSync
-
-pub kind_of-same : (s t : List ℕ) → 16 ≤ length s → length s ≡ length t → ((i : ℕ) → i < 12 → get_or s i 0 ≡ get_or t i 0)
-    → get_or s 15 0 ≡ get_or t 15 0 → kind_of s ≡ kind_of t
-unfolding kind_of kind_from
-kind_of-same s t inside same_size h mode =
-    let front : take 12 s ≡ take 12 t = front-same s t 12 (omega arith) (omega arith) h in
-    ap (λ v. kind_from v (get_or s 15 0)) front ∙ ap (kind_from (take 12 t)) mode
-
-pub header_of-same : (s t : List ℕ) → 16 ≤ length s → length s ≡ length t → ((i : ℕ) → i < 16 → get_or s i 0 ≡ get_or t i 0)
-    → header_of s ≡ header_of t
-unfolding header_of
-header_of-same s t inside same_size h = part-same s t 12 4 inside (omega arith) (λ i _ below. h i below)
 
 -- ---- the user data
 

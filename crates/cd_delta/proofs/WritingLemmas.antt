@@ -1,10 +1,10 @@
 -- Bytes written into a sector and carried into its parity, one after another or by a difference sector.
 use Rattle.std.proofs.Common.{◌≡◌, ℕ, ◌<◌, List, get_or, bit_xor, ap, ◌∙◌}
 use Rattle.cd_code.specs.Syndrome.{SameSums}
-use Rattle.cd_code.proofs.XorLemmas.{xor_twice_left}
+use Rattle.cd_code.proofs.general.Xor.{xor_twice_left}
 use Rattle.cd_sector.specs.CodeWords.{SameSyndromes}
 
-SameSums-trans : {u v w : List ℕ} → SameSums u v → SameSums v w → SameSums u w
+pub SameSums-trans : {u v w : List ℕ} → SameSums u v → SameSums v w → SameSums u w
 SameSums-trans h k = record { first = h.first ∙ k.first; second = h.second ∙ k.second }
 
 pub SameSyndromes-trans : {s t u : List ℕ} → SameSyndromes s t → SameSyndromes t u → SameSyndromes s u

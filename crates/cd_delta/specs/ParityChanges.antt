@@ -17,12 +17,13 @@ diagonal_at row column = (row + 52 - column) % 26
 abbrev pub column_pair : ℕ → ℕ → List ℕ
 column_pair plane n = place_of plane (1032 + n) ∷ place_of plane (1075 + n) ∷ []
 
--- the parity bytes of a byte's column, and of the diagonals through the byte and through these two
+-- the parity bytes of the column of a byte, and of the diagonals through the byte and through these
+-- two, by the byte's plane, row and column
 abbrev pub parity_places_at : ℕ → ℕ → ℕ → List ℕ
 parity_places_at plane row column =
     column_pair plane column ++ (diagonal_pair plane (diagonal_at row column)
     ++ (diagonal_pair plane (diagonal_at 24 column) ++ diagonal_pair plane (diagonal_at 25 column)))
 
--- the same of the byte at a place of the sector, 12 to 2075
+-- the parity bytes that follow from the byte at a place of the sector, 12 to 2075
 unfoldable pub parity_places : ℕ → List ℕ
 parity_places place = parity_places_at (place % 2) ((place - 12) / 2 / 43) ((place - 12) / 2 % 43)

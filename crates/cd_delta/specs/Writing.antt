@@ -1,16 +1,17 @@
--- Bytes written into a sector in front of its parity, and carried into it (ECMA-130, Annex A).
+-- Bytes written into a sector before its parity, and carried into it (ECMA-130, Annex A). All but
+-- `written` is plumbing.
 use Rattle.std.specs.Prelude.{◌≡◌, ℕ, ◌+◌, ◌^◌, ◌<◌, ◌≤◌, ◌⊎◌, bit_xor, List, ◌++◌, length, take, drop, slice_index, slice_range}
 use Rattle.std.specs.Int.{to_le_bytes, w32}
 use Rattle.cd_code.specs.Edc.{IsEdc}
 use Rattle.cd_code.specs.Field.{AreBytes}
 use Rattle.cd_sector.specs.CodeWords.{SameSyndromes}
 
--- the user data with `bytes` from `offset` on in the place of as many others
+-- the user data, in which `bytes` stand from `offset` on instead of as many others
 unfoldable pub written : List ℕ → ℕ → List ℕ → List ℕ
 written user offset bytes = take offset user ++ (bytes ++ drop (offset + length bytes) user)
 
--- the first `count` bytes of a list stand in a sector from `place` on; in front of the parity
--- nothing else has changed, and no syndrome has
+-- plumbing of `write_few`: the first `count` bytes of a list stand in a sector from `place` on;
+-- before the parity nothing else has changed, and no syndrome has
 pub record IsWritten (old new : List ℕ) (place count : ℕ) (bytes : List ℕ) : Type 0 where
   pub size : length new ≡ length old
   pub each : AreBytes old → AreBytes new
@@ -19,14 +20,14 @@ pub record IsWritten (old new : List ℕ) (place count : ℕ) (bytes : List ℕ)
       → slice_index new i ≡ slice_index old i
   pub syndromes : SameSyndromes new old
 
--- the EDC of the first 2064 bytes, with `error` added to it, stands behind them
+-- the EDC of the first 2064 bytes, with `error` added to it, stands after them
 pub record StoresEdc (s : List ℕ) (error : ℕ) : Type 0 where
   pub word : ℕ
   pub fits : error < 2 ^ 32
   pub is_word : IsEdc (take 2064 s) word
   pub at_end : slice_range s 2064 2068 ≡ to_le_bytes w32 (bit_xor word error)
 
--- the same, carried into the parity
+-- plumbing of `write_edc`: the EDC with `error` added is written and carried into the parity
 pub record WithEdc (old new : List ℕ) (error : ℕ) : Type 0 where
   pub size : length new ≡ 2352
   pub each : AreBytes new
@@ -35,8 +36,8 @@ pub record WithEdc (old new : List ℕ) (error : ℕ) : Type 0 where
   pub front : (i : ℕ) → i < 2076 → (i < 2064) ⊎ (2068 ≤ i) → slice_index new i ≡ slice_index old i
   pub syndromes : SameSyndromes new old
 
--- the bytes stand in the sector from `place` on, with the EDC behind the user data, to which
--- `error` is added; in front of the parity nothing else has changed, and no syndrome has
+-- what `change` does: `bytes` stand in the sector from `place` on, then the EDC with `error` added
+-- to it; before the parity nothing else has changed, and no syndrome has
 pub record IsChanged (old new : List ℕ) (place : ℕ) (bytes : List ℕ) (error : ℕ) : Type 0 where
   pub fits : place + length bytes ≤ 2064
   pub size : length new ≡ 2352
@@ -49,7 +50,7 @@ pub record IsChanged (old new : List ℕ) (place : ℕ) (bytes : List ℕ) (erro
   pub edc : StoresEdc new error
   pub syndromes : SameSyndromes new old
 
--- the same, where `error` is what the EDC was wrong by before
+-- what `carry` does: as `IsChanged`, and `error` is what the EDC was wrong by before
 pub record KeepsError (old new : List ℕ) (place : ℕ) (bytes : List ℕ) : Type 0 where
   pub error : ℕ
   pub before : StoresEdc old error

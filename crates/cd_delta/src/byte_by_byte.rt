@@ -41,7 +41,7 @@ pub fn change_byte(s: &mut Sector, place: u16, value: u8)
     }
 }
 
-/// Adds one change to its byte.
+/// Adds a change's amount to its byte.
 fn add_at(s: &mut Sector, change: Change)
     requires { change.place < 2352 }
     ensures sum { s.new ≡ added s.old change.place change.d }
@@ -53,7 +53,7 @@ fn add_at(s: &mut Sector, change: Change)
     s.put(place, byte);
 }
 
-/// Writes bytes in front of the parity, one after another, and carries each into the parity.
+/// Writes bytes before the parity, one after another, and carries each into the parity.
 pub(crate) fn write_few(s: &mut Sector, place: usize, bytes: &[u8])
     requires from { 12 ≤ place }
     requires below { place + length bytes.now ≤ 2076 }

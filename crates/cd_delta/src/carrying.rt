@@ -1,7 +1,7 @@
-//! Writing into a Mode 1 sector that may be damaged, so that what was wrong in it stays wrong and nothing else becomes
-//! so (ECMA-130, the clause on the digital data structure of sectors and Annex A).
+//! Writing into a Mode 1 sector that may be damaged, so that what was wrong in it stays wrong and
+//! nothing else becomes so (ECMA-130, 14 and Annex A).
 
-ghost use Rattle.std.specs.Prelude.{◌≡◌, ℕ, ◌+◌, ◌++◌, ◌≤◌, List, bit_xor, drop, length, slice_range, take};
+ghost use Rattle.std.specs.Prelude.{◌≡◌, ℕ, ◌+◌, ◌++◌, ◌<◌, ◌≤◌, ◌⊎◌, List, bit_xor, drop, length, slice_index, slice_range, take};
 ghost use Rattle.std.specs.Int.{from_le_bytes, w32};
 ghost use Rattle.cd_code.specs.Edc.{IsEdc};
 ghost use Rattle.cd_sector.specs.Carried.{IsCarried};
@@ -10,13 +10,14 @@ ghost use Rattle.cd_sector.specs.Kind.{kind_of};
 ghost use Rattle.cd_sector.specs.declared.kinds.SectorKind.TheVariants.{Mode1};
 ghost use Rattle.cd_delta.specs.Writing.{KeepsError, StoresEdc, written};
 
-use crate::user_data::change;
+use crate::byte_by_byte::write_few;
+use crate::user_data::{MANY, change};
 use cd_code::edc_of;
-use cd_sector::{EDC, HEADER, Sector, USER_DATA, stored_edc};
+use cd_sector::{EDC, HEADER, Sector, USER_DATA, USER_SIZE, edc_bytes, stored_edc};
 
-/// Writes `bytes` into the 2048 bytes of user data of a Mode 1 sector, from `offset` on, and carries the sector's
-/// damage over: the EDC changes by the sum of the EDC words of bytes 0 to 2063 before and after, and all 276 syndromes
-/// stay (ECMA-130, the clause on the digital data structure of sectors and Annex A).
+/// Writes `bytes` into the 2048 bytes of user data of a Mode 1 sector, from `offset` on, and
+/// carries the sector's damage over: the EDC changes by the sum of the EDC words of bytes 0 to 2063
+/// before and after, and all 276 syndromes stay (ECMA-130, 14 and Annex A).
 ///
 /// # Examples
 ///
@@ -42,12 +43,12 @@ pub fn carry_user(s: &mut Sector, offset: u16, bytes: &[u8])
         ≡ bit_xor (from_le_bytes w32 (slice_range s.old 2064 2068)) (bit_xor before after) }
     ensures consistent { IsConsistent s.old → IsConsistent s.new }
 {
-    carry(s, USER_DATA + offset as usize, bytes);
+    carry_in_user(s, offset as usize, bytes);
 }
 
-/// Makes `bcd` bytes 12 to 14 of a Mode 1 sector, which are its address (three bytes, BCD or not), and carries the
-/// sector's damage over: the EDC changes by the sum of the EDC words of bytes 0 to 2063 before and after, and all 276
-/// syndromes stay (ECMA-130, the clause on the digital data structure of sectors and Annex A).
+/// Makes `bcd` bytes 12 to 14 of a Mode 1 sector, which are its address (three bytes, BCD or not),
+/// and carries the sector's damage over: the EDC changes by the sum of the EDC words of bytes 0 to
+/// 2063 before and after, and all 276 syndromes stay (ECMA-130, 14 and Annex A).
 ///
 /// # Examples
 ///
@@ -73,8 +74,49 @@ pub fn carry_header(s: &mut Sector, bcd: [u8; 3])
     carry(s, HEADER, &bcd);
 }
 
-/// Writes bytes behind the sync field and in front of the EDC, then the EDC with the error that it had, and carries both
-/// into the parity.
+/// Writes bytes into the user data, from `offset` on, then the EDC with the error that it had, and
+/// carries both into the parity.
+fn carry_in_user(s: &mut Sector, offset: usize, bytes: &[u8])
+    requires { offset + length bytes.now ≤ 2048 }
+    ensures { KeepsError s.old s.new (16 + offset) bytes.now }
+{
+    if bytes.len() < MANY {
+        carry_few(s, offset, bytes);
+    } else {
+        carry(s, USER_DATA + offset, bytes);
+    }
+}
+
+/// Writes few bytes into the user data, one after another. The EDC word of the differences is added
+/// to the stored word, so its error stays, and no right word is computed.
+fn carry_few(s: &mut Sector, offset: usize, bytes: &[u8])
+    requires { offset + length bytes.now ≤ 2048 }
+    ensures { KeepsError s.old s.new (16 + offset) bytes.now }
+{
+    let word = stored_edc(s.bytes()) ^ edc_of(&differences(s, offset, bytes));
+    write_few(s, USER_DATA + offset, bytes);
+    write_few(s, EDC, &edc_bytes(word));
+}
+
+/// What is added to each byte of the user data if `bytes` are written from `offset` on.
+fn differences(s: &Sector, offset: usize, bytes: &[u8]) -> [u8; USER_SIZE]
+    requires { offset + length bytes.now ≤ 2048 }
+    ensures inside { (i : ℕ) → i < length bytes.now
+        → slice_index result (offset + i)
+        ≡ bit_xor (slice_index s.now (16 + offset + i)) (slice_index bytes.now i) }
+    ensures outside { (k : ℕ) → (k < offset) ⊎ (offset + length bytes.now ≤ k)
+        → slice_index result k ≡ 0 }
+{
+    let mut sums = [0; USER_SIZE];
+    for (i, byte) in bytes.iter().enumerate() {
+        sums[offset + i] = s.byte(USER_DATA + offset + i) ^ *byte;
+    }
+    sums
+}
+
+/// Writes bytes between the sync field and the EDC, and leaves the EDC wrong by what it was wrong
+/// by. So the stored EDC changes by the sum of the right words before and after, and a carried
+/// change costs one EDC more.
 fn carry(s: &mut Sector, place: usize, bytes: &[u8])
     requires from { 12 ≤ place }
     requires below { place + length bytes.now ≤ 2064 }
@@ -84,7 +126,7 @@ fn carry(s: &mut Sector, place: usize, bytes: &[u8])
     change(s, place, bytes, error);
 }
 
-/// What is added to the EDC of a sector's bytes 0 to 2063 in the four bytes behind them; 0 where these are right.
+/// What the stored EDC differs by from the EDC of bytes 0 to 2063; 0 if it is right.
 fn edc_error(s: &Sector) -> u32
     ensures { StoresEdc s.now result }
 {

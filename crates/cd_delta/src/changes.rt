@@ -22,7 +22,7 @@ pub struct Change {
     pub d: u8,
 }
 
-/// Where a byte stands in the product code: its plane, its row of 43 and its column.
+/// Where a byte stands in the product code: its plane, its row of 26 and its column of 43.
 #[derive(Clone, Copy)]
 struct Cell {
     plane: usize,
@@ -33,10 +33,11 @@ struct Cell {
     ghost in_columns: { column < 43 },
 }
 
-/// The eight changes of parity bytes that carry the change of the byte at `place`, 12 to 2075, by `d`, in any
-/// sector, consistent or not: all 276 syndromes stay, and no other amounts at these places do that. None is `00` unless
-/// `d` is. First the two parity bytes of the P column, then those of
-/// the Q diagonals of the byte itself, of the first and of the second P byte (ECMA-130, Annex A).
+/// The eight changes of parity bytes that carry the change of the byte at `place`, 12 to 2075, by
+/// `d`, in any sector, consistent or not: all 276 syndromes stay, and no other amounts at these
+/// places do that. None is `00` unless `d` is. First the two parity bytes of the P column, then
+/// those of the Q diagonals of the byte itself, of the first and of the second P byte (ECMA-130,
+/// Annex A).
 ///
 /// # Examples
 ///
@@ -53,6 +54,8 @@ pub fn parity_changes(place: u16, d: u8) -> [Change; 8]
     ensures distinct { IsDistinct nat_eq (map (λ c. c.place) result) }
     ensures keeps { (s : List ℕ) → AreBytes s → length s ≡ 2352
         → SameSyndromes (changed (added s place d) result) s }
+    // No other amounts do it, and none is `00`. Both follow from `keeps`: there is no wrong body
+    // that only they refuse.
     ensures alone { (others : List Change) → map (λ c. c.place) others ≡ parity_places place
         → All (λ c. c.d < 256) others
         → (s : List ℕ) → AreBytes s → length s ≡ 2352
@@ -76,7 +79,7 @@ pub fn parity_changes(place: u16, d: u8) -> [Change; 8]
     ]
 }
 
-/// Where the byte at a place in front of the parity stands.
+/// The cell of the byte at a place before the parity.
 fn cell_of(place: usize) -> Cell
     requires from { 12 ≤ place }
     requires below { place < 2076 }
@@ -92,7 +95,7 @@ fn cell_of(place: usize) -> Cell
     }
 }
 
-/// The same column in another row.
+/// A cell with the plane and the column of `cell`, in another row.
 fn in_row(row: usize, cell: Cell) -> Cell
     requires { row < 26 }
     ensures plane { result.plane ≡ cell.plane }
@@ -106,7 +109,7 @@ fn in_row(row: usize, cell: Cell) -> Cell
     }
 }
 
-/// The changes of a column's two parity bytes where `d` is added to a byte in front of them.
+/// The changes of a column's two parity bytes if `d` is added to a byte before them.
 fn column_changes(cell: Cell, d: u8) -> (Change, Change)
     requires { cell.row < 24 }
     ensures first { result.0.place ≡ place_of cell.plane (1032 + cell.column) }

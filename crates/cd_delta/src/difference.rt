@@ -6,8 +6,9 @@ ghost use Rattle.cd_sector.specs.CodeWords.{SameSyndromes};
 
 use cd_sector::{Sector, fill_parity, sum_of};
 
-/// Makes all bytes in front of the parity those of `front`, and carries the changes into the parity at once: the
-/// differences stand in a sector of their own, which is given its parity and then added (ECMA-130, Annex A).
+/// Makes all bytes before the parity those of `front`, and carries the changes into the parity at
+/// once: the differences stand in a sector of their own, which is given its parity and then added
+/// (ECMA-130, Annex A).
 pub(crate) fn carry_front(s: &mut Sector, front: &Sector)
     ensures front { (i : ℕ) → i < 2076 → slice_index s.new i ≡ slice_index front.now i }
     ensures syndromes { SameSyndromes s.new s.old }

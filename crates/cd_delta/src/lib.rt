@@ -1,5 +1,18 @@
-//! Changes of a sector by differences: what the change of a byte changes in the P and Q parity, without
-//! seeing the sector (ECMA-130, Annex A).
+//! Changes of a Mode 1 sector that keep its parity right without encoding it again: the bytes of the
+//! parity change by what the change of a byte adds to them (ECMA-130, Annex A).
+//!
+//! ```
+//! let mut sector = encode([0x00, 0x02, 0x00], &[0x00; USER_SIZE]);
+//! change_user(&mut sector, 0, &[0x41; USER_SIZE]);
+//! assert!(rt; sector == encode([0x00, 0x02, 0x00], &[0x41; USER_SIZE]));
+//! ```
+//!
+//! A change of one of bytes 12 to 2075 changes eight bytes of parity ([`parity_changes`]): two of
+//! its column, two of its diagonal, and two of each diagonal through those of its column.
+//!
+//! [`change_user`] and [`change_header`] write user data and an address, and the right EDC
+//! (ECMA-130, 14). [`carry_user`] and [`carry_header`] leave the EDC wrong by what it was wrong by.
+//! All four keep the 276 syndromes as they were. No call takes memory.
 //!
 //! Tests: `crates/cd_patch_tests/src/tests/changes/`.
 #![tactic(auto)]

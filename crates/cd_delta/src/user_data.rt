@@ -1,5 +1,4 @@
-//! Writing user data into a Mode 1 sector by differences (ECMA-130, the clause on the digital data structure of
-//! sectors and Annex A).
+//! Writing user data into a Mode 1 sector by differences (ECMA-130, 14 and Annex A).
 
 ghost use Rattle.std.specs.Prelude.{◌≡◌, ℕ, ◌+◌, ◌<◌, ◌≤◌, ◌⊎◌, length, slice_index, slice_range, take};
 ghost use Rattle.std.specs.Int.{from_le_bytes, w32};
@@ -15,12 +14,13 @@ use crate::difference::carry_front;
 use cd_code::edc_of;
 use cd_sector::{EDC, SECTOR_SIZE, Sector, USER_DATA, edc_bytes, put_edc, put_part};
 
-/// The number of bytes from which on a difference sector costs less than a change of each byte.
-const MANY: usize = 40;
+/// The number of bytes from which on a difference sector costs less than a change of each byte. An
+/// address, of three bytes, is written byte by byte.
+pub(crate) const MANY: usize = 40;
 
-/// Writes `bytes` into the 2048 bytes of user data of a Mode 1 sector, from `offset` on, then the EDC of bytes 0 to
-/// 2063 behind them, and carries both into the parity, so that all 276 syndromes stay as they were (ECMA-130, the
-/// clause on the digital data structure of sectors and Annex A). The sector need not be consistent.
+/// Writes `bytes` into the 2048 bytes of user data of a Mode 1 sector, from `offset` on, then the
+/// EDC of bytes 0 to 2063 after them, and carries both into the parity, so that all 276 syndromes
+/// stay as they were (ECMA-130, 14 and Annex A). The sector need not be consistent.
 ///
 /// # Examples
 ///
@@ -45,8 +45,9 @@ pub fn change_user(s: &mut Sector, offset: u16, bytes: &[u8])
     change(s, USER_DATA + offset as usize, bytes, 0);
 }
 
-/// Writes bytes behind the sync field and in front of the EDC, then the EDC with `error` added to it, and carries both
-/// into the parity.
+/// Writes bytes between the sync field and the EDC, then the EDC with `error` added to it, and
+/// carries both into the parity. The one body of all four calls: `error` is 0, or what the EDC was
+/// wrong by if damage is carried.
 pub(crate) fn change(s: &mut Sector, place: usize, bytes: &[u8], error: u32)
     requires from { 12 ≤ place }
     requires below { place + length bytes.now ≤ 2064 }
@@ -69,7 +70,8 @@ fn change_few(s: &mut Sector, place: usize, bytes: &[u8], error: u32)
     write_edc(s, error);
 }
 
-/// Writes the EDC of bytes 0 to 2063, with `error` added, behind them, and carries it into the parity.
+/// Writes the EDC of bytes 0 to 2063 after them, with `error` added, and carries it into the
+/// parity.
 fn write_edc(s: &mut Sector, error: u32)
     ensures { WithEdc s.old s.new error }
 {
@@ -86,8 +88,8 @@ fn change_many(s: &mut Sector, place: usize, bytes: &[u8], error: u32)
     carry_front(s, &front);
 }
 
-/// A sector with `bytes` from `place` on and the EDC of bytes 0 to 2063, with `error` added, behind them; its parity is
-/// left as it was.
+/// A sector with `bytes` from `place` on and the EDC of bytes 0 to 2063 after these, with `error`
+/// added; its parity is left as it was.
 fn front_with(s: &Sector, place: usize, bytes: &[u8], error: u32) -> Sector
     requires { place + length bytes.now ≤ 2064 }
     ensures range { (i : ℕ) → i < length bytes.now
@@ -105,7 +107,7 @@ fn front_with(s: &Sector, place: usize, bytes: &[u8], error: u32) -> Sector
     Sector::from_bytes(front)
 }
 
-/// Writes the EDC of bytes 0 to 2063, with `error` added, behind them.
+/// Writes the EDC of bytes 0 to 2063 after them, with `error` added.
 fn fill_edc(bytes: &mut [u8; SECTOR_SIZE], error: u32)
     ensures edc { StoresEdc bytes.new error }
     ensures stays { (k : ℕ) → (k < 2064) ⊎ (2068 ≤ k)

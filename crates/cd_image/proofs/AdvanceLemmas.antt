@@ -37,8 +37,8 @@ module _ (carry : Bool) (taken left : List Patch) (base : ℕ) (start now : Stre
   begun = subst (λ t. Going carry taken left base start now pass.window.sectors pass.block pass.sectors pass.applied t) unended g
 
   pub Steps-unread : (bytes : List ℕ) (fault : Fault) → ReadsSector pass.sectors bytes now.image image (Err fault) → Applies carry (taken ++ left) base start (record now { image = image }) (Err fault)
-  Steps-unread bytes Read r = Applies-read carry taken left base start now pass.window.sectors pass.block pass.sectors pass.applied begun image r.came r.consumes room r.short r.within r.rose
-  Steps-unread bytes TooLong r = Applies-beyond carry taken left base start now pass.window.sectors pass.block pass.sectors pass.applied begun image r.came r.consumes room r.one r.full r.kept r.unended
+  Steps-unread bytes Read r = Applies-read carry taken left base start now pass.window.sectors pass.block pass.sectors pass.applied begun image r.came (record { consumes = r.consumes; counted = r.counted }) room r.short r.within r.rose r.unended
+  Steps-unread bytes TooLong r = Applies-beyond carry taken left base start now pass.window.sectors pass.block pass.sectors pass.applied begun image r.came (record { consumes = r.consumes; counted = r.counted }) room r.one r.full r.kept r.unended
   Steps-unread bytes Write r = elim r [ ]
   Steps-unread bytes Log r = elim r [ ]
 
@@ -47,14 +47,14 @@ module _ (carry : Bool) (taken left : List Patch) (base : ℕ) (start now : Stre
   Steps-read window gains =
       subst (λ t. Going carry taken left base start (record now { image = image }) window.sectors pass.block (pass.sectors + 1) pass.applied t) (sym gains.tail)
       (subst (λ (ws : List (List ℕ)). Going carry taken left base start (record now { image = image }) ws pass.block (pass.sectors + 1) pass.applied None) (sym gains.sectors)
-      (Going-read carry taken left base start now pass.window.sectors pass.block pass.sectors pass.applied begun image gains.bytes gains.comes.consumes gains.comes.kept gains.comes.size gains.comes.few room))
+      (Going-read carry taken left base start now pass.window.sectors pass.block pass.sectors pass.applied begun image gains.bytes (record { consumes = gains.comes.consumes; counted = omega (arith, gains.comes.counted, gains.comes.size) }) gains.comes.kept gains.comes.size gains.comes.few room))
 
   pub Steps-ended : (window : InHand) → GainsTail pass.sectors pass.window window now.image image
       → Going carry taken left base start (record now { image = image }) window.sectors pass.block pass.sectors pass.applied window.tail
   Steps-ended window gains =
       subst (λ t. Going carry taken left base start (record now { image = image }) window.sectors pass.block pass.sectors pass.applied t) (sym gains.tail)
       (subst (λ (ws : List (List ℕ)). Going carry taken left base start (record now { image = image }) ws pass.block pass.sectors pass.applied (Some (take gains.left gains.bytes))) (sym gains.sectors)
-      (Going-end carry taken left base start now pass.window.sectors pass.block pass.sectors pass.applied begun image (take gains.left gains.bytes) gains.comes.consumes gains.comes.kept
+      (Going-end carry taken left base start now pass.window.sectors pass.block pass.sectors pass.applied begun image (take gains.left gains.bytes) (record { consumes = gains.comes.consumes; counted = omega (arith, gains.comes.counted, gains.comes.size) }) gains.comes.kept
       (omega (arith, gains.comes.size, gains.comes.short)) (omega (arith, gains.comes.size, gains.comes.within)) room gains.comes.at_end gains.comes.ended))
 
 -- the bytes of the first sector

@@ -6,6 +6,7 @@ use Rattle.std.specs.Io.KnownBytes.{Appends, Consumes}
 use Rattle.std.proofs.KnownBytes.{Appends-trans, Consumes-trans}
 use Rattle.std.proofs.lemmas.List.{length-take-le, take-append-le}
 use Rattle.cd_stream.specs.Stream.{Incoming, IsBeginning, Outgoing}
+use Rattle.cd_stream.specs.Transfer.{Gives}
 use Rattle.cd_script.specs.declared.patch.Patch.{Patch}
 use Rattle.cd_sector.specs.declared.sector.TheConstants.{SECTOR_SIZE}
 use Rattle.cd_patch.specs.Blocks.{block_limit, blocks_met}
@@ -29,28 +30,33 @@ use Rattle.cd_image.proofs.PatchLogLemmas.{bytes_before-within, lines_below-cut,
 
 -- ---- the source fails, or gives too much
 
-module _ (carry : Bool) (taken left : List Patch) (base : ℕ) (start now : Streams) (window : List (List ℕ)) (block sectors_read applied : ℕ) (g : Going carry taken left base start now window block sectors_read applied None) (image : Incoming) (came : List ℕ) (consumed : Consumes now.image.rest image.rest came) where
+module _ (carry : Bool) (taken left : List Patch) (base : ℕ) (start now : Streams) (window : List (List ℕ)) (block sectors_read applied : ℕ) (g : Going carry taken left base start now window block sectors_read applied None) (image : Incoming) (came : List ℕ) (gives : Gives now.image image came) where
   length_read : length (bytes_of g.seen ++ came) ≡ 2352 * sectors_read + length came
   length_read = length-append (bytes_of g.seen) came ∙ ap (λ n. n + length came) (length-bytes_of g.seen g.seen_sizes ∙ ap (λ n. 2352 * n) (sym g.count))
 
   all_consumed : Consumes start.image.rest image.rest (bytes_of g.seen ++ came)
-  all_consumed = subst (λ l. Consumes start.image.rest image.rest (l ++ came)) (append-nil (bytes_of g.seen)) (Consumes-trans start.image.rest now.image.rest image.rest _ came g.consumes consumed)
+  all_consumed = subst (λ l. Consumes start.image.rest image.rest (l ++ came)) (append-nil (bytes_of g.seen)) (Consumes-trans start.image.rest now.image.rest image.rest _ came g.consumes gives.consumes)
+
+  all_given : image.given ≡ start.image.given + length (bytes_of g.seen ++ came)
+  all_given = omega (arith, g.given, gives.counted, length-append (bytes_of g.seen) came, length-append (bytes_of g.seen) [])
 
   in_hand : length window < block_limit → length came < SECTOR_SIZE → length (bytes_of g.seen ++ came) ≤ length (bytes_of g.done) + bytes_in_hand
   in_hand room short = omega (arith, length_read, length-bytes_of g.done g.done_sizes, g.held, g.count)
 
-  pub Applies-read : length window < block_limit → length came < SECTOR_SIZE → SECTOR_SIZE * sectors_read + length came ≤ image_limit → image.failures ≡ now.image.failures + 1
+  pub Applies-read : length window < block_limit → length came < SECTOR_SIZE → SECTOR_SIZE * sectors_read + length came ≤ image_limit → image.failures ≡ now.image.failures + 1 → image.ended ≡ false
       → Applies carry (taken ++ left) base start (record now { image = image }) (Err Read)
-  Applies-read room short few failed = record {
+  Applies-read room short few failed unended = record {
     read = bytes_of g.seen ++ came;
     sent = bytes_of g.done;
     told = log_lines taken g.outcomes;
     consumes = all_consumed;
+    given = all_given;
     appends = g.appends;
     logs = g.logs;
     in_hand = in_hand room short;
     answers = record {
       failed = record { reads = omega (arith, failed, g.unfailed.reads); writes = g.unfailed.writes; logs = g.unfailed.logs };
+      unended = unended;
       within = omega (arith, length_read);
       begins = λ whole fits.
           let begins = Fits-begins (bytes_of g.seen ++ came) whole (omega (arith, length_read)) fits in
@@ -66,6 +72,7 @@ module _ (carry : Bool) (taken left : List Patch) (base : ℕ) (start now : Stre
     sent = bytes_of g.done;
     told = log_lines taken g.outcomes;
     consumes = all_consumed;
+    given = all_given;
     appends = g.appends;
     logs = g.logs;
     in_hand = in_hand room (omega arith);
@@ -103,6 +110,7 @@ module _ (carry : Bool) (taken left : List Patch) (base : ℕ) (start now : Stre
     sent = sent;
     told = log_lines taken g.outcomes;
     consumes = g.consumes;
+    given = g.given;
     appends = Appends-trans start.out.written now.out.written out.written _ _ g.appends went;
     logs = g.logs;
     in_hand = omega (arith, length_read, length_sent, g.in_hand, g.held, g.count);
@@ -175,6 +183,7 @@ module _ (carry : Bool) (taken : List Patch) (p : Patch) (left : List Patch) (ba
     sent = bytes_of g.done;
     told = told;
     consumes = g.consumes;
+    given = g.given;
     appends = g.appends;
     logs = Appends-trans start.log.written now.log.written log.written _ _ g.logs went;
     in_hand = omega (arith, size_read carry taken (p ∷ left) base start now window block sectors_read applied end g, length_sent, g.in_hand, g.held, g.count);

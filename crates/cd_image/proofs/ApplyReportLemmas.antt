@@ -13,7 +13,8 @@ use Rattle.cd_read.specs.declared.fault.Fault.{Fault}
 use Rattle.cd_read.specs.declared.fault.Fault.TheVariants.{Log, Read, TooLong, Write}
 use Rattle.cd_image.specs.declared.patch_log.Tally.{Tally}
 use Rattle.cd_image.proofs.PatchedLemmas.{IsPatched-carries, IsPatched-determined}
-use Rattle.cd_read.proofs.EndLemmas.{appended, beyond_by_length, consumed_all, consumed_length, ended_by_length, not_beyond, told_beyond}
+use Rattle.cd_read.proofs.general.KnownBytes.{appended, consumed_all, consumed_length}
+use Rattle.cd_read.proofs.EndLemmas.{beyond_by_length, ended_by_length, not_beyond, told_beyond}
 
 -- a sink that tells its bytes has these behind those that it had
 appended_length : (old new : Option (List ℕ)) (sent earlier now : List ℕ) → Appends old new sent → old ≡ Some earlier → new ≡ Some now → length now ≡ length earlier + length sent

@@ -18,7 +18,7 @@ use Rattle.cd_read.specs.Ends.{FitsLeft}
 use Rattle.cd_read.specs.declared.fault.Fault.TheVariants.{Log, Write}
 use Rattle.cd_image.specs.declared.patch_log.Tally.{Tally}
 use Rattle.cd_patch.specs.Outcome.{is_applied}
-use Rattle.cd_read.proofs.CountLemmas.{count_by-append}
+use Rattle.cd_read.proofs.general.Counts.{count_by-append}
 use Rattle.cd_read.proofs.ImageLemmas.{cut_of_joined}
 use Rattle.cd_image.proofs.KnownLemmas.{lines-begin_within, told_lengths, unfinished_lines, unfinished_log}
 use Rattle.cd_read.proofs.EndLemmas.{FitsLeft-end}
@@ -49,6 +49,7 @@ module _ (carry : Bool) (below left : List Patch) (base : ℕ) (start : Streams)
     sent = [];
     told = take n (log_lines below (missing_outcomes below));
     consumes = Consumes-nil start.image.rest;
+    given = omega arith;
     appends = Appends-nil start.out.written;
     logs = went;
     in_hand = omega arith;
@@ -150,6 +151,10 @@ module _ (carry : Bool) (taken left : List Patch) (base : ℕ) (start now : Stre
   unfolding read
   consumed = g.consumes
 
+  given_read : now.image.given ≡ start.image.given + length read
+  unfolding read
+  given_read = g.given
+
   within : length read ≤ image_limit
   within = omega (arith, length_read, g.within)
 
@@ -162,6 +167,7 @@ module _ (carry : Bool) (taken left : List Patch) (base : ℕ) (start now : Stre
     sent = bytes_of g.done ++ take n end;
     told = log_lines taken g.outcomes;
     consumes = consumed;
+    given = given_read;
     appends = Appends-trans start.out.written now.out.written out.written _ _ g.appends went;
     logs = g.logs;
     in_hand = omega (arith, length_read, length_sent, same_count, g.count, g.short);
@@ -200,6 +206,7 @@ module _ (carry : Bool) (taken left : List Patch) (base : ℕ) (start now : Stre
       sent = last;
       told = log_lines taken g.outcomes ++ take n (log_lines left (missing_outcomes left));
       consumes = consumed;
+      given = given_read;
       appends = all_sent;
       logs = Appends-trans start.log.written now.log.written log.written _ _ g.logs went;
       in_hand = omega (arith, length_last);
@@ -241,6 +248,7 @@ module _ (carry : Bool) (taken left : List Patch) (base : ℕ) (start now : Stre
         sent = last;
         told = log_lines (taken ++ left) all ++ take n counts;
         consumes = consumed;
+        given = given_read;
         appends = all_sent;
         logs = Appends-trans start.log.written lines.written log.written _ _ all_told went;
         in_hand = omega (arith, length_last);
@@ -277,6 +285,7 @@ module _ (carry : Bool) (taken left : List Patch) (base : ℕ) (start now : Stre
           sent = last;
           told = log_text (taken ++ left) all;
           consumes = consumed;
+          given = given_read;
           appends = Appends-kept start.out.written out.written out'.written _ all_sent kept;
           logs = whole_log;
           in_hand = omega (arith, length_last);
@@ -302,6 +311,7 @@ module _ (carry : Bool) (taken left : List Patch) (base : ℕ) (start now : Stre
             sent = last;
             told = log_text (taken ++ left) all;
             consumes = consumed;
+            given = given_read;
             appends = sent_and_kept;
             logs = Appends-kept start.log.written counted.written log.written _ whole_log log_kept;
             in_hand = omega (arith, length_last);
@@ -323,6 +333,7 @@ module _ (carry : Bool) (taken left : List Patch) (base : ℕ) (start now : Stre
             sent = last;
             told = log_text (taken ++ left) all;
             consumes = consumed;
+            given = given_read;
             appends = sent_and_kept;
             logs = Appends-kept start.log.written counted.written log.written _ whole_log log_kept;
             in_hand = omega (arith, length_last);

@@ -20,7 +20,8 @@ use Rattle.cd_read.specs.Image.{image_limit, bytes_of, sector_limit}
 use Rattle.cd_image.specs.Passing.{Going, missing_outcomes}
 use Rattle.cd_image.specs.PatchLog.{log_line, log_lines}
 use Rattle.cd_stream.specs.Stream.{Incoming, Outgoing}
-use Rattle.cd_read.proofs.CountLemmas.{count_by-behind}
+use Rattle.cd_stream.specs.Transfer.{Gives}
+use Rattle.cd_read.proofs.general.Counts.{count_by_push}
 use Rattle.cd_image.proofs.PatchLogLemmas.{PatchRun-missing, applied_count-missing_outcomes, log_lines-append}
 
 pub bytes_of-append : (front back : List (List ℕ)) → bytes_of (front ++ back) ≡ bytes_of front ++ bytes_of back
@@ -52,6 +53,7 @@ Going-start carry taken left base start log below ahead told kept = record {
   done = [];
   outcomes = missing_outcomes taken;
   consumes = Consumes-nil start.image.rest;
+  given = omega arith;
   appends = Appends-nil start.out.written;
   logs = told;
   unfailed = record { reads = omega arith; writes = omega arith; logs = omega arith };
@@ -72,17 +74,19 @@ Going-start carry taken left base start log below ahead told kept = record {
 
 module _ (carry : Bool) (taken left : List Patch) (base : ℕ) (start now : Streams) (window : List (List ℕ)) (block sectors applied : ℕ) where
   -- a sector has come
-  pub Going-read : Going carry taken left base start now window block sectors applied None → (image : Incoming) (came : List ℕ) → Consumes now.image.rest image.rest came → image.failures ≡ now.image.failures
+  pub Going-read : Going carry taken left base start now window block sectors applied None → (image : Incoming) (came : List ℕ) → Gives now.image image came → image.failures ≡ now.image.failures
       → length came ≡ SECTOR_SIZE → sectors < sector_limit → length window < block_limit
       → Going carry taken left base start (record now { image = image }) (window ++ came ∷ []) block (sectors + 1) applied None
-  Going-read g image came consumed kept size few room = record {
+  Going-read g image came gives kept size few room = record {
     seen = g.seen ++ came ∷ [];
     done = g.done;
     outcomes = g.outcomes;
     consumes =
         let bytes : (bytes_of g.seen ++ []) ++ came ≡ bytes_of (g.seen ++ came ∷ []) ++ [] =
         ap (λ l. l ++ came) (append-nil (bytes_of g.seen)) ∙ sym (bytes_of-more g.seen came) ∙ sym (append-nil _) in
-        subst (Consumes start.image.rest image.rest) bytes (Consumes-trans start.image.rest now.image.rest image.rest _ came g.consumes consumed);
+        subst (Consumes start.image.rest image.rest) bytes (Consumes-trans start.image.rest now.image.rest image.rest _ came g.consumes gives.consumes);
+    given =
+        omega (arith, g.given, gives.counted, length-append (bytes_of g.seen) [], length-append (bytes_of (g.seen ++ came ∷ [])) [], ap length (bytes_of-more g.seen came), length-append (bytes_of g.seen) came);
     appends = g.appends;
     logs = g.logs;
     unfailed = record { reads = kept ∙ g.unfailed.reads; writes = g.unfailed.writes; logs = g.unfailed.logs };
@@ -105,15 +109,16 @@ module _ (carry : Bool) (taken left : List Patch) (base : ℕ) (start now : Stre
   }
 
   -- less than a sector has come, and nothing is left
-  pub Going-end : Going carry taken left base start now window block sectors applied None → (image : Incoming) (came : List ℕ) → Consumes now.image.rest image.rest came → image.failures ≡ now.image.failures
+  pub Going-end : Going carry taken left base start now window block sectors applied None → (image : Incoming) (came : List ℕ) → Gives now.image image came → image.failures ≡ now.image.failures
       → length came < SECTOR_SIZE → SECTOR_SIZE * sectors + length came ≤ image_limit → length window < block_limit → IsAtEnd image.rest → image.ended ≡ true
       → Going carry taken left base start (record now { image = image }) window block sectors applied (Some came)
-  Going-end g image came consumed kept short within room end told = record {
+  Going-end g image came gives kept short within room end told = record {
     seen = g.seen;
     done = g.done;
     outcomes = g.outcomes;
     consumes =
-        subst (λ l. Consumes start.image.rest image.rest (l ++ came)) (append-nil (bytes_of g.seen)) (Consumes-trans start.image.rest now.image.rest image.rest _ came g.consumes consumed);
+        subst (λ l. Consumes start.image.rest image.rest (l ++ came)) (append-nil (bytes_of g.seen)) (Consumes-trans start.image.rest now.image.rest image.rest _ came g.consumes gives.consumes);
+    given = omega (arith, g.given, gives.counted, length-append (bytes_of g.seen) [], length-append (bytes_of g.seen) came);
     appends = g.appends;
     logs = g.logs;
     unfailed = record { reads = kept ∙ g.unfailed.reads; writes = g.unfailed.writes; logs = g.unfailed.logs };
@@ -142,6 +147,7 @@ Going-send carry taken left base start now sector window block sectors applied t
   done = g.done ++ sector ∷ [];
   outcomes = g.outcomes;
   consumes = g.consumes;
+  given = g.given;
   appends =
       subst (Appends start.out.written out.written) (sym (bytes_of-more g.done sector)) (Appends-trans start.out.written now.out.written out.written _ sector g.appends sent);
   logs = g.logs;
@@ -181,6 +187,7 @@ module _ (carry : Bool) (taken : List Patch) (p : Patch) (left : List Patch) (ba
     done = g.done;
     outcomes = g.outcomes ++ o ∷ [];
     consumes = g.consumes;
+    given = g.given;
     appends = g.appends;
     logs =
         let lines : log_lines (taken ++ p ∷ []) (g.outcomes ++ o ∷ []) ≡ log_lines taken g.outcomes ++ log_line p o =
@@ -197,7 +204,7 @@ module _ (carry : Bool) (taken : List Patch) (p : Patch) (left : List Patch) (ba
     front = g.front;
     count = g.count;
     held = omega (arith, g.held, same_length);
-    counted = ap (λ n. n + cond (is_applied o) 1 0) g.counted ∙ sym (count_by-behind is_applied g.outcomes o);
+    counted = ap (λ n. n + cond (is_applied o) 1 0) g.counted ∙ sym (count_by_push is_applied g.outcomes o);
     due =
         All-append (λ q. (q.block ≤ block) × (q.block < base + sectors)) taken (p ∷ []) g.due
         (All-cons (λ q. (q.block ≤ block) × (q.block < base + sectors)) p [] (omega arith, omega (arith, g.front, g.held, g.count)) (All-nil (λ q. (q.block ≤ block) × (q.block < base + sectors))));

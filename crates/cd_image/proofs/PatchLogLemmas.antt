@@ -1,12 +1,11 @@
 -- The log of patches in two parts, and where one sink stands when the other fails.
 use Rattle.std.proofs.Common.{◌≡◌, ℕ, suc, ◌+◌, ◌-◌, ◌*◌, ◌/◌, ◌<◌, ◌≤◌, ◌⊎◌, inl, inr, Bool, true, false, not, List, [], ◌∷◌, ◌++◌, length, take, drop, refl, sym, ap, ◌∙◌, arith, append_assoc, append-nil, length-append, take-append-drop, add-one, get_or, Err, subst}
 use Rattle.std.specs.Prelude.{All, codes, cond, decimal, nat_lt}
-use Rattle.std.specs.Io.KnownBytes.{Appends}
-use Rattle.std.proofs.KnownBytes.{Appends-trans}
 use Rattle.std.proofs.Math.Seq.{drop-cons, take-append-add, take-suc}
 use Rattle.std.proofs.lemmas.List.{map-append, take-append-le}
 use Rattle.cd_stream.specs.Stream.{Outgoing}
-use Rattle.cd_stream.specs.Transfer.{Sends}
+use Rattle.cd_stream.specs.Transfer.{Sends, Takes}
+use Rattle.cd_stream.proofs.TransferLemmas.{Takes-trans}
 use Rattle.std.proofs.lemmas.Bool.{cases_lt, cond-true, cond-false, lt-ltb, le-ltb}
 use Rattle.std.proofs.lemmas.List.Elements.{All-head, All-tail}
 use Rattle.cd_script.specs.declared.patch.Patch.{Patch}
@@ -19,7 +18,7 @@ use Rattle.cd_patch.proofs.FrameLemmas.{Effect-missing, outcome-missing}
 use Rattle.cd_read.specs.Image.{sectors}
 use Rattle.cd_image.specs.Passing.{missing_outcomes}
 use Rattle.cd_image.specs.PatchLog.{applied_count, bytes_before, lines_below, log_beside, log_line, log_lines, log_text, outcome_text, refused_count, sent_beside}
-use Rattle.cd_read.proofs.CountLemmas.{count_by-first}
+use Rattle.cd_read.proofs.general.Counts.{count_by-cons}
 
 pub log_lines-append : (ps qs : List Patch) (os us : List Outcome) → length os ≡ length ps → log_lines (ps ++ qs) (os ++ us) ≡ log_lines ps os ++ log_lines qs us
 log_lines-append [] qs [] us same = refl
@@ -171,8 +170,8 @@ pub counts-all : (os : List Outcome) → applied_count os + refused_count os ≡
 counts-all [] = refl
 counts-all (o ∷ os) =
     let others = counts-all os in
-    let accepted = count_by-first is_applied o os in
-    let refused = count_by-first (λ u. not (is_applied u)) o os in
+    let accepted = count_by-cons is_applied o os in
+    let refused = count_by-cons (λ u. not (is_applied u)) o os in
     let both : (cond (is_applied o) 1 0 + applied_count os) + (cond (not (is_applied o)) 1 0 + refused_count os) ≡ suc (length os) =
     elim (is_applied o) as (λ t. (cond t 1 0 + applied_count os) + (cond (not t) 1 0 + refused_count os) ≡ suc (length os)) [
       | true ↦ omega arith
@@ -207,18 +206,21 @@ module _ (ps : List Patch) (i : ℕ) (p : Patch) (inside : i < length ps) (is : 
       ∙ ap (λ qs. missing_lines (take i ps) ++ missing_lines qs) (drop-cons ps i p inside ∙ ap (λ q. q ∷ drop (suc i) ps) (sym is))
 
   -- a log that fails in the next line has got a front of all the lines
-  pub missing_lines-cut : {X E : Type 0} (old before new : Outgoing) (n : ℕ) → n < length (log_line p (NoBlock p.block)) → Appends old.written before.written (missing_lines (take i ps))
-      → Appends before.written new.written (take n (log_line p (NoBlock p.block))) → before.failures ≡ old.failures → new.failures ≡ before.failures + 1 → new.finished ≡ false → (e : E)
+  pub missing_lines-cut : {X E : Type 0} (old before new : Outgoing) (n : ℕ) → n < length (log_line p (NoBlock p.block)) → Takes old before (missing_lines (take i ps))
+      → Takes before new (take n (log_line p (NoBlock p.block))) → new.flushes ≡ old.flushes → before.failures ≡ old.failures → new.failures ≡ before.failures + 1 → new.finished ≡ false → (e : E)
       → Sends {X = X} {E = E} old new (missing_lines ps) (Err e)
-  missing_lines-cut {X} {E} old before new n short told went kept failed unfinished e =
+  missing_lines-cut {X} {E} old before new n short told went unflushed kept failed unfinished e =
       let front = missing_lines (take i ps) in
       let line = log_line p (NoBlock p.block) in
       let behind = missing_lines (drop (suc i) ps) in
       let size : length (missing_lines ps) ≡ length front + (length line + length behind) = ap length all_lines ∙ length-append front (line ++ behind) ∙ ap (λ m. length front + m) (length-append line behind) in
       let part : take (length front + n) (missing_lines ps) ≡ front ++ take n line =
       ap (take (length front + n)) all_lines ∙ take-append-add front (line ++ behind) n ∙ ap (λ l. front ++ l) (take-append-le n line behind (omega arith)) in
+      let all : Takes old new (take (length front + n) (missing_lines ps)) = subst (Takes old new) (sym part) (Takes-trans old before new front (take n line) told went) in
       record {
-        bytes = (length front + n, omega (arith, size), subst (Appends old.written new.written) (sym part) (Appends-trans old.written before.written new.written front _ told went));
+        bytes = (length front + n, omega (arith, size), all.appends);
+        taken = (length front + n, omega (arith, size), all);
+        flushes = unflushed;
         count = failed ∙ ap (λ m. m + 1) kept;
         unfinished = λ some. unfinished;
       }

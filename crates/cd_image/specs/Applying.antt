@@ -1,4 +1,5 @@
--- What `apply` and `check` have done, whatever they answer.
+-- What `apply` and `check` have done, whatever they answer. Their plain clauses, at the end of this
+-- file, follow from `Applies`.
 use Rattle.std.specs.Prelude.{◌≡◌, ℕ, ◌+◌, ◌*◌, ◌≤◌, Bool, true, false, List, [], ◌++◌, length, Option}
 use Rattle.std.specs.Prelude.{None, Some, Result, Ok, Err}
 use Rattle.std.specs.Io.KnownBytes.{Appends, Consumes, IsAtEnd}
@@ -22,6 +23,7 @@ pub record Streams : Type 0 where
   pub out : Outgoing
   pub log : Outgoing
 
+-- the three together
 abbrev pub streams : Incoming → Outgoing → Outgoing → Streams
 streams image out log = record { image = image; out = out; log = log }
 
@@ -45,7 +47,7 @@ pub record CompletesPatching (carry : Bool) (patches : List Patch) (base : ℕ)
   pub log_told : told ≡ log_text patches outcomes
   pub tally_right : tally ≡ patch_tally read outcomes
 
--- what went out begins the patched image, and what was told its log
+-- what went out begins the patched image, and what was logged begins its log
 abbrev pub Begins : List Patch → List ℕ → List ℕ → List Outcome → List ℕ → Type 0
 Begins patches sent told outcomes last =
     IsBeginning sent last × IsBeginning told (log_text patches outcomes)
@@ -54,12 +56,14 @@ Begins patches sent told outcomes last =
 pub record StopsAtRead (carry : Bool) (patches : List Patch) (base : ℕ) (read sent told : List ℕ)
     (old new : Streams) : Type 0 where
   pub failed : Failed old new 1 0 0
+  pub unended : new.image.ended ≡ false
   pub within : length read ≤ image_limit
   pub begins : (whole : List ℕ) → Fits read whole
       → EachRun carry patches base whole (Begins patches sent told)
 
 -- a write to the output failed, or its flush: the log has got just the lines that belong before
--- what went out
+-- what went out. If the source has nothing left, or its bytes are not known, the image is taken to
+-- end with the bytes read
 pub record StopsAtWrite (carry : Bool) (patches : List Patch) (base : ℕ) (read sent told : List ℕ)
     (old new : Streams) : Type 0 where
   pub failed : Failed old new 0 1 0
@@ -71,7 +75,7 @@ pub record StopsAtWrite (carry : Bool) (patches : List Patch) (base : ℕ) (read
       (λ outcomes last. told ≡ log_beside patches outcomes base (length read) (length sent))
 
 -- a write to the log failed, or its flush: just the bytes that belong before the line it failed in
--- went out, and where the whole log was told, the output is finished
+-- went out, and if the whole log was written, the output is finished
 pub record StopsAtLog (carry : Bool) (patches : List Patch) (base : ℕ) (read sent told : List ℕ)
     (old new : Streams) : Type 0 where
   pub failed : Failed old new 0 0 1
@@ -85,7 +89,8 @@ pub record StopsAtLog (carry : Bool) (patches : List Patch) (base : ℕ) (read s
       → EachRun carry patches base whole
       (λ outcomes last. told ≡ log_text patches outcomes → new.out.finished ≡ true)
 
--- just one byte was read behind the millionth sector
+-- just one byte was read after the millionth sector. No clause names the patches that reach past
+-- the last sector: their lines wait for the end
 pub record StopsBeyond (carry : Bool) (patches : List Patch) (base : ℕ) (read sent told : List ℕ)
     (old new : Streams) : Type 0 where
   pub failed : Failed old new 0 0 0
@@ -94,6 +99,7 @@ pub record StopsBeyond (carry : Bool) (patches : List Patch) (base : ℕ) (read 
   pub begins : (whole : List ℕ) → Fits read whole
       → EachRun carry patches base whole (Begins patches sent told)
 
+-- what was read, sent and logged, by the answer: the whole patching, or what each fault leaves
 abbrev pub AppliesBy : Bool → List Patch → ℕ → List ℕ → List ℕ → List ℕ → Streams → Streams
     → Result Tally Fault → Type 0
 AppliesBy carry patches base read sent told old new (Ok tally) =
@@ -111,34 +117,42 @@ AppliesBy carry patches base read sent told old new (Err TooLong) =
 abbrev pub bytes_in_hand : ℕ
 bytes_in_hand = SECTOR_SIZE * block_limit
 
--- the call read some bytes, sent some and told some, and answered by these; no more were read and
--- not sent than may be
+-- the whole contract of `apply`: it read some bytes, sent some and logged some, and answered by
+-- these. No more were read and not sent than may be in hand
 pub record Applies (carry : Bool) (patches : List Patch) (base : ℕ) (old new : Streams)
     (result : Result Tally Fault) : Type 0 where
   pub read : List ℕ
   pub sent : List ℕ
   pub told : List ℕ
   pub consumes : Consumes old.image.rest new.image.rest read
+  pub given : new.image.given ≡ old.image.given + length read
   pub appends : Appends old.out.written new.out.written sent
   pub logs : Appends old.log.written new.log.written told
   pub in_hand : length read ≤ length sent + bytes_in_hand
   pub answers : AppliesBy carry patches base read sent told old new result
 
 -- what a contract sees of an output that keeps nothing and never fails
-abbrev pub null_outgoing : Bool → Outgoing
-null_outgoing finished = record { written = None; failures = 0; finished = finished }
+abbrev pub null_outgoing : ℕ → ℕ → Bool → Outgoing
+null_outgoing taken flushes finished = record {
+  written = None;
+  taken = taken;
+  flushes = flushes;
+  failures = 0;
+  finished = finished;
+}
 
--- the same where no output is kept
+-- the whole contract of `check`: that of `apply` with an output that keeps nothing
 abbrev pub Checks : Bool → List Patch → ℕ → Incoming → Incoming → Outgoing → Outgoing
     → Result Tally Fault → Type 0
 Checks carry patches base image image' log log' result =
-    (finished : Bool) × Applies carry patches base
-    (streams image (null_outgoing false) log) (streams image' (null_outgoing finished) log') result
+    (taken : ℕ) × (flushes : ℕ) × (finished : Bool) × Applies carry patches base
+    (streams image (null_outgoing 0 0 false) log)
+    (streams image' (null_outgoing taken flushes finished) log') result
 
 -- ---- the same in plain words
 
--- where the image and the output tell their bytes: all of the image was read, and the output has
--- got the patched image behind what it had
+-- if the bytes of the image and the output are known: all of the image was read, and the output has
+-- got the patched image after what it had
 abbrev pub WritesPatched : Bool → List Patch → ℕ → Incoming → Incoming → Outgoing → Outgoing
     → Type 0
 WritesPatched carry patches base image image' out out' =
@@ -146,8 +160,8 @@ WritesPatched carry patches base image image' out out' =
     → (image'.rest ≡ Some [])
     × EachRun carry patches base bytes (λ outcomes last. out'.written ≡ Some (earlier ++ last))
 
--- where the image and the log tell their bytes: the log has got the log of the patches behind what
--- it had, and the tally has its counts
+-- if the bytes of the image and the log are known: the log has got the log of the patches after
+-- what it had, and the tally has its counts
 abbrev pub WritesLog : Bool → List Patch → ℕ → Incoming → Outgoing → Outgoing → Tally → Type 0
 WritesLog carry patches base image log log' tally =
     (bytes earlier : List ℕ) → image.rest ≡ Some bytes → log.written ≡ Some earlier
@@ -155,15 +169,15 @@ WritesLog carry patches base image log log' tally =
     (log'.written ≡ Some (earlier ++ log_text patches outcomes))
     × (tally ≡ patch_tally bytes outcomes))
 
--- an image may be the one that was being read when this fault came
+-- `image` could be what we were reading when this fault came
 abbrev pub FitsAt : Fault → Option (List ℕ) → List ℕ → List ℕ → Type 0
 FitsAt Read left read whole = Fits read whole
 FitsAt Write left read whole = FitsLeft left read whole
 FitsAt Log left read whole = FitsLeft left read whole
 FitsAt TooLong left read whole = Fits read whole
 
--- after a fault: what the log has got begins the log of each run on each image that may be the one
--- that was being read
+-- after a fault: what the log has got begins the log of each run on each image that could be the
+-- one that was being read
 pub record BeginsLog (carry : Bool) (patches : List Patch) (base : ℕ) (image image' : Incoming)
     (log log' : Outgoing) (fault : Fault) : Type 0 where
   pub read : List ℕ
@@ -174,16 +188,16 @@ pub record BeginsLog (carry : Bool) (patches : List Patch) (base : ℕ) (image i
       → EachRun carry patches base whole
       (λ outcomes last. IsBeginning told (log_text patches outcomes))
 
--- where the image and the output tell their bytes: no more were read and have not gone out than may
--- be in hand
+-- if the bytes of the image and the output are known: no more were read and have not gone out than
+-- may be in hand
 abbrev pub HoldsFew : Streams → Streams → Type 0
 HoldsFew old new =
     (given left earlier now : List ℕ) → old.image.rest ≡ Some given → new.image.rest ≡ Some left
     → old.out.written ≡ Some earlier → new.out.written ≡ Some now
     → length given + length earlier ≤ length left + length now + bytes_in_hand
 
--- where damage is carried, and the image and the output tell their bytes: the output has got,
--- behind what it had, the image in which the patches have kept the damage
+-- if damage is carried, and the bytes of the image and the output are known: the output has got,
+-- after what it had, the image in which the patches have kept the damage
 abbrev pub WritesCarried : List Patch → ℕ → Incoming → Outgoing → Outgoing → Type 0
 WritesCarried patches base image out out' =
     (bytes earlier : List ℕ) → AreBytes bytes → image.rest ≡ Some bytes → out.written ≡ Some earlier

@@ -1,4 +1,4 @@
--- What a pass has in hand of an image: inner words of `apply` and `check`.
+-- Plumbing of `apply` and `check`: what a pass has in hand of an image.
 use Rattle.std.specs.Prelude.{◌≡◌, ℕ, Bool, true, false, List, [], ◌∷◌, ◌++◌, take, Option, None}
 use Rattle.std.specs.Prelude.{Some, Result, Ok, Err}
 use Rattle.cd_read.specs.Reading.{EndComes, ReadsSector, SectorComes}
@@ -10,11 +10,12 @@ pub record InHand : Type 0 where
   pub sectors : List (List ℕ)
   pub tail : Option (List ℕ)
 
+-- the bytes of the tail; none before the image has ended
 abbrev pub tail_bytes : Option (List ℕ) → List ℕ
 tail_bytes None = []
 tail_bytes (Some bytes) = bytes
 
--- so many of these bytes are the tail
+-- the first `count` of these bytes are the tail, if the image has ended
 abbrev pub tail_read : Option ℕ → List ℕ → Option (List ℕ)
 tail_read None bytes = None
 tail_read (Some count) bytes = Some (take count bytes)
@@ -26,7 +27,7 @@ pub record GainsSector (count : ℕ) (old new : InHand) (image image' : Incoming
   pub sectors : new.sectors ≡ old.sectors ++ bytes ∷ []
   pub tail : new.tail ≡ None
 
--- the end has come, and the tail in front of it
+-- the image has ended, and its tail is in hand
 pub record GainsTail (count : ℕ) (old new : InHand) (image image' : Incoming) : Type 0 where
   pub left : ℕ
   pub bytes : List ℕ
@@ -34,7 +35,7 @@ pub record GainsTail (count : ℕ) (old new : InHand) (image image' : Incoming) 
   pub sectors : new.sectors ≡ old.sectors
   pub tail : new.tail ≡ Some (take left bytes)
 
--- one read of a sector, after so many others: the answer is whether one has come
+-- one read of a sector, after `count` others: the answer is whether one has come
 abbrev pub ReadsNext : ℕ → InHand → InHand → Incoming → Incoming → Result Bool Fault → Type 0
 ReadsNext count old new image image' (Ok true) = GainsSector count old new image image'
 ReadsNext count old new image image' (Ok false) = GainsTail count old new image image'

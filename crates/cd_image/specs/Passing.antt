@@ -1,5 +1,5 @@
--- How far a pass over an image has come that takes patches on its way: inner words of `apply` and
--- `check`.
+-- Plumbing of `apply` and `check`: how far a pass over an image has come that applies patches on
+-- its way.
 use Rattle.std.specs.Prelude.{◌≡◌, ℕ, ◌+◌, ◌-◌, ◌*◌, ◌<◌, ◌≤◌, Bool, true, List, [], ◌++◌, All}
 use Rattle.std.specs.Prelude.{length, take, drop, map, Option, None, Some, IsSome, Result, Ok, Err}
 use Rattle.std.specs.Io.KnownBytes.{Appends, Consumes, IsAtEnd}
@@ -19,17 +19,22 @@ use Rattle.cd_image.specs.declared.pass.Pass.{Pass}
 abbrev pub missing_outcomes : List Patch → List Outcome
 missing_outcomes ps = map (λ p. NoBlock p.block) ps
 
--- since `start` the sectors `seen` were read, `done` have gone out and `window` waits; the patches
--- `taken` were decided and told; whatever may still come, they lead from what was read to what went
--- out, the window, and that
+-- the pass since `start`: the patches `taken` were decided and logged, and the patches `left` were
+-- not; `window` and `tail` are in hand; `block` is the first block that has not gone out, `sectors`
+-- were read, and `applied` patches accepted
 pub record Going (carry : Bool) (taken left : List Patch) (base : ℕ) (start now : Streams)
     (window : List (List ℕ)) (block sectors applied : ℕ) (tail : Option (List ℕ)) : Type 0 where
+  -- bytes moved: the sectors `seen` were read, `done` have gone out, and the lines of the
+  -- `outcomes` were written
   pub seen : List (List ℕ)
   pub done : List (List ℕ)
   pub outcomes : List Outcome
   pub consumes : Consumes start.image.rest now.image.rest (bytes_of seen ++ tail_bytes tail)
+  pub given : now.image.given ≡ start.image.given + length (bytes_of seen ++ tail_bytes tail)
   pub appends : Appends start.out.written now.out.written (bytes_of done)
   pub logs : Appends start.log.written now.log.written (log_lines taken outcomes)
+  -- nothing failed, and all sizes are right: the image is not too long, and no more is in hand than
+  -- may be
   pub unfailed : Failed start now 0 0 0
   pub seen_sizes : All (λ sector. length sector ≡ SECTOR_SIZE) seen
   pub done_sizes : All (λ sector. length sector ≡ SECTOR_SIZE) done
@@ -37,22 +42,26 @@ pub record Going (carry : Bool) (taken left : List Patch) (base : ℕ) (start no
   pub within : SECTOR_SIZE * sectors + length (tail_bytes tail) ≤ image_limit
   pub ended : IsSome tail → IsAtEnd now.image.rest × (now.image.ended ≡ true)
   pub in_hand : SECTOR_SIZE * length window + length (tail_bytes tail) ≤ bytes_in_hand
+  -- position: the patches taken lead, whatever sectors may still come, from those read to those that
+  -- went out and those in hand; and the block and the counts that the pass has reached
   pub run : (more : List (List ℕ)) → (IsSome tail → more ≡ [])
       → PatchRun carry taken outcomes base (seen ++ more) (done ++ (window ++ more))
   pub front : block ≡ base + length done
   pub count : sectors ≡ length seen
   pub held : length done + length window ≡ length seen
   pub counted : applied ≡ applied_count outcomes
+  -- patches: those taken begin at sectors that were read, and those left do not begin before the
+  -- front block
   pub due : All (λ p. (p.block ≤ block) × (p.block < base + sectors)) taken
   pub ahead : All (λ p. block ≤ p.block) left
 
--- the same of a pass
+-- the pass as `Going` says, with the values of a `Pass`
 abbrev pub GoesOn : Bool → List Patch → List Patch → ℕ → Streams → Streams → Pass → Type 0
 GoesOn carry taken left base start now pass =
     Going carry taken left base start now pass.window.sectors pass.block pass.sectors pass.applied
     pass.window.tail
 
--- a step has gone well, or the call ends by its fault
+-- a step has gone well and the pass goes on, or the call ends by its fault
 abbrev pub Steps : {X : Type 0} → Bool → List Patch → List Patch → List Patch → List Patch → ℕ
     → Streams → Streams → Pass → Result X Fault → Type 0
 Steps carry taken left taken' left' base start now pass (Ok x) =
@@ -62,16 +71,18 @@ Steps carry taken left taken' left' base start now pass (Err fault) =
 
 -- ---- how much is left to do, of so many patches: each step leaves less
 
+-- 1 while the image has not ended
 abbrev pub end_to_come : Option (List ℕ) → ℕ
 end_to_come None = 1
 end_to_come (Some left) = 0
 
+-- what is left of a pass with `count` patches: each step makes it less, so the pass ends
 abbrev pub left_to_do : ℕ → Pass → ℕ
 left_to_do count pass =
     2 * (sector_limit - pass.sectors) + length pass.window.sectors + (count - pass.decided)
     + end_to_come pass.window.tail
 
--- nothing waits, and the end has come
+-- nothing is in hand, and the image has ended
 pub record IsEnded (pass : Pass) : Type 0 where
   pub empty : pass.window.sectors ≡ []
   pub ended : IsSome pass.window.tail

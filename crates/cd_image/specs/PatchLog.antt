@@ -10,6 +10,7 @@ use Rattle.cd_patch.specs.declared.outcome.Outcome.TheVariants.{NotMode1}
 use Rattle.cd_read.specs.Image.{sectors, tail}
 use Rattle.cd_image.specs.declared.patch_log.Tally.{Tally}
 
+-- what a line says of an outcome
 unfoldable pub outcome_text : Outcome → List ℕ
 outcome_text Applied = codes "applied"
 outcome_text (NoBlock block) = codes "refused: no block " ++ decimal block
@@ -19,7 +20,7 @@ outcome_text (Differs block offset) =
     codes "refused: old bytes differ at block " ++ decimal block ++ codes " offset "
     ++ decimal offset
 
--- the line of a patch, which tells the line of the script that it stands in
+-- the line of a patch, by the number of its line in the script
 unfoldable pub log_line : Patch → Outcome → List ℕ
 log_line p outcome =
     codes "line " ++ decimal p.line ++ codes ": " ++ outcome_text outcome ++ codes "\n"
@@ -35,9 +36,11 @@ unfoldable pub log_end : ℕ → ℕ → List ℕ
 log_end applied refused =
     codes "applied " ++ decimal applied ++ codes " refused " ++ decimal refused ++ codes "\n"
 
+-- how many patches were accepted
 abbrev pub applied_count : List Outcome → ℕ
 applied_count os = count_by is_applied os
 
+-- how many patches were refused
 abbrev pub refused_count : List Outcome → ℕ
 refused_count os = count_by (λ o. not (is_applied o)) os
 
@@ -54,7 +57,7 @@ patch_tally image os = record {
   tail = length (tail image);
 }
 
--- ---- where one sink stands when the other fails
+-- ---- how far one sink has come when the other fails
 
 -- the lines of the patches whose first block is below this one
 abbrev pub lines_below : ℕ → List Patch → List Outcome → List ℕ
@@ -63,9 +66,9 @@ lines_below block (p ∷ ps) [] = []
 lines_below block (p ∷ ps) (o ∷ os) =
     (if nat_lt p.block block then log_line p o else []) ++ lines_below block ps os
 
--- what the log has, when `sent` bytes have gone to the output and `count` bytes of the image were
--- read: within a whole sector the lines of the patches up to its block; within the tail those of
--- the patches in front of the tail; else all
+-- the log when the output fails after `sent` bytes, and `count` bytes of the image were read:
+-- within a whole sector the lines of the patches up to its block; within the tail those of the
+-- patches before the tail; else all
 unfoldable pub log_beside : List Patch → List Outcome → ℕ → ℕ → ℕ → List ℕ
 log_beside ps os base count sent =
     if nat_lt sent (SECTOR_SIZE * (count / SECTOR_SIZE))
@@ -73,16 +76,17 @@ log_beside ps os base count sent =
     else if nat_lt sent count then lines_below (base + count / SECTOR_SIZE) ps os
     else log_text ps os
 
--- the number of the image's bytes in front of a block: none where it is below the first, all where
--- it is behind the last
+-- the number of the image's bytes before a block: none if it is below the first, all if it is after
+-- the last
 unfoldable pub bytes_before : List ℕ → ℕ → ℕ → ℕ
 bytes_before image base block =
     if nat_lt block base then 0
     else if nat_lt (block - base) (length (sectors image)) then SECTOR_SIZE * (block - base)
     else length image
 
--- how many bytes have gone to the output, when the log has got `logged` bytes and fails: those in
--- front of the block of the patch whose line it was, or all
+-- how many bytes have gone to the output when the log fails after `logged` bytes: those before the
+-- block of the patch in whose line it failed, or all. A log that stops at the end of a line failed
+-- in the next line, since a failed write has not sent its last byte
 abbrev pub sent_beside : List Patch → List Outcome → ℕ → List ℕ → ℕ → ℕ
 sent_beside [] os base image logged = length image
 sent_beside (p ∷ ps) [] base image logged = length image

@@ -1,4 +1,4 @@
--- What patches make of an image: a run over its sectors, behind which the tail stays.
+-- What patches make of an image: a run over its sectors; the tail stays.
 use Rattle.std.specs.Prelude.{◌≡◌, ◌≢◌, ℕ, Bool, true, List, All}
 use Rattle.cd_code.specs.Field.{AreBytes}
 use Rattle.cd_script.specs.Patch.{IsPatch}
@@ -16,7 +16,7 @@ pub record IsPatched (carry : Bool) (patches : List Patch) (outcomes : List Outc
   pub run : PatchRun carry patches outcomes base (sectors image) (sectors last)
   pub same_tail : tail last ≡ tail image
 
--- each way to patch the image has this
+-- this holds of each way to patch the image: of which there is just one
 abbrev pub EachRun : Bool → List Patch → ℕ → List ℕ → (List Outcome → List ℕ → Type 0) → Type 0
 EachRun carry patches base image Holds =
     (outcomes : List Outcome) (last : List ℕ) → IsPatched carry patches outcomes base image last
@@ -41,15 +41,15 @@ PatchedExists =
 
 -- no patch is refused for damage. A sector that no accepted patch meets is the old one; each other
 -- one has the header and the user bytes that the accepted patches leave in order, and the sync
--- field and the defect of the old one, member by member, or is consistent where a patch has rebuilt
--- it. The tail stays
+-- field and the defect of the old one, part by part, or is consistent if a patch has rebuilt it.
+-- The tail stays
 pub record CarriesDamage (patches : List Patch) (outcomes : List Outcome) (base : ℕ)
     (image last : List ℕ) : Type 0 where
   pub unrefused : All (λ o. (block : ℕ) → o ≢ Damaged block) outcomes
   pub leaves : LeavesOthers true patches outcomes base (sectors image) (sectors last)
   pub same_tail : tail last ≡ tail image
 
--- so it is in each way to patch an image with damage carried
+-- if damage is carried, each way to patch an image carries it
 abbrev pub PatchedCarries : Type 0
 PatchedCarries =
     (patches : List Patch) (os : List Outcome) (base : ℕ) (image last : List ℕ)

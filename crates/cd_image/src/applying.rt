@@ -28,8 +28,8 @@ use cd_stream::{Sink, Source};
 ///
 /// # Errors
 ///
-/// `Read`, `Write` and `Log` where the image, `out` or `log` has failed, `TooLong` where a byte was
-/// read behind the millionth sector. A patch that is refused is no error: the tally counts it.
+/// `Read`, `Write` and `Log` if the image, `out` or `log` has failed, `TooLong` if a byte was
+/// read after the millionth sector. A patch that is refused is not an error: the tally counts it.
 ///
 /// # Examples
 ///
@@ -54,13 +54,13 @@ pub fn apply<I: Source, O: Sink, L: Sink>(
     requires out_countable { MayCount (O.seen out.old).failures }
     requires log_countable { MayCount (L.seen log.old).failures }
 
-    // The whole of it, also what stands after a fault, and where one sink stands when the other
+    // The whole of it, also what is left after a fault, and how far one sink has come when the other
     // fails.
     ensures report { Applies carry script.now base
         (streams (I.seen image.old) (O.seen out.old) (L.seen log.old))
         (streams (I.seen image.new) (O.seen out.new) (L.seen log.new)) result }
 
-    // What it says where nothing failed, when each fault comes, and how much it holds.
+    // What it says if nothing failed, when each fault comes, and how much it holds.
     ensures output { OnOk result (WritesPatched carry script.now base
         (I.seen image.old) (I.seen image.new) (O.seen out.old) (O.seen out.new)) }
     ensures carried { carry ≡ true → OnOk result (WritesCarried script.now base
@@ -90,6 +90,8 @@ pub fn apply<I: Source, O: Sink, L: Sink>(
     ensures holds_few { HoldsFew (streams (I.seen image.old) (O.seen out.old) (L.seen log.old))
         (streams (I.seen image.new) (O.seen out.new) (L.seen log.new)) }
 {
+    // Proof step: the clauses of `apply` are proved from the one record that this call answers
+    // with.
     apply_patches(image, script.patches(), base, carry, out, log)
 }
 
@@ -120,12 +122,12 @@ pub fn check<I: Source, L: Sink>(
     requires image_countable { MayCount (I.seen image.old).failures }
     requires log_countable { MayCount (L.seen log.old).failures }
 
-    // The whole of it, also what stands after a fault: what `apply` does with an output that keeps
+    // The whole of it, also what is left after a fault: what `apply` does with an output that keeps
     // nothing.
     ensures report { Checks carry script.now base
         (I.seen image.old) (I.seen image.new) (L.seen log.old) (L.seen log.new) result }
 
-    // What it says where nothing failed, what the log has after a fault, and when each fault comes.
+    // What it says if nothing failed, what the log has after a fault, and when each fault comes.
     ensures log { IfOk result (WritesLog carry script.now base
         (I.seen image.old) (L.seen log.old) (L.seen log.new)) }
     ensures begins { IfErr result (λ fault. BeginsLog carry script.now base
@@ -146,11 +148,13 @@ pub fn check<I: Source, L: Sink>(
         → AnswersByEnd (I.seen image.new) result }
     ensures no_output { result ≢ Err Fault.Write }
 {
+    // The same engine, with an output that keeps nothing.
     let mut nothing = NullSink::new();
     apply_patches(image, script.patches(), base, carry, &mut nothing, log)
 }
 
-/// Applies patches in their order; the fact that `apply` and `check` rest on.
+/// Applies patches in their order, in one pass. `apply` and `check` only call it, so the two cannot
+/// disagree, and what it promises is the one record from which their clauses follow.
 fn apply_patches<I: Source, O: Sink, L: Sink>(
     image: &mut I,
     patches: &[Patch],
@@ -168,6 +172,8 @@ fn apply_patches<I: Source, O: Sink, L: Sink>(
         (streams (I.seen image.old) (O.seen out.old) (L.seen log.old))
         (streams (I.seen image.new) (O.seen out.new) (L.seen log.new)) result }
 {
+    // A patch below the base is logged before anything is read: its line comes before the tail also
+    // of an image without a whole sector.
     let below = count_below(patches, base);
     send_missing(&patches[..below], log)?;
     let mut pass = Pass::new(base, below);
@@ -178,7 +184,7 @@ fn apply_patches<I: Source, O: Sink, L: Sink>(
     pass.close(patches, out, log)
 }
 
-/// How many patches begin below a block; the others come behind them.
+/// How many patches begin below a block; the others come after them.
 fn count_below(patches: &[Patch], block: u32) -> usize
     requires { IsNonDecreasingBy (λ p. p.block) patches.now }
     ensures within { result ≤ length patches.now }

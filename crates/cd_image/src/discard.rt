@@ -1,35 +1,50 @@
 //! A sink that keeps nothing.
 
-use cd_stream::{Sink, SinkFailed};
+use cd_stream::{Count, Sink, SinkFailed};
 
-/// Takes all bytes and keeps none, and never fails.
+/// The output of `check`: keeps no byte, and never fails.
 #[derive(Debug, Drop)]
 pub(crate) struct NullSink {
+    taken: Count,
+    flushes: Count,
     finished: bool,
 }
 
 impl NullSink {
     ghost use Rattle.std.specs.Prelude.{◌≡◌, None, false};
 
+    /// A sink that has got no byte.
     pub(crate) fn new() -> Self
         ensures seen { ⟦<NullSink as Sink>⟧.seen result
-            ≡ record { written = None; failures = 0; finished = false } }
+            ≡ record { written = None; taken = 0; flushes = 0; failures = 0; finished = false } }
     {
-        NullSink { finished: false }
+        NullSink {
+            taken: Count::zero(),
+            flushes: Count::zero(),
+            finished: false,
+        }
     }
 }
 
 impl Sink for NullSink {
     ghost use Rattle.std.specs.Prelude.{None};
 
-    ghost seen = { λ s. record { written = None; failures = 0; finished = s.finished } };
+    ghost seen = { λ s. record {
+      written = None;
+      taken = s.taken;
+      flushes = s.flushes;
+      failures = 0;
+      finished = s.finished;
+    } };
 
     fn write(&mut self, bytes: &[u8]) -> Result<usize, SinkFailed> {
         self.finished = false;
+        self.taken.add(bytes.len());
         Ok(bytes.len())
     }
 
     fn finish(&mut self) -> Result<(), SinkFailed> {
+        self.flushes.add(1);
         self.finished = true;
         Ok(())
     }

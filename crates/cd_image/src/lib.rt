@@ -1,7 +1,28 @@
-//! Patching an image of raw CD sectors on its way from a source to a sink; what cd_report tells of
-//! one is passed on.
+//! Patching an image of raw CD sectors (ECMA-130, 14) on its way from a source to a sink, in one
+//! pass. What cd_stream, cd_read and cd_report offer is exported here too, so a user names one
+//! crate.
 //!
-//! Its tests are in crates/cd_image_tests.
+//! ```
+//! let script = parse(rt.alloc(), b"cdpatch 1\nset 0 0 41\n")?;
+//! let sector = encode([0x00, 0x02, 0x00], &[0x00; USER_SIZE]); // block 0
+//! let (mut image, mut space) = (SliceSource::new(sector.bytes()), [0; SECTOR_SIZE]);
+//! let (mut out, mut log) = (SliceSink::new(&mut space), ToWrite::new(io::sink()));
+//! apply(&mut image, &script, 0, false, &mut out, &mut log)?;
+//! assert_eq!(rt; out.written().get(16), Some(&0x41)); // the first user byte
+//! ```
+//!
+//! The log has a line for each patch, in the order of their blocks, and then their counts:
+//!
+//! | Line | When |
+//! |---|---|
+//! | `line L: applied` | the patch in line L of the script was accepted |
+//! | `line L: refused: WHY` | it was refused, and changes nothing |
+//! | `applied A refused R` | at the end |
+//!
+//! [`apply`] holds no more sectors than a patch may meet, three, and takes no memory. An image has
+//! at most a million sectors, and its first block a number of at most [`MAX_BASE`].
+//!
+//! Tests: `crates/cd_image_tests`.
 #![tactic(auto)]
 
 mod applying;
@@ -18,7 +39,7 @@ pub use cd_report::{
     AuditTally, ListTally, MAX_BASE, audit, audit_counts_lines, list, runs_spell_kinds,
 };
 pub use cd_stream::{
-    Buffered, FailAfter, FromRead, LINE_SIZE, Line, Short, Sink, SinkFailed, SliceSink,
+    Buffered, Count, FailAfter, FromRead, LINE_SIZE, Line, Short, Sink, SinkFailed, SliceSink,
     SliceSource, Source, SourceFailed, ToWrite, ZeroSource, fill, write_all,
 };
 pub use laws::{patched_carries, patched_exists, patched_is_determined};

@@ -1,4 +1,5 @@
-//! One pass over an image that takes patches on its way: no more sectors are in hand than a patch may meet.
+//! One pass over an image that applies patches on its way. It holds no more sectors than a patch
+//! may meet, so it takes no memory, and want of memory is not among its faults.
 
 ghost use Rattle.std.specs.Prelude.{◌≡◌, ◌≢◌, ℕ, ◌+◌, ◌<◌, ◌≤◌, ◌⊎◌, ◌++◌, [], ◌∷◌, false};
 ghost use Rattle.std.specs.Prelude.{All, Bool, List, None, OnOk, IfOk, IfSome, IfNone, IsSome};
@@ -37,7 +38,7 @@ pub(crate) struct Pass {
 }
 
 impl Pass {
-    /// Before the first sector, which is that of block `base`, behind so many patches that were
+    /// Before the first sector, which is that of block `base`, after `decided` patches were
     /// decided.
     pub(crate) fn new(base: u32, decided: usize) -> Self
         ensures empty { result.window.sectors ≡ [] }
@@ -99,7 +100,8 @@ impl Pass {
     }
 
     /// Applies a patch that begins at the first sector of the window. All that it meets is in the
-    /// window, or the image has ended.
+    /// window, or the image has ended. Its line is written now, before the sectors that it meets go
+    /// out.
     fn apply_front<L: Sink>(&mut self, patch: &Patch, carry: bool, log: &mut L) -> Result<(), Fault>
         requires countable { MayCount (L.seen log.old).failures }
         requires patch { IsPatch patch.now }
@@ -126,7 +128,7 @@ impl Pass {
         Ok(())
     }
 
-    /// The next patch, where it begins at the front block.
+    /// The next patch, if it begins at the front block.
     fn patch_at_front<'a>(&self, patches: &'a [Patch]) -> Option<&'a Patch>
         ensures some { IfSome result (λ p. (slice_get patches.now self.now.decided ≡ Some p.now)
             × (p.now.block ≡ self.now.block)) }
@@ -139,9 +141,10 @@ impl Pass {
         }
     }
 
-    /// Does the next thing: reads a sector, while fewer are in hand than the front block asks for
-    /// and the image has not ended; else takes the patch that begins there, or sends the front
-    /// sector. Answers whether there was anything to do.
+    /// One step: reads a sector, if fewer are in hand than the front block needs and the image has
+    /// not ended; else applies the patch that begins there, or sends the front sector. Answers
+    /// whether there was anything to do. So the byte after the millionth sector is read before the
+    /// patches are decided that reach past that sector; if it comes, they have no line.
     pub(crate) fn advance<I: Source, O: Sink, L: Sink>(
         &mut self,
         image: &mut I,
@@ -182,7 +185,8 @@ impl Pass {
         Ok(true)
     }
 
-    /// Behind the last sector: sends the tail, tells of the patches that are left, and finishes.
+    /// After the last sector: sends the tail, writes the lines of the patches that are left, whose
+    /// block is not there though the tail is, and finishes.
     pub(crate) fn close<O: Sink, L: Sink>(
         self,
         patches: &[Patch],
@@ -217,8 +221,9 @@ impl Pass {
     }
 }
 
-/// The number of sectors that have to be in hand before the next thing at the front block: those
-/// that the patch meets that begins there, else that block's own.
+/// The number of sectors that have to be in hand before the next step at the front block: those
+/// that the patch meets that begins there, else that block's own. So the pass reads ahead only as
+/// far as a patch needs.
 fn sectors_wanted(patch: Option<&Patch>) -> usize
     requires each { IfSome patch (λ p. IsPatch p.now) }
     ensures some { IfSome patch.entry (λ p. result ≡ blocks_met p.now) }
@@ -231,7 +236,8 @@ fn sectors_wanted(patch: Option<&Patch>) -> usize
     }
 }
 
-/// Passes on all that the output still holds back.
+/// Proof step: the flush of the output, apart from `close`, so that a wrong flush is refused here
+/// and not by a long search.
 fn finish_output<O: Sink>(out: &mut O) -> Result<(), SinkFailed>
     requires { MayCount (O.seen out.old).failures }
     ensures { Flushes (O.seen out.old) (O.seen out.new) result }

@@ -21,11 +21,12 @@ pub struct Tally {
     pub refused: u32,
     /// Whole sectors of the image.
     pub sectors: u32,
-    /// Bytes behind the last whole sector.
+    /// Bytes after the last whole sector.
     pub tail: u16,
 }
 
-/// A write to the log failed, or its flush. The sink has counted it.
+/// A write to the log failed, or its flush. The sink has counted it. Its own type, since a
+/// `SinkFailed` becomes the `Fault` of the output.
 #[derive(Clone, Copy, Debug)]
 pub(crate) struct LogFailed;
 
@@ -43,7 +44,7 @@ impl From<LogFailed> for Fault {
     }
 }
 
-/// Puts what became of a patch behind the beginning of a line.
+/// Appends what became of a patch to the beginning of its line.
 #[tactic(auto, unfolding(crate::specs::PatchLog::outcome_text))]
 fn push_outcome(line: &mut Line, outcome: Outcome)
     requires { length line.old ≤ 17 }
@@ -75,7 +76,7 @@ fn push_outcome(line: &mut Line, outcome: Outcome)
     }
 }
 
-/// Writes the line of a patch.
+/// Writes `line L: OUTCOME`, the line of a patch.
 #[tactic(auto, unfolding(crate::specs::PatchLog::log_line))]
 pub(crate) fn send_outcome<L: Sink>(
     patch: &Patch,
@@ -106,7 +107,7 @@ pub(crate) fn send_missing<L: Sink>(patches: &[Patch], log: &mut L) -> Result<()
     Ok(())
 }
 
-/// Writes the last line.
+/// Writes `applied A refused R`, the last line.
 #[tactic(auto, unfolding(crate::specs::PatchLog::log_end))]
 pub(crate) fn send_counts<L: Sink>(applied: u32, refused: u32, log: &mut L) -> Result<(), LogFailed>
     requires { MayCount (L.seen log.old).failures }
@@ -121,7 +122,7 @@ pub(crate) fn send_counts<L: Sink>(applied: u32, refused: u32, log: &mut L) -> R
     Ok(write_all(log, last.as_slice())?)
 }
 
-/// Passes on all that the log still holds back.
+/// Proof step: the flush of the log, whose failure is a `LogFailed`.
 pub(crate) fn finish_log<L: Sink>(log: &mut L) -> Result<(), LogFailed>
     requires { MayCount (L.seen log.old).failures }
     ensures { Flushes (L.seen log.old) (L.seen log.new) result }

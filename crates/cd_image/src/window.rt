@@ -20,16 +20,17 @@ use cd_sector::Sector;
 use cd_stream::Source;
 use std::marker::Model;
 
-/// As many sectors as a patch may meet, in the order in which they came, and the tail after them
-/// once the image has ended. A contract sees these.
+/// As many sectors as a patch may meet, in the order in which they came, and the tail after them at
+/// the end of the image. Each is read in its place and goes out of it. A contract sees the sectors
+/// and the tail.
 #[derive(Drop)]
 pub(crate) struct Window {
-    /// The sectors in hand, then places for those to come: an `ArrayVec` writes a whole blank
-    /// sector over a place that it leaves, so none is left.
+    /// The sectors in hand, then places for those to come. A place stays once it was made: an
+    /// `ArrayVec` writes a blank sector, 2352 bytes, over one that it leaves.
     places: ArrayVec<Sector, MAX_BLOCKS_MET>,
     /// The number of sectors in hand.
     held: usize,
-    /// Once the image has ended: the number of bytes of its tail, which stands at the front of the
+    /// At the end of the image: the number of bytes of its tail, which stands at the front of the
     /// next sector's place.
     tail: Option<usize>,
 }
@@ -126,7 +127,7 @@ impl Window {
         }
     }
 
-    /// Takes the first sector out. What stands after it moves up one place.
+    /// Removes the first sector. Only if something stands after it does anything move.
     pub(crate) fn remove_first(&mut self)
         requires { 0 < length self.old.sectors }
         ensures sectors { self.new.sectors ≡ drop 1 self.old.sectors }
@@ -150,7 +151,7 @@ impl Window {
     }
 }
 
-/// Makes the place behind the first `held` where there is none yet.
+/// Makes the place after the first `held` if there is none yet.
 fn make_place(places: &mut ArrayVec<Sector, MAX_BLOCKS_MET>, held: usize)
     requires room { held < block_limit }
     requires within { held ≤ length places.old.items }
@@ -162,7 +163,8 @@ fn make_place(places: &mut ArrayVec<Sector, MAX_BLOCKS_MET>, held: usize)
     }
 }
 
-/// Reads the next sector of an image, after `count` others, to one of the places.
+/// Proof step: reads the next sector of an image, after `count` others, to one of the places, so
+/// that a clause can say that the others stay.
 fn read_to<I: Source>(
     places: &mut [Sector],
     place: usize,
@@ -180,7 +182,8 @@ fn read_to<I: Source>(
     read_sector(image, count, &mut places[place])
 }
 
-/// Applies a patch that begins at the first of `held` sectors, which are the first of the places.
+/// Proof step: applies a patch that begins at the first of `held` sectors, which are the first of
+/// the places, so that a clause can say that the place after them stays.
 fn apply_among(places: &mut [Sector], held: usize, patch: &Patch, carry: bool) -> Outcome
     requires patch { IsPatch patch.now }
     requires some { 0 < held }

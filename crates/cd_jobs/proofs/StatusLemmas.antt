@@ -1,7 +1,7 @@
 -- The status is 0, 1 or 2.
 use Rattle.std.proofs.Common.{◌≡◌, ℕ, ◌+◌, ◌≤◌, ◌==◌, ◌⊎◌, Bool, true, false, cond, List, Result, Ok, Err, inl, inr, arith}
 use Rattle.std.specs.Prelude.{Option, Some, None}
-use Rattle.cd_command.specs.Fault.{printed}
+use Rattle.cd_command.specs.Fault.{printed, printed_status}
 use Rattle.cd_command.specs.declared.fault.LineFault.{LineFault}
 use Rattle.cd_command.specs.declared.job.Job.{Job}
 use Rattle.cd_command.specs.declared.job.Job.TheVariants as job
@@ -11,7 +11,7 @@ use Rattle.cd_report.specs.declared.auditing.AuditTally.{AuditTally}
 use Rattle.cd_read.specs.declared.fault.Fault.{Fault}
 use Rattle.cd_stream.specs.Stream.{Incoming, Outgoing}
 use Rattle.cd_jobs.specs.Hosting.{Hosting}
-use Rattle.cd_jobs.specs.Program.{ComesOfFile, DoesApply, DoesCheck, DoesJob, DoesReport, NoScript, ReadsScript, Tells, printed_status}
+use Rattle.cd_jobs.specs.Program.{ComesOfFile, DoesApply, DoesCheck, DoesJob, DoesReport, NoScript, ReadsScript, Tells}
 use Rattle.cd_jobs.specs.Run.{Ends, Runs, audit_status, script_status}
 use Rattle.cd_jobs.specs.declared.host.OpenFault.{OpenFault}
 use Rattle.cd_jobs.specs.declared.jobs.Settings.{Settings}
@@ -70,7 +70,7 @@ module _ {H I O : Type 0} (come : I → Incoming) (gone : O → Outgoing) (on : 
   DoesApply-few (DoesApply.without_script missing) = NoScript-few missing
   DoesApply-few (DoesApply.without_image patches second said takes missing) = omega (arith, missing.2.1)
   DoesApply-few (DoesApply.without_output patches second said takes image third asked missing) = omega (arith, missing.2.1)
-  DoesApply-few (DoesApply.applied patches second said takes image third asked out made applies) = Runs-few few-script applies.runs
+  DoesApply-few (DoesApply.applied patches second said takes image third asked out fourth made applies) = Runs-few few-script applies.runs
 
 pub DoesJob-few : {H I O : Type 0} (come : I → Incoming) (gone : O → Outgoing) (on : Hosting H I O) (j : Job) (host host' : H) (before after : Outgoing) (status : ℕ)
     → DoesJob come gone on j host host' before after status → status ≤ 2

@@ -2,12 +2,14 @@
 use Rattle.std.specs.Prelude.{⊤, ℕ, List, Result}
 use Rattle.cd_jobs.specs.declared.host.OpenFault.{OpenFault}
 
--- Which answers there may be for the file of a path, for the standard input, and for a new file at
--- a path, and what is left of the host then.
+-- which answers there may be for the file of a path, for the standard input, and for a new file at
+-- a path, and what is left of the host then; and what is left of it when it has the new file of a
+-- path back
 pub record Hosting (H I O : Type 0) : Type 1 where
   pub gives_input : H → List ℕ → Result I OpenFault → H → Type 0
   pub gives_standard_input : H → Result I OpenFault → H → Type 0
   pub gives_output : H → List ℕ → Result O OpenFault → H → Type 0
+  pub takes_back : H → List ℕ → O → H → Type 0
 
 -- a host of which nothing is said
 abbrev pub any_answers : {H I O : Type 0} → Hosting H I O
@@ -15,4 +17,5 @@ any_answers = record {
   gives_input = λ _ _ _ _. ⊤;
   gives_standard_input = λ _ _ _. ⊤;
   gives_output = λ _ _ _ _. ⊤;
+  takes_back = λ _ _ _ _. ⊤;
 }

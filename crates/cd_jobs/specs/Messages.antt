@@ -1,4 +1,4 @@
--- The lines that the program itself writes. The line for want of memory is cd_command's.
+-- The lines that the program itself prints. The line for want of memory is cd_command's.
 use Rattle.std.specs.Prelude.{ℕ, List, [], ◌++◌, codes, decimal}
 use Rattle.cd_command.specs.Fault.{no_memory}
 use Rattle.cd_read.specs.declared.fault.Fault.{Fault}
@@ -11,20 +11,24 @@ use Rattle.cd_jobs.specs.declared.host.OpenFault.TheVariants as open_fault
 use Rattle.cd_jobs.specs.declared.script.LoadFault.{LoadFault}
 use Rattle.cd_jobs.specs.declared.script.LoadFault.TheVariants as load_fault
 
+-- there is no file of a script, or a read of it failed
 abbrev pub no_script : List ℕ
 no_script = codes "cdpatch: cannot read the script\n"
 
+-- there is no image
 abbrev pub no_image : List ℕ
 no_image = codes "cdpatch: cannot open the image\n"
 
+-- no new file was made
 abbrev pub no_output : List ℕ
 no_output = codes "cdpatch: cannot make the output file\n"
 
+-- an argument is not valid UTF-8
 abbrev pub not_text : List ℕ
 not_text = codes "cdpatch: the words are not text\n"
 
--- the line of a file that is not there: `line` where it was refused, and else its buffer found no
--- memory
+-- the line for a file that is not there: `line` if it was refused, and else that its buffer found
+-- no memory
 unfoldable pub open_fault_line : List ℕ → OpenFault → List ℕ
 open_fault_line line open_fault.Refused = line
 open_fault_line line open_fault.NoMemory = no_memory

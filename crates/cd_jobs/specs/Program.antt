@@ -1,9 +1,9 @@
 -- What the program does for a job: which files it asks for, by which names and in which order, and
 -- what it does with them.
-use Rattle.std.specs.Prelude.{◌≡◌, ◌≢◌, ℕ, ◌≤◌, ◌⊎◌, List, [], Option, None, Result, Ok, Err, codes, if◌then◌else◌, is_some, string_bytes, true}
-use Rattle.std.specs.Io.KnownBytes.{Consumes, Keeps}
+use Rattle.std.specs.Prelude.{◌≡◌, ◌≢◌, ℕ, ◌≤◌, ◌⊎◌, List, [], Option, None, Result, Ok, Err, codes, false, string_bytes, true}
+use Rattle.std.specs.Io.KnownBytes.{Consumes}
 use Rattle.cd_command.specs.CommandLine.{IsJobOf, IsTaken, base_in, max_base}
-use Rattle.cd_command.specs.Fault.{HasKindOf, done_status, failed_status, kinds_of, printed, status_of}
+use Rattle.cd_command.specs.Fault.{HasKindOf, done_status, failed_status, kinds_of, printed, printed_status}
 use Rattle.cd_command.specs.declared.fault.LineFault.{LineFault}
 use Rattle.cd_command.specs.declared.fault.LineFault.TheVariants as line_fault
 use Rattle.cd_command.specs.declared.job.Job.{Job}
@@ -18,6 +18,8 @@ use Rattle.cd_script.specs.Script.{script}
 use Rattle.cd_script.specs.declared.fault.ScriptFault.{ScriptFault}
 use Rattle.cd_script.specs.declared.patch.Patch.{Patch}
 use Rattle.cd_stream.specs.Stream.{Incoming, Outgoing}
+use Rattle.cd_stream.specs.Transfer.{Flushes}
+use Rattle.cd_stream.specs.declared.sink.SinkFailed.{SinkFailed}
 use Rattle.cd_jobs.specs.Hosting.{Hosting}
 use Rattle.cd_jobs.specs.Messages.{load_fault_line, no_image, no_output, no_script, open_fault_line, script_fault_line}
 use Rattle.cd_jobs.specs.Run.{Runs, SaysLine, audit_status, script_status}
@@ -26,15 +28,15 @@ use Rattle.cd_jobs.specs.declared.host.OpenFault.{OpenFault}
 use Rattle.cd_jobs.specs.declared.script.LoadFault.{LoadFault}
 use Rattle.cd_jobs.specs.declared.jobs.Settings.{Settings}
 
--- ---- what is said where a file is not there
+-- ---- what is printed if a file is not there
 
--- a line of the program's own, and the status of a failure
+-- a line of the program's own is printed, with the status of a failure
 abbrev pub Fails : List ℕ → Outgoing → Outgoing → ℕ → Type 0
 Fails line before after status = SaysLine line before after × (status ≡ failed_status)
 
 -- ---- scripts
 
--- the whole file was read and is a script, and nothing was said; or a line was said: that of the
+-- the whole file was read and is a script, and nothing was printed; or a line was: that of the
 -- fault of the file, or of its text
 abbrev pub ReadsScript : Incoming → Incoming → Outgoing → Outgoing → Result (List Patch) ℕ → Type 0
 ReadsScript file file' log log' (Ok patches) =
@@ -51,7 +53,8 @@ ReadsScript file file' log log' (Err status) =
 -- ---- which files are there
 
 module _ {H I O : Type 0} (on : Hosting H I O) where
-  -- an image by its name, where `-` is the standard input and each other name that of a file
+  -- an image is asked for by its name: `-` is the standard input, and each other name that of a
+  -- file
   pub record TakesImage (name : List ℕ) (host : H) (answer : Result I OpenFault) (host' : H)
       : Type 0 where
     pub standard : name ≡ codes "-" → on.gives_standard_input host answer host'
@@ -72,39 +75,44 @@ module _ {H I O : Type 0} (come : I → Incoming) (on : Hosting H I O) where
     pub asked : on.gives_input host name answer host'
     pub comes : ComesOfFile log log' result answer
 
--- what a file has got stays, and it is finished in the end, or a call on it has failed
+-- a file that is finished, or of which a call has failed, stays as it is, and each other one is
+-- finished by one flush
 pub record PassesOnRest (before after : Outgoing) : Type 0 where
-  pub stays : Keeps before.written after.written
-  pub ended : (after.finished ≡ true) ⊎ (after.failures ≢ 0)
+  pub idle : (before.finished ≡ true) ⊎ (before.failures ≢ 0) → after ≡ before
+  pub once : before.finished ≡ false → before.failures ≡ 0
+      → (flushed : Result (Unit {0}) SinkFailed) × Flushes before after flushed
 
 -- ---- the commands
 
--- A command asks for its files in turn. Each has one ending for each of them that is not there,
--- whose line is said and behind which nothing more is asked of the host, and one where all are
--- there. The host, the log and the status are those at the end.
+-- A command asks for its files in turn. It has one ending for each file that is not there, whose
+-- line is printed and after which nothing more is asked of the host, and one if all are there. The
+-- host, the log and the status are those at the end.
 module _ {H I O : Type 0} (come : I → Incoming) (gone : O → Outgoing) (on : Hosting H I O)
     (host' : H) (after : Outgoing) (status : ℕ) where
+  -- the script could not be read: its line was printed, and nothing more asked for
   abbrev pub NoScript : List ℕ → H → Outgoing → Type 0
   NoScript name host before = TakesScript come on name host host' before after (Err status)
 
+  -- the image is not there: its line was printed, and nothing more asked for
   abbrev pub NoImage : List ℕ → H → Outgoing → Type 0
   NoImage name host before =
       (fault : OpenFault) × TakesImage on name host (Err fault) host'
       × Fails (open_fault_line no_image fault) before after status
 
+  -- the new file was not made: its line was printed
   abbrev pub NoOutput : List ℕ → H → Outgoing → Type 0
   NoOutput path host before =
       (fault : OpenFault) × on.gives_output host path (Err fault) host'
       × Fails (open_fault_line no_output fault) before after status
 
-  -- `list` or `audit`: the image was told of
+  -- `list` or `audit`: the report of the image was written
   pub record TellsImage {T : Type 0} (spec : ReportSpec T) (status_of_tally : T → ℕ)
       (before : Outgoing) (image : I) : Type 0 where
     pub left : I
     pub runs : Runs (λ out' answer. Reports spec (come image) (come left) before out' answer)
         Write status_of_tally after status
 
-  -- `check`: the script was taken on the image, and no output made
+  -- `check`: the script was decided on the image, and no output made
   pub record ChecksImage (settings : Settings) (patches : List Patch) (before : Outgoing)
       (image : I) : Type 0 where
     pub left : I
@@ -112,9 +120,10 @@ module _ {H I O : Type 0} (come : I → Incoming) (gone : O → Outgoing) (on : 
         (come left) before log' answer)
         Log script_status after status
 
-  -- `apply`: the image was patched into the new file, and what that still held was passed on
+  -- `apply`: the image was patched into the new file, what that still held was passed on, and the
+  -- host has it back
   pub record AppliesImage (settings : Settings) (patches : List Patch) (before : Outgoing)
-      (image : I) (out : O) : Type 0 where
+      (image : I) (host : H) (path : List ℕ) (out : O) : Type 0 where
     pub left : I
     pub made : O
     pub runs : Runs (λ log' answer. Applies settings.carry patches settings.base
@@ -122,6 +131,7 @@ module _ {H I O : Type 0} (come : I → Incoming) (gone : O → Outgoing) (on : 
         Log script_status after status
     pub last : O
     pub rest : PassesOnRest (gone made) (gone last)
+    pub back : on.takes_back host path last host'
 
   -- `list` and `audit`
   pub data DoesReport {T : Type 0} (spec : ReportSpec T) (status_of_tally : T → ℕ) (name : List ℕ)
@@ -157,8 +167,8 @@ module _ {H I O : Type 0} (come : I → Incoming) (gone : O → Outgoing) (on : 
     applied : (patches : List Patch) (second : H) (said : Outgoing)
         → TakesScript come on script host second before said (Ok patches)
         → (image : I) (third : H) → TakesImage on name second (Ok image) third
-        → (out : O) → on.gives_output third path (Ok out) host'
-        → AppliesImage settings patches said image out
+        → (out : O) (fourth : H) → on.gives_output third path (Ok out) fourth
+        → AppliesImage settings patches said image fourth path out
         → DoesApply settings name script path host before
 
 -- ---- jobs and words
@@ -182,10 +192,6 @@ DoesJob come gone on (job.Apply image script out base carry) host host' before a
     (string_bytes image)
     (string_bytes script) (string_bytes out) host before
 
--- the status of words that ask for no job: that of the fault where its text went out whole
-abbrev pub printed_status : LineFault → Option (List ℕ) → ℕ
-printed_status fault text = if is_some text then status_of fault else failed_status
-
 -- what is printed of a fault: the parser's text, or the line for want of memory; one that went out
 -- in part is a failure
 pub record Tells (fault : LineFault) (before after : Outgoing) (status : ℕ) : Type 0 where
@@ -195,7 +201,7 @@ pub record Tells (fault : LineFault) (before after : Outgoing) (status : ℕ) : 
   pub whole : after.failures ≡ before.failures → status ≡ printed_status fault text
   pub cut : after.failures ≢ before.failures → status ≡ failed_status
 
--- the words ask for no job: nothing is asked of the host, and it is said why
+-- the arguments ask for no job: nothing is asked of the host, and the reason is printed
 pub record Refuses {H : Type 0} (words : List (List ℕ)) (host host' : H) (before after : Outgoing)
     (status : ℕ) : Type 0 where
   pub unchanged : host' ≡ host
@@ -204,8 +210,8 @@ pub record Refuses {H : Type 0} (words : List (List ℕ)) (host host' : H) (befo
   pub memory : IsTaken words → fault ≡ line_fault.NoMemory
   pub tells : Tells fault before after status
 
--- the words ask for a job, with no fault, no help asked for and a base that has an address, and it
--- is done; or they ask for none
+-- the arguments ask for a job, with no fault, no help asked for and a base that has an address, and
+-- it is done; or they ask for none
 abbrev pub DoesWords : {H I O : Type 0} → (I → Incoming) → (O → Outgoing) → Hosting H I O
     → List (List ℕ) → H → H → Outgoing → Outgoing → ℕ → Type 0
 DoesWords come gone on words host host' before after status =

@@ -1,5 +1,5 @@
 -- What the program does with the answer of a call on an image: the fault's line, and the status.
-use Rattle.std.specs.Prelude.{◌≡◌, ◌≢◌, ℕ, ◌==◌, ◌+◌, ◌<◌, ◌⊎◌, if◌then◌else◌, Bool, List, [], ◌++◌, length, Some, true, codes, Result, Ok, Err}
+use Rattle.std.specs.Prelude.{◌≡◌, ◌≢◌, ℕ, ◌==◌, ◌+◌, ◌<◌, ◌⊎◌, if◌then◌else◌, Bool, List, [], ◌++◌, length, Some, false, true, codes, Result, Ok, Err}
 use Rattle.std.specs.Io.KnownBytes.{Appends}
 use Rattle.cd_stream.specs.Stream.{Incoming, IsBeginning, Outgoing}
 use Rattle.cd_script.specs.declared.patch.Patch.{Patch}
@@ -21,12 +21,12 @@ pub record SaysLine (line : List ℕ) (before after : Outgoing) : Type 0 where
   pub outcome : ((after.failures ≡ before.failures) × (sent ≡ line) × (after.finished ≡ true))
       ⊎ (after.failures ≡ before.failures + 1)
 
--- the fault's line, or nothing where the fault is that this very sink has failed
+-- the fault's line, or nothing if it is `own`: the fault that this very sink has failed
 abbrev pub SaysFault : Fault → Fault → Outgoing → Outgoing → Type 0
 SaysFault own fault before after =
     (fault ≡ own → after ≡ before) × (fault ≢ own → SaysLine (fault_line fault) before after)
 
--- the status of an audit that told of a sector
+-- the status of an audit with a finding
 abbrev pub found_status : ℕ
 found_status = 1
 
@@ -42,14 +42,14 @@ audit_status tally = if tally.findings == 0 then done_status else found_status
 abbrev pub script_status : Tally → ℕ
 script_status tally = if tally.refused == 0 then done_status else refused_status
 
--- behind a call's answer: its status, or the fault's line and the status of a failure
+-- after a call's answer: its status, or the fault's line and the status of a failure
 abbrev pub Ends : {T : Type 0} → Fault → (T → ℕ) → Result T Fault → Outgoing → Outgoing → ℕ → Type 0
 Ends own status_of (Ok told) before after status = (after ≡ before) × (status ≡ status_of told)
 Ends own status_of (Err fault) before after status = SaysFault own fault before after
     × (status ≡ failed_status)
 
--- a call and then its end: what the call did is said of the sink in the middle and of its answer;
--- `own` is the fault that is this sink's
+-- a call, and then the line of its fault: what the call did is said of the sink in the `middle` and
+-- of its answer; `own` is the fault that gets no line, since it is that of the sink itself
 pub record Runs {T : Type 0} (Does : Outgoing → Result T Fault → Type 0) (own : Fault)
     (status_of : T → ℕ) (after : Outgoing) (status : ℕ) : Type 0 where
   pub result : Result T Fault
@@ -59,8 +59,8 @@ pub record Runs {T : Type 0} (Does : Outgoing → Result T Fault → Type 0) (ow
 
 -- ---- the same in plain words
 
--- where the image and the sink tell their bytes: the whole image was read, the sink has got its
--- text behind what it had, and the status is that of its tally
+-- if the bytes of the image and the sink are known: the whole image was read, the sink has got its
+-- text after what it had, and the status is that of its tally
 abbrev pub TellsText : {T : Type 0} → ReportSpec T → (T → ℕ) → Incoming → Incoming → Outgoing
     → Outgoing → ℕ → Type 0
 TellsText spec status_of image image' out out' status =
@@ -68,8 +68,8 @@ TellsText spec status_of image image' out out' status =
     → (image'.rest ≡ Some []) × (out'.written ≡ Some (earlier ++ spec.text bytes))
     × (status ≡ status_of (spec.tally bytes))
 
--- where the image and the log tell their bytes: the log has got the log of the patches behind what
--- it had, and the status is that of its counts
+-- if the bytes of the image and the log are known: the log has got the log of the patches after
+-- what it had, and the status is that of its counts
 abbrev pub TellsPatches : Bool → List Patch → ℕ → Incoming → Outgoing → Outgoing → ℕ → Type 0
 TellsPatches carry patches base image log log' status =
     (bytes earlier : List ℕ) → image.rest ≡ Some bytes → log.written ≡ Some earlier
@@ -77,8 +77,8 @@ TellsPatches carry patches base image log log' status =
     (log'.written ≡ Some (earlier ++ log_text patches outcomes))
     × (status ≡ script_status (patch_tally bytes outcomes)))
 
--- where the image tells its bytes, a byte was read behind the millionth sector
-abbrev pub IsTooLong : Incoming → Incoming → Type 0
-IsTooLong image image' =
-    (bytes left : List ℕ) → image.rest ≡ Some bytes → image'.rest ≡ Some left
-    → image_limit + length left < length bytes
+-- the image has not ended, and if its bytes are known, a byte was read after the millionth sector
+pub record IsTooLong (image image' : Incoming) : Type 0 where
+  pub unended : image'.ended ≡ false
+  pub beyond : (bytes left : List ℕ) → image.rest ≡ Some bytes → image'.rest ≡ Some left
+      → image_limit + length left < length bytes

@@ -1,5 +1,5 @@
 -- What reading a script does: the line of each fault, and what came of the file.
-use Rattle.std.specs.Prelude.{◌≡◌, ◌≢◌, ℕ, ◌+◌, ◌≤◌, ◌⊎◌, List, ◌++◌, length, codes, decimal, Result, Ok, Err, OnErr}
+use Rattle.std.specs.Prelude.{◌≡◌, ◌≢◌, ℕ, ◌+◌, ◌≤◌, ◌⊎◌, List, ◌++◌, length, codes, decimal, false, true, Result, Ok, Err, OnErr}
 use Rattle.std.specs.Io.KnownBytes.{Consumes, IsAtEnd}
 use Rattle.cd_stream.specs.Stream.{Incoming, Outgoing}
 use Rattle.cd_script.specs.declared.fault.ScriptFault.{ScriptFault}
@@ -14,7 +14,7 @@ use Rattle.cd_jobs.specs.declared.script.LoadFault.TheVariants.{Read, TooLong, N
 
 -- ---- the text of a script
 
--- the fault that is said of a text: the text's own where it has one, whatever memory there is, and
+-- the fault that is printed of a text: the text's own if it has one, whatever memory there is, and
 -- else want of memory
 pub record IsFaultOf (text : List ℕ) (fault : ScriptFault) : Type 0 where
   pub own : (e : ScriptFault) → script text ≡ Err e → fault ≡ e
@@ -26,27 +26,34 @@ pub record IsFaultOf (text : List ℕ) (fault : ScriptFault) : Type 0 where
 pub record ReadsWhole (read : List ℕ) (file file' : Incoming) : Type 0 where
   pub reads : file'.failures ≡ file.failures
   pub at_end : IsAtEnd file'.rest
+  pub ended : file'.ended ≡ true
   pub within : length read ≤ text_limit
 
--- where the reading stopped: a read failed, a byte too many came, or memory was refused
+-- the reading stopped before the end of the file: a read failed, a byte too many came, or memory
+-- was refused
 abbrev pub Stops : LoadFault → List ℕ → Incoming → Incoming → Type 0
-Stops Read read file file' = (file'.failures ≡ file.failures + 1) × (length read ≤ text_limit)
-Stops TooLong read file file' = (file'.failures ≡ file.failures) × (length read ≡ text_limit + 1)
-Stops NoMemory read file file' = (file'.failures ≡ file.failures) × (length read ≤ text_limit)
+Stops Read read file file' = (file'.failures ≡ file.failures + 1) × (file'.ended ≡ false)
+    × (length read ≤ text_limit)
+Stops TooLong read file file' = (file'.failures ≡ file.failures) × (file'.ended ≡ false)
+    × (length read ≡ text_limit + 1)
+Stops NoMemory read file file' = (file'.failures ≡ file.failures) × (file'.ended ≡ false)
+    × (length read ≤ text_limit)
 
+-- plumbing of `load_script`: all bytes of the file, or why they were not read
 abbrev pub GatherAnswers : {T : Type 0} → (T → List ℕ) → List ℕ → Incoming → Incoming
     → Result T LoadFault → Type 0
 GatherAnswers bytes_of read file file' (Ok text) = (bytes_of text ≡ read)
     × ReadsWhole read file file'
 GatherAnswers bytes_of read file file' (Err fault) = Stops fault read file file'
 
--- some bytes of the file were read: all, or those before a fault
+-- plumbing of `load_script`: some bytes of the file were read, all or those before a fault
 pub record Gathers {T : Type 0} (bytes_of : T → List ℕ) (file file' : Incoming)
     (result : Result T LoadFault) : Type 0 where
   pub read : List ℕ
   pub consumes : Consumes file.rest file'.rest read
   pub answers : GatherAnswers bytes_of read file file' result
 
+-- all bytes of the file, or the line of its fault and the status of a failure
 abbrev pub LoadAnswers : {T : Type 0} → (T → List ℕ) → List ℕ → Incoming → Incoming → Outgoing
     → Outgoing → Result T ℕ → Type 0
 LoadAnswers bytes_of read file file' log log' (Ok text) = (bytes_of text ≡ read)
@@ -55,7 +62,7 @@ LoadAnswers bytes_of read file file' log log' (Err status) = (status ≡ failed_
     × ((fault : LoadFault) × Stops fault read file file'
     × SaysLine (load_fault_line fault) log log')
 
--- some bytes of the file were read: all, and then nothing was said, or those before a fault, and
+-- some bytes of the file were read: all, and then nothing was printed, or those before a fault, and
 -- then its line was
 pub record Loads {T : Type 0} (bytes_of : T → List ℕ) (file file' : Incoming) (log log' : Outgoing)
     (result : Result T ℕ) : Type 0 where
@@ -63,12 +70,12 @@ pub record Loads {T : Type 0} (bytes_of : T → List ℕ) (file file' : Incoming
   pub consumes : Consumes file.rest file'.rest read
   pub answers : LoadAnswers bytes_of read file file' log log' result
 
--- the fault's line was said, and the status is 2
+-- the fault's line was printed, and the status is 2
 abbrev pub Refuses : {T : Type 0} → LoadFault → Outgoing → Outgoing → Result T ℕ → Type 0
 Refuses fault log log' result = (result ≡ Err failed_status)
     × SaysLine (load_fault_line fault) log log'
 
--- a read failed exactly where it is said that the script cannot be read
+-- a read failed exactly if the line says that the script cannot be read
 pub record TellsFailedReads {T : Type 0} (file file' : Incoming) (log log' : Outgoing)
     (result : Result T ℕ) : Type 0 where
   pub failed : file'.failures ≢ file.failures → Refuses Read log log' result

@@ -1,4 +1,4 @@
-//! Where images and scripts are read, and where outputs are made.
+//! The files that the program asks for.
 
 ghost use Rattle.std.specs.Prelude.{◌≡◌, IfOk};
 ghost use Rattle.cd_jobs.specs.Hosting.{Hosting};
@@ -14,7 +14,10 @@ pub enum OpenFault {
     NoMemory,
 }
 
-/// The files that the words name, and the standard input.
+/// The files that the arguments name, and the standard input.
+///
+/// A contract cites what a host says of its answers, so it can say which file was opened by which
+/// name, in which order, and with what the output went back.
 pub trait Host {
     /// A file that is read from its front on, or the standard input.
     type Input: Source + Drop;
@@ -44,12 +47,17 @@ pub trait Host {
         ensures gives { hosting.gives_standard_input self.old result self.new }
         ensures fresh { IfOk result (λ file. (Self.Input.seen file).failures ≡ 0) };
 
-    /// Makes a file at a path where there is none.
+    /// Makes a file at a path at which there is none.
     ///
     /// # Errors
     ///
-    /// The file was not made, as where one is there, or its buffer found no memory.
+    /// One is there, the file was not made, or its buffer found no memory.
     fn output_at(&mut self, path: &str) -> Result<Self::Output, OpenFault>
         ensures gives { hosting.gives_output self.old path.now result self.new }
         ensures fresh { IfOk result (λ file. (Self.Output.seen file).failures ≡ 0) };
+
+    /// Takes back the file that it made at a path when the command is done with it, also after a
+    /// fault. Under its path, since no contract of a sink says which of several it is.
+    fn take_back(&mut self, path: &str, file: Self::Output)
+        ensures { hosting.takes_back self.old path.now file self.new };
 }

@@ -1,5 +1,5 @@
-//! The program as a function of its words: which files it asks a host for, what it does with them,
-//! and the status.
+//! The program as a function of its arguments: which files it asks a host for, what it does with
+//! them, and the status.
 
 ghost use Rattle.std.specs.Prelude.{◌≡◌, ◌<◌, ◌≤◌, IfOk, OnOk, map, string_bytes};
 ghost use Rattle.cd_command.specs.CommandLine.{base_in};
@@ -25,15 +25,17 @@ use std::alloc::Global;
 /// The name of the standard input as an image.
 const STANDARD_INPUT: &str = "-";
 
-/// How a script is taken on an image: the number of the image's first block, and whether damage is
-/// carried.
-#[derive(Clone, Copy)]
-struct Settings {
-    base: u32,
-    carry: bool,
+/// How a script is applied to an image.
+#[derive(Clone, Copy, Debug)]
+pub struct Settings {
+    /// The number of the image's first block.
+    pub base: u32,
+    /// Whether damage is carried.
+    pub carry: bool,
 }
 
-/// Says why there is no file, by the line for one that was refused, and answers the status.
+/// Prints why there is no file, and answers the status. `line` is the line for a file that was
+/// refused.
 fn fail_without<O: Sink>(fault: OpenFault, line: &'static str, out: &mut O) -> u8
     requires { MayCount (O.seen out.old).failures }
     ensures { Fails (open_fault_line line.now fault) (O.seen out.old) (O.seen out.new) result }
@@ -53,7 +55,7 @@ fn image_at<H: Host>(host: &mut H, name: &str) -> Result<H::Input, OpenFault>
     }
 }
 
-/// The script of a file. For a fault its line goes to `log`, and the answer is the status.
+/// The script of a file. For a fault prints its line to `log`, and answers the status.
 fn script_of<I: Source, L: Sink>(alloc: Global, file: &mut I, log: &mut L) -> Result<Script, u8>
     requires file_countable { MayCount (I.seen file.old).failures }
     requires log_countable { MayCount (L.seen log.old).failures }
@@ -64,7 +66,7 @@ fn script_of<I: Source, L: Sink>(alloc: Global, file: &mut I, log: &mut L) -> Re
     read_script(alloc, text.as_slice(), log)
 }
 
-/// The script in a file. For a fault its line goes to `log`, and the answer is the status.
+/// The script in the file at a path. For a fault prints its line to `log`, and answers the status.
 fn script_at<H: Host, L: Sink>(
     alloc: Global,
     host: &mut H,
@@ -82,8 +84,8 @@ fn script_at<H: Host, L: Sink>(
     }
 }
 
-/// Passes on what a sink still holds, if none of its calls has failed. That is something where a
-/// call on an image ended early by a fault that is not this sink's.
+/// Passes on what a sink still holds, unless one of its calls has failed or it is finished. It
+/// holds something if a call on an image ended early, by a fault of the image or of the log.
 fn pass_on_rest<O: Sink>(out: &mut O)
     ensures { PassesOnRest (O.seen out.old) (O.seen out.new) }
 {
@@ -92,7 +94,7 @@ fn pass_on_rest<O: Sink>(out: &mut O)
     }
 }
 
-/// Lists the image of a name.
+/// The command `list`: opens its image, and runs it.
 fn do_list<H: Host, O: Sink>(host: &mut H, image: &str, base: u32, out: &mut O) -> u8
     requires base { base ≤ base_limit }
     requires countable { MayCount (O.seen out.old).failures }
@@ -106,7 +108,7 @@ fn do_list<H: Host, O: Sink>(host: &mut H, image: &str, base: u32, out: &mut O) 
     }
 }
 
-/// Audits the image of a name.
+/// The command `audit`: opens its image, and runs it.
 fn do_audit<H: Host, O: Sink>(host: &mut H, image: &str, base: u32, out: &mut O) -> u8
     requires base { base ≤ base_limit }
     requires countable { MayCount (O.seen out.old).failures }
@@ -120,7 +122,7 @@ fn do_audit<H: Host, O: Sink>(host: &mut H, image: &str, base: u32, out: &mut O)
     }
 }
 
-/// Decides the patches of the script in a file on the image of a name.
+/// The command `check`: reads its script, opens its image, and runs it.
 fn do_check<H: Host, L: Sink>(
     alloc: Global,
     host: &mut H,
@@ -145,8 +147,8 @@ fn do_check<H: Host, L: Sink>(
     run_check(&mut image, &script, settings.base, settings.carry, log)
 }
 
-/// Patches the image of a name by the script in a file, into a new file.
-// In line in its caller, the pass would find fewer registers free.
+/// The command `apply`: reads its script, opens its image, makes its file, and runs it.
+// Not inlined: in its caller the pass would find fewer registers free.
 #[inline(never)]
 fn do_apply<H: Host, L: Sink>(
     alloc: Global,
@@ -178,10 +180,12 @@ fn do_apply<H: Host, L: Sink>(
     let (base, carry) = (settings.base, settings.carry);
     let status = run_apply(&mut input, &script, base, carry, &mut output, log);
     pass_on_rest(&mut output);
+    host.take_back(path, output);
     status
 }
 
-/// Does a job, tells of it to `out`, and answers the status.
+/// Proof step: does a job, and answers the status. One clause for the four commands, from which
+/// that of `do_words` follows.
 fn do_job<H: Host, O: Sink>(alloc: Global, host: &mut H, job: &Job, out: &mut O) -> u8
     requires base { base_in job.now ≤ base_limit }
     requires countable { MayCount (O.seen out.old).failures }
@@ -220,8 +224,8 @@ fn do_job<H: Host, O: Sink>(alloc: Global, host: &mut H, job: &Job, out: &mut O)
     }
 }
 
-/// Prints why the words ask for no job, and answers the status. Where that fails, a help that was
-/// asked for is a failure too.
+/// Prints why the arguments ask for no job, and answers the status. If that fails, help that was
+/// asked for is a failure too: a text that was lost is not success.
 fn refuse<O: Sink>(alloc: Global, fault: &LineFault, out: &mut O) -> u8
     requires { MayCount (O.seen out.old).failures }
     ensures { Tells fault.now (O.seen out.old) (O.seen out.new) result }
@@ -235,8 +239,8 @@ fn refuse<O: Sink>(alloc: Global, fault: &LineFault, out: &mut O) -> u8
     }
 }
 
-/// Does what the words behind the program's name ask for, and answers the status: 0, 1 where
-/// `audit` told of a sector or a patch was refused, 2 behind a fault. Every text goes to `out`.
+/// Does what the arguments after the program's name ask for, and answers the status: 0, 1 if
+/// `audit` has a finding or a patch was refused, 2 after a fault. Every text goes to `out`.
 ///
 /// # Examples
 ///

@@ -1,4 +1,4 @@
-//! The lines that the program itself writes, each with its line feed. One more is
+//! The lines that the program itself prints, each with its line feed. One more is
 //! `cd_command::NO_MEMORY`.
 
 ghost use Rattle.std.specs.Prelude.{◌≡◌, ◌≤◌, length};
@@ -22,10 +22,14 @@ pub const NO_IMAGE: &str = "cdpatch: cannot open the image\n";
 /// No new file was made.
 pub const NO_OUTPUT: &str = "cdpatch: cannot make the output file\n";
 
-/// The words behind the program's name are not text.
+/// A standard stream is closed, and the file that was to take its number was not opened.
+pub const NO_ROOT: &str = "cdpatch: cannot open the root directory\n";
+
+/// An argument is not valid UTF-8.
 pub const NOT_TEXT: &str = "cdpatch: the words are not text\n";
 
-/// The line of a file that is not there, by the line for one that was refused.
+/// The line for a file that is not there; `refused` if it was refused, else that for want of
+/// memory.
 #[tactic(auto, unfolding(crate::specs::Messages::open_fault_line))]
 pub fn open_fault_line(refused: &'static str, fault: OpenFault) -> &'static str
     ensures { result.now ≡ open_fault_line refused.now fault }
@@ -48,7 +52,7 @@ pub fn load_fault_line(fault: LoadFault) -> &'static str
     }
 }
 
-/// The line of a call's fault. A log that failed has none.
+/// The line of a call's fault. A log that failed has none, since the lines go to the log.
 #[tactic(auto, unfolding(crate::specs::Messages::fault_line))]
 pub fn fault_line(fault: Fault) -> &'static str
     ensures { result.now ≡ fault_line fault }
@@ -61,7 +65,7 @@ pub fn fault_line(fault: Fault) -> &'static str
     }
 }
 
-/// The line of a fault that stands on a line of a script, with a text of at most 40 bytes.
+/// `script line NUMBER: TEXT`, of which the text has at most 40 bytes.
 #[tactic(auto, unfolding(crate::specs::Messages::numbered_line))]
 fn numbered_line(number: u32, text: &[u8]) -> Line
     requires { length text.now ≤ 40 }

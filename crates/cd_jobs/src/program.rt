@@ -1,4 +1,4 @@
-//! The program of a process: its words, and its standard output.
+//! The program of a process: its arguments, and its standard output.
 
 ghost use Rattle.std.specs.Prelude.{◌≡◌, ◌≢◌, ◌≤◌, IfErr, IfOk, map, string_bytes};
 ghost use Rattle.std.specs.IoError.{error_kind};
@@ -9,25 +9,28 @@ ghost use Rattle.cd_stream.specs.Stream.{MayCount};
 
 use crate::host::Host;
 use crate::jobs::do_words;
-use crate::messages::NOT_TEXT;
+use crate::messages::{NO_ROOT, NOT_TEXT};
 use crate::run::fail;
 use crate::system::System;
 use cd_command::NO_MEMORY;
 use cd_image::{Sink, ToWrite};
 use std::alloc::Global;
+use std::fs::File;
 use std::io::{self, ErrorKind};
+use std::os::fd::AsFd;
 use std::{env, fs};
 
-/// Does what the words behind the program's name ask for, and answers the status. Every text goes
-/// to the standard output.
+/// Does what the arguments after the program's name ask for, and answers the status. Every text
+/// goes to the standard output; the line that says that there is no memory for its buffer goes out
+/// without one.
 ///
 /// It has no example: it is the whole of `main`, and [`do_words`] is what a test runs.
 pub fn run_program(rt: &HostRuntime) -> u8
     ensures { result ≤ 2 }
 {
-    // Where a standard stream is closed, the next file to be opened takes its number. These take
-    // it, so that no message goes into a file of the user's.
-    let _spare = (fs::open(rt, "/"), fs::open(rt, "/"), fs::open(rt, "/"));
+    let Ok(_spare) = spare_files(rt) else {
+        return fail(NO_ROOT.as_bytes(), &mut ToWrite::new(rt.stdout()));
+    };
     let mut system = System::new(rt);
     match system.standard_output() {
         Ok(mut out) => do_given(rt.alloc(), &mut system, words_of(rt), &mut out),
@@ -35,7 +38,31 @@ pub fn run_program(rt: &HostRuntime) -> u8
     }
 }
 
-/// Does what words ask for, or says why there are none, and answers the status.
+/// Files for the numbers of closed standard streams, and none if all three are open. The next file
+/// to be opened takes the number of a closed stream; while these have it, no file of the user's
+/// gets it, and no message goes into that file. To read or to write them fails. A pipe would not
+/// do: a read of its free end looks like the end of an image.
+///
+/// # Errors
+///
+/// A stream is closed, and the root directory could not be opened three times.
+fn spare_files(rt: &HostRuntime) -> io::Result<Option<(File, File, File)>> {
+    if has_standard_streams(rt) {
+        return Ok(None);
+    }
+    Ok(Some((fs::open(rt, "/")?, fs::open(rt, "/")?, fs::open(rt, "/")?)))
+}
+
+/// Whether the three standard streams are open: a closed one cannot be duplicated.
+fn has_standard_streams(rt: &HostRuntime) -> bool {
+    rt.stdin().as_fd().try_clone_to_owned().is_ok()
+        && rt.stdout().as_fd().try_clone_to_owned().is_ok()
+        && rt.stderr().as_fd().try_clone_to_owned().is_ok()
+}
+
+/// Proof step: does what the arguments ask for, or says why there are none, and answers the status.
+/// The contract of the whole program, which `run_program` can't state of a process. std gives the
+/// arguments all or none, so no command is looked for among others that are not text.
 fn do_given<H: Host, O: Sink>(
     alloc: Global,
     host: &mut H,
@@ -58,7 +85,7 @@ fn do_given<H: Host, O: Sink>(
     }
 }
 
-/// The words behind the program's name.
+/// The arguments after the program's name.
 fn words_of(rt: &HostRuntime) -> io::Result<Vec<String>> {
     let mut words = Vec::new(rt.alloc());
     for word in env::args(rt)?.skip(1) {

@@ -19,13 +19,13 @@ use cd_image::{
 };
 use cd_script::Script;
 
-/// The status of an audit that told of a sector.
+/// The status of an audit with a finding.
 const FOUND: u8 = 1;
 
 /// The status of a script of which a patch was refused.
 const REFUSED: u8 = 1;
 
-/// Writes a line of the program's own and passes it on.
+/// Prints a line of the program's own and passes it on.
 ///
 /// # Errors
 ///
@@ -39,7 +39,7 @@ pub fn say<O: Sink>(line: &[u8], out: &mut O) -> Result<(), SinkFailed>
     out.finish()
 }
 
-/// Says a line, and answers the status of a failure.
+/// Prints a line, and answers the status 2.
 pub fn fail<O: Sink>(line: &[u8], out: &mut O) -> u8
     requires { MayCount (O.seen out.old).failures }
     ensures line { SaysLine line.now (O.seen out.old) (O.seen out.new) }
@@ -49,7 +49,8 @@ pub fn fail<O: Sink>(line: &[u8], out: &mut O) -> u8
     FAILED
 }
 
-/// Writes the line of a fault, and answers the status. The sink whose `own` fault it is gets none.
+/// Prints the line of a fault to `out`, and answers the status 2. No line is printed for `own`, the
+/// fault of `out` itself.
 fn end_by<O: Sink>(fault: Fault, own: Fault, out: &mut O) -> u8
     requires { fault ≢ own → MayCount (O.seen out.old).failures }
     ensures line { SaysFault own fault (O.seen out.old) (O.seen out.new) }
@@ -61,8 +62,8 @@ fn end_by<O: Sink>(fault: Fault, own: Fault, out: &mut O) -> u8
     fail(fault_line(fault).as_bytes(), out)
 }
 
-/// Lists an image to `out`, of which the first block has the number `base`, and answers the status:
-/// 0, or 2 behind the line of a fault.
+/// Lists an image to `out`, whose first block has the number `base`, and answers the status: 0, or
+/// 2 after the line of a fault.
 ///
 /// # Examples
 ///
@@ -80,7 +81,7 @@ pub fn run_list<I: Source, O: Sink>(image: &mut I, base: u32, out: &mut O) -> u8
         (I.seen image.new) (O.seen out.old) out' answer)
         Fault.Write (λ _. done_status) (O.seen out.new) result }
 
-    // What it says where nothing failed, and when something has.
+    // What it says if nothing failed, and when something has.
     ensures text { result ≢ failed_status → TellsText (list_report base) (λ _. done_status)
         (I.seen image.old) (I.seen image.new) (O.seen out.old) (O.seen out.new) result }
     ensures ends_well { result ≢ failed_status
@@ -103,8 +104,8 @@ fn audit_status_of(tally: &AuditTally) -> u8
     if tally.findings == 0 { DONE } else { FOUND }
 }
 
-/// Audits an image to `out`, of which the first block has the number `base`, and answers the
-/// status: 0, 1 where it told of a sector, or 2 behind the line of a fault.
+/// Audits an image to `out`, whose first block has the number `base`, and answers the status: 0, 1
+/// if it has a finding, or 2 after the line of a fault.
 ///
 /// # Examples
 ///
@@ -123,7 +124,7 @@ pub fn run_audit<I: Source, O: Sink>(image: &mut I, base: u32, out: &mut O) -> u
         (I.seen image.new) (O.seen out.old) out' answer)
         Fault.Write audit_status (O.seen out.new) result }
 
-    // What it says where nothing failed, and when something has.
+    // What it says if nothing failed, and when something has.
     ensures text { result ≢ failed_status → TellsText (audit_report base) audit_status
         (I.seen image.old) (I.seen image.new) (O.seen out.old) (O.seen out.new) result }
     ensures ends_well { result ≢ failed_status
@@ -139,16 +140,16 @@ pub fn run_audit<I: Source, O: Sink>(image: &mut I, base: u32, out: &mut O) -> u
     }
 }
 
-/// The status of a script that was taken to its end.
+/// The status of a script that was applied to the end.
 fn status_of(tally: &Tally) -> u8
     ensures { result ≡ script_status tally.now }
 {
     if tally.refused == 0 { DONE } else { REFUSED }
 }
 
-/// Decides each patch of a script on an image, and tells of it to `log`: the answer is the status,
-/// 0, 1 where a patch is refused, or 2 behind the line of a fault. A log that has failed gets no
-/// line. Damage is carried or refused.
+/// Decides each patch of a script on an image, and writes its line to `log`: the answer is the
+/// status, 0, 1 if a patch is refused, or 2 after the line of a fault. A log that has failed gets
+/// no line. Damage is carried or refused.
 ///
 /// # Examples
 ///
@@ -173,7 +174,7 @@ pub fn run_check<I: Source, L: Sink>(
         (I.seen image.new) (L.seen log.old) log' answer)
         Fault.Log script_status (L.seen log.new) result }
 
-    // What it says where nothing failed, and when something has.
+    // What it says if nothing failed, and when something has.
     ensures log { result ≢ failed_status → TellsPatches carry script.now base (I.seen image.old)
         (L.seen log.old) (L.seen log.new) result }
     ensures ends_well { result ≢ failed_status
@@ -189,8 +190,8 @@ pub fn run_check<I: Source, L: Sink>(
     }
 }
 
-/// Patches an image to `out`, and tells of each patch to `log`: the answer is the status, 0, 1
-/// where a patch is refused, or 2 behind the line of a fault. A log that has failed gets no line.
+/// Patches an image to `out`, and writes the line of each patch to `log`: the answer is the status,
+/// 0, 1 if a patch is refused, or 2 after the line of a fault. A log that has failed gets no line.
 ///
 /// # Examples
 ///
@@ -218,7 +219,7 @@ pub fn run_apply<I: Source, O: Sink, L: Sink>(
         (streams (I.seen image.new) (O.seen out.new) log') answer)
         Fault.Log script_status (L.seen log.new) result }
 
-    // What it says where nothing failed, and when something has.
+    // What it says if nothing failed, and when something has.
     ensures output { result ≢ failed_status → WritesPatched carry script.now base (I.seen image.old)
         (I.seen image.new) (O.seen out.old) (O.seen out.new) }
     ensures carried { carry ≡ true → result ≢ failed_status

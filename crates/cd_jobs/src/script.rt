@@ -26,7 +26,7 @@ const CHUNK_SIZE: usize = 16_384;
 pub enum LoadFault {
     /// A read of the file failed.
     Read,
-    /// A byte was read behind the longest text.
+    /// A byte was read after the longest text.
     TooLong,
     /// Memory was refused.
     NoMemory,
@@ -110,7 +110,7 @@ fn read_all<I: Source>(alloc: Global, file: &mut I) -> Result<Vec<u8>, LoadFault
 ///
 /// # Errors
 ///
-/// The status 2, where a read fails, or a byte comes after that many, or memory is refused,
+/// The status 2, if a read fails, or a byte comes after that many, or memory is refused,
 /// whichever is first: a line in `log` says so.
 ///
 /// # Examples

@@ -13,7 +13,7 @@ use std::fs::File;
 use std::io::{self, BufReader, IsTerminal, Read, Stdin, Stdout, Write};
 
 /// The number of bytes that are read or written at a time: 64 KiB as near as whole sectors come, so
-/// that none lies in two reads.
+/// that no sector is copied in two parts.
 const BUFFER_SIZE: usize = 28 * SECTOR_SIZE;
 
 /// Where the bytes of an image or a script come from.
@@ -36,8 +36,7 @@ impl Debug for Reader {
 }
 
 impl Read for Reader {
-    // Called once in 28 sectors. In line it would keep what is done for each sector from being put
-    // in line.
+    // Called once in 28 sectors. Inlined, it would keep the work on each sector from being inlined.
     #[cold]
     #[inline(never)]
     fn read(&mut self, buf: &mut [u8]) -> io::Result<usize> {
@@ -48,12 +47,15 @@ impl Read for Reader {
     }
 }
 
-/// A file whose flush is done when the system has written its data to the disk.
+/// A file whose flush succeeds when the system has written its data to the disk, so that an error
+/// that comes late (a full disk, a file on another machine) is a failed flush. `sync_data` also
+/// syncs the file's length; its name, which is data of its directory, is not synced. std makes an
+/// interrupted sync again, which moves no byte.
 #[derive(Debug, Drop)]
 pub struct Synced(File);
 
 impl Write for Synced {
-    // As `Reader`'s `read`.
+    // Not inlined, as `Reader`'s `read`.
     #[cold]
     #[inline(never)]
     fn write(&mut self, buf: &[u8]) -> io::Result<usize> {
@@ -97,8 +99,9 @@ impl<'a> System<'a> {
         }
     }
 
-    /// The standard output. A terminal gets each line at once; a file or a pipe gets as many bytes
-    /// at a time as are read. It has no example: a test tells of itself on the same output.
+    /// The standard output. A terminal gets each line at once, so none is held back from someone
+    /// who watches; a file or a pipe gets as many bytes at a time as are read. It is not synced: a
+    /// pipe and a terminal cannot be. It has no example: a test prints on the same output.
     ///
     /// # Errors
     ///
@@ -118,7 +121,7 @@ impl<'a> Host for System<'a> {
 
     type Output = Buffered<ToWrite<Synced>>;
 
-    // Nothing is said of what a disc holds.
+    // std's contracts state nothing of a file's bytes. Tests show which files it opens and makes.
     ghost hosting = { any_answers };
 
     fn input_at(&mut self, path: &str) -> Result<FromRead<BufReader<Reader>>, OpenFault> {
@@ -133,12 +136,19 @@ impl<'a> Host for System<'a> {
     }
 
     fn output_at(&mut self, path: &str) -> Result<Buffered<ToWrite<Synced>>, OpenFault> {
-        let Ok(file) = File::create_new(self.rt, path) else {
+        let mut new = File::options();
+        // Only to be written, so that nothing can be read from it, whatever its number.
+        new.write(true).create_new(true);
+        let Ok(file) = new.open(self.rt, path) else {
             return Err(OpenFault::Refused);
         };
         match vec![in self.rt.alloc(); 0; BUFFER_SIZE] {
             Ok(space) => Ok(Buffered::new(ToWrite::new(Synced(file)), space)),
+            // The new file stays, empty.
             Err(_) => Err(OpenFault::NoMemory),
         }
     }
+
+    // What was written is synced, and stays under its path. A close that fails here loses nothing.
+    fn take_back(&mut self, _: &str, _: Buffered<ToWrite<Synced>>) {}
 }

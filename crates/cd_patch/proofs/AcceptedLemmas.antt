@@ -18,18 +18,28 @@ pub record IsThere (sectors : List (List ℕ)) (base block : ℕ) : Type 0 where
 
 -- what an accepted patch meets
 abbrev pub AreThere : List (List ℕ) → ℕ → Patch → Type 0
-AreThere sectors base p = (block : ℕ) → p.block ≤ block → block < p.block + blocks_met p → IsThere sectors base block
+AreThere sectors base p =
+    (block : ℕ) → p.block ≤ block → block < p.block + blocks_met p → IsThere sectors base block
 
-met-there : (asks : Bool) (s : Option (List ℕ)) → IsMet asks s → (sector : List ℕ) × (s ≡ Some sector) × (kind_of sector ≡ Mode1)
+met-there : (asks : Bool) (s : Option (List ℕ)) → IsMet asks s
+    → (sector : List ℕ) × (s ≡ Some sector) × (kind_of sector ≡ Mode1)
 met-there asks None h = elim h [ ]
 met-there asks (Some sector) h = (sector, refl, h.0)
 
-pub accepted-there : (carry : Bool) (sectors : List (List ℕ)) (base : ℕ) (p : Patch) → outcome carry sectors base p ≡ Applied → AreThere sectors base p
+pub accepted-there : (carry : Bool) (sectors : List (List ℕ)) (base : ℕ) (p : Patch)
+    → outcome carry sectors base p ≡ Applied → AreThere sectors base p
 unfolding outcome
 accepted-there carry sectors base p e = λ block from to.
     let asks = needs_consistent carry p.edit in
-    let otherwise = by_difference p.block (first_difference p.offset (drop p.offset (user_met sectors base p)) (old_bytes p.edit)) in
-    let none = applied-told (first_refusal sectors base asks p.block (blocks_met p)) otherwise (first_refusal-told sectors base asks p.block (blocks_met p)) e in
+    let otherwise =
+    by_difference p.block
+    (first_difference p.offset (drop p.offset (user_met sectors base p)) (old_bytes p.edit)) in
+    let none =
+    applied-told (first_refusal sectors base asks p.block (blocks_met p)) otherwise
+    (first_refusal-told sectors base asks p.block (blocks_met p)) e in
     let at : p.block + (block - p.block) ≡ block = omega arith in
-    let found = met-there asks (sector_at sectors base (p.block + (block - p.block))) (first_refusal-none sectors base asks p.block (blocks_met p) none (block - p.block) (omega arith)) in
+    let found =
+    met-there asks (sector_at sectors base (p.block + (block - p.block)))
+    (first_refusal-none sectors base asks p.block (blocks_met p) none (block - p.block)
+    (omega arith)) in
     subst (IsThere sectors base) at (record { sector = found.0; is = found.1; mode = found.2 })

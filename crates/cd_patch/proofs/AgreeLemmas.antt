@@ -1,4 +1,5 @@
--- Where the first sectors are equal, the patches that begin there have equal outcomes, and leave equal sectors.
+-- Where the first sectors are equal, the patches that begin there have equal outcomes, and leave
+-- equal sectors.
 use Rattle.std.proofs.Common.{◌≡◌, ℕ, zero, suc, ◌+◌, ◌<◌, ◌≤◌, inl, inr, Bool, List, [], ◌∷◌, get_or, take, Some, refl, sym, ap, ◌∙◌, arith}
 use Rattle.std.specs.List.{All, slice_get}
 use Rattle.std.specs.List.Sorted.{IsNonDecreasingBy}
@@ -18,14 +19,20 @@ use Rattle.cd_patch.proofs.SectorAtLemmas.{same_front, same_front-at}
 
 -- the sectors below a block are equal
 abbrev SameBelow : List (List ℕ) → List (List ℕ) → ℕ → ℕ → Type 0
-SameBelow sectors others base bound = (block : ℕ) → block < bound → sector_at sectors base block ≡ sector_at others base block
+SameBelow sectors others base bound =
+    (block : ℕ) → block < bound → sector_at sectors base block ≡ sector_at others base block
 
 -- the patches that begin up to a block have equal outcomes
 abbrev SameUpTo : List Patch → List Outcome → List Outcome → ℕ → Type 0
-SameUpTo ps os os' block = (k : ℕ) (p : Patch) → slice_get ps k ≡ Some p → p.block ≤ block → slice_get os k ≡ slice_get os' k
+SameUpTo ps os os' block =
+    (k : ℕ) (p : Patch) → slice_get ps k ≡ Some p → p.block ≤ block
+    → slice_get os k ≡ slice_get os' k
 
-agree_behind : (carry : Bool) (ps : List Patch) (os os' : List Outcome) (base block : ℕ) (old old' last last' : List (List ℕ)) → All (λ q. block + 1 ≤ q.block) ps
-    → SameBelow old old' base (block + 1) → PatchRun carry ps os base old last → PatchRun carry ps os' base old' last' → SameUpTo ps os os' block × SameBelow last last' base (block + 1)
+agree_behind : (carry : Bool) (ps : List Patch) (os os' : List Outcome) (base block : ℕ)
+    (old old' last last' : List (List ℕ)) → All (λ q. block + 1 ≤ q.block) ps
+    → SameBelow old old' base (block + 1) → PatchRun carry ps os base old last
+    → PatchRun carry ps os' base old' last'
+    → SameUpTo ps os os' block × SameBelow last last' base (block + 1)
 agree_behind carry ps os os' base block old old' last last' from same h h' = (
   λ k p is up_to.
       let here : get_or ps k p ≡ p = get_or_from_slice_get ps k p p is in
@@ -37,35 +44,53 @@ agree_behind carry ps os os' base block old old' last last' from same h h' = (
       ∙ sym (PatchRun-keeps carry ps os' base (block + 1) old' last' from h' b below),
 )
 
-agree : (carry : Bool) (i base : ℕ) (ps : List Patch) (os os' : List Outcome) (old old' last last' : List (List ℕ)) → All IsPatch ps → IsNonDecreasingBy (λ p. p.block) ps
-    → SameBelow old old' base (base + (i + block_limit)) → PatchRun carry ps os base old last → PatchRun carry ps os' base old' last'
+agree : (carry : Bool) (i base : ℕ) (ps : List Patch) (os os' : List Outcome)
+    (old old' last last' : List (List ℕ)) → All IsPatch ps → IsNonDecreasingBy (λ p. p.block) ps
+    → SameBelow old old' base (base + (i + block_limit)) → PatchRun carry ps os base old last
+    → PatchRun carry ps os' base old' last'
     → SameUpTo ps os os' (base + i) × SameBelow last last' base (base + i + 1)
 agree carry i base [] [] [] old old' last last' each rises same h h' = (
   λ k p is up_to. refl,
-  λ b below. ap (λ l. sector_at l base b) h ∙ same b (omega arith) ∙ ap (λ l. sector_at l base b) (sym h'),
+  λ b below. ap (λ l. sector_at l base b) h ∙ same b (omega arith)
+      ∙ ap (λ l. sector_at l base b) (sym h'),
 )
 agree carry i base [] [] (o ∷ os') old old' last last' each rises same h h' = elim h' [ ]
 agree carry i base [] (o ∷ os) os' old old' last last' each rises same h h' = elim h [ ]
 agree carry i base (p ∷ ps) [] os' old old' last last' each rises same h h' = elim h [ ]
 agree carry i base (p ∷ ps) (o ∷ os) [] old old' last last' each rises same h h' = elim h' [ ]
-agree carry i base (p ∷ ps) (o ∷ os) (o' ∷ os') old old' last last' each rises same h h' = elim (cases_lt (base + i) p.block) [
-  | inl behind ↦
-      agree_behind carry (p ∷ ps) (o ∷ os) (o' ∷ os') base (base + i) old old' last last' (rising-from p ps (base + i + 1) rises (omega arith)) (λ b below. same b (omega arith)) h h'
-  | inr here ↦
-      let most = blocks_met-most p (All-head IsPatch p ps each) in
-      let next : SameBelow h.next h'.next base (base + (i + block_limit)) = Effects-agree carry (base + (i + block_limit)) base p old old' h.next h'.next (omega arith) same h.effect h'.effect in
-      let equal : o ≡ o' = h.decided ∙ outcome-same carry old old' base base p (λ b low high. same b (omega arith)) ∙ sym h'.decided in
-      let rest = agree carry i base ps os os' h.next h'.next last last' (All-tail IsPatch p ps each) (rising-tail p ps rises) next h.others h'.others in
-      (first_equal p ps o o' os os' (base + i) equal rest.0, rest.1)
-]
+agree carry i base (p ∷ ps) (o ∷ os) (o' ∷ os') old old' last last' each rises same h h' =
+    elim (cases_lt (base + i) p.block) [
+      | inl behind ↦
+          agree_behind carry (p ∷ ps) (o ∷ os) (o' ∷ os') base (base + i) old old' last last'
+          (rising-from p ps (base + i + 1) rises (omega arith))
+          (λ b below. same b (omega arith)) h h'
+      | inr here ↦
+          let most = blocks_met-most p (All-head IsPatch p ps each) in
+          let next : SameBelow h.next h'.next base (base + (i + block_limit)) =
+          Effects-agree carry (base + (i + block_limit)) base p old old' h.next h'.next
+          (omega arith) same h.effect h'.effect in
+          let equal : o ≡ o' =
+          h.decided ∙ outcome-same carry old old' base base p (λ b low high. same b (omega arith))
+          ∙ sym h'.decided in
+          let rest =
+          agree carry i base ps os os' h.next h'.next last last' (All-tail IsPatch p ps each)
+          (rising-tail p ps rises) next h.others h'.others in
+          (first_equal p ps o o' os os' (base + i) equal rest.0, rest.1)
+    ]
   where
-    first_equal : (p : Patch) (ps : List Patch) (o o' : Outcome) (os os' : List Outcome) (block : ℕ) → o ≡ o' → SameUpTo ps os os' block → SameUpTo (p ∷ ps) (o ∷ os) (o' ∷ os') block
+    first_equal : (p : Patch) (ps : List Patch) (o o' : Outcome) (os os' : List Outcome) (block : ℕ)
+        → o ≡ o' → SameUpTo ps os os' block → SameUpTo (p ∷ ps) (o ∷ os) (o' ∷ os') block
     first_equal p ps o o' os os' block equal rest zero q is up_to = ap (λ x. Some x) equal
     first_equal p ps o o' os os' block equal rest (suc k) q is up_to = rest k q is up_to
 
-pub runs-agree : (carry : Bool) (i base : ℕ) (ps : List Patch) (os os' : List Outcome) (old old' last last' : List (List ℕ)) → All IsPatch ps → IsNonDecreasingBy (λ p. p.block) ps
-    → take (i + block_limit) old ≡ take (i + block_limit) old' → PatchRun carry ps os base old last → PatchRun carry ps os' base old' last'
-    → ((k : ℕ) (p : Patch) → slice_get ps k ≡ Some p → p.block ≤ base + i → slice_get os k ≡ slice_get os' k) × (take (i + 1) last ≡ take (i + 1) last')
+pub runs-agree : (carry : Bool) (i base : ℕ) (ps : List Patch) (os os' : List Outcome)
+    (old old' last last' : List (List ℕ)) → All IsPatch ps → IsNonDecreasingBy (λ p. p.block) ps
+    → take (i + block_limit) old ≡ take (i + block_limit) old' → PatchRun carry ps os base old last
+    → PatchRun carry ps os' base old' last'
+    → ((k : ℕ) (p : Patch) → slice_get ps k ≡ Some p → p.block ≤ base + i
+    → slice_get os k ≡ slice_get os' k) × (take (i + 1) last ≡ take (i + 1) last')
 runs-agree carry i base ps os os' old old' last last' each rises same h h' =
-    let both = agree carry i base ps os os' old old' last last' each rises (same_front-at old' old base (i + block_limit) same) h h' in
+    let both =
+    agree carry i base ps os os' old old' last last' each rises
+    (same_front-at old' old base (i + block_limit) same) h h' in
     (both.0, same_front last' last base (i + 1) (λ b below. both.1 b (omega arith)))

@@ -22,102 +22,142 @@ asks-nothing p = and_right (builds_on p.edit) (not true) refl
 -- ---- no refusal for damage
 
 unasked : (mode sound : Bool) (block other : ℕ)
-    → (if not mode then Some (NotMode1 block) else if false && not sound then Some (Damaged block) else None) ≡ Some (Damaged other) → ⊥
+    → (if not mode then Some (NotMode1 block) else if false && not sound then Some (Damaged block)
+    else None) ≡ Some (Damaged other) → ⊥
 unasked true sound block other h = cc
 unasked false sound block other h = cc
 
-refusal_at-unasked : (block other : ℕ) (sector : Option (List ℕ)) → refusal_at false block sector ≡ Some (Damaged other) → ⊥
+refusal_at-unasked : (block other : ℕ) (sector : Option (List ℕ))
+    → refusal_at false block sector ≡ Some (Damaged other) → ⊥
 refusal_at-unasked block other None h = cc
-refusal_at-unasked block other (Some sector) h = unasked (is_mode1 (kind_of sector)) (consistent sector) block other h
+refusal_at-unasked block other (Some sector) h =
+    unasked (is_mode1 (kind_of sector)) (consistent sector) block other h
 
-first_of-unasked : (a b : Option Outcome) (other : ℕ) → (a ≡ Some (Damaged other) → ⊥) → (b ≡ Some (Damaged other) → ⊥) → first_of a b ≡ Some (Damaged other) → ⊥
+first_of-unasked : (a b : Option Outcome) (other : ℕ) → (a ≡ Some (Damaged other) → ⊥)
+    → (b ≡ Some (Damaged other) → ⊥) → first_of a b ≡ Some (Damaged other) → ⊥
 first_of-unasked None b other one two h = two h
 first_of-unasked (Some x) b other one two h = one h
 
-first_refusal-unasked : (ss : List (List ℕ)) (base block count other : ℕ) → first_refusal ss base false block count ≡ Some (Damaged other) → ⊥
+first_refusal-unasked : (ss : List (List ℕ)) (base block count other : ℕ)
+    → first_refusal ss base false block count ≡ Some (Damaged other) → ⊥
 first_refusal-unasked ss base block zero other h = cc
 first_refusal-unasked ss base block (suc count) other h =
-    first_of-unasked (refusal_at false block (sector_at ss base block)) (first_refusal ss base false (block + 1) count) other
-    (refusal_at-unasked block other (sector_at ss base block)) (first_refusal-unasked ss base (block + 1) count other) h
+    first_of-unasked (refusal_at false block (sector_at ss base block))
+    (first_refusal ss base false (block + 1) count) other
+    (refusal_at-unasked block other (sector_at ss base block))
+    (first_refusal-unasked ss base (block + 1) count other) h
 
-by_difference-unasked : (block other : ℕ) (place : Option ℕ) → by_difference block place ≡ Damaged other → ⊥
+by_difference-unasked : (block other : ℕ) (place : Option ℕ)
+    → by_difference block place ≡ Damaged other → ⊥
 by_difference-unasked block other None h = cc
 by_difference-unasked block other (Some place) h = cc
 
-unwrapped : (r : Option Outcome) (o : Outcome) (other : ℕ) → (r ≡ Some (Damaged other) → ⊥) → (o ≡ Damaged other → ⊥) → unwrap_or r o ≡ Damaged other → ⊥
+unwrapped : (r : Option Outcome) (o : Outcome) (other : ℕ) → (r ≡ Some (Damaged other) → ⊥)
+    → (o ≡ Damaged other → ⊥) → unwrap_or r o ≡ Damaged other → ⊥
 unwrapped None o other one two h = two h
 unwrapped (Some r) o other one two h = one (ap (λ x. Some x) h)
 
-pub never-damaged : (base block : ℕ) (p : Patch) (ss : List (List ℕ)) → outcome true ss base p ≡ Damaged block → ⊥
+pub never-damaged : (base block : ℕ) (p : Patch) (ss : List (List ℕ))
+    → outcome true ss base p ≡ Damaged block → ⊥
 unfolding outcome
 never-damaged base block p ss h =
     let place = first_difference p.offset (drop p.offset (user_met ss base p)) (old_bytes p.edit) in
-    unwrapped (first_refusal ss base (needs_consistent true p.edit) p.block (blocks_met p)) (by_difference p.block place) block
-    (λ e. first_refusal-unasked ss base p.block (blocks_met p) block (subst (λ a. first_refusal ss base a p.block (blocks_met p) ≡ Some (Damaged block)) (asks-nothing p) e))
+    unwrapped (first_refusal ss base (needs_consistent true p.edit) p.block (blocks_met p))
+    (by_difference p.block place) block
+    (λ e. first_refusal-unasked ss base p.block (blocks_met p) block
+    (subst (λ a. first_refusal ss base a p.block (blocks_met p) ≡ Some (Damaged block))
+    (asks-nothing p) e))
     (by_difference-unasked p.block block place) h
 
 -- ---- where there is nothing to carry
 
 loose : (mode asks sound : Bool) (block : ℕ)
-    → (if not mode then Some (NotMode1 block) else if asks && not sound then Some (Damaged block) else None) ≡ None
-    → (if not mode then Some (NotMode1 block) else if false && not sound then Some (Damaged block) else None) ≡ None
+    → (if not mode then Some (NotMode1 block) else if asks && not sound then Some (Damaged block)
+    else None) ≡ None
+    → (if not mode then Some (NotMode1 block) else if false && not sound then Some (Damaged block)
+    else None) ≡ None
 loose true asks sound block h = refl
 loose false asks sound block h = cc
 
-refusal_at-loose : (asks : Bool) (block : ℕ) (sector : Option (List ℕ)) → refusal_at asks block sector ≡ None → refusal_at false block sector ≡ None
+refusal_at-loose : (asks : Bool) (block : ℕ) (sector : Option (List ℕ))
+    → refusal_at asks block sector ≡ None → refusal_at false block sector ≡ None
 refusal_at-loose asks block None h = cc
-refusal_at-loose asks block (Some sector) h = loose (is_mode1 (kind_of sector)) asks (consistent sector) block h
+refusal_at-loose asks block (Some sector) h =
+    loose (is_mode1 (kind_of sector)) asks (consistent sector) block h
 
-first_refusal-loose : (ss : List (List ℕ)) (base : ℕ) (asks : Bool) (block count : ℕ) → first_refusal ss base asks block count ≡ None → first_refusal ss base false block count ≡ None
+first_refusal-loose : (ss : List (List ℕ)) (base : ℕ) (asks : Bool) (block count : ℕ)
+    → first_refusal ss base asks block count ≡ None → first_refusal ss base false block count ≡ None
 first_refusal-loose ss base asks block zero h = refl
 first_refusal-loose ss base asks block (suc count) h =
-    let both = first_of-none (refusal_at asks block (sector_at ss base block)) (first_refusal ss base asks (block + 1) count) h in
-    ap (λ r. first_of r (first_refusal ss base false (block + 1) count)) (refusal_at-loose asks block (sector_at ss base block) both.0)
+    let both =
+    first_of-none (refusal_at asks block (sector_at ss base block))
+    (first_refusal ss base asks (block + 1) count) h in
+    ap (λ r. first_of r (first_refusal ss base false (block + 1) count))
+    (refusal_at-loose asks block (sector_at ss base block) both.0)
     ∙ first_refusal-loose ss base asks (block + 1) count both.1
 
 module _ (base : ℕ) (p : Patch) (old : List (List ℕ)) (accepted : outcome false old base p ≡ Applied) where
   unrefused : first_refusal old base (needs_consistent false p.edit) p.block (blocks_met p) ≡ None
   unfolding outcome
   unrefused =
-      applied-told (first_refusal old base (needs_consistent false p.edit) p.block (blocks_met p)) (by_difference p.block (first_difference p.offset (drop p.offset (user_met old base p)) (old_bytes p.edit)))
+      applied-told (first_refusal old base (needs_consistent false p.edit) p.block (blocks_met p))
+      (by_difference p.block
+      (first_difference p.offset (drop p.offset (user_met old base p)) (old_bytes p.edit)))
       (first_refusal-told old base (needs_consistent false p.edit) p.block (blocks_met p)) accepted
 
   accepted-carried : outcome true old base p ≡ Applied
   unfolding outcome
   accepted-carried =
-      let otherwise = by_difference p.block (first_difference p.offset (drop p.offset (user_met old base p)) (old_bytes p.edit)) in
-      let none : first_refusal old base (needs_consistent true p.edit) p.block (blocks_met p) ≡ None =
-      subst (λ a. first_refusal old base a p.block (blocks_met p) ≡ None) (sym (asks-nothing p)) (first_refusal-loose old base (needs_consistent false p.edit) p.block (blocks_met p) unrefused) in
+      let otherwise =
+      by_difference p.block
+      (first_difference p.offset (drop p.offset (user_met old base p)) (old_bytes p.edit)) in
+      let none : first_refusal old base (needs_consistent true p.edit) p.block (blocks_met p)
+      ≡ None =
+      subst (λ a. first_refusal old base a p.block (blocks_met p) ≡ None) (sym (asks-nothing p))
+      (first_refusal-loose old base (needs_consistent false p.edit) p.block
+      (blocks_met p) unrefused) in
       ap (λ r. unwrap_or r otherwise) (none ∙ sym unrefused) ∙ accepted
 
   -- a block that the patch meets, and whose defect it keeps, has none
-  sound : (k : ℕ) (before : List ℕ) → k < blocks_met p → sector_at old base (p.block + k) ≡ Some before → keeps_defect true p.edit ≡ true → IsConsistent before
+  sound : (k : ℕ) (before : List ℕ) → k < blocks_met p
+      → sector_at old base (p.block + k) ≡ Some before → keeps_defect true p.edit ≡ true
+      → IsConsistent before
   sound k before below is keeps =
-      let asked = and_from (builds_on p.edit) (not false) (and_parts (builds_on p.edit) true keeps).0 refl in
-      let met = first_refusal-none old base (needs_consistent false p.edit) p.block (blocks_met p) unrefused k below in
+      let asked =
+      and_from (builds_on p.edit) (not false)
+      (and_parts (builds_on p.edit) true keeps).0 refl in
+      let met =
+      first_refusal-none old base (needs_consistent false p.edit) p.block
+      (blocks_met p) unrefused k below in
       let here = subst (IsMet (needs_consistent false p.edit)) is met in
       (consistent-told before).0 (here.1 asked)
 
-  made : (k : ℕ) (before after : List ℕ) → k < blocks_met p → sector_at old base (p.block + k) ≡ Some before
-      → IsMade false p.edit before (user_part (patched_user old base p) k) after → IsMade true p.edit before (user_part (patched_user old base p) k) after
+  made : (k : ℕ) (before after : List ℕ) → k < blocks_met p
+      → sector_at old base (p.block + k) ≡ Some before
+      → IsMade false p.edit before (user_part (patched_user old base p) k) after
+      → IsMade true p.edit before (user_part (patched_user old base p) k) after
   made k before after below is h =
       let header = new_header p.edit (header_of before) in
       let user = user_part (patched_user old base p) k in
       MadeBy-nothing (keeps_defect true p.edit) before header user after (sound k before below is)
       (subst (λ b. MadeBy b before header user after) (keeps-nothing false p.edit refl) h)
 
-  applied-carried : (new : List (List ℕ)) → IsApplied false base p old new → IsApplied true base p old new
+  applied-carried : (new : List (List ℕ)) → IsApplied false base p old new
+      → IsApplied true base p old new
   applied-carried new h = record {
     count = h.count;
-    met = λ k before after below is was. made k before after below is (h.met k before after below is was);
+    met = λ k before after below is was.
+        made k before after below is (h.met k before after below is was);
     others = h.others;
   }
 
-pub nothing-to_carry : (base : ℕ) (p : Patch) (old new : List (List ℕ)) → outcome false old base p ≡ Applied → Effect false base p old new
+pub nothing-to_carry : (base : ℕ) (p : Patch) (old new : List (List ℕ))
+    → outcome false old base p ≡ Applied → Effect false base p old new
     → (outcome true old base p ≡ Applied) × Effect true base p old new
 nothing-to_carry base p old new accepted effect =
     let carried = accepted-carried base p old accepted in (
       carried,
       subst (λ o. EffectOf true o base p old new) (sym carried)
-          (applied-carried base p old accepted new (subst (λ o. EffectOf false o base p old new) accepted effect)),
+          (applied-carried base p old accepted new
+          (subst (λ o. EffectOf false o base p old new) accepted effect)),
     )

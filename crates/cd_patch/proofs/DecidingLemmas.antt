@@ -1,4 +1,5 @@
--- Which blocks a patch meets, what an accepted one has found there, and the bytes of joined user data.
+-- Which blocks a patch meets, what an accepted one has found there, and the bytes of joined user
+-- data.
 use Rattle.std.proofs.Common.{◌≡◌, ℕ, zero, suc, ◌+◌, ◌-◌, ◌*◌, ◌/◌, ◌%◌, ◌<◌, ◌≤◌, inl, inr, Bool, true, false, cond, List, [], ◌∷◌, ◌++◌, length, get_or, drop, Option, Some, None, refl, sym, ap, subst, ◌∙◌, eq-eqb, arith}
 use Rattle.std.specs.Prelude.{not, ◌&&◌, if◌then◌else◌, is_some, slice_get, unwrap_or}
 use Rattle.std.proofs.lemmas.Bool.{cases_lt, ne_eqb}
@@ -27,14 +28,16 @@ IsMet asks None = ⊥
 IsMet asks (Some sector) = (kind_of sector ≡ Mode1) × (asks ≡ true → consistent sector ≡ true)
 
 no_refusal : (mode asks sound : Bool) (block : ℕ)
-    → (if not mode then Some (NotMode1 block) else if asks && not sound then Some (Damaged block) else None) ≡ None
+    → (if not mode then Some (NotMode1 block) else if asks && not sound then Some (Damaged block)
+    else None) ≡ None
     → (mode ≡ true) × (asks ≡ true → sound ≡ true)
 no_refusal true true true block h = (refl, λ _. refl)
 no_refusal true true false block h = cc
 no_refusal true false sound block h = (refl, λ e. cc)
 no_refusal false asks sound block h = cc
 
-pub refusal_at-none : (asks : Bool) (block : ℕ) (sector : Option (List ℕ)) → refusal_at asks block sector ≡ None → IsMet asks sector
+pub refusal_at-none : (asks : Bool) (block : ℕ) (sector : Option (List ℕ))
+    → refusal_at asks block sector ≡ None → IsMet asks sector
 refusal_at-none asks block None h = cc
 refusal_at-none asks block (Some sector) h =
     let both = no_refusal (is_mode1 (kind_of sector)) asks (consistent sector) block h in
@@ -45,33 +48,45 @@ first_of-none None b h = (refl, h)
 first_of-none (Some x) b h = cc
 
 -- no block has refused
-pub first_refusal-none : (ss : List (List ℕ)) (base : ℕ) (asks : Bool) (block count : ℕ) → first_refusal ss base asks block count ≡ None
+pub first_refusal-none : (ss : List (List ℕ)) (base : ℕ) (asks : Bool) (block count : ℕ)
+    → first_refusal ss base asks block count ≡ None
     → (k : ℕ) → k < count → IsMet asks (sector_at ss base (block + k))
 first_refusal-none ss base asks block zero h k below = absurd (omega arith)
 first_refusal-none ss base asks block (suc count) h zero below =
-    let both = first_of-none (refusal_at asks block (sector_at ss base block)) (first_refusal ss base asks (block + 1) count) h in
+    let both =
+    first_of-none (refusal_at asks block (sector_at ss base block))
+    (first_refusal ss base asks (block + 1) count) h in
     let here : block ≡ block + 0 = omega arith in
-    subst (λ b. IsMet asks (sector_at ss base b)) here (refusal_at-none asks block (sector_at ss base block) both.0)
+    subst (λ b. IsMet asks (sector_at ss base b)) here
+    (refusal_at-none asks block (sector_at ss base block) both.0)
 first_refusal-none ss base asks block (suc count) h (suc k) below =
-    let both = first_of-none (refusal_at asks block (sector_at ss base block)) (first_refusal ss base asks (block + 1) count) h in
+    let both =
+    first_of-none (refusal_at asks block (sector_at ss base block))
+    (first_refusal ss base asks (block + 1) count) h in
     let there : block + 1 + k ≡ block + suc k = omega arith in
-    subst (λ b. IsMet asks (sector_at ss base b)) there (first_refusal-none ss base asks (block + 1) count both.1 k (omega arith))
+    subst (λ b. IsMet asks (sector_at ss base b)) there
+    (first_refusal-none ss base asks (block + 1) count both.1 k (omega arith))
 
 -- the next block is asked where one does not refuse
 pub first_refusal-next : (ss : List (List ℕ)) (base : ℕ) (asks : Bool) (block count : ℕ)
     → refusal_at asks block (sector_at ss base block) ≡ None
     → first_refusal ss base asks block (suc count) ≡ first_refusal ss base asks (block + 1) count
-first_refusal-next ss base asks block count h = ap (λ r. first_of r (first_refusal ss base asks (block + 1) count)) h
+first_refusal-next ss base asks block count h =
+    ap (λ r. first_of r (first_refusal ss base asks (block + 1) count)) h
 
 -- the first that refuses decides
-pub first_refusal-here : (ss : List (List ℕ)) (base : ℕ) (asks : Bool) (block count : ℕ) (refusal : Outcome)
+pub first_refusal-here : (ss : List (List ℕ)) (base : ℕ) (asks : Bool) (block count : ℕ)
+    (refusal : Outcome)
     → refusal_at asks block (sector_at ss base block) ≡ Some refusal
     → first_refusal ss base asks block (suc count) ≡ Some refusal
-first_refusal-here ss base asks block count refusal h = ap (λ r. first_of r (first_refusal ss base asks (block + 1) count)) h
+first_refusal-here ss base asks block count refusal h =
+    ap (λ r. first_of r (first_refusal ss base asks (block + 1) count)) h
 
 -- what was searched is what the patch asks for
-pub refusal-asked : (carry builds asks : Bool) (ss : List (List ℕ)) (p : Patch) (count : ℕ) (found : Option Outcome)
-    → found ≡ first_refusal ss p.block asks p.block count → asks ≡ (builds && not carry) → builds ≡ builds_on p.edit → count ≡ blocks_met p
+pub refusal-asked : (carry builds asks : Bool) (ss : List (List ℕ)) (p : Patch) (count : ℕ)
+    (found : Option Outcome)
+    → found ≡ first_refusal ss p.block asks p.block count → asks ≡ (builds && not carry)
+    → builds ≡ builds_on p.edit → count ≡ blocks_met p
     → found ≡ first_refusal ss p.block (needs_consistent carry p.edit) p.block (blocks_met p)
 refusal-asked carry builds asks ss p count found told asked row met =
     told
@@ -82,33 +97,42 @@ refusal-asked carry builds asks ss p count found told asked row met =
 
 -- each of `count` blocks from one on has so many bytes of user data
 abbrev pub BlocksHaveUsers : ℕ → List (List ℕ) → ℕ → ℕ → ℕ → Type 0
-BlocksHaveUsers size ss base block count = (k : ℕ) → k < count → length (user_at (sector_at ss base (block + k))) ≡ size
+BlocksHaveUsers size ss base block count =
+    (k : ℕ) → k < count → length (user_at (sector_at ss base (block + k))) ≡ size
 
-users-behind : (size : ℕ) (ss : List (List ℕ)) (base block count : ℕ) → BlocksHaveUsers size ss base block (suc count) → BlocksHaveUsers size ss base (block + 1) count
+users-behind : (size : ℕ) (ss : List (List ℕ)) (base block count : ℕ)
+    → BlocksHaveUsers size ss base block (suc count)
+    → BlocksHaveUsers size ss base (block + 1) count
 users-behind size ss base block count h k below =
     let same : block + 1 + k ≡ block + suc k = omega arith in
     ap (λ b. length (user_at (sector_at ss base b))) same ∙ h (suc k) (omega arith)
 
-first-user : (size : ℕ) (ss : List (List ℕ)) (base block count : ℕ) → BlocksHaveUsers size ss base block (suc count) → length (user_at (sector_at ss base block)) ≡ size
+first-user : (size : ℕ) (ss : List (List ℕ)) (base block count : ℕ)
+    → BlocksHaveUsers size ss base block (suc count)
+    → length (user_at (sector_at ss base block)) ≡ size
 first-user size ss base block count h =
     let same : block ≡ block + 0 = omega arith in
     ap (λ b. length (user_at (sector_at ss base b))) same ∙ h 0 (omega arith)
 
-pub length-joined : (size : ℕ) (ss : List (List ℕ)) (base block count : ℕ) → BlocksHaveUsers size ss base block count
+pub length-joined : (size : ℕ) (ss : List (List ℕ)) (base block count : ℕ)
+    → BlocksHaveUsers size ss base block count
     → length (joined_user ss base block count) ≡ size * count
 length-joined size ss base block zero h = omega arith
 length-joined size ss base block (suc count) h =
     let first = user_at (sector_at ss base block) in
     let others = joined_user ss base (block + 1) count in
     let one = first-user size ss base block count h in
-    let two = length-joined size ss base (block + 1) count (users-behind size ss base block count h) in
+    let two =
+    length-joined size ss base (block + 1) count (users-behind size ss base block count h) in
     let three = length-append first others in
     omega arith
 
 -- byte j of block k among them
-pub joined-byte : (size : ℕ) (ss : List (List ℕ)) (base block count : ℕ) → BlocksHaveUsers size ss base block count
+pub joined-byte : (size : ℕ) (ss : List (List ℕ)) (base block count : ℕ)
+    → BlocksHaveUsers size ss base block count
     → (k j : ℕ) → k < count → j < size
-    → get_or (joined_user ss base block count) (size * k + j) 0 ≡ get_or (user_at (sector_at ss base (block + k))) j 0
+    → get_or (joined_user ss base block count) (size * k + j) 0
+    ≡ get_or (user_at (sector_at ss base (block + k))) j 0
 joined-byte size ss base block zero h k j below inside = absurd (omega arith)
 joined-byte size ss base block (suc count) h zero j below inside =
     let first = user_at (sector_at ss base block) in
@@ -127,34 +151,45 @@ joined-byte size ss base block (suc count) h (suc k) j below inside =
     let there : block + 1 + k ≡ block + suc k = omega arith in
     get_or-append_right first others size (size * suc k + j) 0 one (omega arith)
     ∙ ap (λ n. get_or others n 0) place
-    ∙ joined-byte size ss base (block + 1) count (users-behind size ss base block count h) k j (omega arith) inside
+    ∙ joined-byte size ss base (block + 1) count (users-behind size ss base block count h) k j
+    (omega arith) inside
     ∙ ap (λ b. get_or (user_at (sector_at ss base b)) j 0) there
 
 -- ---- the first difference
 
 pub first_difference-none : (place : ℕ) (bytes old : List ℕ) → length old ≤ length bytes
-    → ((k : ℕ) → k < length old → get_or bytes k 0 ≡ get_or old k 0) → first_difference place bytes old ≡ None
+    → ((k : ℕ) → k < length old → get_or bytes k 0 ≡ get_or old k 0)
+    → first_difference place bytes old ≡ None
 first_difference-none place [] [] room same = refl
 first_difference-none place (b ∷ bytes) [] room same = refl
 first_difference-none place [] (o ∷ old) room same = absurd (omega arith)
 first_difference-none place (b ∷ bytes) (o ∷ old) room same =
     let first : b ≡ o = same 0 (omega arith) in
-    let others = first_difference-none (place + 1) bytes old (omega arith) (λ k below. same (suc k) (omega arith)) in
-    ap (λ t. cond t (first_difference (place + 1) bytes old) (Some place)) (eq-eqb b o first) ∙ others
+    let others =
+    first_difference-none (place + 1) bytes old (omega arith)
+    (λ k below. same (suc k) (omega arith)) in
+    ap (λ t. cond t (first_difference (place + 1) bytes old) (Some place)) (eq-eqb b o first)
+    ∙ others
 
-pub first_difference-some : (place : ℕ) (bytes old : List ℕ) (i : ℕ) → i < length old → i < length bytes
-    → ((k : ℕ) → k < i → get_or bytes k 0 ≡ get_or old k 0) → (get_or bytes i 0 ≡ get_or old i 0 → ⊥)
+pub first_difference-some : (place : ℕ) (bytes old : List ℕ) (i : ℕ) → i < length old
+    → i < length bytes
+    → ((k : ℕ) → k < i → get_or bytes k 0 ≡ get_or old k 0)
+    → (get_or bytes i 0 ≡ get_or old i 0 → ⊥)
     → first_difference place bytes old ≡ Some (place + i)
 first_difference-some place bytes [] i within room same differs = absurd (omega arith)
 first_difference-some place [] (o ∷ old) i within room same differs = absurd (omega arith)
 first_difference-some place (b ∷ bytes) (o ∷ old) zero within room same differs =
     let here : place ≡ place + 0 = omega arith in
-    ap (λ t. cond t (first_difference (place + 1) bytes old) (Some place)) (ne_eqb b o differs) ∙ ap (λ n. Some n) here
+    ap (λ t. cond t (first_difference (place + 1) bytes old) (Some place)) (ne_eqb b o differs)
+    ∙ ap (λ n. Some n) here
 first_difference-some place (b ∷ bytes) (o ∷ old) (suc i) within room same differs =
     let first : b ≡ o = same 0 (omega arith) in
-    let others = first_difference-some (place + 1) bytes old i (omega arith) (omega arith) (λ k below. same (suc k) (omega arith)) differs in
+    let others =
+    first_difference-some (place + 1) bytes old i (omega arith) (omega arith)
+    (λ k below. same (suc k) (omega arith)) differs in
     let there : place + 1 + i ≡ place + suc i = omega arith in
-    ap (λ t. cond t (first_difference (place + 1) bytes old) (Some place)) (eq-eqb b o first) ∙ others ∙ ap (λ n. Some n) there
+    ap (λ t. cond t (first_difference (place + 1) bytes old) (Some place)) (eq-eqb b o first)
+    ∙ others ∙ ap (λ n. Some n) there
 
 -- ---- the sectors themselves
 
@@ -162,21 +197,27 @@ first_difference-some place (b ∷ bytes) (o ∷ old) (suc i) within room same d
 abbrev pub user_byte : List (List ℕ) → ℕ → ℕ
 user_byte ss place = get_or (user_of (get_or ss (place / 2048) [])) (place % 2048) 0
 
-pub user_at-sector : (ss : List (List ℕ)) (base k : ℕ) → k < length ss → user_at (sector_at ss base (base + k)) ≡ user_of (get_or ss k [])
-user_at-sector ss base k inside = ap user_at (sector_at-add ss base k ∙ slice_get-get_or ss k [] inside)
+pub user_at-sector : (ss : List (List ℕ)) (base k : ℕ) → k < length ss
+    → user_at (sector_at ss base (base + k)) ≡ user_of (get_or ss k [])
+user_at-sector ss base k inside =
+    ap user_at (sector_at-add ss base k ∙ slice_get-get_or ss k [] inside)
 
-pub BlocksHaveUsers-from : (ss : List (List ℕ)) (base count : ℕ) → HaveUsers ss count → count ≤ length ss → BlocksHaveUsers 2048 ss base base count
-BlocksHaveUsers-from ss base count users room k below = ap length (user_at-sector ss base k (omega arith)) ∙ users k below
+pub BlocksHaveUsers-from : (ss : List (List ℕ)) (base count : ℕ) → HaveUsers ss count
+    → count ≤ length ss → BlocksHaveUsers 2048 ss base base count
+BlocksHaveUsers-from ss base count users room k below =
+    ap length (user_at-sector ss base k (omega arith)) ∙ users k below
 
 -- byte `place` of the joined user data
 pub joined-place : (ss : List (List ℕ)) (base count : ℕ) → HaveUsers ss count → count ≤ length ss
-    → (place : ℕ) → place < 2048 * count → get_or (joined_user ss base base count) place 0 ≡ user_byte ss place
+    → (place : ℕ) → place < 2048 * count
+    → get_or (joined_user ss base base count) place 0 ≡ user_byte ss place
 joined-place ss base count users room place below =
     let k = place / 2048 in
     let j = place % 2048 in
     let whole : place ≡ 2048 * k + j = omega arith in
     ap (λ n. get_or (joined_user ss base base count) n 0) whole
-    ∙ joined-byte 2048 ss base base count (BlocksHaveUsers-from ss base count users room) k j (omega arith) (omega arith)
+    ∙ joined-byte 2048 ss base base count (BlocksHaveUsers-from ss base count users room) k j
+    (omega arith) (omega arith)
     ∙ ap (λ u. get_or u j 0) (user_at-sector ss base k (omega arith))
 
 -- no byte differs
@@ -186,10 +227,12 @@ pub no_difference : (ss : List (List ℕ)) (offset : ℕ) (old : List ℕ)
     → first_difference offset (drop offset (joined_user ss base base count)) old ≡ None
 no_difference ss offset old same base count users room fits =
     let all = joined_user ss base base count in
-    let size = length-joined 2048 ss base base count (BlocksHaveUsers-from ss base count users room) in
+    let size =
+    length-joined 2048 ss base base count (BlocksHaveUsers-from ss base count users room) in
     let rest = length-drop offset all in
     first_difference-none offset (drop offset all) old (omega arith)
-    (λ k below. get_or-drop offset all k 0 ∙ joined-place ss base count users room (offset + k) (omega arith) ∙ same k below)
+    (λ k below. get_or-drop offset all k 0
+    ∙ joined-place ss base count users room (offset + k) (omega arith) ∙ same k below)
 
 -- byte i is the first that does
 pub a_difference : (ss : List (List ℕ)) (offset : ℕ) (old : List ℕ) (i : ℕ) → i < length old
@@ -199,23 +242,28 @@ pub a_difference : (ss : List (List ℕ)) (offset : ℕ) (old : List ℕ) (i : �
     → first_difference offset (drop offset (joined_user ss base base count)) old ≡ Some (offset + i)
 a_difference ss offset old i within same differs base count users room fits =
     let all = joined_user ss base base count in
-    let size = length-joined 2048 ss base base count (BlocksHaveUsers-from ss base count users room) in
+    let size =
+    length-joined 2048 ss base base count (BlocksHaveUsers-from ss base count users room) in
     let rest = length-drop offset all in
     let byte : (k : ℕ) → k < length old → get_or (drop offset all) k 0 ≡ user_byte ss (offset + k) =
-    λ k below. get_or-drop offset all k 0 ∙ joined-place ss base count users room (offset + k) (omega arith) in
+    λ k below. get_or-drop offset all k 0
+    ∙ joined-place ss base count users room (offset + k) (omega arith) in
     first_difference-some offset (drop offset all) old i within (omega arith)
     (λ k below. byte k (omega arith) ∙ same k below)
     (λ e. differs (sym (byte i within) ∙ e))
 
-pub read-byte : (ss : List (List ℕ)) (place : ℕ) (sector : List ℕ) → place < 2048 * length ss → sector ≡ get_or ss (place / 2048) sector
+pub read-byte : (ss : List (List ℕ)) (place : ℕ) (sector : List ℕ) → place < 2048 * length ss
+    → sector ≡ get_or ss (place / 2048) sector
     → get_or (user_of sector) (place % 2048) 0 ≡ user_byte ss place
 read-byte ss place sector inside read =
-    ap (λ s. get_or (user_of s) (place % 2048) 0) (get_or_read ss (place / 2048) sector (omega arith) read [])
+    ap (λ s. get_or (user_of s) (place % 2048) 0)
+    (get_or_read ss (place / 2048) sector (omega arith) read [])
 
 -- ---- the search for a refusal
 
 -- what was asked of the sector at `i` in the name of a block is what is asked of block base + k
-pub asked_at : (ss : List (List ℕ)) (base : ℕ) (asks : Bool) (k i block : ℕ) (refusal : Option Outcome)
+pub asked_at : (ss : List (List ℕ)) (base : ℕ) (asks : Bool) (k i block : ℕ)
+    (refusal : Option Outcome)
     → refusal ≡ refusal_at asks block (slice_get ss i) → i ≡ k → block ≡ base + k
     → refusal_at asks (base + k) (sector_at ss base (base + k)) ≡ refusal
 asked_at ss base asks k i block refusal told here named =
@@ -224,19 +272,24 @@ asked_at ss base asks k i block refusal told here named =
     ∙ ap (λ b. refusal_at asks b (slice_get ss i)) (sym named)
     ∙ sym told
 
-pub first_refusal-more : (ss : List (List ℕ)) (base : ℕ) (asks : Bool) (k count : ℕ) (refusal : Option Outcome)
+pub first_refusal-more : (ss : List (List ℕ)) (base : ℕ) (asks : Bool) (k count : ℕ)
+    (refusal : Option Outcome)
     → refusal_at asks (base + k) (sector_at ss base (base + k)) ≡ refusal → is_some refusal ≡ false
-    → first_refusal ss base asks (base + k) (suc count) ≡ first_refusal ss base asks (base + (k + 1)) count
+    → first_refusal ss base asks (base + k) (suc count)
+    ≡ first_refusal ss base asks (base + (k + 1)) count
 first_refusal-more ss base asks k count None told none =
     let next : base + k + 1 ≡ base + (k + 1) = omega arith in
-    first_refusal-next ss base asks (base + k) count told ∙ ap (λ b. first_refusal ss base asks b count) next
+    first_refusal-next ss base asks (base + k) count told
+    ∙ ap (λ b. first_refusal ss base asks b count) next
 first_refusal-more ss base asks k count (Some refusal) told none = cc
 
-pub first_refusal-stop : (ss : List (List ℕ)) (base : ℕ) (asks : Bool) (k count : ℕ) (refusal : Option Outcome)
+pub first_refusal-stop : (ss : List (List ℕ)) (base : ℕ) (asks : Bool) (k count : ℕ)
+    (refusal : Option Outcome)
     → refusal_at asks (base + k) (sector_at ss base (base + k)) ≡ refusal → is_some refusal ≡ true
     → first_refusal ss base asks (base + k) (suc count) ≡ refusal
 first_refusal-stop ss base asks k count None told some = cc
-first_refusal-stop ss base asks k count (Some refusal) told some = first_refusal-here ss base asks (base + k) count refusal told
+first_refusal-stop ss base asks k count (Some refusal) told some =
+    first_refusal-here ss base asks (base + k) count refusal told
 
 -- ---- what an accepted patch has found
 
@@ -246,19 +299,23 @@ pub record AreMet (asks : Bool) (ss : List (List ℕ)) (count : ℕ) : Type 0 wh
   pub mode : (k : ℕ) → k < count → kind_of (get_or ss k []) ≡ Mode1
   pub sound : asks ≡ true → (k : ℕ) → k < count → IsConsistent (get_or ss k [])
 
-IsMet-sector : (ss : List (List ℕ)) (base : ℕ) (asks : Bool) (k : ℕ) → IsMet asks (sector_at ss base (base + k)) → IsMet asks (slice_get ss k)
+IsMet-sector : (ss : List (List ℕ)) (base : ℕ) (asks : Bool) (k : ℕ)
+    → IsMet asks (sector_at ss base (base + k)) → IsMet asks (slice_get ss k)
 IsMet-sector ss base asks k h = subst (IsMet asks) (sector_at-add ss base k) h
 
-met_inside : (ss : List (List ℕ)) (asks : Bool) (k : ℕ) → IsMet asks (slice_get ss k) → k < length ss
+met_inside : (ss : List (List ℕ)) (asks : Bool) (k : ℕ) → IsMet asks (slice_get ss k)
+    → k < length ss
 met_inside ss asks k h = elim (cases_lt k (length ss)) [
   | inl inside ↦ inside
   | inr past ↦ absurd (subst (IsMet asks) (slice_get_past ss k past) h)
 ]
 
-met_sector : (ss : List (List ℕ)) (asks : Bool) (k : ℕ) → IsMet asks (slice_get ss k) → k < length ss → IsMet asks (Some (get_or ss k []))
+met_sector : (ss : List (List ℕ)) (asks : Bool) (k : ℕ) → IsMet asks (slice_get ss k)
+    → k < length ss → IsMet asks (Some (get_or ss k []))
 met_sector ss asks k h inside = subst (IsMet asks) (slice_get-get_or ss k [] inside) h
 
-pub AreMet-from : (ss : List (List ℕ)) (base : ℕ) (asks : Bool) (count : ℕ) → first_refusal ss base asks base count ≡ None → AreMet asks ss count
+pub AreMet-from : (ss : List (List ℕ)) (base : ℕ) (asks : Bool) (count : ℕ)
+    → first_refusal ss base asks base count ≡ None → AreMet asks ss count
 AreMet-from ss base asks count none =
     let each : (k : ℕ) → k < count → IsMet asks (slice_get ss k) = λ k below.
     IsMet-sector ss base asks k (first_refusal-none ss base asks base count none k below) in
@@ -277,10 +334,13 @@ AreMet-from ss base asks count none =
 -- ---- the outcome
 
 pub outcome-refused : (carry : Bool) (ss : List (List ℕ)) (base : ℕ) (p : Patch) (refusal : Outcome)
-    → first_refusal ss base (needs_consistent carry p.edit) p.block (blocks_met p) ≡ Some refusal → outcome carry ss base p ≡ refusal
+    → first_refusal ss base (needs_consistent carry p.edit) p.block (blocks_met p) ≡ Some refusal
+    → outcome carry ss base p ≡ refusal
 unfolding outcome
 outcome-refused carry ss base p refusal h =
-    ap (λ r. unwrap_or r (by_difference p.block (first_difference p.offset (drop p.offset (user_met ss base p)) (old_bytes p.edit)))) h
+    ap (λ r. unwrap_or r
+    (by_difference p.block
+    (first_difference p.offset (drop p.offset (user_met ss base p)) (old_bytes p.edit)))) h
 
 outcome-decided : (carry : Bool) (ss : List (List ℕ)) (base : ℕ) (p : Patch) (place : Option ℕ)
     → first_refusal ss base (needs_consistent carry p.edit) p.block (blocks_met p) ≡ None
@@ -288,13 +348,17 @@ outcome-decided : (carry : Bool) (ss : List (List ℕ)) (base : ℕ) (p : Patch)
     → outcome carry ss base p ≡ by_difference p.block place
 unfolding outcome
 outcome-decided carry ss base p place none told =
-    ap (λ r. unwrap_or r (by_difference p.block (first_difference p.offset (drop p.offset (user_met ss base p)) (old_bytes p.edit)))) none
+    ap (λ r. unwrap_or r
+    (by_difference p.block
+    (first_difference p.offset (drop p.offset (user_met ss base p)) (old_bytes p.edit)))) none
     ∙ ap (by_difference p.block) (sym told)
 
 -- what was found in the sectors is what the patch's blocks have
-difference-told : (ss : List (List ℕ)) (p : Patch) (old : List ℕ) (place : Option ℕ) → IsPatch p → old ≡ old_bytes p.edit
+difference-told : (ss : List (List ℕ)) (p : Patch) (old : List ℕ) (place : Option ℕ) → IsPatch p
+    → old ≡ old_bytes p.edit
     → HaveUsers ss (blocks_met p) → blocks_met p ≤ length ss
-    → ((base count : ℕ) → HaveUsers ss count → count ≤ length ss → p.offset + length old ≤ 2048 * count
+    → ((base count : ℕ) → HaveUsers ss count → count ≤ length ss
+    → p.offset + length old ≤ 2048 * count
     → place ≡ first_difference p.offset (drop p.offset (joined_user ss base base count)) old)
     → place ≡ first_difference p.offset (drop p.offset (user_met ss p.block p)) (old_bytes p.edit)
 unfolding user_met
@@ -302,20 +366,27 @@ difference-told ss p old place patch is users enough value =
     let fits = old-fits p patch in
     let size = ap length is in
     value p.block (blocks_met p) users enough (omega (arith, fits.0))
-    ∙ ap (first_difference p.offset (drop p.offset (joined_user ss p.block p.block (blocks_met p)))) is
+    ∙ ap (first_difference p.offset
+    (drop p.offset (joined_user ss p.block p.block (blocks_met p)))) is
 
 -- where no block refuses, the difference that was found decides
-pub outcome-told : (carry : Bool) (ss : List (List ℕ)) (p : Patch) (old : List ℕ) (place : Option ℕ) → IsPatch p
-    → first_refusal ss p.block (needs_consistent carry p.edit) p.block (blocks_met p) ≡ None → old ≡ old_bytes p.edit → HaveUsers ss (blocks_met p)
-    → ((base count : ℕ) → HaveUsers ss count → count ≤ length ss → p.offset + length old ≤ 2048 * count
+pub outcome-told : (carry : Bool) (ss : List (List ℕ)) (p : Patch) (old : List ℕ) (place : Option ℕ)
+    → IsPatch p
+    → first_refusal ss p.block (needs_consistent carry p.edit) p.block (blocks_met p) ≡ None
+    → old ≡ old_bytes p.edit → HaveUsers ss (blocks_met p)
+    → ((base count : ℕ) → HaveUsers ss count → count ≤ length ss
+    → p.offset + length old ≤ 2048 * count
     → place ≡ first_difference p.offset (drop p.offset (joined_user ss base base count)) old)
     → outcome carry ss p.block p ≡ by_difference p.block place
 outcome-told carry ss p old place patch accepted is users value =
     let met = AreMet-from ss p.block (needs_consistent carry p.edit) (blocks_met p) accepted in
-    outcome-decided carry ss p.block p place accepted (difference-told ss p old place patch is users met.enough value)
+    outcome-decided carry ss p.block p place accepted
+    (difference-told ss p old place patch is users met.enough value)
 
-pub Differs-same : (block offset block' offset' : ℕ) → block ≡ block' → offset ≡ offset' → Differs block offset ≡ Differs block' offset'
-Differs-same block offset block' offset' one two = ap (λ b. Differs b offset) one ∙ ap (Differs block') two
+pub Differs-same : (block offset block' offset' : ℕ) → block ≡ block' → offset ≡ offset'
+    → Differs block offset ≡ Differs block' offset'
+Differs-same block offset block' offset' one two =
+    ap (λ b. Differs b offset) one ∙ ap (Differs block') two
 
 pub Some-same : (i j : ℕ) → i ≡ j → Some i ≡ Some j
 Some-same i j same = ap (λ n. Some n) same

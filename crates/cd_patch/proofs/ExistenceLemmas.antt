@@ -1,16 +1,15 @@
 -- Each patch makes some sectors of any sectors, and so each list of patches has a run.
-use Rattle.std.proofs.Common.{◌≡◌, ℕ, zero, suc, ◌+◌, ◌-◌, ◌<◌, ◌≤◌, ◌⊎◌, inl, inr, Bool, true, false, List, [], ◌∷◌, ◌++◌, length, get_or, take, drop, Some, refl, sym, ap, subst, ◌∙◌, arith, lit<, lit≤}
+use Rattle.std.proofs.Common.{◌≡◌, ℕ, ◌+◌, ◌-◌, ◌<◌, ◌≤◌, ◌⊎◌, inl, inr, Bool, true, false, List, [], ◌∷◌, ◌++◌, length, get_or, take, drop, Option, Some, None, refl, sym, ap, subst, ◌∙◌, arith, lit<, lit≤}
 use Rattle.std.specs.Prelude.{slice_range}
 use Rattle.std.specs.List.{All, slice_get}
+use Rattle.std.specs.Option.{IfSome}
 use Rattle.std.proofs.Math.Seq.{drop-append_seam}
 use Rattle.std.proofs.lemmas.List.{get_or-drop, length-append, length-drop, take_more}
 use Rattle.std.proofs.lemmas.List.Elements.{All-cons, All-head, All-nil, All-tail}
-use Rattle.std.proofs.lemmas.Option.{none-some, same_Some, slice_get-get_or}
+use Rattle.std.proofs.lemmas.Option.{same_Some, slice_get-get_or}
 use Rattle.cd_code.specs.Field.{AreBytes}
 use Rattle.cd_code.proofs.ByteLemmas.{AreBytes-append}
-use Rattle.cd_script.specs.Patch.{IsEditAt, IsPatch}
-use Rattle.cd_script.specs.declared.patch.Edit.{Edit}
-use Rattle.cd_script.specs.declared.patch.Edit.TheVariants.{Put, Fill, Rebuild, Address}
+use Rattle.cd_script.specs.Patch.{IsPatch}
 use Rattle.cd_script.specs.declared.patch.Patch.{Patch}
 use Rattle.cd_sector.specs.Consistent.{header_of}
 use Rattle.cd_sector.specs.Kind.{kind_of}
@@ -21,7 +20,7 @@ use Rattle.cd_sector.proofs.DefectLemmas.{length-range}
 use Rattle.cd_sector.proofs.ExistenceLemmas.{sector_found}
 use Rattle.cd_sector.proofs.SectorLemmas.{mode1-parts}
 use Rattle.cd_patch.specs.Blocks.{blocks_met, sector_at}
-use Rattle.cd_patch.specs.EditMeaning.{keeps_defect, new_header}
+use Rattle.cd_patch.specs.EditMeaning.{EditMeaning, keeps_defect, meaning, new_header, with_address}
 use Rattle.cd_patch.specs.Deciding.{outcome}
 use Rattle.cd_patch.specs.Effect.{Effect, EffectOf, IsApplied, IsMade, IsRemade, MadeBy, patched_user, user_part}
 use Rattle.cd_patch.specs.Leaves.{IsSector}
@@ -29,26 +28,18 @@ use Rattle.cd_patch.specs.Run.{PatchRun}
 use Rattle.cd_patch.specs.declared.outcome.Outcome.{Outcome}
 use Rattle.cd_patch.specs.declared.outcome.Outcome.TheVariants.{Applied, Damaged, Differs, NoBlock, NotMode1}
 use Rattle.cd_patch.proofs.AcceptedLemmas.{AreThere, accepted-there}
-use Rattle.cd_patch.proofs.ElementLemmas.{option_cases}
+use Rattle.cd_patch.proofs.general.Elements.{cases_Option, list_of_choices}
 use Rattle.cd_patch.proofs.LeavesLemmas.{Effect-sectors, meets-cases}
+use Rattle.cd_patch.proofs.MeaningLemmas.{AreBytes-address, AreBytes-all, IsAddressAlone}
+use Rattle.cd_patch.proofs.MeaningLemmas.{patch-fits}
 use Rattle.cd_patch.proofs.SectorAtLemmas.{sector_at-add, sector_at-from, sector_at-none, sector_at-within}
-use Rattle.cd_patch.proofs.UserLemmas.{AreBytes-address, AreBytes-all, AreBytes-range, AreBytes-user_part, IsSector-at, length-user_part}
-
--- where each index has an element with a property, there is a list of such elements
-chosen : {X : Type 0} (P : ℕ → X → Type 0) (n : ℕ) → ((i : ℕ) → i < n → (x : X) × P i x) → (xs : List X) × (length xs ≡ n) × ((i : ℕ) (x : X) → slice_get xs i ≡ Some x → P i x)
-chosen P zero h = ([], refl, λ i x e. absurd (none-some x e))
-chosen {X} P (suc n) h =
-    let first = h 0 (omega arith) in
-    let others = chosen (λ i. P (suc i)) n (λ i below. h (suc i) (omega arith)) in
-    (first.0 ∷ others.0, ap (λ k. suc k) others.1, joined first.0 others.0 first.1 others.2)
-  where
-    joined : (x : X) (xs : List X) → P 0 x → ((i : ℕ) (y : X) → slice_get xs i ≡ Some y → P (suc i) y) → (i : ℕ) (y : X) → slice_get (x ∷ xs) i ≡ Some y → P i y
-    joined x xs here behind zero y e = subst (P 0) (same_Some x y e) here
-    joined x xs here behind (suc i) y e = behind i y e
+use Rattle.cd_patch.proofs.UserLemmas.{AreBytes-range, AreBytes-user_part, IsSector-at}
+use Rattle.cd_patch.proofs.UserLemmas.{length-user_part}
 
 -- ---- one sector
 
-header-mode1 : (sector : List ℕ) → IsSector sector → kind_of sector ≡ Mode1 → slice_range sector 12 15 ++ 1 ∷ [] ≡ header_of sector
+header-mode1 : (sector : List ℕ) → IsSector sector → kind_of sector ≡ Mode1
+    → slice_range sector 12 15 ++ 1 ∷ [] ≡ header_of sector
 unfolding header_of
 header-mode1 sector h mode =
     let is_one : get_or sector 15 0 ≡ 1 = (mode1-parts sector mode).1 in
@@ -63,7 +54,8 @@ record IsHeader (header : List ℕ) : Type 0 where
   size : length address ≡ 3
   whole : address ++ 1 ∷ [] ≡ header
 
-IsHeader-of : (sector : List ℕ) → IsSector sector → kind_of sector ≡ Mode1 → IsHeader (header_of sector)
+IsHeader-of : (sector : List ℕ) → IsSector sector → kind_of sector ≡ Mode1
+    → IsHeader (header_of sector)
 IsHeader-of sector h mode = record {
   address = slice_range sector 12 15;
   bytes = AreBytes-range sector 12 15 h.bytes;
@@ -73,20 +65,22 @@ IsHeader-of sector h mode = record {
 
 mode-behind : (header : List ℕ) → IsHeader header → drop 3 header ≡ 1 ∷ []
 mode-behind header h =
-    ap (drop 3) (sym h.whole) ∙ ap (λ n. drop n (h.address ++ 1 ∷ [])) (sym h.size) ∙ drop-append_seam h.address (1 ∷ [])
+    ap (drop 3) (sym h.whole) ∙ ap (λ n. drop n (h.address ++ 1 ∷ [])) (sym h.size)
+    ∙ drop-append_seam h.address (1 ∷ [])
 
-IsHeader-new : (offset : ℕ) (edit : Edit) (header : List ℕ) → IsEditAt offset edit → IsHeader header → IsHeader (new_header edit header)
-IsHeader-new offset (Put bytes was) header kept h = h
-IsHeader-new offset (Fill count value) header kept h = h
-IsHeader-new offset Rebuild header kept h = h
-IsHeader-new offset (Address bcd) header kept h = record {
+-- a header with a new address is one
+IsHeader-new : (m : EditMeaning) (address : Option (List ℕ)) (header : List ℕ)
+    → IfSome address (IsAddressAlone m) → IsHeader header → IsHeader (with_address address header)
+IsHeader-new m None header only h = h
+IsHeader-new m (Some bcd) header only h = record {
   address = bcd;
-  bytes = AreBytes-address bcd kept.1;
-  size = ap length kept.1.are;
+  bytes = AreBytes-address bcd only.is_address;
+  size = ap length only.is_address.are;
   whole = ap (λ rest. bcd ++ rest) (sym (mode-behind header h));
 }
 
-sector_remade : (header user : List ℕ) → IsHeader header → AreBytes user → length user ≡ USER_SIZE → (after : List ℕ) × IsRemade header user after
+sector_remade : (header user : List ℕ) → IsHeader header → AreBytes user → length user ≡ USER_SIZE
+    → (after : List ℕ) × IsRemade header user after
 sector_remade header user h bytes size =
     let made = sector_found h.address user h.bytes h.size bytes size in (
       made.0,
@@ -98,85 +92,128 @@ sector_remade header user h bytes size =
     )
 
 -- by either rule
-sector_made : (carried : Bool) (old header user : List ℕ) → IsSector old → IsHeader header → AreBytes user → length user ≡ USER_SIZE → (after : List ℕ) × MadeBy carried old header user after
+sector_made : (carried : Bool) (old header user : List ℕ) → IsSector old → IsHeader header
+    → AreBytes user → length user ≡ USER_SIZE
+    → (after : List ℕ) × MadeBy carried old header user after
 sector_made false old header user h k bytes size = sector_remade header user k bytes size
 sector_made true old header user h k bytes size =
     let four = length-append k.address (1 ∷ []) in
     carried_found old header user h.size h.bytes
-    (subst AreBytes k.whole (AreBytes-append k.address (1 ∷ []) k.bytes (AreBytes-all (1 ∷ []) (All-cons (λ b. b < 256) 1 [] (lit< tt) (All-nil (λ b. b < 256))))))
+    (subst AreBytes k.whole
+    (AreBytes-append k.address (1 ∷ []) k.bytes
+    (AreBytes-all (1 ∷ []) (All-cons (λ b. b < 256) 1 [] (lit< tt) (All-nil (λ b. b < 256))))))
     (omega (arith, ap length k.whole, k.size, four)) bytes size
 
 -- ---- the sectors that an accepted patch makes
 
 -- what stands in a block behind an accepted patch
-record Follows (carry : Bool) (base : ℕ) (p : Patch) (old : List (List ℕ)) (block : ℕ) (after : List ℕ) : Type 0 where
-  met : (before : List ℕ) → p.block ≤ block → block < p.block + blocks_met p → sector_at old base block ≡ Some before
+record Follows (carry : Bool) (base : ℕ) (p : Patch) (old : List (List ℕ)) (block : ℕ)
+    (after : List ℕ) : Type 0 where
+  met : (before : List ℕ) → p.block ≤ block → block < p.block + blocks_met p
+      → sector_at old base block ≡ Some before
       → IsMade carry p.edit before (user_part (patched_user old base p) (block - p.block)) after
-  others : (block < p.block) ⊎ (p.block + blocks_met p ≤ block) → sector_at old base block ≡ Some after
+  others : (block < p.block) ⊎ (p.block + blocks_met p ≤ block)
+      → sector_at old base block ≡ Some after
 
-followed : (carry : Bool) (base : ℕ) (p : Patch) (old : List (List ℕ)) → IsPatch p → All IsSector old → AreThere old base p → (block : ℕ) (before : List ℕ) → sector_at old base block ≡ Some before
+followed : (carry : Bool) (base : ℕ) (p : Patch) (old : List (List ℕ)) → IsPatch p
+    → All IsSector old → AreThere old base p → (block : ℕ) (before : List ℕ)
+    → sector_at old base block ≡ Some before
     → (after : List ℕ) × Follows carry base p old block after
 followed carry base p old kept each there block before is = elim (meets-cases p block) [
   | inl met ↦
       let t = there block met.0 met.1 in
+      let m = meaning p.edit in
       let same : before ≡ t.sector = same_Some before t.sector (sym is ∙ t.is) in
       let made =
-      sector_made (keeps_defect carry p.edit) before (new_header p.edit (header_of before)) (user_part (patched_user old base p) (block - p.block)) (IsSector-at old base block before each is)
-      (IsHeader-new p.offset p.edit (header_of before) kept.edit (IsHeader-of before (IsSector-at old base block before each is) (ap kind_of same ∙ t.mode)))
-      (AreBytes-user_part old base p each there kept (block - p.block)) (length-user_part old base p each there kept (block - p.block) (omega (arith, met.0, met.1))) in (
+      sector_made (keeps_defect carry p.edit) before (new_header p.edit (header_of before))
+      (user_part (patched_user old base p) (block - p.block))
+      (IsSector-at old base block before each is)
+      (IsHeader-new m m.address (header_of before) (patch-fits p kept).address
+      (IsHeader-of before (IsSector-at old base block before each is) (ap kind_of same ∙ t.mode)))
+      (AreBytes-user_part old base p each there kept (block - p.block))
+      (length-user_part old base p each there kept (block - p.block)
+      (omega (arith, met.0, met.1))) in (
         made.0,
         record {
-          met = λ b from to was. let e = same_Some before b (sym is ∙ was) in subst (λ s. IsMade carry p.edit s (user_part (patched_user old base p) (block - p.block)) made.0) e made.1;
-          others = λ side. elim side [ inl below ↦ absurd (omega (arith, met.0)) | inr behind ↦ absurd (omega (arith, met.1)) ];
+          met = λ b from to was.
+              let e = same_Some before b (sym is ∙ was) in
+              subst
+              (λ s. IsMade carry p.edit s
+              (user_part (patched_user old base p) (block - p.block)) made.0) e made.1;
+          others = λ side.
+              elim side [
+                | inl below ↦ absurd (omega (arith, met.0))
+                | inr behind ↦ absurd (omega (arith, met.1))
+              ];
         },
       )
   | inr other ↦ (
     before,
     record {
-      met = λ b from to was. elim other [ inl below ↦ absurd (omega arith) | inr behind ↦ absurd (omega arith) ];
+      met = λ b from to was.
+          elim other [ inl below ↦ absurd (omega arith) | inr behind ↦ absurd (omega arith) ];
       others = λ side. is;
     },
   )
 ]
 
-applied_to : (carry : Bool) (base : ℕ) (p : Patch) (old : List (List ℕ)) → IsPatch p → All IsSector old → AreThere old base p → (new : List (List ℕ)) × IsApplied carry base p old new
+applied_to : (carry : Bool) (base : ℕ) (p : Patch) (old : List (List ℕ)) → IsPatch p
+    → All IsSector old → AreThere old base p
+    → (new : List (List ℕ)) × IsApplied carry base p old new
 applied_to carry base p old kept each there =
-    let all = chosen (λ i. Follows carry base p old (base + i)) (length old)
-    (λ i below. followed carry base p old kept each there (base + i) (get_or old i []) (sector_at-add old base i ∙ slice_get-get_or old i [] below)) in
+    let all = list_of_choices (λ i. Follows carry base p old (base + i)) (length old)
+    (λ i below. followed carry base p old kept each there (base + i) (get_or old i [])
+    (sector_at-add old base i ∙ slice_get-get_or old i [] below)) in
     (all.0, is_applied_to all.0 all.1 all.2)
   where
-    is_applied_to : (new : List (List ℕ)) → length new ≡ length old → ((i : ℕ) (after : List ℕ) → slice_get new i ≡ Some after → Follows carry base p old (base + i) after) → IsApplied carry base p old new
+    is_applied_to : (new : List (List ℕ)) → length new ≡ length old
+        → ((i : ℕ) (after : List ℕ) → slice_get new i ≡ Some after
+        → Follows carry base p old (base + i) after) → IsApplied carry base p old new
     is_applied_to new count follows =
-        let at : (block : ℕ) (after : List ℕ) → sector_at new base block ≡ Some after → Follows carry base p old block after =
+        let at : (block : ℕ) (after : List ℕ) → sector_at new base block ≡ Some after
+        → Follows carry base p old block after =
         (λ block after was.
         let within = sector_at-within new base block after was in
         let e : base + (block - base) ≡ block = omega (arith, within.0) in
-        subst (λ b. Follows carry base p old b after) e (follows (block - base) after (sym (sector_at-from new base block within.0) ∙ was))) in
+        subst (λ b. Follows carry base p old b after) e
+        (follows (block - base) after (sym (sector_at-from new base block within.0) ∙ was))) in
         record {
           count = count;
           met = λ k before after inside is was.
               let e : p.block + k - p.block ≡ k = omega arith in
-              subst (λ n. IsMade carry p.edit before (user_part (patched_user old base p) n) after) e ((at (p.block + k) after was).met before (omega arith) (omega arith) is);
-          others = λ block side. elim (option_cases (sector_at new base block)) [
+              subst (λ n. IsMade carry p.edit before
+              (user_part (patched_user old base p) n) after) e
+              ((at (p.block + k) after was).met before (omega arith) (omega arith) is);
+          others = λ block side. elim (cases_Option (sector_at new base block)) [
             | inl none ↦ none ∙ sym (sector_at-none new old base block (sym count) none)
             | inr some ↦ some.1 ∙ sym ((at block some.0 some.1).others side)
           ];
         }
 
-pub Effect-exists : (carry : Bool) (base : ℕ) (p : Patch) (old : List (List ℕ)) → IsPatch p → All IsSector old → (new : List (List ℕ)) × Effect carry base p old new
+pub Effect-exists : (carry : Bool) (base : ℕ) (p : Patch) (old : List (List ℕ)) → IsPatch p
+    → All IsSector old → (new : List (List ℕ)) × Effect carry base p old new
 Effect-exists carry base p old kept each = by_outcome (outcome carry old base p) refl
   where
-    by_outcome : (o : Outcome) → outcome carry old base p ≡ o → (new : List (List ℕ)) × EffectOf carry o base p old new
+    by_outcome : (o : Outcome) → outcome carry old base p ≡ o
+        → (new : List (List ℕ)) × EffectOf carry o base p old new
     by_outcome Applied e = applied_to carry base p old kept each (accepted-there carry old base p e)
     by_outcome (NoBlock b) e = (old, refl)
     by_outcome (NotMode1 b) e = (old, refl)
     by_outcome (Damaged b) e = (old, refl)
     by_outcome (Differs b offset) e = (old, refl)
 
-pub run-exists : (carry : Bool) (ps : List Patch) (base : ℕ) (old : List (List ℕ)) → All IsPatch ps → All IsSector old
-    → (os : List Outcome) × (last : List (List ℕ)) × PatchRun carry ps os base old last × All IsSector last
+pub run-exists : (carry : Bool) (ps : List Patch) (base : ℕ) (old : List (List ℕ)) → All IsPatch ps
+    → All IsSector old
+    → (os : List Outcome) × (last : List (List ℕ)) × PatchRun carry ps os base old last
+    × All IsSector last
 run-exists carry [] base old kept each = ([], old, refl, each)
 run-exists carry (p ∷ ps) base old kept each =
     let made = Effect-exists carry base p old (All-head IsPatch p ps kept) each in
-    let rest = run-exists carry ps base made.0 (All-tail IsPatch p ps kept) (Effect-sectors carry base p old made.0 (All-head IsPatch p ps kept) each made.1) in
-    (outcome carry old base p ∷ rest.0, rest.1, record { decided = refl; next = made.0; effect = made.1; others = rest.2 }, rest.3)
+    let rest =
+    run-exists carry ps base made.0 (All-tail IsPatch p ps kept)
+    (Effect-sectors carry base p old made.0 (All-head IsPatch p ps kept) each made.1) in (
+      outcome carry old base p ∷ rest.0,
+      rest.1,
+      record { decided = refl; next = made.0; effect = made.1; others = rest.2 },
+      rest.3,
+    )

@@ -2,11 +2,11 @@ pub mod AcceptedLemmas
 pub mod AgreeLemmas
 pub mod CarryLemmas
 mod DecidingLemmas
-pub mod ElementLemmas
 pub mod ExistenceLemmas
 pub mod FrameLemmas
 pub mod LeavesLemmas
 pub mod MadeLemmas
+mod MeaningLemmas
 mod PartLemmas
 pub mod RangeLemmas
 pub mod RisingLemmas
@@ -14,3 +14,4 @@ pub mod RunLemmas
 pub mod SectorAtLemmas
 mod TakingLemmas
 pub mod UserLemmas
+pub mod general

@@ -1,15 +1,12 @@
 -- What the bytes of an edit make of the sectors in which they lie.
-use Rattle.std.proofs.Common.{◌≡◌, ◌≢◌, ℕ, ◌+◌, ◌-◌, ◌*◌, ◌<◌, ◌≤◌, ◌⊎◌, inl, inr, Bool, List, [], ◌∷◌, length, get_or, set, take, drop, replicate, refl, sym, ap, subst, ◌∙◌, below_more, arith}
+use Rattle.std.proofs.Common.{◌≡◌, ◌≢◌, ℕ, ◌+◌, ◌-◌, ◌*◌, ◌<◌, ◌≤◌, ◌⊎◌, inl, inr, Bool, List, [], length, get_or, set, take, drop, replicate, sym, ap, subst, ◌∙◌, below_more, arith}
 use Rattle.std.specs.Prelude.{slice_range}
 use Rattle.std.proofs.lemmas.Bool.{cases_lt}
-use Rattle.std.proofs.lemmas.List.{ext_get_or, get_or_default, get_or-drop, get_or-replicate, get_or-set_other, get_or-set_same, get_or-take, length-drop, length-replicate, length-set, length-take, length-take-le}
+use Rattle.std.proofs.lemmas.List.{ext_get_or, get_or_default, get_or-drop, get_or-replicate, get_or-set_other, get_or-set_same, get_or-take, length-drop, length-replicate, length-set, length-take-le}
 use Rattle.cd_delta.proofs.UserLemmas.{length-written, written-range, written-other}
 use Rattle.cd_delta.specs.Writing.{written}
 use Rattle.cd_sector.proofs.DefectLemmas.{length-range, range-byte}
-use Rattle.cd_sector.proofs.SectorLemmas.{mode1-parts}
-use Rattle.cd_sector.specs.Consistent.{header_of, user_of}
-use Rattle.cd_sector.specs.Kind.{kind_of}
-use Rattle.cd_sector.specs.declared.kinds.SectorKind.TheVariants.{Mode1}
+use Rattle.cd_sector.specs.Consistent.{user_of}
 use Rattle.cd_patch.specs.Effect.{MadeBy, user_part}
 use Rattle.cd_patch.specs.Parts.{HasPart, IsPart}
 use Rattle.cd_patch.proofs.MadeLemmas.{MadeBy-user}
@@ -17,17 +14,20 @@ use Rattle.cd_patch.proofs.MadeLemmas.{MadeBy-user}
 -- ---- one sector
 
 -- the part of the bytes that lies in a sector, written there
-pub HasPart-written : (carried : Bool) (k offset place first end : ℕ) (bytes part header before after : List ℕ) → IsPart k offset (length bytes) place first end
+pub HasPart-written : (carried : Bool) (k offset place first end : ℕ)
+    (bytes part header before after : List ℕ) → IsPart k offset (length bytes) place first end
     → length (user_of before) ≡ 2048 → first + length part ≡ end
     → ((i : ℕ) → i < length part → get_or part i 0 ≡ get_or bytes (first + i) 0)
-    → MadeBy carried before header (written (user_of before) place part) after → HasPart carried k offset bytes header before after
+    → MadeBy carried before header (written (user_of before) place part) after
+    → HasPart carried k offset bytes header before after
 HasPart-written carried k offset place first end bytes part header before after at size long same is_made =
     let rises = at.rises in
     let within = at.within in
     let fits = at.fits in
     let lies = at.lies in
     let room : place + length part ≤ length (user_of before) = omega arith in
-    let user = MadeBy-user carried before header (written (user_of before) place part) after is_made in
+    let user =
+    MadeBy-user carried before header (written (user_of before) place part) after is_made in
     record {
       made = subst (λ u. MadeBy carried before header u after) (sym user) is_made;
       inside = λ i j below inside there.
@@ -48,7 +48,8 @@ HasPart-written carried k offset place first end bytes part header before after 
     }
 
 -- a sector in which nothing is written
-pub HasPart-nothing : (carried : Bool) (k offset : ℕ) (bytes header before after : List ℕ) → length bytes ≡ 0 → MadeBy carried before header (user_of before) after
+pub HasPart-nothing : (carried : Bool) (k offset : ℕ) (bytes header before after : List ℕ)
+    → length bytes ≡ 0 → MadeBy carried before header (user_of before) after
     → HasPart carried k offset bytes header before after
 HasPart-nothing carried k offset bytes header before after none is_made =
     let user = MadeBy-user carried before header (user_of before) after is_made in
@@ -59,10 +60,12 @@ HasPart-nothing carried k offset bytes header before after none is_made =
     }
 
 -- its user data is its part of the joined user data with the bytes in their range
-pub user_part-of : (carried : Bool) (k count offset : ℕ) (bytes joined header before after : List ℕ) → k < count → length joined ≡ 2048 * count
+pub user_part-of : (carried : Bool) (k count offset : ℕ) (bytes joined header before after : List ℕ)
+    → k < count → length joined ≡ 2048 * count
     → offset + length bytes ≤ 2048 * count → length (user_of after) ≡ 2048
     → ((j : ℕ) → j < 2048 → get_or joined (2048 * k + j) 0 ≡ get_or (user_of before) j 0)
-    → HasPart carried k offset bytes header before after → user_of after ≡ user_part (written joined offset bytes) k
+    → HasPart carried k offset bytes header before after
+    → user_of after ≡ user_part (written joined offset bytes) k
 unfolding user_part
 user_part-of carried k count offset bytes joined header before after inside size fits after_size same part =
     let whole = written joined offset bytes in
@@ -70,12 +73,15 @@ user_part-of carried k count offset bytes joined header before after inside size
     let long = length-written joined offset bytes room in
     let from = 2048 * k in
     let to = 2048 * (k + 1) in
-    let cut : length (slice_range whole from to) ≡ 2048 = length-range whole from to (omega arith) (omega arith) ∙ omega arith in
-    let byte : (j : ℕ) → j < 2048 → get_or (slice_range whole from to) j 0 ≡ get_or whole (from + j) 0 = λ j below.
+    let cut : length (slice_range whole from to) ≡ 2048 =
+    length-range whole from to (omega arith) (omega arith) ∙ omega arith in
+    let byte : (j : ℕ) → j < 2048
+    → get_or (slice_range whole from to) j 0 ≡ get_or whole (from + j) 0 = λ j below.
     range-byte whole from to j (omega arith) in
     let other : (j : ℕ) → j < 2048 → (from + j < offset) ⊎ (offset + length bytes ≤ from + j)
     → get_or (user_of after) j 0 ≡ get_or (slice_range whole from to) j 0 = λ j below out.
-    part.outside j below out ∙ sym (same j below) ∙ sym (written-other joined offset bytes (from + j) room out) ∙ sym (byte j below) in
+    part.outside j below out ∙ sym (same j below)
+    ∙ sym (written-other joined offset bytes (from + j) room out) ∙ sym (byte j below) in
     ext_get_or 0 (user_of after) (slice_range whole from to) (after_size ∙ sym cut)
     (λ j within.
     let below : j < 2048 = omega arith in
@@ -96,13 +102,16 @@ user_part-of carried k count offset bytes joined header before after inside size
 -- ---- one sector after the other
 
 -- those below k are made by the rule for their number, the others are as they were
-pub record MadeBelow (Rule : ℕ → List ℕ → List ℕ → Type 0) (k : ℕ) (old new : List (List ℕ)) : Type 0 where
+pub record MadeBelow (Rule : ℕ → List ℕ → List ℕ → Type 0) (k : ℕ)
+    (old new : List (List ℕ)) : Type 0 where
   pub size : length new ≡ length old
   pub made : (i : ℕ) → i < k → Rule i (get_or old i []) (get_or new i [])
   pub others : (i : ℕ) → k ≤ i → get_or new i [] ≡ get_or old i []
 
-pub MadeBelow-more : (Rule : ℕ → List ℕ → List ℕ → Type 0) (k : ℕ) (old new : List (List ℕ)) (after : List ℕ)
-    → MadeBelow Rule k old new → k < length old → Rule k (get_or old k []) after → MadeBelow Rule (k + 1) old (set new k after)
+pub MadeBelow-more : (Rule : ℕ → List ℕ → List ℕ → Type 0) (k : ℕ) (old new : List (List ℕ))
+    (after : List ℕ)
+    → MadeBelow Rule k old new → k < length old → Rule k (get_or old k []) after
+    → MadeBelow Rule (k + 1) old (set new k after)
 MadeBelow-more Rule k old new after below inside here =
     let size = below.size in
     let at : get_or (set new k after) k [] ≡ after = get_or-set_same new k after [] (omega arith) in
@@ -111,7 +120,8 @@ MadeBelow-more Rule k old new after below inside here =
       made = below_more _ _
           (λ i less.
           let apart : i ≢ k = omega arith in
-          subst (Rule i (get_or old i [])) (sym (get_or-set_other new k i after [] apart)) (below.made i less))
+          subst (Rule i (get_or old i [])) (sym (get_or-set_other new k i after [] apart))
+          (below.made i less))
           (subst (Rule k (get_or old k [])) (sym at) here);
       others = λ i above.
           let apart : i ≢ k = omega arith in
@@ -119,7 +129,8 @@ MadeBelow-more Rule k old new after below inside here =
     }
 
 -- the sector that a loop reads is still the old one
-pub read_old : (Rule : ℕ → List ℕ → List ℕ → Type 0) (k : ℕ) (old new : List (List ℕ)) (d : List ℕ) → MadeBelow Rule k old new → k < length old
+pub read_old : (Rule : ℕ → List ℕ → List ℕ → Type 0) (k : ℕ) (old new : List (List ℕ)) (d : List ℕ)
+    → MadeBelow Rule k old new → k < length old
     → get_or new k d ≡ get_or old k []
 read_old Rule k old new d below inside =
     let size = below.size in
@@ -128,9 +139,11 @@ read_old Rule k old new d below inside =
 -- ---- bytes that are copied, or equal
 
 -- those of a range that lie in a sector, copied
-pub HasPart-copied : (carried : Bool) (k offset place first end : ℕ) (bytes header before after : List ℕ) → IsPart k offset (length bytes) place first end
+pub HasPart-copied : (carried : Bool) (k offset place first end : ℕ)
+    (bytes header before after : List ℕ) → IsPart k offset (length bytes) place first end
     → length (user_of before) ≡ 2048
-    → MadeBy carried before header (written (user_of before) place (take (end - first) (drop first bytes))) after
+    → MadeBy carried before header
+    (written (user_of before) place (take (end - first) (drop first bytes))) after
     → HasPart carried k offset bytes header before after
 HasPart-copied carried k offset place first end bytes header before after at size is_made =
     let count = end - first in
@@ -138,14 +151,19 @@ HasPart-copied carried k offset place first end bytes header before after at siz
     let within = at.within in
     let rest = length-drop first bytes in
     let cut = length-take-le count (drop first bytes) (omega arith) in
-    HasPart-written carried k offset place first end bytes (take count (drop first bytes)) header before after at size (omega arith)
-    (λ i below. get_or-take count (drop first bytes) i 0 (omega arith) ∙ get_or-drop first bytes i 0)
+    HasPart-written carried k offset place first end bytes
+    (take count (drop first bytes)) header before after at size (omega arith)
+    (λ i below. get_or-take count (drop first bytes) i 0 (omega arith)
+    ∙ get_or-drop first bytes i 0)
     is_made
 
 -- those of a filled range: any of them are the first of a sector of equal bytes
-pub HasPart-filled : (carried : Bool) (k offset place first end count value : ℕ) (header before after : List ℕ)
-    → IsPart k offset (length (replicate count value)) place first end → length (user_of before) ≡ 2048
-    → MadeBy carried before header (written (user_of before) place (take (end - first) (replicate 2048 value))) after
+pub HasPart-filled : (carried : Bool) (k offset place first end count value : ℕ)
+    (header before after : List ℕ)
+    → IsPart k offset (length (replicate count value)) place first end
+    → length (user_of before) ≡ 2048
+    → MadeBy carried before header
+    (written (user_of before) place (take (end - first) (replicate 2048 value))) after
     → HasPart carried k offset (replicate count value) header before after
 HasPart-filled carried k offset place first end count value header before after at size is_made =
     let n = end - first in
@@ -156,43 +174,16 @@ HasPart-filled carried k offset place first end count value header before after 
     let all = length-replicate count value in
     let long = length-replicate 2048 value in
     let cut = length-take-le n bytes (omega arith) in
-    HasPart-written carried k offset place first end (replicate count value) (take n bytes) header before after at size (omega arith)
+    HasPart-written carried k offset place first end (replicate count value)
+    (take n bytes) header before after at size (omega arith)
     (λ i below.
     get_or-take n bytes i 0 (omega arith)
     ∙ get_or-replicate 2048 i value 0 (omega arith)
     ∙ sym (get_or-replicate count (first + i) value 0 (omega arith)))
     is_made
 
--- ---- the header of a sector made anew
-
-four_bytes : (v : List ℕ) → length v ≡ 4 → v ≡ get_or v 0 0 ∷ get_or v 1 0 ∷ get_or v 2 0 ∷ get_or v 3 0 ∷ []
-four_bytes [] size = absurd (omega arith)
-four_bytes (a ∷ []) size = absurd (omega arith)
-four_bytes (a ∷ b ∷ []) size = absurd (omega arith)
-four_bytes (a ∷ b ∷ c ∷ []) size = absurd (omega arith)
-four_bytes (a ∷ b ∷ c ∷ d ∷ []) size = refl
-four_bytes (a ∷ b ∷ c ∷ d ∷ e ∷ v) size = absurd (omega arith)
-
-long-from : (s : List ℕ) → length (user_of s) ≡ 2048 → 2064 ≤ length s
-unfolding user_of
-long-from s size =
-    let cut = length-take 2048 (drop 16 s) in
-    let rest = length-drop 16 s in
-    omega arith
+-- ---- the size of the user data
 
 pub length-user : (s : List ℕ) → length s ≡ 2352 → length (user_of s) ≡ 2048
 unfolding user_of
 length-user s size = length-range s 16 2064 (omega arith) (omega arith)
-
--- the header of a sector of Mode 1 ends with 1
-pub header-kept : (s new header : List ℕ) → kind_of s ≡ Mode1 → length (user_of s) ≡ 2048 → header ≡ header_of s
-    → header_of new ≡ get_or header 0 0 ∷ get_or header 1 0 ∷ get_or header 2 0 ∷ 1 ∷ [] → header_of new ≡ header_of s
-unfolding header_of
-header-kept s new header kind size told made =
-    let long = long-from s size in
-    let four : length header ≡ 4 = ap length told ∙ length-range s 12 16 (omega arith) (omega arith) in
-    let mode : get_or header 3 0 ≡ 1 = ap (λ v. get_or v 3 0) told ∙ range-byte s 12 16 3 (omega arith) ∙ (mode1-parts s kind).1 in
-    made
-    ∙ ap (λ m. get_or header 0 0 ∷ get_or header 1 0 ∷ get_or header 2 0 ∷ m ∷ []) (sym mode)
-    ∙ sym (four_bytes header four)
-    ∙ told

@@ -1,16 +1,11 @@
 -- The user data of the blocks that a patch meets, byte by byte, before and after.
-use Rattle.std.proofs.Common.{◌≡◌, ℕ, zero, suc, ◌+◌, ◌-◌, ◌*◌, ◌<◌, ◌≤◌, ◌⊎◌, inl, inr, ◌&&◌, nat_lt, List, [], ◌∷◌, ◌++◌, length, get_or, take, drop, replicate, Some, sym, ap, subst, ◌∙◌, arith, lit<}
+use Rattle.std.proofs.Common.{◌≡◌, ℕ, zero, suc, ◌+◌, ◌-◌, ◌*◌, ◌<◌, ◌≤◌, ◌⊎◌, inl, inr, ◌&&◌, nat_lt, List, [], ◌++◌, length, get_or, take, drop, Some, sym, ap, subst, ◌∙◌, arith, lit<}
 use Rattle.std.specs.Prelude.{if◌then◌else◌, nat_le, slice_range}
 use Rattle.std.specs.List.{All}
 use Rattle.std.proofs.lemmas.Bool.{and_from, and_left, and_right, cases_lt, cond-false, cond-true, le-leb, le-ltb, lt-leb, lt-ltb}
-use Rattle.std.proofs.lemmas.List.{get_or_past}
-use Rattle.std.proofs.lemmas.List.Elements.{All-cons, All-nil, All-replicate}
 use Rattle.std.proofs.lemmas.Option.{same_Some}
 use Rattle.cd_code.specs.Field.{AreBytes}
-use Rattle.cd_script.specs.Address.{IsAddress, bcd}
-use Rattle.cd_script.specs.Patch.{IsEditAt, IsPatch}
-use Rattle.cd_script.specs.declared.patch.Edit.{Edit}
-use Rattle.cd_script.specs.declared.patch.Edit.TheVariants.{Put, Fill, Rebuild, Address}
+use Rattle.cd_script.specs.Patch.{IsPatch}
 use Rattle.cd_script.specs.declared.patch.Patch.{Patch}
 use Rattle.cd_sector.specs.Consistent.{user_of}
 use Rattle.cd_sector.specs.declared.sector.TheConstants.{USER_SIZE}
@@ -25,17 +20,20 @@ use Rattle.cd_patch.specs.Effect.{patched_user, user_part}
 use Rattle.cd_patch.specs.Leaves.{IsSector, byte_by}
 use Rattle.cd_patch.proofs.AcceptedLemmas.{AreThere}
 use Rattle.cd_patch.proofs.DecidingLemmas.{BlocksHaveUsers, joined-byte, length-joined}
-use Rattle.cd_patch.proofs.ElementLemmas.{option_cases}
+use Rattle.cd_patch.proofs.general.Elements.{cases_Option}
+use Rattle.cd_patch.proofs.MeaningLemmas.{patch-fits}
 use Rattle.cd_patch.proofs.PartLemmas.{length-user}
 use Rattle.cd_patch.proofs.RangeLemmas.{range-inside}
 use Rattle.cd_patch.proofs.SectorAtLemmas.{sector_at-some, sector_at-within}
 
 -- ---- bytes of one sector
 
-pub IsSector-at : (sectors : List (List ℕ)) (base block : ℕ) (sector : List ℕ) → All IsSector sectors → sector_at sectors base block ≡ Some sector → IsSector sector
+pub IsSector-at : (sectors : List (List ℕ)) (base block : ℕ) (sector : List ℕ)
+    → All IsSector sectors → sector_at sectors base block ≡ Some sector → IsSector sector
 IsSector-at sectors base block sector each is =
     let within = sector_at-within sectors base block sector is in
-    let same : get_or sectors (block - base) [] ≡ sector = same_Some _ _ (sym (sector_at-some sectors base block within.0 within.1) ∙ is) in
+    let same : get_or sectors (block - base) [] ≡ sector =
+    same_Some _ _ (sym (sector_at-some sectors base block within.0 within.1) ∙ is) in
     subst IsSector same (each (block - base) [] (omega arith))
 
 pub AreBytes-range : (v : List ℕ) (a b : ℕ) → AreBytes v → AreBytes (slice_range v a b)
@@ -45,68 +43,57 @@ pub AreBytes-user : (sector : List ℕ) → IsSector sector → AreBytes (user_o
 unfolding user_of
 AreBytes-user sector h = AreBytes-range sector 16 2064 h.bytes
 
-pub AreBytes-all : (v : List ℕ) → All (λ b. b < 256) v → AreBytes v
-AreBytes-all v h = λ i. elim (cases_lt i (length v)) [
-  | inl inside ↦ h i 0 inside
-  | inr past ↦ let none : get_or v i 0 ≡ 0 = get_or_past v i 0 past in rw none (lit< tt)
-]
-
--- the three bytes of an address
-bcd-byte : (n : ℕ) → n < 100 → bcd n < 256
-bcd-byte n lt = omega arith
-
-pub AreBytes-address : (bytes : List ℕ) → IsAddress bytes → AreBytes bytes
-AreBytes-address bytes h =
-    subst AreBytes (sym h.are)
-    (AreBytes-all (bcd h.minute ∷ bcd h.second ∷ bcd h.fraction ∷ [])
-    (All-cons (λ b. b < 256) (bcd h.minute) (bcd h.second ∷ bcd h.fraction ∷ []) (bcd-byte h.minute h.is_minute)
-    (All-cons (λ b. b < 256) (bcd h.second) (bcd h.fraction ∷ []) (bcd-byte h.second (omega (arith, h.is_second)))
-    (All-cons (λ b. b < 256) (bcd h.fraction) [] (bcd-byte h.fraction (omega (arith, h.is_fraction))) (All-nil (λ b. b < 256))))))
-
-new_bytes_are : (offset : ℕ) (edit : Edit) → IsEditAt offset edit → AreBytes (new_bytes edit)
-new_bytes_are offset (Put bytes was) h = AreBytes-all bytes h.0.each
-new_bytes_are offset (Fill count value) h = AreBytes-all (replicate count value) (All-replicate (λ b. b < 256) count value h.2)
-new_bytes_are offset Rebuild h = λ i. lit< tt
-new_bytes_are offset (Address bcd) h = λ i. lit< tt
-
-pub AreBytes-new : (p : Patch) → IsPatch p → AreBytes (new_bytes p.edit)
-AreBytes-new p h = new_bytes_are p.offset p.edit h.edit
-
 -- ---- user data joined
 
-AreBytes-joined : (sectors : List (List ℕ)) (base first count : ℕ) → ((block : ℕ) → AreBytes (user_at (sector_at sectors base block))) → AreBytes (joined_user sectors base first count)
+AreBytes-joined : (sectors : List (List ℕ)) (base first count : ℕ)
+    → ((block : ℕ) → AreBytes (user_at (sector_at sectors base block)))
+    → AreBytes (joined_user sectors base first count)
 AreBytes-joined sectors base first zero h = λ i. lit< tt
 AreBytes-joined sectors base first (suc count) h =
-    AreBytes-append (user_at (sector_at sectors base first)) (joined_user sectors base (first + 1) count) (h first) (AreBytes-joined sectors base (first + 1) count h)
+    AreBytes-append (user_at (sector_at sectors base first))
+    (joined_user sectors base (first + 1) count) (h first)
+    (AreBytes-joined sectors base (first + 1) count h)
 
 -- ---- user data with a patch's bytes
 
 -- each byte is the patch's in its range, and else the one before
-written-byte : (user : List ℕ) (offset : ℕ) (bytes : List ℕ) (place : ℕ) → offset + length bytes ≤ length user
-    → get_or (written user offset bytes) place 0 ≡ (if nat_le offset place && nat_lt place (offset + length bytes) then get_or bytes (place - offset) 0 else get_or user place 0)
+written-byte : (user : List ℕ) (offset : ℕ) (bytes : List ℕ) (place : ℕ)
+    → offset + length bytes ≤ length user
+    → get_or (written user offset bytes) place 0
+    ≡ (if nat_le offset place && nat_lt place (offset + length bytes)
+    then get_or bytes (place - offset) 0 else get_or user place 0)
 written-byte user offset bytes place room = elim (cases_lt place offset) [
-  | inl before ↦ written-other user offset bytes place room (inl before) ∙ sym (cond-false _ _ _ (and_left _ _ (lt-leb offset place before)))
+  | inl before ↦
+      written-other user offset bytes place room (inl before)
+      ∙ sym (cond-false _ _ _ (and_left _ _ (lt-leb offset place before)))
   | inr from ↦ elim (cases_lt place (offset + length bytes)) [
     | inl inside ↦
         let at : offset + (place - offset) ≡ place = omega arith in
         ap (λ n. get_or (written user offset bytes) n 0) (sym at)
         ∙ written-range user offset bytes (place - offset) room (omega arith)
-        ∙ sym (cond-true _ _ _ (and_from _ _ (le-leb offset place from) (lt-ltb place (offset + length bytes) inside)))
-    | inr past ↦ written-other user offset bytes place room (inr past) ∙ sym (cond-false _ _ _ (and_right _ _ (le-ltb place (offset + length bytes) past)))
+        ∙ sym (cond-true _ _ _
+        (and_from _ _ (le-leb offset place from) (lt-ltb place (offset + length bytes) inside)))
+    | inr past ↦
+        written-other user offset bytes place room (inr past)
+        ∙ sym (cond-false _ _ _ (and_right _ _ (le-ltb place (offset + length bytes) past)))
   ]
 ]
 
-AreBytes-written : (user : List ℕ) (offset : ℕ) (bytes : List ℕ) → AreBytes user → AreBytes bytes → AreBytes (written user offset bytes)
+AreBytes-written : (user : List ℕ) (offset : ℕ) (bytes : List ℕ) → AreBytes user → AreBytes bytes
+    → AreBytes (written user offset bytes)
 unfolding written
 AreBytes-written user offset bytes h k =
-    AreBytes-append (take offset user) (bytes ++ drop (offset + length bytes) user) (AreBytes-take user offset h)
-    (AreBytes-append bytes (drop (offset + length bytes) user) k (AreBytes-drop user (offset + length bytes) h))
+    AreBytes-append (take offset user) (bytes ++ drop (offset + length bytes) user)
+    (AreBytes-take user offset h)
+    (AreBytes-append bytes (drop (offset + length bytes) user) k
+    (AreBytes-drop user (offset + length bytes) h))
 
 module _ (sectors : List (List ℕ)) (base : ℕ) (p : Patch) (each : All IsSector sectors) (there : AreThere sectors base p) where
   whole : BlocksHaveUsers USER_SIZE sectors base p.block (blocks_met p)
   whole k below =
       let t = there (p.block + k) (omega arith) (omega arith) in
-      ap (λ s. length (user_at s)) t.is ∙ length-user t.sector (IsSector-at sectors base (p.block + k) t.sector each t.is).size
+      ap (λ s. length (user_at s)) t.is
+      ∙ length-user t.sector (IsSector-at sectors base (p.block + k) t.sector each t.is).size
 
   pub length-user_met : length (user_met sectors base p) ≡ USER_SIZE * blocks_met p
   unfolding user_met
@@ -114,17 +101,25 @@ module _ (sectors : List (List ℕ)) (base : ℕ) (p : Patch) (each : All IsSect
 
   AreBytes-user_met : AreBytes (user_met sectors base p)
   unfolding user_met
-  AreBytes-user_met = AreBytes-joined sectors base p.block (blocks_met p) (λ block. elim (option_cases (sector_at sectors base block)) [
-    | inl none ↦ subst (λ s. AreBytes (user_at s)) (sym none) (λ i. lit< tt)
-    | inr some ↦ subst (λ s. AreBytes (user_at s)) (sym some.1) (AreBytes-user some.0 (IsSector-at sectors base block some.0 each some.1))
-  ])
+  AreBytes-user_met =
+      AreBytes-joined sectors base p.block (blocks_met p)
+      (λ block. elim (cases_Option (sector_at sectors base block)) [
+        | inl none ↦ subst (λ s. AreBytes (user_at s)) (sym none) (λ i. lit< tt)
+        | inr some ↦
+            subst (λ s. AreBytes (user_at s)) (sym some.1)
+            (AreBytes-user some.0 (IsSector-at sectors base block some.0 each some.1))
+      ])
 
-  pub user_met-byte : (block offset : ℕ) (sector : List ℕ) → p.block ≤ block → block < p.block + blocks_met p → offset < USER_SIZE → sector_at sectors base block ≡ Some sector
-      → get_or (user_met sectors base p) (USER_SIZE * (block - p.block) + offset) 0 ≡ get_or (user_of sector) offset 0
+  pub user_met-byte : (block offset : ℕ) (sector : List ℕ) → p.block ≤ block
+      → block < p.block + blocks_met p → offset < USER_SIZE
+      → sector_at sectors base block ≡ Some sector
+      → get_or (user_met sectors base p) (USER_SIZE * (block - p.block) + offset) 0
+      ≡ get_or (user_of sector) offset 0
   unfolding user_met
   user_met-byte block offset sector from to low is =
       let at : p.block + (block - p.block) ≡ block = omega arith in
-      joined-byte USER_SIZE sectors base p.block (blocks_met p) whole (block - p.block) offset (omega arith) low
+      joined-byte USER_SIZE sectors base p.block (blocks_met p) whole (block - p.block) offset
+      (omega arith) low
       ∙ ap (λ b. get_or (user_at (sector_at sectors base b)) offset 0) at
       ∙ ap (λ s. get_or (user_at s) offset 0) is
 
@@ -134,35 +129,49 @@ module _ (sectors : List (List ℕ)) (base : ℕ) (p : Patch) (each : All IsSect
 
     pub length-patched : length (patched_user sectors base p) ≡ USER_SIZE * blocks_met p
     unfolding patched_user
-    length-patched = length-written (user_met sectors base p) p.offset (new_bytes p.edit) room ∙ length-user_met
+    length-patched =
+        length-written (user_met sectors base p) p.offset (new_bytes p.edit) room ∙ length-user_met
 
-    pub length-user_part : (k : ℕ) → k < blocks_met p → length (user_part (patched_user sectors base p) k) ≡ USER_SIZE
+    pub length-user_part : (k : ℕ) → k < blocks_met p
+        → length (user_part (patched_user sectors base p) k) ≡ USER_SIZE
     unfolding user_part
     length-user_part k below =
-        length-range (patched_user sectors base p) (USER_SIZE * k) (USER_SIZE * (k + 1)) (omega arith) (omega (arith, length-patched)) ∙ omega arith
+        length-range (patched_user sectors base p) (USER_SIZE * k) (USER_SIZE * (k + 1))
+        (omega arith) (omega (arith, length-patched)) ∙ omega arith
 
     pub AreBytes-user_part : (k : ℕ) → AreBytes (user_part (patched_user sectors base p) k)
     unfolding user_part patched_user
     AreBytes-user_part k =
-        AreBytes-range (written (user_met sectors base p) p.offset (new_bytes p.edit)) (USER_SIZE * k) (USER_SIZE * (k + 1))
-        (AreBytes-written (user_met sectors base p) p.offset (new_bytes p.edit) AreBytes-user_met (AreBytes-new p kept))
+        AreBytes-range (written (user_met sectors base p) p.offset (new_bytes p.edit))
+        (USER_SIZE * k) (USER_SIZE * (k + 1))
+        (AreBytes-written (user_met sectors base p) p.offset (new_bytes p.edit)
+        AreBytes-user_met (patch-fits p kept).each)
 
     -- the new user data of a block that the patch meets, by its bytes
-    pub user_part-byte : (block offset : ℕ) (sector : List ℕ) → p.block ≤ block → block < p.block + blocks_met p → offset < USER_SIZE → sector_at sectors base block ≡ Some sector
-        → get_or (user_part (patched_user sectors base p) (block - p.block)) offset 0 ≡ byte_by p block offset (get_or (user_of sector) offset 0)
+    pub user_part-byte : (block offset : ℕ) (sector : List ℕ) → p.block ≤ block
+        → block < p.block + blocks_met p → offset < USER_SIZE
+        → sector_at sectors base block ≡ Some sector
+        → get_or (user_part (patched_user sectors base p) (block - p.block)) offset 0
+        ≡ byte_by p block offset (get_or (user_of sector) offset 0)
     unfolding user_part patched_user
     user_part-byte block offset sector from to low is =
         let place = USER_SIZE * (block - p.block) + offset in
         let inside = nat_le p.offset place && nat_lt place (p.offset + length (new_bytes p.edit)) in
-        range-byte (patched_user sectors base p) (USER_SIZE * (block - p.block)) (USER_SIZE * (block - p.block + 1)) offset (omega arith)
+        range-byte (patched_user sectors base p) (USER_SIZE * (block - p.block))
+        (USER_SIZE * (block - p.block + 1)) offset (omega arith)
         ∙ written-byte (user_met sectors base p) p.offset (new_bytes p.edit) place room
-        ∙ ap (λ b. if inside then get_or (new_bytes p.edit) (place - p.offset) 0 else b) (user_met-byte block offset sector from to low is)
-        ∙ ap (λ t. if t && inside then get_or (new_bytes p.edit) (place - p.offset) 0 else get_or (user_of sector) offset 0) (sym (le-leb p.block block from))
+        ∙ ap (λ b. if inside then get_or (new_bytes p.edit) (place - p.offset) 0 else b)
+        (user_met-byte block offset sector from to low is)
+        ∙ ap (λ t. if t && inside then get_or (new_bytes p.edit) (place - p.offset) 0
+        else get_or (user_of sector) offset 0) (sym (le-leb p.block block from))
 
 -- a patch leaves the bytes of the blocks that it does not meet
-pub byte_by-other : (p : Patch) (block offset before : ℕ) → IsPatch p → (block < p.block) ⊎ (p.block + blocks_met p ≤ block) → byte_by p block offset before ≡ before
-byte_by-other p block offset before kept (inl below) = cond-false _ _ _ (and_left _ _ (lt-leb p.block block below))
+pub byte_by-other : (p : Patch) (block offset before : ℕ) → IsPatch p
+    → (block < p.block) ⊎ (p.block + blocks_met p ≤ block) → byte_by p block offset before ≡ before
+byte_by-other p block offset before kept (inl below) =
+    cond-false _ _ _ (and_left _ _ (lt-leb p.block block below))
 byte_by-other p block offset before kept (inr behind) =
     let place = USER_SIZE * (block - p.block) + offset in
     let past : p.offset + length (new_bytes p.edit) ≤ place = omega (arith, range-inside p) in
-    cond-false _ _ _ (and_right _ _ (and_right _ _ (le-ltb place (p.offset + length (new_bytes p.edit)) past)))
+    cond-false _ _ _
+    (and_right _ _ (and_right _ _ (le-ltb place (p.offset + length (new_bytes p.edit)) past)))

@@ -9,7 +9,7 @@ use Rattle.cd_patch.specs.EditMeaning.{new_bytes}
 abbrev pub block_limit : ℕ
 block_limit = 3
 
--- the number of blocks that so many bytes from an offset on lie in; none are of one block
+-- the number of blocks that so many bytes from an offset on lie in; no bytes are of one block
 abbrev pub blocks_spanned : ℕ → ℕ → ℕ
 blocks_spanned offset count = (offset + count - 1) / USER_SIZE + 1
 
@@ -17,10 +17,10 @@ blocks_spanned offset count = (offset + count - 1) / USER_SIZE + 1
 abbrev pub blocks_of : ℕ → Edit → ℕ
 blocks_of offset edit = blocks_spanned offset (length (new_bytes edit))
 
--- the number of blocks that a patch meets: its first block, and those behind it
+-- the number of blocks that a patch meets: its first block, and those after it
 unfoldable pub blocks_met : Patch → ℕ
 blocks_met p = blocks_of p.offset p.edit
 
--- the sector of a block, where these sectors, the first of which is block `base`, have it
+-- the sector of a block, if these sectors, the first of which is block `base`, have it
 unfoldable pub sector_at : List (List ℕ) → ℕ → ℕ → Option (List ℕ)
 sector_at sectors base block = if nat_lt block base then None else slice_get sectors (block - base)

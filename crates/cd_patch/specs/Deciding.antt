@@ -1,5 +1,4 @@
--- Whether a patch is accepted: the blocks that it meets are asked upwards, then the old bytes that
--- it names.
+-- Whether a patch is accepted: its blocks are tested upwards, then the old bytes that it names.
 use Rattle.std.specs.Prelude.{ℕ, zero, suc, ◌+◌, ◌/◌, ◌%◌, ◌==◌, Bool, not, ◌&&◌, if◌then◌else◌, List, [], ◌∷◌, ◌++◌, drop, Option, Some, None, unwrap_or}
 use Rattle.cd_script.specs.declared.patch.Patch.{Patch}
 use Rattle.cd_sector.specs.Consistent.{consistent, is_mode1, user_of}
@@ -10,7 +9,8 @@ use Rattle.cd_patch.specs.EditMeaning.{needs_consistent, old_bytes}
 use Rattle.cd_patch.specs.declared.outcome.Outcome.{Outcome}
 use Rattle.cd_patch.specs.declared.outcome.Outcome.TheVariants.{Applied, Damaged, Differs, NoBlock, NotMode1}
 
--- why a block refuses a patch, which may ask for a consistent sector; none where it doesn't refuse
+-- why a block, by its sector, refuses a patch; `asks` says that the patch needs a consistent sector
+-- (`needs_consistent`). None if the block does not refuse
 abbrev pub refusal_at : Bool → ℕ → Option (List ℕ) → Option Outcome
 refusal_at asks block None = Some (NoBlock block)
 refusal_at asks block (Some sector) =
@@ -23,7 +23,7 @@ abbrev pub first_of : Option Outcome → Option Outcome → Option Outcome
 first_of None other = other
 first_of (Some refusal) other = Some refusal
 
--- the first refusal of `count` blocks from one on, upwards
+-- the first refusal of `count` blocks, tested upwards from `block` on
 abbrev pub first_refusal : List (List ℕ) → ℕ → Bool → ℕ → ℕ → Option Outcome
 first_refusal sectors base asks block zero = None
 first_refusal sectors base asks block (suc count) =
@@ -35,7 +35,7 @@ abbrev pub user_at : Option (List ℕ) → List ℕ
 user_at None = []
 user_at (Some sector) = user_of sector
 
--- the user data of `count` blocks from one on, joined
+-- the user data of `count` blocks from `block` on, joined
 abbrev pub joined_user : List (List ℕ) → ℕ → ℕ → ℕ → List ℕ
 joined_user sectors base block zero = []
 joined_user sectors base block (suc count) =
@@ -45,19 +45,20 @@ joined_user sectors base block (suc count) =
 unfoldable pub user_met : List (List ℕ) → ℕ → Patch → List ℕ
 user_met sectors base p = joined_user sectors base p.block (blocks_met p)
 
--- the place of the first byte that is not the old one, where the first byte stands at `place`
+-- the place of the first byte that is not the old one; the first of `bytes` is at `place`
 abbrev pub first_difference : ℕ → List ℕ → List ℕ → Option ℕ
 first_difference place bytes [] = None
 first_difference place [] (old ∷ others) = Some place
 first_difference place (b ∷ bytes) (old ∷ others) =
     if b == old then first_difference (place + 1) bytes others else Some place
 
--- the block and offset of a place in the joined user data of blocks from one on
+-- what becomes of a patch by the place of the first difference in the joined user data of its
+-- blocks
 abbrev pub by_difference : ℕ → Option ℕ → Outcome
 by_difference block None = Applied
 by_difference block (Some place) = Differs (block + place / USER_SIZE) (place % USER_SIZE)
 
--- what becomes of a patch, where damage is carried or not
+-- what becomes of a patch, if damage is carried or not
 unfoldable pub outcome : Bool → List (List ℕ) → ℕ → Patch → Outcome
 outcome carry sectors base p =
     unwrap_or (first_refusal sectors base (needs_consistent carry p.edit) p.block (blocks_met p))

@@ -1,19 +1,20 @@
--- What each edit means: the one place where the edits of a script are told apart.
+-- What each edit means: the one place in which the edits of a script are distinguished.
 use Rattle.std.specs.Prelude.{ℕ, Bool, true, false, not, ◌&&◌, List, [], ◌++◌, drop, replicate, Option, Some, None, unwrap_or}
 use Rattle.cd_script.specs.declared.patch.Edit.{Edit}
 use Rattle.cd_script.specs.declared.patch.Edit.TheVariants.{Put, Fill, Rebuild, Address}
 
+-- what an edit means for the blocks that its patch meets
 pub record EditMeaning : Type 0 where
   -- the user bytes that it writes, from the patch's offset on
   pub bytes : List ℕ
-  -- the bytes that have to stand in their place before; none where it does not ask
+  -- the bytes that have to stand in their place before; none if any may
   pub old : List ℕ
   -- the address that it writes into the header
   pub address : Option (List ℕ)
-  -- whether it builds on the sector as it is, and does not make it anew
+  -- whether it changes the sector as it is; false if it makes the sector anew
   pub builds_on : Bool
 
--- what each row begins with: nothing is written or asked for, and the sector stays
+-- what each row begins with: nothing is written, no old byte is named, and the sector stays
 abbrev pub nothing : EditMeaning
 nothing = record { bytes = []; old = []; address = None; builds_on = true }
 
@@ -32,20 +33,20 @@ new_bytes edit = (meaning edit).bytes
 abbrev pub old_bytes : Edit → List ℕ
 old_bytes edit = (meaning edit).old
 
--- a header with this address, where there is one
+-- a header with this address, if there is one
 abbrev pub with_address : Option (List ℕ) → List ℕ → List ℕ
 with_address None header = header
 with_address (Some bcd) header = bcd ++ drop 3 header
 
--- the header that an edit makes of one
+-- the header that an edit makes of an old one
 abbrev pub new_header : Edit → List ℕ → List ℕ
 new_header edit header = with_address (meaning edit).address header
 
--- whether an edit builds on the sector as it is
+-- whether an edit changes the sector as it is, and does not make it anew
 abbrev pub builds_on : Edit → Bool
 builds_on edit = (meaning edit).builds_on
 
--- whether an edit is refused where a sector is damaged: not where damage is carried
+-- whether a damaged sector refuses an edit: not if damage is carried
 abbrev pub needs_consistent : Bool → Edit → Bool
 needs_consistent carry edit = builds_on edit && not carry
 

@@ -1,4 +1,5 @@
--- What a patch makes of the sectors, as a relation between those before and those after.
+-- What a patch makes of the sectors, as a relation between those before and those after: it says
+-- what is true of both, and computes no sector. A law says that there is just one result.
 use Rattle.std.specs.Prelude.{◌≡◌, ℕ, ◌+◌, ◌*◌, ◌<◌, ◌≤◌, ◌⊎◌, Bool, true, false, List, length, slice_range, Some}
 use Rattle.cd_script.specs.declared.patch.Edit.{Edit}
 use Rattle.cd_script.specs.declared.patch.Patch.{Patch}
@@ -18,13 +19,14 @@ pub record IsRemade (header user sector : List ℕ) : Type 0 where
   pub has_header : header_of sector ≡ header
   pub has_user : user_of sector ≡ user
 
--- the same, or the sector with this content, the old sync and the old defect
+-- what a sector becomes, with this header and user data: if damage is carried it keeps its old sync
+-- field and defect (`IsCarried`), else it is consistent (`IsRemade`)
 abbrev pub MadeBy : Bool → List ℕ → List ℕ → List ℕ → List ℕ → Type 0
 MadeBy false old header user new = IsRemade header user new
 MadeBy true old header user new = IsCarried old header user new
 
--- what an edit makes of a sector to which it gives this user data: where damage is carried, each
--- edit but `rebuild` keeps the old defect; else the consistent sector
+-- what an edit makes of a sector to which it gives this user data: if damage is carried, each edit
+-- but `rebuild` keeps the old defect; else the result is the consistent sector
 abbrev pub IsMade : Bool → Edit → List ℕ → List ℕ → List ℕ → Type 0
 IsMade carry edit old user new =
     MadeBy (keeps_defect carry edit) old (new_header edit (header_of old)) user new
@@ -38,8 +40,8 @@ unfoldable pub user_part : List ℕ → ℕ → List ℕ
 user_part user k = slice_range user (USER_SIZE * k) (USER_SIZE * (k + 1))
 
 -- an accepted patch: each block that it meets has the header that the patch makes of its old one
--- and its part of the patched user data, and is consistent, or has the old defect where that is
--- carried; every other is as it was
+-- and its part of the patched user data, and is consistent, or has the old defect if that is
+-- carried; every other block is as it was
 pub record IsApplied (carry : Bool) (base : ℕ) (p : Patch) (old new : List (List ℕ)) : Type 0 where
   pub count : length new ≡ length old
   pub met : (k : ℕ) (before after : List ℕ) → k < blocks_met p
@@ -49,7 +51,7 @@ pub record IsApplied (carry : Bool) (base : ℕ) (p : Patch) (old new : List (Li
   pub others : (block : ℕ) → (block < p.block) ⊎ (p.block + blocks_met p ≤ block)
       → sector_at new base block ≡ sector_at old base block
 
--- a refused patch changes nothing
+-- an accepted patch is applied; a refused one changes nothing, whatever refused it
 abbrev pub EffectOf : Bool → Outcome → ℕ → Patch → List (List ℕ) → List (List ℕ) → Type 0
 EffectOf carry Applied base p old new = IsApplied carry base p old new
 EffectOf carry (NoBlock block) base p old new = new ≡ old

@@ -1,4 +1,4 @@
--- What follows from the definitions alone; each is the contract of a function of `laws.rt`.
+-- What follows from the definitions; each law is the contract of a function of `laws.rt`.
 use Rattle.std.specs.Prelude.{◌≡◌, ℕ, ◌+◌, ◌≤◌, ◌≢◌, Bool, true, false, List, All, take, slice_get, Some}
 use Rattle.std.specs.List.Sorted.{IsNonDecreasingBy}
 use Rattle.cd_script.specs.Patch.{IsPatch}
@@ -27,7 +27,7 @@ RunExists =
     → (os : List Outcome) × (last : List (List ℕ)) × PatchRun carry ps os base old last
     × All IsSector last
 
--- where the first i + block_limit sectors are equal, the patches up to block base + i have equal
+-- if the first i + block_limit sectors are equal, the patches up to block base + i have equal
 -- outcomes, and leave equal sectors 0 to i
 abbrev pub RunsAgree : Type 0
 RunsAgree =
@@ -40,29 +40,30 @@ RunsAgree =
     → slice_get os k ≡ slice_get os' k)
     × (take (i + 1) last ≡ take (i + 1) last')
 
+-- what a run leaves is as `LeavesOthers` says
 abbrev pub RunLeavesOthers : Type 0
 RunLeavesOthers =
     (carry : Bool) (ps : List Patch) (os : List Outcome) (base : ℕ) (old last : List (List ℕ))
     → All IsPatch ps → All IsSector old
     → PatchRun carry ps os base old last → LeavesOthers carry ps os base old last
 
--- these words leave one result
+-- what `LeavesOthers` says has only one result
 abbrev pub LeavesOne : Type 0
 LeavesOne =
     (carry : Bool) (ps : List Patch) (os : List Outcome) (base : ℕ) (old last last' : List (List ℕ))
     → LeavesOthers carry ps os base old last → LeavesOthers carry ps os base old last'
     → last ≡ last'
 
--- ---- where there is nothing to carry
+-- ---- if there is nothing to carry
 
--- a patch that is accepted where no damage is carried is accepted where it is, and makes the same
+-- a patch that is accepted if no damage is carried is accepted if it is, and makes equal sectors
 abbrev pub NothingToCarry : Type 0
 NothingToCarry =
     (base : ℕ) (p : Patch) (old new : List (List ℕ)) → outcome false old base p ≡ Applied
     → Effect false base p old new
     → (outcome true old base p ≡ Applied) × Effect true base p old new
 
--- where damage is carried no patch is refused for it
+-- if damage is carried no patch is refused for it
 abbrev pub NeverDamaged : Type 0
 NeverDamaged =
     (base block : ℕ) (p : Patch) (sectors : List (List ℕ))

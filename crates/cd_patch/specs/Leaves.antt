@@ -12,7 +12,7 @@ use Rattle.cd_patch.specs.EditMeaning.{builds_on, new_bytes, new_header}
 use Rattle.cd_patch.specs.Outcome.{is_applied}
 use Rattle.cd_patch.specs.declared.outcome.Outcome.{Outcome}
 
--- 2352 bytes
+-- a sector: 2352 bytes
 pub record IsSector (sector : List ℕ) : Type 0 where
   pub size : length sector ≡ SECTOR_SIZE
   pub bytes : AreBytes sector
@@ -27,8 +27,8 @@ is_touched [] os block = false
 is_touched (p ∷ ps) [] block = false
 is_touched (p ∷ ps) (o ∷ os) block = (is_applied o && meets p block) || is_touched ps os block
 
--- the user byte at an offset of a block that an accepted patch leaves of the byte before: its own
--- where its range has it
+-- the user byte at an offset of a block that an accepted patch leaves: its own if its range has the
+-- place, else the byte before
 abbrev pub byte_by : Patch → ℕ → ℕ → ℕ → ℕ
 byte_by p block offset before =
     let place = USER_SIZE * (block - p.block) + offset in
@@ -51,7 +51,7 @@ header_left (p ∷ ps) (o ∷ os) block before =
     header_left ps os block
     (if is_applied o && meets p block then new_header p.edit before else before)
 
--- an accepted patch that makes its sectors anew, a rebuild, meets the block
+-- an accepted rebuild meets the block
 abbrev pub is_rebuilt : List Patch → List Outcome → ℕ → Bool
 is_rebuilt [] os block = false
 is_rebuilt (p ∷ ps) [] block = false
@@ -64,9 +64,9 @@ pub record SameDamage (before after : List ℕ) : Type 0 where
   pub defect : defect_of after ≡ defect_of before
 
 -- a sector that no accepted patch meets is the old one; each other one has the header and the user
--- bytes that the accepted patches leave in order. Where no damage is carried it is consistent;
--- where damage is carried it has the sync field and the defect of the old one, or is consistent
--- where it was rebuilt. A consistent one stays consistent
+-- bytes that the accepted patches leave in order. If no damage is carried it is consistent; if
+-- damage is carried it has the sync field and the defect of the old one, or is consistent if it was
+-- rebuilt. A consistent one stays consistent
 pub record LeavesOthers (carry : Bool) (ps : List Patch) (os : List Outcome) (base : ℕ)
     (old last : List (List ℕ)) : Type 0 where
   pub count : length last ≡ length old

@@ -1,4 +1,5 @@
--- What an edit makes of one sector after the other, among those that its patch meets.
+-- Plumbing of `apply_patch`: what an edit makes of one sector after the other, among those that its
+-- patch meets.
 use Rattle.std.specs.Prelude.{◌≡◌, ℕ, ◌+◌, ◌*◌, ◌<◌, ◌≤◌, ◌⊎◌, Bool, List, [], length, replicate, slice_index, slice_index_or}
 use Rattle.cd_sector.specs.Consistent.{user_of}
 use Rattle.cd_sector.specs.declared.sector.TheConstants.{USER_SIZE}
@@ -16,9 +17,9 @@ abbrev pub HaveUsers : List (List ℕ) → ℕ → Type 0
 HaveUsers sectors count =
     (k : ℕ) → k < count → length (user_of (slice_index_or sectors k [])) ≡ USER_SIZE
 
--- where a range of `count` bytes, which begins at `offset` in the joined user data, meets the block
--- at number k among them: at `place` of its user data stand bytes `first` to `end` of the range,
--- and no other
+-- bytes `first` to `end` of a range stand at `place` to `place + end - first` of the user data of
+-- block k, and no other byte of the range lies in that block; the range has `count` bytes and
+-- begins at `offset` in the joined user data
 pub record IsPart (k offset count place first end : ℕ) : Type 0 where
   pub rises : first ≤ end
   pub within : end ≤ count
@@ -27,8 +28,8 @@ pub record IsPart (k offset count place first end : ℕ) : Type 0 where
   pub from_start : (first ≡ 0) ⊎ (place ≡ 0)
   pub to_end : (end ≡ count) ⊎ (place + end ≡ USER_SIZE + first)
 
--- the sector at number k has this header and those of the bytes that lie in it, and is consistent
--- or has the defect of the one before
+-- the sector at number k has this header and those of the bytes that lie in it; all other user
+-- bytes stay, and it is consistent, or keeps its defect if that is carried
 pub record HasPart (carried : Bool) (k offset : ℕ)
     (bytes header before after : List ℕ) : Type 0 where
   pub made : MadeBy carried before header (user_of after) after
@@ -38,7 +39,7 @@ pub record HasPart (carried : Bool) (k offset : ℕ)
       → (USER_SIZE * k + j < offset) ⊎ (offset + length bytes ≤ USER_SIZE * k + j)
       → slice_index (user_of after) j ≡ slice_index (user_of before) j
 
--- as many sectors, each made of the one before by a rule for its number
+-- as many sectors, each what the rule for its number makes of the one before
 pub record EachMade (Rule : ℕ → List ℕ → List ℕ → Type 0) (old new : List (List ℕ)) : Type 0 where
   pub size : length new ≡ length old
   pub each : (k : ℕ) → k < length old → Rule k (slice_index_or old k []) (slice_index_or new k [])

@@ -5,7 +5,8 @@ use Rattle.cd_patch.specs.Deciding.{outcome}
 use Rattle.cd_patch.specs.Effect.{Effect}
 use Rattle.cd_patch.specs.declared.outcome.Outcome.{Outcome}
 
--- the first patch has this outcome, and leads to sectors from which the others go on
+-- one step of a run: the first patch has this outcome, and the others go on from the sectors that
+-- it leaves
 pub record PatchStep (carry : Bool) (p : Patch) (o : Outcome) (base : ℕ) (old : List (List ℕ))
     (GoesOn : List (List ℕ) → Type 0) : Type 0 where
   pub decided : o ≡ outcome carry old base p
@@ -13,7 +14,7 @@ pub record PatchStep (carry : Bool) (p : Patch) (o : Outcome) (base : ℕ) (old 
   pub effect : Effect carry base p old next
   pub others : GoesOn next
 
--- where damage is carried or not, the patches have these outcomes, and lead from the sectors `old`,
+-- the patches, with damage carried or not, have these outcomes, and lead from the sectors `old`,
 -- the first of which is block `base`, to `last`
 abbrev pub PatchRun : Bool → List Patch → List Outcome → ℕ → List (List ℕ) → List (List ℕ) → Type 0
 PatchRun carry [] [] base old last = last ≡ old

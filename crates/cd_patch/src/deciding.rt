@@ -1,4 +1,4 @@
-//! Whether a patch is accepted: the blocks that it meets are asked upwards, then the old bytes that it names.
+//! Whether a patch is accepted: its blocks are tested upwards, then the old bytes that it names.
 
 ghost use Rattle.std.specs.Prelude.{◌≡◌, ℕ, ◌+◌, ◌*◌, ◌<◌, ◌≤◌, drop, IfSome, length, None, [], slice_get, slice_index_or};
 ghost use Rattle.cd_script.specs.Limits.{number_limit};
@@ -14,7 +14,8 @@ use crate::outcome::Outcome;
 use cd_script::Patch;
 use cd_sector::{Sector, SectorKind, USER_SIZE, is_consistent, kind};
 
-/// What becomes of a patch, which meets `count` blocks, on the sectors from its first block on; damage may be carried.
+/// Decides a patch, which meets `count` blocks, on the sectors from its first block on; damage may
+/// be carried.
 pub(crate) fn decide(sectors: &[Sector], patch: &Patch, count: usize, carry: bool) -> Outcome
     requires patch { IsPatch patch.now }
     requires count { count ≡ blocks_met patch.now }
@@ -36,7 +37,8 @@ pub(crate) fn decide(sectors: &[Sector], patch: &Patch, count: usize, carry: boo
     }
 }
 
-/// The first refusal of `count` blocks from `block` on, upwards, where these are the sectors from it on.
+/// The first refusal of `count` blocks from `block` on, whose sectors these are; `asks` if they
+/// have to be consistent.
 fn first_refusal(sectors: &[Sector], block: u32, count: usize, asks: bool) -> Option<Outcome>
     requires block { block ≤ number_limit }
     requires count { count ≤ block_limit }
@@ -52,8 +54,8 @@ fn first_refusal(sectors: &[Sector], block: u32, count: usize, asks: bool) -> Op
     None
 }
 
-/// Why the block whose sector is that at `k` refuses a patch, which may ask for a consistent sector; none where it
-/// doesn't refuse.
+/// Why a block, whose sector is that at `k`, refuses a patch; `asks` if it has to be consistent.
+/// None if it does not refuse.
 fn refusal_at(sectors: &[Sector], k: usize, block: u32, asks: bool) -> Option<Outcome>
     ensures refusal { result ≡ refusal_at asks block (slice_get sectors.now k) }
     ensures user { result ≡ None → length (user_of (slice_index_or sectors.now k [])) ≡ USER_SIZE }
@@ -76,7 +78,7 @@ fn refusal_at(sectors: &[Sector], k: usize, block: u32, asks: bool) -> Option<Ou
     }
 }
 
-/// Does nothing: its contract says of a sector that its user data are 2048 bytes.
+/// Proof step: does nothing. Its contract says that the user data of a sector are 2048 bytes.
 pub(crate) fn know_user_size(sector: &Sector)
     ensures { length (user_of sector.now) ≡ USER_SIZE }
 {

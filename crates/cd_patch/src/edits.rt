@@ -1,4 +1,4 @@
-//! What each edit means: the one place where the edits of a script are told apart.
+//! What each edit means: the one place in which the edits of a script are distinguished.
 
 ghost use Rattle.std.specs.Prelude.{◌≡◌, ◌+◌, ◌*◌, ◌≤◌, ◌&&◌, length, not};
 ghost use Rattle.cd_script.specs.Patch.{IsPatch};
@@ -9,7 +9,7 @@ ghost use Rattle.cd_patch.specs.Parts.{bytes_of};
 use cd_script::{Edit, Patch};
 use cd_sector::USER_SIZE;
 
-/// How many blocks a patch may meet: as many as its bytes can lie in, wherever they begin in the first.
+/// How many blocks a patch may meet: 4096 bytes lie in at most three, from any offset on.
 pub const MAX_BLOCKS_MET: usize = 3;
 
 /// User bytes that an edit writes.
@@ -38,16 +38,16 @@ impl NewBytes<'_> {
 pub(crate) struct EditMeaning<'a> {
     /// The user bytes that it writes, from the patch's offset on.
     pub(crate) bytes: NewBytes<'a>,
-    /// The bytes that have to stand in their place before; none where it doesn't ask.
+    /// The bytes that have to stand in their place before; none if any may.
     pub(crate) old: &'a [u8],
     /// The address that it writes into the header: minute, second and fraction, each in BCD.
     pub(crate) address: Option<[u8; 3]>,
-    /// Whether it builds on the sector as it is, and does not make it anew.
+    /// Whether it changes the sector as it is; false if it makes the sector anew.
     pub(crate) builds_on: bool,
 }
 
 impl EditMeaning<'_> {
-    /// Whether the edit is refused where a sector is damaged: not where damage is carried.
+    /// Whether a damaged sector refuses the edit: not if damage is carried.
     pub(crate) fn needs_consistent(&self, carry: bool) -> bool
         ensures { result ≡ (self.now.builds_on && not carry) }
     {
@@ -55,7 +55,7 @@ impl EditMeaning<'_> {
     }
 }
 
-/// What each row begins with: nothing is written or asked for, and the sector stays.
+/// What each row begins with: nothing is written, no old byte is named, and the sector stays.
 const NOTHING: EditMeaning<'static> = EditMeaning {
     bytes: NewBytes::Borrowed(&[]),
     old: &[],
@@ -114,7 +114,8 @@ pub fn blocks_met(patch: &Patch) -> usize
     blocks_spanned(patch.offset, meaning(&patch.edit).bytes.len())
 }
 
-/// The number of blocks that so many user bytes from an offset on lie in; none are of one block.
+/// The number of blocks that so many user bytes from an offset on lie in; no bytes are of one
+/// block.
 fn blocks_spanned(offset: u16, count: usize) -> usize
     requires room { offset + count ≤ USER_SIZE * block_limit }
     ensures number { result ≡ blocks_spanned offset count }

@@ -12,30 +12,31 @@ pub fn run_exists()
     ensures { RunExists }
 {}
 
-/// Where the first i + `MAX_BLOCKS_MET` sectors are equal, the patches up to block base + i have equal outcomes, and leave equal
-/// sectors 0 to i.
+/// If the first i + `MAX_BLOCKS_MET` sectors are equal, the patches up to block base + i have equal
+/// outcomes, and leave equal sectors 0 to i.
 pub fn runs_agree()
     ensures { RunsAgree }
 {}
 
-/// A sector that no accepted patch meets is the old one; each other one has the header and the user data that the
-/// accepted patches leave in order. It is consistent, or has the old damage where that is carried and no patch has made
-/// the sector anew.
+/// A sector that no accepted patch meets is the old one; each other one has the header and the user
+/// data that the accepted patches leave in order. It is consistent, or has the old damage if that
+/// is carried and no patch has rebuilt the sector.
 pub fn run_leaves_others()
     ensures { RunLeavesOthers }
 {}
 
-/// What `run_leaves_others` says leaves one result: sectors of which it holds are those of the run.
+/// What `run_leaves_others` says has only one result: sectors of which it holds are those of the
+/// run.
 pub fn leaves_one()
     ensures { LeavesOne }
 {}
 
-/// A patch that is accepted where no damage is carried is accepted where it is, and makes the same.
+/// A patch that is accepted if no damage is carried is accepted if it is, and makes equal sectors.
 pub fn nothing_to_carry()
     ensures { NothingToCarry }
 {}
 
-/// Where damage is carried no patch is refused for it.
+/// If damage is carried no patch is refused for it.
 pub fn never_damaged()
     ensures { NeverDamaged }
 {}

@@ -1,5 +1,21 @@
-//! What a patch of a script makes of the sectors that it meets: whether it is accepted, and the sectors that
-//! it leaves. Tests: `crates/cd_patch_tests`, and on whole images `crates/cd_image_tests`.
+//! What one patch of a script makes of the sectors that it meets: whether it is accepted, and the
+//! sectors that it leaves (ECMA-130, 14 and Annex A).
+//!
+//! ```
+//! let script = parse(rt.alloc(), b"cdpatch 1\nset 0 0 41\n")?;
+//! let mut sectors = [encode([0x00, 0x02, 0x00], &[0x00; USER_SIZE])]; // block 0
+//! for patch in script.patches() {
+//!     assert_eq!(rt; apply_patch(&mut sectors, patch, false), Outcome::Applied);
+//! }
+//! ```
+//!
+//! A patch meets one block, or the two or three that its bytes lie in ([`blocks_met`], at most
+//! [`MAX_BLOCKS_MET`]). It is refused if a block is not there, is not of Mode 1 or is damaged, or
+//! if an old byte differs; then no sector changes. Else each sector that it meets becomes the one
+//! consistent sector with its part of the patched user data. If damage is carried, a damaged sector
+//! is patched too, and keeps its damage. No call takes memory.
+//!
+//! Tests: `crates/cd_patch_tests`, and on whole images `crates/cd_image_tests`.
 #![tactic(auto)]
 
 mod deciding;

@@ -3,7 +3,8 @@
 ghost use Rattle.std.specs.Prelude.{◌≡◌};
 ghost use Rattle.cd_patch.specs.Outcome.{is_applied};
 
-/// Whether a patch was accepted, or why it was refused. Blocks are told by their numbers, which begin at the base.
+/// Whether a patch was accepted, or why it was refused. Blocks are named by their numbers, which
+/// begin at the base.
 #[derive(Clone, Copy, Debug, PartialEq, Eq, Drop)]
 pub enum Outcome {
     /// The patch was accepted, and each block that it meets holds its bytes.

@@ -1,6 +1,6 @@
-//! Taking a patch: where it is accepted, each sector that it meets becomes the one consistent sector with its old
-//! header, or the one with the patch's address, and its part of the patched user data. Where damage is carried, it
-//! becomes the one sector with this content and the old damage.
+//! Taking a patch: if it is accepted, each sector that it meets gets its part of the patched user
+//! data, or the patch's address, and is consistent, or keeps the damage that it had if damage is
+//! carried.
 
 ghost use Rattle.std.specs.Prelude.{◌≡◌, ℕ, ◌+◌, ◌*◌, ◌<◌, ◌≤◌, ◌++◌, All, drop, false, length, replicate, true};
 ghost use Rattle.cd_script.specs.Limits.{offset_limit};
@@ -20,12 +20,13 @@ use crate::edits::{NewBytes, blocks_met, meaning};
 use crate::outcome::Outcome;
 use cd_delta::{carry_header, carry_user, change_header, change_user};
 use cd_script::Patch;
-use cd_sector::{Sector, USER_SIZE, encode};
+use cd_sector::{Sector, USER_SIZE, rebuild};
 
-/// Decides a patch on the sectors from its first block on, as far as the image has them or the patch asks for them
-/// ([`MAX_BLOCKS_MET`] serve any patch), and, where it is accepted, makes of each sector that it meets the one consistent sector
-/// with its old header, or the one with the patch's address, and its part of the patched user data. With `carry` no
-/// sector is refused for its damage, and each that is not made anew keeps its damage.
+/// Decides a patch on the sectors from its first block on: as many as the image has, or
+/// [`MAX_BLOCKS_MET`], which serve any patch. If the patch is accepted, makes of each sector that
+/// it meets the one consistent sector with its old header, or the one with the patch's address, and
+/// its part of the patched user data. With `carry` no sector is refused for its damage, and each
+/// that is not rebuilt keeps its damage.
 ///
 /// # Examples
 ///
@@ -65,7 +66,9 @@ fn change(sectors: &mut [Sector], patch: &Patch, carry: bool)
     }
 }
 
-/// Changes the sector at number `k` among those that an accepted patch meets.
+/// Changes the sector at number `k` among those that an accepted patch meets. User data and
+/// addresses are written by differences; a rebuild encodes the sector, since a damaged sector's
+/// parity may be wrong too. Both give the one consistent sector.
 fn change_sector(sector: &mut Sector, k: usize, patch: &Patch, carry: bool)
     requires patch { IsPatch patch.now }
     requires met { k < blocks_met patch.now }
@@ -86,7 +89,9 @@ fn change_sector(sector: &mut Sector, k: usize, patch: &Patch, carry: bool)
     }
 }
 
-/// Writes an address into the header of a sector.
+/// Writes an address into the header of a sector. The mode byte stays: it is 01, since `decide` has
+/// tested the kind. Whether the address is that of the block is not tested here: `audit` reports
+/// it.
 fn write_address(sector: &mut Sector, bcd: [u8; 3], carry: bool)
     requires mode { kind_of sector.old ≡ Mode1 }
     requires sound { carry ≡ false → IsConsistent sector.old }
@@ -98,19 +103,6 @@ fn write_address(sector: &mut Sector, bcd: [u8; 3], carry: bool)
     } else {
         change_header(sector, bcd);
     }
-}
-
-/// The one consistent sector with the first three bytes of the header and the user data of a sector of Mode 1.
-fn rebuild(sector: &mut Sector)
-    requires { kind_of sector.old ≡ Mode1 }
-    ensures consistent { IsConsistent sector.new }
-    ensures header { header_of sector.new ≡ header_of sector.old }
-    ensures user { user_of sector.new ≡ user_of sector.old }
-{
-    let [minute, second, fraction, _] = sector.header();
-    let mut user = [0; USER_SIZE];
-    user.copy_from_slice(sector.user());
-    *sector = encode([minute, second, fraction], &user);
 }
 
 /// Writes those bytes of a range that lie in the sector at number `k`.
@@ -134,7 +126,9 @@ fn write_part(sector: &mut Sector, k: usize, offset: u16, bytes: NewBytes<'_>, c
     }
 }
 
-/// Writes bytes into the user data of a sector.
+/// Writes bytes into the user data of a sector. Of a consistent sector both calls make the same;
+/// only if damage is carried does the sector's old EDC cost a division, and what is proved of the
+/// other call needs no clause on damage.
 fn write(sector: &mut Sector, place: u16, bytes: &[u8], carry: bool)
     requires mode { kind_of sector.old ≡ Mode1 }
     requires range { place + length bytes.now ≤ 2048 }
@@ -143,6 +137,7 @@ fn write(sector: &mut Sector, place: u16, bytes: &[u8], carry: bool)
         (written (user_of sector.old) place bytes.now) sector.new }
     ensures size { length (user_of sector.old) ≡ USER_SIZE }
 {
+    // Proof step: the range lies in 2048 bytes.
     know_user_size(sector);
     if carry {
         carry_user(sector, place, bytes);
@@ -159,7 +154,8 @@ struct Part {
     end: usize,
 }
 
-/// The part of a range of `count` joined user bytes from `offset` on that lies in the block at number `k`.
+/// The part of a range of `count` joined user bytes from `offset` on that lies in the block at
+/// number `k`.
 fn part_of_block(k: usize, offset: usize, count: usize) -> Part
     requires few { k < block_limit }
     requires offset { offset < 2048 * k + 2048 }

@@ -1,5 +1,5 @@
-//! Tests of cd_command (`command_line`) and cd_jobs: the statuses and the lines of the commands (`patching`, `reports`, `streams`),
-//! scripts and their files (`script`), and words on a host in memory (`hosts`) and on real files (`words`).
+//! Tests of cd_command (`command_line`), of cd_jobs: the statuses and the lines of the commands (`patching`, `reports`, `streams`),
+//! scripts and their files (`script`), what a host is asked for (`hosts`), and of cd_memory (`in_memory`).
 #![tactic(auto)]
 
 #[cfg(test)]

@@ -1,3 +1,3 @@
-pub mod CountLemmas
 pub mod EndLemmas
 pub mod ImageLemmas
+pub mod general

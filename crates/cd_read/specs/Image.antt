@@ -1,5 +1,5 @@
--- An image: a list of bytes, cut into whole sectors from its front and a tail shorter than a
--- sector.
+-- An image: a list of bytes, cut into whole sectors from its front on, and a tail that is shorter
+-- than a sector.
 use Rattle.std.specs.Prelude.{◌≡◌, ℕ, ◌*◌, ◌/◌, ◌<◌, ◌++◌, All, List, length, drop}
 use Rattle.std.specs.List.{flat_map}
 use Rattle.std.specs.Simd.{first_chunks}
@@ -9,7 +9,7 @@ use Rattle.cd_sector.specs.declared.sector.TheConstants.{SECTOR_SIZE}
 unfoldable pub sectors : List ℕ → List (List ℕ)
 sectors image = first_chunks SECTOR_SIZE (length image / SECTOR_SIZE) image
 
--- what is left behind them
+-- the bytes after the whole sectors
 unfoldable pub tail : List ℕ → List ℕ
 tail image = drop (SECTOR_SIZE * (length image / SECTOR_SIZE)) image
 
@@ -21,7 +21,7 @@ bytes_of whole = flat_map (λ sector. sector) whole
 abbrev pub sector_limit : ℕ
 sector_limit = 1000000
 
--- how many bytes, the tail included
+-- how many bytes an image may have, its tail included
 abbrev pub image_limit : ℕ
 image_limit = SECTOR_SIZE * sector_limit
 

@@ -1,5 +1,5 @@
--- What reading one more sector of an image does, after so many others: in this way `list`, `audit`,
--- `apply` and `check` read.
+-- What reading one more sector of an image does, after `count` others. `list`, `audit`, `apply` and
+-- `check` all read so.
 use Rattle.std.specs.Prelude.{◌≡◌, ℕ, ◌+◌, ◌*◌, ◌<◌, ◌≤◌, false, true, List, length, take, Option}
 use Rattle.std.specs.Prelude.{None, Some, Result, Ok, Err}
 use Rattle.std.specs.Io.KnownBytes.{Consumes, IsAtEnd}
@@ -9,18 +9,20 @@ use Rattle.cd_read.specs.declared.fault.Fault.{Fault}
 use Rattle.cd_read.specs.declared.fault.Fault.TheVariants.{Log, Read, TooLong, Write}
 use Rattle.cd_stream.specs.Stream.{Incoming}
 
--- a whole one has come
+-- a whole sector has come
 pub record SectorComes (count : ℕ) (bytes : List ℕ) (image image' : Incoming) : Type 0 where
   pub consumes : Consumes image.rest image'.rest bytes
+  pub counted : image'.given ≡ image.given + SECTOR_SIZE
   pub kept : image'.failures ≡ image.failures
   pub unended : image'.ended ≡ false
   pub few : count < sector_limit
   pub size : length bytes ≡ SECTOR_SIZE
 
--- the source has told its end, and less than a sector in front of it
+-- the source has ended, after fewer bytes than a sector has
 pub record EndComes (count left : ℕ) (bytes : List ℕ) (image image' : Incoming) : Type 0 where
   pub short : left < SECTOR_SIZE
   pub consumes : Consumes image.rest image'.rest (take left bytes)
+  pub counted : image'.given ≡ image.given + left
   pub size : length (take left bytes) ≡ left
   pub kept : image'.failures ≡ image.failures
   pub at_end : IsAtEnd image'.rest
@@ -32,15 +34,17 @@ pub record ReadFails (count : ℕ) (image image' : Incoming) : Type 0 where
   pub came : List ℕ
   pub short : length came < SECTOR_SIZE
   pub consumes : Consumes image.rest image'.rest came
+  pub counted : image'.given ≡ image.given + length came
   pub rose : image'.failures ≡ image.failures + 1
   pub unended : image'.ended ≡ false
   pub within : SECTOR_SIZE * count + length came ≤ image_limit
 
--- a byte has come after the last sector that may be
+-- a byte has come after the last sector that an image may have
 pub record TooMuchComes (count : ℕ) (image image' : Incoming) : Type 0 where
   pub came : List ℕ
   pub one : length came ≡ 1
   pub consumes : Consumes image.rest image'.rest came
+  pub counted : image'.given ≡ image.given + length came
   pub kept : image'.failures ≡ image.failures
   pub unended : image'.ended ≡ false
   pub full : SECTOR_SIZE * count ≡ image_limit

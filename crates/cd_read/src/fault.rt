@@ -6,7 +6,8 @@ ghost use Rattle.cd_read.specs.declared.fault.Fault.TheVariants.{Read, Write};
 use cd_stream::{SinkFailed, SourceFailed};
 use thiserror::Error;
 
-/// Why a call on an image ended early. It ends at the first fault.
+/// Why a call on an image ended early. It ends at the first fault. `Write` and `Log` are those of
+/// the calls above, in cd_report and cd_image.
 #[derive(Clone, Copy, Debug, PartialEq, Eq, Drop, Error)]
 pub enum Fault {
     /// A read of the image failed.
@@ -18,7 +19,7 @@ pub enum Fault {
     /// A write to the log failed, or its flush.
     #[error("writing the log failed")]
     Log,
-    /// A byte was read behind the millionth sector.
+    /// A byte was read after the millionth sector.
     #[error("the image has more than 1000000 sectors")]
     TooLong,
 }

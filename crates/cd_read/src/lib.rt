@@ -1,7 +1,18 @@
-//! Reading an image of raw CD sectors: what its sectors and its tail are, how each call reads them,
-//! and why one ends early.
+//! Reading an image of raw CD sectors: whole sectors of 2352 bytes (ECMA-130, 14), then a tail that
+//! is shorter.
 //!
-//! Its tests are in crates/cd_image_tests.
+//! ```
+//! let mut image = ZeroSource::new(2352 + 3);
+//! let mut sector = Sector::default();
+//! assert_eq!(rt; read_sector(&mut image, 0, &mut sector), Ok(None)); // a whole one
+//! assert_eq!(rt; read_sector(&mut image, 1, &mut sector), Ok(Some(3))); // the tail
+//! ```
+//!
+//! An image has at most [`MAX_SECTORS`] whole sectors and no byte after the last of these:
+//! 2,352,000,000 bytes. A call on an image ends at its first [`Fault`]. It reads each sector into
+//! the place of a `Sector`'s bytes and takes no memory.
+//!
+//! Tests: `crates/cd_image_tests`.
 #![tactic(auto)]
 
 mod fault;

@@ -11,12 +11,13 @@ use cd_sector::{SECTOR_SIZE, Sector};
 use cd_stream::{Source, fill};
 
 /// Reads the next sector of an image, after `count` others, to `sector`, in the place of its bytes.
-/// Where the image has ended, the answer is the number of bytes of its tail, which is then at the
-/// front of `sector`; after the last sector that an image may have not a byte may come.
+/// At the end of the image the answer is the number of bytes of its tail, which is then at the
+/// front of `sector`. The one call by which `list`, `audit`, `apply` and `check` read an image and
+/// keep to its limit.
 ///
 /// # Errors
 ///
-/// `Read` where a read of the image failed, `TooLong` where a byte came after the last sector that
+/// `Read` if a read of the image failed, `TooLong` if a byte came after the last sector that
 /// an image may have.
 ///
 /// # Examples
@@ -36,10 +37,12 @@ pub fn read_sector<I: Source>(
     requires few { count ≤ sector_limit }
     ensures { ReadsSector count sector.new (I.seen image.old) (I.seen image.new) result }
 {
+    // Proof step: the source goes through the call, since nothing would be known of what the
+    // closure captured.
     sector.read_with(image, |image, bytes| read_bytes(image, count, bytes))
 }
 
-/// The same to the bytes of a sector.
+/// Reads the next sector of an image, after `count` others, to the bytes of a sector.
 fn read_bytes<I: Source>(
     image: &mut I,
     count: u32,
@@ -59,7 +62,9 @@ fn read_bytes<I: Source>(
     Ok(None)
 }
 
-/// After the last sector that an image may have: reads a byte more, which must not come.
+/// Makes sure that the image has ended after its last possible sector, by a read of one byte, which
+/// must not come. So an image of exactly 2,352,000,000 bytes is whole, and of a longer one just one
+/// byte more is read.
 fn read_end<I: Source>(image: &mut I, bytes: &mut [u8; SECTOR_SIZE]) -> Result<Option<usize>, Fault>
     requires { MayCount (I.seen image.old).failures }
     ensures { ReadsSector sector_limit bytes.new (I.seen image.old) (I.seen image.new) result }

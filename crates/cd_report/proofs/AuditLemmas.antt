@@ -15,7 +15,7 @@ use Rattle.cd_report.specs.Lines.{text_of}
 use Rattle.cd_report.specs.Scanning.{Finishes, HasFailed, HasVisited, IsTallyOf, audit_remaining, tally_with, tally_with_all, spec_of}
 use Rattle.cd_report.specs.declared.auditing.AuditTally.{AuditTally}
 use Rattle.cd_report.specs.declared.findings.Findings.{Findings}
-use Rattle.cd_read.proofs.CountLemmas.{count_by-first}
+use Rattle.cd_read.proofs.general.Counts.{count_by-cons}
 
 -- ---- a sector is damaged where its report tells of a defect
 
@@ -25,7 +25,7 @@ is_nonzero-above n = grind (arith, nat_tests)
 any_broken : (words : List (ℕ × ℕ)) → is_nonzero (count_by is_broken words) ≡ not (list_all (λ w. not (is_broken w)) words)
 any_broken [] = refl
 any_broken (w ∷ ws) =
-    ap is_nonzero (count_by-first is_broken w ws)
+    ap is_nonzero (count_by-cons is_broken w ws)
     ∙ elim (is_broken w) as (λ t. is_nonzero (cond t 1 0 + count_by is_broken ws) ≡ not (not t && list_all (λ v. not (is_broken v)) ws)) [
       | true ↦ is_nonzero-above (count_by is_broken ws)
       | false ↦ ap is_nonzero (zero-add (count_by is_broken ws)) ∙ any_broken ws
@@ -81,15 +81,15 @@ tally_with_all-step tally block s others left =
       | true ↦ λ mode1.
           let found = findings_of-some block s mode1 in
           tally_of-same _ _ _ _ _ _ _ _ left (omega arith)
-          (one_more tally.mode1 _ _ (is_mode1 (kind_of s)) true mode1 (count_by-first (λ x. is_mode1 (kind_of x)) s others))
-          (one_more tally.damaged _ _ (is_damaged s) (is_damage (report_of s)) (ap (λ b. b && not (is_sound (defect_of s))) mode1 ∙ sym (is_damage-report s)) (count_by-first is_damaged s others))
+          (one_more tally.mode1 _ _ (is_mode1 (kind_of s)) true mode1 (count_by-cons (λ x. is_mode1 (kind_of x)) s others))
+          (one_more tally.damaged _ _ (is_damaged s) (is_damage (report_of s)) (ap (λ b. b && not (is_sound (defect_of s))) mode1 ∙ sym (is_damage-report s)) (count_by-cons is_damaged s others))
           (one_more tally.findings _ _ (is_any (findings_of block s)) (is_any (Some (found_of block s))) (ap is_any found) refl)
           ∙ ap (λ f. tally_with_all (tally_with tally f) (block + 1) others left) (sym found)
       | false ↦ λ other.
           let found = findings_of-none block s other in
           tally_of-same _ _ _ _ _ _ _ _ left (omega arith)
-          (one_more-none tally.mode1 _ _ (is_mode1 (kind_of s)) other (count_by-first (λ x. is_mode1 (kind_of x)) s others))
-          (one_more-none tally.damaged _ _ (is_damaged s) (ap (λ b. b && not (is_sound (defect_of s))) other) (count_by-first is_damaged s others))
+          (one_more-none tally.mode1 _ _ (is_mode1 (kind_of s)) other (count_by-cons (λ x. is_mode1 (kind_of x)) s others))
+          (one_more-none tally.damaged _ _ (is_damaged s) (ap (λ b. b && not (is_sound (defect_of s))) other) (count_by-cons is_damaged s others))
           (one_more-none tally.findings _ _ (is_any (findings_of block s)) (ap is_any found) refl)
           ∙ ap (λ f. tally_with_all (tally_with tally f) (block + 1) others left) (sym found)
     ] refl

@@ -14,7 +14,7 @@ use Rattle.cd_report.specs.Lines.{line_count, text_of}
 use Rattle.cd_report.specs.declared.auditing.AuditTally.{AuditTally}
 use Rattle.cd_report.specs.declared.findings.Findings.{Findings}
 use Rattle.cd_report.proofs.AuditLemmas.{findings_of-none, findings_of-some}
-use Rattle.cd_read.proofs.CountLemmas.{count_by-first}
+use Rattle.cd_read.proofs.general.Counts.{count_by-cons}
 use Rattle.cd_read.proofs.ImageLemmas.{length-sectors-le, length-tail-le}
 use Rattle.cd_report.proofs.ScanLemmas.{text_of-append}
 
@@ -30,7 +30,7 @@ line_count-behind front behind none = line_count-append front behind ∙ ap (λ 
 digit-no_end : (d : ℕ) → line_count ((48 + d) ∷ []) ≡ 0
 digit-no_end d =
     let other : ((48 + d) == 10) ≡ false = grind (arith, nat_tests) in
-    count_by-first (λ b. b == 10) (48 + d) [] ∙ ap (λ t. cond t 1 0 + 0) other
+    count_by-cons (λ b. b == 10) (48 + d) [] ∙ ap (λ t. cond t 1 0 + 0) other
 
 line_count-decimal : (n : ℕ) → n < 2 ^ 64 → line_count (decimal n) ≡ 0
 line_count-decimal =

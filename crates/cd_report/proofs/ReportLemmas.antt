@@ -3,7 +3,8 @@ use Rattle.std.proofs.Common.{◌≡◌, ◌↔◌, ℕ, ◌+◌, true, List, []
 use Rattle.std.specs.Io.KnownBytes.{Appends, Consumes, IsAtEnd}
 use Rattle.std.proofs.lemmas.Bool.{true≢false}
 use Rattle.cd_read.specs.Ends.{AnswersByEnd, AnswersByLength, EndsWell, TellsTooLong}
-use Rattle.cd_read.proofs.EndLemmas.{appended, beyond_by_length, consumed_all, ended_by_length, not_beyond, told_beyond}
+use Rattle.cd_read.proofs.general.KnownBytes.{appended, consumed_all}
+use Rattle.cd_read.proofs.EndLemmas.{beyond_by_length, ended_by_length, not_beyond, told_beyond}
 use Rattle.cd_report.specs.Report.{Reports, ReportSpec, WritesText}
 use Rattle.cd_stream.specs.Stream.{Incoming, Outgoing}
 use Rattle.cd_read.specs.Image.{image_limit}

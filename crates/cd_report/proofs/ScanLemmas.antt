@@ -11,6 +11,7 @@ use Rattle.cd_report.specs.Scanning.{Finishes, HasFailed, HasVisited, Remaining,
 use Rattle.cd_read.specs.declared.fault.Fault.{Fault}
 use Rattle.cd_read.specs.declared.fault.Fault.TheVariants.{Log, Read, TooLong, Write}
 use Rattle.cd_stream.specs.Stream.{Incoming, IsBeginning, Outgoing}
+use Rattle.cd_stream.specs.Transfer.{Gives}
 use Rattle.cd_stream.specs.declared.sink.SinkFailed.{SinkFailed}
 use Rattle.cd_read.proofs.ImageLemmas.{length-tail, sectors-sector, sectors-short}
 use Rattle.cd_read.proofs.EndLemmas.{Fits-begins, FitsLeft-begins, FitsLeft-end}
@@ -39,6 +40,7 @@ pub record Told {T : Type 0} (first now : Remaining T) (image image' : Incoming)
   pub sent : List (List ℕ)
   pub done : List (List ℕ)
   pub consumes : Consumes image.rest image'.rest read
+  pub given : image'.given ≡ image.given + length read
   pub appends : Appends out.written out'.written (text_of sent)
   pub reads : image'.failures ≡ image.failures
   pub writes : out'.failures ≡ out.failures
@@ -56,6 +58,7 @@ Told-start first image out none = record {
   sent = [];
   done = [];
   consumes = Consumes-nil image.rest;
+  given = omega arith;
   appends = Appends-nil out.written;
   reads = refl;
   writes = refl;
@@ -84,9 +87,12 @@ module _ {T : Type 0} (first now : Remaining T) (image before after : Incoming) 
   sent_begins : (more : List ℕ) → IsBeginning (text_of told.sent) ((spec_of first).text (told.read ++ more))
   sent_begins more = (_, known more)
 
-  module _ (came : List ℕ) (consumed : Consumes before.rest after.rest came) where
+  module _ (came : List ℕ) (gives : Gives before after came) where
     consumes : Consumes image.rest after.rest (told.read ++ came)
-    consumes = Consumes-trans image.rest before.rest after.rest told.read came told.consumes consumed
+    consumes = Consumes-trans image.rest before.rest after.rest told.read came told.consumes gives.consumes
+
+    given : after.given ≡ image.given + length (told.read ++ came)
+    given = omega (arith, told.given, gives.counted, length-append told.read came)
 
     length_read : length (told.read ++ came) ≡ 2352 * count + length came
     length_read = length-append told.read came ∙ ap (λ n. n + length came) told.size
@@ -108,6 +114,7 @@ module _ {T : Type 0} (first now : Remaining T) (image before after : Incoming) 
         read = told.read ++ came;
         sent = text_of told.sent;
         consumes = consumes;
+        given = given;
         appends = told.appends;
         answers = record {
           reads = failed ∙ ap (λ n. n + 1) told.reads;
@@ -124,6 +131,7 @@ module _ {T : Type 0} (first now : Remaining T) (image before after : Incoming) 
         read = told.read ++ came;
         sent = text_of told.sent;
         consumes = consumes;
+        given = given;
         appends = told.appends;
         answers = record {
           reads = kept ∙ told.reads;
@@ -145,6 +153,7 @@ module _ {T : Type 0} (first now : Remaining T) (image before after : Incoming) 
           sent = told.sent ++ taken.sent;
           done = told.done ++ came ∷ [];
           consumes = consumes;
+          given = given;
           appends = subst (λ t. Appends out.written sunk'.written t) (sym (text_of-append told.sent taken.sent)) (Appends-trans out.written sunk.written sunk'.written (text_of told.sent) (text_of taken.sent) told.appends taken.appends);
           reads = kept ∙ told.reads;
           writes = wrote ∙ told.writes;
@@ -166,6 +175,7 @@ module _ {T : Type 0} (first now : Remaining T) (image before after : Incoming) 
           read = told.read ++ came;
           sent = text_of told.sent ++ part;
           consumes = consumes;
+          given = given;
           appends = Appends-trans out.written sunk.written sunk'.written (text_of told.sent) part told.appends failed.appends;
           answers = record {
             reads = kept ∙ told.reads;
@@ -219,6 +229,7 @@ module _ {T : Type 0} (first now : Remaining T) (image before after : Incoming) 
           read = told.read ++ came;
           sent = text_of told.sent ++ now.end [] left;
           consumes = consumes;
+          given = given;
           appends = Appends-trans out.written sunk.written sunk'.written (text_of told.sent) (now.end [] left) told.appends finished.1;
           answers = record {
             reads = kept ∙ told.reads;
@@ -239,6 +250,7 @@ module _ {T : Type 0} (first now : Remaining T) (image before after : Incoming) 
           read = told.read ++ came;
           sent = text_of told.sent ++ finished.0;
           consumes = consumes;
+          given = given;
           appends = Appends-trans out.written sunk.written sunk'.written (text_of told.sent) finished.0 told.appends finished.1;
           answers = record {
             reads = kept ∙ told.reads;
@@ -257,8 +269,8 @@ module _ {T : Type 0} (first now : Remaining T) (image before after : Incoming) 
 -- the next sector was not read
 pub Told-unread : {T : Type 0} (first now : Remaining T) (image before after : Incoming) (out sunk : Outgoing) (count : ℕ) → Told first now image before out sunk count → (bytes : List ℕ) (fault : Fault)
     → ReadsSector count bytes before after (Err fault) → Reports (spec_of first) image after out sunk (Err fault)
-Told-unread first now image before after out sunk count told bytes Read r = Told-read first now image before after out sunk count told r.came r.consumes r.short r.within r.rose r.unended
-Told-unread first now image before after out sunk count told bytes TooLong r = Told-too_long first now image before after out sunk count told r.came r.consumes (omega (arith, r.one)) r.full r.one r.kept r.unended
+Told-unread first now image before after out sunk count told bytes Read r = Told-read first now image before after out sunk count told r.came (record { consumes = r.consumes; counted = r.counted }) r.short r.within r.rose r.unended
+Told-unread first now image before after out sunk count told bytes TooLong r = Told-too_long first now image before after out sunk count told r.came (record { consumes = r.consumes; counted = r.counted }) (omega (arith, r.one)) r.full r.one r.kept r.unended
 Told-unread first now image before after out sunk count told bytes Write r = elim r [ ]
 Told-unread first now image before after out sunk count told bytes Log r = elim r [ ]
 
@@ -313,6 +325,7 @@ module _ {T : Type 0} (a b : ReportSpec T) (text : (image : List ℕ) → a.text
     read = report.read;
     sent = report.sent;
     consumes = report.consumes;
+    given = report.given;
     appends = report.appends;
     answers = answers_same report.read report.sent _ _ _ _ result report.answers;
   }

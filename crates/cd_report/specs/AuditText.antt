@@ -16,12 +16,12 @@ use Rattle.cd_report.specs.declared.findings.Findings.{Findings}
 
 -- ---- what is found of one sector
 
--- the header doesn't begin with the address of the block, where the block has one
+-- the header doesn't begin with the address of the block, if the block has one
 abbrev pub is_other_address : Option (List ℕ) → List ℕ → Bool
 is_other_address None header = false
 is_other_address (Some due) header = not (starts_with nat_eq header due)
 
--- what is told of a sector's defect
+-- which parts of a sector are wrong, as `defect` answers
 unfoldable pub report_of : List ℕ → DefectReport
 report_of sector = record {
   zeros = list_any is_nonzero (defect_of sector).zeros;
@@ -41,20 +41,22 @@ found_of block sector = record {
 unfoldable pub findings_of : ℕ → List ℕ → Option Findings
 findings_of block sector = if is_mode1 (kind_of sector) then Some (found_of block sector) else None
 
--- something is told of the defect
+-- any part of the sector is wrong
 abbrev pub is_damage : DefectReport → Bool
 is_damage report = ((report.zeros || report.edc) || is_nonzero report.p) || is_nonzero report.q
 
--- there is anything to tell
+-- the sector has a line: another address, or a part that is wrong
 abbrev pub is_any : Option Findings → Bool
 is_any None = false
 is_any (Some found) = found.address || is_damage found.defect
 
 -- ---- the text
 
+-- a name, if that was found
 abbrev pub name_if : Bool → List ℕ → List ℕ
 name_if found name = if found then name else []
 
+-- a name and a count, if the count is not 0
 abbrev pub count_if : List ℕ → ℕ → List ℕ
 count_if name count = if is_nonzero count then name ++ decimal count else []
 
@@ -65,7 +67,7 @@ finding_line block found =
     ++ name_if found.defect.zeros (codes " zeros") ++ name_if found.defect.edc (codes " edc")
     ++ count_if (codes " p=") found.defect.p ++ count_if (codes " q=") found.defect.q ++ codes "\n"
 
--- the line of a sector, where there is anything to tell
+-- the line of a sector, if it has one
 abbrev pub line_of : ℕ → Option Findings → List (List ℕ)
 line_of block None = []
 line_of block (Some found) = if is_any (Some found) then finding_line block found ∷ [] else []
@@ -76,7 +78,7 @@ audit_lines block [] = []
 audit_lines block (sector ∷ others) =
     line_of block (findings_of block sector) ++ audit_lines (block + 1) others
 
--- a Mode 1 sector is damaged where a member of its defect is not 0
+-- a Mode 1 sector is damaged if a part of its defect is not 0
 abbrev pub is_damaged : List ℕ → Bool
 is_damaged sector = is_mode1 (kind_of sector) && not (is_sound (defect_of sector))
 
@@ -96,6 +98,7 @@ counts_of block ss left = record {
   tail = left;
 }
 
+-- the counts of an image whose first block is `base`
 abbrev pub audit_tally : ℕ → List ℕ → AuditTally
 audit_tally base image = counts_of base (sectors image) (length (tail image))
 
@@ -106,12 +109,12 @@ audit_end tally =
     ++ codes " damaged " ++ decimal tally.damaged
     ++ codes " tail " ++ decimal tally.tail ++ codes "\n"
 
--- the whole text, where the image's first block is `base`
+-- the whole text, if the image's first block is `base`
 abbrev pub audit_text : ℕ → List ℕ → List ℕ
 audit_text base image =
     text_of (audit_lines base (sectors image)) ++ audit_end (audit_tally base image)
 
--- what is told of an image: the line of a sector is due when it was read
+-- the report of an audit: the line of a sector is due when the sector was read
 abbrev pub audit_report : ℕ → ReportSpec AuditTally
 audit_report base = record {
   text = audit_text base;

@@ -10,6 +10,7 @@ use Rattle.cd_report.specs.Report.{ReportSpec}
 use Rattle.cd_report.specs.Runs.{Run, runs}
 use Rattle.cd_report.specs.declared.listing.ListTally.{ListTally}
 
+-- the name of a kind
 unfoldable pub kind_name : SectorKind → List ℕ
 kind_name NoSync = codes "nosync"
 kind_name Mode0 = codes "mode0"
@@ -37,13 +38,12 @@ list_end tally =
 abbrev pub list_tally : List ℕ → ListTally
 list_tally image = record { sectors = length (sectors image); tail = length (tail image) }
 
--- the whole text, where the image's first block is `base`
+-- the whole text, if the image's first block is `base`
 abbrev pub list_text : ℕ → List ℕ → List ℕ
 list_text base image =
     text_of (run_lines base (runs (map kind_of (sectors image)))) ++ list_end (list_tally image)
 
--- what is told of an image: the line of a run is due when a sector of another kind was read behind
--- it
+-- the report of a listing: the line of a run is due when a sector of another kind was read after it
 abbrev pub list_report : ℕ → ReportSpec ListTally
 list_report base = record {
   text = list_text base;

@@ -1,4 +1,4 @@
--- A run that is still open: inner words of `list`.
+-- Plumbing of `list`: a run that is still open.
 use Rattle.std.specs.Prelude.{◌≡◌, ℕ, ◌+◌, ◌-◌, ◌≤◌, List, [], replicate, Option, None, Some}
 use Rattle.cd_sector.specs.declared.kinds.SectorKind.{SectorKind}
 use Rattle.cd_report.specs.declared.listing.OpenRun.{OpenRun}
@@ -8,7 +8,7 @@ abbrev pub open_kinds : Option OpenRun → List SectorKind
 open_kinds None = []
 open_kinds (Some run) = replicate (run.last + 1 - run.first) run.kind
 
--- its first block; where none is open, that of the next sector
+-- its first block; if none is open, the block of the next sector
 abbrev pub open_first : Option OpenRun → ℕ → ℕ
 open_first None block = block
 open_first (Some run) block = run.first

@@ -1,4 +1,5 @@
--- What a call has done that reads an image to its end and writes a text of it.
+-- What a call has done that reads an image to its end and writes a text of it. The plain clauses of
+-- the calls follow from `Reports`.
 use Rattle.std.specs.Prelude.{◌≡◌, ◌↔◌, ℕ, ◌+◌, ◌<◌, ◌≤◌, IsOk, false, true, List, [], ◌∷◌, ◌++◌}
 use Rattle.std.specs.Prelude.{length, take, Option, None, Some, Result, Ok, Err}
 use Rattle.std.specs.Io.KnownBytes.{Appends, Consumes, IsAtEnd}
@@ -9,14 +10,14 @@ use Rattle.cd_read.specs.declared.fault.Fault.{Fault}
 use Rattle.cd_read.specs.declared.fault.Fault.TheVariants.{Log, Read, TooLong, Write}
 use Rattle.cd_stream.specs.Stream.{Incoming, IsBeginning, Outgoing}
 
--- what is told of an image: its text, the lines that are due once some of its bytes were read, and
--- a tally
+-- a report: of an image its text and its counts (`tally`), and the lines that are `due` once some
+-- of its bytes were read
 pub record ReportSpec (T : Type 0) : Type 0 where
   pub text : List ℕ → List ℕ
   pub due : List ℕ → List (List ℕ)
   pub tally : List ℕ → T
 
--- the whole image was read until the source told its end, and its whole text went out
+-- the whole image was read until the source ended, and its whole text went out
 pub record Completes {T : Type 0} (spec : ReportSpec T) (read sent : List ℕ)
     (image image' : Incoming) (out out' : Outgoing) (told : T) : Type 0 where
   pub reads : image'.failures ≡ image.failures
@@ -59,6 +60,7 @@ pub record StopsTooLong {T : Type 0} (spec : ReportSpec T) (read sent : List ℕ
   pub due_sent : sent ≡ text_of (spec.due read)
   pub beginning : (whole : List ℕ) → Fits read whole → IsBeginning sent (spec.text whole)
 
+-- what was read and sent, by the answer: the whole report, or what each fault leaves
 abbrev pub Answers : {T : Type 0} → ReportSpec T → List ℕ → List ℕ → Incoming → Incoming → Outgoing
     → Outgoing → Result T Fault → Type 0
 Answers spec read sent image image' out out' (Ok told) =
@@ -71,17 +73,19 @@ Answers spec read sent image image' out out' (Err Log) = ⊥
 Answers spec read sent image image' out out' (Err TooLong) =
     StopsTooLong spec read sent image image' out out'
 
--- the call read some bytes, sent some, and answered by them
+-- a call's whole contract: it read some bytes, sent some, and answered by them. It serves sources
+-- and sinks whose bytes are known, and others
 pub record Reports {T : Type 0} (spec : ReportSpec T) (image image' : Incoming)
     (out out' : Outgoing) (result : Result T Fault) : Type 0 where
   pub read : List ℕ
   pub sent : List ℕ
   pub consumes : Consumes image.rest image'.rest read
+  pub given : image'.given ≡ image.given + length read
   pub appends : Appends out.written out'.written sent
   pub answers : Answers spec read sent image image' out out' result
 
--- where source and sink tell their bytes: all of the image was read, and the sink got its text
--- behind what it had
+-- if the bytes of source and sink are known: all of the image was read, and the sink got its text
+-- after what it had
 abbrev pub WritesText : {T : Type 0} → ReportSpec T → Incoming → Incoming → Outgoing → Outgoing → T
     → Type 0
 WritesText spec image image' out out' told =

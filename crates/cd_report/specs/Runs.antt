@@ -19,10 +19,11 @@ number_of Mode1 = 2
 number_of Mode2 = 3
 number_of Other = 4
 
+-- whether two kinds are the same
 abbrev pub same_kind : SectorKind → SectorKind → Bool
 same_kind a b = number_of a == number_of b
 
--- one more sector before runs: it joins the first where that is of its kind
+-- one more sector before runs: it joins the first if that is of its kind
 abbrev pub put_before : SectorKind → List Run → List Run
 put_before kind [] = record { kind = kind; count = 1 } ∷ []
 put_before kind (run ∷ others) =

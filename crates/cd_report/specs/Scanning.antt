@@ -1,4 +1,4 @@
--- What is still to tell of an image, sector by sector: inner words of `list` and `audit`.
+-- Plumbing of `list` and `audit`: what is still to be written of an image, sector by sector.
 use Rattle.std.specs.Prelude.{◌≡◌, ℕ, ◌+◌, ◌≤◌, true, List, [], ◌∷◌, ◌++◌, length, take, count_by}
 use Rattle.std.specs.Prelude.{map, if◌then◌else◌, Option, None, Some, Result, Ok, Err}
 use Rattle.std.specs.Io.KnownBytes.{Appends}
@@ -19,14 +19,14 @@ use Rattle.cd_report.specs.declared.findings.Findings.{Findings}
 use Rattle.cd_report.specs.declared.listing.ListTally.{ListTally}
 use Rattle.cd_report.specs.declared.listing.OpenRun.{OpenRun}
 
--- by the sectors that follow: the lines that are due with them; by the length of the tail too: what
--- goes out at the end, and the tally
+-- a report's future, if the sectors `ss` and a tail of `n` bytes follow: `lines ss` is written,
+-- then `end ss n`, and the counts are `tally ss n`
 pub record Remaining (T : Type 0) : Type 0 where
   pub lines : List (List ℕ) → List (List ℕ)
   pub end : List (List ℕ) → ℕ → List ℕ
   pub tally : List (List ℕ) → ℕ → T
 
--- what is told of an image, from its front on
+-- the report whose future this is, from the front of the image on
 abbrev pub spec_of : {T : Type 0} → Remaining T → ReportSpec T
 spec_of remaining = record {
   text = λ image. text_of (remaining.lines (sectors image))
@@ -35,7 +35,8 @@ spec_of remaining = record {
   tally = λ image. remaining.tally (sectors image) (length (tail image));
 }
 
--- a sector was taken: the lines that were due with it went out, and the rest is still to tell
+-- a sector was visited: the lines that were due with it went out, and the rest is still to be
+-- written
 pub record HasVisited {T : Type 0} (old new : Remaining T) (sector : List ℕ)
     (out out' : Outgoing) : Type 0 where
   pub sent : List (List ℕ)
@@ -57,6 +58,7 @@ pub record HasFailed {T : Type 0} (old : Remaining T) (sector : List ℕ)
   pub lines : (others : List (List ℕ)) → old.lines (sector ∷ others) ≡ line ∷ behind others
   pub last : behind [] ≡ []
 
+-- one sector was visited, or the write of its line failed
 abbrev pub Visits : {T X E : Type 0} → Remaining T → Remaining T → List ℕ → Outgoing → Outgoing
     → Result X E → Type 0
 Visits old new sector out out' (Ok x) = HasVisited old new sector out out'
@@ -80,7 +82,7 @@ last_line first (run ∷ next ∷ others) = last_line (first + run.count) (next 
 abbrev pub ended_lines : ℕ → List SectorKind → List (List ℕ)
 ended_lines first kinds = all_but_last (run_lines first (runs kinds))
 
--- behind `count` sectors, with an open run
+-- the future of a listing after `count` sectors, with an open run
 abbrev pub list_remaining : ℕ → Option OpenRun → ℕ → Remaining ListTally
 list_remaining base run count = record {
   lines = λ ss. ended_lines (open_first run (base + count)) (open_kinds run ++ map kind_of ss);
@@ -90,7 +92,7 @@ list_remaining base run count = record {
   tally = λ ss left. record { sectors = count + length ss; tail = left };
 }
 
--- a sector's kind was taken into the open run, or the run's line went out and another began
+-- the open run has one sector more, or the run's line went out and another began
 pub record HasExtended (run : Option OpenRun) (next : OpenRun) (block : ℕ) (kind : SectorKind)
     (out out' : Outgoing) : Type 0 where
   pub sent : List (List ℕ)
@@ -113,7 +115,7 @@ pub record FailsToExtend (run : Option OpenRun) (block : ℕ) (kind : SectorKind
       → ended_lines (open_first run block) (open_kinds run ++ kind ∷ others)
       ≡ line ∷ ended_lines block (kind ∷ others)
 
--- at Ok a run is open that has it; at Err the run is as it was
+-- at Ok the sector is in the open run; at Err the run is as it was
 abbrev pub ExtendsRun : {E : Type 0} → Option OpenRun → Option OpenRun → ℕ → SectorKind → Outgoing
     → Outgoing → Result (Unit {0}) E → Type 0
 ExtendsRun run run' block kind out out' (Ok x) =
@@ -144,7 +146,7 @@ tally_with_all tally block ss left = record {
   tail = left;
 }
 
--- behind the sectors of the tally
+-- the future of an audit after the sectors of the tally
 abbrev pub audit_remaining : ℕ → AuditTally → Remaining AuditTally
 audit_remaining base tally = record {
   lines = λ ss. audit_lines (base + tally.sectors) ss;

@@ -25,12 +25,13 @@ pub struct AuditTally {
     pub mode1: u32,
     /// Sectors of Mode 1 with a defect.
     pub damaged: u32,
-    /// Sectors of Mode 1 of which anything was told.
+    /// Sectors of Mode 1 that have a line: a defect, or another address.
     pub findings: u32,
-    /// Bytes behind the last whole sector.
+    /// Bytes after the last whole sector.
     pub tail: u16,
 }
 
+/// The tally with one more sector, and what was found of it.
 fn with_sector(tally: AuditTally, found: Option<Findings>) -> AuditTally
     requires sectors { tally.sectors < sector_limit }
     requires mode1 { tally.mode1 < sector_limit }
@@ -53,6 +54,7 @@ fn with_sector(tally: AuditTally, found: Option<Findings>) -> AuditTally
     }
 }
 
+/// Writes the last line of an audit.
 #[tactic(auto, unfolding(crate::specs::AuditText::audit_end))]
 fn send_end<O: Sink>(tally: AuditTally, out: &mut O) -> Result<(), SinkFailed>
     requires { MayCount (O.seen out.old).failures }
@@ -116,14 +118,14 @@ impl Visitor for Auditor {
 }
 
 /// Writes a line for each Mode 1 sector whose address or content is wrong, and a last line with the
-/// numbers of sectors, of Mode 1 sectors, of damaged ones and of bytes behind them.
+/// numbers of sectors, of Mode 1 sectors, of damaged ones and of bytes after them.
 ///
 /// `base` is the number of the first block. It holds one sector at a time and takes no memory.
 ///
 /// # Errors
 ///
-/// `Read` where the image has failed, `Write` where `out` has, `TooLong` where a byte was read
-/// behind the millionth sector.
+/// `Read` if the image has failed, `Write` if `out` has, `TooLong` if a byte was read
+/// after the millionth sector.
 ///
 /// # Examples
 ///
@@ -139,11 +141,11 @@ pub fn audit<I: Source, O: Sink>(image: &mut I, base: u32, out: &mut O) -> Resul
     requires image_countable { MayCount (I.seen image.old).failures }
     requires out_countable { MayCount (O.seen out.old).failures }
 
-    // The whole of it, also what stands after a fault.
+    // The whole of it, also what is left after a fault.
     ensures report { Reports (audit_report base)
         (I.seen image.old) (I.seen image.new) (O.seen out.old) (O.seen out.new) result }
 
-    // What it says where nothing failed, and when each fault comes.
+    // What it says if nothing failed, and when each fault comes.
     ensures text { IfOk result (WritesText (audit_report base)
         (I.seen image.old) (I.seen image.new) (O.seen out.old) (O.seen out.new)) }
     ensures ends_well { OnOk result (EndsWell

@@ -21,7 +21,7 @@ pub(crate) struct Findings {
     pub defect: DefectReport,
 }
 
-/// What is found of the sector of a block; None where it is not of Mode 1.
+/// What is found of the sector of a block; None if it is not of Mode 1.
 #[tactic(auto, unfolding(crate::specs::AuditText::findings_of))]
 pub(crate) fn findings_of(sector: &Sector, block: u32) -> Option<Findings>
     ensures { result ≡ findings_of block sector.now }
@@ -35,6 +35,7 @@ pub(crate) fn findings_of(sector: &Sector, block: u32) -> Option<Findings>
     })
 }
 
+/// Proof step: `defect`, by the definition that the text of an audit is stated in.
 #[tactic(auto, unfolding(crate::specs::AuditText::report_of))]
 fn report_of(sector: &Sector) -> DefectReport
     ensures { result ≡ report_of sector.now }
@@ -42,6 +43,8 @@ fn report_of(sector: &Sector) -> DefectReport
     defect(sector)
 }
 
+/// Whether the header does not begin with the address of the block; a block without one is not
+/// compared.
 fn has_other_address(sector: &Sector, block: u32) -> bool
     ensures { result ≡ is_other_address (address block) (header_of sector.now) }
 {
@@ -51,20 +54,21 @@ fn has_other_address(sector: &Sector, block: u32) -> bool
     }
 }
 
-/// Whether anything of a defect is told.
+/// Whether any part of a sector is wrong.
 pub(crate) fn is_damage(report: &DefectReport) -> bool
     ensures { result ≡ is_damage report.now }
 {
     report.zeros || report.edc || report.p != 0 || report.q != 0
 }
 
-/// Whether there is anything to tell.
+/// Whether the sector has a line: another address, or any part that is wrong.
 pub(crate) fn is_any(found: &Findings) -> bool
     ensures { result ≡ is_any (Some found.now) }
 {
     found.address || is_damage(&found.defect)
 }
 
+/// Appends a name if that was found.
 fn push_name(line: &mut Line, found: bool, name: &[u8])
     requires { length line.old + length name.now ≤ LINE_SIZE }
     ensures name { line.new ≡ line.old ++ name_if found name.now }
@@ -75,6 +79,7 @@ fn push_name(line: &mut Line, found: bool, name: &[u8])
     }
 }
 
+/// Appends a name and a count if the count is not 0.
 fn push_count(line: &mut Line, name: &[u8], count: u8)
     requires { length line.old + length name.now + 10 ≤ LINE_SIZE }
     ensures count { line.new ≡ line.old ++ count_if name.now count }
@@ -86,6 +91,7 @@ fn push_count(line: &mut Line, name: &[u8], count: u8)
     }
 }
 
+/// `BLOCK [address] [zeros] [edc] [p=N] [q=N]`: a sector's line.
 #[tactic(auto, unfolding(crate::specs::AuditText::finding_line))]
 fn finding_line(block: u32, found: &Findings) -> Line
     ensures { result ≡ finding_line block found.now }
@@ -101,7 +107,7 @@ fn finding_line(block: u32, found: &Findings) -> Line
     line
 }
 
-/// Writes the line of a sector, where there is anything to tell.
+/// Writes the line of a sector, if it has one.
 pub(crate) fn send_findings<O: Sink>(
     block: u32,
     found: Option<Findings>,

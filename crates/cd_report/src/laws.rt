@@ -3,7 +3,7 @@
 ghost use Rattle.cd_report.specs.AuditText.{AuditCountsLines};
 ghost use Rattle.cd_report.specs.Runs.{RunsSpellKinds};
 
-/// The text of an audit has a line for each sector of which anything is told, and one more.
+/// The text of an audit has a line for each sector with findings, and one more.
 pub fn audit_counts_lines()
     ensures { AuditCountsLines }
 {}

@@ -18,7 +18,7 @@ use cd_read::Fault;
 use cd_sector::{Sector, SectorKind, kind};
 use cd_stream::{Line, Sink, SinkFailed, Source, write_all};
 
-/// What a listing has counted: whole sectors, and the bytes behind them.
+/// What a listing has counted: whole sectors, and the bytes after them.
 #[derive(Clone, Copy, Debug, PartialEq, Eq)]
 pub struct ListTally {
     pub sectors: u32,
@@ -33,6 +33,7 @@ pub(crate) struct OpenRun {
     kind: SectorKind,
 }
 
+/// The name of a kind in a listing.
 #[tactic(auto, unfolding(crate::specs::ListText::kind_name))]
 fn name_of(kind: SectorKind) -> &'static [u8]
     ensures name { result.now ≡ kind_name kind }
@@ -47,6 +48,8 @@ fn name_of(kind: SectorKind) -> &'static [u8]
     }
 }
 
+/// Writes `FIRST-LAST KIND`, the line of a run. Both are block numbers below 2,000,000: a base of
+/// at most 449,849 and a million sectors.
 #[tactic(auto, unfolding(crate::specs::ListText::run_line))]
 fn send_run<O: Sink>(run: OpenRun, out: &mut O) -> Result<(), SinkFailed>
     requires countable { MayCount (O.seen out.old).failures }
@@ -64,8 +67,9 @@ fn send_run<O: Sink>(run: OpenRun, out: &mut O) -> Result<(), SinkFailed>
     write_all(out, line.as_slice())
 }
 
-/// Takes the kind of one more sector into the run, or writes the run's line and begins another. It
-/// does so where the run stands, so that a sector that goes on a run costs one store.
+/// Extends the open run by the next sector, or writes its line and opens another. It changes the
+/// run where it stands, so a sector of the same kind costs one store. After an Err the run is as it
+/// was.
 fn extend_run<O: Sink>(
     run: &mut Option<OpenRun>,
     block: u32,
@@ -92,6 +96,7 @@ fn extend_run<O: Sink>(
     Ok(())
 }
 
+/// Writes `sectors S tail T`, the last line of a listing.
 #[tactic(auto, unfolding(crate::specs::ListText::list_end))]
 fn send_end<O: Sink>(tally: ListTally, out: &mut O) -> Result<(), SinkFailed>
     requires { MayCount (O.seen out.old).failures }
@@ -106,7 +111,7 @@ fn send_end<O: Sink>(tally: ListTally, out: &mut O) -> Result<(), SinkFailed>
     write_all(out, line.as_slice())
 }
 
-/// Writes the line of the last run, where there is one.
+/// Writes the line of the last run, if there is one.
 fn send_last<O: Sink>(run: Option<OpenRun>, out: &mut O) -> Result<(), SinkFailed>
     requires countable { MayCount (O.seen out.old).failures }
     requires ordered { IfSome run (λ run. run.first ≤ run.last) }
@@ -165,14 +170,14 @@ impl Visitor for Lister {
 }
 
 /// Writes a line for each maximal run of neighbouring sectors of equal kind, and a last line with
-/// the numbers of sectors and of bytes behind them.
+/// the numbers of sectors and of bytes after them.
 ///
 /// `base` is the number of the first block. It holds one sector at a time and takes no memory.
 ///
 /// # Errors
 ///
-/// `Read` where the image has failed, `Write` where `out` has, `TooLong` where a byte was read
-/// behind the millionth sector.
+/// `Read` if the image has failed, `Write` if `out` has, `TooLong` if a byte was read
+/// after the millionth sector.
 ///
 /// # Examples
 ///
@@ -188,11 +193,11 @@ pub fn list<I: Source, O: Sink>(image: &mut I, base: u32, out: &mut O) -> Result
     requires image_countable { MayCount (I.seen image.old).failures }
     requires out_countable { MayCount (O.seen out.old).failures }
 
-    // The whole of it, also what stands after a fault.
+    // The whole of it, also what is left after a fault.
     ensures report { Reports (list_report base)
         (I.seen image.old) (I.seen image.new) (O.seen out.old) (O.seen out.new) result }
 
-    // What it says where nothing failed, and when each fault comes.
+    // What it says if nothing failed, and when each fault comes.
     ensures text { IfOk result (WritesText (list_report base)
         (I.seen image.old) (I.seen image.new) (O.seen out.old) (O.seen out.new)) }
     ensures ends_well { OnOk result (EndsWell

@@ -1,4 +1,4 @@
-//! One pass over an image: sector by sector something is told of it.
+//! One pass over an image, sector by sector: the loop of `list` and `audit`.
 
 ghost use Rattle.std.specs.Prelude.{◌≡◌, ◌+◌, ◌<◌, [], IfOk, OnOk};
 ghost use Rattle.cd_report.specs.Report.{Reports};
@@ -11,20 +11,20 @@ use cd_read::{Fault, read_sector};
 use cd_sector::Sector;
 use cd_stream::{Sink, SinkFailed, Source};
 
-/// What is told of an image while its sectors are read.
+/// A report in the making: what is written of an image while its sectors are read.
 pub(crate) trait Visitor {
     ghost use Rattle.std.specs.Prelude.{ℕ};
     ghost use Rattle.cd_report.specs.Scanning.{Remaining};
 
     type Tally;
 
-    // What it has still to tell behind a number of sectors.
+    // Of the report, what is still to be written after `count` sectors.
     ghost remaining: { Self → ℕ → Remaining Self.Tally };
 
-    // It has taken this number of sectors.
+    // It has visited this number of sectors.
     ghost has_visited: { Self → ℕ → Type 0 };
 
-    /// Visits one more sector, behind `count` others, and writes the line that is due with it, if
+    /// Visits one more sector, after `count` others, and writes the line that is due with it, if
     /// any.
     fn visit<O: Sink>(&mut self, count: u32, sector: &Sector, out: &mut O) -> Result<(), SinkFailed>
         requires countable { MayCount (O.seen out.old).failures }
@@ -35,7 +35,7 @@ pub(crate) trait Visitor {
         ensures at { OnOk result (has_visited self.new (count + 1)) }
         ensures count { Counts (O.seen out.old).failures (O.seen out.new).failures result };
 
-    /// Writes what is left to tell behind `count` sectors and a tail, and finishes.
+    /// Writes what is left of the report after `count` sectors and a tail, and finishes.
     fn close<O: Sink>(
         &mut self,
         count: u32,
@@ -50,7 +50,7 @@ pub(crate) trait Visitor {
         ensures count { Counts (O.seen out.old).failures (O.seen out.new).failures result };
 }
 
-/// Reads an image to its end, and tells of it to `out`.
+/// Reads an image to its end, and writes the report of it to `out`.
 pub(crate) fn scan<I: Source, T: Visitor, O: Sink>(
     image: &mut I,
     visitor: &mut T,

@@ -1,6 +1,5 @@
 pub mod FormLemmas
 pub mod HexLemmas
-pub mod Lines
 pub mod WordLemmas
 pub mod LineLemmas
 pub mod OrderLemmas
@@ -9,3 +8,4 @@ pub mod ParseLemmas
 pub mod SpellingLemmas
 pub mod SplitLemmas
 pub mod VersionLemmas
+pub mod general

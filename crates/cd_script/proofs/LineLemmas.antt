@@ -17,92 +17,134 @@ use Rattle.cd_script.specs.Words.{words}
 use Rattle.cd_script.proofs.WordLemmas.{is_passed_over-take, head_version-take, patch_by-take}
 
 -- what was answered for a reading is what was answered for the same
-pub Reads-same : {X Y : Type 0} (view : X → Y) (r : Result X ScriptFault) (read same : Result Y ScriptFault) → same ≡ read → Reads view r read → Reads view r same
+pub Reads-same : {X Y : Type 0} (view : X → Y) (r : Result X ScriptFault)
+    (read same : Result Y ScriptFault) → same ≡ read → Reads view r read → Reads view r same
 Reads-same view (Ok x) read same e h = e ∙ h
 Reads-same view (Err f) read same e h = e ∙ h
 
 -- where a reading has no fault, neither has what was answered for it
-pub reads_ok : {X Y : Type 0} (view : X → Y) (r : Result X ScriptFault) (read : Result Y ScriptFault) → Reads view r read → ((e : ScriptFault) → read ≡ Err e → ⊥) → IsOk r
+pub reads_ok : {X Y : Type 0} (view : X → Y) (r : Result X ScriptFault)
+    (read : Result Y ScriptFault) → Reads view r read
+    → ((e : ScriptFault) → read ≡ Err e → ⊥) → IsOk r
 reads_ok view (Ok x) read h sound = refl
 reads_ok view (Err e) read h sound = absurd (sound e h)
 
 -- ---- one line, of which the first seven words were found
 
-pub line_at-is : (version : Version) (line earlier : ℕ) (text : List ℕ) (found : List (List ℕ)) (r : Result Patch ScriptFault) → found ≡ take 7 (words text) → is_passed_over found ≡ false
-    → patch_by version line found ≡ r → line_at version line earlier text ≡ (r >>= at_limit line earlier)
+pub line_at-is : (version : Version) (line earlier : ℕ) (text : List ℕ) (found : List (List ℕ))
+    (r : Result Patch ScriptFault) → found ≡ take 7 (words text) → is_passed_over found ≡ false
+    → patch_by version line found ≡ r
+    → line_at version line earlier text ≡ (r >>= at_limit line earlier)
 unfolding line_at
 line_at-is version line earlier text found r is patch read =
-    let passes : is_passed_over (words text) ≡ false = sym (is_passed_over-take (words text)) ∙ ap is_passed_over (sym is) ∙ patch in
-    let reads : patch_by version line (words text) ≡ r = sym (patch_by-take version line (words text)) ∙ ap (patch_by version line) (sym is) ∙ read in
+    let passes : is_passed_over (words text) ≡ false =
+    sym (is_passed_over-take (words text)) ∙ ap is_passed_over (sym is) ∙ patch in
+    let reads : patch_by version line (words text) ≡ r =
+    sym (patch_by-take version line (words text))
+    ∙ ap (patch_by version line) (sym is) ∙ read in
     rw (passes, reads) refl
 
 -- ---- the lines of a loop
 
 -- what was read before, and what is still read
-abbrev pub with_front : List Patch → Result (List Patch) ScriptFault → Result (List Patch) ScriptFault
+abbrev pub with_front : List Patch → Result (List Patch) ScriptFault
+    → Result (List Patch) ScriptFault
 with_front front read = read >>= λ ps. Ok (front ++ ps)
 
-same_fault : (r : Result (List Patch) ScriptFault) (f : List Patch → List Patch) → result_err (r >>= λ ps. Ok (f ps)) ≡ result_err r
+same_fault : (r : Result (List Patch) ScriptFault) (f : List Patch → List Patch)
+    → result_err (r >>= λ ps. Ok (f ps)) ≡ result_err r
 same_fault (Ok ps) f = refl
 same_fault (Err e) f = refl
 
 regroup : (front : List Patch) (found : Option Patch) (read : Result (List Patch) ScriptFault)
-    → with_front front (read >>= λ ps. Ok (cons_option found ps)) ≡ with_front (front ++ option_to_list found) read
+    → with_front front (read >>= λ ps. Ok (cons_option found ps))
+    ≡ with_front (front ++ option_to_list found) read
 regroup front None (Ok ps) = ap (λ (qs : List Patch). Ok (qs ++ ps)) (sym (append-nil front))
-regroup front (Some p) (Ok ps) = ap (λ (qs : List Patch). Ok qs) (sym (append_assoc front (p ∷ []) ps))
+regroup front (Some p) (Ok ps) =
+    ap (λ (qs : List Patch). Ok qs) (sym (append_assoc front (p ∷ []) ps))
 regroup front found (Err e) = refl
 
-pub goes_on : (version : Version) (front after : List Patch) (line count earlier later : ℕ) (text : List ℕ) (all rest : List (List ℕ)) (found : Option Patch) (total : Result (List Patch) ScriptFault)
-    → count ≡ earlier → later ≡ earlier + length (option_to_list found) → after ≡ front ++ option_to_list found → all ≡ text ∷ rest → line_at version line count text ≡ Ok found
-    → with_front front (patches_from version line earlier all) ≡ total → with_front after (patches_from version (line + 1) later rest) ≡ total
+pub goes_on : (version : Version) (front after : List Patch) (line count earlier later : ℕ)
+    (text : List ℕ) (all rest : List (List ℕ)) (found : Option Patch)
+    (total : Result (List Patch) ScriptFault)
+    → count ≡ earlier → later ≡ earlier + length (option_to_list found)
+    → after ≡ front ++ option_to_list found → all ≡ text ∷ rest
+    → line_at version line count text ≡ Ok found
+    → with_front front (patches_from version line earlier all) ≡ total
+    → with_front after (patches_from version (line + 1) later rest) ≡ total
 unfolding patches_from
 goes_on version front after line count earlier later text all rest found total same more grown parts read so_far =
-    let reads : line_at version line earlier text ≡ Ok found = ap (λ (n : ℕ). line_at version line n text) (sym same) ∙ read in
-    let step : with_front front (patches_from version line earlier (text ∷ rest)) ≡ with_front (front ++ option_to_list found) (patches_from version (line + 1) (earlier + length (option_to_list found)) rest) =
-    rw reads (regroup front found (patches_from version (line + 1) (earlier + length (option_to_list found)) rest)) in
+    let reads : line_at version line earlier text ≡ Ok found =
+    ap (λ (n : ℕ). line_at version line n text) (sym same) ∙ read in
+    let step : with_front front (patches_from version line earlier (text ∷ rest))
+    ≡ with_front (front ++ option_to_list found)
+    (patches_from version (line + 1) (earlier + length (option_to_list found)) rest) =
+    rw reads (regroup front found
+    (patches_from version (line + 1) (earlier + length (option_to_list found)) rest)) in
     ap (λ (qs : List Patch). with_front qs (patches_from version (line + 1) later rest)) grown
-    ∙ ap (λ (n : ℕ). with_front (front ++ option_to_list found) (patches_from version (line + 1) n rest)) more
-    ∙ sym step ∙ ap (λ (ls : List (List ℕ)). with_front front (patches_from version line earlier ls)) (sym parts) ∙ so_far
+    ∙ ap (λ (n : ℕ).
+    with_front (front ++ option_to_list found) (patches_from version (line + 1) n rest)) more
+    ∙ sym step ∙ ap (λ (ls : List (List ℕ)).
+    with_front front (patches_from version line earlier ls)) (sym parts) ∙ so_far
 
 -- where the lines have no fault, the next has none
-pub next_sound : (version : Version) (front : List Patch) (line count earlier : ℕ) (text : List ℕ) (all rest : List (List ℕ)) (e : ScriptFault) (total : Result (List Patch) ScriptFault)
-    → count ≡ earlier → all ≡ text ∷ rest → with_front front (patches_from version line earlier all) ≡ total → IsOk total → line_at version line count text ≡ Err e → ⊥
+pub next_sound : (version : Version) (front : List Patch) (line count earlier : ℕ) (text : List ℕ)
+    (all rest : List (List ℕ)) (e : ScriptFault) (total : Result (List Patch) ScriptFault)
+    → count ≡ earlier → all ≡ text ∷ rest
+    → with_front front (patches_from version line earlier all) ≡ total → IsOk total
+    → line_at version line count text ≡ Err e → ⊥
 unfolding patches_from
 next_sound version front line count earlier text all rest e total same parts so_far sound read =
-    let reads : line_at version line earlier text ≡ Err e = ap (λ (n : ℕ). line_at version line n text) (sym same) ∙ read in
-    let step : with_front front (patches_from version line earlier (text ∷ rest)) ≡ Err e = rw reads refl in
-    let bad : total ≡ Err e = sym so_far ∙ ap (λ (ls : List (List ℕ)). with_front front (patches_from version line earlier ls)) parts ∙ step in
+    let reads : line_at version line earlier text ≡ Err e =
+    ap (λ (n : ℕ). line_at version line n text) (sym same) ∙ read in
+    let step : with_front front (patches_from version line earlier (text ∷ rest)) ≡ Err e =
+    rw reads refl in
+    let bad : total ≡ Err e =
+    sym so_far ∙ ap (λ (ls : List (List ℕ)).
+    with_front front (patches_from version line earlier ls)) parts ∙ step in
     let no : IsOk {T = List Patch} {E = ScriptFault} (Err e) = subst IsOk bad sound in
     cc
 
-pub all_read : (version : Version) (front : List Patch) (line earlier : ℕ) (all : List (List ℕ)) (total : Result (List Patch) ScriptFault) → all ≡ []
+pub all_read : (version : Version) (front : List Patch) (line earlier : ℕ) (all : List (List ℕ))
+    (total : Result (List Patch) ScriptFault) → all ≡ []
     → with_front front (patches_from version line earlier all) ≡ total → total ≡ Ok front
 unfolding patches_from
 all_read version front line earlier all total none so_far =
-    let end : with_front front (patches_from version line earlier []) ≡ Ok front = ap (λ (qs : List Patch). Ok qs) (append-nil front) in
-    sym so_far ∙ ap (λ (ls : List (List ℕ)). with_front front (patches_from version line earlier ls)) none ∙ end
+    let end : with_front front (patches_from version line earlier []) ≡ Ok front =
+    ap (λ (qs : List Patch). Ok qs) (append-nil front) in
+    sym so_far ∙ ap (λ (ls : List (List ℕ)).
+    with_front front (patches_from version line earlier ls)) none ∙ end
 
 -- ---- the first fault of lines
 
-pub fault_later : (version : Version) (line earlier : ℕ) (text : List ℕ) (all rest : List (List ℕ)) (found : Option Patch) → all ≡ text ∷ rest → line_at version line earlier text ≡ Ok found
-    → result_err (patches_from version line earlier all) ≡ result_err (patches_from version (line + 1) (earlier + length (option_to_list found)) rest)
+pub fault_later : (version : Version) (line earlier : ℕ) (text : List ℕ) (all rest : List (List ℕ))
+    (found : Option Patch) → all ≡ text ∷ rest → line_at version line earlier text ≡ Ok found
+    → result_err (patches_from version line earlier all)
+    ≡ result_err (patches_from version (line + 1) (earlier + length (option_to_list found)) rest)
 unfolding patches_from
 fault_later version line earlier text all rest found parts read =
     ap (λ (ls : List (List ℕ)). result_err (patches_from version line earlier ls)) parts
-    ∙ rw read (same_fault (patches_from version (line + 1) (earlier + length (option_to_list found)) rest) (cons_option found))
+    ∙ rw read (same_fault
+    (patches_from version (line + 1) (earlier + length (option_to_list found)) rest)
+    (cons_option found))
 
-pub fault_here : (version : Version) (line earlier : ℕ) (text : List ℕ) (all rest : List (List ℕ)) (e : ScriptFault) → all ≡ text ∷ rest → line_at version line earlier text ≡ Err e
+pub fault_here : (version : Version) (line earlier : ℕ) (text : List ℕ) (all rest : List (List ℕ))
+    (e : ScriptFault) → all ≡ text ∷ rest → line_at version line earlier text ≡ Err e
     → result_err (patches_from version line earlier all) ≡ Some e
 unfolding patches_from
 fault_here version line earlier text all rest e parts read =
-    ap (λ (ls : List (List ℕ)). result_err (patches_from version line earlier ls)) parts ∙ rw read refl
+    ap (λ (ls : List (List ℕ)). result_err (patches_from version line earlier ls)) parts
+    ∙ rw read refl
 
-pub fault_none : (version : Version) (line earlier : ℕ) (all : List (List ℕ)) → all ≡ [] → result_err (patches_from version line earlier all) ≡ None
+pub fault_none : (version : Version) (line earlier : ℕ) (all : List (List ℕ)) → all ≡ []
+    → result_err (patches_from version line earlier all) ≡ None
 unfolding patches_from
-fault_none version line earlier all none = ap (λ (ls : List (List ℕ)). result_err (patches_from version line earlier ls)) none
+fault_none version line earlier all none =
+    ap (λ (ls : List (List ℕ)). result_err (patches_from version line earlier ls)) none
 
 -- one more where a line has a patch
-pub counted : {X Y : Type 0} (f : X → Y) (found : Option X) → from_bool (is_some found) ≡ length (option_to_list (option_map f found))
+pub counted : {X Y : Type 0} (f : X → Y) (found : Option X)
+    → from_bool (is_some found) ≡ length (option_to_list (option_map f found))
 counted f None = refl
 counted f (Some x) = refl
 
@@ -112,20 +154,25 @@ counted-most (Some x) = omega arith
 
 -- ---- the lines down to the head line
 
-pub head_passed : (line : ℕ) (text : List ℕ) (rest found : List (List ℕ)) → found ≡ take 7 (words text) → is_passed_over found ≡ true
+pub head_passed : (line : ℕ) (text : List ℕ) (rest found : List (List ℕ))
+    → found ≡ take 7 (words text) → is_passed_over found ≡ true
     → script_from line (text ∷ rest) ≡ script_from (line + 1) rest
 unfolding script_from
 head_passed line text rest found is passed =
-    let passes : is_passed_over (words text) ≡ true = sym (is_passed_over-take (words text)) ∙ ap is_passed_over (sym is) ∙ passed in
+    let passes : is_passed_over (words text) ≡ true =
+    sym (is_passed_over-take (words text)) ∙ ap is_passed_over (sym is) ∙ passed in
     rw passes refl
 
 -- the lines behind a head line, or its fault
-pub head_read : (line : ℕ) (text : List ℕ) (rest found : List (List ℕ)) (named : Option Version) → found ≡ take 7 (words text) → is_passed_over found ≡ false → head_version found ≡ named
+pub head_read : (line : ℕ) (text : List ℕ) (rest found : List (List ℕ)) (named : Option Version)
+    → found ≡ take 7 (words text) → is_passed_over found ≡ false → head_version found ≡ named
     → script_from line (text ∷ rest) ≡ patches_behind line named rest
 unfolding script_from
 head_read line text rest found named is patch head =
-    let passes : is_passed_over (words text) ≡ false = sym (is_passed_over-take (words text)) ∙ ap is_passed_over (sym is) ∙ patch in
-    let heads : head_version (words text) ≡ named = sym (head_version-take (words text)) ∙ ap head_version (sym is) ∙ head in
+    let passes : is_passed_over (words text) ≡ false =
+    sym (is_passed_over-take (words text)) ∙ ap is_passed_over (sym is) ∙ patch in
+    let heads : head_version (words text) ≡ named =
+    sym (head_version-take (words text)) ∙ ap head_version (sym is) ∙ head in
     rw (passes, heads) refl
 
 pub head_absent : (line : ℕ) → script_from line [] ≡ Err (Head line)

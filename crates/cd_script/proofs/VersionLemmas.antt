@@ -19,69 +19,102 @@ use Rattle.cd_script.specs.Versions.{is_first_head, first_line_at, first_patches
 use Rattle.cd_script.specs.Words.{words}
 
 -- lines that are read alike behind a line that is read
-same_rest : (read : Result (Option Patch) ScriptFault) (earlier : ℕ) (one other : ℕ → Result (List Patch) ScriptFault) → ((n : ℕ) → one n ≡ other n)
-    → (read >>= λ found. one (earlier + length (option_to_list found)) >>= λ others. Ok (cons_option found others))
-    ≡ (read >>= λ found. other (earlier + length (option_to_list found)) >>= λ others. Ok (cons_option found others))
-same_rest (Ok found) earlier one other same = ap (λ (r : Result (List Patch) ScriptFault). r >>= λ others. Ok (cons_option found others)) (same (earlier + length (option_to_list found)))
+same_rest : (read : Result (Option Patch) ScriptFault) (earlier : ℕ)
+    (one other : ℕ → Result (List Patch) ScriptFault) → ((n : ℕ) → one n ≡ other n)
+    → (read >>= λ found. one (earlier + length (option_to_list found))
+    >>= λ others. Ok (cons_option found others))
+    ≡ (read >>= λ found. other (earlier + length (option_to_list found))
+    >>= λ others. Ok (cons_option found others))
+same_rest (Ok found) earlier one other same =
+    ap (λ (r : Result (List Patch) ScriptFault). r >>= λ others. Ok (cons_option found others))
+    (same (earlier + length (option_to_list found)))
 same_rest (Err e) earlier one other same = refl
 
 -- ---- the first version
 
-first-line : (line earlier : ℕ) (text : List ℕ) → line_at One line earlier text ≡ first_line_at line earlier text
+first-line : (line earlier : ℕ) (text : List ℕ)
+    → line_at One line earlier text ≡ first_line_at line earlier text
 unfolding line_at first_line_at patch_by
 first-line line earlier text = refl
 
-first-patches : (line earlier : ℕ) (texts : List (List ℕ)) → patches_from One line earlier texts ≡ first_patches_from line earlier texts
+first-patches : (line earlier : ℕ) (texts : List (List ℕ))
+    → patches_from One line earlier texts ≡ first_patches_from line earlier texts
 unfolding patches_from first_patches_from
 first-patches line earlier [] = refl
 first-patches line earlier (text ∷ rest) =
     let here = first-line line earlier text in
-    rw here (same_rest (first_line_at line earlier text) earlier (λ n. patches_from One (line + 1) n rest) (λ n. first_patches_from (line + 1) n rest) (λ n. first-patches (line + 1) n rest))
+    rw here (same_rest (first_line_at line earlier text) earlier
+    (λ n. patches_from One (line + 1) n rest) (λ n. first_patches_from (line + 1) n rest)
+    (λ n. first-patches (line + 1) n rest))
 
-first-named : (name one two : Bool) (line : ℕ) (rest : List (List ℕ)) → cond name (cond one (Some One) (cond two (Some Two) None)) None ≢ Some Two
-    → patches_behind line (cond name (cond one (Some One) (cond two (Some Two) None)) None) rest ≡ cond (name && one) (first_patches_from (line + 1) 0 rest) (Err (Head line))
+first-named : (name one two : Bool) (line : ℕ) (rest : List (List ℕ))
+    → cond name (cond one (Some One) (cond two (Some Two) None)) None ≢ Some Two
+    → patches_behind line (cond name (cond one (Some One) (cond two (Some Two) None)) None) rest
+    ≡ cond (name && one) (first_patches_from (line + 1) 0 rest) (Err (Head line))
 first-named true true two line rest other = first-patches (line + 1) 0 rest
 first-named true false true line rest other = absurd (other refl)
 first-named true false false line rest other = refl
 first-named false one two line rest other = refl
 
 first-head : (ws : List (List ℕ)) (line : ℕ) (rest : List (List ℕ)) → head_version ws ≢ Some Two
-    → patches_behind line (head_version ws) rest ≡ cond (is_first_head ws) (first_patches_from (line + 1) 0 rest) (Err (Head line))
+    → patches_behind line (head_version ws) rest
+    ≡ cond (is_first_head ws) (first_patches_from (line + 1) 0 rest) (Err (Head line))
 first-head [] line rest other = refl
 first-head (a ∷ []) line rest other = refl
-first-head (a ∷ b ∷ []) line rest other = first-named (bytes_eq a (codes "cdpatch")) (bytes_eq b (codes "1")) (bytes_eq b (codes "2")) line rest other
+first-head (a ∷ b ∷ []) line rest other =
+    first-named (bytes_eq a (codes "cdpatch")) (bytes_eq b (codes "1"))
+    (bytes_eq b (codes "2")) line rest other
 first-head (a ∷ b ∷ c ∷ ws) line rest other = refl
 
 -- behind a line that may be passed over
-first-behind : (passed : Bool) (below named : Option Version) (on on' here here' : Result (List Patch) ScriptFault) → cond passed below named ≢ Some Two
-    → (below ≢ Some Two → on ≡ on') → (named ≢ Some Two → here ≡ here') → cond passed on here ≡ cond passed on' here'
+first-behind : (passed : Bool) (below named : Option Version)
+    (on on' here here' : Result (List Patch) ScriptFault) → cond passed below named ≢ Some Two
+    → (below ≢ Some Two → on ≡ on') → (named ≢ Some Two → here ≡ here')
+    → cond passed on here ≡ cond passed on' here'
 first-behind true below named on on' here here' other same_on same_here = same_on other
 first-behind false below named on on' here here' other same_on same_here = same_here other
 
-first-script_from : (line : ℕ) (texts : List (List ℕ)) → version_of texts ≢ Some Two → script_from line texts ≡ first_script_from line texts
+first-script_from : (line : ℕ) (texts : List (List ℕ)) → version_of texts ≢ Some Two
+    → script_from line texts ≡ first_script_from line texts
 unfolding script_from first_script_from version_of
 first-script_from line [] other = refl
 first-script_from line (text ∷ rest) other =
-    first-behind (is_passed_over (words text)) (version_of rest) (head_version (words text)) _ _ _ _ other (first-script_from (line + 1) rest) (first-head (words text) line rest)
+    first-behind (is_passed_over (words text)) (version_of rest)
+    (head_version (words text)) _ _ _ _ other (first-script_from (line + 1) rest)
+    (first-head (words text) line rest)
 
-pub first-stays : (text : List ℕ) → version_of (lines text) ≢ Some Two → script text ≡ first_script text
+pub first-stays : (text : List ℕ) → version_of (lines text) ≢ Some Two
+    → script text ≡ first_script text
 first-stays text other = first-script_from 1 (lines text) other
 
 -- ---- the second version
 
-second-patch : (line : ℕ) (ws : List (List ℕ)) → has_new_verb ws ≡ false → patch_by Two line ws ≡ patch_by One line ws
+second-patch : (line : ℕ) (ws : List (List ℕ)) → has_new_verb ws ≡ false
+    → patch_by Two line ws ≡ patch_by One line ws
 unfolding patch_by
 second-patch line [] old = refl
-second-patch line (verb ∷ ws) old = cond-false (bytes_eq verb (codes "address")) (address_line line ws) (patch_at line (verb ∷ ws)) old
+second-patch line (verb ∷ ws) old =
+    cond-false (bytes_eq verb (codes "address")) (address_line line ws)
+    (patch_at line (verb ∷ ws)) old
 
-second-line : (line earlier : ℕ) (text : List ℕ) → has_new_verb (words text) ≡ false → line_at Two line earlier text ≡ line_at One line earlier text
+second-line : (line earlier : ℕ) (text : List ℕ) → has_new_verb (words text) ≡ false
+    → line_at Two line earlier text ≡ line_at One line earlier text
 unfolding line_at
-second-line line earlier text old = ap (λ (r : Result Patch ScriptFault). cond (is_passed_over (words text)) (Ok None) (r >>= at_limit line earlier)) (second-patch line (words text) old)
+second-line line earlier text old =
+    ap (λ (r : Result Patch ScriptFault).
+    cond (is_passed_over (words text)) (Ok None) (r >>= at_limit line earlier))
+    (second-patch line (words text) old)
 
-pub second-extends : (line earlier : ℕ) (texts : List (List ℕ)) → All (λ text. has_new_verb (words text) ≡ false) texts → patches_from Two line earlier texts ≡ patches_from One line earlier texts
+pub second-extends : (line earlier : ℕ) (texts : List (List ℕ))
+    → All (λ text. has_new_verb (words text) ≡ false) texts
+    → patches_from Two line earlier texts ≡ patches_from One line earlier texts
 unfolding patches_from
 second-extends line earlier [] old = refl
 second-extends line earlier (text ∷ rest) old =
-    let here = second-line line earlier text (All-head (λ text. has_new_verb (words text) ≡ false) text rest old) in
+    let here =
+    second-line line earlier text
+    (All-head (λ text. has_new_verb (words text) ≡ false) text rest old) in
     let later = All-tail (λ text. has_new_verb (words text) ≡ false) text rest old in
-    rw here (same_rest (line_at One line earlier text) earlier (λ n. patches_from Two (line + 1) n rest) (λ n. patches_from One (line + 1) n rest) (λ n. second-extends (line + 1) n rest later))
+    rw here (same_rest (line_at One line earlier text) earlier
+    (λ n. patches_from Two (line + 1) n rest) (λ n. patches_from One (line + 1) n rest)
+    (λ n. second-extends (line + 1) n rest later))

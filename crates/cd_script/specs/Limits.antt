@@ -1,4 +1,4 @@
--- The limits of the script language. Each number stands here alone.
+-- The limits of the script language. Each number stands only here.
 use Rattle.std.specs.Prelude.{ℕ, ◌-◌, ◌^◌}
 
 -- the most bytes of a text: 64 MiB
@@ -25,13 +25,14 @@ digit_limit = 9
 abbrev pub number_limit : ℕ
 number_limit = 10 ^ digit_limit - 1
 
--- the minutes of an address, the seconds of a minute and the fractions of a second are fewer than
--- these, from 0
+-- the minutes of an address are 0 to one less than this
 abbrev pub minute_limit : ℕ
 minute_limit = 100
 
+-- the seconds of a minute, 0 to one less
 abbrev pub second_limit : ℕ
 second_limit = 60
 
+-- the fractions of a second, 0 to one less
 abbrev pub fraction_limit : ℕ
 fraction_limit = 75

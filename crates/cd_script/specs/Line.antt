@@ -10,6 +10,7 @@ use Rattle.cd_script.specs.declared.version.Version.TheVariants.{One, Two}
 use Rattle.cd_script.specs.Reading.{◌>>=◌}
 use Rattle.cd_script.specs.Value.{number_at, offset_at, count_at, new_at, old_at, byte_at, address_at}
 
+-- `set BLOCK OFFSET NEW`: the words are read from the left, and the first fault decides
 unfoldable pub put_at : ℕ → List ℕ → List ℕ → List ℕ → Result Patch ScriptFault
 put_at line block offset new = do
   b ← number_at line block
@@ -17,6 +18,7 @@ put_at line block offset new = do
   bytes ← new_at line new
   Ok (record { line = line; block = b; offset = o; edit = Put bytes None })
 
+-- `set BLOCK OFFSET NEW was OLD`
 unfoldable pub put_where_at : ℕ → List ℕ → List ℕ → List ℕ → List ℕ → Result Patch ScriptFault
 put_where_at line block offset new old = do
   b ← number_at line block
@@ -25,6 +27,7 @@ put_where_at line block offset new old = do
   was ← old_at line bytes old
   Ok (record { line = line; block = b; offset = o; edit = Put bytes (Some was) })
 
+-- `fill BLOCK OFFSET COUNT BYTE`
 unfoldable pub fill_at : ℕ → List ℕ → List ℕ → List ℕ → List ℕ → Result Patch ScriptFault
 fill_at line block offset count byte = do
   b ← number_at line block
@@ -33,38 +36,45 @@ fill_at line block offset count byte = do
   value ← byte_at line byte
   Ok (record { line = line; block = b; offset = o; edit = Fill n value })
 
+-- `rebuild BLOCK`
 unfoldable pub rebuild_at : ℕ → List ℕ → Result Patch ScriptFault
 rebuild_at line block = do
   b ← number_at line block
   Ok (record { line = line; block = b; offset = 0; edit = Rebuild })
 
+-- `address BLOCK MM:SS:FF`
 unfoldable pub readdress_at : ℕ → List ℕ → List ℕ → Result Patch ScriptFault
 readdress_at line block address = do
   b ← number_at line block
   bcd ← address_at line address
   Ok (record { line = line; block = b; offset = 0; edit = Address bcd })
 
--- ---- the words behind each verb
+-- ---- the words after each verb
 
+-- `set`, by the number of words after it
 abbrev pub set_line : ℕ → List (List ℕ) → Result Patch ScriptFault
 set_line line (block ∷ offset ∷ new ∷ []) = put_at line block offset new
 set_line line (block ∷ offset ∷ new ∷ was ∷ old ∷ []) =
     if bytes_eq was (codes "was") then put_where_at line block offset new old else Err (Words line)
 set_line line other = Err (Words line)
 
+-- `fill`, by the number of words after it
 abbrev pub fill_line : ℕ → List (List ℕ) → Result Patch ScriptFault
 fill_line line (block ∷ offset ∷ count ∷ byte ∷ []) = fill_at line block offset count byte
 fill_line line other = Err (Words line)
 
+-- `rebuild`, by the number of words after it
 abbrev pub rebuild_line : ℕ → List (List ℕ) → Result Patch ScriptFault
 rebuild_line line (block ∷ []) = rebuild_at line block
 rebuild_line line other = Err (Words line)
 
+-- `address`, by the number of words after it
 abbrev pub address_line : ℕ → List (List ℕ) → Result Patch ScriptFault
 address_line line (block ∷ address ∷ []) = readdress_at line block address
 address_line line other = Err (Words line)
 
--- the patch that the words of a line spell in the first version of the language
+-- the patch that the words of a line spell in version 1 of the language. It stands as before there
+-- was a version 2
 unfoldable pub patch_at : ℕ → List (List ℕ) → Result Patch ScriptFault
 patch_at line [] = Err (Verb line)
 patch_at line (verb ∷ rest) =
@@ -73,7 +83,7 @@ patch_at line (verb ∷ rest) =
     else if bytes_eq verb (codes "rebuild") then rebuild_line line rest
     else Err (Verb line)
 
--- the patch that the words of a line spell in a version: the second has one verb more
+-- the patch that the words of a line spell in a version: version 2 has one verb more
 unfoldable pub patch_by : Version → ℕ → List (List ℕ) → Result Patch ScriptFault
 patch_by One line ws = patch_at line ws
 patch_by Two line [] = patch_at line []

@@ -1,9 +1,9 @@
--- The order in which patches are taken.
+-- The order in which patches are applied.
 use Rattle.std.specs.Prelude.{◌≡◌, ℕ, ◌==◌, nat_le, Bool, List, [], ◌∷◌, filter, if◌then◌else◌}
 use Rattle.std.specs.List.Sorted.{IsNonDecreasingBy, IsPermutation}
 use Rattle.cd_script.specs.declared.patch.Patch.{Patch}
 
--- p before the first patch whose block is not below its own, at the end where there is none
+-- p before the first patch whose block is not below its own, at the end if there is none
 unfoldable pub put_before : Patch → List Patch → List Patch
 put_before p [] = p ∷ []
 put_before p (q ∷ qs) = if nat_le p.block q.block then p ∷ q ∷ qs else q ∷ put_before p qs
@@ -13,6 +13,7 @@ unfoldable pub order : List Patch → List Patch
 order [] = []
 order (p ∷ ps) = put_before p (order ps)
 
+-- whether a patch begins in this block
 abbrev pub stands_in : ℕ → Patch → Bool
 stands_in block p = p.block == block
 

@@ -1,4 +1,4 @@
--- What a patch keeps to.
+-- The limits that each patch of a script keeps.
 use Rattle.std.specs.Prelude.{◌≡◌, ℕ, ◌<◌, ◌≤◌, List, length, All, IfSome}
 use Rattle.std.specs.List.Sorted.{IsNonDecreasingBy}
 use Rattle.cd_script.specs.declared.patch.Patch.{Patch}
@@ -13,8 +13,8 @@ pub record IsBytes (bytes : List ℕ) : Type 0 where
   pub most : length bytes ≤ bytes_limit
   pub each : All (λ b. b < 256) bytes
 
--- an edit of so many bytes at an offset, with as many old bytes as new ones; a rebuild and an
--- address stand at 0
+-- an edit at an offset: its bytes within the limits, as many old bytes as new ones; a rebuild and
+-- an address at 0
 abbrev pub IsEditAt : ℕ → Edit → Type 0
 IsEditAt offset (Put bytes was) =
     IsBytes bytes × IfSome was (λ old. IsBytes old × (length old ≡ length bytes))
@@ -22,12 +22,13 @@ IsEditAt offset (Fill count value) = (1 ≤ count) × (count ≤ bytes_limit) ×
 IsEditAt offset Rebuild = offset ≡ 0
 IsEditAt offset (Address bcd) = (offset ≡ 0) × IsAddress bcd
 
+-- a patch with all its numbers and bytes within the limits of the language
 pub record IsPatch (p : Patch) : Type 0 where
   pub block : p.block ≤ number_limit
   pub offset : p.offset ≤ offset_limit
   pub edit : IsEditAt p.offset p.edit
 
--- patches of one script, whose blocks rise
+-- patches of one script, in the order of their blocks
 pub record IsPatchList (ps : List Patch) : Type 0 where
   pub each : All IsPatch ps
   pub count : length ps ≤ patch_limit

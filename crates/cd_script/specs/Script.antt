@@ -37,19 +37,19 @@ head_version (name ∷ version ∷ []) =
     if bytes_eq name (codes "cdpatch") then named_version version else None
 head_version other = None
 
--- a well-formed patch behind so many others: behind as many as a script has at most it is one too
--- many
+-- a well-formed patch after `earlier` others: if these are as many as a script may have, it is one
+-- too many
 abbrev pub at_limit : ℕ → ℕ → Patch → Result (Option Patch) ScriptFault
 at_limit line earlier p = if nat_le patch_limit earlier then Err (TooMany line) else Ok (Some p)
 
--- the patch of a line behind so many others, none where the line is blank or a comment
+-- the patch of a line after `earlier` others, none if the line is blank or a comment
 unfoldable pub line_at : Version → ℕ → ℕ → List ℕ → Result (Option Patch) ScriptFault
 line_at version line earlier text =
     if is_passed_over (words text) then Ok None
     else patch_by version line (words text) >>= at_limit line earlier
 
--- the patches of the lines behind the head line, the first of them numbered line, behind so many
--- patches
+-- the patches of the lines after the head line, of which the first has the number `line`, after
+-- `earlier` patches
 unfoldable pub patches_from : Version → ℕ → ℕ → List (List ℕ) → Result (List Patch) ScriptFault
 patches_from version line earlier [] = Ok []
 patches_from version line earlier (text ∷ rest) = do
@@ -57,12 +57,12 @@ patches_from version line earlier (text ∷ rest) = do
   others ← patches_from version (line + 1) (earlier + length (option_to_list found)) rest
   Ok (cons_option found others)
 
--- the patches of the lines behind one that may be the head line
+-- the patches of the lines after one that may be the head line
 abbrev pub patches_behind : ℕ → Option Version → List (List ℕ) → Result (List Patch) ScriptFault
 patches_behind line None rest = Err (Head line)
 patches_behind line (Some version) rest = patches_from version (line + 1) 0 rest
 
--- the patches of lines, the first of them numbered line: those behind the head line
+-- the patches of lines, of which the first has the number `line`: those after the head line
 unfoldable pub script_from : ℕ → List (List ℕ) → Result (List Patch) ScriptFault
 script_from line [] = Err (Head line)
 script_from line (text ∷ rest) =

@@ -1,4 +1,4 @@
--- The patch that a line spells, with its bytes.
+-- Plumbing of `parse`: the patch that a line spells, with its bytes.
 use Rattle.cd_script.specs.declared.patch.Patch.{Patch}
 use Rattle.cd_script.specs.declared.patch.Edit.{Edit}
 use Rattle.cd_script.specs.declared.patch.Edit.TheVariants.{Put, Fill, Rebuild, Address}
@@ -6,11 +6,13 @@ use Rattle.cd_script.specs.declared.spelled.SpelledPatch.{SpelledPatch}
 use Rattle.cd_script.specs.declared.spelled.SpelledEdit.{SpelledEdit}
 use Rattle.cd_script.specs.declared.spelled.SpelledEdit.TheVariants as spelled_edit
 
+-- the edit that a line spells
 abbrev pub as_edit : SpelledEdit → Edit
 as_edit (spelled_edit.Put bytes was) = Put bytes was
 as_edit (spelled_edit.Fill count value) = Fill count value
 as_edit spelled_edit.Rebuild = Rebuild
 as_edit (spelled_edit.Address bcd) = Address bcd
 
+-- the patch that a line spells
 abbrev pub as_patch : SpelledPatch → Patch
 as_patch s = record { line = s.line; block = s.block; offset = s.offset; edit = as_edit s.edit }

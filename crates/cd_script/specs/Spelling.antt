@@ -12,10 +12,11 @@ use Rattle.cd_script.specs.Limits.{patch_limit}
 use Rattle.cd_script.specs.Patch.{IsPatch}
 use Rattle.cd_script.specs.Script.{script}
 
--- the two digits of a byte in BCD
+-- the high decimal digit of a byte in BCD
 abbrev pub high_digit : ℕ → ℕ
 high_digit b = 48 + b / 16
 
+-- the low decimal digit of a byte in BCD
 abbrev pub low_digit : ℕ → ℕ
 low_digit b = 48 + b % 16
 
@@ -42,9 +43,11 @@ edit_words block offset (Address bcd) = codes "address" ∷ decimal block ∷ ad
 abbrev pub spelled_line : List (List ℕ) → List ℕ
 spelled_line ws = join_with_byte 32 ws ++ 10 ∷ []
 
+-- the line that spells a patch
 abbrev pub spelled_patch : Patch → List ℕ
 spelled_patch p = spelled_line (edit_words p.block p.offset p.edit)
 
+-- the word that names a version
 abbrev pub version_word : Version → List ℕ
 version_word One = codes "1"
 version_word Two = codes "2"
@@ -62,13 +65,13 @@ has_form One Rebuild = true
 has_form One (Address bcd) = false
 has_form Two edit = true
 
--- the patches of lines in a row, the first of them on_lines_from line
+-- the patches as those of neighbouring lines, of which the first has the number `line`
 unfoldable pub on_lines_from : ℕ → List Patch → List Patch
 on_lines_from line [] = []
 on_lines_from line (p ∷ ps) = record p { line = line } ∷ on_lines_from (line + 1) ps
 
--- the text that spells patches in a version that has forms for them is a script of just these, on
--- the lines behind the head line
+-- the text that spells patches, in a version that has forms for them, is a script of just these, on
+-- the lines after the head line
 abbrev pub SpellingReads : Type 0
 SpellingReads =
     (version : Version) (ps : List Patch) → All IsPatch ps

@@ -22,11 +22,13 @@ is_first_head (name ∷ version ∷ []) =
     bytes_eq name (codes "cdpatch") && bytes_eq version (codes "1")
 is_first_head other = false
 
+-- `line_at` as it was when there was one version
 unfoldable pub first_line_at : ℕ → ℕ → List ℕ → Result (Option Patch) ScriptFault
 first_line_at line earlier text =
     if is_passed_over (words text) then Ok None
     else patch_at line (words text) >>= at_limit line earlier
 
+-- `patches_from` as it was when there was one version
 unfoldable pub first_patches_from : ℕ → ℕ → List (List ℕ) → Result (List Patch) ScriptFault
 first_patches_from line earlier [] = Ok []
 first_patches_from line earlier (text ∷ rest) = do
@@ -34,6 +36,7 @@ first_patches_from line earlier (text ∷ rest) = do
   others ← first_patches_from (line + 1) (earlier + length (option_to_list found)) rest
   Ok (cons_option found others)
 
+-- `script_from` as it was when there was one version
 unfoldable pub first_script_from : ℕ → List (List ℕ) → Result (List Patch) ScriptFault
 first_script_from line [] = Err (Head line)
 first_script_from line (text ∷ rest) =
@@ -41,6 +44,8 @@ first_script_from line (text ∷ rest) =
     else if is_first_head (words text) then first_patches_from (line + 1) 0 rest
     else Err (Head line)
 
+-- `script` as it was when there was one version, for the law that only `cdpatch 2` changes what a
+-- text says
 abbrev pub first_script : List ℕ → Result (List Patch) ScriptFault
 first_script text = first_script_from 1 (lines text)
 

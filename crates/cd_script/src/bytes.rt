@@ -1,8 +1,11 @@
+//! The bytes of a patch.
+
 ghost use Rattle.std.specs.Prelude.{◌≡◌};
 
 use std::marker::Model;
 
-/// The bytes of a patch. Contracts see them as the list of their values.
+/// The bytes of a patch. A type of its own, since contracts see it as a list, and so patches are
+/// compared with the definition's as they stand.
 #[derive(Debug, Drop)]
 pub struct PatchBytes {
     octets: Vec<u8>,
@@ -17,6 +20,7 @@ impl Model for PatchBytes {
 }
 
 impl PatchBytes {
+    /// These bytes.
     pub(crate) fn new(octets: Vec<u8>) -> Self
         ensures { result ≡ octets.items }
     {

@@ -11,10 +11,11 @@ use thiserror::Error;
 #[derive(Clone, Copy, Debug, PartialEq, Eq, Error)]
 pub enum ScriptFault {
     /// The first line that is neither blank nor a comment is not the head line, or there is none:
-    /// then the number of lines and one more.
+    /// then the number of lines and one more. The message names version 1 also if a script means a
+    /// version that there is not.
     #[error("no cdpatch 1 line")]
     Head(u32),
-    /// The first word is no verb.
+    /// The first word is not a verb. So is a second head line.
     #[error("unknown verb")]
     Verb(u32),
     /// The verb does not take this number of words, or the fifth of six is not `was`.
@@ -23,7 +24,7 @@ pub enum ScriptFault {
     /// A number is not written with 1 to [`MAX_DIGITS`](crate::MAX_DIGITS) decimal digits.
     #[error("bad number")]
     Number(u32),
-    /// A hex word has an odd number of digits, or a byte that is no hex digit.
+    /// A hex word has an odd number of digits, or a byte that is not a hex digit.
     #[error("bad hex")]
     Hex(u32),
     /// A count of 0 or over [`MAX_BYTES`](crate::MAX_BYTES), no new bytes or more than so many, old
@@ -37,7 +38,7 @@ pub enum ScriptFault {
     /// below 75.
     #[error("bad address")]
     Address(u32),
-    /// A well-formed patch behind [`MAX_PATCHES`](crate::MAX_PATCHES) others.
+    /// A well-formed patch after [`MAX_PATCHES`](crate::MAX_PATCHES) others.
     #[error("more than {MAX_PATCHES} patches")]
     TooMany(u32),
     /// Memory was refused.

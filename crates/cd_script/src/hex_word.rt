@@ -31,7 +31,7 @@ fn are_hex_digits(word: &[u8]) -> bool
     ensures { result ≡ list_all is_hex_digit word.now }
 {
     let mut all = true;
-    // With no way out at the first other byte, the loop is made into vector instructions.
+    // Without an early return the compiler makes vector instructions of the loop.
     for digit in word {
         all &= digit.is_ascii_hexdigit();
     }
@@ -39,7 +39,7 @@ fn are_hex_digits(word: &[u8]) -> bool
 }
 
 impl<'a> HexWord<'a> {
-    /// The hex word, where the bytes of this word are one.
+    /// The hex word, if the bytes of this word are one.
     pub(crate) fn new(word: &'a [u8]) -> Option<HexWord<'a>>
         ensures { result ≡ hex_bytes word.now }
     {
@@ -59,7 +59,7 @@ impl<'a> HexWord<'a> {
         self.digits.len() / 2
     }
 
-    /// The byte that it spells, where it is one alone.
+    /// The byte that it spells, if it spells just one.
     pub(crate) fn only_byte(&self) -> u8
         requires { length self.now ≡ 1 }
         ensures { self.now ≡ result ∷ [] }

@@ -1,4 +1,4 @@
-//! What holds of the definitions alone. Each function's contract is a law, and it does nothing.
+//! Laws of the definitions, each the contract of a function that does nothing.
 
 ghost use Rattle.std.specs.Prelude.{◌≡◌};
 ghost use Rattle.cd_script.specs.Limits.{bytes_limit, digit_limit, offset_limit, patch_limit, text_limit};

@@ -1,23 +1,23 @@
 //! The patch script language, versions 1 and 2: what a script's text says, or its first fault.
 //!
 //! A text is cut into lines at each line feed; the line feed, and one carriage return directly before
-//! it, belong to no line, and what follows the last line feed is a line where it is not empty. A
+//! it, belong to no line, and what follows the last line feed is a line if it is not empty. A
 //! line's words are its parts without space and tab. Lines without words, and lines whose first word
 //! begins with `#`, are passed over, but counted. The first other line is the head line,
 //! `cdpatch 1` or `cdpatch 2`, which names the version; each later one is a patch:
 //!
 //! - `set BLOCK OFFSET NEW`: user bytes from that offset of that block become NEW;
-//! - `set BLOCK OFFSET NEW was OLD`: the same, where they are OLD before;
+//! - `set BLOCK OFFSET NEW was OLD`: they become NEW, if they are OLD before;
 //! - `fill BLOCK OFFSET COUNT BYTE`: COUNT user bytes become BYTE;
 //! - `rebuild BLOCK`: EDC, Intermediate and parity of the block are made anew;
-//! - `address BLOCK MM:SS:FF`, in version 2 alone: the address in the header of the block becomes this one.
+//! - `address BLOCK MM:SS:FF`, only in version 2: the address in the header of the block becomes this one.
 //!
 //! BLOCK, OFFSET (0 to [`MAX_OFFSET`]) and COUNT (1 to [`MAX_BYTES`]) are 1 to [`MAX_DIGITS`] decimal digits.
 //! NEW (1 to [`MAX_BYTES`] bytes), OLD (as many bytes as NEW) and BYTE (one byte) are two hex digits for each
 //! byte, in either case. MM (00 to 99), SS (00 to 59) and FF (00 to 74) are two decimal digits each. A text has
 //! at most [`MAX_TEXT`] bytes, and a script at most [`MAX_PATCHES`] patches.
 //!
-//! The first faulty line decides. In a line the verb is asked first, then the number of words, then the
+//! The first faulty line decides. In a line the verb is tested first, then the number of words, then the
 //! words from the left, and last of all whether the patch is one too many. A script's patches are ordered
 //! by their first blocks, those of one block as in the script; offsets play no part.
 //!
@@ -28,7 +28,7 @@
 //! assert_eq!(rt; script.patches().first().map(|patch| patch.block), Some(5)); // then that of 16
 //! ```
 //!
-//! Tests: crates/cd_patch_tests.
+//! Tests: `crates/cd_patch_tests/src/tests/scripts`.
 #![tactic(auto)]
 
 mod address;

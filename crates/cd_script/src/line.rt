@@ -10,6 +10,7 @@ use crate::spelled::{SpelledEdit, SpelledPatch};
 use crate::value::{address_of, byte_of, count_of, new_of, number_of, offset_of, old_of};
 use crate::version::Version;
 
+/// `set BLOCK OFFSET NEW`, from the words after the verb.
 #[tactic(auto, unfolding(crate::specs::Line::put_at))]
 fn put<'a>(
     line: u32,
@@ -31,6 +32,7 @@ fn put<'a>(
     })
 }
 
+/// `set BLOCK OFFSET NEW was OLD`, from the words after the verb but `was`.
 #[tactic(auto, unfolding(crate::specs::Line::put_where_at))]
 fn put_where<'a>(
     line: u32,
@@ -54,6 +56,7 @@ fn put_where<'a>(
     })
 }
 
+/// `fill BLOCK OFFSET COUNT BYTE`, from the words after the verb.
 #[tactic(auto, unfolding(crate::specs::Line::fill_at))]
 fn fill<'a>(
     line: u32,
@@ -77,6 +80,7 @@ fn fill<'a>(
     })
 }
 
+/// `rebuild BLOCK`, from the word after the verb.
 #[tactic(auto, unfolding(crate::specs::Line::rebuild_at))]
 fn rebuild<'a>(line: u32, block: &[u8]) -> Result<SpelledPatch<'a>, ScriptFault>
     ensures { Reads as_patch result (rebuild_at line block.now) }
@@ -90,6 +94,7 @@ fn rebuild<'a>(line: u32, block: &[u8]) -> Result<SpelledPatch<'a>, ScriptFault>
     })
 }
 
+/// `address BLOCK MM:SS:FF`, from the words after the verb.
 #[tactic(auto, unfolding(crate::specs::Line::readdress_at))]
 fn readdress<'a>(line: u32, block: &[u8], address: &[u8]) -> Result<SpelledPatch<'a>, ScriptFault>
     ensures { Reads as_patch result (readdress_at line block.now address.now) }
@@ -104,6 +109,7 @@ fn readdress<'a>(line: u32, block: &[u8], address: &[u8]) -> Result<SpelledPatch
     })
 }
 
+/// `set ..`: the form that has this number of words after the verb.
 fn set_of<'a>(line: u32, words: &[&'a [u8]]) -> Result<SpelledPatch<'a>, ScriptFault>
     ensures { Reads as_patch result (set_line line (map (λ w. w.now) words.now)) }
 {
@@ -116,6 +122,7 @@ fn set_of<'a>(line: u32, words: &[&'a [u8]]) -> Result<SpelledPatch<'a>, ScriptF
     }
 }
 
+/// `fill ..`: four words after the verb.
 fn fill_of<'a>(line: u32, words: &[&'a [u8]]) -> Result<SpelledPatch<'a>, ScriptFault>
     ensures { Reads as_patch result (fill_line line (map (λ w. w.now) words.now)) }
 {
@@ -125,6 +132,7 @@ fn fill_of<'a>(line: u32, words: &[&'a [u8]]) -> Result<SpelledPatch<'a>, Script
     }
 }
 
+/// `rebuild ..`: one word after the verb.
 fn rebuild_of<'a>(line: u32, words: &[&'a [u8]]) -> Result<SpelledPatch<'a>, ScriptFault>
     ensures { Reads as_patch result (rebuild_line line (map (λ w. w.now) words.now)) }
 {
@@ -134,6 +142,8 @@ fn rebuild_of<'a>(line: u32, words: &[&'a [u8]]) -> Result<SpelledPatch<'a>, Scr
     }
 }
 
+/// `address ..`: two words after the verb. Their number is tested first, then the block, then the
+/// address, and last whether the patch is one too many.
 fn readdress_of<'a>(line: u32, words: &[&'a [u8]]) -> Result<SpelledPatch<'a>, ScriptFault>
     ensures { Reads as_patch result (address_line line (map (λ w. w.now) words.now)) }
 {
@@ -159,7 +169,8 @@ fn first_patch_of<'a>(line: u32, words: &[&'a [u8]]) -> Result<SpelledPatch<'a>,
     }
 }
 
-/// The patch that the words of this line spell.
+/// The patch that the words of this line spell. Version 2 has one verb more; everything else passes
+/// on to version 1, whose definition stands as it was.
 #[tactic(auto, unfolding(crate::specs::Line::patch_by))]
 pub(crate) fn patch_of<'a>(
     version: Version,

@@ -23,7 +23,7 @@ pub enum Edit {
     Put {
         /// The new bytes, 1 to [`MAX_BYTES`](crate::MAX_BYTES) of them.
         bytes: PatchBytes,
-        /// The bytes, as many, that have to stand there before; `None` where any may.
+        /// The bytes, as many, that have to stand there before; `None` if any may.
         was: Option<PatchBytes>,
     },
     /// User bytes become one value.

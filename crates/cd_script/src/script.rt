@@ -89,7 +89,7 @@ fn named_version(word: &[u8]) -> Option<Version>
     }
 }
 
-/// The version that the head line names, where a line of these words is one.
+/// The version that the head line names, if a line of these words is one.
 fn head_version(words: &[&[u8]]) -> Option<Version>
     ensures { result ≡ head_version (map (λ w. w.now) words.now) }
 {
@@ -129,7 +129,7 @@ fn head_of(lines: &mut Lines) -> Result<Head, ScriptFault>
     Err(ScriptFault::Head(line))
 }
 
-/// A well-formed patch behind so many others, if it is not one too many.
+/// A well-formed patch after `earlier` others, if it is not one too many.
 fn within_limit<'a>(
     line: u32,
     earlier: usize,
@@ -144,7 +144,7 @@ fn within_limit<'a>(
     }
 }
 
-/// The patch of a line behind so many others, none where the line is blank or a comment.
+/// The patch of a line after `earlier` others, none if the line is blank or a comment.
 #[tactic(auto, unfolding(crate::specs::Script::line_at))]
 fn patch_on_line<'a>(
     version: Version,
@@ -163,7 +163,7 @@ fn patch_on_line<'a>(
     within_limit(line, earlier, patch)
 }
 
-/// Looks for the first fault of the lines behind the head line.
+/// Looks for the first fault of the lines after the head line. Takes no memory.
 fn check_lines(head: Head, mut lines: Lines<'_>) -> Result<(), ScriptFault>
     requires { head.line + length lines ≤ text_limit }
     ensures { result_err result
@@ -179,7 +179,7 @@ fn check_lines(head: Head, mut lines: Lines<'_>) -> Result<(), ScriptFault>
     Ok(())
 }
 
-/// Puts the patch of a line, if it has one, behind the others.
+/// Appends the patch of a line, if it has one, to the others.
 fn put_behind(
     alloc: Global,
     patches: &mut Vec<Patch>,
@@ -197,7 +197,7 @@ fn put_behind(
     Ok(())
 }
 
-/// The patches of the lines behind the head line, which have no fault.
+/// The patches of the lines after the head line, which have no fault.
 fn patches_of(alloc: Global, head: Head, mut lines: Lines<'_>) -> Result<Vec<Patch>, AllocError>
     requires room { head.line + length lines ≤ text_limit }
     requires sound { IsOk (patches_from head.version (head.line + 1) 0 lines) }
@@ -214,8 +214,9 @@ fn patches_of(alloc: Global, head: Head, mut lines: Lines<'_>) -> Result<Vec<Pat
     Ok(patches)
 }
 
-/// The patches of the lines behind the head line, which stand in this part of the text, or their first
-/// fault, which is found before any memory is taken.
+/// The patches of the lines after the head line, which are `rest`, or their first fault. The lines
+/// are read twice: first without memory, so that a text with a fault is refused by that fault and
+/// not for want of memory.
 fn read_patches(alloc: Global, head: Head, rest: &[u8]) -> Result<Vec<Patch>, ScriptFault>
     requires { head.line + length (lines_of rest.now) ≤ text_limit }
     ensures ok { IfOk result (λ ps.
@@ -234,8 +235,8 @@ fn read_patches(alloc: Global, head: Head, rest: &[u8]) -> Result<Vec<Patch>, Sc
     Ok(patches)
 }
 
-/// Sorts patches by the block that a key answers of each, those of one block as they stand. A key that
-/// answers anything else is refused where it is passed.
+/// Proof step: sorts patches by the block that `key` answers, those of one block as they stand.
+/// Another key is refused where it is passed, and `put_in_order` is proved from contracts.
 fn sort_by<F: FnMut(&Patch) -> u32>(patches: &mut Vec<Patch>, key: F) -> Result<(), AllocError>
     requires callable { F.IsAlwaysCallable key }
     requires block { (before : F) (patch : _) (answer : _) (after : F) →
@@ -245,7 +246,7 @@ fn sort_by<F: FnMut(&Patch) -> u32>(patches: &mut Vec<Patch>, key: F) -> Result<
     patches.sort_by_key(key)
 }
 
-/// Puts patches in the order in which they are taken.
+/// Puts patches in the order in which they are applied.
 fn put_in_order(patches: &mut Vec<Patch>) -> Result<(), AllocError>
     ensures { OnOk result (patches.new.items ≡ order patches.old.items) }
 {
@@ -257,7 +258,7 @@ fn put_in_order(patches: &mut Vec<Patch>) -> Result<(), AllocError>
 /// # Errors
 ///
 /// The fault of the first faulty line, which is found before any memory is taken; or
-/// [`ScriptFault::NoMemory`], where the text has no fault and memory is refused.
+/// [`ScriptFault::NoMemory`], if the text has no fault and memory is refused.
 ///
 /// # Examples
 ///
@@ -269,7 +270,7 @@ pub fn parse(alloc: Global, text: &[u8]) -> Result<Script, ScriptFault>
     requires { length text.now ≤ text_limit }
     ensures ok { IfOk result (λ s. (ps : List Patch) × (script text.now ≡ Ok ps) × (s ≡ order ps)) }
     ensures err { IfErr result (λ e. e ≢ NoMemory → script text.now ≡ Err e) }
-    // A text that is no script is refused by its fault, whatever memory there is.
+    // A text that is not a script is refused by its fault, whatever memory there is.
     ensures refused { (e : ScriptFault) → script text.now ≡ Err e → result ≡ Err e }
 {
     let mut lines = text.lines();

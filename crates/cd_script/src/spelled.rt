@@ -16,7 +16,7 @@ pub(crate) struct SpelledPatch<'a> {
     pub(crate) edit: SpelledEdit<'a>,
 }
 
-/// What a patch does.
+/// An [`Edit`](crate::Edit) whose bytes are still hex words.
 #[derive(Drop)]
 pub(crate) enum SpelledEdit<'a> {
     Put {
@@ -33,7 +33,7 @@ pub(crate) enum SpelledEdit<'a> {
     },
 }
 
-/// Old bytes, where there are some.
+/// Old bytes, if there are some.
 fn decode_old(alloc: Global, was: Option<HexWord<'_>>) -> Result<Option<PatchBytes>, AllocError>
     ensures { IfOk result (λ old. old ≡ was.entry) }
 {
@@ -43,6 +43,7 @@ fn decode_old(alloc: Global, was: Option<HexWord<'_>>) -> Result<Option<PatchByt
     }
 }
 
+/// A `Put` with its bytes.
 fn build_put(
     alloc: Global,
     bytes: HexWord<'_>,
@@ -58,6 +59,7 @@ fn build_put(
 impl<'a> SpelledEdit<'a> {
     ghost use Rattle.cd_script.specs.Spelled.{as_edit};
 
+    /// The edit, with its bytes.
     fn build(self, alloc: Global) -> Result<Edit, AllocError>
         ensures { IfOk result (λ edit. edit ≡ as_edit self.entry) }
     {

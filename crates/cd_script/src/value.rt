@@ -96,7 +96,7 @@ pub(crate) fn old_of<'a>(
     Ok(bytes)
 }
 
-/// A byte alone.
+/// The one byte that a fill writes.
 #[tactic(auto, unfolding(crate::specs::Value::byte_at))]
 pub(crate) fn byte_of(line: u32, word: &[u8]) -> Result<u8, ScriptFault>
     ensures { result ≡ byte_at line word.now }

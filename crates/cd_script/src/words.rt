@@ -8,7 +8,7 @@ use arrayvec::ArrayVec;
 use memchr::memchr2;
 use std::marker::Model;
 
-/// One more word than any form has: so many are told apart from fewer.
+/// One more word than any form has, so that too many words are seen.
 const MOST_WORDS: usize = 7;
 
 /// The first words of a line, as many as are looked at, in their order. Contracts see the list of them.
@@ -42,7 +42,7 @@ impl<'a> FirstWords<'a> {
         self.parts.is_full()
     }
 
-    /// Puts a part of a line behind the words, where it is a word.
+    /// Appends a part of a line to the words, if it is a word.
     fn put(&mut self, part: &'a [u8])
         requires { length self.old < MOST_WORDS }
         ensures { self.new ≡ self.old ++ filter is_word (part.now ∷ []) }
@@ -52,7 +52,7 @@ impl<'a> FirstWords<'a> {
         }
     }
 
-    /// The words.
+    /// The words as a slice.
     pub(crate) fn as_slice(&self) -> &[&'a [u8]]
         ensures { map (λ w. w.now) result.now ≡ self.now }
     {
@@ -67,7 +67,9 @@ fn find_space(line: &[u8]) -> Option<usize>
     memchr2(b' ', b'\t', line)
 }
 
-/// The first words of a line.
+/// The first words of a line, at most seven: no form has as many. `memchr` finds where they end, a
+/// register of bytes at a time; std's `split` looks at each byte, and a script of long lines takes
+/// nearly twice as long with it.
 pub(crate) fn words<'a>(line: &'a [u8]) -> FirstWords<'a>
     ensures { result ≡ take MOST_WORDS (words line.now) }
 {

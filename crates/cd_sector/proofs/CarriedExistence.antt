@@ -9,8 +9,9 @@ use Rattle.std.proofs.lemmas.List.FromFn.{get_or-map-range_with_len, length-map-
 use Rattle.std.proofs.lemmas.Nat.{xor_lt}
 use Rattle.cd_code.specs.Edc.{bits, remainder}
 use Rattle.cd_code.specs.Field.{AreBytes, IsSum}
-use Rattle.cd_code.proofs.ByteLemmas.{AreBytes-append, AreBytes-drop, AreBytes-take, front-same}
-use Rattle.cd_code.proofs.XorLemmas.{xor_twice_left}
+use Rattle.cd_code.proofs.ByteLemmas.{AreBytes-append, AreBytes-drop, AreBytes-take}
+use Rattle.cd_code.proofs.general.Lists.{front-same}
+use Rattle.cd_code.proofs.general.Xor.{xor_twice_left}
 use Rattle.cd_sector.specs.Carried.{IsCarried, sync_of}
 use Rattle.cd_sector.specs.Consistent.{header_of, user_of}
 use Rattle.cd_sector.proofs.CarriedLemmas.{defect-same}

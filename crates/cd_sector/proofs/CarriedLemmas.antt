@@ -9,7 +9,7 @@ use Rattle.std.proofs.lemmas.List.FromFn.{get_or-map-range_with_len, length-map-
 use Rattle.cd_code.specs.Edc.{bits, remainder}
 use Rattle.cd_code.specs.Field.{AreBytes, IsSum}
 use Rattle.cd_code.specs.Syndrome.{SameSums, first_syndrome, second_syndrome}
-use Rattle.cd_code.proofs.XorLemmas.{same_from_xor}
+use Rattle.cd_code.proofs.general.Xor.{same_from_xor}
 use Rattle.cd_sector.specs.Carried.{IsCarried, sync_of}
 use Rattle.cd_sector.specs.CodeWords.{SameSyndromes, column_of, diagonal_of}
 use Rattle.cd_sector.specs.Consistent.{IsConsistent, header_of, user_of}

@@ -1,17 +1,18 @@
--- A sector as it is made: its content in its places, and the parts behind it.
-use Rattle.std.proofs.Common.{◌≡◌, ℕ, zero, suc, ◌+◌, ◌-◌, ◌<◌, ◌≤◌, ◌⊎◌, inl, inr, List, [], ◌∷◌, ◌++◌, length, get_or, take, drop, replicate, refl, sym, ap, subst, ◌∙◌, arith, lit<, lit≤}
+-- A sector as it is made: its content in its places, and the parts after it.
+use Rattle.std.proofs.Common.{◌≡◌, ℕ, zero, suc, ◌+◌, ◌-◌, ◌<◌, ◌≤◌, ◌⊎◌, inl, inr, List, [], ◌∷◌, ◌++◌, length, get_or, take, drop, refl, sym, ap, ◌∙◌, arith, lit<, lit≤}
 use Rattle.std.specs.List.{slice_range}
 use Rattle.std.proofs.lemmas.Bool.{cases_lt}
-use Rattle.std.proofs.lemmas.List.{ext_get_or, get_or-take, get_or_append_left, get_or-append-add, get_or-append_right, get_or-replicate, length-take-le, length-append, take-append-drop}
+use Rattle.std.proofs.lemmas.List.{ext_get_or, get_or-take, get_or_append_left, get_or-append-add, get_or-append_right, length-take-le, length-append, take-append-drop}
 use Rattle.cd_code.specs.Edc.{bits, remainder}
 use Rattle.cd_code.specs.Field.{AreBytes}
-use Rattle.cd_code.proofs.ByteLemmas.{front-same}
+use Rattle.cd_code.proofs.general.Lists.{part-same}
 use Rattle.cd_sector.specs.CodeWords.{AllCodeWords}
 use Rattle.cd_sector.specs.Consistent.{IsConsistent, header_of, user_of}
-use Rattle.cd_sector.specs.Kind.{sync_field}
+use Rattle.cd_sector.specs.Kind.{kind_of, sync_field}
 use Rattle.cd_sector.specs.Laws.{IsEncoded}
+use Rattle.cd_sector.specs.declared.kinds.SectorKind.TheVariants.{Mode1}
 use Rattle.cd_sector.proofs.DefectLemmas.{range-byte, length-range}
-use Rattle.cd_sector.proofs.SectorLemmas.{mode1-from, sector_unique}
+use Rattle.cd_sector.proofs.SectorLemmas.{header_of-same, kind_of-same, mode1-from, sector_unique}
 
 -- a list by its places
 pub range-is : (s v : List ℕ) (a b : ℕ) → a ≤ b → b ≤ length s → length v ≡ b - a
@@ -25,64 +26,44 @@ range-is s v a b h k long same =
 
 -- ---- the content
 
--- the front up to the user data, and 00 behind it
+-- the front up to the user data
 abbrev pub content_of : List ℕ → List ℕ → List ℕ
-content_of header user = sync_field ++ (header ++ 1 ∷ (user ++ replicate 288 0))
+content_of header user = sync_field ++ (header ++ 1 ∷ user)
 
 content-sync : (header user : List ℕ) (i : ℕ) → i < 12 → get_or (content_of header user) i 0 ≡ get_or sync_field i 0
-content-sync header user i h = get_or_append_left sync_field (header ++ 1 ∷ (user ++ replicate 288 0)) 0 i h
+content-sync header user i h = get_or_append_left sync_field (header ++ 1 ∷ user) 0 i h
 
-content-past_sync : (header user : List ℕ) (i : ℕ) → get_or (content_of header user) (12 + i) 0 ≡ get_or (header ++ 1 ∷ (user ++ replicate 288 0)) i 0
-content-past_sync header user i = get_or-append-add sync_field (header ++ 1 ∷ (user ++ replicate 288 0)) i 0
+content-past_sync : (header user : List ℕ) (i : ℕ) → get_or (content_of header user) (12 + i) 0 ≡ get_or (header ++ 1 ∷ user) i 0
+content-past_sync header user i = get_or-append-add sync_field (header ++ 1 ∷ user) i 0
 
 content-header : (header user : List ℕ) → length header ≡ 3 → (i : ℕ) → i < 4 → get_or (content_of header user) (12 + i) 0 ≡ get_or (header ++ 1 ∷ []) i 0
 content-header header user size i h =
-    let rest = user ++ replicate 288 0 in
     content-past_sync header user i
     ∙ (elim (cases_lt i 3) [
       | inl low ↦
-          get_or_append_left header (1 ∷ rest) 0 i (omega (arith, size)) ∙ sym (get_or_append_left header (1 ∷ []) 0 i (omega (arith, size)))
+          get_or_append_left header (1 ∷ user) 0 i (omega (arith, size)) ∙ sym (get_or_append_left header (1 ∷ []) 0 i (omega (arith, size)))
       | inr high ↦
           let e : i - 3 ≡ 0 = omega arith in
-          get_or-append_right header (1 ∷ rest) 3 i 0 size high ∙ ap (λ n. get_or (1 ∷ rest) n 0) e
+          get_or-append_right header (1 ∷ user) 3 i 0 size high ∙ ap (λ n. get_or (1 ∷ user) n 0) e
           ∙ sym (get_or-append_right header (1 ∷ []) 3 i 0 size high ∙ ap (λ n. get_or (1 ∷ []) n 0) e)
     ])
 
-content-past_header : (header user : List ℕ) → length header ≡ 3 → (i : ℕ) → get_or (content_of header user) (16 + i) 0 ≡ get_or (user ++ replicate 288 0) i 0
-content-past_header header user size i =
-    let rest = user ++ replicate 288 0 in
+content-user : (header user : List ℕ) → length header ≡ 3 → (i : ℕ) → get_or (content_of header user) (16 + i) 0 ≡ get_or user i 0
+content-user header user size i =
     let e : 16 + i ≡ 12 + (4 + i) = omega arith in
     let f : 4 + i - 3 ≡ suc i = omega arith in
     ap (λ n. get_or (content_of header user) n 0) e
     ∙ content-past_sync header user (4 + i)
-    ∙ get_or-append_right header (1 ∷ rest) 3 (4 + i) 0 size (omega arith)
-    ∙ ap (λ n. get_or (1 ∷ rest) n 0) f
+    ∙ get_or-append_right header (1 ∷ user) 3 (4 + i) 0 size (omega arith)
+    ∙ ap (λ n. get_or (1 ∷ user) n 0) f
 
-content-user : (header user : List ℕ) → length header ≡ 3 → length user ≡ 2048 → (i : ℕ) → i < 2048 → get_or (content_of header user) (16 + i) 0 ≡ get_or user i 0
-content-user header user size long i h =
-    content-past_header header user size i ∙ get_or_append_left user (replicate 288 0) 0 i (omega (arith, long))
-
-content-zeros : (header user : List ℕ) → length header ≡ 3 → length user ≡ 2048 → (i : ℕ) → i < 288 → get_or (content_of header user) (2064 + i) 0 ≡ 0
-content-zeros header user size long i h =
-    let e : 2064 + i ≡ 16 + (2048 + i) = omega arith in
-    let f : 2048 + i - 2048 ≡ i = omega arith in
-    ap (λ n. get_or (content_of header user) n 0) e
-    ∙ content-past_header header user size (2048 + i)
-    ∙ get_or-append_right user (replicate 288 0) 2048 (2048 + i) 0 long (omega arith)
-    ∙ ap (λ n. get_or (replicate {A = ℕ} 288 0) n 0) f
-    ∙ get_or-replicate 288 i 0 0 h
-
--- a sector made of such a front, the EDC over it, and the parity
-pub encoded : (header user edc s : List ℕ) → length header ≡ 3 → length user ≡ 2048
-    → length edc ≡ 2352 → length s ≡ 2352 → AreBytes s
-    → remainder (bits (take 2068 edc)) ≡ 0
-    → ((k : ℕ) → k < 2352 → (k < 2064) ⊎ (2068 ≤ k) → get_or edc k 0 ≡ get_or (content_of header user) k 0)
-    → ((k : ℕ) → k < 2076 → get_or s k 0 ≡ get_or edc k 0)
-    → AllCodeWords s → IsEncoded header user s
+-- a sector with such a front, and what stands behind it
+pub encoded : (header user s : List ℕ) → length header ≡ 3 → length user ≡ 2048 → length s ≡ 2352 → AreBytes s
+    → ((k : ℕ) → k < 2064 → get_or s k 0 ≡ get_or (content_of header user) k 0)
+    → ((k : ℕ) → 2068 ≤ k → k < 2076 → get_or s k 0 ≡ 0)
+    → remainder (bits (take 2068 s)) ≡ 0 → AllCodeWords s → IsEncoded header user s
 unfolding header_of user_of
-encoded header user edc s size long edc_size s_size bytes divides edc_stays stays words =
-    let front : (k : ℕ) → k < 2064 → get_or s k 0 ≡ get_or (content_of header user) k 0 =
-    (λ k h. stays k (omega arith) ∙ edc_stays k (omega arith) (inl h)) in
+encoded header user s size long s_size bytes front zeros divides words =
     let sync : take 12 s ≡ sync_field =
     ext_get_or 0 (take 12 s) sync_field (length-take-le 12 s (omega (arith, s_size)))
     (λ i inside.
@@ -97,14 +78,8 @@ encoded header user edc s size long edc_size s_size bytes divides edc_stays stay
         size = s_size;
         bytes = bytes;
         mode = mode1-from s (drop 12 s) begins mode;
-        zeros = λ i low high.
-            let e : 2064 + (i - 2064) ≡ i = omega arith in
-            stays i high ∙ edc_stays i (omega arith) (inr low) ∙ ap (λ n. get_or (content_of header user) n 0) (sym e)
-            ∙ content-zeros header user size long (i - 2064) (omega arith);
-        edc =
-            ap (λ v. remainder (bits v))
-            (front-same s edc 2068 (omega (arith, s_size)) (omega (arith, edc_size)) (λ i h. stays i (omega arith)))
-            ∙ divides;
+        zeros = zeros;
+        edc = divides;
         words = words;
       };
       has_header =
@@ -112,7 +87,7 @@ encoded header user edc s size long edc_size s_size bytes divides edc_stays stay
           (λ i h. front (12 + i) (omega arith) ∙ content-header header user size i h);
       has_user =
           range-is s user 16 2064 (lit≤ tt) (omega (arith, s_size)) long
-          (λ i h. front (16 + i) (omega arith) ∙ content-user header user size long i h);
+          (λ i h. front (16 + i) (omega arith) ∙ content-user header user size i);
     }
 
 -- the only one
@@ -127,11 +102,10 @@ pub record Puts (at : ℕ) (part old new : List ℕ) : Type 0 where
   pub inside : (i : ℕ) → i < length part → get_or new (at + i) 0 ≡ get_or part i 0
   pub outside : (k : ℕ) → (k < at) ⊎ (at + length part ≤ k) → get_or new k 0 ≡ get_or old k 0
 
-pub content_put : (header user zeros a b c d : List ℕ) → length header ≡ 3 → length user ≡ 2048
-    → ((k : ℕ) → k < 2352 → get_or zeros k 0 ≡ 0)
-    → Puts 0 sync_field zeros a → Puts 12 header a b → Puts 15 (1 ∷ []) b c → Puts 16 user c d
-    → (k : ℕ) → k < 2352 → get_or d k 0 ≡ get_or (content_of header user) k 0
-content_put header user zeros a b c d size long none sync head mode tail k h = elim (cases_lt k 12) [
+pub content_put : (header user s a b c d : List ℕ) → length header ≡ 3 → length user ≡ 2048
+    → Puts 0 sync_field s a → Puts 12 header a b → Puts 15 (1 ∷ []) b c → Puts 16 user c d
+    → (k : ℕ) → k < 2064 → get_or d k 0 ≡ get_or (content_of header user) k 0
+content_put header user s a b c d size long sync head mode tail k h = elim (cases_lt k 12) [
   | inl low ↦
       tail.outside k (inl (omega arith)) ∙ mode.outside k (inl (omega arith)) ∙ head.outside k (inl low)
       ∙ (let e : 0 + k ≡ k = omega arith in ap (λ n. get_or a n 0) (sym e) ∙ sync.inside k low)
@@ -151,38 +125,14 @@ content_put header user zeros a b c d size long none sync head mode tail k h = e
           tail.outside k (inl low) ∙ ap (λ n. get_or c n 0) e ∙ mode.inside 0 (lit< tt)
           ∙ sym (ap (λ n. get_or (content_of header user) n 0) e ∙ content-header header user size 3 (lit< tt)
           ∙ get_or-append_right header (1 ∷ []) 3 3 0 size (lit≤ tt))
-      | inr past_mode ↦ elim (cases_lt k 2064) [
-        | inl low ↦
-            let i = k - 16 in
-            let e : 16 + i ≡ k = omega arith in
-            ap (λ n. get_or d n 0) (sym e) ∙ tail.inside i (omega (arith, long))
-            ∙ sym (ap (λ n. get_or (content_of header user) n 0) (sym e) ∙ content-user header user size long i (omega arith))
-        | inr past_user ↦
-            let i = k - 2064 in
-            let e : 2064 + i ≡ k = omega arith in
-            tail.outside k (inr (omega (arith, long))) ∙ mode.outside k (inr (after 1 15 k past_mode)) ∙ head.outside k (inr (omega (arith, size)))
-            ∙ sync.outside k (inr (after 12 0 k past_sync)) ∙ none k h
-            ∙ sym (ap (λ n. get_or (content_of header user) n 0) (sym e) ∙ content-zeros header user size long i (omega arith))
-      ]
+      | inr past_mode ↦
+          let i = k - 16 in
+          let e : 16 + i ≡ k = omega arith in
+          ap (λ n. get_or d n 0) (sym e) ∙ tail.inside i (omega (arith, long))
+          ∙ sym (ap (λ n. get_or (content_of header user) n 0) (sym e) ∙ content-user header user size i)
     ]
   ]
 ]
-  where
-    after : (n at k : ℕ) → at + n ≤ k → at + n ≤ k
-    after n at k h = h
-
--- the same from parts that are told by place
-pub encoded_from : (header user content edc words_made s : List ℕ) → length header ≡ 3 → length user ≡ 2048
-    → length edc ≡ 2352 → length s ≡ 2352 → AreBytes s
-    → ((k : ℕ) → k < 2352 → get_or content k 0 ≡ get_or (content_of header user) k 0)
-    → remainder (bits (take 2068 edc)) ≡ 0
-    → ((k : ℕ) → (k < 2064) ⊎ (2068 ≤ k) → get_or edc k 0 ≡ get_or content k 0)
-    → ((k : ℕ) → k < 2076 → get_or words_made k 0 ≡ get_or edc k 0)
-    → AllCodeWords words_made → s ≡ words_made → IsEncoded header user s
-encoded_from header user content edc words_made s size long edc_size s_size bytes front divides edc_stays stays words same =
-    let P : List ℕ → Type 0 = λ v. AllCodeWords v in
-    encoded header user edc s size long edc_size s_size bytes divides (λ k h side. edc_stays k side ∙ front k h)
-    (λ k h. ap (λ v. get_or v k 0) same ∙ stays k h) (subst P (sym same) words)
 
 -- the four bytes of the header, one by one
 pub header_bytes : (bytes s : List ℕ) → bytes ≡ s → length bytes ≡ 2352
@@ -199,3 +149,28 @@ header_bytes bytes s same size =
     by_place bytes (suc (suc zero)) h = refl
     by_place bytes (suc (suc (suc zero))) h = refl
     by_place bytes (suc (suc (suc (suc i)))) h = absurd (omega arith)
+
+-- ---- a sector that is rebuilt
+
+-- the same front in another sector of Mode 1, and what stands behind it
+pub rebuilt : (old new : List ℕ) → length old ≡ 2352 → length new ≡ 2352 → AreBytes new → kind_of old ≡ Mode1
+    → ((k : ℕ) → k < 2064 → get_or new k 0 ≡ get_or old k 0)
+    → ((k : ℕ) → 2068 ≤ k → k < 2076 → get_or new k 0 ≡ 0)
+    → remainder (bits (take 2068 new)) ≡ 0 → AllCodeWords new
+    → IsConsistent new × ((header_of new ≡ header_of old) × (user_of new ≡ user_of old))
+unfolding user_of
+rebuilt old new old_size size bytes kind front zeros divides words =
+    let same_size : length new ≡ length old = size ∙ sym old_size in (
+      record {
+        size = size;
+        bytes = bytes;
+        mode = kind_of-same new old (omega (arith, size)) same_size (λ i h. front i (omega arith)) (front 15 (lit< tt)) ∙ kind;
+        zeros = zeros;
+        edc = divides;
+        words = words;
+      },
+      (
+        header_of-same new old (omega (arith, size)) same_size (λ i h. front i (omega arith)),
+        part-same new old 16 2048 (omega (arith, size)) (omega (arith, old_size)) (λ i _ h. front i (omega arith)),
+      ),
+    )

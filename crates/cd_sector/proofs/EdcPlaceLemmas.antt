@@ -9,7 +9,8 @@ use Rattle.std.proofs.lemmas.Nat.{from_le_bytes-to_le_bytes_4, le_bytes_4}
 use Rattle.std.proofs.Math.Seq.{take-add, take-append_seam}
 use Rattle.cd_code.specs.Edc.{IsEdc, bits, remainder}
 use Rattle.cd_code.specs.Field.{AreBytes}
-use Rattle.cd_code.proofs.ByteLemmas.{AreBytes-append, AreBytes-drop, AreBytes-take, AreBytes-word, front-same, length-part}
+use Rattle.cd_code.proofs.ByteLemmas.{AreBytes-append, AreBytes-drop, AreBytes-take, AreBytes-word}
+use Rattle.cd_code.proofs.general.Lists.{front-same, length-part}
 use Rattle.cd_code.proofs.EdcLemmas.{edc_unique}
 
 -- a list that has four bytes in the place of the EDC

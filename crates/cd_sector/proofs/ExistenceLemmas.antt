@@ -1,13 +1,14 @@
 -- For any header and user data there is a consistent sector.
-use Rattle.std.proofs.Common.{◌≡◌, ℕ, zero, suc, ◌+◌, ◌*◌, ◌/◌, ◌%◌, ◌<◌, ◌≤◌, ◌⊎◌, inl, inr, true, nat_lt, List, [], ◌∷◌, ◌++◌, length, get_or, set, take, drop, replicate, bit_xor, refl, sym, ap, ◌∙◌, arith, lit<, lit≤}
+use Rattle.std.proofs.Common.{◌≡◌, ℕ, zero, suc, ◌+◌, ◌-◌, ◌*◌, ◌/◌, ◌%◌, ◌<◌, ◌≤◌, ◌⊎◌, inl, inr, true, nat_lt, List, [], ◌∷◌, ◌++◌, length, get_or, set, take, drop, replicate, bit_xor, refl, sym, ap, ◌∙◌, arith, lit<, lit≤}
 use Rattle.std.specs.Int.{to_le_bytes, w32}
 use Rattle.std.proofs.lemmas.Bool.{cases_lt, agree_below_at, ltb-true}
-use Rattle.std.proofs.lemmas.List.{get_or_past, get_or-replicate, length-set, take_more, length-take-le, length-drop, length-append, length-replicate}
+use Rattle.std.proofs.lemmas.List.{get_or_append_left, get_or-append_right, get_or_past, get_or-replicate, length-set, take_more, length-take-le, length-drop, length-append, length-replicate}
 use Rattle.std.proofs.lemmas.Nat.{xor_lt}
 use Rattle.cd_code.specs.Edc.{IsEdc, bits, remainder}
 use Rattle.cd_code.specs.Field.{AreBytes, double, product}
 use Rattle.cd_code.specs.Syndrome.{IsPair, IsCodeWord, first_syndrome, second_syndrome}
 use Rattle.cd_code.proofs.ByteLemmas.{AreBytes-append, AreBytes-drop, AreBytes-set, AreBytes-take, AreBytes-word}
+use Rattle.cd_code.proofs.general.Lists.{front-same}
 use Rattle.cd_code.proofs.EdcLemmas.{IsEdc-nil, IsEdc-push}
 use Rattle.cd_code.proofs.EdcTableLemmas.{word_at-IsEdc}
 use Rattle.cd_code.proofs.FieldLemmas.{product-lt}
@@ -25,7 +26,7 @@ use Rattle.cd_sector.proofs.EdcPlaceLemmas.{edc_written}
 one_byte : (y : ℕ) → y < 256 → (t : ℕ) × IsEdc (y ∷ []) t
 one_byte y h = (_, word_at-IsEdc 0 y (lit< tt) h)
 
-edc_of_front : (v : List ℕ) → AreBytes v → (n : ℕ) → n ≤ length v → (w : ℕ) × IsEdc (take n v) w
+pub edc_of_front : (v : List ℕ) → AreBytes v → (n : ℕ) → n ≤ length v → (w : ℕ) × IsEdc (take n v) w
 edc_of_front v h zero k = (0, IsEdc-nil)
 edc_of_front v h (suc n) k =
     let before = edc_of_front v h n (omega arith) in
@@ -95,23 +96,31 @@ AreBytes-sync = λ i. elim (cases_lt i 12) [
     sync_byte : (i : ℕ) → i < 12 → get_or sync_field i 0 < 256
     sync_byte i h = ltb-true (get_or sync_field i 0) 256 (agree_below_at (λ k. nat_lt (get_or sync_field k 0) 256) (λ _. true) 12 i refl h)
 
-AreBytes-content : (header user : List ℕ) → AreBytes header → AreBytes user → AreBytes (content_of header user)
-AreBytes-content header user h k =
-    AreBytes-append sync_field (header ++ 1 ∷ (user ++ replicate 288 0)) AreBytes-sync
-    (AreBytes-append header (1 ∷ (user ++ replicate 288 0)) h
-    (AreBytes-append (1 ∷ []) (user ++ replicate 288 0) (one (lit< tt))
-    (AreBytes-append user (replicate 288 0) k (AreBytes-replicate 288))))
+-- the content, and 00 behind it
+abbrev blank : List ℕ → List ℕ → List ℕ
+blank header user = content_of header user ++ replicate 288 0
+
+AreBytes-blank : (header user : List ℕ) → AreBytes header → AreBytes user → AreBytes (blank header user)
+AreBytes-blank header user h k =
+    AreBytes-append (content_of header user) (replicate 288 0)
+    (AreBytes-append sync_field (header ++ 1 ∷ user) AreBytes-sync
+    (AreBytes-append header (1 ∷ user) h (AreBytes-append (1 ∷ []) user (one (lit< tt)) k)))
+    (AreBytes-replicate 288)
   where
     one : 1 < 256 → AreBytes (1 ∷ [])
     one e zero = e
     one e (suc i) = lit< tt
 
-length-content : (header user : List ℕ) → length header ≡ 3 → length user ≡ 2048 → length (content_of header user) ≡ 2352
+length-content : (header user : List ℕ) → length header ≡ 3 → length user ≡ 2048 → length (content_of header user) ≡ 2064
 length-content header user h k =
-    let rest = user ++ replicate 288 0 in
-    let a : length rest ≡ 2336 = length-append user (replicate 288 0) ∙ ap (λ n. n + length (replicate {A = ℕ} 288 0)) k ∙ ap (λ n. 2048 + n) (length-replicate {A = ℕ} 288 0) in
-    let b : length (header ++ 1 ∷ rest) ≡ 2340 = length-append header (1 ∷ rest) ∙ ap (λ n. n + length (1 ∷ rest)) h ∙ ap (λ n. 3 + suc n) a in
-    length-append sync_field (header ++ 1 ∷ rest) ∙ ap (λ n. 12 + n) b
+    let a : length (header ++ 1 ∷ user) ≡ 2052 = length-append header (1 ∷ user) ∙ ap (λ n. n + length (1 ∷ user)) h ∙ ap (λ n. 3 + suc n) k in
+    length-append sync_field (header ++ 1 ∷ user) ∙ ap (λ n. 12 + n) a
+
+length-blank : (header user : List ℕ) → length header ≡ 3 → length user ≡ 2048 → length (blank header user) ≡ 2352
+length-blank header user h k =
+    length-append (content_of header user) (replicate 288 0)
+    ∙ ap (λ n. n + length (replicate {A = ℕ} 288 0)) (length-content header user h k)
+    ∙ ap (λ n. 2064 + n) (length-replicate {A = ℕ} 288 0)
 
 -- the same front with an EDC behind it
 pub record Checked (old : List ℕ) : Type 0 where
@@ -194,16 +203,25 @@ with_diagonals old p =
     below_q k h = omega arith
 
 found_from : (header user : List ℕ) → length header ≡ 3 → length user ≡ 2048
-    → (edc : Checked (content_of header user)) → WithWords edc.sector → (s : List ℕ) × IsEncoded header user s
-found_from header user header_size user_size edc made = (
-  made.sector,
-  encoded header user edc.sector made.sector header_size user_size edc.size made.size made.bytes edc.divides
-      (λ k _ side. edc.stays k side) made.stays made.words,
-)
+    → (edc : Checked (blank header user)) → WithWords edc.sector → (s : List ℕ) × IsEncoded header user s
+found_from header user header_size user_size edc filled =
+    let content = content_of header user in
+    let long = length-content header user header_size user_size in
+    let front : (k : ℕ) → k < 2064 → get_or filled.sector k 0 ≡ get_or content k 0 =
+    (λ k h. filled.stays k (omega arith) ∙ edc.stays k (inl h) ∙ get_or_append_left content (replicate 288 0) 0 k (omega (arith, long))) in
+    let zeros : (k : ℕ) → 2068 ≤ k → k < 2076 → get_or filled.sector k 0 ≡ 0 =
+    (λ k from h.
+    filled.stays k h ∙ edc.stays k (inr from) ∙ get_or-append_right content (replicate 288 0) 2064 k 0 long (omega arith)
+    ∙ get_or-replicate 288 (k - 2064) 0 0 (omega arith)) in
+    let divides : remainder (bits (take 2068 filled.sector)) ≡ 0 =
+    ap (λ v. remainder (bits v))
+    (front-same filled.sector edc.sector 2068 (omega (arith, filled.size)) (omega (arith, edc.size)) (λ i h. filled.stays i (omega arith)))
+    ∙ edc.divides in
+    (filled.sector, encoded header user filled.sector header_size user_size filled.size filled.bytes front zeros divides filled.words)
 
 pub sector_found : (header user : List ℕ) → AreBytes header → length header ≡ 3 → AreBytes user → length user ≡ 2048
     → (s : List ℕ) × IsEncoded header user s
 sector_found header user header_bytes header_size user_bytes user_size =
-    let edc = checked (content_of header user) (length-content header user header_size user_size)
-    (AreBytes-content header user header_bytes user_bytes) in
+    let edc = checked (blank header user) (length-blank header user header_size user_size)
+    (AreBytes-blank header user header_bytes user_bytes) in
     found_from header user header_size user_size edc (with_diagonals edc.sector (with_columns edc.sector edc.size edc.bytes))

@@ -3,7 +3,7 @@ use Rattle.std.proofs.Common.{◌≡◌, ◌≢◌, ℕ, ◌+◌, ◌-◌, ◌*�
 use Rattle.std.proofs.lemmas.Bool.{cases_lt}
 use Rattle.std.proofs.lemmas.List.{ext_get_or, get_or-map, length-map, get_or-set_same, get_or-set_other, length-set, take_more, get_or-take, get_or-drop, length-take-le, length-drop}
 use Rattle.std.specs.Simd.{first_chunks}
-use Rattle.cd_code.proofs.ListLemmas.{get_or-first_chunks}
+use Rattle.cd_code.proofs.general.Lists.{get_or-first_chunks}
 use Rattle.std.proofs.lemmas.List.FromFn.{get_or-map-range_with_len}
 use Rattle.cd_code.proofs.ColumnLemmas.{AreSums-to_zero}
 use Rattle.cd_code.specs.Field.{AreBytes, double}

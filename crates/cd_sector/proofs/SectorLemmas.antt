@@ -1,5 +1,6 @@
 -- Why a sector's content leaves only one consistent sector.
 use Rattle.std.proofs.Common.{◌≡◌, ℕ, ◌+◌, ◌-◌, ◌*◌, ◌/◌, ◌%◌, ◌<◌, ◌≤◌, inl, inr, Bool, true, false, cond, List, ◌++◌, length, get_or, take, drop, refl, sym, ap, ◌∙◌, arith, lit<}
+use lib.Pointwise.{pointwise}
 use Rattle.std.specs.Bool.{◌==◌, nat_eq, if◌then◌else◌}
 use Rattle.std.specs.List.{slice_range, starts_with}
 use Rattle.std.proofs.lemmas.Bool.{cases_lt}
@@ -10,6 +11,7 @@ use Rattle.cd_code.specs.Edc.{bits, remainder}
 use Rattle.cd_code.specs.Field.{AreBytes}
 use Rattle.cd_code.specs.Syndrome.{IsCodeWord, SameSums}
 use Rattle.cd_code.proofs.ByteLemmas.{AreBytes-take}
+use Rattle.cd_code.proofs.general.Lists.{front-same, part-same}
 use Rattle.cd_code.proofs.EdcLemmas.{edc_unique}
 use Rattle.cd_code.proofs.SyndromeLemmas.{pair_unique}
 use Rattle.cd_sector.specs.CodeWords.{AllCodeWords, SameSyndromes, place_of, bytes_at, column_places, diagonal_places}
@@ -64,6 +66,23 @@ unfolding kind_of
 mode1-from s rest e m =
     let begins = (starts_is Decides-eqb s sync_field (starts_with nat_eq s sync_field) refl).1 rest e in
     ap (λ b. if b then kind_of_mode (get_or s 15 0) else NoSync) begins ∙ ap kind_of_mode m
+
+-- ---- the same kind and header
+
+kind_from : List ℕ → ℕ → SectorKind
+kind_from front mode = if pointwise nat_eq sync_field front then kind_of_mode mode else NoSync
+
+pub kind_of-same : (s t : List ℕ) → 16 ≤ length s → length s ≡ length t → ((i : ℕ) → i < 12 → get_or s i 0 ≡ get_or t i 0)
+    → get_or s 15 0 ≡ get_or t 15 0 → kind_of s ≡ kind_of t
+unfolding kind_of kind_from
+kind_of-same s t inside same_size h mode =
+    let front : take 12 s ≡ take 12 t = front-same s t 12 (omega arith) (omega arith) h in
+    ap (λ v. kind_from v (get_or s 15 0)) front ∙ ap (kind_from (take 12 t)) mode
+
+pub header_of-same : (s t : List ℕ) → 16 ≤ length s → length s ≡ length t → ((i : ℕ) → i < 16 → get_or s i 0 ≡ get_or t i 0)
+    → header_of s ≡ header_of t
+unfolding header_of
+header_of-same s t inside same_size h = part-same s t 12 4 inside (omega arith) (λ i _ below. h i below)
 
 -- ---- one word after the other
 

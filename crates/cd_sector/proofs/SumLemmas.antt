@@ -9,7 +9,7 @@ use Rattle.cd_code.specs.Field.{IsSum}
 use Rattle.cd_code.specs.Syndrome.{SameSums, IsCodeWord, first_syndrome, second_syndrome}
 use Rattle.cd_code.proofs.EdcLemmas.{remainder-sum}
 use Rattle.cd_code.proofs.SyndromeLemmas.{first_syndrome-sum, second_syndrome-sum}
-use Rattle.cd_code.proofs.XorLemmas.{same_from_xor}
+use Rattle.cd_code.proofs.general.Xor.{same_from_xor}
 use Rattle.cd_sector.specs.CodeWords.{AllCodeWords, SameSyndromes, bytes_at, column_places, diagonal_places}
 use Rattle.cd_sector.proofs.PlaceLemmas.{bytes_at-byte, length-bytes_at}
 

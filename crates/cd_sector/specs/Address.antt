@@ -1,15 +1,15 @@
--- The address of a block as a header writes it: minute, second and fraction in BCD (ECMA-130, the
--- clause on the digital data structure of sectors), with block 0 at two seconds.
+-- The address of a block as a header has it: minute, second and fraction in BCD (ECMA-130, 14),
+-- with block 0 at two seconds.
 use Rattle.std.specs.Prelude.{ℕ, ◌+◌, ◌*◌, ◌/◌, ◌%◌, nat_lt, if◌then◌else◌, List, [], ◌∷◌, Option, Some, None}
 
 -- two decimal digits in one byte
 abbrev pub bcd : ℕ → ℕ
 bcd n = 16 * (n / 10) + n % 10
 
--- t fractions, of which 75 are a second
+-- the address at t fractions, of which 75 are a second
 abbrev pub address_at : ℕ → List ℕ
 address_at t = bcd (t / 4500) ∷ bcd (t / 75 % 60) ∷ bcd (t % 75) ∷ []
 
--- past minute 99 there is none
+-- the address of a block; past minute 99 there is none
 unfoldable pub address : ℕ → Option (List ℕ)
 address block = if nat_lt block 449850 then Some (address_at (block + 150)) else None

@@ -13,7 +13,7 @@ place_of plane n = 12 + 2 * n + plane
 unfoldable pub column_places : ℕ → ℕ → List ℕ
 column_places plane n = map (λ m. place_of plane (43 * m + n)) (range_with_len 0 26)
 
--- the same without the parity
+-- P: column n, of 43, without its two parity bytes
 unfoldable pub column_input : ℕ → ℕ → List ℕ
 column_input plane n = map (λ m. place_of plane (43 * m + n)) (range_with_len 0 24)
 
@@ -21,11 +21,11 @@ column_input plane n = map (λ m. place_of plane (43 * m + n)) (range_with_len 0
 unfoldable pub diagonal_input : ℕ → ℕ → List ℕ
 diagonal_input plane n = map (λ m. place_of plane ((44 * m + 43 * n) % 1118)) (range_with_len 0 43)
 
--- its two parity bytes
+-- Q: the two parity bytes of diagonal n
 abbrev pub diagonal_pair : ℕ → ℕ → List ℕ
 diagonal_pair plane n = place_of plane (1118 + n) ∷ place_of plane (1144 + n) ∷ []
 
--- the whole diagonal, its parity last
+-- Q: diagonal n, of 26, with its two parity bytes last
 unfoldable pub diagonal_places : ℕ → ℕ → List ℕ
 diagonal_places plane n = diagonal_input plane n ++ diagonal_pair plane n
 
@@ -33,10 +33,11 @@ diagonal_places plane n = diagonal_input plane n ++ diagonal_pair plane n
 unfoldable pub bytes_at : List ℕ → List ℕ → List ℕ
 bytes_at sector places = map (λ p. slice_index sector p) places
 
--- words in one row: word i is number i / 2 of plane i % 2
+-- P: the bytes of column i of 86, which is number i / 2 of plane i % 2
 abbrev pub column_of : List ℕ → ℕ → List ℕ
 column_of s i = bytes_at s (column_places (i % 2) (i / 2))
 
+-- Q: the bytes of diagonal i of 52, which is number i / 2 of plane i % 2
 abbrev pub diagonal_of : List ℕ → ℕ → List ℕ
 diagonal_of s i = bytes_at s (diagonal_places (i % 2) (i / 2))
 
@@ -53,13 +54,13 @@ pub record AllCodeWords (s : List ℕ) : Type 0 where
   pub diagonals : (plane n : ℕ) → plane < 2 → n < 26
       → IsCodeWord (bytes_at s (diagonal_places plane n))
 
--- the sums are those of the words from 0 on, `count` of them
+-- `plain` and `weighted` are the two syndromes of the first `count` of these words
 pub record SumsOf (word : ℕ → List ℕ) (count : ℕ) (plain weighted : List ℕ) : Type 0 where
   pub first : (i : ℕ) → i < count → slice_index plain i ≡ first_syndrome (word i)
   pub second : (i : ℕ) → i < count → slice_index weighted i ≡ second_syndrome (word i)
 
--- the pairs of 32 words stand in the sector, the first bytes from `at` on and the second ones
--- `count` places behind; all else is as it was
+-- plumbing of `put_pairs`: the parity of 32 words stands in the sector, the first bytes from `at`
+-- on and the second bytes `count` places after them; all else is as it was
 pub record PairsPut (at count : ℕ) (sums : LaneSums) (old new : List ℕ) : Type 0 where
   pub pairs : (i : ℕ) → i < 32
       → IsPair (slice_index sums.plain i) (slice_index sums.weighted i)

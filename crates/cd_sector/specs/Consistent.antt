@@ -1,5 +1,4 @@
--- A consistent Mode 1 sector, and its content (ECMA-130, the clause on the digital data structure
--- of sectors).
+-- A consistent Mode 1 sector, and its content (ECMA-130, 14).
 use Rattle.std.specs.Prelude.{◌≡◌, ℕ, ◌==◌, ◌<◌, ◌≤◌, nat_lt, Bool, true, false, ◌&&◌, List, length, take, slice_index, slice_range}
 use Rattle.std.specs.List.{list_all}
 use Rattle.cd_code.specs.Edc.{bits, remainder}
@@ -18,6 +17,7 @@ header_of s = slice_range s 12 16
 unfoldable pub user_of : List ℕ → List ℕ
 user_of s = slice_range s 16 2064
 
+-- whether a kind is Mode 1
 abbrev pub is_mode1 : SectorKind → Bool
 is_mode1 NoSync = false
 is_mode1 Mode0 = false
@@ -31,7 +31,7 @@ consistent s =
     (((length s == 2352) && list_all (λ b. nat_lt b 256) s) && is_mode1 (kind_of s))
     && is_sound (defect_of s)
 
--- the same part by part
+-- a consistent sector, part by part: what `consistent` tests
 pub record IsConsistent (s : List ℕ) : Type 0 where
   pub size : length s ≡ 2352
   pub bytes : AreBytes s

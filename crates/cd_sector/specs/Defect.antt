@@ -1,13 +1,12 @@
--- What is wrong with a sector: three parts that are all 0 in a sound one (ECMA-130, Annex A and the
--- clause on the digital data structure of sectors).
+-- What is wrong with a sector: four parts that are all 0 in a sound one (ECMA-130, 14 and Annex A).
 use Rattle.std.specs.Prelude.{ℕ, ◌==◌, Bool, not, ◌&&◌, ◌||◌, List, map, take, slice_range}
 use Rattle.std.specs.List.{list_all, range_with_len}
 use Rattle.cd_code.specs.Edc.{bits, remainder}
 use Rattle.cd_code.specs.Syndrome.{first_syndrome, second_syndrome}
 use Rattle.cd_sector.specs.CodeWords.{column_of, diagonal_of}
 
--- the Intermediate field's bytes, what the division by the generator leaves, and the syndromes of
--- each code word
+-- the bytes of the Intermediate field (`zeros`), the remainder when bytes 0 to 2067 are divided by
+-- the EDC's generator (`rest`), and both syndromes of each code word
 pub record Defect : Type 0 where
   pub zeros : List ℕ
   pub rest : ℕ
@@ -28,6 +27,7 @@ defect_of s = record {
   diagonals = all_syndromes (diagonal_of s) 52;
 }
 
+-- whether a number is not 0
 abbrev pub is_nonzero : ℕ → Bool
 is_nonzero x = not (x == 0)
 
@@ -35,7 +35,7 @@ is_nonzero x = not (x == 0)
 abbrev pub is_broken : ℕ × ℕ → Bool
 is_broken sums = is_nonzero sums.0 || is_nonzero sums.1
 
--- every member is 0
+-- every part is 0
 abbrev pub is_sound : Defect → Bool
 is_sound defect =
     ((list_all (λ b. b == 0) defect.zeros && (defect.rest == 0))

@@ -1,6 +1,6 @@
--- Sixteen Q diagonals of both planes side by side, each of which takes one byte at a step
--- (ECMA-130, Annex A). Lane i is diagonal top - i / 2 of plane i % 2; at step t diagonal n takes
--- its byte t - n, which stands in row t % 26.
+-- Plumbing of the Q parity: sixteen Q diagonals of both planes side by side, each of which takes
+-- one byte at a step (ECMA-130, Annex A). Lane i is diagonal top - i / 2 of plane i % 2; at step t
+-- diagonal n takes its byte t - n, which stands in row t % 26.
 use Rattle.std.specs.Prelude.{◌≡◌, ℕ, ◌+◌, ◌-◌, ◌*◌, ◌/◌, ◌%◌, ◌<◌, List, slice_index, take}
 use Rattle.cd_code.specs.Syndrome.{first_syndrome, second_syndrome}
 use Rattle.cd_sector.specs.CodeWords.{bytes_at, diagonal_input}

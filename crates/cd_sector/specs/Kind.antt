@@ -1,4 +1,4 @@
--- The kind of a sector (ECMA-130, the clause on the digital data structure of sectors).
+-- The kind of a sector (ECMA-130, 14).
 use Rattle.std.specs.Prelude.{ℕ, ◌==◌, if◌then◌else◌, List, [], ◌∷◌, nat_eq, slice_index}
 use Rattle.std.specs.List.{starts_with}
 use Rattle.cd_sector.specs.declared.kinds.SectorKind.{SectorKind}

@@ -1,11 +1,11 @@
--- What follows from the definitions alone; each is the contract of a function of `laws.rt`.
+-- What follows from the definitions; each law is the contract of a function of `laws.rt`.
 use Rattle.std.specs.Prelude.{◌≡◌, ◌↔◌, ℕ, IsTrue, List, [], ◌∷◌, ◌++◌, length, slice_index}
 use Rattle.cd_code.specs.Field.{AreBytes}
 use Rattle.cd_sector.specs.Carried.{IsCarried, sync_of}
 use Rattle.cd_sector.specs.Consistent.{IsConsistent, consistent, header_of, user_of}
 use Rattle.cd_sector.specs.Defect.{defect_of}
 
--- the test of a sector is the record of its parts
+-- `consistent` tests just what `IsConsistent` says part by part
 abbrev pub ConsistentByParts : Type 0
 ConsistentByParts = (s : List ℕ) → IsTrue (consistent s) ↔ IsConsistent s
 
@@ -21,7 +21,7 @@ pub record IsEncoded (header user s : List ℕ) : Type 0 where
   pub has_header : header_of s ≡ header ++ 1 ∷ []
   pub has_user : user_of s ≡ user
 
--- for any three header bytes and 2048 user bytes there is one
+-- for any three header bytes and 2048 user bytes there is a consistent sector with them
 abbrev pub SectorExists : Type 0
 SectorExists =
     (header user : List ℕ) → AreBytes header → length header ≡ 3 → AreBytes user
@@ -37,26 +37,26 @@ SectorByDefect =
     → sync_of s ≡ sync_of t
     → header_of s ≡ header_of t → user_of s ≡ user_of t → defect_of s ≡ defect_of t → s ≡ t
 
--- so there is at most one carried sector
+-- there is at most one carried sector with a given content
 abbrev pub CarriedIsUnique : Type 0
 CarriedIsUnique =
     (old header user s t : List ℕ) → IsCarried old header user s → IsCarried old header user t
     → s ≡ t
 
--- and for any four header bytes and 2048 user bytes there is one
+-- for any four header bytes and 2048 user bytes there is a carried sector with them
 abbrev pub CarriedExists : Type 0
 CarriedExists =
     (old header user : List ℕ) → length old ≡ 2352 → AreBytes old → AreBytes header
     → length header ≡ 4
     → AreBytes user → length user ≡ 2048 → (s : List ℕ) × IsCarried old header user s
 
--- what a consistent sector is carried to is consistent, where its mode byte is 1
+-- what a consistent sector is carried to is consistent, if its mode byte is 1
 abbrev pub CarriedOfConsistent : Type 0
 CarriedOfConsistent =
     (old header user s : List ℕ) → IsConsistent old → slice_index header 3 ≡ 1
     → IsCarried old header user s → IsConsistent s
 
--- and each consistent sector is what any other is carried to
+-- each consistent sector is what any other consistent one is carried to
 abbrev pub ConsistentIsCarried : Type 0
 ConsistentIsCarried =
     (old s : List ℕ) → IsConsistent old → IsConsistent s → IsCarried old (header_of s) (user_of s) s

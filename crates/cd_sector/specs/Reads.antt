@@ -1,20 +1,22 @@
--- A call that reads the bytes of a sector from a source, in the place where they stand.
+-- Plumbing of `read_with`: nothing about CDs. A call reads the bytes of a sector from a source, in
+-- the place where they stand.
 use Rattle.std.specs.Prelude.{◌≡◌, List, ℕ}
 use Rattle.std.specs.Borrow.{MutBor}
 use Rattle.std.specs.Fn.{Once}
 
--- what such a call is passed, and what it returns with what it leaves behind both references
+-- what such a call is passed, and what it returns, with what both references have afterwards
 abbrev pub Reader : Type 0 → Type 0 → Type 0 → Type 1
 Reader F S R =
     Once F (MutBor S × (MutBor (List ℕ) × Unit {0})) (R × (MutBor S × (MutBor (List ℕ) × Unit {0})))
 
--- it may be called at this source and these bytes
+-- the call may be made with this source and these bytes
 abbrev pub CanRead : {F S R : Type 0} → Reader F S R → F → S → List ℕ → Type 0
 CanRead {F} {S} call read source bytes =
     (from : MutBor S) (into : MutBor (List ℕ)) → from.now ≡ source → into.now ≡ bytes
     → call.pre read (from, (into, tt))
 
--- at this source and these bytes it may return `result`, and leave another source and other bytes
+-- the call, made with this source and these bytes, may return `result`, and leave the source as
+-- `source'` and the bytes as `bytes'`
 pub record Reads {F S R : Type 0} (call : Reader F S R) (read : F) (source : S) (bytes : List ℕ)
     (result : R) (source' : S) (bytes' : List ℕ) : Type 0 where
   pub from : MutBor S

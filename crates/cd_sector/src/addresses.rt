@@ -1,4 +1,4 @@
-//! The address that belongs into the header of a block.
+//! The address of a block, as a header has it.
 
 ghost use Rattle.std.specs.Prelude.{◌≡◌, ◌+◌, ◌*◌, ◌/◌, ◌%◌, ◌<◌, ◌≤◌, ◌↔◌, IsSome};
 ghost use Rattle.cd_sector.specs.Address.{address, bcd};
@@ -15,8 +15,8 @@ const SECONDS: u32 = 60;
 /// The fraction at which block 0 stands, which is second 2.
 const FIRST_BLOCK: u32 = 2 * FRACTIONS;
 
-/// Minute, second and fraction, each BCD, of a block that is counted from 0, which stands at two seconds; None
-/// past minute 99 (ECMA-130, the clause on the digital data structure of sectors).
+/// Minute, second and fraction, each in BCD, of a block that is counted from 0. Block 0 stands at
+/// two seconds; a block past minute 99 has none (ECMA-130, 14).
 ///
 /// # Examples
 ///

@@ -15,21 +15,20 @@ use crate::sector::{EDC, HEADER, INTERMEDIATE, P_PARITY, Q_PARITY, SECTOR_SIZE, 
 use crate::sums::sum_of_bytes;
 use cd_code::{ColumnSums, column_sums, edc_of};
 
-/// Which parts of a sector are wrong (ECMA-130, Annex A and the clause on the digital data structure of sectors).
+/// Which parts of a sector are wrong (ECMA-130, 14 and Annex A).
 #[derive(Clone, Copy, Debug, PartialEq, Eq)]
 pub struct DefectReport {
     /// A byte of the Intermediate field, 2068 to 2075, is not `00`.
     pub zeros: bool,
     /// The EDC is not that of bytes 0 to 2063.
     pub edc: bool,
-    /// The number of P columns, of 86, that are no code words.
+    /// The number of P columns, of 86, that are not code words.
     pub p: u8,
-    /// The number of Q diagonals, of 52, that are no code words.
+    /// The number of Q diagonals, of 52, that are not code words.
     pub q: u8,
 }
 
-/// What is wrong with a sector of any kind, taken as one of Mode 1 (ECMA-130, Annex A and the clause on the
-/// digital data structure of sectors).
+/// What is wrong with a sector of any kind, taken as one of Mode 1 (ECMA-130, 14 and Annex A).
 ///
 /// # Examples
 ///
@@ -54,8 +53,7 @@ pub fn defect(s: &Sector) -> DefectReport
     }
 }
 
-/// Whether a sector is of Mode 1, without any defect (ECMA-130, Annex A and the clause on the digital data
-/// structure of sectors).
+/// Whether a sector is of Mode 1, without any defect (ECMA-130, 14 and Annex A).
 ///
 /// # Examples
 ///
@@ -71,9 +69,9 @@ pub fn is_consistent(s: &Sector) -> bool
     has_mode1(s) && is_whole(s.bytes())
 }
 
-/// Whether two sectors of any kind, taken as ones of Mode 1, have the same defect: equal bytes in the Intermediate field,
-/// equal remainders of the EDC's division and equal syndromes (ECMA-130, Annex A and the clause on the digital data
-/// structure of sectors).
+/// Whether two sectors of any kind, taken as ones of Mode 1, have the same defect: equal bytes in
+/// the Intermediate field, equal remainders of the EDC's division and equal syndromes (ECMA-130, 14
+/// and Annex A). The kinds play no part.
 ///
 /// # Examples
 ///
@@ -87,6 +85,8 @@ pub fn same_defect(a: &Sector, b: &Sector) -> bool
     ensures same { IsTrue result ↔ (defect_of a.now ≡ defect_of b.now) }
     ensures alone { result ≡ true → take 2064 a.now ≡ take 2064 b.now → a.now ≡ b.now }
 {
+    // Each part of the sum's defect is the sum of both parts, so it is 0 if they are equal. One
+    // test serves this call and `is_consistent`.
     is_whole(&sum_of_bytes(a.bytes(), b.bytes()))
 }
 
@@ -100,7 +100,7 @@ fn has_mode1(s: &Sector) -> bool
     }
 }
 
-/// Whether every member of a sector's defect is 0.
+/// Whether every part of a sector's defect is 0.
 fn is_whole(bytes: &[u8; SECTOR_SIZE]) -> bool
     ensures { result ≡ is_sound (defect_of bytes.now) }
 {
@@ -124,7 +124,7 @@ fn has_edc(bytes: &[u8; SECTOR_SIZE]) -> bool
     edc_of(&bytes[..EDC]) == stored_edc(bytes)
 }
 
-/// The number of columns that are no code words.
+/// The number of columns that are not code words.
 #[inline(never)]
 fn count_broken_columns(bytes: &[u8; SECTOR_SIZE]) -> u8
     ensures { result ≡ count_by is_broken (all_syndromes (column_of bytes.now) 86) }
@@ -133,7 +133,7 @@ fn count_broken_columns(bytes: &[u8; SECTOR_SIZE]) -> u8
     count_broken(&sums.plain, &sums.weighted)
 }
 
-/// The number of diagonals that are no code words.
+/// The number of diagonals that are not code words.
 fn count_broken_diagonals(bytes: &[u8; SECTOR_SIZE]) -> u8
     ensures { result ≡ count_by is_broken (all_syndromes (diagonal_of bytes.now) 52) }
 {
@@ -141,7 +141,7 @@ fn count_broken_diagonals(bytes: &[u8; SECTOR_SIZE]) -> u8
     count_broken(&sums.plain, &sums.weighted)
 }
 
-/// The syndromes of each column with its parity.
+/// The syndromes of each column and its parity.
 pub(crate) fn all_column_sums(bytes: &[u8; SECTOR_SIZE]) -> ColumnSums
     ensures { SumsOf (column_of bytes.now) 86 result.plain result.weighted }
 {
@@ -162,7 +162,7 @@ fn count_broken(plain: &[u8], weighted: &[u8]) -> u8
     number
 }
 
-/// 1 for a word with these syndromes that is no code word, else 0.
+/// 1 for syndromes that are not both 0, else 0.
 fn one_if_broken(plain: u8, weighted: u8) -> u8
     ensures { result ≡ (if is_broken (plain, weighted) then 1 else 0) }
 {

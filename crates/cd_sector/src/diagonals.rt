@@ -17,7 +17,8 @@ const BELOW_TOP: usize = 15;
 /// The first of the words of the high sixteen diagonals, which is diagonal 10 of plane 0.
 pub(crate) const HIGH_WORDS: usize = 20;
 
-/// Lanes of which the 86 in the middle take a byte. From place 2 * k on, lane i of 32 takes one where 15 ≤ k + i / 2 < 58.
+/// `FF` for the 86 bytes of a row, and `00` on both sides: the mask of step k is the 32 bytes from
+/// place 2 * k on.
 #[rattlefmt::skip]
 static LANE_MASKS: [u8; 146] = [
     0, 0, 0, 0, 0, 0, 0, 0, 0, 0, 0, 0, 0, 0, 0, 0, 0, 0, 0, 0, 0, 0, 0, 0, 0, 0, 0, 0, 0, 0, 255, 255,
@@ -27,14 +28,14 @@ static LANE_MASKS: [u8; 146] = [
     0, 0, 0, 0, 0, 0, 0, 0, 0, 0, 0, 0, 0, 0, 0, 0, 0, 0,
 ];
 
-/// The places of lanes in the order of the diagonals.
+/// For each lane the lane that it takes its value from: pairs of lanes in the opposite order.
 const RISING: [usize; 32] = [
     30, 31, 28, 29, 26, 27, 24, 25, 22, 23, 20, 21, 18, 19, 16, 17, 14, 15, 12, 13, 10, 11, 8, 9,
     6, 7, 4, 5, 2, 3, 0, 1,
 ];
 
-/// The sums of sixteen diagonals of both planes, `top` the highest, as far as the steps below `step` make them. Lane i
-/// is diagonal top - i / 2 of plane i % 2.
+/// The sums of sixteen diagonals of both planes, of which `top` is the highest, over the bytes of
+/// the steps below `step`. Lane i is diagonal top - i / 2 of plane i % 2.
 #[derive(Clone, Copy)]
 struct Diagonals {
     top: usize,
@@ -77,8 +78,9 @@ impl Diagonals {
         }
     }
 
-    /// The steps up to `end` within a turn of 26 rows, at which some diagonals have not begun and none has ended. The
-    /// sums of those that have not begun are `00`, which a step with a byte `00` leaves as they are.
+    /// Takes the steps below `end`, within one turn of 26 rows, at which some diagonals have not
+    /// begun and none has ended. The sums of those that have not begun are `00`, and a byte `00`
+    /// leaves them so.
     #[inline(always)]
     fn at_the_beginning(self, bytes: &[u8; SECTOR_SIZE], end: usize) -> Self
         requires forward { self.step ≤ end }
@@ -102,7 +104,7 @@ impl Diagonals {
         }
     }
 
-    /// The steps up to `end` within a turn of 26 rows, at which all diagonals take a byte.
+    /// Takes the steps below `end`, within one turn of 26 rows, at which all diagonals take a byte.
     #[inline(always)]
     fn in_the_middle(self, bytes: &[u8; SECTOR_SIZE], end: usize) -> Self
         requires forward { self.step ≤ end }
@@ -126,8 +128,8 @@ impl Diagonals {
         }
     }
 
-    /// The steps up to `end` within a turn of 26 rows, at which some diagonals have not begun or have ended. The sums of
-    /// those that have ended stay as they are.
+    /// Takes the steps below `end`, within one turn of 26 rows, at which some diagonals have ended.
+    /// The mask keeps the sums of those as they are.
     #[inline(always)]
     fn at_the_end(self, bytes: &[u8; SECTOR_SIZE], end: usize) -> Self
         requires forward { self.step ≤ end }
@@ -179,7 +181,8 @@ fn window(bytes: &[u8; SECTOR_SIZE], top: usize, step: usize, row: usize) -> u8x
     lanes_at(bytes, HEADER + COLUMNS * row + 2 * step - 2 * top)
 }
 
-/// Which of 32 lanes take a byte, k steps after the first one began.
+/// The mask of step k: `FF` for each of 32 lanes that takes a byte, k steps after the first lane
+/// began.
 #[inline(always)]
 fn lane_mask(k: usize) -> u8x32
     requires { k < 58 }
@@ -191,7 +194,7 @@ fn lane_mask(k: usize) -> u8x32
     lanes_at(&LANE_MASKS, 2 * k)
 }
 
-/// Lanes, and `00` where `mask` is `00`; elsewhere it is `FF`.
+/// Proof step: the lanes whose `mask` is `FF`, and `00` for those whose `mask` is `00`.
 #[inline(always)]
 fn mask_lanes(lanes: u8x32, mask: u8x32) -> u8x32
     ensures takes { (i : ℕ) → i < 32 → slice_index mask i ≡ 255
@@ -250,7 +253,7 @@ pub(crate) struct DiagonalSums {
     pub(crate) weighted: [u8; DIAGONALS],
 }
 
-/// The sums of diagonals 0 to 9 out of the one, and of diagonals 10 to 25 out of the other.
+/// The sums of all 26 diagonals of both planes: 0 to 9 from `low`, 10 to 25 from `high`.
 fn join_halves(low: LaneSums, high: LaneSums) -> DiagonalSums
     ensures plain_low { (i : ℕ) → i < 20 → slice_index result.plain i ≡ slice_index low.plain i }
     ensures plain_high { (i : ℕ) → i < 32
@@ -271,7 +274,7 @@ fn join_halves(low: LaneSums, high: LaneSums) -> DiagonalSums
     sums
 }
 
-/// The syndromes of each diagonal with its parity.
+/// The syndromes of each diagonal and its parity.
 pub(crate) fn diagonal_sums(bytes: &[u8; SECTOR_SIZE]) -> DiagonalSums
     ensures { SumsOf (diagonal_of bytes.now) 52 result.plain result.weighted }
 {

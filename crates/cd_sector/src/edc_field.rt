@@ -1,5 +1,5 @@
-//! The EDC field of a sector: four bytes behind the user data, the least significant first (ECMA-130, the EDC field
-//! of a sector). They are read and written here alone.
+//! The EDC field of a sector: four bytes after the user data, the least significant first
+//! (ECMA-130, 14). Only this file reads and writes them.
 
 ghost use Rattle.std.specs.Prelude.{◌≡◌, ℕ, ◌<◌, ◌≤◌, ◌⊎◌, slice_index, slice_range};
 ghost use Rattle.std.specs.Int.{from_le_bytes, to_le_bytes, w32};
@@ -7,7 +7,7 @@ ghost use Rattle.std.specs.Int.{from_le_bytes, to_le_bytes, w32};
 use crate::sector::{EDC, INTERMEDIATE, SECTOR_SIZE, put_part};
 use byteorder::{ByteOrder, LittleEndian};
 
-/// The four bytes of an EDC word, as they stand in a sector (ECMA-130, the EDC field of a sector).
+/// The four bytes of an EDC word, as they stand in a sector (ECMA-130, 14).
 ///
 /// # Examples
 ///
@@ -22,7 +22,7 @@ pub fn edc_bytes(word: u32) -> [u8; 4]
     bytes
 }
 
-/// The word in the EDC field of a sector of these bytes, right or not (ECMA-130, the EDC field of a sector).
+/// The word in the EDC field of a sector of these bytes, right or not (ECMA-130, 14).
 ///
 /// See the example of [`put_edc`].
 pub fn stored_edc(bytes: &[u8; SECTOR_SIZE]) -> u32
@@ -31,7 +31,7 @@ pub fn stored_edc(bytes: &[u8; SECTOR_SIZE]) -> u32
     LittleEndian::read_u32(&bytes[EDC..INTERMEDIATE])
 }
 
-/// Makes `word` the word in the EDC field (ECMA-130, the EDC field of a sector).
+/// Makes `word` the word in the EDC field (ECMA-130, 14).
 ///
 /// # Examples
 ///

@@ -1,19 +1,19 @@
-//! What a sector is: told by its sync field and its mode byte.
+//! The kind of a sector, which its sync field and its mode byte give.
 
 ghost use Rattle.std.specs.Prelude.{◌≡◌};
 ghost use Rattle.cd_sector.specs.Kind.{kind_of};
 
 use crate::sector::{MODE, Sector};
 
-/// The kinds of sector that ECMA-130 knows, and the two that it does not: without a sync field, and with
-/// a mode byte above 2.
+/// The kinds of sector that ECMA-130 knows, and two that it does not: without a sync field, and
+/// with a mode byte above 2.
 #[derive(Clone, Copy, Debug, PartialEq, Eq)]
 pub enum SectorKind {
-    /// Bytes 0 to 11 are no sync field, as in a sector of an audio track.
+    /// Bytes 0 to 11 are not a sync field, as in a sector of an audio track.
     NoSync,
-    /// Mode byte 00: the 2336 bytes behind the header are 00.
+    /// Mode byte 00: the 2336 bytes after the header are 00.
     Mode0,
-    /// Mode byte 01: 2048 bytes of user data, with EDC and parity behind them.
+    /// Mode byte 01: 2048 bytes of user data, then EDC and parity.
     Mode1,
     /// Mode byte 02: 2336 bytes of user data.
     Mode2,
@@ -24,8 +24,7 @@ pub enum SectorKind {
 /// The synchronisation field: `00`, ten times `FF`, `00`.
 pub(crate) const SYNC: [u8; 12] = [0, 255, 255, 255, 255, 255, 255, 255, 255, 255, 255, 0];
 
-/// The kind of a sector, from its sync field and its mode byte (ECMA-130, the clause on the digital data
-/// structure of sectors).
+/// The kind of a sector, from its sync field and its mode byte (ECMA-130, 14).
 ///
 /// # Examples
 ///

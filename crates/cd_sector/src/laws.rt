@@ -2,7 +2,7 @@
 
 ghost use Rattle.cd_sector.specs.Laws.{CarriedExists, CarriedIsUnique, CarriedOfConsistent, ConsistentByParts, ConsistentIsCarried, SectorByDefect, SectorExists, SectorIsUnique};
 
-/// A sector is consistent exactly where each of its parts is.
+/// A sector is consistent exactly if each of its parts is.
 pub fn consistent_by_parts()
     ensures { ConsistentByParts }
 {}

@@ -1,6 +1,28 @@
-//! A sector of a CD-ROM as ECMA-130 lays it out: 2352 bytes, of which the sync field and the mode byte
-//! tell the kind. For Mode 1: making the one consistent sector with a given content, and telling what is
-//! wrong with a sector.
+//! A sector of a CD-ROM as ECMA-130, 14 lays it out: its kind, the one consistent sector with a
+//! given content, and what is wrong with a sector. Places count from 0.
+//!
+//! | Bytes | Field of a Mode 1 sector |
+//! |---|---|
+//! | 0 to 11 | sync: `00`, ten times `FF`, `00` |
+//! | 12 to 14 | address: minute, second and fraction, each in BCD |
+//! | 15 | mode: `01` |
+//! | 16 to 2063 | user data |
+//! | 2064 to 2067 | EDC of bytes 0 to 2063, the least significant byte first |
+//! | 2068 to 2075 | Intermediate: `00` |
+//! | 2076 to 2247 | P parity: two bytes for each of 86 columns (Annex A) |
+//! | 2248 to 2351 | Q parity: two bytes for each of 52 diagonals, which run through the P parity too |
+//!
+//! ```
+//! let mut sector = encode([0x00, 0x02, 0x00], &[0x00; USER_SIZE]); // block 0, all zeros
+//! assert!(rt; is_consistent(&sector));
+//! sector.put(2351, 0xFF); // the last byte of Q parity
+//! assert!(rt; !is_consistent(&sector));
+//! ```
+//!
+//! A sector of any other kind is only named ([`kind`]): the two forms of Mode 2 are not in
+//! ECMA-130. Blocks have an address up to [`MAX_BLOCK`]. No call takes memory.
+//!
+//! Tests: `crates/cd_patch_tests/src/tests/sectors`.
 #![tactic(auto)]
 
 mod addresses;
@@ -18,7 +40,7 @@ mod sums;
 pub use addresses::{MAX_BLOCK, address_of};
 pub use defects::{DefectReport, defect, is_consistent, same_defect};
 pub use edc_field::{edc_bytes, put_edc, stored_edc};
-pub use encoding::encode;
+pub use encoding::{encode, encode_into, rebuild};
 pub use kinds::{SectorKind, kind};
 pub use laws::{
     carried_exists, carried_is_unique, carried_of_consistent, consistent_by_parts,

@@ -1,5 +1,6 @@
-//! The P and Q parity of a sector (ECMA-130, Annex A). Inside, words are numbered from 0 on in one row: word i is
-//! number i / 2 of plane i % 2, so that the bytes of a row of words stand side by side.
+//! The P and Q parity of a sector (ECMA-130, Annex A). In this crate the words of both planes are
+//! numbered in one row: word i is number i / 2 of plane i % 2, so the bytes of neighbouring words
+//! stand side by side.
 
 ghost use Rattle.std.specs.Prelude.{◌≡◌, ℕ, ◌+◌, ◌*◌, ◌/◌, ◌%◌, ◌<◌, ◌≤◌, ◌⊎◌, slice_index};
 ghost use Rattle.cd_code.specs.LaneWords.{AreColumns};
@@ -11,8 +12,8 @@ use crate::product_code::{COLUMNS, DIAGONALS};
 use crate::sector::{HEADER, P_PARITY, Q_PARITY, SECTOR_SIZE, Sector};
 use cd_code::{BACK_COLUMN, ColumnLanes, LaneSums, MIDDLE_COLUMN, column_lanes, put_lanes};
 
-/// Makes the 276 bytes of P and Q parity anew, from the 2076 bytes in front of them, in a sector of any kind
-/// (ECMA-130, Annex A).
+/// Makes the 276 bytes of P and Q parity from the 2076 bytes before them, in a sector of any kind
+/// (ECMA-130, Annex A). Public for cd_delta too, which gives a sector of differences its parity.
 ///
 /// # Examples
 ///
@@ -26,12 +27,10 @@ pub fn fill_parity(s: &mut Sector)
     ensures words { AllCodeWords s.new }
     ensures stays { (i : ℕ) → i < 2076 → slice_index s.new i ≡ slice_index s.old i }
 {
-    let mut bytes = *s.bytes();
-    fill_words(&mut bytes);
-    *s = Sector::from_bytes(bytes);
+    s.read_with(&mut (), |_, bytes| fill_words(bytes));
 }
 
-/// Makes the P and then the Q parity, whose diagonals run through the P parity.
+/// Makes the P parity, and then the Q parity, whose diagonals run through the P parity.
 pub(crate) fn fill_words(bytes: &mut [u8; SECTOR_SIZE])
     ensures words { AllCodeWords bytes.new }
     ensures stays { (k : ℕ) → k < 2076 → slice_index bytes.new k ≡ slice_index bytes.old k }
@@ -63,7 +62,7 @@ fn fill_diagonals(bytes: &mut [u8; SECTOR_SIZE])
     put_pairs(bytes, Q_PARITY + HIGH_WORDS, DIAGONALS, high);
 }
 
-/// The syndromes of the 24 bytes of each column in front of its parity.
+/// The syndromes of the 24 bytes of each column before its parity.
 #[inline(always)]
 fn column_input_lanes(bytes: &[u8; SECTOR_SIZE]) -> ColumnLanes
     ensures { AreColumns (λ i. bytes_at bytes.now (column_input (i % 2) (i / 2))) result }
@@ -72,8 +71,8 @@ fn column_input_lanes(bytes: &[u8; SECTOR_SIZE]) -> ColumnLanes
     column_lanes(rows)
 }
 
-/// Writes the parity of 32 words with these sums: first bytes from place `at` on, and the second ones `count` places
-/// behind them.
+/// Writes the parity of 32 words with these sums: the first bytes from place `at` on, and the
+/// second bytes `count` places after them.
 fn put_pairs(bytes: &mut [u8; SECTOR_SIZE], at: usize, count: usize, sums: LaneSums)
     requires apart { 32 ≤ count }
     requires room { at + count + 32 ≤ 2352 }

@@ -1,6 +1,6 @@
-//! The product code in numbers: each of two planes has 24 rows of 43 columns and two rows of P parity below them, and
-//! behind these the Q parity of its 26 diagonals (ECMA-130, Annex A). A byte's number in its plane counts from 0, row
-//! after row.
+//! The product code in numbers (ECMA-130, Annex A): each of two planes has 24 rows of 43 columns,
+//! then two rows of P parity, then the Q parity of its 26 diagonals. A byte's number in its plane
+//! counts from 0, row after row.
 
 /// The number of columns in a plane, which are the bytes of a row.
 pub const PLANE_COLUMNS: usize = 43;

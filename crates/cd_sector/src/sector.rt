@@ -1,5 +1,8 @@
-//! The 2352 bytes of one sector, and where its parts begin (ECMA-130, the clause on the digital data structure of
-//! sectors and Annex A). Places count from 0.
+//! The 2352 bytes of one sector, and where its parts begin (ECMA-130, 14 and Annex A). Places count
+//! from 0.
+//!
+//! The code of this crate and of cd_delta uses these constants. Definitions and clauses have the
+//! standard's numbers, so the contracts refuse a wrong constant.
 
 ghost use Rattle.std.specs.Prelude.{◌≡◌, ◌+◌, ◌<◌, ◌≤◌, ◌⊎◌, List, ℕ, length, replicate, slice_index, slice_set};
 ghost use Rattle.cd_code.specs.Field.{AreBytes};
@@ -8,14 +11,13 @@ ghost use Rattle.cd_sector.specs.Reads.{CanRead, Reads};
 
 use std::marker::Model;
 
-/// The number of bytes in a sector (ECMA-130, the clause on the digital data structure of sectors).
+/// The number of bytes in a sector (ECMA-130, 14).
 pub const SECTOR_SIZE: usize = 2352;
 
-/// The number of bytes of user data in a Mode 1 sector (ECMA-130, the clause on the digital data structure
-/// of sectors).
+/// The number of bytes of user data in a Mode 1 sector (ECMA-130, 14).
 pub const USER_SIZE: usize = 2048;
 
-/// The place of the header, behind the sync field; the planes of the parity begin here too.
+/// The place of the header, after the sync field; the planes of the parity begin here too.
 pub const HEADER: usize = 12;
 
 /// The place of the mode byte, the last of the header.
@@ -24,10 +26,10 @@ pub(crate) const MODE: usize = 15;
 /// Where the user data begins.
 pub const USER_DATA: usize = 16;
 
-/// The place of the four bytes of the EDC, behind the user data.
+/// The place of the four bytes of the EDC, after the user data.
 pub const EDC: usize = 2064;
 
-/// The place of the eight bytes of the Intermediate field, behind the EDC.
+/// The place of the eight bytes of the Intermediate field, after the EDC.
 pub const INTERMEDIATE: usize = 2068;
 
 /// Where the P parity begins.
@@ -36,8 +38,10 @@ pub(crate) const P_PARITY: usize = 2076;
 /// Where the Q parity begins.
 pub(crate) const Q_PARITY: usize = 2248;
 
-/// A sector: 2352 bytes of any content. A contract sees the list of its bytes.
+/// A sector: 2352 bytes of any content, and nothing else in memory (`repr(C)`), so C's 2352 bytes
+/// are a `Sector` where they stand. A contract sees the list of its bytes.
 #[derive(Clone, Copy, Debug, PartialEq, Eq)]
+#[repr(C)]
 pub struct Sector {
     bytes: [u8; SECTOR_SIZE],
 }
@@ -110,8 +114,10 @@ impl Sector {
         self.bytes[place] = b;
     }
 
-    /// Has `read` read the 2352 bytes from a source, in the place where they stand, with no array beside the sector. The
-    /// answer is that of `read`.
+    /// Proof step: lends the 2352 bytes to `read`, which reads them from `source`; no array is
+    /// filled beside the sector. The answer is that of `read`. The toolchain does not prove a
+    /// method that returns the loan, and knows nothing of what a closure captured by `&mut`, so the
+    /// bytes and the source go through a call.
     ///
     /// # Examples
     ///
@@ -130,12 +136,13 @@ impl Sector {
         ensures { Reads F.FnOnce read source.old self.old result source.new self.new }
     {
         let result = read(source, &mut self.bytes);
+        // So the list of bytes that contracts see is one of numbers below 256 again.
         are_bytes(&self.bytes);
         result
     }
 
-    /// The 4 bytes of the header, bytes 12 to 15: minute, second and fraction in BCD, and the mode (ECMA-130, the
-    /// clause on the digital data structure of sectors).
+    /// The 4 bytes of the header, bytes 12 to 15: minute, second and fraction in BCD, and the mode
+    /// (ECMA-130, 14).
     ///
     /// # Examples
     ///
@@ -154,8 +161,7 @@ impl Sector {
         ]
     }
 
-    /// The 2048 bytes of user data, bytes 16 to 2063 (ECMA-130, the clause on the digital data structure of
-    /// sectors).
+    /// The 2048 bytes of user data, bytes 16 to 2063 (ECMA-130, 14).
     ///
     /// # Examples
     ///
@@ -200,9 +206,10 @@ pub fn put_part(bytes: &mut [u8; SECTOR_SIZE], at: usize, part: &[u8])
     bytes[at..at + part.len()].copy_from_slice(part);
 }
 
-/// Does nothing: its contract says of an array of bytes that each is below 256, whoever has written them.
+/// Proof step: does nothing. Its contract says that each byte of an array is below 256, whoever has
+/// written it.
 #[inline(always)]
-fn are_bytes(bytes: &[u8; SECTOR_SIZE])
+pub(crate) fn are_bytes(bytes: &[u8; SECTOR_SIZE])
     ensures { AreBytes bytes.now }
 {
     let _first = bytes[0];

@@ -1,10 +1,38 @@
--- Bytes that come or go in several calls.
-use Rattle.std.proofs.Common.{◌≡◌, ℕ, ◌+◌, ◌-◌, ◌≤◌, List, ◌++◌, length, take, drop, Option, sym, ap, ◌∙◌, subst, arith}
+-- Bytes that come or go in several calls, and how they are counted.
+use Rattle.std.proofs.Common.{◌≡◌, ℕ, ◌+◌, ◌-◌, ◌≤◌, List, ◌++◌, [], length, length-append, take, drop, Option, sym, ap, ◌∙◌, subst, arith}
 use Rattle.std.proofs.Math.ListN.{length-take}
 use Rattle.std.proofs.Math.Seq.{take-add, take-append-add}
 use Rattle.std.proofs.lemmas.List.{length-take-le, take-append-le, take-take}
 use Rattle.std.specs.Io.KnownBytes.{Appends, Consumes}
-use Rattle.std.proofs.KnownBytes.{Appends-trans, Consumes-trans}
+use Rattle.std.proofs.KnownBytes.{Appends-nil, Appends-trans, Consumes-trans}
+use Rattle.cd_stream.specs.Stream.{Incoming, Outgoing}
+use Rattle.cd_stream.specs.Transfer.{Gives, Takes}
+
+-- the front of a buffer, counted by its length
+pub Gives-front : (old new : Incoming) (n : ℕ) (buffer : List ℕ) → n ≤ length buffer → Consumes old.rest new.rest (take n buffer) → new.given ≡ old.given + n
+    → Gives old new (take n buffer)
+Gives-front old new n buffer few came count = record { consumes = came; counted = count ∙ ap (λ k. old.given + k) (sym (length-take-le n buffer few)) }
+
+pub Takes-front : (old new : Outgoing) (n : ℕ) (bytes : List ℕ) → n ≤ length bytes → Appends old.written new.written (take n bytes) → new.taken ≡ old.taken + n
+    → Takes old new (take n bytes)
+Takes-front old new n bytes few went count = record { appends = went; counted = count ∙ ap (λ k. old.taken + k) (sym (length-take-le n bytes few)) }
+
+-- none
+pub Takes-nil : (a : Outgoing) → Takes a a []
+Takes-nil a = record { appends = Appends-nil a.written; counted = omega arith }
+
+-- one after the other
+pub Gives-trans : (a b c : Incoming) (bs cs : List ℕ) → Gives a b bs → Gives b c cs → Gives a c (bs ++ cs)
+Gives-trans a b c bs cs p q = record {
+  consumes = Consumes-trans a.rest b.rest c.rest bs cs p.consumes q.consumes;
+  counted = omega (arith, p.counted, q.counted, length-append bs cs);
+}
+
+pub Takes-trans : (a b c : Outgoing) (bs cs : List ℕ) → Takes a b bs → Takes b c cs → Takes a c (bs ++ cs)
+Takes-trans a b c bs cs p q = record {
+  appends = Appends-trans a.written b.written c.written bs cs p.appends q.appends;
+  counted = omega (arith, p.counted, q.counted, length-append bs cs);
+}
 
 -- the front of a buffer, after n bytes more were read into what lies behind it
 take-refilled : (have n : ℕ) (xs ys post : List ℕ) → have ≤ length xs → n ≤ length ys

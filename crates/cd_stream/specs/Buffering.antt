@@ -1,18 +1,22 @@
 -- What a sink that holds bytes back shows beside what every sink does.
-use Rattle.std.specs.Prelude.{◌≡◌, ℕ, ◌-◌, ◌≤◌, Bool, List, [], ◌++◌, drop, if◌then◌else◌, length}
-use Rattle.std.specs.Prelude.{nat_le, take, Result, Ok, Err, IsOk}
+use Rattle.std.specs.Prelude.{◌≡◌, ℕ, ◌+◌, ◌-◌, Bool, ◌&&◌, true, List, [], ◌++◌, drop, if◌then◌else◌}
+use Rattle.std.specs.Prelude.{length, nat_eq, nat_le, take, Result, Ok, IsOk}
 use Rattle.std.specs.Io.KnownBytes.{Keeps, append_known}
 use Rattle.cd_stream.specs.Stream.{Outgoing}
 use Rattle.cd_stream.specs.Transfer.{Counts}
 use Rattle.cd_stream.specs.declared.forms.buffered.Buffered.{Buffered}
 
--- what it stands over
+-- the sink that it stands over
 abbrev pub buffers : {S : Type 0} → Buffered S → S
 buffers b = b.inner
 
 -- the bytes that it holds: taken, and not yet passed on
 abbrev pub held_bytes : {S : Type 0} → Buffered S → List ℕ
 held_bytes b = take (b.end - b.start) (drop b.start b.space.items)
+
+-- how many these are
+abbrev pub held_count : {S : Type 0} → Buffered S → ℕ
+held_count b = b.end - b.start
 
 -- the largest number of bytes that it holds
 abbrev pub space_of : {S : Type 0} → Buffered S → ℕ
@@ -22,19 +26,29 @@ space_of b = length b.space.items
 abbrev pub room_behind : {S : Type 0} → Buffered S → ℕ
 room_behind b = length b.space.items - b.end
 
+-- whether the last call of its own `write` and `finish` was a `finish` that succeeded
 abbrev pub is_finished : {S : Type 0} → Buffered S → Bool
 is_finished b = b.finished
 
--- what the sink below has got, and then what it holds; the failures are those below
+-- what the sink below has got, and then what it holds, and so many bytes; the flushes and failures
+-- are those below; it is finished only if the sink below is finished too, and nothing is held
 abbrev pub buffered_outgoing : {S : Type 0} → (S → Outgoing) → Buffered S → Outgoing
 buffered_outgoing seen b = record {
   written = append_known (seen b.inner).written (held_bytes b);
+  taken = (seen b.inner).taken + held_count b;
+  flushes = (seen b.inner).flushes;
   failures = (seen b.inner).failures;
-  finished = b.finished;
+  finished = b.finished && (seen b.inner).finished && nat_eq b.start b.end;
 }
 
--- bytes that found no room are held once the others have been passed on, and more than its space
--- not at all
+-- all that it has got has reached the sink below, and that one is finished
+pub record HasPassedAll {S : Type 0} (seen : S → Outgoing) (b : Buffered S) : Type 0 where
+  pub empty : held_bytes b ≡ []
+  pub reached : (seen b.inner).written ≡ (buffered_outgoing seen b).written
+  pub below : (seen b.inner).finished ≡ true
+
+-- what it holds after a write that found no room: those bytes, or none if they are more than its
+-- space
 abbrev pub held_alone : {S : Type 0} → Buffered S → List ℕ → List ℕ
 held_alone b bytes = if nat_le (length bytes) (space_of b) then bytes else []
 
@@ -50,10 +64,13 @@ pub record HoldsBack {S E : Type 0} (old new : Buffered S) (given : List ℕ)
   pub below : buffers new ≡ buffers old
   pub held : held_bytes new ≡ held_bytes old ++ given
 
--- passing on all that it holds; at Err a front of it has gone, and the rest is still held
+-- passing on all that it holds, without a flush; at Err a front of it has gone out, and the rest is
+-- still held
 pub record PassesOn {S E : Type 0} (seen : S → Outgoing) (old new : Buffered S)
     (result : Result (Unit {0}) E) : Type 0 where
   pub bytes : Keeps (buffered_outgoing seen old).written (buffered_outgoing seen new).written
+  pub taken : (buffered_outgoing seen new).taken ≡ (buffered_outgoing seen old).taken
+  pub flushes : (seen new.inner).flushes ≡ (seen old.inner).flushes
   pub count : Counts (seen old.inner).failures (seen new.inner).failures result
   pub finished : new.finished ≡ old.finished
   pub space : space_of new ≡ space_of old

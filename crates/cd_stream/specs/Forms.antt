@@ -11,17 +11,32 @@ use Rattle.cd_stream.specs.declared.forms.zero_source.ZeroSource.{ZeroSource}
 
 -- ---- a slice as a source, and zeros
 
+-- what a contract sees of a slice: its bytes from the next one on, and no failure
 abbrev pub slice_incoming : SliceSource → Incoming
-slice_incoming s = record { rest = Some s.rest.now; failures = 0; ended = s.ended }
+slice_incoming s = record {
+  rest = Some s.rest.now;
+  given = s.given;
+  failures = 0;
+  ended = s.ended;
+}
 
+-- what a contract sees of zeros: as many as are left, and no failure
 abbrev pub zeros_incoming : ZeroSource → Incoming
-zeros_incoming s = record { rest = Some (replicate s.left 0); failures = 0; ended = s.ended }
+zeros_incoming s = record {
+  rest = Some (replicate s.left 0);
+  given = s.given;
+  failures = 0;
+  ended = s.ended;
+}
 
 -- ---- a slice as a sink
 
+-- what a contract sees of a slice as a sink: the bytes at its front
 abbrev pub slice_outgoing : SliceSink → Outgoing
 slice_outgoing s = record {
   written = Some (take s.used s.space.now);
+  taken = s.used;
+  flushes = s.flushes;
   failures = s.failures;
   finished = s.finished;
 }
@@ -34,7 +49,8 @@ slice_written s = take s.used s.space.now
 abbrev pub rest_of_slice : SliceSink → List ℕ
 rest_of_slice s = drop s.used s.space.now
 
--- the caller's slice that it stands over, by its ghost name
+-- the ghost name of the slice that it stands over: plumbing, by which a caller finds his slice
+-- again
 abbrev pub stands_over : SliceSink → GName
 stands_over s = s.space.ghost_name
 
@@ -44,7 +60,7 @@ room_of s = length s.space.now - s.used
 
 -- ---- few bytes a call
 
--- what it stands over
+-- the source or sink inside
 abbrev pub shortens : {S : Type 0} → Short S → S
 shortens s = s.inner
 
@@ -52,16 +68,17 @@ shortens s = s.inner
 abbrev pub passes_at_most : {S : Type 0} → Short S → ℕ
 passes_at_most s = s.most
 
+-- whether the last call of its own `write` and `finish` was a `finish` that succeeded
 abbrev pub short_finished : {S : Type 0} → Short S → Bool
 short_finished s = s.finished
 
--- as what it stands over; whether it is finished is told of its own calls
+-- what a contract sees of it: as the sink inside, but whether it is finished depends on its own calls
 abbrev pub short_outgoing : {S : Type 0} → (S → Outgoing) → Short S → Outgoing
 short_outgoing seen s = record (seen s.inner) { finished = s.finished }
 
 -- ---- failing from some byte on
 
--- what it stands over
+-- the source or sink inside
 abbrev pub fails_over : {S : Type 0} → FailAfter S → S
 fails_over f = f.inner
 
@@ -69,27 +86,32 @@ fails_over f = f.inner
 abbrev pub still_passes : {S : Type 0} → FailAfter S → ℕ
 still_passes f = f.left
 
--- the failures behind the limit
+-- the failures after the limit
 abbrev pub own_failures : {S : Type 0} → FailAfter S → ℕ
 own_failures f = f.own
 
+-- whether the last call of its own `write` and `finish` was a `finish` that succeeded
 abbrev pub fail_after_finished : {S : Type 0} → FailAfter S → Bool
 fail_after_finished f = f.finished
 
--- the failures within, and its own behind the limit, as far as they can be counted
+-- the failures inside and its own, as far as they can be counted
 abbrev pub failures_with : {S : Type 0} → ℕ → FailAfter S → ℕ
 failures_with within f = min (within + f.own) 4294967295
 
--- as what it stands over, with its own failures; once it has failed itself, no read tells the end
+-- what a contract sees of it as a source: as the source inside, with its own failures; once it has
+-- failed itself, it has not ended
 abbrev pub failing_incoming : {S : Type 0} → (S → Incoming) → FailAfter S → Incoming
 failing_incoming seen f = record (seen f.inner) {
   failures = failures_with (seen f.inner).failures f;
   ended = (seen f.inner).ended && nat_eq f.own 0;
 }
 
+-- what a contract sees of it as a sink: as the sink inside, with its own failures
 abbrev pub failing_outgoing : {S : Type 0} → (S → Outgoing) → FailAfter S → Outgoing
 failing_outgoing seen f = record {
   written = (seen f.inner).written;
+  taken = (seen f.inner).taken;
+  flushes = (seen f.inner).flushes;
   failures = failures_with (seen f.inner).failures f;
   finished = f.finished;
 }

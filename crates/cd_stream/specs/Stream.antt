@@ -1,17 +1,22 @@
 -- What a contract sees of a source and of a sink.
 use Rattle.std.specs.Prelude.{◌≡◌, ℕ, ◌<◌, Bool, List, ◌++◌, Option}
 
--- of a source: the bytes that are still to come, where it tells them, how many of its reads have
--- failed, and whether the last one answered that none came: false when it is made
+-- of a source: the bytes that are still to come, if they are known; how many its reads have given,
+-- known or not; how many of its reads have failed; and whether its last read answered 0 bytes, which
+-- is false when it is made
 pub record Incoming : Type 0 where
   pub rest : Option (List ℕ)
+  pub given : ℕ
   pub failures : ℕ
   pub ended : Bool
 
--- of a sink: the bytes that it has got, where it tells them, how many of its writes and flushes
--- have failed, and whether the last call of `write` and `finish` was a `finish` that succeeded
+-- of a sink: the bytes that it has got, if they are known; how many its writes have taken, known or
+-- not; how many flushes were made; how many of its writes and flushes have failed; and whether the
+-- last call of `write` and `finish` was a `finish` that succeeded
 pub record Outgoing : Type 0 where
   pub written : Option (List ℕ)
+  pub taken : ℕ
+  pub flushes : ℕ
   pub failures : ℕ
   pub finished : Bool
 
@@ -19,7 +24,7 @@ pub record Outgoing : Type 0 where
 abbrev pub failure_limit : ℕ
 failure_limit = 4294967295
 
--- of so many failures one more can be counted
+-- one failure more can be counted
 abbrev pub MayCount : ℕ → Type 0
 MayCount failures = failures < failure_limit
 

@@ -1,4 +1,4 @@
--- What one read and one write do to a source and a sink.
+-- What one read and one write do to a source and a sink, and what reading and writing all does.
 use Rattle.std.specs.Prelude.{◌≡◌, ℕ, ◌+◌, ◌<◌, ◌≤◌, Bool, false, true, nat_eq, List, length, take}
 use Rattle.std.specs.Prelude.{Result, Ok, Err, is_ok}
 use Rattle.std.specs.Io.KnownBytes.{Appends, Consumes, IsAtEnd, Keeps}
@@ -8,6 +8,26 @@ use Rattle.cd_stream.specs.Stream.{Incoming, Outgoing}
 abbrev pub Counts : {X E : Type 0} → ℕ → ℕ → Result X E → Type 0
 Counts old new (Ok x) = new ≡ old
 Counts old new (Err e) = new ≡ old + 1
+
+-- as many as the answer says, and at Err none
+abbrev pub moved : {E : Type 0} → Result ℕ E → ℕ
+moved (Ok n) = n
+moved (Err e) = 0
+
+-- one flush was made; at Err one at most
+abbrev pub CountsFlush : {X E : Type 0} → ℕ → ℕ → Result X E → Type 0
+CountsFlush old new (Ok x) = new ≡ old + 1
+CountsFlush old new (Err e) = (old ≤ new) × (new ≤ old + 1)
+
+-- the source has given these bytes, and counts them
+pub record Gives (old new : Incoming) (bytes : List ℕ) : Type 0 where
+  pub consumes : Consumes old.rest new.rest bytes
+  pub counted : new.given ≡ old.given + length bytes
+
+-- the sink has taken these bytes, and counts them
+pub record Takes (old new : Outgoing) (bytes : List ℕ) : Type 0 where
+  pub appends : Appends old.written new.written bytes
+  pub counted : new.taken ≡ old.taken + length bytes
 
 -- at Ok(n) the first n bytes of the buffer have come, none only at the end; at Err none has come
 abbrev pub Comes : {E : Type 0} → Incoming → Incoming → List ℕ → Result ℕ E → Type 0
@@ -30,6 +50,7 @@ Goes old new bytes (Err e) = Keeps old.written new.written
 pub record Reads {E : Type 0} (old new : Incoming) (buffer : List ℕ)
     (result : Result ℕ E) : Type 0 where
   pub bytes : Comes old new buffer result
+  pub given : new.given ≡ old.given + moved result
   pub count : Counts old.failures new.failures result
   pub ended : new.ended ≡ tells_end result
 
@@ -37,12 +58,17 @@ pub record Reads {E : Type 0} (old new : Incoming) (buffer : List ℕ)
 pub record Writes {E : Type 0} (old new : Outgoing) (given : List ℕ)
     (result : Result ℕ E) : Type 0 where
   pub bytes : Goes old new given result
+  pub taken : new.taken ≡ old.taken + moved result
+  pub flushes : new.flushes ≡ old.flushes
   pub count : Counts old.failures new.failures result
   pub unfinished : new.finished ≡ false
 
--- one flush: it moves no byte, and the sink is finished where it succeeds
+-- one flush: it moves no byte, and the sink is finished if it succeeds. At Err it may be that what
+-- had to go first has failed, and no flush was made
 pub record Flushes {E : Type 0} (old new : Outgoing) (result : Result (Unit {0}) E) : Type 0 where
   pub bytes : Keeps old.written new.written
+  pub taken : new.taken ≡ old.taken
+  pub flushes : CountsFlush old.flushes new.flushes result
   pub count : Counts old.failures new.failures result
   pub finished : new.finished ≡ is_ok result
 
@@ -55,7 +81,12 @@ ComesWhole old new buffer (Ok n) =
 ComesWhole old new buffer (Err e) =
     (n : ℕ) × (n < length buffer) × Consumes old.rest new.rest (take n buffer)
 
--- a buffer is left with room only where the last read told the end; where it was filled, or a read
+-- the bytes that have come are counted
+abbrev pub GivesWhole : {E : Type 0} → Incoming → Incoming → List ℕ → Result ℕ E → Type 0
+GivesWhole old new buffer (Ok n) = Gives old new (take n buffer)
+GivesWhole old new buffer (Err e) = (n : ℕ) × (n < length buffer) × Gives old new (take n buffer)
+
+-- if a buffer is left with room, the last read answered that no byte came; if it is full, or a read
 -- failed, the last one did not
 abbrev pub TellsEnd : {E : Type 0} → Incoming → List ℕ → Result ℕ E → Type 0
 TellsEnd new buffer (Ok n) =
@@ -68,16 +99,24 @@ GoesWhole old new bytes (Ok x) = Appends old.written new.written bytes
 GoesWhole old new bytes (Err e) =
     (n : ℕ) × (n < length bytes) × Appends old.written new.written (take n bytes)
 
--- as many reads as it takes
+-- the bytes that have gone out are counted
+abbrev pub TakesWhole : {X E : Type 0} → Outgoing → Outgoing → List ℕ → Result X E → Type 0
+TakesWhole old new bytes (Ok x) = Takes old new bytes
+TakesWhole old new bytes (Err e) = (n : ℕ) × (n < length bytes) × Takes old new (take n bytes)
+
+-- reads until the buffer is full or the end comes
 pub record Fills {E : Type 0} (old new : Incoming) (buffer : List ℕ)
     (result : Result ℕ E) : Type 0 where
   pub bytes : ComesWhole old new buffer result
+  pub given : GivesWhole old new buffer result
   pub count : Counts old.failures new.failures result
   pub ended : TellsEnd new buffer result
 
--- as many writes as it takes
+-- writes all the bytes, without a flush
 pub record Sends {X E : Type 0} (old new : Outgoing) (given : List ℕ)
     (result : Result X E) : Type 0 where
   pub bytes : GoesWhole old new given result
+  pub taken : TakesWhole old new given result
+  pub flushes : new.flushes ≡ old.flushes
   pub count : Counts old.failures new.failures result
   pub unfinished : 0 < length given → new.finished ≡ false

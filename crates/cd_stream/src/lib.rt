@@ -1,13 +1,35 @@
 //! Where bytes come from and where they go: sources and sinks that count their failures, and a line
 //! of a text.
+//!
+//! ```
+//! let mut source = SliceSource::new(b"abc");
+//! let mut into = [0; 4];
+//! assert_eq!(rt; fill(&mut source, &mut into), Ok(3)); // then it has ended
+//! assert_eq!(rt; into, *b"abc\0");
+//! ```
+//!
+//! A [`Source`] reads some bytes a call and answers 0 at the end; a [`Sink`] writes some, and
+//! `finish` passes on what it holds back. Nothing is tried again: a call that fails has moved no
+//! byte, and one failure more is counted. So a caller, and its contract, can say afterwards which
+//! side has failed.
+//!
+//! [`FromRead`] and [`ToWrite`] stand over std's readers and writers, [`SliceSource`] and
+//! [`SliceSink`] over memory, [`Buffered`] over a sink that is costly to call. [`ZeroSource`],
+//! [`Short`] and [`FailAfter`] are for tests. No call takes memory of its own: a [`Buffered`] is
+//! given its space. At most 4,294,967,295 failures are counted, and a [`Line`] has at most
+//! [`LINE_SIZE`] bytes.
+//!
+//! Tests: `crates/cd_image_tests/src/tests/streams`.
 #![tactic(auto)]
 
+mod count;
 mod forms;
 mod line;
 mod sink;
 mod source;
 mod transfer;
 
+pub use count::Count;
 pub use forms::buffered::Buffered;
 pub use forms::fail_after::FailAfter;
 pub use forms::from_read::FromRead;

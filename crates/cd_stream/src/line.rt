@@ -6,8 +6,9 @@ use arrayvec::ArrayVec;
 use itoa::Buffer;
 use std::marker::Model;
 
-/// The largest number of bytes in a line. The longest that is written tells where old bytes differ:
-/// 51 bytes of text and three numbers of up to ten digits.
+/// The largest number of bytes in a line. The longest line that is written names the place where
+/// old bytes differ: 51 bytes of text and three numbers of up to ten digits. Each `push` requires
+/// the room, so a line needs no memory.
 pub const LINE_SIZE: usize = 96;
 
 /// The bytes of a line that is being made. A contract sees their list.
@@ -46,8 +47,7 @@ impl Line {
         }
     }
 
-    /// Puts a text behind the line, for which there is room: both together have at most
-    /// [`LINE_SIZE`] bytes.
+    /// Appends a text, for which there is room: both together have at most [`LINE_SIZE`] bytes.
     ///
     /// See the example of [`Line::new`].
     pub fn push_text(&mut self, text: &[u8])
@@ -57,7 +57,7 @@ impl Line {
         let _ = self.bytes.try_extend_from_slice(text);
     }
 
-    /// Puts a number in decimal behind the line, which has room for ten digits.
+    /// Appends a number in decimal; there is room for ten digits.
     ///
     /// See the example of [`Line::new`].
     pub fn push_number(&mut self, number: u32)

@@ -11,28 +11,29 @@ use thiserror::Error;
 #[error("a write or a flush failed")]
 pub struct SinkFailed;
 
-/// Takes bytes, one behind the other. Each failed write or flush is counted.
+/// Writes bytes in their order. Each failed write or flush is counted.
 pub trait Sink {
     // What a contract sees of it.
     ghost seen: { Self → Outgoing };
 
-    /// Takes some bytes from the front of `bytes`, which are not none, and answers how many: at
+    /// Writes some bytes from the front of `bytes`, which is not empty, and answers how many: at
     /// least 1.
     ///
     /// # Errors
     ///
-    /// [`SinkFailed`] where the write failed: no byte has gone out, and one failure more is
+    /// [`SinkFailed`] if the write failed: no byte has gone out, and one failure more is
     /// counted.
     fn write(&mut self, bytes: &[u8]) -> Result<usize, SinkFailed>
         requires some { 0 < length bytes.now }
         requires countable { MayCount (seen self.old).failures }
         ensures { Writes (seen self.old) (seen self.new) bytes.now result };
 
-    /// Passes on all that it still holds back.
+    /// Passes on all that it still holds back. It may be called again, or between writes: a flush
+    /// moves no byte of what the sink has got, and one that fails is counted as any failure.
     ///
     /// # Errors
     ///
-    /// [`SinkFailed`] where a write or the flush failed; one failure more is counted.
+    /// [`SinkFailed`] if a write or the flush failed; one failure more is counted.
     fn finish(&mut self) -> Result<(), SinkFailed>
         requires { MayCount (seen self.old).failures }
         ensures { Flushes (seen self.old) (seen self.new) result };

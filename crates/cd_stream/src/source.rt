@@ -12,6 +12,9 @@ use thiserror::Error;
 pub struct SourceFailed;
 
 /// Bytes that come once, from front to back. Each failed read is counted.
+///
+/// A source need not show the bytes that are still to come; whether its last read answered 0 is
+/// known of each.
 pub trait Source {
     // What a contract sees of it.
     ghost seen: { Self → Incoming };
@@ -21,7 +24,7 @@ pub trait Source {
     ///
     /// # Errors
     ///
-    /// [`SourceFailed`] where the read failed: no byte has come, and one failure more is counted.
+    /// [`SourceFailed`] if the read failed: no byte has come, and one failure more is counted.
     fn read(&mut self, into: &mut [u8]) -> Result<usize, SourceFailed>
         requires room { 0 < length into.old }
         requires countable { MayCount (seen self.old).failures }

@@ -1,4 +1,5 @@
-//! Reads and writes in as many calls as they take.
+//! Reads and writes in as many calls as they need: the loops of cd_read, cd_report, cd_image and
+//! the program.
 
 ghost use Rattle.std.specs.Prelude.{◌<◌};
 ghost use Rattle.cd_stream.specs.Transfer.{Fills, Sends};
@@ -12,7 +13,7 @@ use crate::source::{Source, SourceFailed};
 ///
 /// # Errors
 ///
-/// [`SourceFailed`] where a read failed. What came before stands at the front of `into`.
+/// [`SourceFailed`] if a read failed. What came before stands at the front of `into`.
 ///
 /// # Examples
 ///
@@ -37,11 +38,11 @@ pub fn fill<I: Source>(image: &mut I, into: &mut [u8]) -> Result<usize, SourceFa
     Ok(have)
 }
 
-/// Writes all of `bytes` in as many calls as it takes.
+/// Writes all of `bytes` in as many calls as it needs.
 ///
 /// # Errors
 ///
-/// [`SinkFailed`] where a write failed: a front of `bytes` has gone out, without the last.
+/// [`SinkFailed`] if a write failed: a front of `bytes` has gone out, without the last.
 ///
 /// # Examples
 ///

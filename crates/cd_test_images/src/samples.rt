@@ -11,8 +11,6 @@ pub enum Sample {
     Zeros(u32),
     /// The same, but for the user bytes from one offset up to another, which are of one value.
     Filled(u32, usize, usize, u8),
-    /// The consistent sector of a block, its user data of one value up to an offset and of another from there on.
-    Parted(u32, usize, u8, u8),
     /// The first, with a difference added to the byte at a place.
     Damaged(u32, usize, u8),
     /// The consistent sector with these bytes for its address, and user data as above.
@@ -41,9 +39,6 @@ pub fn sector_of(sample: &Sample) -> Sector {
         Sample::Zeros(block) => encoded_at(block, &[0; USER_SIZE]),
         Sample::Filled(block, first, end, value) => {
             encoded_at(block, &filled([0; USER_SIZE], first, end, value))
-        }
-        Sample::Parted(block, offset, value, next) => {
-            encoded_at(block, &filled([value; USER_SIZE], offset, USER_SIZE, next))
         }
         Sample::Damaged(block, place, difference) => {
             with_added(&encoded_at(block, &[0; USER_SIZE]), place, difference)

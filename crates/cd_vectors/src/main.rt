@@ -1,5 +1,5 @@
-//! Encodes the sectors of `cdrkit-8.bin` anew from their headers and user data, and tells of each whether it is
-//! byte for byte the sector that independent encoders wrote.
+//! Encodes the sectors of `cdrkit-8.bin` again from their headers and user data, and prints of each
+//! whether it is byte for byte the sector that independent encoders wrote.
 #![tactic(auto)]
 
 use cd_sector::{SECTOR_SIZE, Sector, encode};

@@ -1,9 +1,10 @@
-//! Patches that are accepted: each sector that they meet is the one that the encoding from scratch gives.
+//! Patches that are accepted: each sector that they meet is the one that the encoding from scratch gives. The worked cases
+//! (`tests/cases/applied.txt`) have many more.
 
 use super::calls::expect_row;
 use super::patching::{expect_plain, expect_sectors};
-use cd_test_images::Sample::{self, Addressed, Blank, Damaged, Filled, Mode, Parted, Zeros};
-use cd_test_images::{PLAIN, Row, Way, repeated, sector_of, with_bytes};
+use cd_test_images::Sample::{self, Blank, Damaged, Filled, Mode, Zeros};
+use cd_test_images::{Row, Way, repeated, sector_of, with_bytes};
 use std::test::Fail;
 
 const ONE: &str = "line 2: applied\napplied 1 refused 0\n";
@@ -43,108 +44,6 @@ fn bytes_over_three_blocks(rt: HostRuntime) -> Result<(), Fail> {
     expect_plain(rt.alloc(), &[put, filled])
 }
 
-/// Ranges at the borders of blocks.
-const AT_BORDERS: &[Row] = &[
-    Row {
-        script: "cdpatch 1\nfill 0 0 1 41",
-        out: &[Filled(0, 0, 1, 65), Zeros(1), Zeros(2)],
-        ..ON_THREE
-    },
-    Row {
-        script: "cdpatch 1\nfill 0 0 2048 41",
-        out: &[Filled(0, 0, 2048, 65), Zeros(1), Zeros(2)],
-        ..ON_THREE
-    },
-    Row {
-        script: "cdpatch 1\nfill 0 0 2049 41",
-        out: &[Filled(0, 0, 2048, 65), Filled(1, 0, 1, 65), Zeros(2)],
-        ..ON_THREE
-    },
-    Row {
-        script: "cdpatch 1\nfill 0 0 4096 41",
-        out: &[Filled(0, 0, 2048, 65), Filled(1, 0, 2048, 65), Zeros(2)],
-        ..ON_THREE
-    },
-    Row {
-        script: "cdpatch 1\nfill 0 1 2047 41",
-        out: &[Filled(0, 1, 2048, 65), Zeros(1), Zeros(2)],
-        ..ON_THREE
-    },
-    Row {
-        script: "cdpatch 1\nfill 0 1 2048 41",
-        out: &[Filled(0, 1, 2048, 65), Filled(1, 0, 1, 65), Zeros(2)],
-        ..ON_THREE
-    },
-    Row {
-        script: "cdpatch 1\nfill 0 1 4095 41",
-        out: &[Filled(0, 1, 2048, 65), Filled(1, 0, 2048, 65), Zeros(2)],
-        ..ON_THREE
-    },
-    Row {
-        script: "cdpatch 1\nfill 0 1 4096 41",
-        out: &[
-            Filled(0, 1, 2048, 65),
-            Filled(1, 0, 2048, 65),
-            Filled(2, 0, 1, 65),
-        ],
-        ..ON_THREE
-    },
-    Row {
-        script: "cdpatch 1\nfill 0 2046 2 41",
-        out: &[Filled(0, 2046, 2048, 65), Zeros(1), Zeros(2)],
-        ..ON_THREE
-    },
-    Row {
-        script: "cdpatch 1\nfill 0 2046 3 41",
-        out: &[Filled(0, 2046, 2048, 65), Filled(1, 0, 1, 65), Zeros(2)],
-        ..ON_THREE
-    },
-    Row {
-        script: "cdpatch 1\nfill 0 2047 1 41",
-        out: &[Filled(0, 2047, 2048, 65), Zeros(1), Zeros(2)],
-        ..ON_THREE
-    },
-    Row {
-        script: "cdpatch 1\nfill 0 2047 2 41",
-        out: &[Filled(0, 2047, 2048, 65), Filled(1, 0, 1, 65), Zeros(2)],
-        ..ON_THREE
-    },
-    Row {
-        script: "cdpatch 1\nfill 0 2047 2049 41",
-        out: &[Filled(0, 2047, 2048, 65), Filled(1, 0, 2048, 65), Zeros(2)],
-        ..ON_THREE
-    },
-    Row {
-        script: "cdpatch 1\nfill 0 2047 2050 41",
-        out: &[
-            Filled(0, 2047, 2048, 65),
-            Filled(1, 0, 2048, 65),
-            Filled(2, 0, 1, 65),
-        ],
-        ..ON_THREE
-    },
-    Row {
-        script: "cdpatch 1\nfill 1 2047 1 41",
-        out: &[Zeros(0), Filled(1, 2047, 2048, 65), Zeros(2)],
-        ..ON_THREE
-    },
-    Row {
-        script: "cdpatch 1\nfill 1 2047 2049 41",
-        out: &[Zeros(0), Filled(1, 2047, 2048, 65), Filled(2, 0, 2048, 65)],
-        ..ON_THREE
-    },
-    Row {
-        script: "cdpatch 1\nfill 2 2047 1 41",
-        out: &[Zeros(0), Zeros(1), Filled(2, 2047, 2048, 65)],
-        ..ON_THREE
-    },
-    Row {
-        script: "cdpatch 1\nfill 2 0 2048 41",
-        out: &[Zeros(0), Zeros(1), Filled(2, 0, 2048, 65)],
-        ..ON_THREE
-    },
-];
-
 const SIX: &[Sample] = &[Zeros(0), Zeros(1), Zeros(2), Zeros(3), Zeros(4), Zeros(5)];
 
 /// The lowest block first.
@@ -159,21 +58,6 @@ const LOWEST_FIRST: &[Row] = &[Row {
         Zeros(3),
         Filled(4, 2047, 2048, 66),
         Filled(5, 0, 1, 65),
-    ],
-}];
-
-/// Each patch meets three blocks, and the next one writes over the end of its bytes.
-const OVERLAPPING: &[Row] = &[Row {
-    script: "cdpatch 1\nfill 0 2047 4096 41\nfill 1 2047 4096 42\nfill 2 2047 4096 43\n",
-    image: SIX,
-    log: "line 2: applied\nline 3: applied\nline 4: applied\napplied 3 refused 0\n",
-    out: &[
-        Filled(0, 2047, 2048, 65),
-        Parted(1, 2047, 65, 66),
-        Parted(2, 2047, 66, 67),
-        Filled(3, 0, 2048, 67),
-        Filled(4, 0, 2047, 67),
-        Zeros(5),
     ],
 }];
 
@@ -211,39 +95,11 @@ const ONE_SECTOR: &[Row] = &[
     },
 ];
 
-/// Headers that are no address.
-const NO_ADDRESS: &[Row] = &[
-    Row {
-        script: "cdpatch 1\nset 0 2047 41\n",
-        image: &[Addressed([255, 0, 171], 0, 0, 0)],
-        log: ONE,
-        out: &[Addressed([255, 0, 171], 2047, 2048, 65)],
-    },
-    Row {
-        script: "cdpatch 1\nrebuild 0\n",
-        image: &[Addressed([255, 0, 171], 0, 0, 0)],
-        log: ONE,
-        out: &[Addressed([255, 0, 171], 0, 0, 0)],
-    },
-];
-
 /// Sectors made anew.
 const MADE_ANEW: &[Row] = &[
     Row {
         script: "cdpatch 1\nrebuild 0\n",
-        image: &[Damaged(0, 2351, 1)],
-        log: ONE,
-        out: &[Zeros(0)],
-    },
-    Row {
-        script: "cdpatch 1\nrebuild 0\n",
         image: &[Damaged(0, 16, 65)],
-        log: ONE,
-        out: &[Filled(0, 0, 1, 65)],
-    },
-    Row {
-        script: "cdpatch 1\nrebuild 0\n",
-        image: &[Filled(0, 0, 1, 65)],
         log: ONE,
         out: &[Filled(0, 0, 1, 65)],
     },
@@ -301,48 +157,9 @@ fn no_patches(rt: HostRuntime) -> Result<(), Fail> {
     Ok(())
 }
 
-const BEFORE_A_TAIL: Row = Row {
-    script: "cdpatch 1\nfill 0 0 2048 41\n",
-    image: &[Zeros(0), Zeros(1)],
-    log: ONE,
-    out: &[Filled(0, 0, 2048, 65), Zeros(1)],
-};
-
-/// A sector that a patch fills, and a tail of so many bytes.
-#[test]
-fn a_tail_behind_patched_sectors(rt: HostRuntime) -> Result<(), Fail> {
-    for size in [2353, 4399, 4703] {
-        expect_row(rt.alloc(), &BEFORE_A_TAIL, &Way { size, ..PLAIN })?;
-    }
-    Ok(())
-}
-
-const LARGEST_BASE: Row = Row {
-    script: "cdpatch 1\nset 449850 1 41\nset 449849 2047 4141\n",
-    image: &[Zeros(449_849), Zeros(0)],
-    log: "line 3: applied\nline 2: applied\napplied 2 refused 0\n",
-    out: &[Filled(449_849, 2047, 2048, 65), Filled(0, 0, 2, 65)],
-};
-
-#[test]
-fn the_largest_base(rt: HostRuntime) -> Result<(), Fail> {
-    let way = Way {
-        base: 449_849,
-        ..PLAIN
-    };
-    expect_row(rt.alloc(), &LARGEST_BASE, &way)
-}
-
 #[test]
 fn each_patch_alone_and_after_others(rt: HostRuntime) -> Result<(), Fail> {
-    for rows in [
-        AT_BORDERS,
-        LOWEST_FIRST,
-        OVERLAPPING,
-        ONE_SECTOR,
-        NO_ADDRESS,
-        MADE_ANEW,
-    ] {
+    for rows in [LOWEST_FIRST, ONE_SECTOR, MADE_ANEW] {
         expect_plain(rt.alloc(), rows)?;
     }
     Ok(())

@@ -5,11 +5,12 @@ use cd_read::read_sector;
 use cd_script::parse;
 use cd_sector::{SECTOR_SIZE, Sector, USER_SIZE, encode};
 use cd_stream::{
-    Buffered, FailAfter, FromRead, Line, Short, Sink, SinkFailed, SliceSink, SliceSource, Source,
-    ToWrite, ZeroSource, fill, write_all,
+    Buffered, Count, FailAfter, FromRead, Line, Short, Sink, SinkFailed, SliceSink, SliceSource,
+    Source, ToWrite, ZeroSource, fill, write_all,
 };
 use std::alloc::AllocError;
 use std::io;
+use std::mem::size_of;
 use std::test::Fail;
 
 #[test]
@@ -58,6 +59,14 @@ fn sinks(rt: HostRuntime) {
 }
 
 #[test]
+fn counts(rt: HostRuntime) {
+    let mut count = Count::zero();
+    count.add(3);
+    count.add(4); // 7 for a clause, and still no byte
+    assert_eq!(rt; size_of::<Count>(), 0);
+}
+
+#[test]
 fn lines_and_buffers(rt: HostRuntime) -> Result<(), AllocError> {
     let mut line = Line::new();
     line.push_text(b"sectors ");
@@ -68,6 +77,10 @@ fn lines_and_buffers(rt: HostRuntime) -> Result<(), AllocError> {
     let mut sink = ToWrite::new(&mut bytes);
     assert_eq!(rt; sink.write(b"abc"), Ok(3));
     assert_eq!(rt; bytes.as_slice(), b"abc".as_slice());
+
+    let mut sink = ToWrite::new(Vec::new(rt.alloc()));
+    assert_eq!(rt; sink.write(b"abc"), Ok(3));
+    assert_eq!(rt; sink.into_inner().as_slice(), b"abc".as_slice());
 
     let mut memory = [0; 4];
     let mut sink = Buffered::new(SliceSink::new(&mut memory), vec![in rt.alloc(); 0; 8]?);

@@ -2,6 +2,7 @@
 
 mod buffering;
 mod calls;
+mod errors;
 mod forms;
 mod one_call;
 mod std_streams;

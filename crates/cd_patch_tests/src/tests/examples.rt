@@ -9,7 +9,8 @@ use cd_patch::{Outcome, apply_patch, blocks_met};
 use cd_script::{Edit, ScriptFault, parse};
 use cd_sector::{
     EDC, HEADER, SECTOR_SIZE, Sector, SectorKind, USER_SIZE, address_of, defect, edc_bytes, encode,
-    fill_parity, is_consistent, kind, put_edc, put_part, same_defect, stored_edc, sum_of,
+    encode_into, fill_parity, is_consistent, kind, put_edc, put_part, rebuild, same_defect,
+    stored_edc, sum_of,
 };
 use std::simd::prelude::*;
 use std::test::Fail;
@@ -80,6 +81,10 @@ fn whole_sectors(rt: HostRuntime) {
     assert_eq!(rt; kind(&sector), SectorKind::Mode1);
     assert_eq!(rt; stored_edc(sector.bytes()), edc_of(&sector.bytes()[..EDC]));
 
+    let mut sector = Sector::from_bytes([0xFF; SECTOR_SIZE]);
+    encode_into(&mut sector, [0x00, 0x02, 0x00], &[0x41; USER_SIZE]);
+    assert!(rt; sector == encode([0x00, 0x02, 0x00], &[0x41; USER_SIZE]));
+
     let sector = encode([0x00, 0x02, 0x00], &[0x00; USER_SIZE]);
     assert_eq!(rt; kind(&sector), SectorKind::Mode1);
     assert_eq!(rt; kind(&Sector::default()), SectorKind::NoSync); // all 00
@@ -88,6 +93,13 @@ fn whole_sectors(rt: HostRuntime) {
     sector.put(12, 0x01);
     fill_parity(&mut sector);
     assert_eq!(rt; [sector.byte(2076), sector.byte(2162)], [0xF5, 0xF4]); // P of its column
+
+    let mut sector = encode([0x00, 0x02, 0x00], &[0x41; USER_SIZE]);
+    let sound = sector;
+    sector.put(2351, 0xFF); // the last byte of Q parity
+    assert_eq!(rt; kind(&sector), SectorKind::Mode1);
+    rebuild(&mut sector);
+    assert!(rt; sector == sound);
 
     let sector = Sector::from_bytes([0x0F; SECTOR_SIZE]);
     let other = Sector::from_bytes([0xFF; SECTOR_SIZE]);

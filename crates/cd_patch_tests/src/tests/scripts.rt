@@ -3,7 +3,6 @@
 mod accepted;
 mod faults;
 mod large;
-mod versions;
 
 use cd_script::{MAX_PATCHES, MAX_TEXT, ScriptFault, parse};
 use std::alloc::{AllocError, Global};

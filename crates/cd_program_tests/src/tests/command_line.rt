@@ -228,11 +228,11 @@ fn help_tells_of_the_options(rt: HostRuntime) -> Result<(), AllocError> {
         ("audit --help", "at most 449849"),
         ("check --help", "at most 449849"),
         ("apply --help", "at most 449849"),
-        ("check --help", "With --carry no sector"),
-        ("apply --help", "With --carry no sector"),
+        ("check --help", "With --carry patches on damaged sectors"),
+        ("apply --help", "With --carry patches on damaged sectors"),
     ];
     assert!(rt;
-        !helps(rt.alloc(), "list --help", "With --carry no sector")?,
+        !helps(rt.alloc(), "list --help", "With --carry patches on damaged sectors")?,
         "no --carry there"
     );
     expect_help(&rt, rt.alloc(), ROWS)

@@ -1,11 +1,13 @@
-//! The examples of the rustdoc of cd_command and cd_jobs.
+//! The examples of the rustdoc of cd_command, cd_jobs and cd_memory.
 
 use cd_command::{Job, LineFault, NO_MEMORY, job_of, refusal_line};
 use cd_image::{FailAfter, SliceSink, SliceSource, ToWrite, ZeroSource};
 use cd_jobs::{
-    System, do_words, load_script, read_script, run_apply, run_audit, run_check, run_list,
+    Host, System, do_words, load_script, read_script, run_apply, run_audit, run_check, run_list,
 };
+use cd_memory::{File, Memory, run_on_files};
 use cd_script::parse;
+use std::alloc::AllocError;
 use std::io;
 use std::test::Fail;
 
@@ -69,6 +71,32 @@ fn statuses(rt: HostRuntime) -> Result<(), Fail> {
     let (mut out, mut log) = (SliceSink::new(&mut space), ToWrite::new(io::sink()));
     let status = run_apply(&mut image, &script, 0, false, &mut out, &mut log);
     assert_eq!(rt; (status, out.written().len()), (1, 3)); // no block 0, and the tail goes out
+
+    Ok(())
+}
+
+#[test]
+fn files_in_memory(rt: HostRuntime) -> Result<(), AllocError> {
+    let name = String::from_str(rt.alloc(), "disc.bin")?;
+    let file = File::new(name, vec![in rt.alloc(); 0; 2352]?);
+    assert_eq!(rt; (file.name(), file.bytes().len()), ("disc.bin", 2352));
+
+    let alloc = rt.alloc();
+    let mut words = Vec::new(alloc);
+    for word in ["list", "disc.bin"] {
+        words.push(String::from_str(alloc, word)?)?;
+    }
+    let name = String::from_str(alloc, "disc.bin")?;
+    let files = Vec::from_array(alloc, [File::new(name, vec![in alloc; 0; 2353]?)])?;
+    let ended = run_on_files(alloc, words, &files, &[]);
+    assert_eq!(rt; ended.status, 0);
+    let text = b"0-0 nosync\nsectors 1 tail 1\n";
+    assert_eq!(rt; ended.text.as_slice(), text.as_slice());
+
+    let mut host = Memory::new(rt.alloc(), &[], b"abc");
+    assert!(rt; host.input_at("disc.bin").is_err()); // there is none
+    let made = host.output_at("new.bin").is_ok();
+    assert_eq!(rt; (made, host.into_made().len()), (true, 1)); // it has no bytes yet
 
     Ok(())
 }

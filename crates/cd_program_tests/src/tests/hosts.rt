@@ -61,6 +61,10 @@ impl<'a> Host for Memory<'a> {
         }
         Ok(ToWrite::new(Unflushed))
     }
+
+    fn take_back(&mut self, path: &str, _: ToWrite<Unflushed>) {
+        let _ = self.ask(" take back ", path);
+    }
 }
 
 /// Words, the number of the question that finds no memory, what is asked, the status, and what is printed.
@@ -173,14 +177,14 @@ fn questions_in_order(rt: HostRuntime) -> Result<(), AllocError> {
         Asking {
             words: "apply image script out",
             failing: 0,
-            asked: " read script read image make out",
+            asked: " read script read image make out take back out",
             status: 2,
             text: UNWRITTEN,
         },
         Asking {
             words: "apply - script out",
             failing: 0,
-            asked: " read script take make out",
+            asked: " read script take make out take back out",
             status: 2,
             text: UNWRITTEN,
         },

@@ -5,12 +5,16 @@ ghost use Rattle.cd_stream.specs.Stream.{MayCount};
 
 use crate::sink::{Sink, SinkFailed};
 
-/// Passes bytes on to another sink by the buffer: where a write finds no room, and at `finish`. Its
+/// Holds bytes back from another sink: they go out when a write finds no room, and at `finish`. Its
 /// space is as long as the bytes that it may hold back, so with a space of no bytes it passes on
 /// each write at once.
 ///
-/// A write or flush below that fails is a failure of the call that made it, and is not made again
-/// but by a further call. What it still holds when it is dropped is lost.
+/// A write or flush below that fails is a failure of the call that made it, and is made again only
+/// by a further call. What it still holds when it is dropped is lost.
+///
+/// It stands in the place of std's `BufWriter`. That one makes an interrupted write again, and a
+/// write that failed once more at a drop, and std's contract does not say which calls it makes
+/// below.
 #[derive(Debug, Drop)]
 pub struct Buffered<S> {
     inner: S,
@@ -26,7 +30,8 @@ pub struct Buffered<S> {
 impl<S: Sink> Buffered<S> {
     ghost use Rattle.std.specs.Prelude.{◌≡◌, ◌+◌, ◌<◌, ◌≤◌, [], ◌++◌, IfOk, false, length};
     ghost use Rattle.cd_stream.specs.Buffering.{PassesOn, buffered_outgoing, buffers, held_bytes};
-    ghost use Rattle.cd_stream.specs.Buffering.{held_alone, is_finished, room_behind, space_of};
+    ghost use Rattle.cd_stream.specs.Buffering.{held_alone, held_count, is_finished, room_behind};
+    ghost use Rattle.cd_stream.specs.Buffering.{space_of};
     ghost use Rattle.cd_stream.specs.Transfer.{Writes};
 
     /// Stands over `inner`, and holds back at most as many bytes as `space` has.
@@ -60,6 +65,7 @@ impl<S: Sink> Buffered<S> {
     fn hold(&mut self, bytes: &[u8])
         requires { length bytes.now ≤ room_behind self.old }
         ensures held { held_bytes self.new ≡ held_bytes self.old ++ bytes.now }
+        ensures count { held_count self.new ≡ held_count self.old + length bytes.now }
         ensures inner { buffers self.new ≡ buffers self.old }
         ensures space { space_of self.new ≡ space_of self.old }
         ensures room { room_behind self.new + length bytes.now ≡ room_behind self.old }
@@ -69,8 +75,9 @@ impl<S: Sink> Buffered<S> {
         self.end += bytes.len();
     }
 
-    /// Passes on all that it holds. Where a write fails, it still holds what that write and those
-    /// after it had to pass.
+    /// Passes on all that it holds. If a write fails, it still holds, from where it lies, what that
+    /// write and those after it had to pass; the room before it is used again only when all has
+    /// gone out.
     #[cold]
     #[inline(never)]
     fn pass_on(&mut self) -> Result<(), SinkFailed>
@@ -85,8 +92,8 @@ impl<S: Sink> Buffered<S> {
         Ok(())
     }
 
-    /// Takes bytes for which there was no room: passes on what it holds, and holds them then. More
-    /// than its space go to the sink below.
+    /// Writes bytes for which there was no room: passes on what it holds, and holds them then. Only
+    /// a write that is longer than its space goes straight to the sink below.
     #[cold]
     #[inline(never)]
     fn write_on(&mut self, bytes: &[u8]) -> Result<usize, SinkFailed>
@@ -107,7 +114,8 @@ impl<S: Sink> Buffered<S> {
     }
 }
 
-/// Writes `bytes` over those of `space` from `place` on.
+/// Proof step: writes `bytes` over those of `space` from `place` on, so that the bytes before and
+/// after are named in one clause.
 fn put_at(space: &mut [u8], place: usize, bytes: &[u8])
     requires { place + length bytes.now ≤ length space.old }
     ensures { space.new
@@ -117,18 +125,20 @@ fn put_at(space: &mut [u8], place: usize, bytes: &[u8])
 }
 
 impl<S: Sink> Sink for Buffered<S> {
-    ghost use Rattle.std.specs.Prelude.{◌≡◌, ◌-◌, ◌<◌, ◌≤◌, [], IfOk, IsOk, drop, length, take};
-    ghost use Rattle.std.specs.Prelude.{true};
+    ghost use Rattle.std.specs.Prelude.{◌≡◌, ◌-◌, ◌<◌, ◌≤◌, [], ◌&&◌, IfOk, IsOk, IsTrue, drop};
+    ghost use Rattle.std.specs.Prelude.{length, nat_eq, take, true};
     ghost use Rattle.std.specs.Io.KnownBytes.{append_known};
-    ghost use Rattle.cd_stream.specs.Buffering.{HoldsBack, buffered_outgoing, buffers, held_bytes};
-    ghost use Rattle.cd_stream.specs.Buffering.{held_after, room_behind, space_of};
+    ghost use Rattle.cd_stream.specs.Buffering.{HasPassedAll, HoldsBack, buffered_outgoing, buffers};
+    ghost use Rattle.cd_stream.specs.Buffering.{held_after, held_bytes, room_behind, space_of};
     ghost use Rattle.cd_stream.specs.Transfer.{Flushes, Writes};
 
     ghost seen = { λ s. record {
       written = append_known (S.seen s.inner).written
           (take (s.end - s.start) (drop s.start s.space.items));
+      taken = (S.seen s.inner).taken + (s.end - s.start);
+      flushes = (S.seen s.inner).flushes;
       failures = (S.seen s.inner).failures;
-      finished = s.finished;
+      finished = s.finished && (S.seen s.inner).finished && nat_eq s.start s.end;
     } };
 
     fn write(&mut self, bytes: &[u8]) -> Result<usize, SinkFailed>
@@ -167,8 +177,12 @@ impl<S: Sink> Sink for Buffered<S> {
         Ok(())
     }
 
-    fn finished(&self) -> bool {
-        self.finished
+    fn finished(&self) -> bool
+        ensures finished { result ≡ (buffered_outgoing S.seen self.now).finished }
+        ensures passed { IsTrue result → HasPassedAll S.seen self.now }
+    {
+        // The flag of its own, so that a new one over a finished sink is not finished.
+        self.finished && self.inner.finished() && self.start == self.end
     }
 
     fn failures(&self) -> u32 {

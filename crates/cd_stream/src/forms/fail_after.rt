@@ -6,7 +6,10 @@ ghost use Rattle.cd_stream.specs.Stream.{MayCount};
 use crate::sink::{Sink, SinkFailed};
 use crate::source::{Source, SourceFailed};
 
-/// Passes a number of bytes, and fails each call behind them.
+/// Passes a number of bytes, and fails each call after them, which leaves the inner source or sink
+/// as it was.
+///
+/// Its count of failures is the sum of the inner ones and its own, as far as 32 bits go.
 #[derive(Debug, Drop)]
 pub struct FailAfter<S> {
     inner: S,
@@ -63,6 +66,7 @@ impl<S: Source> Source for FailAfter<S> {
 
     ghost seen = { λ s. record {
       rest = (S.seen s.inner).rest;
+      given = (S.seen s.inner).given;
       failures = min ((S.seen s.inner).failures + s.own) 4294967295;
       ended = (S.seen s.inner).ended && nat_eq s.own 0;
     } };
@@ -73,16 +77,17 @@ impl<S: Source> Source for FailAfter<S> {
         ensures reads { Reads (failing_incoming S.seen self.old) (failing_incoming S.seen self.new)
             into.new result }
         ensures limit { still_passes self.old ≡ 0 → IsErr result }
+        ensures past { still_passes self.old ≡ 0 → fails_over self.new ≡ fails_over self.old }
         ensures within { 0 < still_passes self.old → Counts (S.seen (fails_over self.old)).failures
             (S.seen (fails_over self.new)).failures result }
         ensures left { IfOk result (λ n. still_passes self.new + n ≡ still_passes self.old) }
         ensures left_on_err { OnErr result (still_passes self.new ≡ still_passes self.old) }
     {
-        if self.left == 0 {
+        let n = self.left.min(into.len() as u64) as usize;
+        if n == 0 {
             self.own += 1;
             return Err(SourceFailed);
         }
-        let n = self.left.min(into.len() as u64) as usize;
         let n = self.inner.read(&mut into[..n])?;
         self.left -= n as u64;
         Ok(n)
@@ -100,6 +105,8 @@ impl<S: Sink> Sink for FailAfter<S> {
 
     ghost seen = { λ s. record {
       written = (S.seen s.inner).written;
+      taken = (S.seen s.inner).taken;
+      flushes = (S.seen s.inner).flushes;
       failures = min ((S.seen s.inner).failures + s.own) 4294967295;
       finished = s.finished;
     } };
@@ -110,17 +117,18 @@ impl<S: Sink> Sink for FailAfter<S> {
         ensures writes { Writes (failing_outgoing S.seen self.old)
             (failing_outgoing S.seen self.new) bytes.now result }
         ensures limit { still_passes self.old ≡ 0 → IsErr result }
+        ensures past { still_passes self.old ≡ 0 → fails_over self.new ≡ fails_over self.old }
         ensures within { 0 < still_passes self.old → Counts (S.seen (fails_over self.old)).failures
             (S.seen (fails_over self.new)).failures result }
         ensures left { IfOk result (λ n. still_passes self.new + n ≡ still_passes self.old) }
         ensures left_on_err { OnErr result (still_passes self.new ≡ still_passes self.old) }
     {
         self.finished = false;
-        if self.left == 0 {
+        let n = self.left.min(bytes.len() as u64) as usize;
+        if n == 0 {
             self.own += 1;
             return Err(SinkFailed);
         }
-        let n = self.left.min(bytes.len() as u64) as usize;
         let n = self.inner.write(&bytes[..n])?;
         self.left -= n as u64;
         Ok(n)
@@ -131,6 +139,7 @@ impl<S: Sink> Sink for FailAfter<S> {
         ensures flushes { Flushes (failing_outgoing S.seen self.old)
             (failing_outgoing S.seen self.new) result }
         ensures limit { still_passes self.old ≡ 0 → IsErr result }
+        ensures past { still_passes self.old ≡ 0 → fails_over self.new ≡ fails_over self.old }
         ensures within { 0 < still_passes self.old
             → Flushes (S.seen (fails_over self.old)) (S.seen (fails_over self.new)) result }
         ensures left { still_passes self.new ≡ still_passes self.old }

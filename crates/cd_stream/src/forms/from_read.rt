@@ -2,13 +2,20 @@
 
 ghost use Rattle.std.specs.Prelude.{◌≡◌, false};
 
+use crate::count::Count;
 use crate::source::{Source, SourceFailed};
 use std::io::Read;
 
-/// Gives the bytes of a reader. Each error is a failure, also one that a reader would try again.
+/// Gives the bytes of a reader. Each error is a failure, an interrupted read too, and nothing is
+/// tried again.
+///
+/// Of an `Err` std's contract says only that no known byte moved. So no clause says that it fails
+/// only if the reader does, nor that a call is one call of the reader: tests with readers that
+/// count their calls show it.
 #[derive(Debug, Drop)]
 pub struct FromRead<R> {
     reader: R,
+    given: Count,
     failures: u32,
     ended: bool,
 }
@@ -26,10 +33,11 @@ impl<R: Read> FromRead<R> {
     /// ```
     pub fn new(reader: R) -> Self
         ensures { ⟦<FromRead<R> as Source>⟧.seen result
-            ≡ record { rest = R.remaining reader; failures = 0; ended = false } }
+            ≡ record { rest = R.remaining reader; given = 0; failures = 0; ended = false } }
     {
         FromRead {
             reader,
+            given: Count::zero(),
             failures: 0,
             ended: false,
         }
@@ -39,6 +47,7 @@ impl<R: Read> FromRead<R> {
 impl<R: Read> Source for FromRead<R> {
     ghost seen = { λ s. record {
       rest = R.remaining s.reader;
+      given = s.given;
       failures = s.failures;
       ended = s.ended;
     } };
@@ -46,6 +55,7 @@ impl<R: Read> Source for FromRead<R> {
     fn read(&mut self, into: &mut [u8]) -> Result<usize, SourceFailed> {
         match self.reader.read(into) {
             Ok(n) => {
+                self.given.add(n);
                 self.ended = n == 0;
                 Ok(n)
             }

@@ -6,8 +6,8 @@ ghost use Rattle.cd_stream.specs.Stream.{MayCount};
 use crate::sink::{Sink, SinkFailed};
 use crate::source::{Source, SourceFailed};
 
-/// Passes at most a number of bytes in each call. Its count of failures is that of what it stands
-/// over.
+/// Passes at most a number of bytes in each call. Its count of failures is that of the inner source
+/// or sink.
 #[derive(Debug, Drop)]
 pub struct Short<S> {
     inner: S,
@@ -20,7 +20,8 @@ impl<S> Short<S> {
     ghost use Rattle.std.specs.Prelude.{◌≡◌, false, max};
     ghost use Rattle.cd_stream.specs.Forms.{passes_at_most, short_finished, shortens};
 
-    /// Stands over `inner`, and passes at most `most` bytes a call: 1 where that is 0.
+    /// Stands over `inner`, and passes at most `most` bytes a call: 1 if that is 0, since a call
+    /// has to move one.
     ///
     /// # Examples
     ///
@@ -83,6 +84,8 @@ impl<S: Sink> Sink for Short<S> {
 
     ghost seen = { λ s. record {
       written = (S.seen s.inner).written;
+      taken = (S.seen s.inner).taken;
+      flushes = (S.seen s.inner).flushes;
       failures = (S.seen s.inner).failures;
       finished = s.finished;
     } };

@@ -3,13 +3,19 @@
 ghost use Rattle.std.specs.Prelude.{◌≡◌, ◌≤◌, [], Some, false, length, take};
 ghost use Rattle.cd_stream.specs.Stream.{MayCount};
 
+use crate::count::Count;
 use crate::sink::{Sink, SinkFailed};
 
-/// Writes to the front of a slice, and fails where that is full.
+/// Writes to the front of a slice, and fails if that is full.
+///
+/// Its own `write` and `finish` promise that it still stands over the same slice. A call that takes
+/// any sink (`write_all`, `Short`, `FailAfter`) promises only what [`Sink`] does, which names no
+/// slice: there [`SliceSink::written`] gives the bytes.
 #[derive(Debug, Drop)]
 pub struct SliceSink<'a> {
     space: &'a mut [u8],
     used: usize,
+    flushes: Count,
     failures: u32,
     finished: bool,
     ghost within: { used ≤ length space.now },
@@ -31,7 +37,13 @@ impl<'a> SliceSink<'a> {
     /// ```
     pub fn new(space: &'a mut [u8]) -> Self
         ensures seen { ⟦<SliceSink<'a> as Sink>⟧.seen result
-            ≡ record { written = Some []; failures = 0; finished = false } }
+            ≡ record {
+              written = Some [];
+              taken = 0;
+              flushes = 0;
+              failures = 0;
+              finished = false;
+            } }
         ensures room { room_of result ≡ length space.entry.now }
         ensures rest { rest_of_slice result ≡ space.entry.now }
         ensures same_slice { stands_over result ≡ space.entry.ghost_name }
@@ -39,6 +51,7 @@ impl<'a> SliceSink<'a> {
         SliceSink {
             space,
             used: 0,
+            flushes: Count::zero(),
             failures: 0,
             finished: false,
         }
@@ -62,6 +75,8 @@ impl Sink for SliceSink<'_> {
 
     ghost seen = { λ s. record {
       written = Some (take s.used s.space.now);
+      taken = s.used;
+      flushes = s.flushes;
       failures = s.failures;
       finished = s.finished;
     } };
@@ -98,6 +113,7 @@ impl Sink for SliceSink<'_> {
         ensures rest { rest_of_slice self.new ≡ rest_of_slice self.old }
         ensures same_slice { stands_over self.new ≡ stands_over self.old }
     {
+        self.flushes.add(1);
         self.finished = true;
         Ok(())
     }

@@ -2,12 +2,14 @@
 
 ghost use Rattle.std.specs.Prelude.{◌≡◌, Some, false};
 
+use crate::count::Count;
 use crate::source::{Source, SourceFailed};
 
 /// Gives the bytes of a slice, and never fails.
 #[derive(Debug, Drop)]
 pub struct SliceSource<'a> {
     rest: &'a [u8],
+    given: Count,
     ended: bool,
 }
 
@@ -24,10 +26,11 @@ impl<'a> SliceSource<'a> {
     /// ```
     pub fn new(bytes: &'a [u8]) -> Self
         ensures { ⟦<SliceSource<'a> as Source>⟧.seen result
-            ≡ record { rest = Some bytes.entry.now; failures = 0; ended = false } }
+            ≡ record { rest = Some bytes.entry.now; given = 0; failures = 0; ended = false } }
     {
         SliceSource {
             rest: bytes,
+            given: Count::zero(),
             ended: false,
         }
     }
@@ -38,7 +41,12 @@ impl Source for SliceSource<'_> {
     ghost use Rattle.cd_stream.specs.Forms.{slice_incoming};
     ghost use Rattle.cd_stream.specs.Transfer.{Reads};
 
-    ghost seen = { λ s. record { rest = Some s.rest.now; failures = 0; ended = s.ended } };
+    ghost seen = { λ s. record {
+      rest = Some s.rest.now;
+      given = s.given;
+      failures = 0;
+      ended = s.ended;
+    } };
 
     fn read(&mut self, into: &mut [u8]) -> Result<usize, SourceFailed>
         requires { 0 < length into.old }
@@ -49,6 +57,7 @@ impl Source for SliceSource<'_> {
         let (front, rest) = self.rest.split_at(n);
         into[..n].copy_from_slice(front);
         self.rest = rest;
+        self.given.add(n);
         self.ended = n == 0;
         Ok(n)
     }

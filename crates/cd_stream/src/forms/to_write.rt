@@ -2,13 +2,21 @@
 
 ghost use Rattle.std.specs.Prelude.{◌≡◌, false};
 
+use crate::count::Count;
 use crate::sink::{Sink, SinkFailed};
 use std::io::Write;
 
-/// Passes its bytes to a writer. An error is a failure, and so is a write that takes no byte.
+/// Passes its bytes to a writer. An error is a failure, an interrupted write too, and so is a write
+/// that accepts no byte.
+///
+/// Of an `Err` std's contract says only that no known byte moved. So tests with writers that count
+/// their calls show that it fails only if the writer does, and that a call is one call of the
+/// writer.
 #[derive(Debug, Drop)]
 pub struct ToWrite<W> {
     writer: W,
+    taken: Count,
+    flushes: Count,
     failures: u32,
     finished: bool,
 }
@@ -26,19 +34,44 @@ impl<W: Write> ToWrite<W> {
     /// ```
     pub fn new(writer: W) -> Self
         ensures { ⟦<ToWrite<W> as Sink>⟧.seen result
-            ≡ record { written = W.contents writer; failures = 0; finished = false } }
+            ≡ record {
+              written = W.contents writer;
+              taken = 0;
+              flushes = 0;
+              failures = 0;
+              finished = false;
+            } }
     {
         ToWrite {
             writer,
+            taken: Count::zero(),
+            flushes: Count::zero(),
             failures: 0,
             finished: false,
         }
+    }
+
+    /// The writer that it stands over.
+    ///
+    /// # Examples
+    ///
+    /// ```
+    /// let mut sink = ToWrite::new(Vec::new(rt.alloc()));
+    /// assert_eq!(rt; sink.write(b"abc"), Ok(3));
+    /// assert_eq!(rt; sink.into_inner().as_slice(), b"abc".as_slice());
+    /// ```
+    pub fn into_inner(self) -> W
+        ensures { W.contents result ≡ (⟦<ToWrite<W> as Sink>⟧.seen self).written }
+    {
+        self.writer
     }
 }
 
 impl<W: Write> Sink for ToWrite<W> {
     ghost seen = { λ s. record {
       written = W.contents s.writer;
+      taken = s.taken;
+      flushes = s.flushes;
       failures = s.failures;
       finished = s.finished;
     } };
@@ -46,7 +79,10 @@ impl<W: Write> Sink for ToWrite<W> {
     fn write(&mut self, bytes: &[u8]) -> Result<usize, SinkFailed> {
         self.finished = false;
         match self.writer.write(bytes) {
-            Ok(n) if n > 0 => Ok(n),
+            Ok(n) if n > 0 => {
+                self.taken.add(n);
+                Ok(n)
+            }
             _ => {
                 self.failures += 1;
                 Err(SinkFailed)
@@ -55,6 +91,7 @@ impl<W: Write> Sink for ToWrite<W> {
     }
 
     fn finish(&mut self) -> Result<(), SinkFailed> {
+        self.flushes.add(1);
         self.finished = self.writer.flush().is_ok();
         if !self.finished {
             self.failures += 1;

@@ -2,12 +2,14 @@
 
 ghost use Rattle.std.specs.Prelude.{◌≡◌, Some, false, replicate};
 
+use crate::count::Count;
 use crate::source::{Source, SourceFailed};
 
 /// Gives a number of bytes `00`, and never fails.
 #[derive(Debug, Drop)]
 pub struct ZeroSource {
     left: u64,
+    given: Count,
     ended: bool,
 }
 
@@ -23,10 +25,11 @@ impl ZeroSource {
     /// ```
     pub fn new(count: u64) -> Self
         ensures { ⟦<ZeroSource as Source>⟧.seen result
-            ≡ record { rest = Some (replicate count 0); failures = 0; ended = false } }
+            ≡ record { rest = Some (replicate count 0); given = 0; failures = 0; ended = false } }
     {
         ZeroSource {
             left: count,
+            given: Count::zero(),
             ended: false,
         }
     }
@@ -39,6 +42,7 @@ impl Source for ZeroSource {
 
     ghost seen = { λ s. record {
       rest = Some (replicate s.left 0);
+      given = s.given;
       failures = 0;
       ended = s.ended;
     } };
@@ -51,6 +55,7 @@ impl Source for ZeroSource {
         let n = self.left.min(into.len() as u64);
         into[..n as usize].fill(0);
         self.left -= n;
+        self.given.add(n as usize);
         self.ended = n == 0;
         Ok(n as usize)
     }

@@ -8,7 +8,8 @@ pub loop-row-preserved : goal.loop-row-preserved
 loop-row-preserved c =
     let rows = c.args.rows.now in
     let k = c.loop-row.row-index in
-    c.with_row-lanes.ensures (column_of_rows (take k rows)) (column_of_rows (take (k + 1) rows)) c.loop-row.invariant
+    c.with_row-lanes.ensures (column_of_rows (take k rows))
+    (column_of_rows (take (k + 1) rows)) c.loop-row.invariant
     (λ n h. column_of_rows-more rows _ k n c.loop-row-test.true)
 
 pub returns : goal.returns

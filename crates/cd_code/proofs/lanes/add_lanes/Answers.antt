@@ -9,7 +9,9 @@ pub returns-clause-added : goal.returns-clause-added
 returns-clause-added c =
     let sums = c.args.sums.now in
     let lanes = chunk c.args.at 32 sums in
-    lanes_added (λ x. x) c.args.at 32 sums c.args.row.now lanes c.requires.within_sums c.requires.within_row (sym (map-id lanes))
+    lanes_added (λ x.
+    x) c.args.at 32 sums c.args.row.now lanes c.requires.within_sums c.requires.within_row
+    (sym (map-id lanes))
 
 pub returns-clause-below : goal.returns-clause-below
 returns-clause-below c =

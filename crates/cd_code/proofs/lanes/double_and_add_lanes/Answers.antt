@@ -12,11 +12,13 @@ returns-clause-added c =
     c.requires.within_sums c.requires.within_row c.doubled_lanes.ensures
 
 pub returns-clause-below : goal.returns-clause-below
-returns-clause-below c = lanes_below c.args.at 32 c.args.sums.now c.args.row.now c.doubled_lanes.result
+returns-clause-below c =
+    lanes_below c.args.at 32 c.args.sums.now c.args.row.now c.doubled_lanes.result
 
 pub returns-clause-above : goal.returns-clause-above
 returns-clause-above c =
     let sums = c.args.sums.now in
     let long : length c.doubled_lanes.result ≡ 32 =
-    ap length c.doubled_lanes.ensures ∙ length-map (chunk c.args.at 32 sums) double ∙ length-chunk c.args.at 32 sums c.requires.within_sums in
+    ap length c.doubled_lanes.ensures ∙ length-map (chunk c.args.at 32 sums) double
+    ∙ length-chunk c.args.at 32 sums c.requires.within_sums in
     lanes_above c.args.at 32 sums c.args.row.now c.doubled_lanes.result c.requires.within_row long

@@ -16,8 +16,10 @@ loop-byte-preserved c =
     let longer : take (i + 1) v ≡ take i v ++ x ∷ [] = take_more v i 0 (omega arith) in
     record {
       plain =
-          ap (λ z. bit_xor z x) c.loop-byte.invariant.plain ∙ sym (ap first_syndrome longer ∙ first_syndrome-push (take i v) x);
+          ap (λ z. bit_xor z x) c.loop-byte.invariant.plain
+          ∙ sym (ap first_syndrome longer ∙ first_syndrome-push (take i v) x);
       weighted =
           ap (λ z. bit_xor z x) (c.doubled.ensures ∙ ap double c.loop-byte.invariant.weighted)
-          ∙ sym (ap second_syndrome longer ∙ second_syndrome-push (take i v) x (c.type_inv.v i).fits);
+          ∙ sym (ap second_syndrome longer
+          ∙ second_syndrome-push (take i v) x (c.type_inv.v i).fits);
     }

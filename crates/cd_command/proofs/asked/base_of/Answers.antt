@@ -9,26 +9,36 @@ use Rattle.cd_command.proofs.asked.base_of.Goals as goal
 
 pub unwrap-requires : goal.unwrap-requires
 unwrap-requires c =
-    let text : one_text (found_of c.args.matches.now) (codes "base") ≡ Some (without_minus c.requires.text) =
+    let text : one_text (found_of c.args.matches.now) (codes "base")
+    ≡ Some (without_minus c.requires.text) =
     one_text-rows (found_of c.args.matches.now) (codes "base") ∙ c.requires.read in
-    let got = signed_reads _ (λ bs r. ParsesUnsigned 32 10 bs r × ExplainsUnsignedError 10 bs r × HasUnsignedDigitsIfOk bs r) 32 0 max_base c.requires.text c.get_one.result
-    (c.get_one.ensures.value (without_minus c.requires.text) text) (λ u x g. g.0) (omega arith) c.requires.accepted in
+    let got =
+    signed_reads _ (λ bs r. ParsesUnsigned 32 10 bs r × ExplainsUnsignedError 10 bs r
+    × HasUnsignedDigitsIfOk bs r) 32 0 max_base c.requires.text c.get_one.result
+    (c.get_one.ensures.value (without_minus c.requires.text) text) (λ u x g. g.0)
+    (omega arith) c.requires.accepted in
     rw got.1 refl
 
 pub returns-clause-value : goal.returns-clause-value
 returns-clause-value c =
-    let text : one_text (found_of c.args.matches.now) (codes "base") ≡ Some (without_minus c.requires.text) =
+    let text : one_text (found_of c.args.matches.now) (codes "base")
+    ≡ Some (without_minus c.requires.text) =
     one_text-rows (found_of c.args.matches.now) (codes "base") ∙ c.requires.read in
     let one = c.get_one.ensures.value (without_minus c.requires.text) text in
     let read = rw c.unwrap.ensures at one in
-    ap (option_map (λ (t : Text). digits_value 10 (without_leading_plus t))) c.requires.read ∙ ap (λ (n : ℕ). Some n) (sym read.0.1)
+    ap (option_map (λ (t : Text). digits_value 10 (without_leading_plus t))) c.requires.read
+    ∙ ap (λ (n : ℕ). Some n) (sym read.0.1)
 
 pub returns-clause-most : goal.returns-clause-most
 returns-clause-most c =
-    let text : one_text (found_of c.args.matches.now) (codes "base") ≡ Some (without_minus c.requires.text) =
+    let text : one_text (found_of c.args.matches.now) (codes "base")
+    ≡ Some (without_minus c.requires.text) =
     one_text-rows (found_of c.args.matches.now) (codes "base") ∙ c.requires.read in
-    let got = signed_reads _ (λ bs r. ParsesUnsigned 32 10 bs r × ExplainsUnsignedError 10 bs r × HasUnsignedDigitsIfOk bs r) 32 0 max_base c.requires.text c.get_one.result
-    (c.get_one.ensures.value (without_minus c.requires.text) text) (λ u x g. g.0) (omega arith) c.requires.accepted in
+    let got =
+    signed_reads _ (λ bs r. ParsesUnsigned 32 10 bs r × ExplainsUnsignedError 10 bs r
+    × HasUnsignedDigitsIfOk bs r) 32 0 max_base c.requires.text c.get_one.result
+    (c.get_one.ensures.value (without_minus c.requires.text) text) (λ u x g. g.0)
+    (omega arith) c.requires.accepted in
     let is = got.1 in
     let same : c.unwrap.result ≡ got.0 = cc (is, c.unwrap.ensures) in
     rw same got.3

@@ -7,6 +7,7 @@ use Rattle.cd_command.proofs.asked.carry_of.Goals as goal
 
 pub returns : goal.returns
 returns c =
-    let read : option_map (λ s. s.now) c.get_str.result ≡ first_of (codes "carry") (rows_of (found_of c.args.matches.now)) =
+    let read : option_map (λ s. s.now) c.get_str.result
+    ≡ first_of (codes "carry") (rows_of (found_of c.args.matches.now)) =
     c.get_str.ensures ∙ first_value-rows (found_of c.args.matches.now) (codes "carry") in
     c.is_set.ensures ∙ ap is_set read

@@ -10,10 +10,15 @@ returns-clause-shape c =
     let image = text_rule (codes "image") in
     let reads = shape-with (Ok c.described.result) c.with_argument-command.result _ image bare
     c.described.ensures.shape c.with_argument-command.ensures.shape c.image_argument.ensures.rule in
-    shape-with c.with_argument-command.result c.with_argument.result _ base_rule (with_rule bare image)
+    shape-with c.with_argument-command.result c.with_argument.result _ base_rule
+    (with_rule bare image)
     reads c.with_argument.ensures.shape c.base_argument.ensures.rule
 
 pub returns-clause-local : goal.returns-clause-local
 returns-clause-local c =
-    let reads = local-with (Ok c.described.result) c.with_argument-command.result c.described.ensures.local c.with_argument-command.ensures.local in
-    local-with c.with_argument-command.result c.with_argument.result reads c.with_argument.ensures.local
+    let reads =
+    local-with
+    (Ok c.described.result) c.with_argument-command.result c.described.ensures.local
+    c.with_argument-command.ensures.local in
+    local-with c.with_argument-command.result c.with_argument.result reads
+    c.with_argument.ensures.local

@@ -17,10 +17,14 @@ pub returns : goal.returns
 returns c =
     let told : app_of c.after_help.result ≡ new_app (codes "cdpatch") =
     ap app_of_fields c.after_help.ensures ∙ ap app_of_fields c.about.ensures ∙ c.new.ensures.app in
-    let nameless : app_of c.no_binary_name.result ≡ without_binary_name (new_app (codes "cdpatch")) =
+    let nameless : app_of c.no_binary_name.result
+    ≡ without_binary_name (new_app (codes "cdpatch")) =
     ap app_of_fields c.no_binary_name.ensures ∙ ap without_binary_name told in
-    let helpless : app_of c.disable_help_subcommand.result ≡ without_help (without_binary_name (new_app (codes "cdpatch"))) =
+    let helpless : app_of c.disable_help_subcommand.result
+    ≡ without_help (without_binary_name (new_app (codes "cdpatch"))) =
     ap app_of_fields c.disable_help_subcommand.ensures ∙ ap without_help nameless in
-    let required : app_of c.subcommand_required.result ≡ with_required (without_help (without_binary_name (new_app (codes "cdpatch")))) =
+    let required : app_of c.subcommand_required.result
+    ≡ with_required (without_help (without_binary_name (new_app (codes "cdpatch")))) =
     ap app_of_fields c.subcommand_required.ensures ∙ ap with_required helpless in
-    IfOk-weaker c.bin_name.result _ _ (λ d named. ap app_of_fields named.0 ∙ required) c.bin_name.ensures
+    IfOk-weaker c.bin_name.result _ _
+    (λ d named. ap app_of_fields named.0 ∙ required) c.bin_name.ensures

@@ -1,14 +1,14 @@
-use Rattle.std.proofs.Common.{◌≡◌, sym, ◌∙◌, arith, rules}
-use Rattle.cd_delta.specs.ParityChanges.{parity_places}
-use Rattle.cd_delta.proofs.AddLemmas.{places_of}
+use Rattle.std.proofs.Common.{sym, ◌∙◌, arith, rules}
+use Rattle.cd_delta.specs.declared.changes.Change.{Change}
 use Rattle.cd_delta.proofs.AmountLemmas.{alone-carried, nonzero-carried}
-use Rattle.cd_delta.proofs.KeepLemmas.{AreCarried, Balances-at, Eight, SameSyndromes-carried, listed, parity_places-carried, parity_places-at, place_of-place, IsDistinct-carried}
+use Rattle.cd_delta.proofs.KeepLemmas.{AreCarried, Balances-at, Eight, IsDistinct-carried}
+use Rattle.cd_delta.proofs.KeepLemmas.{SameSyndromes-carried, parity_places-carried}
 use Rattle.cd_delta.proofs.changes.parity_changes.Goals as goal
 
 -- one record of all that the helpers ensure serves three clauses
 pub returns : goal.returns
 returns c =
-    let place = c.args.place in
+    let byte : Change = record { place = c.args.place; d = c.args.d } in
     let cell = c.cell_of-cell.result in
     let eight : Eight =
     record {
@@ -17,12 +17,15 @@ returns c =
       first = c.diagonal_changes-2.result;
       second = c.diagonal_changes-3.result;
     } in
-    let at = place_of-place place c.requires.from in
-    let all : AreCarried cell.plane cell.row cell.column place c.args.d eight =
+    let all : AreCarried byte eight =
     record {
+      plane = cell.plane;
+      row = cell.row;
+      column = cell.column;
       in_plane = omega arith;
       in_rows = omega arith;
       in_columns = omega arith;
+      in_bytes = omega arith;
       place_at = omega arith;
       of_column = record {
         first_at = c.column_changes.ensures.first;
@@ -53,15 +56,13 @@ returns c =
         bytes = (omega arith, omega arith);
       };
     } in
-    let places : places_of (listed eight) ≡ parity_places place =
-    parity_places-carried cell.plane cell.row cell.column place c.args.d eight all
-    ∙ parity_places-at place cell.plane cell.row cell.column c.cell_of-cell.ensures.plane c.cell_of-cell.ensures.row c.cell_of-cell.ensures.column in
+    let places = parity_places-carried all in
     record {
       places = places;
       inside = search rules;
-      distinct = IsDistinct-carried cell.plane cell.row cell.column place c.args.d eight all;
-      keeps = SameSyndromes-carried cell.plane cell.row cell.column place c.args.d eight all;
+      distinct = IsDistinct-carried all;
+      keeps = SameSyndromes-carried all;
       alone = λ others at low s each size kept.
-          alone-carried cell.plane cell.row cell.column place c.args.d eight all (omega arith) others (at ∙ sym places) low s each size kept;
-      nonzero = nonzero-carried cell.plane cell.row cell.column place c.args.d eight all;
+          alone-carried all others (at ∙ sym places) low s each size kept;
+      nonzero = nonzero-carried all;
     }

@@ -21,7 +21,8 @@ fn answers<S: Sink>(sink: &mut S, call: Call) -> bool {
     }
 }
 
-fn fails(call: Call) -> bool {
+/// Whether the call fails.
+pub fn fails(call: Call) -> bool {
     match call {
         Call::Write(_, due) => due.is_err(),
         Call::Finish(due) => due.is_err(),

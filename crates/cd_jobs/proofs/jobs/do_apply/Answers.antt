@@ -16,11 +16,12 @@ pub returns : goal.returns
 returns g c =
     DoesApply.applied c.in-Ok.script c.script_at.new.host (g.L.Sink.seen c.script_at.new.log) c.in-Ok.ensures.takes
     c.in-Ok-image_at.input c.image_at.new.host c.in-Ok-image_at.ensures.asked
-    c.in-Ok-output_at.output c.in-Ok-output_at.ensures.gives
+    c.in-Ok-output_at.output c.output_at.new.self c.in-Ok-output_at.ensures.gives
     (record {
       left = c.run_apply-status.new.image;
       made = c.run_apply-status.new.out;
       runs = c.run_apply-status.ensures.report;
       last = c.pass_on_rest.new.out;
       rest = c.pass_on_rest.ensures;
+      back = c.take_back.ensures;
     })

@@ -1,6 +1,6 @@
 use Rattle.std.proofs.Common.{Ok, Err, ap, refl, ◌∙◌}
 use Rattle.cd_jobs.specs.Run.{script_status}
-use Rattle.cd_jobs.proofs.RunLemmas.{fault-counts, one-more}
+use Rattle.cd_jobs.proofs.RunLemmas.{Applies-unended, fault-counts, one-more}
 use Rattle.cd_jobs.proofs.run.run_apply.Goals as goal
 
 pub returns-in-Ok-clause-log : goal.returns-in-Ok-clause-log
@@ -14,7 +14,10 @@ returns-in-Err-clause-failed g c = λ failed.
     (λ is. one-more (c.in-Err.ensures.read_failed.0 (ap Err is)))
     (λ is. one-more (c.in-Err.ensures.write_failed.0 (ap Err is)))
     (λ is. one-more (ap (λ o. o.failures) (c.end_by.ensures.line.0 is) ∙ c.in-Err.ensures.log_failed.0 (ap Err is)))
-    (λ is bytes left coming stays. (c.in-Err.ensures.too_long bytes left coming stays).0 (ap Err is))
+    (λ is. record {
+      unended = Applies-unended c.in-Err.ensures.report is;
+      beyond = λ bytes left coming stays. (c.in-Err.ensures.too_long bytes left coming stays).0 (ap Err is);
+    })
 
 pub returns-in-Ok-clause-report : goal.returns-in-Ok-clause-report
 returns-in-Ok-clause-report g c =

@@ -1,4 +1,5 @@
-use Rattle.std.proofs.Common.{◌≡◌, [], arith, refl, subst, take, ◌∙◌, append-nil}
+use Rattle.std.proofs.Common.{◌≡◌, [], ap, arith, nat_eq, refl, subst, take, ◌∙◌, append-nil}
+use Rattle.std.proofs.lemmas.Bool.{ne_eqb}
 use Rattle.std.specs.Io.KnownBytes.{Consumes}
 use Rattle.std.proofs.KnownBytes.{Consumes-trans}
 use Rattle.std.proofs.Math.ListN.{length-take}
@@ -15,7 +16,15 @@ returns-then-n-eq0 g c =
     record {
       read = c.loop-bytes.bytes.items;
       consumes = subst (Consumes _ _) (append-nil _) (Consumes-trans _ _ _ c.loop-bytes.bytes.items [] before.consumed last);
-      answers = (refl, record { reads = c.in_ok-n.ensures.count ∙ before.counted; at_end = came.2 none; within = before.within });
+      answers = (
+        refl,
+        record {
+          reads = c.in_ok-n.ensures.count ∙ before.counted;
+          at_end = came.2 none;
+          ended = c.in_ok-n.ensures.ended ∙ ap (λ k. nat_eq k 0) none;
+          within = before.within;
+        },
+      );
     }
 
 pub returns-then-n-left : goal.returns-then-n-left
@@ -25,8 +34,11 @@ returns-then-n-left g c =
     let count = length-with_last c.loop-bytes.bytes.items c.read.new.into c.in_ok-n.n came.0 in
     let room = length-take c.min-room.result c.loop-bytes.chunk in
     Gathers-stopped _ _ (g.I.Source.seen c.loop-bytes.file) _ TooLong
-    c.loop-bytes.bytes.items (take c.in_ok-n.n c.read.new.into) before.consumed came.1
-    (c.in_ok-n.ensures.count ∙ before.counted, omega (arith, count, came.0, room))
+    c.loop-bytes.bytes.items (take c.in_ok-n.n c.read.new.into) before.consumed came.1 (
+      c.in_ok-n.ensures.count ∙ before.counted,
+      c.in_ok-n.ensures.ended ∙ ne_eqb c.in_ok-n.n 0 c.if-n-eq0.false,
+      omega (arith, count, came.0, room),
+    )
 
 pub returns-in_err-extend_from_slice : goal.returns-in_err-extend_from_slice
 returns-in_err-extend_from_slice g c =
@@ -35,4 +47,8 @@ returns-in_err-extend_from_slice g c =
     let count = length-with_last c.loop-bytes.bytes.items c.read.new.into c.in_ok-n.n came.0 in
     Gathers-refused _ _ (g.I.Source.seen c.loop-bytes.file) _ _
     c.loop-bytes.bytes.items (take c.in_ok-n.n c.read.new.into) c.from_residual-in_err-extend_from_slice.ensures.1
-    before.consumed came.1 (c.in_ok-n.ensures.count ∙ before.counted, omega (arith, count, came.0))
+    before.consumed came.1 (
+      c.in_ok-n.ensures.count ∙ before.counted,
+      c.in_ok-n.ensures.ended ∙ ne_eqb c.in_ok-n.n 0 c.if-n-eq0.false,
+      omega (arith, count, came.0),
+    )

@@ -12,21 +12,37 @@ pub returns-in-Some-clause-outcome : goal.returns-in-Some-clause-outcome
 returns-in-Some-clause-outcome c =
     let p = c.args.patch.now in
     let ss = c.args.sectors.now in
-    let found : first_refusal ss p.block (needs_consistent c.args.carry p.edit) p.block (blocks_met p) ≡ Some c.in-Some.refusal = sym (refusal-asked c.args.carry c.meaning-edit.result.builds_on c.needs_consistent-asks.result ss p c.args.count c.first_refusal.result c.first_refusal.ensures.refusal c.needs_consistent-asks.ensures c.meaning-edit.ensures.builds_on c.requires.count) ∙ c.in-Some.is in
+    let found : first_refusal ss p.block (needs_consistent c.args.carry p.edit) p.block
+    (blocks_met p) ≡ Some c.in-Some.refusal = sym
+    (refusal-asked c.args.carry c.meaning-edit.result.builds_on c.needs_consistent-asks.result ss p
+    c.args.count c.first_refusal.result c.first_refusal.ensures.refusal
+    c.needs_consistent-asks.ensures c.meaning-edit.ensures.builds_on c.requires.count)
+    ∙ c.in-Some.is in
     sym (outcome-refused c.args.carry ss p.block p c.in-Some.refusal found)
 
 pub returns-in-Some-clause-users : goal.returns-in-Some-clause-users
 returns-in-Some-clause-users c = λ applied.
     let p = c.args.patch.now in
     let ss = c.args.sectors.now in
-    let found : first_refusal ss p.block (needs_consistent c.args.carry p.edit) p.block (blocks_met p) ≡ Some c.in-Some.refusal = sym (refusal-asked c.args.carry c.meaning-edit.result.builds_on c.needs_consistent-asks.result ss p c.args.count c.first_refusal.result c.first_refusal.ensures.refusal c.needs_consistent-asks.ensures c.meaning-edit.ensures.builds_on c.requires.count) ∙ c.in-Some.is in
-    absurd (first_refusal-told ss p.block (needs_consistent c.args.carry p.edit) p.block (blocks_met p) (found ∙ ap (λ o. Some o) applied))
+    let found : first_refusal ss p.block (needs_consistent c.args.carry p.edit) p.block
+    (blocks_met p) ≡ Some c.in-Some.refusal = sym
+    (refusal-asked c.args.carry c.meaning-edit.result.builds_on c.needs_consistent-asks.result ss p
+    c.args.count c.first_refusal.result c.first_refusal.ensures.refusal
+    c.needs_consistent-asks.ensures c.meaning-edit.ensures.builds_on c.requires.count)
+    ∙ c.in-Some.is in
+    absurd (first_refusal-told ss p.block (needs_consistent c.args.carry p.edit) p.block
+    (blocks_met p) (found ∙ ap (λ o. Some o) applied))
 
 pub first_difference-requires : goal.first_difference-requires
 first_difference-requires c =
     let p = c.args.patch.now in
     let ss = c.args.sectors.now in
-    let none : first_refusal ss p.block (needs_consistent c.args.carry p.edit) p.block (blocks_met p) ≡ None = sym (refusal-asked c.args.carry c.meaning-edit.result.builds_on c.needs_consistent-asks.result ss p c.args.count c.first_refusal.result c.first_refusal.ensures.refusal c.needs_consistent-asks.ensures c.meaning-edit.ensures.builds_on c.requires.count) ∙ c.in_default.is in
+    let none : first_refusal ss p.block (needs_consistent c.args.carry p.edit) p.block
+    (blocks_met p) ≡ None = sym
+    (refusal-asked c.args.carry c.meaning-edit.result.builds_on c.needs_consistent-asks.result ss p
+    c.args.count c.first_refusal.result c.first_refusal.ensures.refusal
+    c.needs_consistent-asks.ensures c.meaning-edit.ensures.builds_on c.requires.count)
+    ∙ c.in_default.is in
     let met = AreMet-from ss p.block (needs_consistent c.args.carry p.edit) (blocks_met p) none in
     let fits = old-fits p c.requires.patch in
     let size = ap length c.meaning-edit.ensures.old in
@@ -54,18 +70,34 @@ pub returns-in-None-clause-outcome : goal.returns-in-None-clause-outcome
 returns-in-None-clause-outcome c =
     let p = c.args.patch.now in
     let ss = c.args.sectors.now in
-    let accepted : first_refusal ss p.block (needs_consistent c.args.carry p.edit) p.block (blocks_met p) ≡ None = sym (refusal-asked c.args.carry c.meaning-edit.result.builds_on c.needs_consistent-asks.result ss p c.args.count c.first_refusal.result c.first_refusal.ensures.refusal c.needs_consistent-asks.ensures c.meaning-edit.ensures.builds_on c.requires.count) ∙ c.in_default.is in
-    let told = outcome-told c.args.carry ss p c.meaning-edit.result.old.now c.first_difference.result c.requires.patch accepted c.meaning-edit.ensures.old
-    (subst (HaveUsers ss) c.requires.count (c.first_refusal.ensures.users cc)) c.first_difference.ensures.value in
+    let accepted : first_refusal ss p.block (needs_consistent c.args.carry p.edit) p.block
+    (blocks_met p) ≡ None = sym
+    (refusal-asked c.args.carry c.meaning-edit.result.builds_on c.needs_consistent-asks.result ss p
+    c.args.count c.first_refusal.result c.first_refusal.ensures.refusal
+    c.needs_consistent-asks.ensures c.meaning-edit.ensures.builds_on c.requires.count)
+    ∙ c.in_default.is in
+    let told =
+    outcome-told c.args.carry ss p c.meaning-edit.result.old.now c.first_difference.result
+    c.requires.patch accepted c.meaning-edit.ensures.old
+    (subst (HaveUsers ss) c.requires.count
+    (c.first_refusal.ensures.users cc)) c.first_difference.ensures.value in
     sym (told ∙ ap (by_difference p.block) c.in-None.is)
 
 pub returns-in-Some-first_difference-clause-outcome : goal.returns-in-Some-first_difference-clause-outcome
 returns-in-Some-first_difference-clause-outcome c =
     let p = c.args.patch.now in
     let ss = c.args.sectors.now in
-    let accepted : first_refusal ss p.block (needs_consistent c.args.carry p.edit) p.block (blocks_met p) ≡ None = sym (refusal-asked c.args.carry c.meaning-edit.result.builds_on c.needs_consistent-asks.result ss p c.args.count c.first_refusal.result c.first_refusal.ensures.refusal c.needs_consistent-asks.ensures c.meaning-edit.ensures.builds_on c.requires.count) ∙ c.in_default.is in
-    let told = outcome-told c.args.carry ss p c.meaning-edit.result.old.now c.first_difference.result c.requires.patch accepted c.meaning-edit.ensures.old
-    (subst (HaveUsers ss) c.requires.count (c.first_refusal.ensures.users cc)) c.first_difference.ensures.value in
+    let accepted : first_refusal ss p.block (needs_consistent c.args.carry p.edit) p.block
+    (blocks_met p) ≡ None = sym
+    (refusal-asked c.args.carry c.meaning-edit.result.builds_on c.needs_consistent-asks.result ss p
+    c.args.count c.first_refusal.result c.first_refusal.ensures.refusal
+    c.needs_consistent-asks.ensures c.meaning-edit.ensures.builds_on c.requires.count)
+    ∙ c.in_default.is in
+    let told =
+    outcome-told c.args.carry ss p c.meaning-edit.result.old.now c.first_difference.result
+    c.requires.patch accepted c.meaning-edit.ensures.old
+    (subst (HaveUsers ss) c.requires.count
+    (c.first_refusal.ensures.users cc)) c.first_difference.ensures.value in
     let place = c.in-Some-first_difference.place in
     Differs-same _ _ (p.block + place / 2048) (place % 2048) (omega arith) (omega arith)
     ∙ sym (told ∙ ap (by_difference p.block) c.in-Some-first_difference.is)

@@ -7,7 +7,8 @@ loop-i-preserved c =
     let place = c.args.offset + c.loop-i.i in
     let byte : get_or c.user.result.now (place % 2048) 0 ≡ user_byte c.args.sectors.now place =
     ap (λ u. get_or u (place % 2048) 0) c.user.ensures.user
-    ∙ read-byte c.args.sectors.now place c.index-sectors-place.result (omega arith) c.index-sectors-place.is in
+    ∙ read-byte c.args.sectors.now place c.index-sectors-place.result
+    (omega arith) c.index-sectors-place.is in
     below_more _ _ c.loop-i.invariant (sym byte ∙ c.if-user-place.false)
 
 pub returns-then-user-place-clause-value : goal.returns-then-user-place-clause-value
@@ -15,10 +16,12 @@ returns-then-user-place-clause-value c =
     let place = c.args.offset + c.loop-i.i in
     let byte : get_or c.user.result.now (place % 2048) 0 ≡ user_byte c.args.sectors.now place =
     ap (λ u. get_or u (place % 2048) 0) c.user.ensures.user
-    ∙ read-byte c.args.sectors.now place c.index-sectors-place.result (omega arith) c.index-sectors-place.is in
+    ∙ read-byte c.args.sectors.now place c.index-sectors-place.result
+    (omega arith) c.index-sectors-place.is in
     λ base count users room fits.
     Some-same _ place (omega arith)
-    ∙ sym (a_difference c.args.sectors.now c.args.offset c.args.old.now c.loop-i.i c.loop-i-test.true
+    ∙ sym (a_difference c.args.sectors.now c.args.offset c.args.old.now c.loop-i.i
+    c.loop-i-test.true
     c.loop-i.invariant (λ e. c.if-user-place.true (byte ∙ e)) base count users room fits)
 
 pub returns-clause-value : goal.returns-clause-value

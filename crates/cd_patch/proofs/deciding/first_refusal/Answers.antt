@@ -20,22 +20,29 @@ loop-k-preserved c =
     let none = sym c.is_some.ensures ∙ c.if-is_some.false in (
       λ count whole.
           c.loop-k.invariant.0 (suc count) (omega arith)
-          ∙ first_refusal-more c.args.sectors.now c.args.block c.args.asks c.loop-k.k count c.refusal_at-refusal.result
-          (asked_at c.args.sectors.now c.args.block c.args.asks c.loop-k.k _ _ c.refusal_at-refusal.result c.refusal_at-refusal.ensures.refusal (omega arith) (omega arith))
+          ∙ first_refusal-more c.args.sectors.now c.args.block c.args.asks c.loop-k.k count
+          c.refusal_at-refusal.result
+          (asked_at c.args.sectors.now c.args.block c.args.asks c.loop-k.k _ _
+          c.refusal_at-refusal.result c.refusal_at-refusal.ensures.refusal (omega arith)
+          (omega arith))
           none,
-      below_more _ _ c.loop-k.invariant.1 (c.refusal_at-refusal.ensures.user (none-told c.refusal_at-refusal.result none)),
+      below_more _ _ c.loop-k.invariant.1
+          (c.refusal_at-refusal.ensures.user (none-told c.refusal_at-refusal.result none)),
     )
 
 pub returns-then-is_some-clause-refusal : goal.returns-then-is_some-clause-refusal
 returns-then-is_some-clause-refusal c =
     let count = c.args.count - c.loop-k.k - 1 in
     sym (c.loop-k.invariant.0 (suc count) (omega (arith, c.loop-k-test.true))
-    ∙ first_refusal-stop c.args.sectors.now c.args.block c.args.asks c.loop-k.k count c.refusal_at-refusal.result
-    (asked_at c.args.sectors.now c.args.block c.args.asks c.loop-k.k _ _ c.refusal_at-refusal.result c.refusal_at-refusal.ensures.refusal (omega arith) (omega arith))
+    ∙ first_refusal-stop c.args.sectors.now c.args.block c.args.asks c.loop-k.k count
+    c.refusal_at-refusal.result
+    (asked_at c.args.sectors.now c.args.block c.args.asks c.loop-k.k _ _ c.refusal_at-refusal.result
+    c.refusal_at-refusal.ensures.refusal (omega arith) (omega arith))
     (sym c.is_some.ensures ∙ c.if-is_some.true))
 
 pub returns-then-is_some-clause-users : goal.returns-then-is_some-clause-users
-returns-then-is_some-clause-users c = λ none. absurd (false≢true (ap is_some (sym none) ∙ sym c.is_some.ensures ∙ c.if-is_some.true))
+returns-then-is_some-clause-users c = λ none.
+    absurd (false≢true (ap is_some (sym none) ∙ sym c.is_some.ensures ∙ c.if-is_some.true))
 
 pub returns-clause-refusal : goal.returns-clause-refusal
 returns-clause-refusal c = sym (c.loop-k.invariant.0 0 (omega (arith, c.loop-k-test.false)))

@@ -6,4 +6,5 @@ pub returns-clause-number : goal.returns-clause-number
 unfolding blocks_met
 returns-clause-number c =
     c.blocks_spanned.ensures.number
-    ∙ ap (blocks_spanned c.args.patch.now.offset) (c.len.ensures ∙ ap length c.meaning.ensures.bytes)
+    ∙ ap (blocks_spanned c.args.patch.now.offset)
+    (c.len.ensures ∙ ap length c.meaning.ensures.bytes)

@@ -9,19 +9,28 @@ use Rattle.cd_patch.proofs.remaking.apply_patch.Goals as goal
 
 pub slice_bounds-change-end : goal.slice_bounds-change-end
 slice_bounds-change-end c =
-    let met = met-where-applied c.args.carry c.args.sectors.now c.args.patch.now (sym c.decide-outcome.ensures.outcome ∙ accepted c.decide-outcome.result (sym c.is_applied.ensures ∙ c.if-is_applied.true)) in
+    let met =
+    met-where-applied c.args.carry c.args.sectors.now c.args.patch.now
+    (sym c.decide-outcome.ensures.outcome
+    ∙ accepted c.decide-outcome.result (sym c.is_applied.ensures ∙ c.if-is_applied.true)) in
     let number = c.blocks_met-count.ensures.number in
     omega (arith, met.enough)
 
 pub slice_bounds-change-end-then-is_applied : goal.slice_bounds-change-end-then-is_applied
 slice_bounds-change-end-then-is_applied c =
-    let met = met-where-applied c.args.carry c.args.sectors.now c.args.patch.now (sym c.decide-outcome.ensures.outcome ∙ accepted c.decide-outcome.result (sym c.is_applied.ensures ∙ c.if-is_applied.true)) in
+    let met =
+    met-where-applied c.args.carry c.args.sectors.now c.args.patch.now
+    (sym c.decide-outcome.ensures.outcome
+    ∙ accepted c.decide-outcome.result (sym c.is_applied.ensures ∙ c.if-is_applied.true)) in
     let number = c.blocks_met-count.ensures.number in
     sym (length-take-le c.blocks_met-count.result c.args.sectors.now (omega (arith, met.enough)))
 
 pub change-requires-clause-met : goal.change-requires-clause-met
 change-requires-clause-met c =
-    let met = met-where-applied c.args.carry c.args.sectors.now c.args.patch.now (sym c.decide-outcome.ensures.outcome ∙ accepted c.decide-outcome.result (sym c.is_applied.ensures ∙ c.if-is_applied.true)) in
+    let met =
+    met-where-applied c.args.carry c.args.sectors.now c.args.patch.now
+    (sym c.decide-outcome.ensures.outcome
+    ∙ accepted c.decide-outcome.result (sym c.is_applied.ensures ∙ c.if-is_applied.true)) in
     let number = c.blocks_met-count.ensures.number in
     length-take-le c.blocks_met-count.result c.args.sectors.now (omega (arith, met.enough)) ∙ number
 
@@ -29,26 +38,42 @@ pub change-requires-clause-mode : goal.change-requires-clause-mode
 change-requires-clause-mode c =
     let p = c.args.patch.now in
     let ss = c.args.sectors.now in
-    let met = met-where-applied c.args.carry ss p (sym c.decide-outcome.ensures.outcome ∙ accepted c.decide-outcome.result (sym c.is_applied.ensures ∙ c.if-is_applied.true)) in
-    mode-front (needs_consistent c.args.carry p.edit) ss c.blocks_met-count.result (subst (AreMet (needs_consistent c.args.carry p.edit) ss) (sym c.blocks_met-count.ensures.number) met)
+    let met =
+    met-where-applied c.args.carry ss p
+    (sym c.decide-outcome.ensures.outcome
+    ∙ accepted c.decide-outcome.result (sym c.is_applied.ensures ∙ c.if-is_applied.true)) in
+    mode-front (needs_consistent c.args.carry p.edit) ss c.blocks_met-count.result
+    (subst (AreMet (needs_consistent c.args.carry p.edit) ss)
+    (sym c.blocks_met-count.ensures.number) met)
 
 pub change-requires-clause-sound : goal.change-requires-clause-sound
 change-requires-clause-sound c = λ asked.
     let p = c.args.patch.now in
     let ss = c.args.sectors.now in
-    let met = met-where-applied c.args.carry ss p (sym c.decide-outcome.ensures.outcome ∙ accepted c.decide-outcome.result (sym c.is_applied.ensures ∙ c.if-is_applied.true)) in
-    sound-front (needs_consistent c.args.carry p.edit) ss c.blocks_met-count.result (subst (AreMet (needs_consistent c.args.carry p.edit) ss) (sym c.blocks_met-count.ensures.number) met) asked
+    let met =
+    met-where-applied c.args.carry ss p
+    (sym c.decide-outcome.ensures.outcome
+    ∙ accepted c.decide-outcome.result (sym c.is_applied.ensures ∙ c.if-is_applied.true)) in
+    sound-front (needs_consistent c.args.carry p.edit) ss c.blocks_met-count.result
+    (subst (AreMet (needs_consistent c.args.carry p.edit) ss)
+    (sym c.blocks_met-count.ensures.number) met) asked
 
 pub returns-then-is_applied-clause-effect : goal.returns-then-is_applied-clause-effect
 returns-then-is_applied-clause-effect c =
     let p = c.args.patch.now in
     let ss = c.args.sectors.now in
     let front = c.change.new.sectors in
-    let applied = sym c.decide-outcome.ensures.outcome ∙ accepted c.decide-outcome.result (sym c.is_applied.ensures ∙ c.if-is_applied.true) in
+    let applied =
+    sym c.decide-outcome.ensures.outcome
+    ∙ accepted c.decide-outcome.result (sym c.is_applied.ensures ∙ c.if-is_applied.true) in
     let met = met-where-applied c.args.carry ss p applied in
     let number = c.blocks_met-count.ensures.number in
-    let users = subst (HaveUsers ss) number (c.decide-outcome.ensures.users (accepted c.decide-outcome.result (sym c.is_applied.ensures ∙ c.if-is_applied.true))) in
-    let each = subst (λ n. EachMade (part_by c.args.carry p) (take n ss) front) number c.change.ensures in
+    let users =
+    subst (HaveUsers ss) number
+    (c.decide-outcome.ensures.users
+    (accepted c.decide-outcome.result (sym c.is_applied.ensures ∙ c.if-is_applied.true))) in
+    let each =
+    subst (λ n. EachMade (part_by c.args.carry p) (take n ss) front) number c.change.ensures in
     Effect-applied c.args.carry p ss (front ++ drop c.blocks_met-count.result ss) applied
     (subst (λ n. IsApplied c.args.carry p.block p ss (front ++ drop n ss)) (sym number)
     (IsApplied-from c.args.carry p ss front met.enough users each))

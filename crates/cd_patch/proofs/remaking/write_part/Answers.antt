@@ -10,9 +10,14 @@ returns-in-Borrowed c =
     let after = c.write.new.sector in
     let part = c.part_of_block-part.result in
     let count = c.len.ensures ∙ ap (λ b. length (bytes_of b)) c.in-Borrowed.is in
-    let at = subst (λ n. IsPart c.args.k c.args.offset n part.place part.first part.end) count c.part_of_block-part.ensures in
-    subst (λ b. HasPart c.args.carry c.args.k c.args.offset (bytes_of b) (header_of before) before after) (sym c.in-Borrowed.is)
-    (HasPart-copied c.args.carry c.args.k c.args.offset part.place part.first part.end c.in-Borrowed.bytes.now (header_of before) before after
+    let at =
+    subst (λ n.
+    IsPart c.args.k c.args.offset n part.place part.first part.end) count
+    c.part_of_block-part.ensures in
+    subst (λ b. HasPart c.args.carry c.args.k c.args.offset (bytes_of b)
+    (header_of before) before after) (sym c.in-Borrowed.is)
+    (HasPart-copied c.args.carry c.args.k c.args.offset part.place part.first part.end
+    c.in-Borrowed.bytes.now (header_of before) before after
     at c.write.ensures.size c.write.ensures.made)
 
 pub returns-in-Repeated : goal.returns-in-Repeated
@@ -21,7 +26,12 @@ returns-in-Repeated c =
     let after = c.write-in-Repeated.new.sector in
     let part = c.part_of_block-part.result in
     let count = c.len.ensures ∙ ap (λ b. length (bytes_of b)) c.in-Repeated.is in
-    let at = subst (λ n. IsPart c.args.k c.args.offset n part.place part.first part.end) count c.part_of_block-part.ensures in
-    subst (λ b. HasPart c.args.carry c.args.k c.args.offset (bytes_of b) (header_of before) before after) (sym c.in-Repeated.is)
-    (HasPart-filled c.args.carry c.args.k c.args.offset part.place part.first part.end c.in-Repeated.field-0 c.in-Repeated.value (header_of before) before after
+    let at =
+    subst (λ n.
+    IsPart c.args.k c.args.offset n part.place part.first part.end) count
+    c.part_of_block-part.ensures in
+    subst (λ b. HasPart c.args.carry c.args.k c.args.offset (bytes_of b)
+    (header_of before) before after) (sym c.in-Repeated.is)
+    (HasPart-filled c.args.carry c.args.k c.args.offset part.place part.first part.end
+    c.in-Repeated.field-0 c.in-Repeated.value (header_of before) before after
     at c.write-in-Repeated.ensures.size c.write-in-Repeated.ensures.made)

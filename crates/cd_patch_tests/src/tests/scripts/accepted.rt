@@ -29,12 +29,7 @@ fn script_shown(alloc: Global, script: &Script) -> Result<String, AllocError> {
 }
 
 /// Asserts what the patches of a script are in words.
-pub fn expect_patches(
-    rt: &impl Abort,
-    alloc: Global,
-    script: &str,
-    patches: &str,
-) -> Result<(), Fail> {
+fn expect_patches(rt: &impl Abort, alloc: Global, script: &str, patches: &str) -> Result<(), Fail> {
     let shown = script_shown(alloc, &script_of(alloc, script)?)?;
     assert_eq!(rt; shown.as_str(), patches, "{script}");
     Ok(())

@@ -1,3 +1,5 @@
+//! The faults of texts. The worked cases (`tests/cases/scripts.txt`, `tests/cases/addresses.txt`) have each at each place.
+
 use super::*;
 use cd_script::ScriptFault::{
     Address, Head, Hex, Length, NoMemory, Number, Offset, TooMany, Verb, Words,
@@ -68,115 +70,6 @@ const LINES: &[Alike] = &[
 #[test]
 fn line_faults(rt: HostRuntime) -> Result<(), AllocError> {
     expect_faults_behind(&rt, rt.alloc(), "cdpatch 1", LINES)
-}
-
-/// Each fault at each place of a line, and the first of two in one line.
-const PLACES: &[Alike] = &[
-    Alike {
-        fault: Some(Verb(2)),
-        texts: &["Set 0 0 41", "put"],
-    },
-    Alike {
-        fault: Some(Words(2)),
-        texts: &[
-            "set",
-            "set 0 0 41 was 41 # no",
-            "set x 0 4 WAS 4",
-            "fill 0 0 1",
-            "fill 0 0 1 FF FF",
-            "rebuild",
-        ],
-    },
-    Alike {
-        fault: Some(Number(2)),
-        texts: &[
-            "rebuild 0x0",
-            "rebuild -1",
-            "rebuild 0000000000",
-            "set 0 +1 41",
-            "set 0 1. 41",
-            "fill x 0 0 F",
-            "fill 0 x 0 F",
-            "fill 0 0 x F",
-        ],
-    },
-    Alike {
-        fault: Some(Offset(2)),
-        texts: &["fill 0 2048 0 F", "set 0 2048 4 was 4"],
-    },
-    Alike {
-        fault: Some(Length(2)),
-        texts: &["fill 0 0 0 F", "set 0 0 4142 was 41"],
-    },
-    Alike {
-        fault: Some(Hex(2)),
-        texts: &[
-            "fill 0 0 1 0g",
-            "set 0 0 4 was 4",
-            "set 0 0 4142 was 4",
-            "set 0 0 4142 was 4g",
-            "set 999999999 2047 41 was x1",
-        ],
-    },
-];
-
-#[test]
-fn places_of_faults(rt: HostRuntime) -> Result<(), AllocError> {
-    expect_faults_behind(&rt, rt.alloc(), "cdpatch 1", PLACES)
-}
-
-/// Space and tab alone stand between words, and no other byte that looks like a space.
-const OTHER_SPACES: &[Alike] = &[
-    Alike {
-        fault: Some(Verb(2)),
-        texts: &["rebuild\u{b}0", "rebuild\u{c}0", "\u{b}", "\u{b}# x"],
-    },
-    Alike {
-        fault: Some(Number(2)),
-        texts: &["rebuild 0\u{b}", "rebuild 0\0"],
-    },
-    Alike {
-        fault: Some(Words(2)),
-        texts: &["rebuild 0 \u{c}"],
-    },
-    Alike {
-        fault: Some(Hex(2)),
-        texts: &["set 0 0 41\u{a0}"],
-    },
-];
-
-#[test]
-fn other_spaces(rt: HostRuntime) -> Result<(), AllocError> {
-    expect_faults_behind(&rt, rt.alloc(), "cdpatch 1", OTHER_SPACES)
-}
-
-/// The first faulty line decides, and blank lines and comments count.
-const FIRST_FAULTY: &[Alike] = &[
-    Alike {
-        fault: Some(Hex(2)),
-        texts: &[
-            "cdpatch 1\nset 0 0 4\nput\n",
-            "cdpatch 1\nset 0 0 41\r",
-            "cdpatch 1\nset 0 0 41\r\r\n",
-        ],
-    },
-    Alike {
-        fault: Some(Verb(2)),
-        texts: &["cdpatch 1\nput\nset 0 0 4\n", "cdpatch 1\n\r\r\n"],
-    },
-    Alike {
-        fault: Some(Hex(5)),
-        texts: &["cdpatch 1\n\n# put\nrebuild 0\nset 0 0 4"],
-    },
-    Alike {
-        fault: Some(Verb(3)),
-        texts: &["cdpatch 1\nrebuild 0\n\t cdpatch 1\n"],
-    },
-];
-
-#[test]
-fn first_faulty_line(rt: HostRuntime) {
-    expect_faults(&rt, rt.alloc(), FIRST_FAULTY);
 }
 
 /// A fault, and its text.

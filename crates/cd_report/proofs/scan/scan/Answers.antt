@@ -18,7 +18,7 @@ returns-in_err-visit-in-None g c =
     let came = rw c.in-None.is at c.in_ok-read_sector.ensures in
     let takes = c.in_err-visit-in-None.ensures.takes in
     rw (failed.1, failed.2)
-    (Told-write _ _ _ _ (g.I.Source.seen c.read_sector.new.image) _ _ _ c.loop-visitor.invariant.told c.read_sector.new.sector came.consumes
+    (Told-write _ _ _ _ (g.I.Source.seen c.read_sector.new.image) _ _ _ c.loop-visitor.invariant.told c.read_sector.new.sector (record { consumes = came.consumes; counted = omega (arith, came.counted, came.size) })
     (g.O.Sink.seen c.visit.new.out) came.kept came.size takes (omega (arith, came.few)) c.in_err-visit-in-None.ensures.count)
 
 pub loop-visitor-preserved : goal.loop-visitor-preserved
@@ -27,7 +27,7 @@ loop-visitor-preserved g c =
     let takes = c.in_ok-visit-in-None.ensures.takes in
     record {
       told =
-          Told-next _ _ _ _ (g.I.Source.seen c.read_sector.new.image) _ _ _ c.loop-visitor.invariant.told c.read_sector.new.sector came.consumes
+          Told-next _ _ _ _ (g.I.Source.seen c.read_sector.new.image) _ _ _ c.loop-visitor.invariant.told c.read_sector.new.sector (record { consumes = came.consumes; counted = omega (arith, came.counted, came.size) })
           (g.O.Sink.seen c.visit.new.out) came.kept came.size _ takes c.in_ok-visit-in-None.ensures.count;
       at = c.in_ok-visit-in-None.ensures.at;
       few = omega (arith, came.few);
@@ -38,13 +38,13 @@ returns-in_err-close-in-Some g c =
     let failed = err_from_is_err_and c.from_residual-in_err-close-in-Some.result c.from_residual-in_err-close-in-Some.ensures.1 in
     let ended = rw c.in-Some.is at c.in_ok-read_sector.ensures in
     rw (failed.1, failed.2)
-    (Told-end_failed _ _ _ _ (g.I.Source.seen c.read_sector.new.image) _ _ _ c.loop-visitor.invariant.told _ ended.consumes
+    (Told-end_failed _ _ _ _ (g.I.Source.seen c.read_sector.new.image) _ _ _ c.loop-visitor.invariant.told _ (record { consumes = ended.consumes; counted = omega (arith, ended.counted, ended.size) })
     (g.O.Sink.seen c.close.new.out) ended.kept
     (omega (arith, ended.size, ended.short)) (omega (arith, ended.size, ended.within)) ended.at_end ended.ended _ (omega (arith, ended.size)) _ c.in_err-close-in-Some.ensures.text c.in_err-close-in-Some.ensures.count)
 
 pub returns-in-Some : goal.returns-in-Some
 returns-in-Some g c =
     let ended = rw c.in-Some.is at c.in_ok-read_sector.ensures in
-    Told-end _ _ _ _ (g.I.Source.seen c.read_sector.new.image) _ _ _ c.loop-visitor.invariant.told _ ended.consumes
+    Told-end _ _ _ _ (g.I.Source.seen c.read_sector.new.image) _ _ _ c.loop-visitor.invariant.told _ (record { consumes = ended.consumes; counted = omega (arith, ended.counted, ended.size) })
     (g.O.Sink.seen c.close.new.out) ended.kept
     (omega (arith, ended.size, ended.short)) (omega (arith, ended.size, ended.within)) ended.at_end ended.ended _ (omega (arith, ended.size)) _ c.in_ok-close-in-Some.ensures.tally c.in_ok-close-in-Some.ensures.text c.in_ok-close-in-Some.ensures.count

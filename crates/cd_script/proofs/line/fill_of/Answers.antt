@@ -7,7 +7,9 @@ use Rattle.cd_script.proofs.line.fill_of.Goals as goal
 
 pub returns-in-len4 : goal.returns-in-len4
 returns-in-len4 c =
-    Reads-same as_patch c.fill.result _ _ (fill_line-four c.args.line c.args.words.now _ c.in-len4.len_at_least c.in-len4.len_below) c.fill.ensures
+    Reads-same as_patch c.fill.result _ _
+    (fill_line-four c.args.line c.args.words.now _ c.in-len4.len_at_least c.in-len4.len_below)
+    c.fill.ensures
 
 pub returns-in_default : goal.returns-in_default
 returns-in_default c =

@@ -12,5 +12,7 @@ pub returns-in-set : goal.returns-in-set
 returns-in-set c =
     Reads-same as_patch c.set_of.result _ _
     (ap (λ (ws : List (Bor (List ℕ))). patch_at c.args.line (seen ws)) c.in-Some.ensures.cases.0
-    ∙ patch_at-set c.args.line c.in-Some.verb.now.now (seen c.in-Some.rest.now) c.in-set.len_at_least c.in-set.len_below (omega arith) (omega arith) (omega arith))
+    ∙ patch_at-set c.args.line c.in-Some.verb.now.now
+    (seen c.in-Some.rest.now) c.in-set.len_at_least c.in-set.len_below (omega arith) (omega arith)
+    (omega arith))
     c.set_of.ensures

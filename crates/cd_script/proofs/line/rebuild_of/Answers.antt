@@ -7,7 +7,9 @@ use Rattle.cd_script.proofs.line.rebuild_of.Goals as goal
 
 pub returns-in-len1 : goal.returns-in-len1
 returns-in-len1 c =
-    Reads-same as_patch c.rebuild.result _ _ (rebuild_line-one c.args.line c.args.words.now _ c.in-len1.len_at_least c.in-len1.len_below) c.rebuild.ensures
+    Reads-same as_patch c.rebuild.result _ _
+    (rebuild_line-one c.args.line c.args.words.now _ c.in-len1.len_at_least c.in-len1.len_below)
+    c.rebuild.ensures
 
 pub returns-in_default : goal.returns-in_default
 returns-in_default c =

@@ -5,4 +5,6 @@ use Rattle.cd_script.proofs.line.set_of.Goals as goal
 
 pub returns-in-len3 : goal.returns-in-len3
 returns-in-len3 c =
-    Reads-same as_patch c.put.result _ _ (set_line-three c.args.line c.args.words.now _ c.in-len3.len_at_least c.in-len3.len_below) c.put.ensures
+    Reads-same as_patch c.put.result _ _
+    (set_line-three c.args.line c.args.words.now _ c.in-len3.len_at_least c.in-len3.len_below)
+    c.put.ensures

@@ -3,51 +3,73 @@ use Rattle.std.proofs.lemmas.Result.{err_from_is_err_and}
 use Rattle.cd_script.specs.declared.fault.ScriptFault.{ScriptFault}
 use Rattle.cd_script.specs.Patch.{IsPatchList}
 use Rattle.cd_script.specs.Script.{script_from}
-use Rattle.cd_script.proofs.Lines.{lines-is}
+use Rattle.cd_script.proofs.general.Lines.{lines-is}
 use Rattle.cd_script.proofs.ParseLemmas.{no_fault, order-list, script-rest}
 use Rattle.cd_script.proofs.script.parse.Goals as goal
 
 pub returns-in_err-head-clause-err : goal.returns-in_err-head-clause-err
 returns-in_err-head-clause-err c =
     let p = err_from_is_err_and c.from_residual.result c.from_residual.ensures.1 in
-    rw (p.1, p.2) (λ _. ap (script_from 1) (sym (c.lines-lines.ensures.value ∙ lines-is c.args.text.now)) ∙ c.in_err-head.ensures.err)
+    rw (p.1, p.2) (λ _.
+    ap (script_from 1) (sym (c.lines-lines.ensures.value ∙ lines-is c.args.text.now))
+    ∙ c.in_err-head.ensures.err)
 
 pub returns-in_err-head-clause-refused : goal.returns-in_err-head-clause-refused
 returns-in_err-head-clause-refused c =
     let p = err_from_is_err_and c.from_residual.result c.from_residual.ensures.1 in
-    let told = ap (script_from 1) (sym (c.lines-lines.ensures.value ∙ lines-is c.args.text.now)) ∙ c.in_err-head.ensures.err in
+    let told =
+    ap (script_from 1) (sym (c.lines-lines.ensures.value ∙ lines-is c.args.text.now))
+    ∙ c.in_err-head.ensures.err in
     λ e is. p.1 ∙ ap (λ (f : ScriptFault). Err f) p.2 ∙ sym told ∙ is
 
 pub returns-in_err-patches-clause-err : goal.returns-in_err-patches-clause-err
 returns-in_err-patches-clause-err c =
-    let p = err_from_is_err_and c.from_residual-in_err-patches.result c.from_residual-in_err-patches.ensures.1 in
-    let told = script-rest _ c.args.text.now c.as_bytes.result.now _ _ _ c.lines-lines.ensures.value c.in_ok-head.ensures.ok c.as_bytes.ensures in
+    let p =
+    err_from_is_err_and c.from_residual-in_err-patches.result
+    c.from_residual-in_err-patches.ensures.1 in
+    let told =
+    script-rest _ c.args.text.now c.as_bytes.result.now _ _ _ c.lines-lines.ensures.value
+    c.in_ok-head.ensures.ok c.as_bytes.ensures in
     rw (p.1, p.2) (λ other. told ∙ c.in_err-patches.ensures.err other)
 
 pub returns-in_err-patches-clause-refused : goal.returns-in_err-patches-clause-refused
 returns-in_err-patches-clause-refused c =
-    let p = err_from_is_err_and c.from_residual-in_err-patches.result c.from_residual-in_err-patches.ensures.1 in
-    let told = script-rest _ c.args.text.now c.as_bytes.result.now _ _ _ c.lines-lines.ensures.value c.in_ok-head.ensures.ok c.as_bytes.ensures in
+    let p =
+    err_from_is_err_and c.from_residual-in_err-patches.result
+    c.from_residual-in_err-patches.ensures.1 in
+    let told =
+    script-rest _ c.args.text.now c.as_bytes.result.now _ _ _ c.lines-lines.ensures.value
+    c.in_ok-head.ensures.ok c.as_bytes.ensures in
     λ e is.
-    let same : c.in_err-patches.field-0.0 ≡ e = cc (c.in_err-patches.ensures.refused e (sym told ∙ is)) in
+    let same : c.in_err-patches.field-0.0 ≡ e =
+    cc (c.in_err-patches.ensures.refused e (sym told ∙ is)) in
     p.1 ∙ ap (λ (f : ScriptFault). Err f) (p.2 ∙ same)
 
 pub returns-in_err-put_in_order-clause-refused : goal.returns-in_err-put_in_order-clause-refused
 returns-in_err-put_in_order-clause-refused c =
-    let told = script-rest _ c.args.text.now c.as_bytes.result.now _ _ _ c.lines-lines.ensures.value c.in_ok-head.ensures.ok c.as_bytes.ensures in
+    let told =
+    script-rest _ c.args.text.now c.as_bytes.result.now _ _ _ c.lines-lines.ensures.value
+    c.in_ok-head.ensures.ok c.as_bytes.ensures in
     λ e is. absurd (no_fault _ _ e (told ∙ c.in_ok-patches.ensures.ok) is)
 
 pub returns-clause-refused : goal.returns-clause-refused
 returns-clause-refused c =
-    let told = script-rest _ c.args.text.now c.as_bytes.result.now _ _ _ c.lines-lines.ensures.value c.in_ok-head.ensures.ok c.as_bytes.ensures in
+    let told =
+    script-rest _ c.args.text.now c.as_bytes.result.now _ _ _ c.lines-lines.ensures.value
+    c.in_ok-head.ensures.ok c.as_bytes.ensures in
     λ e is. absurd (no_fault _ _ e (told ∙ c.in_ok-patches.ensures.ok) is)
 
 pub invariant_of-result : goal.invariant_of-result
 invariant_of-result c =
-    let told = script-rest _ c.args.text.now c.as_bytes.result.now _ _ _ c.lines-lines.ensures.value c.in_ok-head.ensures.ok c.as_bytes.ensures in
-    subst IsPatchList (sym c.in_ok-put_in_order.ensures) (order-list _ _ (told ∙ c.in_ok-patches.ensures.ok))
+    let told =
+    script-rest _ c.args.text.now c.as_bytes.result.now _ _ _ c.lines-lines.ensures.value
+    c.in_ok-head.ensures.ok c.as_bytes.ensures in
+    subst IsPatchList (sym c.in_ok-put_in_order.ensures)
+    (order-list _ _ (told ∙ c.in_ok-patches.ensures.ok))
 
 pub returns-clause-ok : goal.returns-clause-ok
 returns-clause-ok c =
-    let told = script-rest _ c.args.text.now c.as_bytes.result.now _ _ _ c.lines-lines.ensures.value c.in_ok-head.ensures.ok c.as_bytes.ensures in
+    let told =
+    script-rest _ c.args.text.now c.as_bytes.result.now _ _ _ c.lines-lines.ensures.value
+    c.in_ok-head.ensures.ok c.as_bytes.ensures in
     (_, told ∙ c.in_ok-patches.ensures.ok, c.in_ok-put_in_order.ensures)

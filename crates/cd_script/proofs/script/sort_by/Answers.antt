@@ -4,4 +4,6 @@ use Rattle.cd_script.proofs.script.sort_by.Goals as goal
 
 pub returns : goal.returns
 returns g c =
-    on_ok_weaker c.sort_by_key.result (λ sorted. in_order _ _ sorted c.sort_by_key.ensures.stable c.requires.block) c.sort_by_key.ensures.sorted
+    on_ok_weaker c.sort_by_key.result
+    (λ sorted.
+    in_order _ _ sorted c.sort_by_key.ensures.stable c.requires.block) c.sort_by_key.ensures.sorted

@@ -1,5 +1,5 @@
 use Rattle.std.proofs.Common.{◌≡◌, length, take, drop, sym, ap, ◌∙◌, arith}
-use Rattle.cd_code.proofs.ByteLemmas.{part-list}
+use Rattle.cd_code.proofs.general.Lists.{part-list}
 use Rattle.cd_sector.proofs.edc_field.put_edc.Goals as goal
 
 pub returns-clause-word : goal.returns-clause-word

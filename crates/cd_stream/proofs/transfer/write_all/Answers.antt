@@ -1,6 +1,7 @@
-use Rattle.std.proofs.Common.{◌≡◌, ◌-◌, ◌≤◌, length, take, arith, ◌∙◌}
+use Rattle.std.proofs.Common.{◌≡◌, ◌-◌, ◌≤◌, length, take, arith, subst, ◌∙◌}
+use Rattle.cd_stream.specs.Transfer.{Takes}
 use Rattle.std.proofs.lemmas.List.{take_all}
-use Rattle.cd_stream.proofs.TransferLemmas.{Appends-sent, length-behind}
+use Rattle.cd_stream.proofs.TransferLemmas.{Appends-sent, Takes-front, length-behind}
 use Rattle.cd_stream.proofs.transfer.write_all.Goals as goal
 
 pub loop-sent-preserved : goal.loop-sent-preserved
@@ -12,6 +13,8 @@ loop-sent-preserved g c =
     record {
       within = omega (arith, few, c.loop-sent-test.true);
       appended = Appends-sent _ _ _ c.loop-sent.sent c.in_ok-sent.field-0 c.args.bytes.now few before.appended went.2;
+      taken = omega (arith, c.in_ok-sent.ensures.taken, before.taken);
+      flushes = c.in_ok-sent.ensures.flushes ∙ before.flushes;
       counted = c.in_ok-sent.ensures.count ∙ before.counted;
       unfinished = λ _. c.in_ok-sent.ensures.unfinished;
     }
@@ -21,6 +24,9 @@ returns g c =
     let all : take c.loop-sent.sent c.args.bytes.now ≡ c.args.bytes.now = take_all c.loop-sent.sent c.args.bytes.now (omega arith) in
     record {
       bytes = rw all at c.loop-sent.invariant.appended;
+      taken = subst (Takes (g.O.Sink.seen c.args.out.now) (g.O.Sink.seen c.loop-sent.out)) all
+          (Takes-front _ _ c.loop-sent.sent c.args.bytes.now c.loop-sent.invariant.within c.loop-sent.invariant.appended c.loop-sent.invariant.taken);
+      flushes = c.loop-sent.invariant.flushes;
       count = c.loop-sent.invariant.counted;
       unfinished = λ some. c.loop-sent.invariant.unfinished (omega arith);
     }

@@ -8,12 +8,16 @@ returns c = λ word longer are more.
     record {
       front =
           AreSums-from_zero longer c.with_lanes.result
-          (AreSums-row word longer 0 row c.lanes_at.result c.args.self.front c.with_lanes.result c.fits-row (lit≤ tt) c.lanes_at.ensures more
-          (AreSums-to_zero word c.args.self.front are.front) c.with_lanes.ensures.plain c.with_lanes.ensures.weighted);
+          (AreSums-row word longer 0 row c.lanes_at.result c.args.self.front c.with_lanes.result
+          c.fits-row (lit≤ tt) c.lanes_at.ensures more
+          (AreSums-to_zero word c.args.self.front are.front) c.with_lanes.ensures.plain
+          c.with_lanes.ensures.weighted);
       middle =
-          AreSums-row word longer 32 row c.lanes_at-2.result c.args.self.middle c.with_lanes-2.result c.fits-row (lit≤ tt) c.lanes_at-2.ensures more
+          AreSums-row word longer 32 row c.lanes_at-2.result c.args.self.middle
+          c.with_lanes-2.result c.fits-row (lit≤ tt) c.lanes_at-2.ensures more
           are.middle c.with_lanes-2.ensures.plain c.with_lanes-2.ensures.weighted;
       back =
-          AreSums-row word longer 54 row c.lanes_at-3.result c.args.self.back c.with_lanes-3.result c.fits-row (lit≤ tt) c.lanes_at-3.ensures more
+          AreSums-row word longer 54 row c.lanes_at-3.result c.args.self.back c.with_lanes-3.result
+          c.fits-row (lit≤ tt) c.lanes_at-3.ensures more
           are.back c.with_lanes-3.ensures.plain c.with_lanes-3.ensures.weighted;
     }

@@ -5,5 +5,6 @@ use Rattle.cd_script.proofs.hex_word.HexWord.len.Goals as goal
 
 pub returns : goal.returns
 returns c =
-    let spelled : hex_bytes c.self.inside.digits.now ≡ Some c.args.self.now = hex_spells _ _ c.self.invariant c.self.view_is in
+    let spelled : hex_bytes c.self.inside.digits.now ≡ Some c.args.self.now =
+    hex_spells _ _ c.self.invariant c.self.view_is in
     omega (arith, length-hex_bytes _ _ spelled)

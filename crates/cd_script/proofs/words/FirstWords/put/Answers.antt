@@ -5,9 +5,13 @@ use Rattle.cd_script.proofs.words.FirstWords.put.Goals as goal
 
 pub returns-then-not-is_empty : goal.returns-then-not-is_empty
 returns-then-not-is_empty c =
-    let some : length c.args.part.now ≡ 0 → ⊥ = eqb-false _ _ (sym c.is_empty.ensures ∙ c.if-not-is_empty.true) in
-    rw (← c.self.view_is) (part_pushed c.self.inside.parts.items _ c.args.part (omega arith) c.push.ensures.items)
+    let some : length c.args.part.now ≡ 0 → ⊥ =
+    eqb-false _ _ (sym c.is_empty.ensures ∙ c.if-not-is_empty.true) in
+    rw (← c.self.view_is)
+    (part_pushed c.self.inside.parts.items _ c.args.part (omega arith) c.push.ensures.items)
 
 pub returns-else-not-is_empty : goal.returns-else-not-is_empty
 returns-else-not-is_empty c =
-    rw (← c.self.view_is) (part_empty c.self.inside.parts.items c.args.part.now (eqb-true _ _ (sym c.is_empty.ensures ∙ c.if-not-is_empty.false)))
+    rw (← c.self.view_is)
+    (part_empty c.self.inside.parts.items c.args.part.now
+    (eqb-true _ _ (sym c.is_empty.ensures ∙ c.if-not-is_empty.false)))

@@ -1,4 +1,4 @@
-use Rattle.std.proofs.Common.{◌+◌, ◌∙◌, arith, rules, sym}
+use Rattle.std.proofs.Common.{◌+◌, ◌∙◌, arith, refl, rules, sym}
 use Rattle.std.proofs.lemmas.List.{drop-drop}
 use Rattle.std.proofs.lemmas.Slice.{drop-put_mid}
 use Rattle.std.proofs.lemmas.Grind.{common_steps}
@@ -10,6 +10,8 @@ returns-then-n-eq0-clause-room c = search rules
 pub returns-clause-writes : goal.returns-clause-writes
 returns-clause-writes c = record {
   bytes = (search rules, search rules, grind (arith, common_steps));
+  taken = search rules;
+  flushes = refl;
   count = search rules;
   unfinished = search rules;
 }

@@ -4,6 +4,8 @@ use Rattle.cd_stream.proofs.forms.to_write.ToWriteSink.finish.Goals as goal
 pub returns : goal.returns
 returns g c = record {
   bytes = c.flush.ensures.bytes;
+  taken = refl;
+  flushes = c.add.ensures;
   count = refl;
   finished = cc;
 }

@@ -4,6 +4,8 @@ use Rattle.cd_stream.proofs.forms.to_write.ToWriteSink.write.Goals as goal
 pub returns-in-Ok : goal.returns-in-Ok
 returns-in-Ok g c = record {
   bytes = (omega arith, c.in-Ok.ensures.bound, c.in-Ok.ensures.bytes);
+  taken = c.add.ensures;
+  flushes = refl;
   count = refl;
   unfinished = refl;
 }
@@ -11,6 +13,8 @@ returns-in-Ok g c = record {
 pub returns-in_default : goal.returns-in_default
 returns-in_default g c = record {
   bytes = search rules;
+  taken = omega arith;
+  flushes = refl;
   count = refl;
   unfinished = refl;
 }

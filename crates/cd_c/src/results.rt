@@ -1,0 +1,55 @@
+//! What a change of a sector answers.
+
+ghost use Rattle.std.specs.Prelude.{◌≡◌, ◌+◌, ◌≤◌, length, true};
+ghost use Rattle.cd_sector.specs.Kind.{kind_of};
+ghost use Rattle.cd_sector.specs.declared.kinds.SectorKind.TheVariants.{Mode1};
+ghost use Rattle.cd_c.specs.Results.{carry_result, change_result, is_inside};
+
+use cd_sector::{Sector, SectorKind, USER_SIZE, is_consistent, kind};
+
+/// The sector is changed.
+pub const OK: u32 = 0;
+
+/// The sector is not of Mode 1.
+pub const NOT_MODE1: u32 = 1;
+
+/// The sector is damaged, and the change carries no damage.
+pub const DAMAGED: u32 = 2;
+
+/// The bytes do not lie in the user data.
+pub const OUT_OF_RANGE: u32 = 3;
+
+/// Whether as many bytes lie in the user data from `offset` on.
+pub(crate) fn is_inside(offset: usize, bytes: &[u8]) -> bool
+    ensures inside { result ≡ is_inside offset (length bytes.now) }
+    ensures range { result ≡ true → offset + length bytes.now ≤ 2048 }
+{
+    offset <= USER_SIZE && bytes.len() <= USER_SIZE - offset
+}
+
+/// What a change of a sector answers that carries its damage.
+pub(crate) fn carry_result(sector: &Sector, inside: bool) -> u32
+    ensures result { result ≡ carry_result sector.now inside }
+    ensures mode { result ≡ OK → kind_of sector.now ≡ Mode1 }
+    ensures inside { result ≡ OK → inside ≡ true }
+{
+    match kind(sector) {
+        SectorKind::Mode1 if inside => OK,
+        SectorKind::Mode1 => OUT_OF_RANGE,
+        SectorKind::NoSync | SectorKind::Mode0 | SectorKind::Mode2 | SectorKind::Other => NOT_MODE1,
+    }
+}
+
+/// What a change of a sector answers that refuses a damaged one. The kind is tested first, then
+/// damage, then the range: the order of `apply`.
+pub(crate) fn change_result(sector: &Sector, inside: bool) -> u32
+    ensures result { result ≡ change_result sector.now inside }
+    ensures mode { result ≡ OK → kind_of sector.now ≡ Mode1 }
+    ensures inside { result ≡ OK → inside ≡ true }
+{
+    let result = carry_result(sector, inside);
+    if result != NOT_MODE1 && !is_consistent(sector) {
+        return DAMAGED;
+    }
+    result
+}

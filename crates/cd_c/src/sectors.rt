@@ -1,0 +1,118 @@
+//! Codes, and calls that describe or make a whole sector.
+
+ghost use Rattle.std.specs.Prelude.{◌≡◌, ℕ, ◌++◌, ◌≤◌, ◌<◌, ◌↔◌, [], ◌∷◌, IsTrue, List, Some, None, count_by, false, slice_index, true};
+ghost use Rattle.std.specs.List.{list_any};
+ghost use Rattle.cd_code.specs.Edc.{IsEdc};
+ghost use Rattle.cd_sector.specs.Address.{address};
+ghost use Rattle.cd_sector.specs.CodeWords.{AllCodeWords};
+ghost use Rattle.cd_sector.specs.Consistent.{IsConsistent, consistent, header_of, user_of};
+ghost use Rattle.cd_sector.specs.Defect.{defect_of, is_broken, is_nonzero};
+ghost use Rattle.cd_sector.specs.Kind.{kind_of};
+ghost use Rattle.cd_c.specs.Results.{as_byte, kind_number};
+
+use cd_code::edc_of;
+use cd_sector::{
+    MAX_BLOCK, Sector, SectorKind, USER_SIZE, address_of, defect, encode_into, fill_parity,
+    is_consistent, kind,
+};
+
+/// Which parts of a sector are wrong, as C's `struct cdpatch_defect`. Its two `bool`s are bytes 0
+/// and 1 here, so that what C left in them unset is a value too.
+#[derive(Clone, Copy)]
+#[repr(C)]
+pub struct FoundDefect {
+    /// 1 if a byte of the Intermediate field, 2068 to 2075, is not `00`; else 0.
+    pub zeros: u8,
+    /// 1 if the EDC is not that of bytes 0 to 2063; else 0.
+    pub edc: u8,
+    /// The number of P columns, of 86, that are not code words.
+    pub p: u8,
+    /// The number of Q diagonals, of 52, that are not code words.
+    pub q: u8,
+}
+
+/// The EDC word of any bytes, as [`edc_of`].
+#[unsafe(no_mangle)]
+pub extern "C" fn cdpatch_edc(bytes: &[u8]) -> u32
+    ensures word { IsEdc bytes.now result }
+    ensures alone { (w : ℕ) → IsEdc bytes.now w → w ≡ result }
+{
+    edc_of(bytes)
+}
+
+/// The kind of a sector, as [`kind`], in the order of [`SectorKind`] from 0 on.
+#[unsafe(no_mangle)]
+pub extern "C" fn cdpatch_kind(sector: &Sector) -> u32
+    ensures { result ≡ kind_number (kind_of sector.now) }
+{
+    match kind(sector) {
+        SectorKind::NoSync => 0,
+        SectorKind::Mode0 => 1,
+        SectorKind::Mode1 => 2,
+        SectorKind::Mode2 => 3,
+        SectorKind::Other => 4,
+    }
+}
+
+/// Writes the address of a block to `bcd`, as [`address_of`], and answers whether it has one. Else `bcd` stays.
+#[unsafe(no_mangle)]
+pub extern "C" fn cdpatch_address(block: u32, bcd: &mut [u8; 3]) -> bool
+    ensures value { result ≡ true → address block ≡ Some bcd.new }
+    ensures none { result ≡ false → address block ≡ None }
+    ensures stays { result ≡ false → bcd.new ≡ bcd.old }
+    ensures some { block ≤ MAX_BLOCK ↔ IsTrue result }
+{
+    match address_of(block) {
+        Some(address) => {
+            *bcd = address;
+            true
+        }
+        None => false,
+    }
+}
+
+/// Makes `sector` the one consistent sector with this address and user data, as [`encode_into`].
+#[unsafe(no_mangle)]
+pub extern "C" fn cdpatch_encode(bcd: &[u8; 3], user: &[u8; USER_SIZE], sector: &mut Sector)
+    ensures consistent { IsConsistent sector.new }
+    ensures header { header_of sector.new ≡ bcd.now ++ 1 ∷ [] }
+    ensures user { user_of sector.new ≡ user.now }
+    ensures alone { (s : List ℕ) → IsConsistent s → header_of s ≡ bcd.now ++ 1 ∷ []
+        → user_of s ≡ user.now → s ≡ sector.new }
+{
+    encode_into(sector, *bcd, user);
+}
+
+/// Makes the P and Q parity, as [`fill_parity`].
+#[unsafe(no_mangle)]
+pub extern "C" fn cdpatch_fill_parity(sector: &mut Sector)
+    ensures words { AllCodeWords sector.new }
+    ensures stays { (i : ℕ) → i < 2076 → slice_index sector.new i ≡ slice_index sector.old i }
+{
+    fill_parity(sector);
+}
+
+/// Whether a sector is of Mode 1, without any defect, as [`is_consistent`].
+#[unsafe(no_mangle)]
+pub extern "C" fn cdpatch_is_consistent(sector: &Sector) -> bool
+    ensures { result ≡ consistent sector.now }
+{
+    is_consistent(sector)
+}
+
+/// Writes to `found` what is wrong with a sector, taken as one of Mode 1, as [`defect`].
+#[unsafe(no_mangle)]
+pub extern "C" fn cdpatch_find_defect(sector: &Sector, found: &mut FoundDefect)
+    ensures zeros { found.new.zeros ≡ as_byte (list_any is_nonzero (defect_of sector.now).zeros) }
+    ensures edc { found.new.edc ≡ as_byte (is_nonzero (defect_of sector.now).rest) }
+    ensures p { found.new.p ≡ count_by is_broken (defect_of sector.now).columns }
+    ensures q { found.new.q ≡ count_by is_broken (defect_of sector.now).diagonals }
+{
+    let report = defect(sector);
+    *found = FoundDefect {
+        zeros: report.zeros as u8,
+        edc: report.edc as u8,
+        p: report.p,
+        q: report.q,
+    };
+}

@@ -1,0 +1,3 @@
+-- Lemmas that name nothing of this crate.
+pub mod Lists
+pub mod Xor

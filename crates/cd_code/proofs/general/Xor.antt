@@ -1,0 +1,62 @@
+-- Sums of field elements: `bit_xor` as a group in which each element is its own inverse.
+use Rattle.std.proofs.Common.{◌≡◌, ℕ, ◌+◌, ◌*◌, ◌/◌, ◌%◌, bit_xor, sym, ap, ◌∙◌, arith, lit<}
+use Rattle.std.specs.Int.Bits.{xor_self, xor_zero_l, xor_zero_r, xor_assoc}
+use Rattle.std.proofs.lemmas.Nat.{xor_comm, xor_shr, xor_mod, xor_block}
+use Rattle.std.proofs.lemmas.Nat.Bits.{bit_at_lowest, bit_at_xor}
+
+-- what is added twice goes away
+pub xor_twice : (a b : ℕ) → bit_xor (bit_xor a b) b ≡ a
+xor_twice a b = xor_assoc a b b ∙ ap (bit_xor a) (xor_self b) ∙ xor_zero_r a
+
+pub xor_twice_left : (a b : ℕ) → bit_xor a (bit_xor a b) ≡ b
+xor_twice_left a b = sym (xor_assoc a a b) ∙ ap (λ z. bit_xor z b) (xor_self a) ∙ xor_zero_l b
+
+-- two pairs of terms change places
+pub xor_swap : (a b c d : ℕ)
+    → bit_xor (bit_xor a b) (bit_xor c d) ≡ bit_xor (bit_xor a c) (bit_xor b d)
+xor_swap a b c d =
+    xor_assoc a b (bit_xor c d)
+    ∙ ap (bit_xor a)
+    (sym (xor_assoc b c d) ∙ ap (λ z. bit_xor z d) (xor_comm b c) ∙ xor_assoc c b d)
+    ∙ sym (xor_assoc a c (bit_xor b d))
+
+-- equal terms on the left go away
+pub xor_cancel : (a b c : ℕ) → bit_xor a b ≡ bit_xor a c → b ≡ c
+xor_cancel a b c e = sym (xor_twice_left a b) ∙ ap (bit_xor a) e ∙ xor_twice_left a c
+
+-- and on the right
+pub xor_cancel_right : (a b c : ℕ) → bit_xor a c ≡ bit_xor b c → a ≡ b
+xor_cancel_right a b c e = sym (xor_twice a c) ∙ ap (λ z. bit_xor z c) e ∙ xor_twice b c
+
+-- two numbers are equal where their sum is 0
+pub same_from_xor : (a b : ℕ) → bit_xor a b ≡ 0 → a ≡ b
+same_from_xor a b e = xor_cancel_right a b b (e ∙ sym (xor_self b))
+
+pub xor_half : (a b : ℕ) → bit_xor a b / 2 ≡ bit_xor (a / 2) (b / 2)
+xor_half a b = xor_shr a b 1
+
+pub xor_low : (a b : ℕ) → bit_xor a b % 2 ≡ bit_xor (a % 2) (b % 2)
+xor_low a b = xor_mod a b 1
+
+pub xor_twofold : (a b : ℕ) → bit_xor a b * 2 ≡ bit_xor (a * 2) (b * 2)
+xor_twofold a b =
+    let e : bit_xor (a * 2 + 0) (b * 2 + 0) ≡ bit_xor a b * 2 + bit_xor 0 0 =
+    xor_block 1 a b 0 0 (lit< tt) (lit< tt) in
+    let l : a * 2 + 0 ≡ a * 2 = omega arith in
+    let r : b * 2 + 0 ≡ b * 2 = omega arith in
+    let t : bit_xor a b * 2 + 0 ≡ bit_xor a b * 2 = omega arith in
+    sym (sym (ap (λ z. bit_xor z (b * 2 + 0)) l ∙ ap (bit_xor (a * 2)) r) ∙ e ∙ t)
+
+-- the sum of two bits
+pub xor_bits : (a b : ℕ) → bit_xor (a % 2) (b % 2) ≡ (a + b) % 2
+xor_bits a b =
+    sym (xor_low a b) ∙ sym (bit_at_lowest (bit_xor a b)) ∙ bit_at_xor a b 0
+    ∙ (let p = bit_at_lowest a in let q = bit_at_lowest b in omega arith)
+
+-- a sum goes bit by bit
+pub xor_by_bits : (a b : ℕ) → bit_xor a b ≡ 2 * bit_xor (a / 2) (b / 2) + (a + b) % 2
+xor_by_bits a b =
+    let half = xor_half a b in
+    let low = xor_low a b in
+    let bits = xor_bits a b in
+    omega arith

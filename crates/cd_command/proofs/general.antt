@@ -1,0 +1,3 @@
+-- Lemmas on arguments that name nothing of this crate.
+pub mod Getters
+pub mod Rows

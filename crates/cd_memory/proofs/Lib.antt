@@ -1,0 +1,7 @@
+mod KnownLemmas
+mod MemoryLemmas
+mod PrintLemmas
+mod ReportLemmas
+mod ScriptLemmas
+mod PatchLemmas
+mod WholeLemmas

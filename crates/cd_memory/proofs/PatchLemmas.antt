@@ -1,0 +1,132 @@
+-- `check` and `apply` on a script and an image that are there.
+use Rattle.std.proofs.Common.{◌≡◌, ◌≢◌, ℕ, ◌+◌, ◌<◌, ◌≤◌, ◌⊎◌, Bool, true, false, nat_eq, List, [], ◌∷◌, ◌++◌, length, take, Option, None, Some, Result, Ok, Err, inl, inr, refl, sym, ap, ◌∙◌, subst, arith, length-append}
+use Rattle.cd_image.specs.Applying.{Applies, AppliesBy, Begins, Streams, streams}
+use Rattle.cd_image.specs.PatchLog.{log_text, patch_tally}
+use Rattle.cd_image.specs.Patched.{EachRun, IsPatched}
+use Rattle.cd_image.specs.declared.patch_log.Tally.{Tally}
+use Rattle.cd_command.specs.Fault.{failed_status}
+use Rattle.cd_read.specs.Ends.{Fits, FitsLeft}
+use Rattle.cd_read.specs.Image.{image_limit}
+use Rattle.cd_read.specs.declared.fault.Fault.{Fault}
+use Rattle.cd_read.specs.declared.fault.Fault.TheVariants.{Log, Read, TooLong, Write}
+use Rattle.cd_stream.specs.Stream.{Outgoing}
+use Rattle.std.specs.Io.KnownBytes.{Appends, Consumes, IsAtEnd}
+use Rattle.cd_jobs.specs.Messages.{fault_line}
+use Rattle.cd_jobs.specs.Run.{Ends, SaysLine, script_status}
+use Rattle.cd_jobs.specs.declared.jobs.Settings.{Settings}
+use Rattle.cd_memory.specs.Memory.{fresh_incoming, fresh_outgoing}
+use Rattle.cd_memory.specs.Whole.{Given, Left, Opened, Patches, Prints, Stops, StopsPatching}
+use Rattle.cd_memory.proofs.KnownLemmas.{Appends-Some, Appends-known, Consumes-known, Fits-beyond, Fits-within, FitsLeft-within, Some-injective, cut-by-failure, read-whole}
+use Rattle.cd_memory.proofs.PrintLemmas.{Leaves, Prints-line}
+
+-- the call was done, or it was stopped, with these bytes sent
+pub data Took (settings : Settings) {before : Given} {image name : List ℕ} (after : Left)
+    (files : Opened before image name) (sent : List ℕ) : Type 0 where
+  done : (patches : Patches settings after files) → patches.last ≡ sent
+      → Took settings after files sent
+  stopped : StopsPatching settings after files sent → Took settings after files sent
+
+-- the streams of a call on an image in memory: all of its bytes are known, and no read of it fails;
+-- the log had got nothing
+pub record InMemory (bytes rest : List ℕ) (old new : Streams) : Type 0 where
+  pub before : old.image.rest ≡ Some bytes
+  pub behind : new.image.rest ≡ Some rest
+  pub reads : new.image.failures ≡ old.image.failures
+  pub log : old.log ≡ fresh_outgoing
+
+module _ (settings : Settings) {before : Given} {image name : List ℕ} (after : Left)
+    (files : Opened before image name) (rest : List ℕ) (old new : Streams) (log : Outgoing)
+    (memory : InMemory files.bytes rest old new) (leaves : Leaves log after) where
+  -- what was read and what is left
+  parts : (read : List ℕ) → Consumes old.image.rest new.image.rest read → files.bytes ≡ read ++ rest
+  parts read came =
+      Consumes-known old.image.rest new.image.rest files.bytes rest read memory.before memory.behind came
+
+  -- what the log has got
+  logged : (told : List ℕ) → Appends old.log.written new.log.written told → new.log.written ≡ Some told
+  logged told went =
+      Appends-Some old.log.written new.log.written [] told (ap (λ o. o.written) memory.log) went
+
+  -- how many calls of the log have failed
+  failed-log : (n : ℕ) → new.log.failures ≡ old.log.failures + n → new.log.failures ≡ n
+  failed-log n rose =
+      let none : old.log.failures ≡ 0 = ap (λ o. o.failures) memory.log in omega (arith, rose, none)
+
+  -- the text that is left, where nothing followed
+  text-of : (told : List ℕ) → Appends old.log.written new.log.written told → log ≡ new.log
+      → after.text ≡ told
+  text-of told went same =
+      Some-injective (sym leaves.text ∙ ap (λ o. o.written) same ∙ logged told went)
+
+  fits-left : (read : List ℕ) → files.bytes ≡ read ++ rest → length read ≤ image_limit
+      → FitsLeft new.image.rest read (take image_limit files.bytes)
+  fits-left read is within =
+      subst (λ o. FitsLeft o read (take image_limit files.bytes)) (sym memory.behind)
+      (subst (λ b. FitsLeft (Some rest) read (take image_limit b)) (sym is)
+      (FitsLeft-within read rest within))
+
+  fits-beyond : (read : List ℕ) → files.bytes ≡ read ++ rest → image_limit ≤ length read
+      → Fits read (take image_limit files.bytes)
+  fits-beyond read is beyond =
+      subst (λ b. Fits read (take image_limit b)) (sym is) (Fits-beyond read rest beyond)
+
+  -- a line was said after what was told
+  line-after : (line told : List ℕ) → Appends old.log.written new.log.written told
+      → new.log.failures ≡ old.log.failures + 0 → SaysLine line new.log log
+      → Prints after told line
+  line-after line told went kept says =
+      Prints-line line told new.log log after (logged told went) (failed-log 0 kept) leaves says
+
+  pub takes : (result : Result Tally Fault)
+      → (a : Applies settings.carry files.patches settings.base old new result)
+      → Ends Log script_status result new.log log after.status → Took settings after files a.sent
+  takes (Ok tally) a ends =
+      let c = a.answers in
+      let none : rest ≡ [] = subst IsAtEnd memory.behind c.at_end in
+      let whole : files.bytes ≡ a.read = read-whole files.bytes a.read rest (parts a.read a.consumes) none in
+      Took.done
+      (record {
+        within = subst (λ b. length b ≤ image_limit) (sym whole) c.within;
+        outcomes = c.outcomes;
+        last = a.sent;
+        patched = subst (λ b. IsPatched settings.carry files.patches c.outcomes settings.base b a.sent)
+            (sym whole) c.patched;
+        text = text-of a.told a.logs ends.0 ∙ c.log_told;
+        status = ends.1 ∙ ap script_status c.tally_right
+            ∙ ap (λ b. script_status (patch_tally b c.outcomes)) (sym whole);
+      })
+      refl
+  takes (Err Read) a ends = absurd (omega (arith, a.answers.failed.reads, memory.reads))
+  takes (Err Write) a ends =
+      let read = parts a.read a.consumes in
+      Took.stopped (record {
+        told = a.told;
+        begins = a.answers.begins (take image_limit files.bytes) (fits-left a.read read a.answers.within);
+        why = Stops.no_room (line-after (fault_line Write) a.told a.logs a.answers.failed.logs
+            (ends.0.1 (λ is. cc)));
+        status = ends.1;
+      })
+  takes (Err Log) a ends =
+      let read = parts a.read a.consumes in
+      let same : log ≡ new.log = ends.0.0 refl in
+      Took.stopped (record {
+        told = a.told;
+        begins = a.answers.begins (take image_limit files.bytes) (fits-left a.read read a.answers.within);
+        why = Stops.no_text
+            (cut-by-failure after.complete log.failures leaves.complete
+            (ap (λ o. o.failures) same ∙ failed-log 1 a.answers.failed.logs))
+            (text-of a.told a.logs same);
+        status = ends.1;
+      })
+  takes (Err TooLong) a ends =
+      let read = parts a.read a.consumes in
+      let beyond = a.answers.beyond in
+      let size : length files.bytes ≡ length (a.read ++ rest) = ap length read in
+      Took.stopped (record {
+        told = a.told;
+        begins = a.answers.begins (take image_limit files.bytes)
+            (fits-beyond a.read read (omega (arith, beyond)));
+        why = Stops.too_long (omega (arith, size, beyond, length-append a.read rest))
+            (line-after (fault_line TooLong) a.told a.logs a.answers.failed.logs (ends.0.1 (λ is. cc)));
+        status = ends.1;
+      })

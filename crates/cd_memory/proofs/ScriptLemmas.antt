@@ -1,0 +1,123 @@
+-- The script of a file in memory: its patches, or why there are none.
+use Rattle.std.proofs.Common.{◌≡◌, ◌≢◌, ℕ, ◌+◌, ◌<◌, ◌≤◌, ◌⊎◌, List, ◌++◌, length, Option, None, Some, Result, Ok, Err, inl, inr, refl, sym, ap, ◌∙◌, subst, arith, length-append}
+use Rattle.std.specs.Io.KnownBytes.{Consumes, IsAtEnd}
+use Rattle.cd_command.specs.Fault.{failed_status}
+use Rattle.cd_script.specs.Limits.{text_limit}
+use Rattle.cd_script.specs.Script.{script}
+use Rattle.cd_script.specs.declared.fault.ScriptFault.{ScriptFault}
+use Rattle.cd_script.specs.declared.fault.ScriptFault.TheVariants as script_fault
+use Rattle.cd_script.specs.declared.patch.Patch.{Patch}
+use Rattle.cd_stream.specs.Forms.{slice_incoming}
+use Rattle.cd_stream.specs.Stream.{Outgoing}
+use Rattle.cd_stream.specs.declared.forms.slice_source.SliceSource.{SliceSource}
+use Rattle.cd_jobs.specs.Messages.{load_fault_line, no_script, open_fault_line, script_fault_line}
+use Rattle.cd_jobs.specs.Program.{ComesOfFile, Fails, ReadsScript}
+use Rattle.cd_jobs.specs.Run.{SaysLine}
+use Rattle.cd_jobs.specs.ScriptLines.{Stops}
+use Rattle.cd_jobs.specs.declared.host.OpenFault.{OpenFault}
+use Rattle.cd_jobs.specs.declared.script.LoadFault.{LoadFault}
+use Rattle.cd_jobs.specs.declared.script.LoadFault.TheVariants.{NoMemory, Read, TooLong}
+use Rattle.cd_memory.specs.Files.{bytes_at}
+use Rattle.cd_memory.specs.Memory.{Opens, fresh_incoming, memory_hosting}
+use Rattle.cd_memory.specs.Whole.{Given, HasPatches, NoPatches}
+use Rattle.cd_memory.proofs.KnownLemmas.{Consumes-known, read-whole}
+
+memory-or-other : (fault : ScriptFault)
+    → (fault ≡ script_fault.NoMemory) ⊎ (fault ≢ script_fault.NoMemory)
+memory-or-other script_fault.NoMemory = inl refl
+memory-or-other _ = inr (λ is. cc)
+
+-- a text that was read to its end is the file's
+text-whole : (bytes text : List ℕ) (file left : SliceSource)
+    → slice_incoming file ≡ fresh_incoming bytes
+    → Consumes (slice_incoming file).rest (slice_incoming left).rest text
+    → IsAtEnd (slice_incoming left).rest → bytes ≡ text
+text-whole bytes text file left opens came at_end =
+    read-whole bytes text left.rest.now
+    (Consumes-known (slice_incoming file).rest (slice_incoming left).rest bytes left.rest.now text
+    (ap (λ i. i.rest) opens) refl came)
+    at_end
+
+-- there are no patches: the line that was said, and why
+abbrev pub Lacks : Given → List ℕ → Outgoing → Outgoing → ℕ → Type 0
+Lacks before name log log' status =
+    (line : List ℕ) × NoPatches before name line × Fails line log log' status
+
+module _ (before : Given) (name : List ℕ) {log log' : Outgoing} where
+  -- reading the file was stopped
+  lacks-stopped : {status : ℕ} (bytes read : List ℕ) (file left : SliceSource) (fault : LoadFault)
+      → bytes_at before.files name ≡ Some bytes → slice_incoming file ≡ fresh_incoming bytes
+      → Consumes (slice_incoming file).rest (slice_incoming left).rest read
+      → Stops fault read (slice_incoming file) (slice_incoming left)
+      → Fails (load_fault_line fault) log log' status → Lacks before name log log' status
+  unfolding load_fault_line
+  lacks-stopped bytes read file left Read is opens came stops fails = absurd (omega (arith, stops.0))
+  lacks-stopped bytes read file left TooLong is opens came stops fails =
+      let all : bytes ≡ read ++ left.rest.now =
+      Consumes-known (slice_incoming file).rest (slice_incoming left).rest bytes left.rest.now read
+      (ap (λ i. i.rest) opens) refl came in
+      let long : length bytes ≡ length (read ++ left.rest.now) = ap length all in (
+        load_fault_line TooLong,
+        NoPatches.too_long bytes is (omega (arith, long, length-append read left.rest.now, stops.2)) refl,
+        fails,
+      )
+  lacks-stopped bytes read file left NoMemory is opens came stops fails =
+      (load_fault_line NoMemory, NoPatches.without_memory (inl refl), fails)
+
+  -- the text has a fault, or memory was refused
+  lacks-faulty : {status : ℕ} (bytes : List ℕ) (fault : ScriptFault)
+      → bytes_at before.files name ≡ Some bytes
+      → (fault ≢ script_fault.NoMemory → script bytes ≡ Err fault)
+      → Fails (script_fault_line fault) log log' status → Lacks before name log log' status
+  lacks-faulty {status = status} bytes fault is other fails = go (memory-or-other fault)
+    where
+      go : ((fault ≡ script_fault.NoMemory) ⊎ (fault ≢ script_fault.NoMemory)) → Lacks before name log log' status
+      go (inl memory) = (script_fault_line fault, NoPatches.without_memory (inr (ap script_fault_line memory)), fails)
+      go (inr another) = (script_fault_line fault, NoPatches.faulty bytes fault is (other another) refl, fails)
+
+  lacks-read : {status : ℕ} (bytes : List ℕ) (file left : SliceSource)
+      → bytes_at before.files name ≡ Some bytes → slice_incoming file ≡ fresh_incoming bytes
+      → ReadsScript (slice_incoming file) (slice_incoming left) log log' (Err status)
+      → Lacks before name log log' status
+  lacks-read bytes file left is opens (inl h) =
+      lacks-stopped bytes h.0 file left h.2.0 is opens h.1 h.2.1 h.2.2
+  lacks-read bytes file left is opens (inr h) =
+      let all : bytes ≡ h.0 = text-whole bytes h.0 file left opens h.1 h.2.at_end in
+      lacks-faulty bytes h.3.0 is
+      (λ other. ap script all ∙ h.3.1.other other) h.3.2
+
+  module _ {O : Type 0} (gone : O → Outgoing) where
+    pub lacks-patches : {status : ℕ} (found : Option (List ℕ)) → bytes_at before.files name ≡ found
+        → (answer : Result SliceSource OpenFault) → Opens found answer
+        → ComesOfFile slice_incoming (memory_hosting gone) log log' (Err status) answer
+        → Lacks before name log log' status
+    unfolding open_fault_line
+    lacks-patches None is (Ok file) opens comes = absurd opens
+    lacks-patches None is (Err fault) opens comes = (
+      no_script,
+      NoPatches.absent is refl,
+      (subst (λ f. SaysLine (open_fault_line no_script f) log log') opens comes.1, cc),
+    )
+    lacks-patches (Some bytes) is (Err fault) opens comes = absurd opens
+    lacks-patches (Some bytes) is (Ok file) opens comes = lacks-read bytes file comes.0 is opens comes.1
+
+    -- the patches, and nothing was said
+    pub has-patches : (patches : List Patch) (found : Option (List ℕ))
+        → bytes_at before.files name ≡ found
+        → (answer : Result SliceSource OpenFault) → Opens found answer
+        → ComesOfFile slice_incoming (memory_hosting gone) log log' (Ok patches) answer
+        → HasPatches before name patches × (log' ≡ log)
+    has-patches patches None is (Ok file) opens comes = absurd opens
+    has-patches patches None is (Err fault) opens comes = cc
+    has-patches patches (Some bytes) is (Err fault) opens comes = absurd opens
+    has-patches patches (Some bytes) is (Ok file) opens comes =
+        let h = comes.1 in
+        let all : bytes ≡ h.0 = text-whole bytes h.0 file comes.0 opens h.1 h.2.at_end in (
+          record {
+            text = bytes;
+            there = is;
+            within = subst (λ t. length t ≤ text_limit) (sym all) h.2.within;
+            reads = (h.3.0, ap script all ∙ h.3.1, h.3.2);
+          },
+          h.4,
+        )

@@ -1,0 +1,79 @@
+-- What the host in memory answers to each question, and what is left of it then: everything is
+-- known.
+use Rattle.std.specs.Prelude.{◌≡◌, ℕ, Bool, false, true, ◌||◌, List, [], ◌∷◌, ◌++◌, length, is_some}
+use Rattle.std.specs.Prelude.{Option, None, Some, Result, Ok, Err}
+use Rattle.cd_stream.specs.Stream.{Incoming, Outgoing}
+use Rattle.cd_stream.specs.Forms.{slice_incoming}
+use Rattle.cd_stream.specs.declared.forms.slice_source.SliceSource.{SliceSource}
+use Rattle.cd_jobs.specs.Hosting.{Hosting}
+use Rattle.cd_jobs.specs.declared.host.OpenFault.{OpenFault}
+use Rattle.cd_jobs.specs.declared.host.OpenFault.TheVariants.{NoMemory, Refused}
+use Rattle.cd_memory.specs.Files.{Named, bytes_at, named, with_bytes}
+use Rattle.cd_memory.specs.declared.memory.Memory.{Memory}
+
+-- the files that were there
+abbrev pub files_of : Memory → List Named
+files_of h = h.files.now
+
+-- the standard input
+abbrev pub input_of : Memory → List ℕ
+input_of h = h.input.now
+
+-- the files that were made
+abbrev pub made_of : Memory → List Named
+made_of h = h.made.items
+
+-- whether there is a file of this name
+abbrev pub is_there : Memory → List ℕ → Bool
+is_there h name = is_some (bytes_at (files_of h) name) || is_some (bytes_at (made_of h) name)
+
+-- the files that were there and the standard input stay
+pub record Stays (h h' : Memory) : Type 0 where
+  pub files : files_of h' ≡ files_of h
+  pub input : input_of h' ≡ input_of h
+
+-- a source that has given nothing yet of these bytes
+abbrev pub fresh_incoming : List ℕ → Incoming
+fresh_incoming bytes = record { rest = Some bytes; given = 0; failures = 0; ended = false }
+
+-- a sink that has got nothing yet
+abbrev pub fresh_outgoing : Outgoing
+fresh_outgoing = record {
+  written = Some [];
+  taken = 0;
+  flushes = 0;
+  failures = 0;
+  finished = false;
+}
+
+-- the bytes, or a refusal if there are none
+abbrev pub Opens : Option (List ℕ) → Result SliceSource OpenFault → Type 0
+Opens (Some bytes) (Ok source) = slice_incoming source ≡ fresh_incoming bytes
+Opens (Some bytes) (Err fault) = ⊥
+Opens None (Ok source) = ⊥
+Opens None (Err fault) = fault ≡ Refused
+
+module _ {O : Type 0} (gone : O → Outgoing) where
+  -- an empty file is made if none has this name, if memory is there for it
+  abbrev pub Makes : Memory → List ℕ → Result O OpenFault → Memory → Type 0
+  Makes h name (Ok file) h' =
+      (is_there h name ≡ false) × (made_of h' ≡ made_of h ++ named name [] ∷ [])
+      × (gone file ≡ fresh_outgoing)
+  Makes h name (Err Refused) h' = (is_there h name ≡ true) × (made_of h' ≡ made_of h)
+  Makes h name (Err NoMemory) h' = (is_there h name ≡ false) × (made_of h' ≡ made_of h)
+
+  -- the file that comes back has the bytes that were written to it
+  pub record TakesBack (h : Memory) (name : List ℕ) (file : O) (h' : Memory) : Type 0 where
+    pub stays : Stays h h'
+    pub bytes : List ℕ
+    pub written : (gone file).written ≡ Some bytes
+    pub made : made_of h' ≡ with_bytes (made_of h) name bytes
+
+  -- what a contract knows of this host: just which bytes each answer has
+  abbrev pub memory_hosting : Hosting Memory SliceSource O
+  memory_hosting = record {
+    gives_input = λ h name answer h'. (h' ≡ h) × Opens (bytes_at (files_of h) name) answer;
+    gives_standard_input = λ h answer h'. (h' ≡ h) × Opens (Some (input_of h)) answer;
+    gives_output = λ h name answer h'. Stays h h' × Makes h name answer h';
+    takes_back = TakesBack;
+  }

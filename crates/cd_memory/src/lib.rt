@@ -1,0 +1,32 @@
+//! The program over files in memory, and the theorem about it: from its arguments and the files
+//! that are there to its status, its text, and each byte of the file that it makes.
+//!
+//! ```
+//! let alloc = rt.alloc();
+//! let mut words = Vec::new(alloc);
+//! for word in ["list", "disc.bin"] {
+//!     words.push(String::from_str(alloc, word)?)?;
+//! }
+//! let name = String::from_str(alloc, "disc.bin")?;
+//! let files = Vec::from_array(alloc, [File::new(name, vec![in alloc; 0; 2353]?)])?;
+//! let ended = run_on_files(alloc, words, &files, &[]);
+//! assert_eq!(rt; ended.status, 0);
+//! let text = b"0-0 nosync\nsectors 1 tail 1\n";
+//! assert_eq!(rt; ended.text.as_slice(), text.as_slice());
+//! ```
+//!
+//! [`run_on_files`] runs what `main` runs, over a host of which everything is known: so the theorem
+//! can name each byte. Whoever wants to know what the program does reads its contract. A new file
+//! cannot be read again, as no command does. If memory is refused, a text or a file may lack its
+//! end, and the theorem says so in each row.
+//!
+//! Tests: `crates/cd_program_tests/src/tests/in_memory.rt`.
+#![tactic(auto)]
+
+mod file;
+mod memory;
+mod run;
+
+pub use file::File;
+pub use memory::Memory;
+pub use run::{Ended, run_on_files};

@@ -1,0 +1,56 @@
+//! The program over files in memory.
+
+ghost use Rattle.std.specs.Prelude.{◌≡◌, map, string_bytes};
+ghost use Rattle.cd_memory.specs.Whole.{RunsOn, given, left_of};
+
+use crate::file::File;
+use crate::memory::Memory;
+use cd_jobs::do_words;
+use cd_stream::{Sink, ToWrite};
+use std::alloc::Global;
+
+/// What the program leaves.
+#[derive(Debug, Drop)]
+pub struct Ended {
+    /// The status: 0, 1 or 2.
+    pub status: u8,
+    /// What it printed on the standard output.
+    pub text: Vec<u8>,
+    /// Whether all of the text found memory. If not, its end is missing.
+    pub complete: bool,
+    /// The new files.
+    pub made: Vec<File>,
+}
+
+/// Does what the arguments after the program's name ask for, as the program does, over files in
+/// memory of which none changes, and a standard input.
+///
+/// # Examples
+///
+/// ```
+/// let alloc = rt.alloc();
+/// let mut words = Vec::new(alloc);
+/// for word in ["list", "disc.bin"] {
+///     words.push(String::from_str(alloc, word)?)?;
+/// }
+/// let name = String::from_str(alloc, "disc.bin")?;
+/// let files = Vec::from_array(alloc, [File::new(name, vec![in alloc; 0; 2353]?)])?;
+/// let ended = run_on_files(alloc, words, &files, &[]);
+/// assert_eq!(rt; ended.status, 0);
+/// let text = b"0-0 nosync\nsectors 1 tail 1\n";
+/// assert_eq!(rt; ended.text.as_slice(), text.as_slice());
+/// ```
+pub fn run_on_files(alloc: Global, words: Vec<String>, files: &[File], input: &[u8]) -> Ended
+    ensures { RunsOn (map string_bytes words.items) (given files.now input.now) (left_of result) }
+{
+    let mut host = Memory::new(alloc, files, input);
+    let mut out = ToWrite::new(Vec::new(alloc));
+    let status = do_words(alloc, &mut host, words, &mut out);
+    let complete = out.failures() == 0;
+    Ended {
+        status,
+        text: out.into_inner(),
+        complete,
+        made: host.into_made(),
+    }
+}

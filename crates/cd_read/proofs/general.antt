@@ -1,0 +1,4 @@
+-- Lemmas that name nothing of this crate.
+pub mod Chunks
+pub mod Counts
+pub mod KnownBytes

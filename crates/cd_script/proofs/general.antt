@@ -1,0 +1,2 @@
+-- Lemmas that name nothing of this crate.
+pub mod Lines

@@ -1,0 +1,14 @@
+use Rattle.std.proofs.Common.{rules}
+use Rattle.cd_sector.specs.Laws.{IsEncoded}
+use Rattle.cd_sector.proofs.ContentLemmas.{encoded-alone}
+use Rattle.cd_sector.proofs.encoding.encode_into.Goals as goal
+
+pub returns : goal.returns
+returns c =
+    let made : IsEncoded c.args.header c.args.user.now c.read_with.new.self = search (rules, c.read_with.ensures) in
+    record {
+      consistent = made.is_consistent;
+      header = made.has_header;
+      user = made.has_user;
+      alone = λ t. encoded-alone c.args.header c.args.user.now t c.read_with.new.self made;
+    }

@@ -1,0 +1,55 @@
+/* libcdpatch: the codes of CD-ROM sectors (ECMA-130), each call proved to do what its comment says. cc .. -lcdpatch; libcdpatch(3).
+ * A sector is 2352 bytes, an address three: minute, second and fraction in BCD. The caller sees to it that pointers are not null
+ * and are valid for the sizes given here, and that what a call writes overlaps nothing else that it is passed. Nothing is
+ * allocated and nothing is kept between calls: threads may call at once, each on memory of its own. */
+#ifndef CDPATCH_H
+#define CDPATCH_H
+
+#include <stdbool.h>
+#include <stddef.h>
+#include <stdint.h>
+
+#ifdef __cplusplus
+extern "C" {
+#endif
+
+enum { CDPATCH_SECTOR_SIZE = 2352, CDPATCH_USER_SIZE = 2048 };
+enum { CDPATCH_NOSYNC, CDPATCH_MODE0, CDPATCH_MODE1, CDPATCH_MODE2, CDPATCH_OTHER }; /* kinds of sectors */
+enum { CDPATCH_OK, CDPATCH_NOT_MODE1, CDPATCH_DAMAGED, CDPATCH_OUT_OF_RANGE };       /* results of changes, asked in this order */
+
+/* What is wrong: a byte of the Intermediate field that is not 00; the EDC; how many of 86 P columns and 52 Q diagonals. */
+struct cdpatch_defect { bool zeros; bool edc; uint8_t p; uint8_t q; };
+
+/* The EDC word of `length` bytes; in a sector it stands over bytes 0 to 2063, at 2064, the least significant byte first. */
+uint32_t cdpatch_edc(const uint8_t *bytes, size_t length);
+/* The kind of a sector, by its sync field and mode byte; CDPATCH_OTHER is a mode byte above 2. */
+uint32_t cdpatch_kind(const uint8_t *sector);
+/* Writes the 3 bytes of the address of a block, 0 to 449849 (block 0 is 00:02:00); for any other answers false, and they stay. */
+bool cdpatch_address(uint32_t block, uint8_t *address);
+/* Writes the 2352 bytes of the one consistent Mode 1 sector with 3 bytes of address, any, and 2048 bytes of user data. */
+void cdpatch_encode(const uint8_t *address, const uint8_t *user, uint8_t *sector);
+/* Makes P and Q parity anew, bytes 2076 to 2351, in a sector of any kind; bytes 0 to 2075 stay. */
+void cdpatch_fill_parity(uint8_t *sector);
+/* Whether a sector is of Mode 1 with nothing wrong in it: Intermediate field, EDC, P and Q parity. */
+bool cdpatch_is_consistent(const uint8_t *sector);
+/* Writes what is wrong with a sector of any kind, taken as one of Mode 1; the mode byte is not asked. */
+void cdpatch_find_defect(const uint8_t *sector, struct cdpatch_defect *defect);
+
+/* Changes of a Mode 1 sector of 2352 bytes. Whatever is not CDPATCH_OK leaves the sector as it was. */
+
+/* Makes the sector the one consistent sector with its header and its user data. */
+uint32_t cdpatch_rebuild(uint8_t *sector);
+/* Writes `length` bytes into the 2048 of user data, from `offset` on, with EDC and parity; refuses a damaged sector. */
+uint32_t cdpatch_change_user(uint8_t *sector, size_t offset, const uint8_t *bytes, size_t length);
+/* The same in a sector that may be damaged: its damage stays, and no other comes; never CDPATCH_DAMAGED. */
+uint32_t cdpatch_carry_user(uint8_t *sector, size_t offset, const uint8_t *bytes, size_t length);
+/* Writes 3 bytes of address into the header, with EDC and parity; refuses a damaged sector. */
+uint32_t cdpatch_change_address(uint8_t *sector, const uint8_t *address);
+/* The same in a sector that may be damaged: its damage stays, and no other comes; never CDPATCH_DAMAGED. */
+uint32_t cdpatch_carry_address(uint8_t *sector, const uint8_t *address);
+
+#ifdef __cplusplus
+}
+#endif
+
+#endif

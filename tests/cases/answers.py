@@ -1,0 +1,78 @@
+"""Who answers the questions of worked cases: the model, and a program."""
+
+import re
+import subprocess
+import tempfile
+from pathlib import Path
+
+from forms import COMMANDS, Answer, listed
+from image import answer
+from script import ordered, script
+from sector import COLUMNS, DIAGONALS, SIZE, address_of, edc_bytes, parity, power, syndromes, times
+
+TIME = 300  # seconds, which no command takes
+
+
+class Model:
+    """The model of tests/model, which answers all."""
+    name = 'the model'
+
+    def answer(self, call, given):
+        if call in COMMANDS:
+            image, base, carry, text = given
+            return Answer(*answer(call, image, base, carry, text))
+        if call == 'order':
+            return ' '.join(str(patch.line) for patch in ordered(script(given[3]))) or '-'
+        return value(call, given)
+
+
+def value(call, given):
+    """A value of the codes, as a case writes it."""
+    if call == 'changes':
+        return ' '.join(f'{place}:{amount:02X}' for place, amount in parity_changes(*given))
+    if call == 'times':
+        return f'{times(int(given[0], 16), int(given[1], 16)):02X}'
+    if call == 'power':
+        return f'{power(int(given[0])):02X}'
+    if call == 'address':
+        made = address_of(int(given[0]))
+        return made.hex() if made else 'None'
+    made = {'edc': lambda v: edc_bytes(v, 0), 'parity': lambda v: parity(list(v), (0, 0)), 'syndromes': syndromes}
+    return bytes(made[call](listed(given[0]))).hex().upper()
+
+
+def parity_changes(place, amount):
+    """Where the parity of the sector with this one byte of 12 to 2075 differs from the sector of zeros."""
+    made = bytearray(SIZE)
+    made[int(place)] = int(amount, 16)
+    for word in COLUMNS + DIAGONALS:
+        made[word[-2]], made[word[-1]] = parity([made[i] for i in word[:-2]], (0, 0))
+    return [(i, made[i]) for i in range(2076, SIZE) if made[i]]
+
+
+class Program:
+    """A program with the arguments of cdpatch, which answers what a command can show. A library answers by one more class."""
+
+    def __init__(self, path):
+        self.path = str(Path(path).resolve())
+        self.name = 'the program'
+
+    def answer(self, call, given):
+        if call in COMMANDS:
+            return self.run(call, *given)
+        if call == 'order':
+            # No patch finds a block in an empty image, and each has its line in the log.
+            told = self.run('check', *given).text
+            return ' '.join(re.findall(r'^line (\d+): ', told, re.MULTILINE)) or '-'
+        return None
+
+    def run(self, command, image, base, carry, text):
+        with tempfile.TemporaryDirectory() as name:
+            directory = Path(name)
+            (directory / 'image').write_bytes(image)
+            (directory / 'script').write_bytes(text)
+            words = [command, 'image'] + ['script'] * (command in ('check', 'apply')) + ['out'] * (command == 'apply')
+            words += ['--base', str(base)] * (base > 0) + ['--carry'] * carry
+            ended = subprocess.run([self.path, *words], cwd=directory, stdin=subprocess.DEVNULL, capture_output=True, timeout=TIME)
+            out = (directory / 'out').read_bytes() if (directory / 'out').exists() else None
+        return Answer(ended.returncode, (ended.stdout + ended.stderr).decode('utf-8', 'replace'), out)

@@ -1,0 +1,102 @@
+"""Judges each line of worked cases by the model and by a program: `run PROGRAM [FILE..]`, `run model [FILE..]`."""
+
+import argparse
+import sys
+from functools import partial
+from multiprocessing import Pool
+
+from answers import Model, Program
+from forms import SIZE, Answer, worked_lines
+
+SHOWN = 300  # so many characters of a text
+
+
+def short(text):
+    """A text in one line, cut if it is long."""
+    text = str(text).rstrip('\n').replace('\n', '; ')
+    return text if len(text) <= SHOWN else f'{text[:SHOWN]}.. ({len(text)} characters)'
+
+
+def difference(came, due):
+    """How two images differ."""
+    if came is None or due is None or len(came) != len(due):
+        sizes = ['no file' if out is None else f'{len(out)} bytes' for out in (came, due)]
+        return f'OUT came with {sizes[0]}, due {sizes[1]}'
+    place = next(i for i in range(len(due)) if came[i] != due[i])
+    count = sum(a != b for a, b in zip(came, due))
+    return (f'{count} bytes of OUT differ, the first at byte {place % SIZE} of sector {place // SIZE}: '
+            f'came {came[place]:02X}, due {due[place]:02X}')
+
+
+def complaint(call, came, due):
+    """What is wrong with an answer, in lines."""
+    if not isinstance(due, Answer):
+        return [f'{call} came: {short(came)}', f'{call} due:  {short(due)}']
+    made = []
+    if (came.status, came.text) != (due.status, due.text):
+        made = [f'{call} came: status {came.status}, {short(came.text)}', f'{call} due:  status {due.status}, {short(due.text)}']
+    return made + ([f'{call}: {difference(came.out, due.out)}'] if came.out != due.out else [])
+
+
+def judged(judge, line):
+    """Whether a judge can answer a line, and what is wrong with its first wrong answer."""
+    asked = False
+    for call, given, due in line.questions:
+        try:
+            came = judge.answer(call, given)
+        except Exception as fault:
+            return line, True, [f'{call} came: {type(fault).__name__}: {short(fault)}']
+        asked = asked or came is not None
+        if came not in (None, due):
+            return line, True, complaint(call, came, due)
+    return line, asked, []
+
+
+def failures(judge, lines, only_first=False):
+    """How many lines a judge was asked and can answer, and those that it answers wrong, with what is wrong."""
+    count, wrong = 0, []
+    with Pool() as pool:
+        for line, asked, told in pool.imap(partial(judged, judge), lines, chunksize=1):
+            count += asked
+            if told:
+                wrong.append((line, told))
+                if only_first:
+                    break
+    return count, wrong
+
+
+def size(line):
+    """How much a line gives to those whom it asks, about: 10,000 bytes for each call."""
+    return sum(10_000 + sum(len(given) for given in question.given if isinstance(given, bytes)) for question in line.questions)
+
+
+def judges_named():
+    """The judges, and the words of the call."""
+    words = argparse.ArgumentParser(prog='tests/cases/run', description='Judges worked cases by the model and by a program.')
+    words.add_argument('program', help="the program, or 'model' for the model alone")
+    words.add_argument('files', nargs='*', help='files of cases in place of all')
+    words.add_argument('--without-model', action='store_true', help='judges by the program only')
+    words.add_argument('--first', action='store_true', help='ends at the first failure, the shortest lines first')
+    given = words.parse_args()
+    judges = [] if given.without_model else [Model()]
+    return judges + ([] if given.program == 'model' else [Program(given.program)]), given
+
+
+def main():
+    """The judges one after the other, and the counts."""
+    judges, given = judges_named()
+    lines = list(worked_lines(given.files or None))
+    if given.first:
+        lines.sort(key=size)
+    passed, failed = 0, 0
+    for judge in judges:
+        count, wrong = failures(judge, lines, given.first)
+        for line, told in wrong:
+            print(f'FAILED: {line.place} by {judge.name}: {short(line.text)}', *told, sep='\n    ')
+        passed, failed = passed + count - len(wrong), failed + len(wrong)
+    print(f'{passed} passed, {failed} failed')
+    return int(failed > 0)
+
+
+if __name__ == '__main__':
+    sys.exit(main())

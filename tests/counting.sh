@@ -1,0 +1,39 @@
+# How tests that run as processes are counted: by their last lines, 'N passed, M failed'.
+
+passed=0
+failed=0
+skipped=()
+
+# count FILE STATUS: adds the count in the last line of what a command has printed. One that ended without a count, or with a
+# status that its count belies, is one more failure. `counted` is then what was counted.
+count() {
+    local line wrong=1
+    counted='no count'
+    while IFS= read -r line; do
+        skipped+=("${line#skipped: }")
+    done < <(grep '^skipped: ' "$1")
+    if [[ $(tail -n 1 "$1") =~ ^([0-9]+)\ passed,\ ([0-9]+)\ failed$ ]]; then
+        counted=${BASH_REMATCH[0]}
+        passed=$((passed + BASH_REMATCH[1]))
+        wrong=${BASH_REMATCH[2]}
+        if [ "$2" != 0 ] && [ "$wrong" = 0 ]; then
+            counted+=", status $2"
+            wrong=1
+        fi
+    fi
+    failed=$((failed + wrong))
+    [ "$wrong" = 0 ]
+}
+
+# What was skipped, with its number, and the counts; whether nothing failed.
+finish_counts() {
+    local separator=': ' name
+    printf '%d skipped' "${#skipped[@]}"
+    for name in "${skipped[@]}"; do
+        printf '%s%s' "$separator" "$name"
+        separator='; '
+    done
+    echo
+    echo "$passed passed, $failed failed"
+    [ "$failed" = 0 ]
+}

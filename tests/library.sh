@@ -1,0 +1,182 @@
+#!/usr/bin/env bash
+# libcdpatch from C and from Python, as tools/prove.sh has built it of cd_c: `bash tests/library.sh [PROGRAM]`. The last line is
+# 'N passed, M failed'.
+set -u
+. "$(dirname "$0")/helpers.sh"
+sources=("$top"/crates/cd_c/src/*.rt)
+header=$top/include/cdpatch.h
+strict=(-Wall -Wextra -Werror -pedantic -I "$top/include")
+if ! bash "$top/tools/library.sh" library 2> errors; then
+    judge "the library is built (bash tools/prove.sh cd_c): $(tail -n 1 errors)" false
+    finish
+    exit
+fi
+builds=(library/libcdpatch.so.1)
+if grep -qw avx2 /proc/cpuinfo && grep -qw bmi2 /proc/cpuinfo && grep -qw movbe /proc/cpuinfo; then
+    builds+=(library/x86-64-v3/libcdpatch.so.1)
+else
+    skip 'the library for x86-64-v3, which wants such a processor'
+fi
+
+# What a command says is shown only where it fails against its purpose.
+holds() { { "$@" > log; } 2>> log || { tail -n 5 log; false; }; }
+refuses() { ! { "$@" > log; } 2> errors; }
+
+# ---- what the library shows and wants
+
+exported() { sed -n 's/^pub extern "C" fn \([a-z_]*\).*/\1/p' "${sources[@]}" | sort; }
+
+shows_the_calls() { nm -D --defined-only "$1" | sed 's/.* //' | sort | cmp -s - <(exported); }
+
+wants_libc_alone() {
+    readelf -d "$1" > dynamic &&
+        [ "$(sed -n 's/.*(NEEDED).*\[\(.*\)\]/\1/p' dynamic)" = libc.so.6 ] &&
+        [ "$(sed -n 's/.*(SONAME).*\[\(.*\)\]/\1/p' dynamic)" = libcdpatch.so.1 ] &&
+        [ -z "$(nm -D --undefined-only "$1" | sed -e 's/.* //' -e 's/@.*//' | grep -vxE 'mem(cpy|set|move|cmp)')" ]
+}
+
+test_symbols() {
+    local library
+    for library in library/libcdpatch.so.1 library/x86-64-v3/libcdpatch.so.1; do
+        judge "$library shows the calls and no more" shows_the_calls "$library"
+        judge "$library wants the C library alone" wants_libc_alone "$library"
+    done
+    judge 'the archive shows the calls and no more' test \
+        "$(nm --extern-only --defined-only library/libcdpatch.a 2> /dev/null | sed -n 's/.* T //p' | sort)" = "$(exported)"
+    echo 'void another(void) {}' > another.c
+    if compiler gcc gcc; then
+        gcc -shared -fPIC another.c -Wl,--whole-archive library/libcdpatch.a -Wl,--no-whole-archive -o another.so
+        judge 'a library that shows more is refused' refuses shows_the_calls another.so
+        judge 'a library with no name is refused' refuses wants_libc_alone another.so
+    fi
+}
+
+compiler() { ! missing "$1" "$2" "what $1 compiles"; }
+
+# ---- the header
+
+# differs NAME EXPRESSION: the header as sed's expression changes it is another, and is refused.
+differs() {
+    sed "$2" "$header" > wrong.h
+    judge "a header with $1 is another" refuses cmp -s "$header" wrong.h
+    judge "a header with $1 is refused" refuses python3 -B "$tests/library/prototypes.py" wrong.h "${sources[@]}"
+}
+
+# man_prototypes PAGE: those of its synopsis, as the header writes them.
+man_prototypes() { sed -n '/^\.Ft/{s/^\.Ft //;N;s/\n\.Fn / /;s/ "/(/;s/" "/, /g;s/"$/);/;p}' "$1"; }
+
+has_the_prototypes() { man_prototypes "$1" | cmp -s - <(sed -n '/^[a-z].* cdpatch_[a-z_]*(.*);$/p' "$header"); }
+
+test_header() {
+    judge 'the man page has the prototypes of the header' has_the_prototypes "$top/man/libcdpatch.3"
+    sed 's/"size_t length"/"uint32_t length"/' "$top/man/libcdpatch.3" > wrong.3
+    judge 'a man page with others is refused' refuses has_the_prototypes wrong.3
+    missing mandoc mandoc 'the form of libcdpatch(3)' ||
+        judge 'the man page is well formed' test -z "$(mandoc -T lint -W warning "$top/man/libcdpatch.3")"
+    missing python3 python3 'the header beside the source' && return
+    judge 'the header has the exports of the source' holds python3 -B "$tests/library/prototypes.py" "$header" "${sources[@]}"
+    differs 'a call less' '/^void cdpatch_fill_parity/d'
+    differs 'a parameter less' 's/, size_t length);$/);/'
+    differs 'parameters exchanged' 's/size_t offset, const uint8_t \*bytes/const uint8_t *bytes, size_t offset/'
+    differs 'no const' 's/cdpatch_kind(const uint8_t/cdpatch_kind(uint8_t/'
+    differs 'another result' 's/^bool cdpatch_is/uint32_t cdpatch_is/'
+    differs 'a shorter number' 's/^uint32_t cdpatch_edc/uint16_t cdpatch_edc/'
+    differs 'results in another order' 's/CDPATCH_NOT_MODE1, CDPATCH_DAMAGED/CDPATCH_DAMAGED, CDPATCH_NOT_MODE1/'
+    differs 'kinds in another order' 's/CDPATCH_NOSYNC, CDPATCH_MODE0/CDPATCH_MODE0, CDPATCH_NOSYNC/'
+    differs 'p and q exchanged' 's/uint8_t p; uint8_t q;/uint8_t q; uint8_t p;/'
+    differs 'a field less' 's/bool edc; //'
+}
+
+# ---- the calls
+
+# compiled_check ARCHIVE PROGRAM: the test in C with this library.
+compiled_check() { gcc -std=c99 -O2 "${strict[@]}" "$tests/library/check.c" "$1" -o "$2" 2> errors; }
+
+# wrong NAME: the test in C refuses the library that tests/library/wrong.c makes by this name.
+wrong() {
+    local call
+    call=$(sed -n "/defined $1\$/,/^#el/s/^[a-z0-9_]* cdpatch_\([a-z_]*\)(.*/\1/p" "$tests/library/wrong.c")
+    objcopy --redefine-sym "cdpatch_$call=right_$call" library/libcdpatch.a "$1.a" &&
+        gcc -O2 "${strict[@]}" "-D$1" "$tests/library/check.c" "$tests/library/wrong.c" "$1.a" -o "$1" 2> errors
+    judge "$1 compiles" test -x "$1"
+    judge "a library is refused of which $1" refuses "./$1" "$vectors"
+}
+
+test_in_c() {
+    local build name
+    compiler gcc 'gcc and libc6-dev' || return
+    judge "check.c compiles without a warning" compiled_check library/libcdpatch.a check
+    judge 'the calls in C' holds ./check "$vectors"
+    for build in "${builds[@]}"; do
+        compiled_check "$build" dynamic_check
+        judge "the calls in C by $build" holds env LD_LIBRARY_PATH="${build%/*}" ./dynamic_check "$vectors"
+    done
+    if compiler g++ g++; then
+        g++ -x c++ "${strict[@]}" "$tests/library/check.c" -x none library/libcdpatch.a -o plus_check 2> errors
+        judge 'the calls in C++' holds ./plus_check "$vectors"
+    fi
+    missing valgrind valgrind 'the calls in C under valgrind' ||
+        judge 'valgrind has no remark' holds valgrind -q --error-exitcode=9 --log-file=remarks ./check "$vectors"
+    missing objcopy binutils 'wrong libraries' && return
+    while read -r name; do
+        wrong "$name"
+    done < <(sed -nE 's/^#(el)?if defined //p' "$tests/library/wrong.c")
+}
+
+test_in_python() {
+    local build count=2000
+    missing python3 python3 'the library beside the model' && return
+    for build in "${builds[@]}"; do
+        judge "$count sectors by $build and by the model" holds python3 -B "$tests/library/model.py" "./$build" $count
+        count=400
+    done
+}
+
+# ---- the examples, and an installed tree
+
+test_examples() {
+    cp "$vectors" image
+    if compiler gcc 'gcc and libc6-dev'; then
+        gcc -O2 "${strict[@]}" "$top/examples/audit.c" library/libcdpatch.a -o audit 2> errors
+        judge 'examples/audit.c has no finding in a sound image' test "$(./audit image; echo $?)" = 0
+        printf '\001' | dd of=image bs=1 seek=$((2352 + 2351)) conv=notrunc status=none
+        printf '\001' | dd of=image bs=1 seek=$((3 * 2352 + 13)) conv=notrunc status=none
+        ./audit image > log
+        judge 'it has the findings of `cdpatch audit`' cmp -s log <("$program" audit image | sed '$d')
+    fi
+    missing python3 python3 'the examples in Python' && return
+    cp "$vectors" image
+    ln -sf libcdpatch.so.1 library/libcdpatch.so
+    judge 'examples/patch.py' test "$(LD_LIBRARY_PATH=library python3 -B "$top/examples/patch.py" image 1 16 HELLO)" = 'block 1: mode1, sound'
+    printf 'cdpatch 1\nset 1 16 48454C4C4F\n' > script
+    "$program" apply "$vectors" script wanted > log
+    judge 'it leaves what `cdpatch apply` writes' cmp -s image wanted
+    LD_LIBRARY_PATH=library python3 -B "$tests/library/examples.py" "$top/examples" > log 2>&1
+    judge "examples/cdpatch.py: $(tail -n 1 log)" test "$(tail -n 1 log)" = right
+}
+
+test_installed() {
+    missing make make 'an installed library' && return
+    make --no-print-directory -s -C "$top" PROGRAM="$program" LIBRARY="$PWD/library" install DESTDIR="$PWD/root" PREFIX=/usr
+    if ! compiler gcc 'gcc and libc6-dev' || missing pkg-config pkg-config 'pkg-config of an installed library'; then return; fi
+    local found
+    read -ra found < <(PKG_CONFIG_SYSROOT_DIR=$PWD/root PKG_CONFIG_PATH=$PWD/root/usr/lib/pkgconfig PKG_CONFIG_ALLOW_SYSTEM_CFLAGS=1 \
+        PKG_CONFIG_ALLOW_SYSTEM_LIBS=1 pkg-config --cflags --libs cdpatch)
+    gcc -std=c99 "$tests/library/ten_lines.c" "${found[@]}" -o ten_lines 2> errors
+    # The EDC as tests/model has it.
+    judge 'ten lines by pkg-config' test "$(LD_LIBRARY_PATH=root/usr/lib ./ten_lines)" = '5F0017BC 1'
+    judge 'its version is that of the program' test "$(PKG_CONFIG_PATH=root/usr/lib/pkgconfig pkg-config --modversion cdpatch)" = \
+        "$("$program" --help | sed -n '$s/cdpatch //p')"
+    [ ${#builds[@]} = 1 ] || judge 'the loader takes the build for x86-64-v3' \
+        grep -q '/glibc-hwcaps/x86-64-v3/' <(LD_TRACE_LOADED_OBJECTS=1 LD_LIBRARY_PATH=$PWD/root/usr/lib ./ten_lines)
+}
+
+if ! missing nm binutils 'what the library shows'; then
+    test_symbols
+fi
+test_header
+test_in_c
+test_in_python
+test_examples
+test_installed
+finish

@@ -1,0 +1,130 @@
+"""Random sectors by a shared library and by tests/model: `model.py LIBRARY [COUNT [SEED]]`. Prints what differs."""
+
+import ctypes
+import sys
+from multiprocessing import Pool
+from pathlib import Path
+from random import Random
+
+sys.path.insert(0, str(Path(__file__).resolve().parent.parent / 'model'))
+from sector import NO_DEFECT, SYNC, address_of, consistent, damage, defect, edc_bytes, kind, sector_with  # noqa: E402
+
+KINDS = ['nosync', 'mode0', 'mode1', 'mode2', 'other']
+OK, NOT_MODE1, DAMAGED, OUT_OF_RANGE = range(4)
+
+
+class Defect(ctypes.Structure):
+    _fields_ = [('zeros', ctypes.c_bool), ('edc', ctypes.c_bool), ('p', ctypes.c_uint8), ('q', ctypes.c_uint8)]
+
+    def told(self):
+        """As `audit` says it."""
+        return (self.zeros * ' zeros' + self.edc * ' edc' + (self.p > 0) * f' p={self.p}' + (self.q > 0) * f' q={self.q}')
+
+
+def some_sector(random):
+    """A sound sector, or one with some bytes changed, of Mode 1 mostly; or any bytes."""
+    if random.random() < 0.05:
+        return random.randbytes(2352)
+    mode = random.choice([1] * 12 + [0, 2, 3])
+    address = address_of(random.randrange(449850)) if random.random() < 0.8 else random.randbytes(3)
+    user = random.choice([random.randbytes(2048), bytes(2048), bytes([random.randrange(256)]) * 2048])
+    sector = bytearray(sector_with(SYNC + address + bytes([mode]) + user, NO_DEFECT))
+    for _ in range(random.choice([0, 0, 1, 1, 2, 5, 40])):
+        at = random.choice([random.randrange(2352), random.randrange(16, 2352), random.randrange(2064, 2352)])
+        sector[at] = random.randrange(256)
+    return bytes(sector)
+
+
+def content_with(sector, place, new):
+    return sector[:place] + new + sector[place + len(new):2064]
+
+
+def changed(sector, content, refuses, inside=True):
+    """What a change answers and leaves, if `content` are the bytes up to the EDC that it makes."""
+    if kind(sector) != 'mode1':
+        return NOT_MODE1, sector
+    if refuses and not consistent(sector):
+        return DAMAGED, sector
+    return (OK, sector_with(content, defect(sector))) if inside else (OUT_OF_RANGE, sector)
+
+
+def parity_of(sector):
+    intermediate, rest, sums = defect(sector)
+    return sector_with(sector[:2064], (intermediate, rest, len(sums) * ((0, 0),)))
+
+
+def differences(library, random):
+    """The names of the calls that differ from the model on a random sector."""
+    sector = some_sector(random)
+    address = random.randbytes(3)
+    offset = random.choice([0, random.randrange(2049), random.randrange(2049), 2048, 2049, 2 ** 64 - 1])
+    new = random.randbytes(random.choice([0, 1, 1, 2, 39, 40, 41, random.randrange(2049), 2048]))
+    inside = offset + len(new) <= 2048
+    user = content_with(sector, 16 + offset, new) if inside else b''
+
+    def call(name, *words):
+        """What a call answers and leaves of the sector."""
+        bytes_left = ctypes.create_string_buffer(sector, 2352)
+        answer = getattr(library, name)(bytes_left, *words)
+        return answer, bytes_left.raw
+
+    made = ctypes.create_string_buffer(2352)
+    library.cdpatch_encode(address, sector[16:2064], made)
+    found = Defect()
+    library.cdpatch_find_defect(sector, ctypes.byref(found))
+    range_words = ctypes.c_size_t(offset), new, ctypes.c_size_t(len(new))
+    rebuilt = (OK, sector_with(sector[:2064], NO_DEFECT)) if kind(sector) == 'mode1' else (NOT_MODE1, sector)
+    readdressed = content_with(sector, 12, address)
+    pairs = {
+        'edc': (library.cdpatch_edc(new, ctypes.c_size_t(len(new))), int.from_bytes(edc_bytes(new, 0), 'little')),
+        'kind': (KINDS[library.cdpatch_kind(sector)], kind(sector)),
+        'encode': (made.raw, sector_with(SYNC + address + b'\1' + sector[16:2064], NO_DEFECT)),
+        'is_consistent': (library.cdpatch_is_consistent(sector), consistent(sector)),
+        'find_defect': (found.told(), damage(sector)),
+        'fill_parity': (call('cdpatch_fill_parity')[1], parity_of(sector)),
+        'rebuild': (call('cdpatch_rebuild'), rebuilt),
+        'change_user': (call('cdpatch_change_user', *range_words), changed(sector, user, True, inside)),
+        'carry_user': (call('cdpatch_carry_user', *range_words), changed(sector, user, False, inside)),
+        'change_address': (call('cdpatch_change_address', address), changed(sector, readdressed, True)),
+        'carry_address': (call('cdpatch_carry_address', address), changed(sector, readdressed, False)),
+    }
+    return [name for name, (got, wanted) in pairs.items() if got != wanted]
+
+
+def open_library(path):
+    library = ctypes.CDLL(path)
+    library.cdpatch_is_consistent.restype = ctypes.c_bool
+    library.cdpatch_address.restype = ctypes.c_bool
+    library.cdpatch_edc.restype = ctypes.c_uint32
+    return library
+
+
+def judge(path, seed, first, count):
+    library = open_library(path)
+    return [f'case {number}: {name}' for number in range(first, first + count)
+            for name in differences(library, Random(f'{seed} {number}'))]
+
+
+def addresses(path):
+    """The blocks whose address differs from the model's."""
+    library = open_library(path)
+    lost = []
+    for block in [*range(0, 449850, 4999), 4349, 4350, 449849, 449850, 2 ** 32 - 1]:
+        address = ctypes.create_string_buffer(b'xyz', 3)
+        has_one = library.cdpatch_address(ctypes.c_uint32(block), address)
+        if (address.raw if has_one else None) != address_of(block) or not has_one and address.raw != b'xyz':
+            lost.append(f'address of block {block}')
+    return lost
+
+
+def main(path, count='2000', seed='1'):
+    step = 25
+    with Pool() as pool:
+        lost = pool.starmap(judge, [(path, seed, first, min(step, int(count) - first)) for first in range(0, int(count), step)])
+    lost = addresses(path) + [line for lines in lost for line in lines]
+    print(*lost[:20], f'{count} sectors, {len(lost)} differences', sep='\n')
+    return bool(lost)
+
+
+if __name__ == '__main__':
+    sys.exit(main(*sys.argv[1:]))

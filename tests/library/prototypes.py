@@ -1,0 +1,67 @@
+"""The header against the exports of the source: `prototypes.py HEADER SOURCE..`. Prints what differs."""
+
+import re
+import sys
+from pathlib import Path
+
+TYPES = {'u8': 'uint8_t', 'u32': 'uint32_t', 'usize': 'size_t', 'bool': 'bool'}
+FLAGS = {'zeros', 'edc'}  # bytes that are 0 or 1, which C sees as bool
+
+
+def spaced(text):
+    return re.sub(r'\s*\*\s*', ' *', ' '.join(text.split()))
+
+
+def of_c(kind):
+    """The C types of a parameter: a slice has two."""
+    if kind == '&[u8]':
+        return ['const uint8_t *', 'size_t']
+    if re.fullmatch(r'&(mut )?(Sector|\[u8; \w+\])', kind):
+        return ['uint8_t *' if '&mut' in kind else 'const uint8_t *']
+    if kind == '&mut FoundDefect':
+        return ['struct cdpatch_defect *']
+    return [TYPES[kind]]
+
+
+def exports(source):
+    """Of each export its C types, the result's first; and the struct's fields and the numbers of the results."""
+    made = {}
+    for name, words, result in re.findall(r'pub extern "C" fn (\w+)\(([^)]*)\)(?: -> (\w+))?', source):
+        kinds = [word.split(': ', 1)[1] for word in spaced(words).split(', ') if word]
+        made[name] = [TYPES[result] if result else 'void', *(c for kind in kinds for c in of_c(kind))]
+    fields = re.findall(r'pub (\w+): (\w+),', re.search(r'struct FoundDefect \{(.*?)\n\}', source, re.S).group(1))
+    made['struct cdpatch_defect'] = ['bool' if name in FLAGS else TYPES[kind] for name, kind in fields]
+    made['fields'] = [name for name, _ in fields]
+    results = re.findall(r'pub const (\w+): u32 = (\d+);', source)
+    made['results'] = ['CDPATCH_' + name for name, _ in sorted(results, key=lambda it: int(it[1]))]
+    arms = re.findall(r'SectorKind::(\w+) => (\d),', source)
+    made['kinds'] = ['CDPATCH_' + name.upper() for name, _ in sorted(arms, key=lambda it: it[1])]
+    return made
+
+
+def declared(header):
+    """The same of the header."""
+    code = re.sub(r'/\*.*?\*/', '', header, flags=re.S)
+    made = {}
+    for result, name, words in re.findall(r'^(\w[\w ]*?)\s+(cdpatch_\w+)\(([^)]*)\);', code, re.M):
+        kinds = [re.sub(r'\w+$', '', spaced(word)).strip() for word in words.split(',')]
+        made[name] = [result, *kinds]
+    fields = re.findall(r'(\w+) (\w+);', re.search(r'struct cdpatch_defect \{(.*?)\}', code, re.S).group(1))
+    made['struct cdpatch_defect'] = [kind for kind, _ in fields]
+    made['fields'] = [name for _, name in fields]
+    enums = [re.findall(r'CDPATCH_\w+', words) for words in re.findall(r'enum \{(.*?)\}', code)]
+    made['kinds'], made['results'] = enums[1], enums[2]
+    return made
+
+
+def main(header, *sources):
+    wanted = exports('\n'.join(Path(source).read_text() for source in sources))
+    got = declared(Path(header).read_text())
+    lost = [f'{name}: {got.get(name)} and not {wanted.get(name)}'
+            for name in sorted({*wanted, *got}) if wanted.get(name) != got.get(name)]
+    print(*lost, f'{len(got)} compared, {len(lost)} differ', sep='\n')
+    return bool(lost)
+
+
+if __name__ == '__main__':
+    sys.exit(main(*sys.argv[1:]))

@@ -1,0 +1,83 @@
+/* Wrong libraries, each by one name given to the compiler: the call of that name is this one, which goes to the right one as
+ * right_NAME and spoils what it did. */
+#include <cdpatch.h>
+#include <string.h>
+
+#if defined ENCODE_LEAVES_THE_LAST_BYTE
+void right_encode(const uint8_t *address, const uint8_t *user, uint8_t *sector);
+void cdpatch_encode(const uint8_t *address, const uint8_t *user, uint8_t *sector) {
+    uint8_t last = sector[2351];
+    right_encode(address, user, sector);
+    sector[2351] = last;
+}
+#elif defined IS_CONSISTENT_READS_BEHIND
+bool right_is_consistent(const uint8_t *sector);
+bool cdpatch_is_consistent(const uint8_t *sector) {
+    volatile uint8_t next = sector[2352];
+    return (void)next, right_is_consistent(sector);
+}
+#elif defined KIND_READS_BEFORE
+uint32_t right_kind(const uint8_t *sector);
+uint32_t cdpatch_kind(const uint8_t *sector) {
+    volatile uint8_t last = *(sector - 1);
+    return (void)last, right_kind(sector);
+}
+#elif defined EDC_LEAVES_OUT_THE_LAST_BYTE
+uint32_t right_edc(const uint8_t *bytes, size_t length);
+uint32_t cdpatch_edc(const uint8_t *bytes, size_t length) {
+    return right_edc(bytes, length ? length - 1 : 0);
+}
+#elif defined FIND_DEFECT_EXCHANGES_P_AND_Q
+void right_find_defect(const uint8_t *sector, struct cdpatch_defect *defect);
+void cdpatch_find_defect(const uint8_t *sector, struct cdpatch_defect *defect) {
+    right_find_defect(sector, defect);
+    uint8_t p = defect->p;
+    defect->p = defect->q;
+    defect->q = p;
+}
+#elif defined FILL_PARITY_CLEARS_THE_EDC
+void right_fill_parity(uint8_t *sector);
+void cdpatch_fill_parity(uint8_t *sector) {
+    memset(sector + 2064, 0, 4);
+    right_fill_parity(sector);
+}
+#elif defined ADDRESS_OF_ONE_BLOCK_MORE
+bool right_address(uint32_t block, uint8_t *address);
+bool cdpatch_address(uint32_t block, uint8_t *address) {
+    return right_address(block, address) || block == 449850;
+}
+#elif defined REBUILD_OF_ANY_KIND
+uint32_t right_rebuild(uint8_t *sector);
+uint32_t cdpatch_rebuild(uint8_t *sector) {
+    uint32_t result = right_rebuild(sector);
+    if (result != CDPATCH_OK) cdpatch_fill_parity(sector);
+    return result;
+}
+#elif defined CHANGE_USER_TAKES_DAMAGE
+uint32_t cdpatch_change_user(uint8_t *sector, size_t offset, const uint8_t *bytes, size_t length) {
+    return cdpatch_carry_user(sector, offset, bytes, length);
+}
+#elif defined CARRY_USER_HIDES_DAMAGE
+uint32_t right_carry_user(uint8_t *sector, size_t offset, const uint8_t *bytes, size_t length);
+uint32_t cdpatch_carry_user(uint8_t *sector, size_t offset, const uint8_t *bytes, size_t length) {
+    uint32_t result = right_carry_user(sector, offset, bytes, length);
+    if (result == CDPATCH_OK) cdpatch_rebuild(sector);
+    return result;
+}
+#elif defined CHANGE_ADDRESS_WRITES_FIRST
+uint32_t right_change_address(uint8_t *sector, const uint8_t *address);
+uint32_t cdpatch_change_address(uint8_t *sector, const uint8_t *address) {
+    uint32_t result = right_change_address(sector, address);
+    memcpy(sector + 12, address, 3);
+    return result;
+}
+#elif defined CARRY_ADDRESS_WITHOUT_EDC
+uint32_t right_carry_address(uint8_t *sector, const uint8_t *address);
+uint32_t cdpatch_carry_address(uint8_t *sector, const uint8_t *address) {
+    uint8_t word[4];
+    memcpy(word, sector + 2064, 4);
+    uint32_t result = right_carry_address(sector, address);
+    memcpy(sector + 2064, word, 4);
+    return result;
+}
+#endif

@@ -1,0 +1,100 @@
+#!/usr/bin/env bash
+# What the Makefile does to prove and to test the program, with an rt that proves nothing: `bash tests/making.sh`. The last line is
+# 'N passed, M failed'.
+set -u
+top=$(cd "$(dirname "$0")/.." && pwd)
+. "$top/tests/judging.sh"
+cd "$scratch" || exit 1
+
+# A repository whose rt, tools/prove.sh, tools/library.sh and tests/run write into `called` what they are called for.
+mkdir -p crates/cdpatch crates/cd_c tools tests bin
+cp "$top/Makefile" "$top/install.mk" .
+cat > bin/rt << 'EOF_RT'
+#!/usr/bin/env bash
+echo "rt in $(basename "$PWD"): $*" >> "$CALLED"
+cat > "$CALLED.input"
+echo 'what the program prints'
+[ -z "${BROKEN-}" ] || exit 1
+mkdir -p out
+made=out/cdpatch
+[ "$1" != lib ] || made=out/libcd_c.a
+[ ! -d ../cd_bench ] || made=out/cd_bench
+echo 'by rt' > "$made"
+[ ! -d src ] || ls src >> "$made"
+chmod +x "$made"
+EOF_RT
+chmod +x bin/rt
+cat > tools/prove.sh << 'EOF_PROVE'
+echo "prove.sh: $*" >> "$CALLED"
+mkdir -p crates/cdpatch/out
+echo 'by prove.sh' > crates/cdpatch/out/cdpatch
+chmod +x crates/cdpatch/out/cdpatch
+EOF_PROVE
+echo 'echo "library.sh: $*" >> "$CALLED"' > tools/library.sh
+echo 'echo "tests: $* ${WHOLE-}" >> "$CALLED"' > tests/run
+export CALLED=$scratch/called PATH="$scratch/bin:$PATH"
+
+# makes WORD..: a run of make with these words, what it called in `called` and its status in `status`.
+makes() {
+    : > called
+    make "$@" > log 2>&1 <<< 'what is on the standard input'
+    status=$?
+}
+
+# called LINE..: whether the last run called just this.
+called() { cmp -s called <(printf '%s\n' "$@"); }
+
+if ! missing make make 'what the Makefile does'; then
+    makes SIMPLE=1
+    judge 'make SIMPLE=1' test "$status" = 0
+    judge 'proves by runs of rt, where the program and the library stand' called 'rt in cdpatch: run' \
+        'rt in cd_c: lib --cpu x86-64-v3' 'rt in cd_c: lib' 'library.sh: library'
+    judge 'the program gets nothing to list' test ! -s called.input
+    judge 'and what it prints is not shown' eval '! grep -q "what the program prints" log'
+    judge 'the program is what rt built' test "$(cat cdpatch)" = 'by rt'
+    makes SIMPLE=1 CPU=x86-64-v3
+    judge 'the processor is handed on' called 'rt in cdpatch: run --cpu x86-64-v3' \
+        'rt in cd_c: lib --cpu x86-64-v3' 'rt in cd_c: lib --cpu x86-64-v3' 'library.sh: library'
+    makes SIMPLE=1 -j 4
+    judge 'with -j too they come one by one' called 'rt in cdpatch: run' 'rt in cd_c: lib --cpu x86-64-v3' \
+        'rt in cd_c: lib' 'library.sh: library'
+    rm cdpatch
+    BROKEN=1 makes SIMPLE=1
+    judge 'what rt refuses fails' test "$status" = 2
+    judge 'and leaves no program' test ! -e cdpatch
+    makes check
+    judge 'no program is not tested' test "$status" = 2 -a ! -s called
+    judge 'and that is said' grep -q 'There is no cdpatch to test: run make first' log
+    makes
+    judge 'without SIMPLE tools/prove.sh proves' called 'prove.sh: cdpatch cd_c  ' 'library.sh: library'
+    judge 'the program is what it built' test "$(cat cdpatch)" = 'by prove.sh'
+    makes SIMPLE=
+    judge 'an empty SIMPLE is none' called 'prove.sh: cdpatch cd_c  ' 'library.sh: library'
+    makes -j 3 CPU=x86-64-v3
+    judge 'it gets the number and the processor' called 'prove.sh: cdpatch cd_c 3 x86-64-v3' 'library.sh: library'
+    makes check
+    judge 'make check tests what make left' called 'tests: cdpatch '
+    makes check WHOLE=1
+    judge 'WHOLE is handed on' called 'tests: cdpatch 1'
+    makes quick
+    judge 'make quick proves and tests' called 'prove.sh: cdpatch cd_c  ' 'library.sh: library' 'tests: cdpatch '
+
+    mkdir -p bench/src
+    cp "$top/bench/build" bench
+    touch crates.txt bench/src/{main,work}.rt.in
+    echo 'what the program prints' > bench/usage
+    makes bench
+    judge 'make bench' test "$status" = 0
+    judge 'proves and builds it by a run of rt' called 'rt in cd_bench: run'
+    judge 'of the sources under their own names' cmp -s bench/cd_bench <(printf '%s\n' 'by rt' main.rt work.rt)
+    judge 'in a copy, which goes' test ! -e crates/cd_bench -a ! -s crates.txt
+    makes bench CPU=x86-64-v3
+    judge 'the processor is handed on to it' called 'rt in cd_bench: run --cpu x86-64-v3'
+    rm bench/cd_bench
+    BROKEN=1 makes bench
+    judge 'a bench that rt refuses fails' test "$status" = 2 -a ! -e bench/cd_bench
+    echo 'other works' > bench/usage
+    makes bench
+    judge 'so does one that names other works' test "$status" = 2 -a ! -e bench/cd_bench
+fi
+finish

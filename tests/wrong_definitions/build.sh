@@ -1,0 +1,32 @@
+#!/usr/bin/env bash
+# Builds the program of a copy of the crates without a proof: `bash build.sh CRATES PROGRAM`. `rt try` keeps no file, so the program
+# is copied while it waits for the image that it is to list.
+set -u
+crates=$1
+program=$2
+scratch=$(mktemp -d)
+trap 'rm -rf "$scratch"' EXIT
+mkfifo "$scratch/image"
+
+# The path of the program that lists the image, if it runs by now.
+waiting_program() {
+    local process words
+    for process in $(pgrep -f -- " list $scratch/image\$"); do
+        words=$(tr '\0' '\n' < "/proc/$process/cmdline" 2> /dev/null)
+        grep -m 1 '^/.*/program$' <<< "$words"
+    done
+}
+
+(cd "$crates/cdpatch" && exec rt try --seconds 600 -- list "$scratch/image") > "$scratch/log" 2>&1 < /dev/null &
+trying=$!
+while kill -0 "$trying" 2> /dev/null; do
+    path=$(waiting_program)
+    if [ -n "$path" ]; then
+        cp "$path" "$program"
+        : > "$scratch/image"
+        break
+    fi
+    sleep 0.5
+done
+wait "$trying"
+[ -x "$program" ] || { grep -m 1 error "$scratch/log" || tail -n 1 "$scratch/log"; exit 1; }
