@@ -35,6 +35,7 @@ cdpatch < image au|cdpatch < image audit
 cdpatch list - im|
 cdpatch list -d|
 cdpatch list -- -d|cdpatch list -- -dash.bin
+cdpatch list da|
 cdpatch apply image script -d|
 cdpatch apply -- image script -d|
 END
