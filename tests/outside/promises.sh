@@ -56,6 +56,14 @@ done < <(second_column bodies | grep -oE '`[a-z_.0-9]+\.[a-z_.0-9]+`' | tr -d '`
 judge "docs/CONTRACTS.md: wrong bodies that are not there:${unknown:- none}" test -z "$unknown"
 judge 'docs/CONTRACTS.md names wrong bodies' test "$(second_column bodies | grep -c '`')" -gt 10
 
+# The README names contracts for each crate: calls and types of the crate's own.
+for crate in "${library_crates[@]}"; do
+    sed -n "/^- \*\*$crate\*\*:/,/^- /{/^- \*\*$crate\*\*:/p;/^  /p}" "$top/README.md" | grep -oE '`[A-Za-z_]+`' | tr -d '`' > named_in_readme
+    sources "$crate" | xargs sed -nE 's/^ *pub (fn|struct|trait) ([A-Za-z_]+).*/\2/p' | sort -u > there
+    unknown=$(sort -u named_in_readme | comm -23 - there | paste -sd ' ')
+    judge "the README names contracts of $crate: ${unknown:-all there}" test -s named_in_readme -a -z "$unknown"
+done
+
 # Each file of code and of definitions has its place in docs/MAP.md, by its path or its folder, and each path there is a file.
 for crate in "${crates_with_contracts[@]}" cdpatch; do
     grep "| $crate |" "$map" | grep -oE '`(src|specs)/[A-Za-z_/.]*`' | tr -d '`' | sort -u > placed
