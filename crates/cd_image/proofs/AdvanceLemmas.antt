@@ -1,14 +1,14 @@
 -- One step of a pass, by what its calls have done.
-use Rattle.std.proofs.Common.{◌≡◌, ◌≢◌, ℕ, suc, ◌+◌, ◌-◌, ◌<◌, ◌≤◌, Bool, List, [], ◌∷◌, ◌++◌, length, take, drop, get_or, Option, None, Some, Result, Ok, Err, true, sym, ap, ◌∙◌, subst, arith, add-one, add-zero, take-append-drop, take_all}
+use Rattle.std.proofs.Common.{◌≡◌, ◌≢◌, ℕ, suc, ◌+◌, ◌-◌, ◌<◌, ◌≤◌, Bool, List, [], ◌∷◌, ◌++◌, length, take, drop, get_or, Option, None, Some, Result, Ok, Err, sym, ap, ◌∙◌, subst, arith, add-one, add-zero, take-append-drop, take_all}
 use Rattle.std.specs.Prelude.{All, IsSome}
 use Rattle.std.specs.List.{slice_get}
 use Rattle.std.specs.List.Sorted.{IsNonDecreasingBy}
 use Rattle.std.proofs.Math.Seq.{drop-cons, take-suc}
 use Rattle.std.proofs.lemmas.List.{get_or-drop, length-drop}
 use Rattle.std.proofs.lemmas.Option.{get_or_from_slice_get, slice_get-get_or, slice_get_within}
-use Rattle.std.specs.Io.KnownBytes.{Appends, Keeps}
 use Rattle.std.proofs.Math.ListN.{length-take}
 use Rattle.cd_stream.specs.Stream.{Incoming, Outgoing}
+use Rattle.cd_stream.specs.Transfer.{Flushes, Sends}
 use Rattle.cd_script.specs.Patch.{IsPatch}
 use Rattle.cd_script.specs.declared.patch.Patch.{Patch}
 use Rattle.cd_sector.specs.declared.sector.TheConstants.{SECTOR_SIZE}
@@ -63,16 +63,16 @@ first_is window sector bytes others is same = is ∙ ap (λ (s : List ℕ). s �
 
 -- the first sector of a window goes out
 module _ (carry : Bool) (taken left : List Patch) (base : ℕ) (start now : Streams) (block count applied : ℕ) (end : Option (List ℕ)) (ahead : All (λ p. block < p.block) left) (out : Outgoing) where
-  pub Steps-sent : (window : List (List ℕ)) → Going carry taken left base start now window block count applied end → (sector : List ℕ) (others : List (List ℕ)) → window ≡ sector ∷ others → length sector ≡ SECTOR_SIZE
-      → Appends now.out.written out.written sector → out.failures ≡ now.out.failures → Going carry taken left base start (record now { out = out }) (drop 1 window) (block + 1) count applied end
-  Steps-sent window g sector others is size sent kept =
+  pub Steps-sent : {X E : Type 0} {x : X} (window : List (List ℕ)) → Going carry taken left base start now window block count applied end → (sector : List ℕ) (others : List (List ℕ)) → window ≡ sector ∷ others → length sector ≡ SECTOR_SIZE
+      → Sends {X = X} {E = E} now.out out sector (Ok x) → Going carry taken left base start (record now { out = out }) (drop 1 window) (block + 1) count applied end
+  Steps-sent window g sector others is size sent =
       subst (λ (ws : List (List ℕ)). Going carry taken left base start (record now { out = out }) (drop 1 ws) (block + 1) count applied end) (sym is)
-      (Going-send carry taken left base start now sector others block count applied end (subst (λ (ws : List (List ℕ)). Going carry taken left base start now ws block count applied end) is g) out sent kept size ahead)
+      (Going-send carry taken left base start now sector others block count applied end (subst (λ (ws : List (List ℕ)). Going carry taken left base start now ws block count applied end) is g) out sent size ahead)
 
-  pub Steps-unsent : (window : List (List ℕ)) → Going carry taken left base start now window block count applied end → (sector : List ℕ) (others : List (List ℕ)) → window ≡ sector ∷ others → length sector ≡ SECTOR_SIZE
-      → (n : ℕ) → n < length sector → Appends now.out.written out.written (take n sector) → out.failures ≡ now.out.failures + 1 → Applies carry (taken ++ left) base start (record now { out = out }) (Err Write)
-  Steps-unsent window g sector others is size n inside sent failed =
-      Applies-write carry taken left base start now sector others block count applied end (subst (λ (ws : List (List ℕ)). Going carry taken left base start now ws block count applied end) is g) out n inside sent failed size ahead
+  pub Steps-unsent : {X E : Type 0} {e : E} (window : List (List ℕ)) → Going carry taken left base start now window block count applied end → (sector : List ℕ) (others : List (List ℕ)) → window ≡ sector ∷ others → length sector ≡ SECTOR_SIZE
+      → Sends {X = X} {E = E} now.out out sector (Err e) → Applies carry (taken ++ left) base start (record now { out = out }) (Err Write)
+  Steps-unsent window g sector others is size fails =
+      Applies-write carry taken left base start now sector others block count applied end (subst (λ (ws : List (List ℕ)). Going carry taken left base start now ws block count applied end) is g) out fails size ahead
 
 -- ---- steps among all patches
 
@@ -148,24 +148,24 @@ module _ (carry : Bool) (ps : List Patch) (base : ℕ) (start now : Streams) (pa
   of_all : (after : Streams) (result : Result Tally Fault) → Applies carry (take pass.decided ps ++ drop pass.decided ps) base start after result → Applies carry ps base start after result
   of_all after result = subst (λ all. Applies carry all base start after result) (take-append-drop pass.decided ps)
 
-  pub Closes-tail : (out : Outgoing) (m : ℕ) → m < length end → Appends now.out.written out.written (take m end) → out.failures ≡ now.out.failures + 1
+  pub Closes-tail : {X E : Type 0} {e : E} (out : Outgoing) → Sends {X = X} {E = E} now.out out end (Err e)
       → Applies carry ps base start (record now { out = out }) (Err Write)
-  Closes-tail out m inside went failed =
+  Closes-tail out fails =
       of_all (record now { out = out }) (Err Write)
-      (Applies-tail carry (take pass.decided ps) (drop pass.decided ps) base start now pass.block pass.sectors pass.applied end whole out m inside went failed)
+      (Applies-tail carry (take pass.decided ps) (drop pass.decided ps) base start now pass.block pass.sectors pass.applied end whole out fails)
 
   -- the patches that are left are told
-  module _ (out : Outgoing) (sent : Appends now.out.written out.written end) (out_kept : out.failures ≡ now.out.failures) (rest : List Patch) (rest_is : rest ≡ drop pass.decided ps) where
-    pub Closes-behind : (log : Outgoing) (m : ℕ) → m < length (missing_lines rest) → Appends now.log.written log.written (take m (missing_lines rest)) → log.failures ≡ now.log.failures + 1
+  module _ {X E : Type 0} {x : X} (out : Outgoing) (sent : Sends {X = X} {E = E} now.out out end (Ok x)) (rest : List Patch) (rest_is : rest ≡ drop pass.decided ps) where
+    pub Closes-behind : {Y F : Type 0} {f : F} (log : Outgoing) → Sends {X = Y} {E = F} now.log log (missing_lines rest) (Err f)
         → Applies carry ps base start (record now { out = out; log = log }) (Err Log)
-    Closes-behind log m inside went failed =
+    Closes-behind {Y} {F} {f} log fails =
         of_all (record now { out = out; log = log }) (Err Log)
-        (Applies-behind carry (take pass.decided ps) (drop pass.decided ps) base start now pass.block pass.sectors pass.applied end whole out sent out_kept log m
-        (subst (λ left. m < length (missing_lines left)) rest_is inside) (subst (λ left. Appends now.log.written log.written (take m (missing_lines left))) rest_is went) failed)
+        (Applies-behind carry (take pass.decided ps) (drop pass.decided ps) base start now pass.block pass.sectors pass.applied end whole out sent log
+        (subst (λ left. Sends {X = Y} {E = F} now.log log (missing_lines left) (Err f)) rest_is fails))
 
-    module _ (lines : Outgoing) (told_rest : Appends now.log.written lines.written (missing_lines rest)) (lines_kept : lines.failures ≡ now.log.failures) (refused : ℕ) (sum : pass.applied + refused ≡ length ps) where
-      told : Appends now.log.written lines.written (missing_lines (drop pass.decided ps))
-      told = subst (λ left. Appends now.log.written lines.written (missing_lines left)) rest_is told_rest
+    module _ {Y F : Type 0} {y : Y} (lines : Outgoing) (told_rest : Sends {X = Y} {E = F} now.log lines (missing_lines rest) (Ok y)) (refused : ℕ) (sum : pass.applied + refused ≡ length ps) where
+      told : Sends {X = Y} {E = F} now.log lines (missing_lines (drop pass.decided ps)) (Ok y)
+      told = subst (λ left. Sends {X = Y} {E = F} now.log lines (missing_lines left) (Ok y)) rest_is told_rest
 
       all_sum : pass.applied + refused ≡ length (take pass.decided ps ++ drop pass.decided ps)
       all_sum = sum ∙ sym (ap length (take-append-drop pass.decided ps))
@@ -173,33 +173,33 @@ module _ (carry : Bool) (ps : List Patch) (base : ℕ) (start now : Streams) (pa
       last_line : log_end pass.applied refused ≡ counts carry (take pass.decided ps) (drop pass.decided ps) base start now pass.block pass.sectors pass.applied end whole
       last_line = counts_are carry (take pass.decided ps) (drop pass.decided ps) base start now pass.block pass.sectors pass.applied end whole refused all_sum
 
-      pub Closes-counts : (log : Outgoing) (m : ℕ) → m < length (log_end pass.applied refused) → Appends lines.written log.written (take m (log_end pass.applied refused)) → log.failures ≡ lines.failures + 1
+      pub Closes-counts : {Z G : Type 0} {f : G} (log : Outgoing) → Sends {X = Z} {E = G} lines log (log_end pass.applied refused) (Err f)
           → Applies carry ps base start (record now { out = out; log = log }) (Err Log)
-      Closes-counts log m inside went failed =
+      Closes-counts {Z} {G} {f} log fails =
           of_all (record now { out = out; log = log }) (Err Log)
-          (Applies-counts carry (take pass.decided ps) (drop pass.decided ps) base start now pass.block pass.sectors pass.applied end whole out sent out_kept lines told lines_kept log m
-          (subst (λ l. m < length l) last_line inside) (subst (λ l. Appends lines.written log.written (take m l)) last_line went) failed)
+          (Applies-counts carry (take pass.decided ps) (drop pass.decided ps) base start now pass.block pass.sectors pass.applied end whole out sent lines told log
+          (subst (λ l. Sends {X = Z} {E = G} lines log l (Err f)) last_line fails))
 
-      module _ (counted : Outgoing) (ended_lines : Appends lines.written counted.written (log_end pass.applied refused)) (counts_kept : counted.failures ≡ lines.failures) where
-        whole_lines : Appends lines.written counted.written (counts carry (take pass.decided ps) (drop pass.decided ps) base start now pass.block pass.sectors pass.applied end whole)
-        whole_lines = subst (Appends lines.written counted.written) last_line ended_lines
+      module _ {Z G : Type 0} {z : Z} (counted : Outgoing) (ended_lines : Sends {X = Z} {E = G} lines counted (log_end pass.applied refused) (Ok z)) where
+        whole_lines : Sends {X = Z} {E = G} lines counted (counts carry (take pass.decided ps) (drop pass.decided ps) base start now pass.block pass.sectors pass.applied end whole) (Ok z)
+        whole_lines = subst (λ l. Sends {X = Z} {E = G} lines counted l (Ok z)) last_line ended_lines
 
-        pub Closes-flush : (out' : Outgoing) → Keeps out.written out'.written → out'.failures ≡ out.failures + 1 → Applies carry ps base start (record now { out = out'; log = counted }) (Err Write)
-        Closes-flush out' kept failed =
+        pub Closes-flush : {H : Type 0} {f : H} (out' : Outgoing) → Flushes {E = H} out out' (Err f) → Applies carry ps base start (record now { out = out'; log = counted }) (Err Write)
+        Closes-flush out' fails =
             of_all (record now { out = out'; log = counted }) (Err Write)
-            (Applies-flush carry (take pass.decided ps) (drop pass.decided ps) base start now pass.block pass.sectors pass.applied end whole out sent out_kept lines told lines_kept counted whole_lines out' kept failed counts_kept)
+            (Applies-flush carry (take pass.decided ps) (drop pass.decided ps) base start now pass.block pass.sectors pass.applied end whole out sent lines told counted whole_lines out' fails)
 
-        module _ (out' : Outgoing) (kept : Keeps out.written out'.written) (flushed : out'.failures ≡ out.failures) (log : Outgoing) (log_kept : Keeps counted.written log.written) where
-          pub Closes-log_flush : log.failures ≡ counted.failures + 1 → out'.finished ≡ true → Applies carry ps base start (record now { out = out'; log = log }) (Err Log)
-          Closes-log_flush failed out_finished =
+        module _ {H : Type 0} {done : Unit {0}} (out' : Outgoing) (flushed : Flushes {E = H} out out' (Ok done)) (log : Outgoing) where
+          pub Closes-log_flush : {K : Type 0} {f : K} → Flushes {E = K} counted log (Err f) → Applies carry ps base start (record now { out = out'; log = log }) (Err Log)
+          Closes-log_flush fails =
               of_all (record now { out = out'; log = log }) (Err Log)
-              (Applies-log_flush carry (take pass.decided ps) (drop pass.decided ps) base start now pass.block pass.sectors pass.applied end whole out sent out_kept lines told lines_kept counted whole_lines out' kept flushed log log_kept counts_kept failed out_finished)
+              (Applies-log_flush carry (take pass.decided ps) (drop pass.decided ps) base start now pass.block pass.sectors pass.applied end whole out sent lines told counted whole_lines out' flushed log fails)
 
-          pub Closes-ok : log.failures ≡ counted.failures → out'.finished ≡ true → log.finished ≡ true
+          pub Closes-ok : {K : Type 0} {end_of_log : Unit {0}} → Flushes {E = K} counted log (Ok end_of_log)
               → Applies carry ps base start (record now { out = out'; log = log }) (Ok (record { applied = pass.applied; refused = refused; sectors = pass.sectors; tail = length end }))
-          Closes-ok log_well out_finished log_finished =
+          Closes-ok log_flushed =
               of_all (record now { out = out'; log = log }) (Ok (record { applied = pass.applied; refused = refused; sectors = pass.sectors; tail = length end }))
-              (Applies-ok carry (take pass.decided ps) (drop pass.decided ps) base start now pass.block pass.sectors pass.applied end whole out sent out_kept lines told lines_kept counted whole_lines out' kept flushed log _ log_kept counts_kept log_well out_finished log_finished
+              (Applies-ok carry (take pass.decided ps) (drop pass.decided ps) base start now pass.block pass.sectors pass.applied end whole out sent lines told counted whole_lines out' flushed log _ log_flushed
               (tally_of_all carry (take pass.decided ps) (drop pass.decided ps) base start now pass.block pass.sectors pass.applied end whole refused all_sum))
 
 -- ---- how large the numbers of a pass are
@@ -227,21 +227,21 @@ bounds carry ps base start now pass low g =
     }
 
 -- a new pass, behind the patches that begin below the image
-pub begun_pass : (carry : Bool) (ps : List Patch) (base : ℕ) (start : Streams) (log : Outgoing) (below : ℕ) (pass : Pass) → pass.window.sectors ≡ [] → pass.block ≡ base → pass.sectors ≡ 0 → pass.decided ≡ below → pass.applied ≡ 0 → pass.window.tail ≡ None
-    → All (λ p. p.block < base) (take below ps) → All (λ p. base ≤ p.block) (drop below ps) → Appends start.log.written log.written (missing_lines (take below ps)) → log.failures ≡ start.log.failures
+pub begun_pass : {X E : Type 0} {x : X} (carry : Bool) (ps : List Patch) (base : ℕ) (start : Streams) (log : Outgoing) (below : ℕ) (pass : Pass) → pass.window.sectors ≡ [] → pass.block ≡ base → pass.sectors ≡ 0 → pass.decided ≡ below → pass.applied ≡ 0 → pass.window.tail ≡ None
+    → All (λ p. p.block < base) (take below ps) → All (λ p. base ≤ p.block) (drop below ps) → Sends {X = X} {E = E} start.log log (missing_lines (take below ps)) (Ok x)
     → GoesOn carry (take pass.decided ps) (drop pass.decided ps) base start (record start { log = log }) pass
-begun_pass carry ps base start log below pass window block sectors decided applied tail under ahead told kept =
+begun_pass carry ps base start log below pass window block sectors decided applied tail under ahead told =
     subst (λ n. GoesOn carry (take n ps) (drop n ps) base start (record start { log = log }) pass) (sym decided)
     (subst (λ (ws : List (List ℕ)). Going carry (take below ps) (drop below ps) base start (record start { log = log }) ws pass.block pass.sectors pass.applied pass.window.tail) (sym window)
     (subst (λ b. Going carry (take below ps) (drop below ps) base start (record start { log = log }) [] b pass.sectors pass.applied pass.window.tail) (sym block)
     (subst (λ n. Going carry (take below ps) (drop below ps) base start (record start { log = log }) [] base n pass.applied pass.window.tail) (sym sectors)
     (subst (λ n. Going carry (take below ps) (drop below ps) base start (record start { log = log }) [] base 0 n pass.window.tail) (sym applied)
     (subst (λ t. Going carry (take below ps) (drop below ps) base start (record start { log = log }) [] base 0 0 t) (sym tail)
-    (Going-start carry (take below ps) (drop below ps) base start log under ahead told kept))))))
+    (Going-start carry (take below ps) (drop below ps) base start log under ahead told))))))
 
 -- the log fails before the first read
-pub Applies-first : (carry : Bool) (ps : List Patch) (base : ℕ) (start : Streams) (log : Outgoing) (below : ℕ) → All (λ p. p.block < base) (take below ps) → (n : ℕ) → n < length (missing_lines (take below ps))
-    → Appends start.log.written log.written (take n (missing_lines (take below ps))) → log.failures ≡ start.log.failures + 1 → Applies carry ps base start (record start { log = log }) (Err Log)
-Applies-first carry ps base start log below under n inside went failed =
+pub Applies-first : {X E : Type 0} {e : E} (carry : Bool) (ps : List Patch) (base : ℕ) (start : Streams) (log : Outgoing) (below : ℕ) → All (λ p. p.block < base) (take below ps)
+    → Sends {X = X} {E = E} start.log log (missing_lines (take below ps)) (Err e) → Applies carry ps base start (record start { log = log }) (Err Log)
+Applies-first carry ps base start log below under fails =
     subst (λ all. Applies carry all base start (record start { log = log }) (Err Log)) (take-append-drop below ps)
-    (Applies-below carry (take below ps) (drop below ps) base start log under n inside went failed)
+    (Applies-below carry (take below ps) (drop below ps) base start log under fails)

@@ -1,10 +1,11 @@
 -- How a call on patches ends before its first read, and behind the last sector of the image.
-use Rattle.std.proofs.Common.{◌≡◌, ℕ, ◌+◌, ◌*◌, ◌<◌, ◌≤◌, ◌⊎◌, inl, inr, Bool, List, [], ◌++◌, length, take, drop, Some, Ok, Err, true, refl, sym, ap, ◌∙◌, subst, arith, append_assoc, append-nil, length-append, take-append-drop, add-zero}
+use Rattle.std.proofs.Common.{◌≡◌, ◌≢◌, ◌↔◌, ℕ, ◌+◌, ◌-◌, ◌*◌, ◌<◌, ◌≤◌, ◌⊎◌, inl, inr, Bool, List, [], ◌++◌, length, take, drop, Some, Result, Ok, Err, refl, sym, ap, ◌∙◌, subst, arith, append_assoc, append-nil, length-append, take-append-drop, add-zero}
 use Rattle.std.specs.Prelude.{All}
-use Rattle.std.specs.Io.KnownBytes.{Appends, Consumes, Keeps}
-use Rattle.std.proofs.KnownBytes.{Appends-kept, Appends-nil, Appends-trans, Consumes-nil}
+use Rattle.std.proofs.KnownBytes.{Appends-kept, Consumes-nil}
 use Rattle.std.proofs.lemmas.List.{length-take-le}
 use Rattle.cd_stream.specs.Stream.{IsBeginning, Outgoing}
+use Rattle.cd_stream.specs.Transfer.{Flushes, Gives, Sends, Takes}
+use Rattle.cd_stream.proofs.TransferLemmas.{Takes-nil, Takes-trans}
 use Rattle.cd_script.specs.declared.patch.Patch.{Patch}
 use Rattle.cd_patch.specs.Run.{PatchRun}
 use Rattle.cd_patch.specs.declared.outcome.Outcome.{Outcome}
@@ -20,7 +21,7 @@ use Rattle.cd_image.specs.declared.patch_log.Tally.{Tally}
 use Rattle.cd_patch.specs.Outcome.{is_applied}
 use Rattle.cd_read.proofs.general.Counts.{count_by-append}
 use Rattle.cd_read.proofs.ImageLemmas.{cut_of_joined}
-use Rattle.cd_image.proofs.KnownLemmas.{lines-begin_within, told_lengths, unfinished_lines, unfinished_log}
+use Rattle.cd_image.proofs.KnownLemmas.{StopsAtLog-within, lines-begin_within, told_lengths, unfinished_lines, unfinished_log}
 use Rattle.cd_read.proofs.EndLemmas.{FitsLeft-end}
 use Rattle.cd_image.proofs.PassingLemmas.{length-bytes_of}
 use Rattle.cd_image.proofs.PatchedLemmas.{IsPatched-determined}
@@ -29,6 +30,13 @@ use Rattle.cd_image.proofs.PatchLogLemmas.{PatchRun-missing, applied_count-missi
 -- a tally by its four numbers
 abbrev pub tally : ℕ → ℕ → ℕ → ℕ → Tally
 tally applied refused count left = record { applied = applied; refused = refused; sectors = count; tail = left }
+
+-- a flush moves no byte
+Takes-flushed : {E : Type 0} (old before after : Outgoing) (bytes : List ℕ) (result : Result (Unit {0}) E) → Takes old before bytes → Flushes {E = E} before after result → Takes old after bytes
+Takes-flushed old before after bytes result took flushed = record {
+  appends = Appends-kept old.written before.written after.written bytes took.appends flushed.bytes;
+  counted = flushed.taken ∙ took.counted;
+}
 
 -- ---- the log fails before the first read, in the lines of the patches below the image's first block
 
@@ -41,37 +49,43 @@ module _ (carry : Bool) (below left : List Patch) (base : ℕ) (start : Streams)
       let same = PatchRun-determined carry below split.0 (missing_outcomes below) base (sectors whole) split.2 (sectors whole) split.4 none in
       (split.1, split.3 ∙ ap (λ f. f ++ split.1) same.0)
 
-  pub Applies-below : (n : ℕ) → n < length (log_lines below (missing_outcomes below)) → Appends start.log.written log.written (take n (log_lines below (missing_outcomes below))) → log.failures ≡ start.log.failures + 1
+  pub Applies-below : {X E : Type 0} {e : E} → Sends {X = X} {E = E} start.log log (log_lines below (missing_outcomes below)) (Err e)
       → Applies carry (below ++ left) base start (record start { log = log }) (Err Log)
   unfolding log_text
-  Applies-below n inside went failed = record {
+  Applies-below fails = record {
     read = [];
     sent = [];
     told = take n (log_lines below (missing_outcomes below));
     consumes = Consumes-nil start.image.rest;
     given = omega arith;
-    appends = Appends-nil start.out.written;
-    logs = went;
+    appends = (Takes-nil start.out).appends;
+    out_taken = omega arith;
+    logs = fails.taken.2.appends;
+    log_taken = fails.taken.2.counted;
     in_hand = omega arith;
-    answers = record {
-      failed = record { reads = omega arith; writes = omega arith; logs = failed };
-      within = omega arith;
-      begins = λ whole fits os last patched.
-          let r = refuses os whole last patched in (
-            (last, refl),
-            subst (λ u. IsBeginning (take n (log_lines below (missing_outcomes below))) (log_text (below ++ left) u)) (sym r.1) (told_begins r.0),
-          );
-      beside = λ whole fits os last patched.
-          let r = refuses os whole last patched in
-          sym (ap (λ u. sent_beside (below ++ left) u base whole (length (take n (log_lines below (missing_outcomes below))))) r.1
-          ∙ ap (sent_beside (below ++ left) (missing_outcomes below ++ r.0) base whole) (length-take-le n (log_lines below (missing_outcomes below)) (omega arith))
-          ∙ sent_beside-alike whole base 0 below left (missing_outcomes below) r.0 n (length-missing_outcomes below) (λ k d here. bytes_before-below whole base _ (under k d here)) inside);
-      flushed = λ whole fits os last patched all.
-          let r = refuses os whole last patched in
-          absurd (unfinished_log (below ++ left) (missing_outcomes below ++ r.0) (take n (log_lines below (missing_outcomes below))) (omega (arith, length-take-le n (log_lines below (missing_outcomes below)) (omega arith), under_all r.0)) (all ∙ ap (log_text (below ++ left)) r.1));
-    };
+    answers =
+        StopsAtLog-within (record { reads = omega arith; writes = omega arith; logs = fails.count }) (record { outs = omega arith; logs = omega (arith, fails.flushes) }) (omega arith)
+        (λ whole fits os last patched.
+        let r = refuses os whole last patched in (
+          (last, refl),
+          subst (λ u. IsBeginning (take n (log_lines below (missing_outcomes below))) (log_text (below ++ left) u)) (sym r.1) (told_begins r.0),
+        ))
+        (λ whole fits os last patched.
+        let r = refuses os whole last patched in
+        sym (ap (λ u. sent_beside (below ++ left) u base whole (length (take n (log_lines below (missing_outcomes below))))) r.1
+        ∙ ap (sent_beside (below ++ left) (missing_outcomes below ++ r.0) base whole) (length-take-le n (log_lines below (missing_outcomes below)) (omega (arith, inside)))
+        ∙ sent_beside-alike whole base 0 below left (missing_outcomes below) r.0 n (length-missing_outcomes below) (λ k d here. bytes_before-below whole base _ (under k d here)) inside))
+        (λ whole fits os last patched all.
+        let r = refuses os whole last patched in
+        unfinished_log (below ++ left) (missing_outcomes below ++ r.0) (take n (log_lines below (missing_outcomes below))) (omega (arith, length-take-le n (log_lines below (missing_outcomes below)) (omega (arith, inside)), under_all r.0)) (all ∙ ap (log_text (below ++ left)) r.1));
   }
     where
+      n : ℕ
+      n = fails.taken.0
+
+      inside : n < length (log_lines below (missing_outcomes below))
+      inside = fails.taken.1
+
       under_all : (back : List Outcome) → n < length (log_lines (below ++ left) (missing_outcomes below ++ back))
       under_all back = let lines = ap length (log_lines-append below left (missing_outcomes below) back (length-missing_outcomes below)) ∙ length-append (log_lines below (missing_outcomes below)) (log_lines left back) in omega (arith, lines, inside)
 
@@ -147,43 +161,51 @@ module _ (carry : Bool) (taken left : List Patch) (base : ℕ) (start now : Stre
       let same = IsPatched-determined carry (taken ++ left) os all base read new last (subst (λ w. IsPatched carry (taken ++ left) os base w new) is other) patched in
       subst (λ w. Holds w os new) (sym is) (subst (λ u. Holds read u new) (sym same.0) (subst (Holds read all) (sym same.1) h))
 
-  consumed : Consumes start.image.rest now.image.rest read
+  gives : Gives start.image now.image read
   unfolding read
-  consumed = g.consumes
-
-  given_read : now.image.given ≡ start.image.given + length read
-  unfolding read
-  given_read = g.given
+  gives = g.gives
 
   within : length read ≤ image_limit
   within = omega (arith, length_read, g.within)
 
   -- the output fails in the tail
-  pub Applies-tail : (out : Outgoing) (n : ℕ) → n < length end → Appends now.out.written out.written (take n end) → out.failures ≡ now.out.failures + 1
+  pub Applies-tail : {X E : Type 0} {e : E} (out : Outgoing) → Sends {X = X} {E = E} now.out out end (Err e)
       → Applies carry (taken ++ left) base start (record now { out = out }) (Err Write)
   unfolding last all read
-  Applies-tail out n inside went failed = record {
+  Applies-tail out fails = record {
     read = read;
     sent = bytes_of g.done ++ take n end;
     told = log_lines taken g.outcomes;
-    consumes = consumed;
-    given = given_read;
-    appends = Appends-trans start.out.written now.out.written out.written _ _ g.appends went;
-    logs = g.logs;
+    consumes = gives.consumes;
+    given = gives.counted;
+    appends = went.appends;
+    out_taken = went.counted;
+    logs = g.logs.appends;
+    log_taken = g.logs.counted;
     in_hand = omega (arith, length_read, length_sent, same_count, g.count, g.short);
     answers = record {
-      failed = record { reads = g.unfailed.reads; writes = omega (arith, failed, g.unfailed.writes); logs = g.unfailed.logs };
+      failed = record { reads = g.unfailed.reads; writes = omega (arith, fails.count, g.unfailed.writes); logs = g.unfailed.logs };
+      out_flushes = 0;
+      flushes = record { outs = fails.flushes ∙ g.unflushed.outs; logs = g.unflushed.logs };
+      once = omega arith;
+      at_end = λ less. refl;
       within = within;
       begins = by_run (λ whole os new. Begins (taken ++ left) (bytes_of g.done ++ take n end) (log_lines taken g.outcomes) os new)
           ((drop n end, ap (λ l. bytes_of g.done ++ l) (sym (take-append-drop n end)) ∙ sym (append_assoc (bytes_of g.done) (take n end) (drop n end))), told_begins);
       beside = by_run (λ whole os new. log_lines taken g.outcomes ≡ log_beside (taken ++ left) os base (length read) (length (bytes_of g.done ++ take n end)))
-          (sym (log_beside-tail (taken ++ left) all base (length read) (length (bytes_of g.done ++ take n end)) count (omega (arith, length_read, g.short)) (omega (arith, length_read, length_sent, same_count, g.count, g.short)) (omega (arith, length_read, length_sent, same_count, g.count))
+          (sym (log_beside-tail (taken ++ left) all base (length read) (length (bytes_of g.done ++ take n end)) count (omega (arith, length_read, g.short)) (omega (arith, length_read, length_sent, same_count, g.count, g.short)) (omega (arith, length_read, length_sent, same_count, g.count, fails.taken.1))
           ∙ lines_below-cut (base + count) taken left g.outcomes (missing_outcomes left) lengths (λ i d here. let h = g.due i d here in omega (arith, h.1)) (λ i d here. let h = g.ahead i d here in omega (arith, h, g.front, same_count, g.count))));
     };
   }
     where
+      n : ℕ
+      n = fails.taken.0
+
+      went : Takes start.out out (bytes_of g.done ++ take n end)
+      went = Takes-trans start.out now.out out _ _ g.sends fails.taken.2
+
       length_sent : length (bytes_of g.done ++ take n end) ≡ 2352 * length g.done + n
-      length_sent = length-append (bytes_of g.done) (take n end) ∙ ap (λ m. m + length (take n end)) (length-bytes_of g.done g.done_sizes) ∙ ap (λ m. 2352 * length g.done + m) (length-take-le n end (omega arith))
+      length_sent = length-append (bytes_of g.done) (take n end) ∙ ap (λ m. m + length (take n end)) (length-bytes_of g.done g.done_sizes) ∙ ap (λ m. 2352 * length g.done + m) (length-take-le n end (omega (arith, fails.taken.1)))
 
       told_begins : IsBeginning (log_lines taken g.outcomes) (log_text (taken ++ left) (g.outcomes ++ missing_outcomes left))
       told_begins = subst (λ l. IsBeginning l (log_text (taken ++ left) (g.outcomes ++ missing_outcomes left))) (append-nil (log_lines taken g.outcomes)) (lines-begin_within taken left g.outcomes (missing_outcomes left) lengths 0)
@@ -192,39 +214,49 @@ module _ (carry : Bool) (taken left : List Patch) (base : ℕ) (start now : Stre
   pub counts : List ℕ
   counts = log_end (applied_count all) (refused_count all)
 
-  module _ (out : Outgoing) (sent : Appends now.out.written out.written end) (out_kept : out.failures ≡ now.out.failures) where
-    all_sent : Appends start.out.written out.written last
+  module _ {X E : Type 0} {x : X} (out : Outgoing) (sent : Sends {X = X} {E = E} now.out out end (Ok x)) where
+    all_sent : Takes start.out out last
     unfolding last
-    all_sent = Appends-trans start.out.written now.out.written out.written _ _ g.appends sent
+    all_sent = Takes-trans start.out now.out out _ _ g.sends sent.taken
 
     -- the log fails in the lines of the patches behind the image
-    pub Applies-behind : (log : Outgoing) (n : ℕ) → n < length (log_lines left (missing_outcomes left)) → Appends now.log.written log.written (take n (log_lines left (missing_outcomes left))) → log.failures ≡ now.log.failures + 1
+    pub Applies-behind : {Y F : Type 0} {f : F} (log : Outgoing) → Sends {X = Y} {E = F} now.log log (log_lines left (missing_outcomes left)) (Err f)
         → Applies carry (taken ++ left) base start (record now { out = out; log = log }) (Err Log)
     unfolding all
-    Applies-behind log n inside went failed = record {
+    Applies-behind log fails = record {
       read = read;
       sent = last;
       told = log_lines taken g.outcomes ++ take n (log_lines left (missing_outcomes left));
-      consumes = consumed;
-      given = given_read;
-      appends = all_sent;
-      logs = Appends-trans start.log.written now.log.written log.written _ _ g.logs went;
+      consumes = gives.consumes;
+      given = gives.counted;
+      appends = all_sent.appends;
+      out_taken = all_sent.counted;
+      logs = went.appends;
+      log_taken = went.counted;
       in_hand = omega (arith, length_last);
-      answers = record {
-        failed = record { reads = g.unfailed.reads; writes = out_kept ∙ g.unfailed.writes; logs = omega (arith, failed, g.unfailed.logs) };
-        within = within;
-        begins = by_run (λ whole os new. Begins (taken ++ left) last (log_lines taken g.outcomes ++ take n (log_lines left (missing_outcomes left))) os new)
-            (([], sym (append-nil last)), lines-begin_within taken left g.outcomes (missing_outcomes left) lengths n);
-        beside = by_run (λ whole os new. length last ≡ sent_beside (taken ++ left) os base whole (length (log_lines taken g.outcomes ++ take n (log_lines left (missing_outcomes left)))))
-            (length_last ∙ sym (ap (sent_beside (taken ++ left) (g.outcomes ++ missing_outcomes left) base read) length_told
-            ∙ sent_beside-behind read base taken left g.outcomes (missing_outcomes left) n lengths ∙ others));
-        flushed = by_run (λ whole os new. log_lines taken g.outcomes ++ take n (log_lines left (missing_outcomes left)) ≡ log_text (taken ++ left) os → out.finished ≡ true)
-            (λ whole. absurd (unfinished_lines taken left g.outcomes (missing_outcomes left) (log_lines taken g.outcomes ++ take n (log_lines left (missing_outcomes left))) n lengths length_told inside whole));
-      };
+      answers =
+          StopsAtLog-within (record { reads = g.unfailed.reads; writes = sent.count ∙ g.unfailed.writes; logs = omega (arith, fails.count, g.unfailed.logs) })
+          (record { outs = sent.flushes ∙ g.unflushed.outs; logs = fails.flushes ∙ g.unflushed.logs }) within
+          (by_run (λ whole os new. Begins (taken ++ left) last (log_lines taken g.outcomes ++ take n (log_lines left (missing_outcomes left))) os new)
+          (([], sym (append-nil last)), lines-begin_within taken left g.outcomes (missing_outcomes left) lengths n))
+          (by_run (λ whole os new. length last ≡ sent_beside (taken ++ left) os base whole (length (log_lines taken g.outcomes ++ take n (log_lines left (missing_outcomes left)))))
+          (length_last ∙ sym (ap (sent_beside (taken ++ left) (g.outcomes ++ missing_outcomes left) base read) length_told
+          ∙ sent_beside-behind read base taken left g.outcomes (missing_outcomes left) n lengths ∙ others)))
+          (by_run (λ whole os new. log_lines taken g.outcomes ++ take n (log_lines left (missing_outcomes left)) ≢ log_text (taken ++ left) os)
+          (unfinished_lines taken left g.outcomes (missing_outcomes left) (log_lines taken g.outcomes ++ take n (log_lines left (missing_outcomes left))) n lengths length_told inside));
     }
       where
+        n : ℕ
+        n = fails.taken.0
+
+        inside : n < length (log_lines left (missing_outcomes left))
+        inside = fails.taken.1
+
+        went : Takes start.log log (log_lines taken g.outcomes ++ take n (log_lines left (missing_outcomes left)))
+        went = Takes-trans start.log now.log log _ _ g.logs fails.taken.2
+
         length_told : length (log_lines taken g.outcomes ++ take n (log_lines left (missing_outcomes left))) ≡ length (log_lines taken g.outcomes) + n
-        length_told = length-append (log_lines taken g.outcomes) (take n (log_lines left (missing_outcomes left))) ∙ ap (λ m. length (log_lines taken g.outcomes) + m) (length-take-le n (log_lines left (missing_outcomes left)) (omega arith))
+        length_told = length-append (log_lines taken g.outcomes) (take n (log_lines left (missing_outcomes left))) ∙ ap (λ m. length (log_lines taken g.outcomes) + m) (length-take-le n (log_lines left (missing_outcomes left)) (omega (arith, inside)))
 
         others : sent_beside left (missing_outcomes left) base read n ≡ length read
         others =
@@ -232,37 +264,43 @@ module _ (carry : Bool) (taken left : List Patch) (base : ℕ) (start now : Stre
             ∙ sent_beside-alike read base (length read) left [] (missing_outcomes left) [] n (length-missing_outcomes left)
             (λ k d here. let h = g.ahead k d here in let cut = ap length sectors_read in bytes_before-behind read base _ (omega (arith, h, cut, g.front, same_count))) inside
 
-    module _ (lines : Outgoing) (told : Appends now.log.written lines.written (log_lines left (missing_outcomes left))) (lines_kept : lines.failures ≡ now.log.failures) where
-      all_told : Appends start.log.written lines.written (log_lines (taken ++ left) all)
+    module _ {Y F : Type 0} {y : Y} (lines : Outgoing) (told : Sends {X = Y} {E = F} now.log lines (log_lines left (missing_outcomes left)) (Ok y)) where
+      all_told : Takes start.log lines (log_lines (taken ++ left) all)
       unfolding all
       all_told =
-          subst (Appends start.log.written lines.written) (sym (log_lines-append taken left g.outcomes (missing_outcomes left) lengths))
-          (Appends-trans start.log.written now.log.written lines.written _ _ g.logs told)
+          subst (Takes start.log lines) (sym (log_lines-append taken left g.outcomes (missing_outcomes left) lengths)) (Takes-trans start.log now.log lines _ _ g.logs told.taken)
 
       -- the log fails in its last line
-      pub Applies-counts : (log : Outgoing) (n : ℕ) → n < length counts → Appends lines.written log.written (take n counts) → log.failures ≡ lines.failures + 1
+      pub Applies-counts : {Z G : Type 0} {f : G} (log : Outgoing) → Sends {X = Z} {E = G} lines log counts (Err f)
           → Applies carry (taken ++ left) base start (record now { out = out; log = log }) (Err Log)
       unfolding counts log_text
-      Applies-counts log n inside went failed = record {
+      Applies-counts log fails = record {
         read = read;
         sent = last;
         told = log_lines (taken ++ left) all ++ take n counts;
-        consumes = consumed;
-        given = given_read;
-        appends = all_sent;
-        logs = Appends-trans start.log.written lines.written log.written _ _ all_told went;
+        consumes = gives.consumes;
+        given = gives.counted;
+        appends = all_sent.appends;
+        out_taken = all_sent.counted;
+        logs = went.appends;
+        log_taken = went.counted;
         in_hand = omega (arith, length_last);
-        answers = record {
-          failed = record { reads = g.unfailed.reads; writes = out_kept ∙ g.unfailed.writes; logs = omega (arith, failed, lines_kept, g.unfailed.logs) };
-          within = within;
-          begins = by_run (λ whole os new. Begins (taken ++ left) last (log_lines (taken ++ left) all ++ take n counts) os new) (([], sym (append-nil last)), told_begins);
-          beside = by_run (λ whole os new. length last ≡ sent_beside (taken ++ left) os base whole (length (log_lines (taken ++ left) all ++ take n counts)))
-              (length_last ∙ sym (ap (sent_beside (taken ++ left) all base read) length_told ∙ sent_beside-end read base (taken ++ left) all n all_lengths));
-          flushed = by_run (λ whole os new. log_lines (taken ++ left) all ++ take n counts ≡ log_text (taken ++ left) os → out.finished ≡ true)
-              (λ whole. absurd (unfinished_log (taken ++ left) all (log_lines (taken ++ left) all ++ take n counts) (omega (arith, length_told, inside)) whole));
-        };
+        answers =
+            StopsAtLog-within (record { reads = g.unfailed.reads; writes = sent.count ∙ g.unfailed.writes; logs = omega (arith, fails.count, told.count, g.unfailed.logs) })
+            (record { outs = sent.flushes ∙ g.unflushed.outs; logs = fails.flushes ∙ told.flushes ∙ g.unflushed.logs }) within
+            (by_run (λ whole os new. Begins (taken ++ left) last (log_lines (taken ++ left) all ++ take n counts) os new) (([], sym (append-nil last)), told_begins))
+            (by_run (λ whole os new. length last ≡ sent_beside (taken ++ left) os base whole (length (log_lines (taken ++ left) all ++ take n counts)))
+            (length_last ∙ sym (ap (sent_beside (taken ++ left) all base read) length_told ∙ sent_beside-end read base (taken ++ left) all n all_lengths)))
+            (by_run (λ whole os new. log_lines (taken ++ left) all ++ take n counts ≢ log_text (taken ++ left) os)
+            (unfinished_log (taken ++ left) all (log_lines (taken ++ left) all ++ take n counts) (omega (arith, length_told, fails.taken.1))));
       }
         where
+          n : ℕ
+          n = fails.taken.0
+
+          went : Takes start.log log (log_lines (taken ++ left) all ++ take n counts)
+          went = Takes-trans start.log lines log _ _ all_told fails.taken.2
+
           told_begins : IsBeginning (log_lines (taken ++ left) all ++ take n counts) (log_text (taken ++ left) all)
           told_begins = (
             drop n counts,
@@ -270,77 +308,99 @@ module _ (carry : Bool) (taken left : List Patch) (base : ℕ) (start now : Stre
           )
 
           length_told : length (log_lines (taken ++ left) all ++ take n counts) ≡ length (log_lines (taken ++ left) all) + n
-          length_told = length-append (log_lines (taken ++ left) all) (take n counts) ∙ ap (λ m. length (log_lines (taken ++ left) all) + m) (length-take-le n counts (omega arith))
+          length_told = length-append (log_lines (taken ++ left) all) (take n counts) ∙ ap (λ m. length (log_lines (taken ++ left) all) + m) (length-take-le n counts (omega (arith, fails.taken.1)))
 
-      module _ (counted : Outgoing) (ended : Appends lines.written counted.written counts) where
-        whole_log : Appends start.log.written counted.written (log_text (taken ++ left) all)
+      module _ {Z G : Type 0} {z : Z} (counted : Outgoing) (ended : Sends {X = Z} {E = G} lines counted counts (Ok z)) where
+        whole_log : Takes start.log counted (log_text (taken ++ left) all)
         unfolding counts log_text
-        whole_log = Appends-trans start.log.written lines.written counted.written _ _ all_told ended
+        whole_log = Takes-trans start.log lines counted _ _ all_told ended.taken
 
         -- the output fails in its flush
-        pub Applies-flush : (out' : Outgoing) → Keeps out.written out'.written → out'.failures ≡ out.failures + 1 → counted.failures ≡ lines.failures
+        pub Applies-flush : {H : Type 0} {f : H} (out' : Outgoing) → Flushes {E = H} out out' (Err f)
             → Applies carry (taken ++ left) base start (record now { out = out'; log = counted }) (Err Write)
-        Applies-flush out' kept failed log_kept = record {
+        Applies-flush out' fails = record {
           read = read;
           sent = last;
           told = log_text (taken ++ left) all;
-          consumes = consumed;
-          given = given_read;
-          appends = Appends-kept start.out.written out.written out'.written _ all_sent kept;
-          logs = whole_log;
+          consumes = gives.consumes;
+          given = gives.counted;
+          appends = went.appends;
+          out_taken = went.counted;
+          logs = whole_log.appends;
+          log_taken = whole_log.counted;
           in_hand = omega (arith, length_last);
           answers = record {
-            failed = record { reads = g.unfailed.reads; writes = omega (arith, failed, out_kept, g.unfailed.writes); logs = omega (arith, log_kept, lines_kept, g.unfailed.logs) };
+            failed = record { reads = g.unfailed.reads; writes = omega (arith, fails.count, sent.count, g.unfailed.writes); logs = ended.count ∙ told.count ∙ g.unfailed.logs };
+            out_flushes = out'.flushes - out.flushes;
+            flushes = record { outs = omega (arith, fails.flushes.0, sent.flushes, g.unflushed.outs); logs = ended.flushes ∙ told.flushes ∙ g.unflushed.logs };
+            once = omega (arith, fails.flushes.1);
+            at_end = λ less. absurd (omega (arith, less, length_last));
             within = within;
             begins = by_run (λ whole os new. Begins (taken ++ left) last (log_text (taken ++ left) all) os new) (([], sym (append-nil last)), ([], sym (append-nil (log_text (taken ++ left) all))));
             beside = by_run (λ whole os new. log_text (taken ++ left) all ≡ log_beside (taken ++ left) os base (length read) (length last))
                 (sym (log_beside-end (taken ++ left) all base (length read) (length last) (omega (arith, length_last)) (omega (arith, length_last))));
           };
         }
+          where
+            went : Takes start.out out' last
+            went = Takes-flushed start.out out out' _ _ all_sent fails
 
-        module _ (out' : Outgoing) (kept : Keeps out.written out'.written) (flushed : out'.failures ≡ out.failures) where
-          sent_and_kept : Appends start.out.written out'.written last
-          sent_and_kept = Appends-kept start.out.written out.written out'.written _ all_sent kept
+        module _ {H : Type 0} {done : Unit {0}} (out' : Outgoing) (flushed : Flushes {E = H} out out' (Ok done)) where
+          all_out : Takes start.out out' last
+          all_out = Takes-flushed start.out out out' _ _ all_sent flushed
 
           -- the log fails in its flush
-          pub Applies-log_flush : (log : Outgoing) → Keeps counted.written log.written → counted.failures ≡ lines.failures → log.failures ≡ counted.failures + 1 → out'.finished ≡ true
+          pub Applies-log_flush : {K : Type 0} {f : K} (log : Outgoing) → Flushes {E = K} counted log (Err f)
               → Applies carry (taken ++ left) base start (record now { out = out'; log = log }) (Err Log)
           unfolding counts log_text
-          Applies-log_flush log log_kept counts_kept failed out_finished = record {
+          Applies-log_flush log fails = record {
             read = read;
             sent = last;
             told = log_text (taken ++ left) all;
-            consumes = consumed;
-            given = given_read;
-            appends = sent_and_kept;
-            logs = Appends-kept start.log.written counted.written log.written _ whole_log log_kept;
+            consumes = gives.consumes;
+            given = gives.counted;
+            appends = all_out.appends;
+            out_taken = all_out.counted;
+            logs = went.appends;
+            log_taken = went.counted;
             in_hand = omega (arith, length_last);
             answers = record {
-              failed = record { reads = g.unfailed.reads; writes = flushed ∙ out_kept ∙ g.unfailed.writes; logs = omega (arith, failed, counts_kept, lines_kept, g.unfailed.logs) };
+              failed = record { reads = g.unfailed.reads; writes = flushed.count ∙ sent.count ∙ g.unfailed.writes; logs = omega (arith, fails.count, ended.count, told.count, g.unfailed.logs) };
+              out_flushes = 1;
+              log_flushes = log.flushes - counted.flushes;
+              flushes = record { outs = omega (arith, flushed.flushes, sent.flushes, g.unflushed.outs); logs = omega (arith, fails.flushes.0, ended.flushes, told.flushes, g.unflushed.logs) };
+              once = (omega arith, omega (arith, fails.flushes.1));
               within = within;
               begins = by_run (λ whole os new. Begins (taken ++ left) last (log_text (taken ++ left) all) os new) (([], sym (append-nil last)), ([], sym (append-nil (log_text (taken ++ left) all))));
               beside = by_run (λ whole os new. length last ≡ sent_beside (taken ++ left) os base whole (length (log_text (taken ++ left) all)))
                   (length_last ∙ sym (ap (sent_beside (taken ++ left) all base read) (length-append (log_lines (taken ++ left) all) counts) ∙ sent_beside-end read base (taken ++ left) all (length counts) all_lengths));
-              flushed = λ whole fits os new patched told_all. out_finished;
+              flushed = λ whole fits os new patched told_all. flushed.finished;
+              at_end = by_run (λ whole os new. (log_text (taken ++ left) all ≡ log_text (taken ++ left) os) ↔ (1 ≡ 1)) (λ told_all. refl, λ once. refl);
             };
           }
+            where
+              went : Takes start.log log (log_text (taken ++ left) all)
+              went = Takes-flushed start.log counted log _ _ whole_log fails
 
           -- all has gone well
-          pub Applies-ok : (log : Outgoing) (tally : Tally) → Keeps counted.written log.written → counted.failures ≡ lines.failures → log.failures ≡ counted.failures
-              → out'.finished ≡ true → log.finished ≡ true → tally ≡ patch_tally read all → Applies carry (taken ++ left) base start (record now { out = out'; log = log }) (Ok tally)
-          Applies-ok log tally log_kept counts_kept ended_well out_finished log_finished tally_right = record {
+          pub Applies-ok : {K : Type 0} {end_of_log : Unit {0}} (log : Outgoing) (tally : Tally) → Flushes {E = K} counted log (Ok end_of_log)
+              → tally ≡ patch_tally read all → Applies carry (taken ++ left) base start (record now { out = out'; log = log }) (Ok tally)
+          Applies-ok log tally log_flushed tally_right = record {
             read = read;
             sent = last;
             told = log_text (taken ++ left) all;
-            consumes = consumed;
-            given = given_read;
-            appends = sent_and_kept;
-            logs = Appends-kept start.log.written counted.written log.written _ whole_log log_kept;
+            consumes = gives.consumes;
+            given = gives.counted;
+            appends = all_out.appends;
+            out_taken = all_out.counted;
+            logs = went.appends;
+            log_taken = went.counted;
             in_hand = omega (arith, length_last);
             answers = record {
-              failed = record { reads = g.unfailed.reads; writes = flushed ∙ out_kept ∙ g.unfailed.writes; logs = ended_well ∙ counts_kept ∙ lines_kept ∙ g.unfailed.logs };
-              out_finished = out_finished;
-              log_finished = log_finished;
+              failed = record { reads = g.unfailed.reads; writes = flushed.count ∙ sent.count ∙ g.unfailed.writes; logs = log_flushed.count ∙ ended.count ∙ told.count ∙ g.unfailed.logs };
+              flushes = record { outs = omega (arith, flushed.flushes, sent.flushes, g.unflushed.outs); logs = omega (arith, log_flushed.flushes, ended.flushes, told.flushes, g.unflushed.logs) };
+              out_finished = flushed.finished;
+              log_finished = log_flushed.finished;
               at_end = (g.ended refl).0;
               ended = (g.ended refl).1;
               within = within;
@@ -350,6 +410,9 @@ module _ (carry : Bool) (taken left : List Patch) (base : ℕ) (start now : Stre
               tally_right = tally_right;
             };
           }
+            where
+              went : Takes start.log log (log_text (taken ++ left) all)
+              went = Takes-flushed start.log counted log _ _ whole_log log_flushed
 
   -- the counts of all outcomes
   pub counts_of_all : (refused : ℕ) → applied + refused ≡ length (taken ++ left) → (applied ≡ applied_count all) × (refused ≡ refused_count all)

@@ -1,12 +1,12 @@
 -- Bytes that come or go in several calls, and how they are counted.
-use Rattle.std.proofs.Common.{◌≡◌, ℕ, ◌+◌, ◌-◌, ◌≤◌, List, ◌++◌, [], length, length-append, take, drop, Option, sym, ap, ◌∙◌, subst, arith}
+use Rattle.std.proofs.Common.{◌≡◌, ℕ, ◌+◌, ◌-◌, ◌≤◌, List, ◌++◌, [], length, length-append, take, drop, Option, Result, sym, ap, ◌∙◌, subst, arith}
 use Rattle.std.proofs.Math.ListN.{length-take}
 use Rattle.std.proofs.Math.Seq.{take-add, take-append-add}
 use Rattle.std.proofs.lemmas.List.{length-take-le, take-append-le, take-take}
 use Rattle.std.specs.Io.KnownBytes.{Appends, Consumes}
-use Rattle.std.proofs.KnownBytes.{Appends-nil, Appends-trans, Consumes-trans}
+use Rattle.std.proofs.KnownBytes.{Appends-kept, Appends-nil, Appends-trans, Consumes-trans}
 use Rattle.cd_stream.specs.Stream.{Incoming, Outgoing}
-use Rattle.cd_stream.specs.Transfer.{Gives, Takes}
+use Rattle.cd_stream.specs.Transfer.{Flushes, Gives, Takes}
 
 -- the front of a buffer, counted by its length
 pub Gives-front : (old new : Incoming) (n : ℕ) (buffer : List ℕ) → n ≤ length buffer → Consumes old.rest new.rest (take n buffer) → new.given ≡ old.given + n
@@ -32,6 +32,13 @@ pub Takes-trans : (a b c : Outgoing) (bs cs : List ℕ) → Takes a b bs → Tak
 Takes-trans a b c bs cs p q = record {
   appends = Appends-trans a.written b.written c.written bs cs p.appends q.appends;
   counted = omega (arith, p.counted, q.counted, length-append bs cs);
+}
+
+-- a flush moves no byte
+pub Takes-flushed : {E : Type 0} (a b c : Outgoing) (bs : List ℕ) (result : Result (Unit {0}) E) → Takes a b bs → Flushes b c result → Takes a c bs
+Takes-flushed a b c bs result went flush = record {
+  appends = Appends-kept a.written b.written c.written bs went.appends flush.bytes;
+  counted = flush.taken ∙ went.counted;
 }
 
 -- the front of a buffer, after n bytes more were read into what lies behind it
