@@ -24,7 +24,7 @@ use Rattle.cd_image.specs.declared.patch_log.Tally.{Tally}
 use Rattle.cd_patch.specs.Outcome.{is_applied}
 use Rattle.cd_read.proofs.general.Counts.{count_by-append}
 use Rattle.cd_read.proofs.ImageLemmas.{cut_of_joined}
-use Rattle.cd_image.proofs.KnownLemmas.{StopsAtLog-within, lines-begin_within, told_lengths, unfinished_lines, unfinished_log}
+use Rattle.cd_image.proofs.KnownLemmas.{StopsAtLog-within, applies, lines-begin_within, told_lengths, unfinished_lines, unfinished_log}
 use Rattle.cd_read.proofs.EndLemmas.{FitsLeft-end}
 use Rattle.cd_image.proofs.PassingLemmas.{length-bytes_of}
 use Rattle.cd_image.proofs.PatchedLemmas.{IsPatched-determined}
@@ -55,33 +55,22 @@ module _ (carry : Bool) (below left : List Patch) (base : ℕ) (start : Streams)
   pub Applies-below : {X E : Type 0} {e : E} → Sends {X = X} {E = E} start.log log (log_lines below (missing_outcomes below)) (Err e)
       → Applies carry (below ++ left) base start (record start { log = log }) (Err Log)
   unfolding log_text
-  Applies-below fails = record {
-    read = [];
-    sent = [];
-    told = take n (log_lines below (missing_outcomes below));
-    consumes = Consumes-nil start.image.rest;
-    given = omega arith;
-    appends = (Takes-nil start.out).appends;
-    out_taken = omega arith;
-    logs = fails.taken.2.appends;
-    log_taken = fails.taken.2.counted;
-    in_hand = omega arith;
-    answers =
-        StopsAtLog-within (record { reads = omega arith; writes = omega arith; logs = fails.count }) (record { outs = omega arith; logs = omega (arith, fails.flushes) }) (omega arith)
-        (λ whole fits os last patched.
-        let r = refuses os whole last patched in (
-          (last, refl),
-          subst (λ u. IsBeginning (take n (log_lines below (missing_outcomes below))) (log_text (below ++ left) u)) (sym r.1) (told_begins r.0),
-        ))
-        (λ whole fits os last patched.
-        let r = refuses os whole last patched in
-        sym (ap (λ u. sent_beside (below ++ left) u base whole (length (take n (log_lines below (missing_outcomes below))))) r.1
-        ∙ ap (sent_beside (below ++ left) (missing_outcomes below ++ r.0) base whole) (length-take-le n (log_lines below (missing_outcomes below)) (omega (arith, inside)))
-        ∙ sent_beside-alike whole base 0 below left (missing_outcomes below) r.0 n (length-missing_outcomes below) (λ k d here. bytes_before-below whole base _ (under k d here)) inside))
-        (λ whole fits os last patched all.
-        let r = refuses os whole last patched in
-        unfinished_log (below ++ left) (missing_outcomes below ++ r.0) (take n (log_lines below (missing_outcomes below))) (omega (arith, length-take-le n (log_lines below (missing_outcomes below)) (omega (arith, inside)), under_all r.0)) (all ∙ ap (log_text (below ++ left)) r.1));
-  }
+  Applies-below fails =
+      applies [] [] (take n (log_lines below (missing_outcomes below))) (Err Log) (record { consumes = Consumes-nil start.image.rest; counted = omega arith }) (Takes-nil start.out) fails.taken.2 (omega arith)
+      (StopsAtLog-within (record { reads = omega arith; writes = omega arith; logs = fails.count }) (record { outs = omega arith; logs = omega (arith, fails.flushes) }) (omega arith)
+      (λ whole fits os last patched.
+      let r = refuses os whole last patched in (
+        (last, refl),
+        subst (λ u. IsBeginning (take n (log_lines below (missing_outcomes below))) (log_text (below ++ left) u)) (sym r.1) (told_begins r.0),
+      ))
+      (λ whole fits os last patched.
+      let r = refuses os whole last patched in
+      sym (ap (λ u. sent_beside (below ++ left) u base whole (length (take n (log_lines below (missing_outcomes below))))) r.1
+      ∙ ap (sent_beside (below ++ left) (missing_outcomes below ++ r.0) base whole) (length-take-le n (log_lines below (missing_outcomes below)) (omega (arith, inside)))
+      ∙ sent_beside-alike whole base 0 below left (missing_outcomes below) r.0 n (length-missing_outcomes below) (λ k d here. bytes_before-below whole base _ (under k d here)) inside))
+      (λ whole fits os last patched all.
+      let r = refuses os whole last patched in
+      unfinished_log (below ++ left) (missing_outcomes below ++ r.0) (take n (log_lines below (missing_outcomes below))) (omega (arith, length-take-le n (log_lines below (missing_outcomes below)) (omega (arith, inside)), under_all r.0)) (all ∙ ap (log_text (below ++ left)) r.1)))
     where
       n : ℕ
       n = fails.taken.0
@@ -224,20 +213,7 @@ module _ (carry : Bool) (ps : List Patch) (base : ℕ) (start now : Streams) (pa
   ends : (out log : Outgoing) (sent told : List ℕ) (result : Result Tally Fault) → Takes start.out out sent → Takes start.log log told → length read ≤ length sent + bytes_in_hand
       → AppliesBy carry every base read sent told start (record now { out = out; log = log }) result → Applies carry ps base start (record now { out = out; log = log }) result
   ends out log sent told result went logged in_hand answers =
-      subst (λ qs. Applies carry qs base start (record now { out = out; log = log }) result) (take-append-drop pass.decided ps)
-      record {
-        read = read;
-        sent = sent;
-        told = told;
-        consumes = gives.consumes;
-        given = gives.counted;
-        appends = went.appends;
-        out_taken = went.counted;
-        logs = logged.appends;
-        log_taken = logged.counted;
-        in_hand = in_hand;
-        answers = answers;
-      }
+      subst (λ qs. Applies carry qs base start (record now { out = out; log = log }) result) (take-append-drop pass.decided ps) (applies read sent told result gives went logged in_hand answers)
 
   -- the output fails in the tail
   pub Closes-tail : {X E : Type 0} {e : E} (out : Outgoing) → Sends {X = X} {E = E} now.out out end (Err e)
