@@ -42,8 +42,8 @@ pub record StopsReading {T : Type 0} (spec : ReportSpec T) (read sent : List ℕ
   pub due_sent : sent ≡ text_of (spec.due read)
   pub beginning : (whole : List ℕ) → Fits read whole → IsBeginning sent (spec.text whole)
 
--- a write failed, or the flush: the lines that were due went out, but for the last one. No flush was
--- made before the whole text went out
+-- a write failed, or the flush: the lines that were due went out, but for the last one. No flush
+-- was made before the whole text went out
 pub record StopsWriting {T : Type 0} (spec : ReportSpec T) (read sent : List ℕ)
     (image image' : Incoming) (out out' : Outgoing) : Type 0 where
   pub reads : image'.failures ≡ image.failures
@@ -78,8 +78,8 @@ Answers spec read sent image image' out out' (Err Log) = ⊥
 Answers spec read sent image image' out out' (Err TooLong) =
     StopsTooLong spec read sent image image' out out'
 
--- a call's whole contract: it read some bytes, sent some, made one flush at the end, and answered by
--- these. It serves sources and sinks whose bytes are known, and others
+-- a call's whole contract: it read some bytes, sent some, made one flush at the end, and answered
+-- by these. It serves sources and sinks whose bytes are known, and others
 pub record Reports {T : Type 0} (spec : ReportSpec T) (image image' : Incoming)
     (out out' : Outgoing) (result : Result T Fault) : Type 0 where
   pub read : List ℕ

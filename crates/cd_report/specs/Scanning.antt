@@ -1,6 +1,6 @@
 -- Plumbing of `list` and `audit`: what is still to be written of an image, sector by sector.
-use Rattle.std.specs.Prelude.{◌≡◌, ℕ, ◌+◌, ◌<◌, ◌≤◌, true, List, [], ◌∷◌, ◌++◌, length, take, count_by}
-use Rattle.std.specs.Prelude.{map, if◌then◌else◌, Option, None, Some, Result, Ok, Err}
+use Rattle.std.specs.Prelude.{◌≡◌, ℕ, ◌+◌, ◌<◌, ◌≤◌, true, List, [], ◌∷◌, ◌++◌, length, take}
+use Rattle.std.specs.Prelude.{count_by, map, if◌then◌else◌, Option, None, Some, Result, Ok, Err}
 use Rattle.cd_sector.specs.Consistent.{is_mode1}
 use Rattle.cd_sector.specs.Kind.{kind_of}
 use Rattle.cd_sector.specs.declared.kinds.SectorKind.{SectorKind}
