@@ -2,7 +2,8 @@
 use Rattle.std.proofs.Common.{◌≡◌, ◌≢◌, ◌↔◌, ℕ, ◌+◌, ◌-◌, ◌*◌, ◌<◌, ◌≤◌, ◌⊎◌, inl, inr, Bool, List, [], ◌++◌, length, take, drop, Option, None, Some, Result, Ok, Err, refl, sym, ap, ◌∙◌, subst, arith, append_assoc, append-nil, length-append, take-append-drop, add-zero}
 use Rattle.std.specs.Prelude.{All, IsSome}
 use Rattle.std.proofs.KnownBytes.{Appends-kept, Consumes-nil}
-use Rattle.std.proofs.lemmas.List.{length-take-le}
+use Rattle.std.proofs.Math.Seq.{take-append-add}
+use Rattle.std.proofs.lemmas.List.{length-take-le, take-append-le}
 use Rattle.cd_stream.specs.Stream.{IsBeginning, Outgoing}
 use Rattle.cd_stream.specs.Transfer.{Flushes, Gives, Sends, Takes}
 use Rattle.cd_stream.proofs.TransferLemmas.{Takes-nil, Takes-trans}
@@ -24,11 +25,11 @@ use Rattle.cd_image.specs.declared.patch_log.Tally.{Tally}
 use Rattle.cd_patch.specs.Outcome.{is_applied}
 use Rattle.cd_read.proofs.general.Counts.{count_by-append}
 use Rattle.cd_read.proofs.ImageLemmas.{cut_of_joined}
-use Rattle.cd_image.proofs.KnownLemmas.{StopsAtLog-within, applies, lines-begin_within, told_lengths, unfinished_lines, unfinished_log}
+use Rattle.cd_image.proofs.KnownLemmas.{StopsAtLog-within, applies, lines-begin_within, told_lengths, unfinished_log}
 use Rattle.cd_read.proofs.EndLemmas.{FitsLeft-end}
 use Rattle.cd_image.proofs.PassingLemmas.{length-bytes_of}
 use Rattle.cd_image.proofs.PatchedLemmas.{IsPatched-determined}
-use Rattle.cd_image.proofs.PatchLogLemmas.{PatchRun-missing, applied_count-missing_outcomes, bytes_before-behind, bytes_before-below, counts-all, length-missing_outcomes, lines_below-cut, log_beside-end, log_beside-tail, log_lines-append, sent_beside-alike, sent_beside-behind, sent_beside-end}
+use Rattle.cd_image.proofs.PatchLogLemmas.{PatchRun-missing, applied_count-missing_outcomes, bytes_before-behind, bytes_before-below, counts-all, length-missing_outcomes, lines_below-cut, log_beside-end, log_beside-tail, log_lines-append, sent_beside-after, sent_beside-alike, sent_beside-behind}
 
 -- a tally by its four numbers
 abbrev pub tally : ℕ → ℕ → ℕ → ℕ → Tally
@@ -215,6 +216,23 @@ module _ (carry : Bool) (ps : List Patch) (base : ℕ) (start now : Streams) (pa
   ends out log sent told result went logged in_hand answers =
       subst (λ qs. Applies carry qs base start (record now { out = out; log = log }) result) (take-append-drop pass.decided ps) (applies read sent told result gives went logged in_hand answers)
 
+  -- the log behind the lines that were written
+  rest_of_log : List ℕ
+  rest_of_log = log_lines left (missing_outcomes left) ++ counts
+
+  log_is : log_text every all ≡ log_lines taken g.outcomes ++ rest_of_log
+  unfolding log_text counts all rest_of_log
+  log_is =
+      let last_line = log_end (applied_count (g.outcomes ++ missing_outcomes left)) (refused_count (g.outcomes ++ missing_outcomes left)) in
+      ap (λ l. l ++ last_line) (log_lines-append taken left g.outcomes (missing_outcomes left) lengths) ∙ append_assoc (log_lines taken g.outcomes) (log_lines left (missing_outcomes left)) last_line
+
+  -- behind these lines all of the image has gone out
+  beside_log : (n : ℕ) → sent_beside every all base read (length (log_lines taken g.outcomes) + n) ≡ length read
+  unfolding all
+  beside_log n =
+      sent_beside-behind read base taken left g.outcomes (missing_outcomes left) n lengths
+      ∙ sent_beside-after read base left (missing_outcomes left) n (λ k d here. let h = g.ahead k d here in let cut = ap length sectors_read in bytes_before-behind read base _ (omega (arith, h, cut, g.front, same_count)))
+
   -- the output fails in the tail
   pub Closes-tail : {X E : Type 0} {e : E} (out : Outgoing) → Sends {X = X} {E = E} now.out out end (Err e)
       → Applies carry ps base start (record now { out = out }) (Err Write)
@@ -252,82 +270,52 @@ module _ (carry : Bool) (ps : List Patch) (base : ℕ) (start now : Streams) (pa
     unfolding last
     all_sent = Takes-trans start.out now.out out _ _ g.sends sent.taken
 
-    -- the log fails in the lines of the patches behind the image
+    -- the log fails behind the lines that were written
+    log_stops : (log : Outgoing) (n : ℕ) → n < length rest_of_log → Takes now.log log (take n rest_of_log) → log.failures ≡ now.log.failures + 1 → log.flushes ≡ now.log.flushes
+        → Applies carry ps base start (record now { out = out; log = log }) (Err Log)
+    log_stops log n inside went failed unflushed =
+        ends out log last told (Err Log) all_sent (Takes-trans start.log now.log log _ _ g.logs went) (omega (arith, length_last))
+        (StopsAtLog-within (record { reads = g.unfailed.reads; writes = sent.count ∙ g.unfailed.writes; logs = omega (arith, failed, g.unfailed.logs) })
+        (record { outs = sent.flushes ∙ g.unflushed.outs; logs = unflushed ∙ g.unflushed.logs }) within
+        (by_run (λ whole os new. Begins every last told os new) (([], sym (append-nil last)), (drop n rest_of_log, told_begins)))
+        (by_run (λ whole os new. length last ≡ sent_beside every os base whole (length told)) (length_last ∙ sym (ap (sent_beside every all base read) length_told ∙ beside_log n)))
+        (by_run (λ whole os new. told ≢ log_text every os) (λ all_told. absurd (omega (arith, inside, length_told, ap length (all_told ∙ log_is), length-append (log_lines taken g.outcomes) rest_of_log)))))
+      where
+        told : List ℕ
+        told = log_lines taken g.outcomes ++ take n rest_of_log
+
+        told_begins : log_text every all ≡ (log_lines taken g.outcomes ++ take n rest_of_log) ++ drop n rest_of_log
+        told_begins = log_is ∙ ap (λ l. log_lines taken g.outcomes ++ l) (sym (take-append-drop n rest_of_log)) ∙ sym (append_assoc (log_lines taken g.outcomes) (take n rest_of_log) (drop n rest_of_log))
+
+        length_told : length (log_lines taken g.outcomes ++ take n rest_of_log) ≡ length (log_lines taken g.outcomes) + n
+        length_told = length-append (log_lines taken g.outcomes) (take n rest_of_log) ∙ ap (λ m. length (log_lines taken g.outcomes) + m) (length-take-le n rest_of_log (omega (arith, inside)))
+
+    -- in those of the patches behind the image
     pub Closes-behind : {Y F : Type 0} {f : F} (log : Outgoing) → Sends {X = Y} {E = F} now.log log (log_lines left (missing_outcomes left)) (Err f)
         → Applies carry ps base start (record now { out = out; log = log }) (Err Log)
-    unfolding all
+    unfolding rest_of_log
     Closes-behind log fails =
-        ends out log last (log_lines taken g.outcomes ++ take n (log_lines left (missing_outcomes left))) (Err Log) all_sent went (omega (arith, length_last))
-        (StopsAtLog-within (record { reads = g.unfailed.reads; writes = sent.count ∙ g.unfailed.writes; logs = omega (arith, fails.count, g.unfailed.logs) })
-        (record { outs = sent.flushes ∙ g.unflushed.outs; logs = fails.flushes ∙ g.unflushed.logs }) within
-        (by_run (λ whole os new. Begins every last (log_lines taken g.outcomes ++ take n (log_lines left (missing_outcomes left))) os new)
-        (([], sym (append-nil last)), lines-begin_within taken left g.outcomes (missing_outcomes left) lengths n))
-        (by_run (λ whole os new. length last ≡ sent_beside every os base whole (length (log_lines taken g.outcomes ++ take n (log_lines left (missing_outcomes left)))))
-        (length_last ∙ sym (ap (sent_beside every (g.outcomes ++ missing_outcomes left) base read) length_told
-        ∙ sent_beside-behind read base taken left g.outcomes (missing_outcomes left) n lengths ∙ others)))
-        (by_run (λ whole os new. log_lines taken g.outcomes ++ take n (log_lines left (missing_outcomes left)) ≢ log_text every os)
-        (unfinished_lines taken left g.outcomes (missing_outcomes left) (log_lines taken g.outcomes ++ take n (log_lines left (missing_outcomes left))) n lengths length_told inside)))
-      where
-        n : ℕ
-        n = fails.taken.0
-
-        inside : n < length (log_lines left (missing_outcomes left))
-        inside = fails.taken.1
-
-        went : Takes start.log log (log_lines taken g.outcomes ++ take n (log_lines left (missing_outcomes left)))
-        went = Takes-trans start.log now.log log _ _ g.logs fails.taken.2
-
-        length_told : length (log_lines taken g.outcomes ++ take n (log_lines left (missing_outcomes left))) ≡ length (log_lines taken g.outcomes) + n
-        length_told = length-append (log_lines taken g.outcomes) (take n (log_lines left (missing_outcomes left))) ∙ ap (λ m. length (log_lines taken g.outcomes) + m) (length-take-le n (log_lines left (missing_outcomes left)) (omega (arith, inside)))
-
-        others : sent_beside left (missing_outcomes left) base read n ≡ length read
-        others =
-            ap (λ ps. sent_beside ps (missing_outcomes left) base read n) (sym (append-nil left)) ∙ ap (λ us. sent_beside (left ++ []) us base read n) (sym (append-nil (missing_outcomes left)))
-            ∙ sent_beside-alike read base (length read) left [] (missing_outcomes left) [] n (length-missing_outcomes left)
-            (λ k d here. let h = g.ahead k d here in let cut = ap length sectors_read in bytes_before-behind read base _ (omega (arith, h, cut, g.front, same_count))) inside
+        let n = fails.taken.0 in
+        let others = log_lines left (missing_outcomes left) in
+        log_stops log n (omega (arith, fails.taken.1, length-append others counts)) (subst (Takes now.log log) (sym (take-append-le n others counts (omega (arith, fails.taken.1)))) fails.taken.2) fails.count fails.flushes
 
     module _ {Y F : Type 0} {y : Y} (lines : Outgoing) (told : Sends {X = Y} {E = F} now.log lines (log_lines left (missing_outcomes left)) (Ok y)) (refused : ℕ) (sum : pass.applied + refused ≡ length ps) where
-      all_told : Takes start.log lines (log_lines every all)
-      unfolding all
-      all_told =
-          subst (Takes start.log lines) (sym (log_lines-append taken left g.outcomes (missing_outcomes left) lengths)) (Takes-trans start.log now.log lines _ _ g.logs told.taken)
-
-      -- the log fails in its last line
+      -- in its last line
       pub Closes-counts : {Z G : Type 0} {f : G} (log : Outgoing) → Sends {X = Z} {E = G} lines log (log_end pass.applied refused) (Err f)
           → Applies carry ps base start (record now { out = out; log = log }) (Err Log)
-      unfolding counts log_text
+      unfolding rest_of_log
       Closes-counts {Z} {G} {f} log fails =
-          ends out log last (log_lines every all ++ take n counts) (Err Log) all_sent went (omega (arith, length_last))
-          (StopsAtLog-within (record { reads = g.unfailed.reads; writes = sent.count ∙ g.unfailed.writes; logs = omega (arith, fails.count, told.count, g.unfailed.logs) })
-          (record { outs = sent.flushes ∙ g.unflushed.outs; logs = fails.flushes ∙ told.flushes ∙ g.unflushed.logs }) within
-          (by_run (λ whole os new. Begins every last (log_lines every all ++ take n counts) os new) (([], sym (append-nil last)), told_begins))
-          (by_run (λ whole os new. length last ≡ sent_beside every os base whole (length (log_lines every all ++ take n counts)))
-          (length_last ∙ sym (ap (sent_beside every all base read) length_told ∙ sent_beside-end read base every all n all_lengths)))
-          (by_run (λ whole os new. log_lines every all ++ take n counts ≢ log_text every os)
-          (unfinished_log every all (log_lines every all ++ take n counts) (omega (arith, length_told, cut.taken.1)))))
-        where
-          cut : Sends {X = Z} {E = G} lines log counts (Err f)
-          cut = subst (λ l. Sends {X = Z} {E = G} lines log l (Err f)) (counts_are refused sum) fails
-
-          n : ℕ
-          n = cut.taken.0
-
-          went : Takes start.log log (log_lines every all ++ take n counts)
-          went = Takes-trans start.log lines log _ _ all_told cut.taken.2
-
-          told_begins : IsBeginning (log_lines every all ++ take n counts) (log_text every all)
-          told_begins = (
-            drop n counts,
-            ap (λ l. log_lines every all ++ l) (sym (take-append-drop n counts)) ∙ sym (append_assoc (log_lines every all) (take n counts) (drop n counts)),
-          )
-
-          length_told : length (log_lines every all ++ take n counts) ≡ length (log_lines every all) + n
-          length_told = length-append (log_lines every all) (take n counts) ∙ ap (λ m. length (log_lines every all) + m) (length-take-le n counts (omega (arith, cut.taken.1)))
+          let cut : Sends {X = Z} {E = G} lines log counts (Err f) = subst (λ l. Sends {X = Z} {E = G} lines log l (Err f)) (counts_are refused sum) fails in
+          let others = log_lines left (missing_outcomes left) in
+          log_stops log (length others + cut.taken.0) (omega (arith, cut.taken.1, length-append others counts))
+          (subst (Takes now.log log) (sym (take-append-add others counts cut.taken.0)) (Takes-trans now.log lines log _ _ told.taken cut.taken.2)) (omega (arith, fails.count, told.count)) (fails.flushes ∙ told.flushes)
 
       module _ {Z G : Type 0} {z : Z} (counted : Outgoing) (ended_log : Sends {X = Z} {E = G} lines counted (log_end pass.applied refused) (Ok z)) where
         whole_log : Takes start.log counted (log_text every all)
-        unfolding counts log_text
-        whole_log = Takes-trans start.log lines counted _ _ all_told (subst (Takes lines counted) (counts_are refused sum) ended_log.taken)
+        unfolding rest_of_log
+        whole_log =
+            let last_line : Takes lines counted counts = subst (Takes lines counted) (counts_are refused sum) ended_log.taken in
+            subst (Takes start.log counted) (sym log_is) (Takes-trans start.log now.log counted _ _ g.logs (Takes-trans now.log lines counted _ _ told.taken last_line))
 
         -- the output fails in its flush
         pub Closes-flush : {H : Type 0} {f : H} (out' : Outgoing) → Flushes {E = H} out out' (Err f)
@@ -353,7 +341,6 @@ module _ (carry : Bool) (ps : List Patch) (base : ℕ) (start now : Streams) (pa
           -- the log fails in its flush
           pub Closes-log_flush : {K : Type 0} {f : K} (log : Outgoing) → Flushes {E = K} counted log (Err f)
               → Applies carry ps base start (record now { out = out'; log = log }) (Err Log)
-          unfolding counts log_text
           Closes-log_flush log fails =
               ends out' log last (log_text every all) (Err Log) all_out (Takes-flushed start.log counted log _ _ whole_log fails) (omega (arith, length_last))
               (record {
@@ -365,7 +352,7 @@ module _ (carry : Bool) (ps : List Patch) (base : ℕ) (start now : Streams) (pa
                 within = within;
                 begins = by_run (λ whole os new. Begins every last (log_text every all) os new) (([], sym (append-nil last)), ([], sym (append-nil (log_text every all))));
                 beside = by_run (λ whole os new. length last ≡ sent_beside every os base whole (length (log_text every all)))
-                    (length_last ∙ sym (ap (sent_beside every all base read) (length-append (log_lines every all) counts) ∙ sent_beside-end read base every all (length counts) all_lengths));
+                    (length_last ∙ sym (ap (sent_beside every all base read) (ap length log_is ∙ length-append (log_lines taken g.outcomes) rest_of_log) ∙ beside_log (length rest_of_log)));
                 flushed = λ whole fits os new patched told_all. flushed.finished;
                 at_end = by_run (λ whole os new. (log_text every all ≡ log_text every os) ↔ (1 ≡ 1)) (λ told_all. refl, λ once. refl);
               })
