@@ -81,6 +81,18 @@ for crate in "${crates_with_contracts[@]}" cdpatch; do
     judge "docs/MAP.md has each file of $crate:${left_out:- all}" test -z "$left_out"
 done
 
+# What docs/MAP.md says of a changed message: all files that have it are in its table, and the wrong body fits.
+message=$(sed -n 's/^\*\*Change one message\*\*, `cdpatch: \([a-z ]*\)`.*/\1/p' "$map")
+(cd "$top" && git ls-files -z 2> /dev/null | xargs -0 grep -l "${message:-no message}" | grep -v '^docs/MAP.md$') | sort > have_it
+sed -n '/^| Files | What happens/,/^$/p' "$map" | sed 's/^\(|[^|]*|\).*/\1/' | grep -oE '`[a-z_A-Z/0-9.]+`' | tr -d '`' | sort > in_table
+left_out=$(comm -23 have_it in_table | paste -sd ' ')
+judge "docs/MAP.md has all files with the message: ${left_out:-all}" test -z "$left_out"
+while IFS= read -r path <&3; do
+    judge "docs/MAP.md: the message is in $path" grep -q "${message:-no message}" "$top/$path"
+done 3< in_table
+line=$(sed -n 's/^    old: //p' "$map")
+judge 'the line of its wrong body stands there once' test "$(grep -cF -- "$line" "$top/crates/cd_jobs/src/messages.rt")" = 1
+
 # Each example of the rustdoc stands in a test, line by line.
 tested=$(for file in "$top"/crates/cd_*/src/tests/examples.rt; do sed 's/^ *//' "$file"; echo; done)
 
