@@ -15,6 +15,8 @@ use crate::folding::Folded;
 /// assert_eq!(rt; edc_of(&[0x00; 2064]), 0);
 /// assert_eq!(rt; edc_of(&[0x01]), 0x9091_0101);
 /// ```
+// Inlined: if a caller has a constant length, the number of blocks is a constant too.
+#[inline(always)]
 pub fn edc_of(bytes: &[u8]) -> u32
     ensures word { IsEdc bytes.now result }
     ensures alone { (w : ℕ) → IsEdc bytes.now w → w ≡ result }
