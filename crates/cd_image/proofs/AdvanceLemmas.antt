@@ -1,6 +1,6 @@
 -- One step of a pass, by what its calls have done.
 use Rattle.std.proofs.Common.{◌≡◌, ◌≢◌, ℕ, suc, ◌+◌, ◌-◌, ◌<◌, ◌≤◌, Bool, List, [], ◌∷◌, ◌++◌, length, take, drop, get_or, Option, None, Some, Result, Ok, Err, sym, ap, ◌∙◌, subst, arith, add-one, add-zero, take-append-drop, take_all}
-use Rattle.std.specs.Prelude.{All}
+use Rattle.std.specs.Prelude.{All, IsSome}
 use Rattle.std.specs.List.{slice_get}
 use Rattle.std.specs.List.Sorted.{IsNonDecreasingBy}
 use Rattle.std.proofs.Math.Seq.{drop-cons, take-suc}
@@ -8,19 +8,21 @@ use Rattle.std.proofs.lemmas.List.{get_or-drop, length-drop}
 use Rattle.std.proofs.lemmas.Option.{get_or_from_slice_get, slice_get-get_or, slice_get_within}
 use Rattle.std.proofs.Math.ListN.{length-take}
 use Rattle.cd_stream.specs.Stream.{Incoming, Outgoing}
-use Rattle.cd_stream.specs.Transfer.{Sends}
+use Rattle.cd_stream.specs.Transfer.{Flushes, Sends}
 use Rattle.cd_script.specs.Patch.{IsPatch}
 use Rattle.cd_script.specs.declared.patch.Patch.{Patch}
 use Rattle.cd_sector.specs.declared.sector.TheConstants.{SECTOR_SIZE}
 use Rattle.cd_image.specs.Applying.{Applies, Streams}
-use Rattle.cd_image.specs.InHand.{GainsSector, GainsTail, InHand}
-use Rattle.cd_image.specs.Passing.{GoesOn, Going}
+use Rattle.cd_image.specs.InHand.{GainsSector, GainsTail, InHand, tail_bytes}
+use Rattle.cd_image.specs.Passing.{GoesOn, Going, IsEnded}
 use Rattle.cd_read.specs.Reading.{ReadsSector}
 use Rattle.cd_read.specs.declared.fault.Fault.{Fault}
 use Rattle.cd_read.specs.declared.fault.Fault.TheVariants.{Log, Read, TooLong, Write}
 use Rattle.cd_image.specs.declared.pass.Pass.{Pass}
 use Rattle.cd_image.proofs.ApplyLemmas.{Applies-beyond, Applies-read, Applies-write}
-use Rattle.cd_image.proofs.CloseLemmas.{Applies-below}
+use Rattle.cd_image.specs.PatchLog.{log_end}
+use Rattle.cd_image.specs.declared.patch_log.Tally.{Tally}
+use Rattle.cd_image.proofs.CloseLemmas.{Applies-behind, Applies-below, Applies-counts, Applies-flush, Applies-log_flush, Applies-ok, Applies-tail, counts, counts_are, tally_of_all}
 use Rattle.std.proofs.lemmas.List.Sums.{count_by-le-length}
 use Rattle.cd_patch.specs.Blocks.{block_limit}
 use Rattle.cd_patch.specs.Outcome.{is_applied}
@@ -121,9 +123,84 @@ strictly_ahead ps d block rising ahead other = λ k e inside.
 
 -- ---- the end
 
--- what is told of the patches behind a place is told of a slice from there to the end
-pub Sends-rest : {X E : Type 0} (ps : List Patch) (d : ℕ) (old new : Outgoing) (result : Result X E) → Sends old new (missing_lines (take (length ps - d) (drop d ps))) result → Sends old new (missing_lines (drop d ps)) result
-Sends-rest ps d old new result = subst (λ rest. Sends old new (missing_lines rest) result) (take_all (length ps - d) (drop d ps) (omega (arith, length-drop d ps)))
+-- what lies behind a place, as a slice from there to the end
+pub rest_from : (ps : List Patch) (d : ℕ) → take (length ps - d) (drop d ps) ≡ drop d ps
+rest_from ps d = take_all (length ps - d) (drop d ps) (omega (arith, length-drop d ps))
+
+closed_by : (carry : Bool) (taken left : List Patch) (base : ℕ) (start now : Streams) (window : List (List ℕ)) (block sectors applied : ℕ) (end : Option (List ℕ)) → IsSome end
+    → Going carry taken left base start now window block sectors applied end → Going carry taken left base start now window block sectors applied (Some (tail_bytes end))
+closed_by carry taken left base start now window block sectors applied None never g = cc
+closed_by carry taken left base start now window block sectors applied (Some bytes) some g = g
+
+-- nothing waits, and the tail is known
+pub closed : (carry : Bool) (taken left : List Patch) (base : ℕ) (start now : Streams) (pass : Pass) (end : List ℕ) → IsEnded pass → end ≡ tail_bytes pass.window.tail → GoesOn carry taken left base start now pass
+    → Going carry taken left base start now [] pass.block pass.sectors pass.applied (Some end)
+closed carry taken left base start now pass end ended is g =
+    subst (λ (t : List ℕ). Going carry taken left base start now [] pass.block pass.sectors pass.applied (Some t)) (sym is)
+    (subst (λ (ws : List (List ℕ)). Going carry taken left base start now ws pass.block pass.sectors pass.applied (Some (tail_bytes pass.window.tail))) ended.empty
+    (closed_by carry taken left base start now pass.window.sectors pass.block pass.sectors pass.applied pass.window.tail ended.ended g))
+
+module _ (carry : Bool) (ps : List Patch) (base : ℕ) (start now : Streams) (pass : Pass) (end : List ℕ) (ended : IsEnded pass) (is : end ≡ tail_bytes pass.window.tail) (g : GoesOn carry (take pass.decided ps) (drop pass.decided ps) base start now pass) where
+  -- the whole of it, behind the last sector
+  whole : Going carry (take pass.decided ps) (drop pass.decided ps) base start now [] pass.block pass.sectors pass.applied (Some end)
+  whole = closed carry (take pass.decided ps) (drop pass.decided ps) base start now pass end ended is g
+
+  of_all : (after : Streams) (result : Result Tally Fault) → Applies carry (take pass.decided ps ++ drop pass.decided ps) base start after result → Applies carry ps base start after result
+  of_all after result = subst (λ all. Applies carry all base start after result) (take-append-drop pass.decided ps)
+
+  pub Closes-tail : {X E : Type 0} {e : E} (out : Outgoing) → Sends {X = X} {E = E} now.out out end (Err e)
+      → Applies carry ps base start (record now { out = out }) (Err Write)
+  Closes-tail out fails =
+      of_all (record now { out = out }) (Err Write)
+      (Applies-tail carry (take pass.decided ps) (drop pass.decided ps) base start now pass.block pass.sectors pass.applied end whole out fails)
+
+  -- the patches that are left are told
+  module _ {X E : Type 0} {x : X} (out : Outgoing) (sent : Sends {X = X} {E = E} now.out out end (Ok x)) (rest : List Patch) (rest_is : rest ≡ drop pass.decided ps) where
+    pub Closes-behind : {Y F : Type 0} {f : F} (log : Outgoing) → Sends {X = Y} {E = F} now.log log (missing_lines rest) (Err f)
+        → Applies carry ps base start (record now { out = out; log = log }) (Err Log)
+    Closes-behind {Y} {F} {f} log fails =
+        of_all (record now { out = out; log = log }) (Err Log)
+        (Applies-behind carry (take pass.decided ps) (drop pass.decided ps) base start now pass.block pass.sectors pass.applied end whole out sent log
+        (subst (λ left. Sends {X = Y} {E = F} now.log log (missing_lines left) (Err f)) rest_is fails))
+
+    module _ {Y F : Type 0} {y : Y} (lines : Outgoing) (told_rest : Sends {X = Y} {E = F} now.log lines (missing_lines rest) (Ok y)) (refused : ℕ) (sum : pass.applied + refused ≡ length ps) where
+      told : Sends {X = Y} {E = F} now.log lines (missing_lines (drop pass.decided ps)) (Ok y)
+      told = subst (λ left. Sends {X = Y} {E = F} now.log lines (missing_lines left) (Ok y)) rest_is told_rest
+
+      all_sum : pass.applied + refused ≡ length (take pass.decided ps ++ drop pass.decided ps)
+      all_sum = sum ∙ sym (ap length (take-append-drop pass.decided ps))
+
+      last_line : log_end pass.applied refused ≡ counts carry (take pass.decided ps) (drop pass.decided ps) base start now pass.block pass.sectors pass.applied end whole
+      last_line = counts_are carry (take pass.decided ps) (drop pass.decided ps) base start now pass.block pass.sectors pass.applied end whole refused all_sum
+
+      pub Closes-counts : {Z G : Type 0} {f : G} (log : Outgoing) → Sends {X = Z} {E = G} lines log (log_end pass.applied refused) (Err f)
+          → Applies carry ps base start (record now { out = out; log = log }) (Err Log)
+      Closes-counts {Z} {G} {f} log fails =
+          of_all (record now { out = out; log = log }) (Err Log)
+          (Applies-counts carry (take pass.decided ps) (drop pass.decided ps) base start now pass.block pass.sectors pass.applied end whole out sent lines told log
+          (subst (λ l. Sends {X = Z} {E = G} lines log l (Err f)) last_line fails))
+
+      module _ {Z G : Type 0} {z : Z} (counted : Outgoing) (ended_lines : Sends {X = Z} {E = G} lines counted (log_end pass.applied refused) (Ok z)) where
+        whole_lines : Sends {X = Z} {E = G} lines counted (counts carry (take pass.decided ps) (drop pass.decided ps) base start now pass.block pass.sectors pass.applied end whole) (Ok z)
+        whole_lines = subst (λ l. Sends {X = Z} {E = G} lines counted l (Ok z)) last_line ended_lines
+
+        pub Closes-flush : {H : Type 0} {f : H} (out' : Outgoing) → Flushes {E = H} out out' (Err f) → Applies carry ps base start (record now { out = out'; log = counted }) (Err Write)
+        Closes-flush out' fails =
+            of_all (record now { out = out'; log = counted }) (Err Write)
+            (Applies-flush carry (take pass.decided ps) (drop pass.decided ps) base start now pass.block pass.sectors pass.applied end whole out sent lines told counted whole_lines out' fails)
+
+        module _ {H : Type 0} {done : Unit {0}} (out' : Outgoing) (flushed : Flushes {E = H} out out' (Ok done)) (log : Outgoing) where
+          pub Closes-log_flush : {K : Type 0} {f : K} → Flushes {E = K} counted log (Err f) → Applies carry ps base start (record now { out = out'; log = log }) (Err Log)
+          Closes-log_flush fails =
+              of_all (record now { out = out'; log = log }) (Err Log)
+              (Applies-log_flush carry (take pass.decided ps) (drop pass.decided ps) base start now pass.block pass.sectors pass.applied end whole out sent lines told counted whole_lines out' flushed log fails)
+
+          pub Closes-ok : {K : Type 0} {end_of_log : Unit {0}} → Flushes {E = K} counted log (Ok end_of_log)
+              → Applies carry ps base start (record now { out = out'; log = log }) (Ok (record { applied = pass.applied; refused = refused; sectors = pass.sectors; tail = length end }))
+          Closes-ok log_flushed =
+              of_all (record now { out = out'; log = log }) (Ok (record { applied = pass.applied; refused = refused; sectors = pass.sectors; tail = length end }))
+              (Applies-ok carry (take pass.decided ps) (drop pass.decided ps) base start now pass.block pass.sectors pass.applied end whole out sent lines told counted whole_lines out' flushed log _ log_flushed
+              (tally_of_all carry (take pass.decided ps) (drop pass.decided ps) base start now pass.block pass.sectors pass.applied end whole refused all_sum))
 
 -- ---- how large the numbers of a pass are
 

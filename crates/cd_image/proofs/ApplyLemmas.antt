@@ -22,7 +22,7 @@ use Rattle.cd_image.specs.Patched.{IsPatched}
 use Rattle.cd_image.specs.PatchLog.{lines_below, log_line, log_lines, log_text, sent_beside}
 use Rattle.cd_read.specs.Ends.{FitsLeft}
 use Rattle.cd_read.specs.declared.fault.Fault.TheVariants.{Log, Read, TooLong, Write}
-use Rattle.cd_image.proofs.KnownLemmas.{applies, Extends, Extends-begun, IsBeginning-front, Known, StopsAtLog-within, begins_now, extends_left, bytes_of-begins, known, lines-begin, lines-begin_within, told_lengths, unfinished_lines}
+use Rattle.cd_image.proofs.KnownLemmas.{Extends, Extends-begun, IsBeginning-front, Known, StopsAtLog-within, begins_now, extends_left, bytes_of-begins, known, lines-begin, lines-begin_within, told_lengths, unfinished_lines}
 use Rattle.cd_read.proofs.EndLemmas.{Fits-begins}
 use Rattle.cd_image.proofs.PassingLemmas.{bytes_of-more, length-bytes_of}
 use Rattle.cd_image.proofs.PatchLogLemmas.{bytes_before-within, lines_below-cut, log_beside-sector, sent_beside-behind, sent_beside-line}
@@ -41,34 +41,54 @@ module _ (carry : Bool) (taken left : List Patch) (base : ℕ) (start now : Stre
 
   pub Applies-read : length window < block_limit → length came < SECTOR_SIZE → SECTOR_SIZE * sectors_read + length came ≤ image_limit → image.failures ≡ now.image.failures + 1 → image.ended ≡ false
       → Applies carry (taken ++ left) base start (record now { image = image }) (Err Read)
-  Applies-read room short few failed unended =
-      applies (bytes_of g.seen ++ came) (bytes_of g.done) (log_lines taken g.outcomes) (Err Read) all g.sends g.logs (in_hand room short)
-      (record {
-        failed = record { reads = omega (arith, failed, g.unfailed.reads); writes = g.unfailed.writes; logs = g.unfailed.logs };
-        flushes = record { outs = g.unflushed.outs; logs = g.unflushed.logs };
-        unended = unended;
-        within = omega (arith, length_read);
-        begins = λ whole fits.
-            let begins = Fits-begins (bytes_of g.seen ++ came) whole (omega (arith, length_read)) fits in
-            begins_now carry taken left base start now window block sectors_read applied None g whole
-            (Extends-begun g.seen whole (came ++ begins.0) g.seen_sizes (begins.1 ∙ append_assoc (bytes_of g.seen) came begins.0));
-      })
+  Applies-read room short few failed unended = record {
+    read = bytes_of g.seen ++ came;
+    sent = bytes_of g.done;
+    told = log_lines taken g.outcomes;
+    consumes = all.consumes;
+    given = all.counted;
+    appends = g.sends.appends;
+    out_taken = g.sends.counted;
+    logs = g.logs.appends;
+    log_taken = g.logs.counted;
+    in_hand = in_hand room short;
+    answers = record {
+      failed = record { reads = omega (arith, failed, g.unfailed.reads); writes = g.unfailed.writes; logs = g.unfailed.logs };
+      flushes = record { outs = g.unflushed.outs; logs = g.unflushed.logs };
+      unended = unended;
+      within = omega (arith, length_read);
+      begins = λ whole fits.
+          let begins = Fits-begins (bytes_of g.seen ++ came) whole (omega (arith, length_read)) fits in
+          begins_now carry taken left base start now window block sectors_read applied None g whole
+          (Extends-begun g.seen whole (came ++ begins.0) g.seen_sizes (begins.1 ∙ append_assoc (bytes_of g.seen) came begins.0));
+    };
+  }
 
   pub Applies-beyond : length window < block_limit → length came ≡ 1 → SECTOR_SIZE * sectors_read ≡ image_limit → image.failures ≡ now.image.failures → image.ended ≡ false
       → Applies carry (taken ++ left) base start (record now { image = image }) (Err TooLong)
-  Applies-beyond room one full kept unended =
-      applies (bytes_of g.seen ++ came) (bytes_of g.done) (log_lines taken g.outcomes) (Err TooLong) all g.sends g.logs (in_hand room (omega arith))
-      (record {
-        failed = record { reads = omega (arith, kept, g.unfailed.reads); writes = g.unfailed.writes; logs = g.unfailed.logs };
-        flushes = record { outs = g.unflushed.outs; logs = g.unflushed.logs };
-        beyond = omega (arith, length_read);
-        unended = unended;
-        begins = λ whole fits.
-            let size : length (bytes_of g.seen) ≡ image_limit = length-bytes_of g.seen g.seen_sizes ∙ ap (λ n. 2352 * n) (sym g.count) ∙ full in
-            let limited : take image_limit (bytes_of g.seen ++ came) ≡ bytes_of g.seen = take_at (bytes_of g.seen) came image_limit size in
-            begins_now carry taken left base start now window block sectors_read applied None g whole
-            (Extends-begun g.seen whole fits.begins.0 g.seen_sizes (fits.begins.1 ∙ ap (λ l. l ++ fits.begins.0) limited));
-      })
+  Applies-beyond room one full kept unended = record {
+    read = bytes_of g.seen ++ came;
+    sent = bytes_of g.done;
+    told = log_lines taken g.outcomes;
+    consumes = all.consumes;
+    given = all.counted;
+    appends = g.sends.appends;
+    out_taken = g.sends.counted;
+    logs = g.logs.appends;
+    log_taken = g.logs.counted;
+    in_hand = in_hand room (omega arith);
+    answers = record {
+      failed = record { reads = omega (arith, kept, g.unfailed.reads); writes = g.unfailed.writes; logs = g.unfailed.logs };
+      flushes = record { outs = g.unflushed.outs; logs = g.unflushed.logs };
+      beyond = omega (arith, length_read);
+      unended = unended;
+      begins = λ whole fits.
+          let size : length (bytes_of g.seen) ≡ image_limit = length-bytes_of g.seen g.seen_sizes ∙ ap (λ n. 2352 * n) (sym g.count) ∙ full in
+          let limited : take image_limit (bytes_of g.seen ++ came) ≡ bytes_of g.seen = take_at (bytes_of g.seen) came image_limit size in
+          begins_now carry taken left base start now window block sectors_read applied None g whole
+          (Extends-begun g.seen whole fits.begins.0 g.seen_sizes (fits.begins.1 ∙ ap (λ l. l ++ fits.begins.0) limited));
+    };
+  }
 
 -- what was read, in any state of a pass
 module _ (carry : Bool) (taken left : List Patch) (base : ℕ) (start now : Streams) (window : List (List ℕ)) (block sectors_read applied : ℕ) (end : Option (List ℕ)) (g : Going carry taken left base start now window block sectors_read applied end) where
@@ -87,28 +107,38 @@ module _ (carry : Bool) (taken left : List Patch) (base : ℕ) (start now : Stre
   pub Applies-write : {X E : Type 0} {e : E} (out : Outgoing) → Sends {X = X} {E = E} now.out out sector (Err e) → length sector ≡ SECTOR_SIZE → All (λ p. block < p.block) left
       → Applies carry (taken ++ left) base start (record now { out = out }) (Err Write)
   unfolding settled
-  Applies-write out fails size ahead =
-      applies (bytes_of g.seen ++ tail_bytes end) sent (log_lines taken g.outcomes) (Err Write) g.gives went g.logs (omega (arith, length_read, length_sent, g.in_hand, g.held, g.count))
-      (record {
-        failed = record { reads = g.unfailed.reads; writes = omega (arith, fails.count, g.unfailed.writes); logs = g.unfailed.logs };
-        out_flushes = 0;
-        flushes = record { outs = fails.flushes ∙ g.unflushed.outs; logs = g.unflushed.logs };
-        once = omega arith;
-        at_end = λ less. refl;
-        within = omega (arith, length_read, g.within);
-        begins = λ whole fits os last patched.
-            let k = knows whole fits os last patched in (
-              IsBeginning-front sent (drop n sector) last (subst (λ l. IsBeginning l last) regrouped (bytes_of-begins settled k.others last k.cut)),
-              subst (λ u. IsBeginning (log_lines taken g.outcomes) (log_text (taken ++ left) u)) (sym k.all) (lines-begin taken left g.outcomes k.back lengths),
-            );
-        beside = λ whole fits os last patched.
-            let k = knows whole fits os last patched in
-            let number : length sent / SECTOR_SIZE ≡ length g.done = omega (arith, length_sent) in
-            let before : length sent < SECTOR_SIZE * (length (bytes_of g.seen ++ tail_bytes end) / SECTOR_SIZE) = omega (arith, length_sent, length_read, g.held, g.count, g.short) in
-            sym (log_beside-sector (taken ++ left) os base (length (bytes_of g.seen ++ tail_bytes end)) (length sent) (length g.done) number before
-            ∙ ap (lines_below (base + length g.done + 1) (taken ++ left)) k.all
-            ∙ lines_below-cut (base + length g.done + 1) taken left g.outcomes k.back lengths (λ i d here. let h = g.due i d here in omega (arith, h.0, g.front)) (λ i d here. let h = ahead i d here in omega (arith, h, g.front)));
-      })
+  Applies-write out fails size ahead = record {
+    read = bytes_of g.seen ++ tail_bytes end;
+    sent = sent;
+    told = log_lines taken g.outcomes;
+    consumes = g.gives.consumes;
+    given = g.gives.counted;
+    appends = went.appends;
+    out_taken = went.counted;
+    logs = g.logs.appends;
+    log_taken = g.logs.counted;
+    in_hand = omega (arith, length_read, length_sent, g.in_hand, g.held, g.count);
+    answers = record {
+      failed = record { reads = g.unfailed.reads; writes = omega (arith, fails.count, g.unfailed.writes); logs = g.unfailed.logs };
+      out_flushes = 0;
+      flushes = record { outs = fails.flushes ∙ g.unflushed.outs; logs = g.unflushed.logs };
+      once = omega arith;
+      at_end = λ less. refl;
+      within = omega (arith, length_read, g.within);
+      begins = λ whole fits os last patched.
+          let k = knows whole fits os last patched in (
+            IsBeginning-front sent (drop n sector) last (subst (λ l. IsBeginning l last) regrouped (bytes_of-begins settled k.others last k.cut)),
+            subst (λ u. IsBeginning (log_lines taken g.outcomes) (log_text (taken ++ left) u)) (sym k.all) (lines-begin taken left g.outcomes k.back lengths),
+          );
+      beside = λ whole fits os last patched.
+          let k = knows whole fits os last patched in
+          let number : length sent / SECTOR_SIZE ≡ length g.done = omega (arith, length_sent) in
+          let before : length sent < SECTOR_SIZE * (length (bytes_of g.seen ++ tail_bytes end) / SECTOR_SIZE) = omega (arith, length_sent, length_read, g.held, g.count, g.short) in
+          sym (log_beside-sector (taken ++ left) os base (length (bytes_of g.seen ++ tail_bytes end)) (length sent) (length g.done) number before
+          ∙ ap (lines_below (base + length g.done + 1) (taken ++ left)) k.all
+          ∙ lines_below-cut (base + length g.done + 1) taken left g.outcomes k.back lengths (λ i d here. let h = g.due i d here in omega (arith, h.0, g.front)) (λ i d here. let h = ahead i d here in omega (arith, h, g.front)));
+    };
+  }
     where
       n : ℕ
       n = fails.taken.0
@@ -162,25 +192,36 @@ module _ (carry : Bool) (taken : List Patch) (p : Patch) (left : List Patch) (ba
 
   pub Applies-log : {X E : Type 0} {e : E} (log : Outgoing) → Sends {X = X} {E = E} now.log log (log_line p o) (Err e)
       → Applies carry (taken ++ p ∷ left) base start (record now { log = log }) (Err Log)
-  Applies-log log fails =
-      applies (bytes_of g.seen ++ tail_bytes end) (bytes_of g.done) told (Err Log) g.gives g.sends went (omega (arith, size_read carry taken (p ∷ left) base start now window block sectors_read applied end g, length_sent, g.in_hand, g.held, g.count))
-      (StopsAtLog-within (record { reads = g.unfailed.reads; writes = g.unfailed.writes; logs = omega (arith, fails.count, g.unfailed.logs) })
-      (record { outs = g.unflushed.outs; logs = fails.flushes ∙ g.unflushed.logs }) (omega (arith, size_read carry taken (p ∷ left) base start now window block sectors_read applied end g, g.within))
-      (λ whole fits os last patched.
-      let extended = extends carry taken (p ∷ left) base start now window block sectors_read applied end g whole fits in
-      let r = next whole extended os last patched in (
-        (begins_now carry taken (p ∷ left) base start now window block sectors_read applied end g whole extended os last patched).0,
-        subst (λ u. IsBeginning told (log_text (taken ++ p ∷ left) u)) (sym r.all) (told_begins r.back),
-      ))
-      (λ whole fits os last patched.
-      let extended = extends carry taken (p ∷ left) base start now window block sectors_read applied end g whole fits in
-      let r = next whole extended os last patched in
-      let cut = ap length extended.cut ∙ length-append g.seen extended.more in
-      length_sent ∙ sym (ap (λ u. sent_beside (taken ++ p ∷ left) u base whole (length told)) r.all ∙ ap (sent_beside (taken ++ p ∷ left) (g.outcomes ++ o ∷ r.back) base whole) length_told
-      ∙ beside whole r.back (omega (arith, cut, g.held))))
-      (λ whole fits os last patched all.
-      let r = next whole (extends carry taken (p ∷ left) base start now window block sectors_read applied end g whole fits) os last patched in
-      unfinished_lines taken (p ∷ left) g.outcomes (o ∷ r.back) told n lengths length_told (in_line r.back) (all ∙ ap (log_text (taken ++ p ∷ left)) r.all)))
+  Applies-log log fails = record {
+    read = bytes_of g.seen ++ tail_bytes end;
+    sent = bytes_of g.done;
+    told = told;
+    consumes = g.gives.consumes;
+    given = g.gives.counted;
+    appends = g.sends.appends;
+    out_taken = g.sends.counted;
+    logs = went.appends;
+    log_taken = went.counted;
+    in_hand = omega (arith, size_read carry taken (p ∷ left) base start now window block sectors_read applied end g, length_sent, g.in_hand, g.held, g.count);
+    answers =
+        StopsAtLog-within (record { reads = g.unfailed.reads; writes = g.unfailed.writes; logs = omega (arith, fails.count, g.unfailed.logs) })
+        (record { outs = g.unflushed.outs; logs = fails.flushes ∙ g.unflushed.logs }) (omega (arith, size_read carry taken (p ∷ left) base start now window block sectors_read applied end g, g.within))
+        (λ whole fits os last patched.
+        let extended = extends carry taken (p ∷ left) base start now window block sectors_read applied end g whole fits in
+        let r = next whole extended os last patched in (
+          (begins_now carry taken (p ∷ left) base start now window block sectors_read applied end g whole extended os last patched).0,
+          subst (λ u. IsBeginning told (log_text (taken ++ p ∷ left) u)) (sym r.all) (told_begins r.back),
+        ))
+        (λ whole fits os last patched.
+        let extended = extends carry taken (p ∷ left) base start now window block sectors_read applied end g whole fits in
+        let r = next whole extended os last patched in
+        let cut = ap length extended.cut ∙ length-append g.seen extended.more in
+        length_sent ∙ sym (ap (λ u. sent_beside (taken ++ p ∷ left) u base whole (length told)) r.all ∙ ap (sent_beside (taken ++ p ∷ left) (g.outcomes ++ o ∷ r.back) base whole) length_told
+        ∙ beside whole r.back (omega (arith, cut, g.held))))
+        (λ whole fits os last patched all.
+        let r = next whole (extends carry taken (p ∷ left) base start now window block sectors_read applied end g whole fits) os last patched in
+        unfinished_lines taken (p ∷ left) g.outcomes (o ∷ r.back) told n lengths length_told (in_line r.back) (all ∙ ap (log_text (taken ++ p ∷ left)) r.all));
+  }
     where
       n : ℕ
       n = fails.taken.0

@@ -71,7 +71,7 @@ pub record StopsAtRead (carry : Bool) (patches : List Patch) (base : ℕ) (read 
 
 -- a write to the output failed, or its flush: the log has got just the lines that belong before
 -- what went out. If the source has nothing left, or its bytes are not known, the image is taken to
--- end with the bytes read. The output was flushed once at most, after all of these, the log never
+-- end with the bytes read. The output was flushed once at most, after all of them, and the log never
 pub record StopsAtWrite (carry : Bool) (patches : List Patch) (base : ℕ) (read sent told : List ℕ)
     (old new : Streams) : Type 0 where
   pub failed : Failed old new 0 1 0
@@ -139,7 +139,7 @@ abbrev pub bytes_in_hand : ℕ
 bytes_in_hand = SECTOR_SIZE * block_limit
 
 -- the whole contract of `apply`: it read some bytes, sent some and logged some, and answered by
--- these. Each of the three has counted its own. At most `bytes_in_hand` more were read than sent
+-- these. Each of the three has counted just these. No more were read and not sent than may be in hand
 pub record Applies (carry : Bool) (patches : List Patch) (base : ℕ) (old new : Streams)
     (result : Result Tally Fault) : Type 0 where
   pub read : List ℕ
