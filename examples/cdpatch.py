@@ -1,4 +1,5 @@
-"""CD-ROM sectors by libcdpatch, over ctypes. Sectors, user data and addresses are `bytes`; no call changes what it is passed."""
+"""CD-ROM sectors and images by libcdpatch, over ctypes. Images, scripts, sectors, user data and addresses are `bytes`, or whatever
+`bytes` takes; no call changes what it is passed."""
 
 import ctypes
 from typing import NamedTuple
@@ -23,6 +24,23 @@ class Defect(NamedTuple):
     edc: bool
     p: int
     q: int
+
+
+class Report(NamedTuple):
+    """What a command prints, and whether `audit` has a finding, or a patch was refused."""
+    text: str
+    found: bool
+
+
+class Patched(NamedTuple):
+    """What `apply` makes: the new image, what it prints, and whether a patch was refused."""
+    image: bytes
+    text: str
+    found: bool
+
+
+class Failed(ValueError):
+    """The command's status is 2; the message is what it prints."""
 
 
 class NotMode1(ValueError):
@@ -104,3 +122,56 @@ def with_user(sector, offset, new, carry=False):
 def with_address(sector, address, carry=False):
     """The sector with another address in its header. A damaged one is refused, or with `carry` keeps its damage."""
     return _changed('cdpatch_carry_address' if carry else 'cdpatch_change_address', sector, _sized(address, 3))
+
+
+def _printed(name, room, *words):
+    """What a command prints, and whether its status is 1."""
+    text, length = ctypes.create_string_buffer(room), ctypes.c_size_t()
+    status = getattr(_library, name)(*words, text, ctypes.c_size_t(room), ctypes.byref(length))
+    told = text.raw[:length.value].decode()
+    if status == 2:
+        raise Failed(told)
+    return Report(told, status == 1)
+
+
+def _of_image(image, base):
+    if not 0 <= base < 2 ** 32:
+        raise Failed(f'no base: {base}')
+    return ctypes.c_char_p(image), ctypes.c_size_t(len(image)), ctypes.c_uint32(base)
+
+
+def _of_script(image, script, base, carry):
+    data, size, base = _of_image(image, base)
+    return data, size, ctypes.c_char_p(script), ctypes.c_size_t(len(script)), base, ctypes.c_bool(carry)
+
+
+def _room_for_patches(script):
+    return 80 * script.count(b'\n') + 300
+
+
+def list(image, base=0):
+    """The text of `cdpatch list`: the kinds of the sectors of an image whose first one is block `base`."""
+    image = bytes(image)
+    return _printed('cdpatch_list', len(image) // SECTOR_SIZE * 40 + 100, *_of_image(image, base)).text
+
+
+def audit(image, base=0):
+    """What is wrong with the Mode 1 sectors of an image whose first one is block `base`: a Report, as `cdpatch audit` prints it."""
+    image = bytes(image)
+    return _printed('cdpatch_audit', len(image) // SECTOR_SIZE * 40 + 100, *_of_image(image, base))
+
+
+def check(image, script, base=0, carry=False):
+    """What `apply` would do with each patch of a script: a Report, as `cdpatch check` prints it. A faulty script raises Failed."""
+    image, script = bytes(image), bytes(script)
+    return _printed('cdpatch_check', _room_for_patches(script), *_of_script(image, script, base, carry))
+
+
+def apply(image, script, base=0, carry=False):
+    """The image as the patches of a script make it: a Patched, with what `cdpatch apply` prints. With `carry` damaged sectors are
+    patched too, and keep their damage. Raises Failed for a faulty script."""
+    image, script = bytes(image), bytes(script)
+    out = ctypes.create_string_buffer(len(image))
+    words = *_of_script(image, script, base, carry), out, ctypes.c_size_t(len(image))
+    printed = _printed('cdpatch_apply', _room_for_patches(script), *words)
+    return Patched(out.raw, *printed)

@@ -1,7 +1,8 @@
-/* libcdpatch: the codes of CD-ROM sectors (ECMA-130), each call proved to do what its comment says. cc .. -lcdpatch; libcdpatch(3).
- * A sector is 2352 bytes, an address three: minute, second and fraction in BCD. The caller sees to it that pointers are not null
- * and are valid for the sizes given here, and that what a call writes overlaps nothing else that it is passed. Nothing is
- * allocated and nothing is kept between calls: threads may call at once, each on memory of its own. */
+/* libcdpatch: the codes of CD-ROM sectors (ECMA-130), and the commands of cdpatch on images in memory, each call proved to do what
+ * its comment says. cc .. -lcdpatch; libcdpatch(3). A sector is 2352 bytes, an address three: minute, second and fraction in BCD.
+ * The caller sees to it that pointers are not null and are valid for the sizes given here, and that what a call writes overlaps
+ * nothing else that it is passed. Nothing is kept between calls: threads may call at once, each on memory of its own. Only
+ * cdpatch_check and cdpatch_apply allocate memory, and they free it. */
 #ifndef CDPATCH_H
 #define CDPATCH_H
 
@@ -16,6 +17,7 @@ extern "C" {
 enum { CDPATCH_SECTOR_SIZE = 2352, CDPATCH_USER_SIZE = 2048 };
 enum { CDPATCH_NOSYNC, CDPATCH_MODE0, CDPATCH_MODE1, CDPATCH_MODE2, CDPATCH_OTHER }; /* kinds of sectors */
 enum { CDPATCH_OK, CDPATCH_NOT_MODE1, CDPATCH_DAMAGED, CDPATCH_OUT_OF_RANGE };       /* results of changes, asked in this order */
+enum { CDPATCH_DONE, CDPATCH_FOUND, CDPATCH_FAILED };                                /* statuses of calls on images */
 
 /* What is wrong: a byte of the Intermediate field that is not 00; the EDC; how many of 86 P columns and 52 Q diagonals. */
 struct cdpatch_defect { bool zeros; bool edc; uint8_t p; uint8_t q; };
@@ -47,6 +49,23 @@ uint32_t cdpatch_carry_user(uint8_t *sector, size_t offset, const uint8_t *bytes
 uint32_t cdpatch_change_address(uint8_t *sector, const uint8_t *address);
 /* The same in a sector that may be damaged: its damage stays, and no other comes; never CDPATCH_DAMAGED. */
 uint32_t cdpatch_carry_address(uint8_t *sector, const uint8_t *address);
+
+/* An image is `size` bytes, such as a mapped file; its first sector is block `base`, 0 to 449849. A call does what the command of
+ * its name does, cdpatch(1). What it prints goes to the front of `room` bytes, and how many bytes that is to `length`; the rest
+ * stays. CDPATCH_FAILED: its beginning fills the room, which is too small, or its last line says why; or there is no such base. */
+
+/* Prints the kinds of the sectors. 40 bytes a sector and 100 more are room enough. */
+uint32_t cdpatch_list(const uint8_t *image, size_t size, uint32_t base, uint8_t *text, size_t room, size_t *length);
+/* Prints what is wrong with Mode 1 sectors; CDPATCH_FOUND if something is. 40 bytes a sector and 100 more are room enough. */
+uint32_t cdpatch_audit(const uint8_t *image, size_t size, uint32_t base, uint8_t *text, size_t room, size_t *length);
+/* Prints what cdpatch_apply does with each patch of a script, and answers the same. */
+uint32_t cdpatch_check(const uint8_t *image, size_t size, const uint8_t *script, size_t script_size, uint32_t base, bool carry,
+                       uint8_t *log, size_t room, size_t *length);
+/* Writes the patched image, `size` bytes, to the front of `out`; the rest stays. CDPATCH_FOUND if a patch is refused. With `carry`
+ * damaged sectors are patched, and keep their damage. CDPATCH_FAILED leaves a beginning of the patched image, or nothing of it. 80
+ * bytes a patch and 200 more are room enough for the log. */
+uint32_t cdpatch_apply(const uint8_t *image, size_t size, const uint8_t *script, size_t script_size, uint32_t base, bool carry,
+                       uint8_t *out, size_t out_size, uint8_t *log, size_t room, size_t *length);
 
 #ifdef __cplusplus
 }

@@ -1,13 +1,15 @@
 #!/usr/bin/env bash
-# libcdpatch from C and from Python, as tools/prove.sh has built it of cd_c: `bash tests/library.sh [PROGRAM]`. The last line is
-# 'N passed, M failed'.
+# libcdpatch from C and from Python, as tools/prove.sh has built it of cd_c and cd_c_images: `bash tests/library.sh [PROGRAM]`. The
+# last line is 'N passed, M failed'.
 set -u
 . "$(dirname "$0")/helpers.sh"
-sources=("$top"/crates/cd_c/src/*.rt)
+sources=("$top"/crates/cd_c/src/*.rt "$top"/crates/cd_c_images/src/*.rt)
+# Where the commands' statuses have their numbers.
+statuses=("$top/crates/cd_command/src/fault.rt" "$top/crates/cd_jobs/src/run.rt")
 header=$top/include/cdpatch.h
 strict=(-Wall -Wextra -Werror -pedantic -I "$top/include")
 if ! bash "$top/tools/library.sh" library 2> errors; then
-    judge "the library is built (bash tools/prove.sh cd_c): $(tail -n 1 errors)" false
+    judge "the library is built (bash tools/prove.sh 'cd_c cd_c_images'): $(tail -n 1 errors)" false
     finish
     exit
 fi
@@ -32,8 +34,10 @@ wants_libc_alone() {
     readelf -d "$1" > dynamic &&
         [ "$(sed -n 's/.*(NEEDED).*\[\(.*\)\]/\1/p' dynamic)" = libc.so.6 ] &&
         [ "$(sed -n 's/.*(SONAME).*\[\(.*\)\]/\1/p' dynamic)" = libcdpatch.so.1 ] &&
-        [ -z "$(nm -D --undefined-only "$1" | sed -e 's/.* //' -e 's/@.*//' | grep -vxE 'mem(cpy|set|move|cmp)')" ]
+        [ -z "$(nm -D --undefined-only "$1" | sed -e 's/.* //' -e 's/@.*//' | grep -vxE 'mem(cpy|set|move|cmp)|malloc|realloc|free')" ]
 }
+
+in_archive() { nm --extern-only --defined-only library/libcdpatch.a 2> /dev/null | sed -n 's/^[0-9a-f]* [^ ]* //p' | sort; }
 
 test_symbols() {
     local library
@@ -42,9 +46,18 @@ test_symbols() {
         judge "$library wants the C library alone" wants_libc_alone "$library"
     done
     judge 'the archive shows the calls and no more' test \
-        "$(nm --extern-only --defined-only library/libcdpatch.a 2> /dev/null | sed -n 's/.* T //p' | sort)" = "$(exported)"
+        "$(in_archive | grep '^cdpatch_')" = "$(exported)"
+    judge 'but for its heap, under names of its own' test "$(in_archive | grep -v '^cdpatch_' | paste -sd ' ')" = \
+        'cdpatchalloc cdpatchdealloc cdpatchrealloc'
     echo 'void another(void) {}' > another.c
     if compiler gcc gcc; then
+        gcc -I "$top/include" "$tests/library/ten_lines.c" library/libcdpatch.a -o static_lines 2> errors
+        judge 'a program that calls for sectors has nothing for images' test -x static_lines -a \
+            -z "$(nm static_lines | grep -E 'cdpatch(alloc|_apply)')"
+        # What each library of the toolchain defines.
+        echo 'void rattle_alloc(void) {} void rattle_realloc(void) {} void rattle_dealloc(void) {}' > toolchain.c
+        judge 'another library of the toolchain can be linked in too' holds gcc -O2 -I "$top/include" "$tests/library/images.c" \
+            toolchain.c library/libcdpatch.a -o static_images
         gcc -shared -fPIC another.c -Wl,--whole-archive library/libcdpatch.a -Wl,--no-whole-archive -o another.so
         judge 'a library that shows more is refused' refuses shows_the_calls another.so
         judge 'a library with no name is refused' refuses wants_libc_alone another.so
@@ -59,13 +72,13 @@ compiler() { ! missing "$1" "$2" "what $1 compiles"; }
 differs() {
     sed "$2" "$header" > wrong.h
     judge "a header with $1 is another" refuses cmp -s "$header" wrong.h
-    judge "a header with $1 is refused" refuses python3 -B "$tests/library/prototypes.py" wrong.h "${sources[@]}"
+    judge "a header with $1 is refused" refuses python3 -B "$tests/library/prototypes.py" wrong.h "${sources[@]}" "${statuses[@]}"
 }
 
 # man_prototypes PAGE: those of its synopsis, as the header writes them.
 man_prototypes() { sed -n '/^\.Ft/{s/^\.Ft //;N;s/\n\.Fn / /;s/ "/(/;s/" "/, /g;s/"$/);/;p}' "$1"; }
 
-has_the_prototypes() { man_prototypes "$1" | cmp -s - <(sed -n '/^[a-z].* cdpatch_[a-z_]*(.*);$/p' "$header"); }
+has_the_prototypes() { man_prototypes "$1" | cmp -s - <(sed -n '/^[a-z].* cdpatch_[a-z_]*(.*/{/;$/!{N;s/\n */ /};p}' "$header"); }
 
 test_header() {
     judge 'the man page has the prototypes of the header' has_the_prototypes "$top/man/libcdpatch.3"
@@ -74,7 +87,8 @@ test_header() {
     missing mandoc mandoc 'the form of libcdpatch(3)' ||
         judge 'the man page is well formed' test -z "$(mandoc -T lint -W warning "$top/man/libcdpatch.3")"
     missing python3 python3 'the header beside the source' && return
-    judge 'the header has the exports of the source' holds python3 -B "$tests/library/prototypes.py" "$header" "${sources[@]}"
+    judge 'the header has the exports of the source' holds python3 -B "$tests/library/prototypes.py" "$header" "${sources[@]}" \
+        "${statuses[@]}"
     differs 'a call less' '/^void cdpatch_fill_parity/d'
     differs 'a parameter less' 's/, size_t length);$/);/'
     differs 'parameters exchanged' 's/size_t offset, const uint8_t \*bytes/const uint8_t *bytes, size_t offset/'
@@ -85,38 +99,56 @@ test_header() {
     differs 'kinds in another order' 's/CDPATCH_NOSYNC, CDPATCH_MODE0/CDPATCH_MODE0, CDPATCH_NOSYNC/'
     differs 'p and q exchanged' 's/uint8_t p; uint8_t q;/uint8_t q; uint8_t p;/'
     differs 'a field less' 's/bool edc; //'
+    differs 'a length by value' 's/size_t \*length/size_t length/'
+    differs 'a room that is not written' 's/uint8_t \*text, size_t room/const uint8_t *text, size_t room/'
+    differs 'image and script exchanged' '/cdpatch_apply/{s/\*image/*it/;s/\*script/*image/;s/\*it/*script/}'
+    differs 'output and log exchanged' 's/\*out, size_t out_size, uint8_t \*log/*log, size_t out_size, uint8_t *out/'
+    differs 'no carry' '/cdpatch_check/s/, bool carry//'
+    differs 'statuses in another order' 's/CDPATCH_DONE, CDPATCH_FOUND/CDPATCH_FOUND, CDPATCH_DONE/'
 }
 
 # ---- the calls
 
-# compiled_check ARCHIVE PROGRAM: the test in C with this library.
-compiled_check() { gcc -std=c99 -O2 "${strict[@]}" "$tests/library/check.c" "$1" -o "$2" 2> errors; }
+# compiled TEST LIBRARY PROGRAM: a test in C with this library.
+compiled() { gcc -std=c99 -O2 "${strict[@]}" "$tests/library/$1.c" "$2" -o "$3" 2> errors; }
 
 # wrong NAME: the test in C refuses the library that tests/library/wrong.c makes by this name.
 wrong() {
-    local call
+    local call test=check
     call=$(sed -n "/defined $1\$/,/^#el/s/^[a-z0-9_]* cdpatch_\([a-z_]*\)(.*/\1/p" "$tests/library/wrong.c")
+    [[ $call != @(list|audit|check|apply) ]] || test=images
     objcopy --redefine-sym "cdpatch_$call=right_$call" library/libcdpatch.a "$1.a" &&
-        gcc -O2 "${strict[@]}" "-D$1" "$tests/library/check.c" "$tests/library/wrong.c" "$1.a" -o "$1" 2> errors
+        gcc -O2 "${strict[@]}" "-D$1" "$tests/library/$test.c" "$tests/library/wrong.c" "$1.a" -o "$1" 2> errors
     judge "$1 compiles" test -x "$1"
     judge "a library is refused of which $1" refuses "./$1" "$vectors"
 }
 
-test_in_c() {
-    local build name
-    compiler gcc 'gcc and libc6-dev' || return
-    judge "check.c compiles without a warning" compiled_check library/libcdpatch.a check
-    judge 'the calls in C' holds ./check "$vectors"
+# in_c TEST WORD..: a test in C, by each build, and as C++.
+in_c() {
+    local test=$1 build
+    shift
+    judge "$test.c compiles without a warning" compiled "$test" library/libcdpatch.a "$test"
+    judge "$test.c" holds "./$test" "$@"
     for build in "${builds[@]}"; do
-        compiled_check "$build" dynamic_check
-        judge "the calls in C by $build" holds env LD_LIBRARY_PATH="${build%/*}" ./dynamic_check "$vectors"
+        compiled "$test" "$build" "dynamic_$test"
+        judge "$test.c by $build" holds env LD_LIBRARY_PATH="${build%/*}" "./dynamic_$test" "$@"
     done
     if compiler g++ g++; then
-        g++ -x c++ "${strict[@]}" "$tests/library/check.c" -x none library/libcdpatch.a -o plus_check 2> errors
-        judge 'the calls in C++' holds ./plus_check "$vectors"
+        g++ -x c++ "${strict[@]}" "$tests/library/$test.c" -x none library/libcdpatch.a -o "plus_$test" 2> errors
+        judge "$test.c as C++" holds "./plus_$test" "$@"
     fi
-    missing valgrind valgrind 'the calls in C under valgrind' ||
-        judge 'valgrind has no remark' holds valgrind -q --error-exitcode=9 --log-file=remarks ./check "$vectors"
+    missing valgrind valgrind "$test.c under valgrind" || judge "valgrind has no remark on $test.c" holds valgrind -q \
+        --leak-check=full --error-exitcode=9 --log-file=remarks "./$test" "$vectors"
+}
+
+test_in_c() {
+    local name
+    compiler gcc 'gcc and libc6-dev' || return
+    in_c check "$vectors"
+    in_c images "$vectors" long
+    gcc -O2 "${strict[@]}" -DREFUSES -Wl,--wrap=malloc,--wrap=realloc,--wrap=free "$tests/library/images.c" library/libcdpatch.a \
+        -o refusing 2> errors
+    judge 'images.c with memory refused' holds ./refusing "$vectors"
     missing objcopy binutils 'wrong libraries' && return
     while read -r name; do
         wrong "$name"
@@ -128,8 +160,19 @@ test_in_python() {
     missing python3 python3 'the library beside the model' && return
     for build in "${builds[@]}"; do
         judge "$count sectors by $build and by the model" holds python3 -B "$tests/library/model.py" "./$build" $count
+        judge "300 cases of tests/model by $build and by the program" holds python3 -B "$tests/library/images.py" \
+            "./$build" "$program"
         count=400
     done
+    # What test_in_c has left.
+    if [ -e CHECK_EXCHANGES_STATUSES.a ]; then
+        gcc -shared -fPIC -I "$top/include" -DCHECK_EXCHANGES_STATUSES "$tests/library/wrong.c" CHECK_EXCHANGES_STATUSES.a \
+            -o wrong.so 2> errors
+        judge 'cases of tests/model refuse a wrong library' refuses python3 -B "$tests/library/images.py" ./wrong.so "$program" 40
+        judge 'so do the worked cases' refuses bash "$tests/cases/run" model --without-model --library ./wrong.so \
+            "$tests/cases/carried.txt"
+    fi
+    judge 'the worked cases by the library' holds bash "$tests/cases/run" model --without-model --library "./${builds[0]}"
 }
 
 # ---- the examples, and an installed tree
@@ -138,19 +181,21 @@ test_examples() {
     cp "$vectors" image
     if compiler gcc 'gcc and libc6-dev'; then
         gcc -O2 "${strict[@]}" "$top/examples/audit.c" library/libcdpatch.a -o audit 2> errors
-        judge 'examples/audit.c has no finding in a sound image' test "$(./audit image; echo $?)" = 0
+        judge 'examples/audit.c has no finding in a sound image' holds ./audit image
         printf '\001' | dd of=image bs=1 seek=$((2352 + 2351)) conv=notrunc status=none
         printf '\001' | dd of=image bs=1 seek=$((3 * 2352 + 13)) conv=notrunc status=none
         ./audit image > log
-        judge 'it has the findings of `cdpatch audit`' cmp -s log <("$program" audit image | sed '$d')
+        judge 'it has findings in a damaged one' test $? = 1
+        judge 'it prints what `cdpatch audit` does' cmp -s log <("$program" audit image)
     fi
     missing python3 python3 'the examples in Python' && return
-    cp "$vectors" image
     ln -sf libcdpatch.so.1 library/libcdpatch.so
-    judge 'examples/patch.py' test "$(LD_LIBRARY_PATH=library python3 -B "$top/examples/patch.py" image 1 16 HELLO)" = 'block 1: mode1, sound'
-    printf 'cdpatch 1\nset 1 16 48454C4C4F\n' > script
-    "$program" apply "$vectors" script wanted > log
-    judge 'it leaves what `cdpatch apply` writes' cmp -s image wanted
+    printf 'cdpatch 1\nset 1 16 48454C4C4F\nset 8 0 41\n' > script
+    "$program" apply "$vectors" script wanted > wanted.log
+    LD_LIBRARY_PATH=library python3 -B "$top/examples/patch.py" "$vectors" script out > log
+    judge 'examples/patch.py, of whose patches one is refused' test $? = 1
+    judge 'it prints what `cdpatch apply` does' cmp -s log wanted.log
+    judge 'it makes what `cdpatch apply` makes' cmp -s out wanted
     LD_LIBRARY_PATH=library python3 -B "$tests/library/examples.py" "$top/examples" > log 2>&1
     judge "examples/cdpatch.py: $(tail -n 1 log)" test "$(tail -n 1 log)" = right
 }

@@ -1,32 +1,7 @@
 /* The calls of libcdpatch from C: `check SAMPLES`, a file of consistent sectors of other encoders. Prints what fails, and answers
  * whether nothing does. Each call is made on memory that ends, and on memory that begins, where no byte may be touched. */
 #define _DEFAULT_SOURCE
-#include <cdpatch.h>
-#include <stdio.h>
-#include <stdlib.h>
-#include <string.h>
-#include <sys/mman.h>
-
-enum { PAGE = 4096 };
-
-static int failures;
-
-static void judge(bool holds, const char *what, unsigned number) {
-    if (!holds) {
-        printf("sample %u: %s\n", number, what);
-        failures++;
-    }
-}
-
-/* So many bytes between two pages that may not be touched: at the end of the pages between, or at their beginning. */
-static uint8_t *fenced(size_t size, bool at_end) {
-    uint8_t *pages = (uint8_t *)mmap(NULL, 3 * PAGE, PROT_READ | PROT_WRITE, MAP_PRIVATE | MAP_ANONYMOUS, -1, 0);
-    if (pages == MAP_FAILED || mprotect(pages, PAGE, PROT_NONE) || mprotect(pages + 2 * PAGE, PAGE, PROT_NONE)) {
-        perror("fenced");
-        exit(2);
-    }
-    return pages + (at_end ? 2 * PAGE - size : (size_t)PAGE);
-}
+#include "fenced.h"
 
 static bool has_defect(const uint8_t *sector, bool zeros, bool edc, unsigned p, unsigned q) {
     struct cdpatch_defect found;

@@ -18,12 +18,10 @@ returns c =
     let changed = kept.changed in
     let kind = user-kind offset changed in
     let carried : IsCarried old (header_of old) (written (user_of old) offset bytes) new =
-    carried-of changed stored (omega arith) (header_of old) (written (user_of old) offset bytes)
-    (user-header offset changed) (user-of offset changed) in
+    carried-of changed stored (omega arith) (header_of old) (written (user_of old) offset bytes) (user-header offset changed) (user-of offset changed) in
     record {
       carried = carried;
-      alone = λ t other. carried_unique old (header_of old) (written (user_of old) offset bytes) t
-          new other carried;
+      alone = λ t other. carried_unique old (header_of old) (written (user_of old) offset bytes) t new other carried;
       kind = kind;
       edc = stored-sum stored changed.edc;
       consistent = carried-consistent changed stored kind;
