@@ -43,7 +43,7 @@ test:
 test-outside:
 	WHOLE=1 bash tests/outside/run '$(PROGRAM)'
 
-# No part of the gate: see bench/README.md.
+# No part of the gate: see docs/SPEED.md.
 bench:
 	bash bench/build '$(CPU)'
 

@@ -35,14 +35,6 @@ function __cdpatch_at
     test $in_base = no -a $texts = $argv[1]
 end
 
-# The files that the word may become. Before `--` a name that begins with `-` would be an option.
-function __cdpatch_files
-    set -l files (complete -C "'' "(commandline -ct))
-    contains -- -- (__cdpatch_words)
-    or set files (string match -v -- '-*' $files)
-    string join -- \n $files
-end
-
 # Whether there is no command yet.
 function __cdpatch_begins
     test (count (__cdpatch_words)) = 1
@@ -56,6 +48,6 @@ complete -c cdpatch -n __cdpatch_begins -a apply -d 'Patch an image by a script,
 complete -c cdpatch -s h -l help -d 'Print help'
 complete -c cdpatch -n 'not __cdpatch_begins; and not __fish_contains_opt base' -l base -x -d 'The number of the first block'
 complete -c cdpatch -n '__fish_seen_subcommand_from check apply; and not __fish_contains_opt carry' -l carry -d 'Patch damaged sectors too, and keep their damage'
-complete -c cdpatch -n '__cdpatch_at 0 list audit check apply' -a '(__cdpatch_files)'
-complete -c cdpatch -n '__cdpatch_at 1 check apply' -a '(__cdpatch_files)'
-complete -c cdpatch -n '__cdpatch_at 2 apply' -a '(__cdpatch_files | string match -- "*/")'
+complete -c cdpatch -n '__cdpatch_at 0 list audit check apply' -F
+complete -c cdpatch -n '__cdpatch_at 1 check apply' -F
+complete -c cdpatch -n '__cdpatch_at 2 apply' -a '(__fish_complete_directories)'

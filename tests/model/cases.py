@@ -13,7 +13,7 @@ MOST_BLOCKS = (2047 + MOST_BYTES - 1) // 2048 + 1  # that a patch meets
 
 
 class Case(NamedTuple):
-    """A call of the program: the image comes by the standard input if `piped`."""
+    """A call of the program: the image comes by the standard input where `piped`."""
     command: str
     image: bytes
     base: int

@@ -82,7 +82,7 @@ def list_text(image, base):
 
 
 def findings(sector, block):
-    """What `audit` finds in a Mode 1 sector: another address than its block's, if that has one, and damage."""
+    """What `audit` finds in a Mode 1 sector: another address than its block's, where that has one, and damage."""
     return (address_of(block) not in (None, sector[12:15])) * ' address' + damage(sector)
 
 

@@ -28,7 +28,7 @@ NUMBERS_OF_WORDS = {b'set': (4, 6), b'fill': (5,), b'rebuild': (2,), b'address':
 
 
 def lines(text):
-    """Cut at each LF, which takes one CR before it along; what follows the last LF is a line if it is not empty."""
+    """Cut at each LF, which takes one CR before it along; what follows the last LF is a line where it is not empty."""
     *ended, last = text.split(b'\n')
     return [line[:-1] if line.endswith(b'\r') else line for line in ended] + [last] * (last != b'')
 

@@ -46,20 +46,6 @@ asked_at_each_position() {
     offers 'folder' apply image script ''
     offers '' apply image script out ''
     offers '' frobnicate ''
-    # A name that begins with a dash would be an option, but after `--`.
-    touch ./-dash.bin
-    mkdir ./-dir
-    for command in list audit check apply; do
-        offers "$everything" $command ''
-        offers '' $command -d
-        offers "-dash.bin -dir $everything" $command -- ''
-        offers '-dash.bin' $command -- -da
-    done
-    offers 'folder' apply image script ''
-    offers '-dir folder' apply -- image script ''
-    offers '-dir' apply -- image script -
-    rm ./-dash.bin
-    rmdir ./-dir
 }
 
 shell=bash
@@ -89,6 +75,9 @@ done
 offers 'image' list image 2 '>' im
 offers 'folder' apply image script 2 '>' log fo
 touch ./-dash
+offers "$everything" list ''
+offers "-dash $everything" list -- ''
+offers '-dash' list -- -d
 offers '-dash' list image '>' -d
 rm ./-dash
 judge 'bash knows the completion' test "$(complete -p cdpatch)" = 'complete -F _cdpatch cdpatch'

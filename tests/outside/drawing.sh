@@ -1,4 +1,4 @@
-# The drawings: the one of a sector marks the places that a changed byte changes, and the other names what is in the sources.
+# The drawing of a sector marks the places that a changed byte changes.
 
 # Where place n of a plane is drawn: 26 rows of 43, and below them the two rows of 26.
 drawn() {
@@ -42,12 +42,3 @@ for n in $place "${column_pair[@]}" "${diagonal_pairs[@]}"; do
     judge "byte $((12 + 2 * n)) is named" grep -qw "$((12 + 2 * n))" "$top/docs/sector.svg"
 done
 
-# For those who cannot see them.
-for drawing in sector apply; do
-    for part in title desc; do
-        judge "$drawing.svg has its $part" grep -qE "^<$part id=\"[a-z]*\">.{40,}</$part>\$" "$top/docs/$drawing.svg"
-    done
-done
-while read -r crate name <&3; do
-    judge "$crate has $name" grep -qrE "(fn|struct) $name\b" "$top/crates/$crate/src"
-done 3< <(sed -nE 's/^<text .*(cd_[a-z]+): ([A-Za-z]+_?[a-z]*)<.*/\1 \2/p' "$top/docs/apply.svg")

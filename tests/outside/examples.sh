@@ -96,17 +96,6 @@ pages() {
 }
 
 pages sources "$top" "$top/man/cdpatch.1"
-
-# The image and the scripts of docs/SPEED.md, a hundredth as long, and the commands of its table.
-sed -e 's/330000/3300/g' -e 's/329999/3299/' -e 's/327670/3270/' "$top/docs/SPEED.md" > "$scratch/short_speed"
-page speed "$scratch/short_speed"
-judge 'its image is sound' test "$(cdpatch audit long.bin)" = 'sectors 3300 mode1 3300 damaged 0 tail 0'
-while IFS= read -r command <&3; do
-    rm -f out
-    $plain -c "$command" > log 2>&1
-    judge "docs/SPEED.md: $command" test $? = 0
-done 3< <(sed -n 's/^| `\([^`]*\)`.*/\1/p' "$top/docs/SPEED.md")
-judge 'docs/SPEED.md has at most 40 lines' test "$(wc -l < "$top/docs/SPEED.md")" -le 40
 for drawing in sector apply; do
     judge "the README shows $drawing.svg" grep -q "](docs/$drawing.svg)$" "$top/README.md"
     judge "$drawing.svg is there" grep -q '^</svg>$' "$top/docs/$drawing.svg"

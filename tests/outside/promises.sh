@@ -56,14 +56,6 @@ done < <(second_column bodies | grep -oE '`[a-z_.0-9]+\.[a-z_.0-9]+`' | tr -d '`
 judge "docs/CONTRACTS.md: wrong bodies that are not there:${unknown:- none}" test -z "$unknown"
 judge 'docs/CONTRACTS.md names wrong bodies' test "$(second_column bodies | grep -c '`')" -gt 10
 
-# The README names contracts for each crate: calls and types of the crate's own.
-for crate in "${library_crates[@]}"; do
-    sed -n "/^- \*\*$crate\*\*:/,/^- /{/^- \*\*$crate\*\*:/p;/^  /p}" "$top/README.md" | grep -oE '`[A-Za-z_]+`' | tr -d '`' > named_in_readme
-    sources "$crate" | xargs sed -nE 's/^ *pub (fn|struct|trait) ([A-Za-z_]+).*/\2/p' | sort -u > there
-    unknown=$(sort -u named_in_readme | comm -23 - there | paste -sd ' ')
-    judge "the README names contracts of $crate: ${unknown:-all there}" test -s named_in_readme -a -z "$unknown"
-done
-
 # Each file of code and of definitions has its place in docs/MAP.md, by its path or its folder, and each path there is a file.
 for crate in "${crates_with_contracts[@]}" cdpatch; do
     grep "| $crate |" "$map" | grep -oE '`(src|specs)/[A-Za-z_/.]*`' | tr -d '`' | sort -u > placed
@@ -80,18 +72,6 @@ for crate in "${crates_with_contracts[@]}" cdpatch; do
     done < <(find "$top/crates/$crate" -name out -prune -o \( -path '*/src/*.rt' -o -path '*/specs/*.antt' \) -print | sort)
     judge "docs/MAP.md has each file of $crate:${left_out:- all}" test -z "$left_out"
 done
-
-# What docs/MAP.md says of a changed message: all files that have it are in its table, and the wrong body fits.
-message=$(sed -n 's/^\*\*Change one message\*\*, `cdpatch: \([a-z ]*\)`.*/\1/p' "$map")
-(cd "$top" && git ls-files -z 2> /dev/null | xargs -0 grep -l "${message:-no message}" | grep -v '^docs/MAP.md$') | sort > have_it
-sed -n '/^| Files | What happens/,/^$/p' "$map" | sed 's/^\(|[^|]*|\).*/\1/' | grep -oE '`[a-z_A-Z/0-9.]+`' | tr -d '`' | sort > in_table
-left_out=$(comm -23 have_it in_table | paste -sd ' ')
-judge "docs/MAP.md has all files with the message: ${left_out:-all}" test -z "$left_out"
-while IFS= read -r path <&3; do
-    judge "docs/MAP.md: the message is in $path" grep -q "${message:-no message}" "$top/$path"
-done 3< in_table
-line=$(sed -n 's/^    old: //p' "$map")
-judge 'the line of its wrong body stands there once' test "$(grep -cF -- "$line" "$top/crates/cd_jobs/src/messages.rt")" = 1
 
 # Each example of the rustdoc stands in a test, line by line.
 tested=$(for file in "$top"/crates/cd_*/src/tests/examples.rt; do sed 's/^ *//' "$file"; echo; done)

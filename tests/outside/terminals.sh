@@ -33,11 +33,6 @@ cdpatch check image > log sc|cdpatch check image > log script
 cdpatch < im|cdpatch < image
 cdpatch < image au|cdpatch < image audit
 cdpatch list - im|
-cdpatch list -d|
-cdpatch list -- -d|cdpatch list -- -dash.bin
-cdpatch list da|
-cdpatch apply image script -d|
-cdpatch apply -- image script -d|
 END
 
 # in_terminal SHELL FILE: types the lines into the shell, and compares what they become.
@@ -46,7 +41,7 @@ in_terminal() {
     mkdir "$scratch/typing_$shell"
     cd "$scratch/typing_$shell" || exit 1
     mkdir folder ../load_$shell
-    touch image 'an image' script ./-dash.bin
+    touch image 'an image' script
     cp "$2" ../load_$shell/
     sed 's/|.*//' ../typed > lines
     python3 "$top/tests/outside/terminals.py" "$shell" "$scratch/load_$shell/${2##*/}" < lines > ../became 2> ../errors

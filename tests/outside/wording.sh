@@ -15,14 +15,6 @@ judge 'as many random cases as a run of the model has' \
 seeds=$(sed -n 's/^ *tried "$program" 1 \([0-9]*\)$/\1/p' "$top/tests/random_faults.sh")
 judge 'as many runs with errors as two for each seed' test "$(figure '[0-9,]+ runs with injected errors')" = $((2 * seeds))
 
-# How long make, the tests and the gate take stands in one place, the README.
-for goal in '' check test; do
-    lines=$(grep -cE "^    make${goal:+ $goal} +# .*[0-9] minutes" "$top/README.md")
-    judge "the README says once how long make${goal:+ $goal} takes" test "$lines" = 1
-done
-elsewhere=$(cd "$top" && grep -nE '(\bgate\b|`make|    make).*\b(minutes?|hours?|min)\b' CHANGELOG.md docs/*.md bench/README.md Makefile man/* | cut -c 1-60)
-judge "and no other page does: $elsewhere" test -z "$elsewhere"
-
 # The text of a page, without code, and in one line a paragraph. A blank line and a row of a table or list end a paragraph.
 plain_text() {
     awk '

@@ -15,12 +15,10 @@ use crate::folding::Folded;
 /// assert_eq!(rt; edc_of(&[0x00; 2064]), 0);
 /// assert_eq!(rt; edc_of(&[0x01]), 0x9091_0101);
 /// ```
-#[inline(always)]
 pub fn edc_of(bytes: &[u8]) -> u32
     ensures word { IsEdc bytes.now result }
     ensures alone { (w : ℕ) → IsEdc bytes.now w → w ≡ result }
 {
-    // Inlined, since the number of blocks is a constant if the caller's length is one.
     // Sixteen bytes at a time are added to those 16, 28 and 31 places after them: a multiple of the
     // generator has only these four terms. The tables take what is left.
     let (blocks, rest) = bytes.as_chunks::<64>();

@@ -1,5 +1,4 @@
--- The amounts of the eight changes: none is 0 unless the change is, and no others keep the
--- syndromes (ECMA-130, Annex A).
+-- The amounts of the eight changes: none is 0 unless the change is, and no others keep the syndromes (ECMA-130, Annex A).
 use Rattle.std.proofs.Common.{◌≡◌, ◌≢◌, ℕ, zero, suc, ◌<◌, ◌≤◌, All, Contains, false, List, [], ◌∷◌, length, get_or, nat_eq, bit_xor, refl, sym, ap, ◌∙◌, arith}
 use Rattle.std.specs.Prelude.{take}
 use Rattle.std.specs.List.{AllByRecursion, IsDistinct}
@@ -23,8 +22,7 @@ use Rattle.cd_delta.proofs.WritingLemmas.{SameSyndromes-trans}
 
 -- ---- none is 0
 
-All-eight : (P : Change → Type 0) (t : Eight) → (P t.column.0 × P t.column.1)
-    → (P t.own.0 × P t.own.1) → (P t.first.0 × P t.first.1)
+All-eight : (P : Change → Type 0) (t : Eight) → (P t.column.0 × P t.column.1) → (P t.own.0 × P t.own.1) → (P t.first.0 × P t.first.1)
     → (P t.second.0 × P t.second.1) → All P (listed t)
 All-eight P t p q r s zero c h = p.0
 All-eight P t p q r s (suc zero) c h = p.1
@@ -76,27 +74,23 @@ AreBytes-changed (c ∷ cs) s h low =
     (λ i e below. low (suc i) e (omega arith))
 
 -- a number that differs from all of a list is none of them
-none_of : (p : ℕ) (ps : List ℕ) → AllByRecursion (λ q. nat_eq p q ≡ false) ps → (i : ℕ)
-    → i < length ps → get_or ps i p ≡ p → ⊥
+none_of : (p : ℕ) (ps : List ℕ) → AllByRecursion (λ q. nat_eq p q ≡ false) ps → (i : ℕ) → i < length ps → get_or ps i p ≡ p → ⊥
 none_of p [] all i h e = absurd (omega arith)
 none_of p (q ∷ ps) all zero h e = eqb-false p q all.0 (sym e)
 none_of p (q ∷ ps) all (suc i) h e = none_of p ps all.1 i (omega arith) e
 
 -- the amount of the first change can be read off
-first_amount : (c : Change) (cs : List Change) (s : List ℕ) → (Contains (places_of cs) c.place → ⊥)
-    → c.place < length s
+first_amount : (c : Change) (cs : List Change) (s : List ℕ) → (Contains (places_of cs) c.place → ⊥) → c.place < length s
     → get_or (changed (added s c.place c.d) cs) c.place 0 ≡ bit_xor (get_or s c.place 0) c.d
 first_amount c cs s apart inside =
     changed-other cs (added s c.place c.d) c.place apart
     ∙ get_or-set_same s c.place (bit_xor (get_or s c.place 0) c.d) 0 inside
 
 same_change : (c e : Change) → c.place ≡ e.place → c.d ≡ e.d → c ≡ e
-same_change c e p q =
-    ap (λ n. record { place = n; d = c.d }) p ∙ ap (λ n. record { place = e.place; d = n }) q
+same_change c e p q = ap (λ n. record { place = n; d = c.d }) p ∙ ap (λ n. record { place = e.place; d = n }) q
 
 -- changes of the same places, each of another, that make the same sector have the same amounts
-same_changes : (cs es : List Change) (s : List ℕ) → places_of cs ≡ places_of es
-    → IsDistinct nat_eq (places_of cs)
+same_changes : (cs es : List Change) (s : List ℕ) → places_of cs ≡ places_of es → IsDistinct nat_eq (places_of cs)
     → All (λ c. c.place < length s) cs → changed s cs ≡ changed s es → cs ≡ es
 same_changes [] [] s places distinct inside same = refl
 same_changes [] (e ∷ es) s places distinct inside same = absurd cc
@@ -105,16 +99,13 @@ same_changes (c ∷ cs) (e ∷ es) s places distinct inside same =
     let here : c.place ≡ e.place = cc in
     let rest : places_of cs ≡ places_of es = cc in
     let apart : Contains (places_of cs) c.place → ⊥ =
-    (λ found. none_of c.place (places_of cs)
-    (IsDistinct-head nat_eq c.place (places_of cs) distinct) found.0 found.1 found.2) in
-    let apart_e : Contains (places_of es) e.place → ⊥ =
-    (let P : List ℕ → ℕ → Type 0 = λ ps p. Contains ps p → ⊥ in rw here at (rw rest at apart)) in
+    (λ found. none_of c.place (places_of cs) (IsDistinct-head nat_eq c.place (places_of cs) distinct) found.0 found.1 found.2) in
+    let apart_e : Contains (places_of es) e.place → ⊥ = (let P : List ℕ → ℕ → Type 0 = λ ps p. Contains ps p → ⊥ in rw here at (rw rest at apart)) in
     let within : c.place < length s = inside 0 c (omega arith) in
     let within_e : e.place < length s = omega arith in
     let amounts : c.d ≡ e.d =
     xor_cancel (get_or s c.place 0) c.d e.d
-    (sym (first_amount c cs s apart within) ∙ ap (λ v. get_or v c.place 0) same
-    ∙ ap (λ n. get_or (changed (added s e.place e.d) es) n 0) here
+    (sym (first_amount c cs s apart within) ∙ ap (λ v. get_or v c.place 0) same ∙ ap (λ n. get_or (changed (added s e.place e.d) es) n 0) here
     ∙ first_amount e es s apart_e within_e ∙ ap (λ n. bit_xor (get_or s n 0) e.d) (sym here)) in
     let one : c ≡ e = same_change c e here amounts in
     let after : changed (added s c.place c.d) cs ≡ changed (added s c.place c.d) es =
@@ -122,8 +113,7 @@ same_changes (c ∷ cs) (e ∷ es) s places distinct inside same =
     let long = length-set s c.place (bit_xor (get_or s c.place 0) c.d) in
     ap (λ z. z ∷ cs) one
     ∙ ap (λ zs. e ∷ zs)
-    (same_changes cs es (added s c.place c.d) rest
-    (IsDistinct-tail nat_eq c.place (places_of cs) distinct)
+    (same_changes cs es (added s c.place c.d) rest (IsDistinct-tail nat_eq c.place (places_of cs) distinct)
     (λ i z below. (let h = inside (suc i) z (omega arith) in omega arith)) after)
 
 SameSums-sym : {v w : List ℕ} → SameSums v w → SameSums w v
@@ -136,12 +126,9 @@ SameSyndromes-sym h = record {
 }
 
 -- changes of the parity at the same places that keep the same syndromes are the same ones
-amounts_alone : (cs es : List Change) (s t : List ℕ) → places_of es ≡ places_of cs
-    → IsDistinct nat_eq (places_of cs)
-    → All (λ c. (2076 ≤ c.place) × (c.place < 2352)) cs → All (λ c. c.d < 256) cs
-    → All (λ c. c.d < 256) es
-    → AreBytes t → length t ≡ 2352 → SameSyndromes (changed t cs) s
-    → SameSyndromes (changed t es) s → es ≡ cs
+amounts_alone : (cs es : List Change) (s t : List ℕ) → places_of es ≡ places_of cs → IsDistinct nat_eq (places_of cs)
+    → All (λ c. (2076 ≤ c.place) × (c.place < 2352)) cs → All (λ c. c.d < 256) cs → All (λ c. c.d < 256) es
+    → AreBytes t → length t ≡ 2352 → SameSyndromes (changed t cs) s → SameSyndromes (changed t es) s → es ≡ cs
 amounts_alone cs es s t places distinct inside low_c low_e bytes size one two =
     let u = changed t cs in
     let v = changed t es in
@@ -150,18 +137,13 @@ amounts_alone cs es s t places distinct inside low_c low_e bytes size one two =
     let agree : (i : ℕ) → i < 2076 → get_or u i 0 ≡ get_or v i 0 =
     (λ i below.
     changed-other cs t i (places_of-behind cs i inside below)
-    ∙ sym (changed-other es t i
-    (λ found. places_of-behind cs i inside below (rw places at found)))) in
-    let front : take 2068 u ≡ take 2068 v =
-    front-same u v 2068 (omega arith) (omega arith) (λ i below. agree i (omega arith)) in
+    ∙ sym (changed-other es t i (λ found. places_of-behind cs i inside below (rw places at found)))) in
+    let front : take 2068 u ≡ take 2068 v = front-same u v 2068 (omega arith) (omega arith) (λ i below. agree i (omega arith)) in
     let same : u ≡ v =
-    sector_same u v u_size v_size (AreBytes-changed cs t bytes low_c)
-    (AreBytes-changed es t bytes low_e)
-    (λ i below. agree i (omega arith)) (ap (λ w. remainder (bits w)) front)
-    (λ i _ below. agree i below)
+    sector_same u v u_size v_size (AreBytes-changed cs t bytes low_c) (AreBytes-changed es t bytes low_e)
+    (λ i below. agree i (omega arith)) (ap (λ w. remainder (bits w)) front) (λ i _ below. agree i below)
     (SameSyndromes-trans one (SameSyndromes-sym two)) in
-    sym (same_changes cs es t (sym places) distinct
-    (λ i c below. (let h = inside i c below in let e = h.1 in omega arith)) same)
+    sym (same_changes cs es t (sym places) distinct (λ i c below. (let h = inside i c below in let e = h.1 in omega arith)) same)
 
 -- no other amounts at the eight places keep all syndromes
 pub alone-carried : {byte : Change} {t : Eight} → AreCarried byte t → (others : List Change)

@@ -1,16 +1,16 @@
 -- A sector whose bytes were changed with the error that its EDC had: its damage is carried.
-use Rattle.std.proofs.Common.{◌≡◌, ℕ, zero, suc, ◌+◌, ◌-◌, ◌^◌, ◌<◌, ◌≤◌, ◌⊎◌, inl, inr, List, ◌++◌, length, get_or, set, take, replicate, bit_xor, refl, sym, ap, ◌∙◌, arith}
+use Rattle.std.proofs.Common.{◌≡◌, ℕ, ◌+◌, ◌-◌, ◌^◌, ◌<◌, ◌≤◌, ◌⊎◌, inl, inr, List, length, get_or, set, take, replicate, bit_xor, sym, ap, ◌∙◌, arith}
 use Rattle.std.specs.Prelude.{slice_range}
 use Rattle.std.specs.Int.{from_le_bytes, to_le_bytes, w32}
 use Rattle.std.specs.Int.Bits.{xor_self, xor_zero_l, xor_zero_r}
 use Rattle.std.proofs.lemmas.Bool.{cases_lt}
-use Rattle.std.proofs.lemmas.List.{get_or_append_left, get_or-append_right, get_or_past, get_or-replicate, get_or-set_other, get_or-set_same, get_or-take, length-append, length-replicate, length-set, length-take-le}
+use Rattle.std.proofs.lemmas.List.{get_or_past, get_or-replicate, get_or-set_other, get_or-set_same, get_or-take, length-replicate, length-set, length-take-le}
 use Rattle.std.proofs.lemmas.Nat.{from_le_bytes-to_le_bytes_4, le_bytes_4, xor_comm, xor_lt}
 use Rattle.cd_code.specs.Edc.{IsEdc}
 use Rattle.cd_code.specs.Field.{AreBytes}
 use Rattle.cd_code.proofs.ByteLemmas.{AreBytes-drop, AreBytes-take}
 use Rattle.cd_code.proofs.general.Lists.{length-part, part-same}
-use Rattle.cd_code.proofs.EdcLemmas.{IsEdc-same, IsEdc-sum, IsEdc-unique, after, after-append, after_bits-zero}
+use Rattle.cd_code.proofs.EdcLemmas.{IsEdc-sum, IsEdc-unique}
 use Rattle.cd_code.proofs.general.Xor.{xor_swap, xor_twice_left}
 use Rattle.cd_sector.specs.Carried.{IsCarried, sync_of}
 use Rattle.cd_sector.specs.Consistent.{IsConsistent, header_of, user_of}
@@ -23,8 +23,7 @@ use Rattle.cd_delta.proofs.UserLemmas.{IsChanged-carried, IsConsistent-of, Store
 -- ---- the word that is stored
 
 -- the sum of the right word and the stored one is the error
-pub StoresEdc-read : (s : List ℕ) (w stored : ℕ) → length s ≡ 2352 → AreBytes s
-    → IsEdc (take 2064 s) w → stored < 2 ^ 32
+pub StoresEdc-read : (s : List ℕ) (w stored : ℕ) → length s ≡ 2352 → AreBytes s → IsEdc (take 2064 s) w → stored < 2 ^ 32
     → stored ≡ from_le_bytes w32 (slice_range s 2064 2068) → StoresEdc s (bit_xor w stored)
 StoresEdc-read s w stored size each word fits same =
     let four = slice_range s 2064 2068 in
@@ -35,44 +34,33 @@ StoresEdc-read s w stored size each word fits same =
       at_end =
           sym
           (ap (to_le_bytes w32) (xor_twice_left w stored)
-          ∙ le_bytes_4 four stored (length-part s 2064 4 (omega (arith, size)))
-          (AreBytes-take _ 4 (AreBytes-drop s 2064 each)) same);
+          ∙ le_bytes_4 four stored (length-part s 2064 4 (omega (arith, size))) (AreBytes-take _ 4 (AreBytes-drop s 2064 each)) same);
     }
 
-StoresEdc-word : {s : List ℕ} {error : ℕ} → (h : StoresEdc s error)
-    → from_le_bytes w32 (slice_range s 2064 2068) ≡ bit_xor h.word error
+StoresEdc-word : {s : List ℕ} {error : ℕ} → (h : StoresEdc s error) → from_le_bytes w32 (slice_range s 2064 2068) ≡ bit_xor h.word error
 StoresEdc-word {s} {error} h =
-    ap (from_le_bytes w32) h.at_end
-    ∙ from_le_bytes-to_le_bytes_4 (bit_xor h.word error)
-    (xor_lt 32 h.word error h.is_word.fits h.fits)
+    ap (from_le_bytes w32) h.at_end ∙ from_le_bytes-to_le_bytes_4 (bit_xor h.word error) (xor_lt 32 h.word error h.is_word.fits h.fits)
 
 -- with the same error the stored words differ by what the right ones do
-pub stored-sum : {old new : List ℕ} {error : ℕ} → StoresEdc old error → StoresEdc new error
-    → (before after : ℕ)
+pub stored-sum : {old new : List ℕ} {error : ℕ} → StoresEdc old error → StoresEdc new error → (before after : ℕ)
     → IsEdc (take 2064 old) before → IsEdc (take 2064 new) after
-    → from_le_bytes w32 (slice_range new 2064 2068)
-    ≡ bit_xor (from_le_bytes w32 (slice_range old 2064 2068)) (bit_xor before after)
+    → from_le_bytes w32 (slice_range new 2064 2068) ≡ bit_xor (from_le_bytes w32 (slice_range old 2064 2068)) (bit_xor before after)
 stored-sum {old} {new} {error} h k before after one two =
     let w = h.word in
     let v = k.word in
     let both : bit_xor (bit_xor w error) (bit_xor w v) ≡ bit_xor v error =
-    xor_swap w error w v ∙ ap (λ n. bit_xor n (bit_xor error v)) (xor_self w)
-    ∙ xor_zero_l (bit_xor error v) ∙ xor_comm error v in
+    xor_swap w error w v ∙ ap (λ n. bit_xor n (bit_xor error v)) (xor_self w) ∙ xor_zero_l (bit_xor error v) ∙ xor_comm error v in
     StoresEdc-word k
     ∙ sym
     (ap (λ n. bit_xor n (bit_xor before after)) (StoresEdc-word h)
-    ∙ ap (λ n. bit_xor (bit_xor w error) (bit_xor n after))
-    (IsEdc-unique (take 2064 old) before w one h.is_word)
-    ∙ ap (λ n. bit_xor (bit_xor w error) (bit_xor w n))
-    (IsEdc-unique (take 2064 new) after v two k.is_word)
+    ∙ ap (λ n. bit_xor (bit_xor w error) (bit_xor n after)) (IsEdc-unique (take 2064 old) before w one h.is_word)
+    ∙ ap (λ n. bit_xor (bit_xor w error) (bit_xor w n)) (IsEdc-unique (take 2064 new) after v two k.is_word)
     ∙ both)
 
 -- ---- the sector
 
-pub carried-of : {old new : List ℕ} {place : ℕ} {bytes : List ℕ} {error : ℕ}
-    → IsChanged old new place bytes error → StoresEdc old error
-    → 12 ≤ place → (header user : List ℕ) → header_of new ≡ header → user_of new ≡ user
-    → IsCarried old header user new
+pub carried-of : {old new : List ℕ} {place : ℕ} {bytes : List ℕ} {error : ℕ} → IsChanged old new place bytes error → StoresEdc old error
+    → 12 ≤ place → (header user : List ℕ) → header_of new ≡ header → user_of new ≡ user → IsCarried old header user new
 unfolding sync_of
 carried-of {old} {new} h stored from header user same_header same_user =
     let size = h.size in
@@ -80,181 +68,123 @@ carried-of {old} {new} h stored from header user same_header same_user =
     record {
       size = size;
       bytes = h.each;
-      same_sync = part-same new old 0 12 (omega arith) (omega arith)
-          (λ i _ below. h.front i (omega arith) (inl (omega arith)));
+      same_sync = part-same new old 0 12 (omega arith) (omega arith) (λ i _ below. h.front i (omega arith) (inl (omega arith)));
       has_header = same_header;
       has_user = same_user;
       same_defect =
           defect-same new old
-          (part-same new old 2068 8 (omega arith) (omega arith)
-          (λ i low high. h.zeros i low (omega arith)))
+          (part-same new old 2068 8 (omega arith) (omega arith) (λ i low high. h.zeros i low (omega arith)))
           (StoresEdc-remainder h.edc ∙ sym (StoresEdc-remainder stored)) h.syndromes;
     }
 
-pub carried-consistent : {old new : List ℕ} {place : ℕ} {bytes : List ℕ} {error : ℕ}
-    → IsChanged old new place bytes error → StoresEdc old error
+pub carried-consistent : {old new : List ℕ} {place : ℕ} {bytes : List ℕ} {error : ℕ} → IsChanged old new place bytes error → StoresEdc old error
     → kind_of new ≡ kind_of old → IsConsistent old → IsConsistent new
 carried-consistent h stored kind sound =
-    IsConsistent-of h
-    (StoresEdc-remainder h.edc ∙ sym (StoresEdc-remainder stored) ∙ sound.edc) kind sound
+    IsConsistent-of h (StoresEdc-remainder h.edc ∙ sym (StoresEdc-remainder stored) ∙ sound.edc) kind sound
 
--- ---- few bytes of the user data
+-- ---- few bytes
 
--- what is added to the user data where the first `count` bytes are written from `offset` on
-pub record AreDifferences (s : List ℕ) (offset count : ℕ) (bytes sums : List ℕ) : Type 0 where
-  pub size : length sums ≡ 2048
-  pub inside : (i : ℕ) → i < count
-      → get_or sums (offset + i) 0 ≡ bit_xor (get_or s (16 + offset + i) 0) (get_or bytes i 0)
-  pub outside : (k : ℕ) → (k < offset) ⊎ (offset + count ≤ k) → get_or sums k 0 ≡ 0
+-- what is added to the bytes before the EDC where the first `count` bytes are written from `place` on
+pub record AreDifferences (s : List ℕ) (place count : ℕ) (bytes sums : List ℕ) : Type 0 where
+  pub size : length sums ≡ 2064
+  pub inside : (i : ℕ) → i < count → get_or sums (place + i) 0 ≡ bit_xor (get_or s (place + i) 0) (get_or bytes i 0)
+  pub outside : (k : ℕ) → (k < place) ⊎ (place + count ≤ k) → get_or sums k 0 ≡ 0
 
-pub AreDifferences-none : (s : List ℕ) (offset : ℕ) (bytes : List ℕ)
-    → AreDifferences s offset 0 bytes (replicate 2048 0)
-AreDifferences-none s offset bytes = record {
-  size = length-replicate {A = ℕ} 2048 0;
+pub AreDifferences-none : (s : List ℕ) (place : ℕ) (bytes : List ℕ) → AreDifferences s place 0 bytes (replicate 2064 0)
+AreDifferences-none s place bytes = record {
+  size = length-replicate {A = ℕ} 2064 0;
   inside = λ i h. absurd (omega arith);
-  outside = λ k _. elim (cases_lt k 2048) [
-    | inl below ↦ get_or-replicate 2048 k 0 0 below
-    | inr past ↦ get_or_past (replicate 2048 0) k 0
-        (let e = length-replicate {A = ℕ} 2048 0 in omega (arith, e))
+  outside = λ k _. elim (cases_lt k 2064) [
+    | inl below ↦ get_or-replicate 2064 k 0 0 below
+    | inr past ↦ get_or_past (replicate 2064 0) k 0 (let e = length-replicate {A = ℕ} 2064 0 in omega (arith, e))
   ];
 }
 
-pub AreDifferences-more : {s : List ℕ} {offset n : ℕ} {bytes sums : List ℕ} (x : ℕ)
-    → offset + n < 2048
-    → AreDifferences s offset n bytes sums
-    → x ≡ bit_xor (get_or s (16 + offset + n) 0) (get_or bytes n 0)
-    → AreDifferences s offset (n + 1) bytes (set sums (offset + n) x)
-AreDifferences-more {s} {offset} {n} {bytes} {sums} x below h is =
+pub AreDifferences-more : {s : List ℕ} {place n : ℕ} {bytes sums : List ℕ} (x : ℕ) → place + n < 2064
+    → AreDifferences s place n bytes sums → x ≡ bit_xor (get_or s (place + n) 0) (get_or bytes n 0)
+    → AreDifferences s place (n + 1) bytes (set sums (place + n) x)
+AreDifferences-more {s} {place} {n} {bytes} {sums} x below h is =
     let size = h.size in
     record {
-      size = length-set sums (offset + n) x ∙ size;
+      size = length-set sums (place + n) x ∙ size;
       inside = λ i within. elim (cases_lt i n) [
-        | inl lower ↦ get_or-set_other sums (offset + n) (offset + i) x 0
-            (λ e. absurd (omega (arith, e))) ∙ h.inside i lower
+        | inl lower ↦ get_or-set_other sums (place + n) (place + i) x 0 (λ e. absurd (omega (arith, e))) ∙ h.inside i lower
         | inr from ↦
             let e : i ≡ n = omega arith in
-            rw e (get_or-set_same sums (offset + n) x 0 (omega arith) ∙ is)
+            rw e (get_or-set_same sums (place + n) x 0 (omega arith) ∙ is)
       ];
       outside = λ k out.
-          get_or-set_other sums (offset + n) k x 0
-          (λ e. elim out [
-            | inl low ↦ absurd (omega (arith, e))
-            | inr high ↦ absurd (omega (arith, e))
-          ])
+          get_or-set_other sums (place + n) k x 0 (λ e. elim out [ inl low ↦ absurd (omega (arith, e)) | inr high ↦ absurd (omega (arith, e)) ])
           ∙ h.outside k (elim out [ inl low ↦ inl low | inr high ↦ inr (omega arith) ]);
     }
 
--- zeros in front of a list change nothing
-after-none : (k : ℕ) → after 0 (replicate k 0) ≡ 0
-after-none zero = refl
-after-none (suc k) = ap (λ r. after r (replicate k 0)) (after_bits-zero 8) ∙ after-none k
-
-IsEdc-behind_zeros : (k : ℕ) (v : List ℕ) (w : ℕ) → IsEdc v w → IsEdc (replicate k 0 ++ v) w
-IsEdc-behind_zeros k v w h =
-    IsEdc-same v (replicate k 0 ++ v) w
-    (sym (after-append 0 (replicate k 0) v ∙ ap (λ r. after r v) (after-none k))) h
-
 -- the front is the sum of the old one and the differences
-front-byte : (old new sums : List ℕ) (offset : ℕ) (bytes : List ℕ) → offset + length bytes ≤ 2048
-    → AreDifferences old offset (length bytes) bytes sums
-    → IsWritten old new (16 + offset) (length bytes) bytes
-    → (i : ℕ) → i < 2064
-    → get_or new i 0 ≡ bit_xor (get_or old i 0) (get_or (replicate 16 0 ++ sums) i 0)
-front-byte old new sums offset bytes fits sum written i h =
-    let none : length (replicate {A = ℕ} 16 0) ≡ 16 = length-replicate {A = ℕ} 16 0 in
-    let added = get_or (replicate 16 0 ++ sums) i 0 in
-    let other : (i < 16 + offset) ⊎ (16 + offset + length bytes ≤ i) → added ≡ 0
-    → get_or new i 0 ≡ bit_xor (get_or old i 0) added =
-    (λ out zero_there. written.front i (omega arith) out
-    ∙ sym (ap (bit_xor (get_or old i 0)) zero_there ∙ xor_zero_r (get_or old i 0))) in
-    elim (cases_lt i 16) [
-      | inl low ↦
-          other (inl (omega arith))
-          (get_or_append_left (replicate 16 0) sums 0 i (omega (arith, none))
-          ∙ get_or-replicate 16 i 0 0 low)
-      | inr from ↦
-          let at : added ≡ get_or sums (i - 16) 0 =
-          get_or-append_right (replicate 16 0) sums 16 i 0 none from in
-          elim (cases_lt i (16 + offset)) [
-            | inl low ↦ other (inl low) (at ∙ sum.outside (i - 16) (inl (omega arith)))
-            | inr behind ↦ elim (cases_lt i (16 + offset + length bytes)) [
-              | inr past ↦ other (inr past) (at ∙ sum.outside (i - 16) (inr (omega arith)))
-              | inl here ↦
-                  let j = i - 16 - offset in
-                  let place : 16 + offset + j ≡ i = omega arith in
-                  let index : i - 16 ≡ offset + j = omega arith in
-                  let inside : j < length bytes = omega arith in
-                  let byte : get_or new i 0 ≡ get_or bytes j 0 =
-                  ap (λ n. get_or new n 0) (sym place) ∙ written.range j inside in
-                  let difference : added ≡ bit_xor (get_or old i 0) (get_or bytes j 0) =
-                  at ∙ ap (λ n. get_or sums n 0) index ∙ sum.inside j inside
-                  ∙ ap (λ n. bit_xor (get_or old n 0) (get_or bytes j 0)) place in
-                  byte ∙ sym (ap (bit_xor (get_or old i 0)) difference
-                  ∙ xor_twice_left (get_or old i 0) (get_or bytes j 0))
-            ]
-          ]
+front-byte : (old new sums : List ℕ) (place : ℕ) (bytes : List ℕ)
+    → AreDifferences old place (length bytes) bytes sums → IsWritten old new place (length bytes) bytes
+    → (i : ℕ) → i < 2064 → get_or new i 0 ≡ bit_xor (get_or old i 0) (get_or sums i 0)
+front-byte old new sums place bytes sum written i h =
+    let other : (i < place) ⊎ (place + length bytes ≤ i)
+    → get_or new i 0 ≡ bit_xor (get_or old i 0) (get_or sums i 0) =
+    (λ out. written.front i (omega arith) out
+    ∙ sym (ap (bit_xor (get_or old i 0)) (sum.outside i out) ∙ xor_zero_r (get_or old i 0))) in
+    elim (cases_lt i place) [
+      | inl low ↦ other (inl low)
+      | inr behind ↦ elim (cases_lt i (place + length bytes)) [
+        | inr past ↦ other (inr past)
+        | inl here ↦
+            let j = i - place in
+            let at : place + j ≡ i = omega arith in
+            let inside : j < length bytes = omega arith in
+            let byte : get_or new i 0 ≡ get_or bytes j 0 = ap (λ n. get_or new n 0) (sym at) ∙ written.range j inside in
+            let difference : get_or sums i 0 ≡ bit_xor (get_or old i 0) (get_or bytes j 0) =
+            ap (λ n. get_or sums n 0) (sym at) ∙ sum.inside j inside ∙ ap (λ n. bit_xor (get_or old n 0) (get_or bytes j 0)) at in
+            byte ∙ sym (ap (bit_xor (get_or old i 0)) difference ∙ xor_twice_left (get_or old i 0) (get_or bytes j 0))
+      ]
     ]
 
-front-edc : (old new sums : List ℕ) (offset : ℕ) (bytes : List ℕ) (w change : ℕ) → length old ≡ 2352
-    → offset + length bytes ≤ 2048 → AreDifferences old offset (length bytes) bytes sums
-    → IsWritten old new (16 + offset) (length bytes) bytes → IsEdc (take 2064 old) w
-    → IsEdc sums change
-    → IsEdc (take 2064 new) (bit_xor w change)
-front-edc old new sums offset bytes w change size fits sum written one two =
+front-edc : (old new sums : List ℕ) (place : ℕ) (bytes : List ℕ) (w change : ℕ) → length old ≡ 2352
+    → AreDifferences old place (length bytes) bytes sums → IsWritten old new place (length bytes) bytes
+    → IsEdc (take 2064 old) w → IsEdc sums change → IsEdc (take 2064 new) (bit_xor w change)
+front-edc old new sums place bytes w change size sum written one two =
     let same_size = written.size in
-    let new_long : length (take 2064 new) ≡ 2064 =
-    length-take-le 2064 new (omega (arith, size, same_size)) in
+    let new_long : length (take 2064 new) ≡ 2064 = length-take-le 2064 new (omega (arith, size, same_size)) in
     let old_long : length (take 2064 old) ≡ 2064 = length-take-le 2064 old (omega (arith, size)) in
-    let sums_size = sum.size in
-    let none : length (replicate {A = ℕ} 16 0) ≡ 16 = length-replicate {A = ℕ} 16 0 in
-    let joined = length-append (replicate 16 0) sums in
-    let sum_long : length (replicate 16 0 ++ sums) ≡ 2064 =
-    omega (arith, joined, none, sums_size) in
-    IsEdc-sum (take 2064 new) (take 2064 old) (replicate 16 0 ++ sums) (new_long ∙ sym old_long)
-    (new_long ∙ sym sum_long)
+    let sum_long = sum.size in
+    IsEdc-sum (take 2064 new) (take 2064 old) sums (new_long ∙ sym old_long) (new_long ∙ sym sum_long)
     (record {
       byte = λ i. elim (cases_lt i 2064) [
         | inl low ↦
-            get_or-take 2064 new i 0 low
-            ∙ front-byte old new sums offset bytes fits sum written i low
-            ∙ ap (λ n. bit_xor n (get_or (replicate 16 0 ++ sums) i 0))
-            (sym (get_or-take 2064 old i 0 low))
+            get_or-take 2064 new i 0 low ∙ front-byte old new sums place bytes sum written i low
+            ∙ ap (λ n. bit_xor n (get_or sums i 0)) (sym (get_or-take 2064 old i 0 low))
         | inr past ↦
             get_or_past (take 2064 new) i 0 (omega (arith, new_long))
             ∙ sym
-            (ap (λ n. bit_xor n (get_or (replicate 16 0 ++ sums) i 0))
-            (get_or_past (take 2064 old) i 0 (omega (arith, old_long)))
-            ∙ ap (bit_xor 0) (get_or_past (replicate 16 0 ++ sums) i 0 (omega (arith, sum_long))))
+            (ap (λ n. bit_xor n (get_or sums i 0)) (get_or_past (take 2064 old) i 0 (omega (arith, old_long)))
+            ∙ ap (bit_xor 0) (get_or_past sums i 0 (omega (arith, sum_long))))
       ];
     })
-    w change one (IsEdc-behind_zeros 16 sums change two)
+    w change one two
 
 -- with the word of the differences added to the stored one
-pub few-carried : (old t new sums four : List ℕ) (offset : ℕ) (bytes : List ℕ) (stored change : ℕ)
-    → length old ≡ 2352 → AreBytes old
-    → offset + length bytes ≤ 2048 → AreDifferences old offset (length bytes) bytes sums
-    → IsEdc sums change
+pub few-carried : (old t new sums four : List ℕ) (place : ℕ) (bytes : List ℕ) (stored change : ℕ) → length old ≡ 2352 → AreBytes old
+    → place + length bytes ≤ 2064 → AreDifferences old place (length bytes) bytes sums → IsEdc sums change
     → stored < 2 ^ 32 → stored ≡ from_le_bytes w32 (slice_range old 2064 2068)
-    → IsWritten old t (16 + offset) (length bytes) bytes
-    → four ≡ to_le_bytes w32 (bit_xor stored change)
-    → IsWritten t new 2064 (length four) four → KeepsError old new (16 + offset) bytes
-few-carried old t new sums four offset bytes stored change size each fits sum edc stored_fits same
-    first four_is second =
+    → IsWritten old t place (length bytes) bytes → four ≡ to_le_bytes w32 (bit_xor stored change)
+    → IsWritten t new 2064 (length four) four → KeepsError old new place bytes
+few-carried old t new sums four place bytes stored change size each fits sum edc stored_fits same first four_is second =
     let before = edc_of_front old each 2064 (omega (arith, size)) in
     let w = before.0 in
     let held = StoresEdc-read old w stored size each before.1 stored_fits same in
-    let word = front-edc old t sums offset bytes w change size fits sum first before.1 edc in
+    let word = front-edc old t sums place bytes w change size sum first before.1 edc in
     let added : bit_xor stored change ≡ bit_xor (bit_xor w change) (bit_xor w stored) =
     sym
-    (xor_swap w change w stored ∙ ap (λ n. bit_xor n (bit_xor change stored)) (xor_self w)
-    ∙ xor_zero_l (bit_xor change stored)
+    (xor_swap w change w stored ∙ ap (λ n. bit_xor n (bit_xor change stored)) (xor_self w) ∙ xor_zero_l (bit_xor change stored)
     ∙ xor_comm change stored) in
     record {
       error = bit_xor w stored;
       before = held;
       changed =
-          IsChanged-carried old t new (16 + offset) bytes (bit_xor w stored) (omega arith) first
-          (WithEdc-written t new four (bit_xor w change) (bit_xor w stored) (first.size ∙ size)
-          (first.each each) held.fits word
+          IsChanged-carried old t new place bytes (bit_xor w stored) fits first
+          (WithEdc-written t new four (bit_xor w change) (bit_xor w stored) (first.size ∙ size) (first.each each) held.fits word
           (four_is ∙ ap (to_le_bytes w32) added) second);
     }

@@ -1,5 +1,4 @@
-//! Changing bytes of a sector one by one, each with the parity that follows from it (ECMA-130,
-//! Annex A).
+//! Changing bytes of a sector one by one, each with the parity that follows from it (ECMA-130, Annex A).
 
 ghost use Rattle.std.specs.Prelude.{◌≡◌, ◌≢◌, ℕ, ◌+◌, ◌<◌, ◌≤◌, Contains, length, slice_index};
 ghost use Rattle.cd_code.specs.Field.{AreBytes};
@@ -11,9 +10,9 @@ ghost use Rattle.cd_delta.specs.Writing.{IsWritten};
 use crate::changes::{Change, parity_changes};
 use cd_sector::Sector;
 
-/// Makes `value` the byte at `place`, 12 to 2075, and carries the change into the eight parity
-/// bytes that follow from it, so that all 276 syndromes stay as they were (ECMA-130, Annex A). The
-/// sector may be of any kind, and need not be consistent.
+/// Makes `value` the byte at `place`, 12 to 2075, and carries the change into the eight parity bytes that follow
+/// from it, so that all 276 syndromes stay as they were (ECMA-130, Annex A). The sector may be of any kind, and
+/// need not be consistent.
 ///
 /// # Examples
 ///

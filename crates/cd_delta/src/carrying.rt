@@ -13,7 +13,7 @@ ghost use Rattle.cd_delta.specs.Writing.{KeepsError, StoresEdc, written};
 use crate::byte_by_byte::write_few;
 use crate::user_data::{MANY, change};
 use cd_code::edc_of;
-use cd_sector::{EDC, HEADER, Sector, USER_DATA, USER_SIZE, edc_bytes, stored_edc};
+use cd_sector::{EDC, HEADER, Sector, USER_DATA, edc_bytes, stored_edc};
 
 /// Writes `bytes` into the 2048 bytes of user data of a Mode 1 sector, from `offset` on, and
 /// carries the sector's damage over: the EDC changes by the sum of the EDC words of bytes 0 to 2063
@@ -43,7 +43,7 @@ pub fn carry_user(s: &mut Sector, offset: u16, bytes: &[u8])
         ≡ bit_xor (from_le_bytes w32 (slice_range s.old 2064 2068)) (bit_xor before after) }
     ensures consistent { IsConsistent s.old → IsConsistent s.new }
 {
-    carry_in_user(s, offset as usize, bytes);
+    carry(s, USER_DATA + offset as usize, bytes);
 }
 
 /// Makes `bcd` bytes 12 to 14 of a Mode 1 sector, which are its address (three bytes, BCD or not),
@@ -74,50 +74,52 @@ pub fn carry_header(s: &mut Sector, bcd: [u8; 3])
     carry(s, HEADER, &bcd);
 }
 
-/// Writes bytes into the user data, from `offset` on, then the EDC with the error that it had, and
+/// Writes bytes between the sync field and the EDC, then the EDC with the error that it had, and
 /// carries both into the parity.
-fn carry_in_user(s: &mut Sector, offset: usize, bytes: &[u8])
-    requires { offset + length bytes.now ≤ 2048 }
-    ensures { KeepsError s.old s.new (16 + offset) bytes.now }
+fn carry(s: &mut Sector, place: usize, bytes: &[u8])
+    requires from { 12 ≤ place }
+    requires below { place + length bytes.now ≤ 2064 }
+    ensures { KeepsError s.old s.new place bytes.now }
 {
     if bytes.len() < MANY {
-        carry_few(s, offset, bytes);
+        carry_few(s, place, bytes);
     } else {
-        carry(s, USER_DATA + offset, bytes);
+        carry_many(s, place, bytes);
     }
 }
 
-/// Writes few bytes into the user data, one after another. The EDC word of the differences is added
-/// to the stored word, so its error stays, and no right word is computed.
-fn carry_few(s: &mut Sector, offset: usize, bytes: &[u8])
-    requires { offset + length bytes.now ≤ 2048 }
-    ensures { KeepsError s.old s.new (16 + offset) bytes.now }
+/// Writes few bytes, one after another. The EDC word of the differences is added to the stored
+/// word, so its error stays, and no right word is computed.
+fn carry_few(s: &mut Sector, place: usize, bytes: &[u8])
+    requires from { 12 ≤ place }
+    requires below { place + length bytes.now ≤ 2064 }
+    ensures { KeepsError s.old s.new place bytes.now }
 {
-    let word = stored_edc(s.bytes()) ^ edc_of(&differences(s, offset, bytes));
-    write_few(s, USER_DATA + offset, bytes);
+    let word = stored_edc(s.bytes()) ^ edc_of(&differences(s, place, bytes));
+    write_few(s, place, bytes);
     write_few(s, EDC, &edc_bytes(word));
 }
 
-/// What is added to each byte of the user data if `bytes` are written from `offset` on.
-fn differences(s: &Sector, offset: usize, bytes: &[u8]) -> [u8; USER_SIZE]
-    requires { offset + length bytes.now ≤ 2048 }
+/// What is added to each byte before the EDC if `bytes` are written from `place` on. These are as
+/// many bytes as any other caller gives `edc_of`, so the compiler makes one body for that number.
+fn differences(s: &Sector, place: usize, bytes: &[u8]) -> [u8; EDC]
+    requires { place + length bytes.now ≤ 2064 }
     ensures inside { (i : ℕ) → i < length bytes.now
-        → slice_index result (offset + i)
-        ≡ bit_xor (slice_index s.now (16 + offset + i)) (slice_index bytes.now i) }
-    ensures outside { (k : ℕ) → (k < offset) ⊎ (offset + length bytes.now ≤ k)
+        → slice_index result (place + i)
+        ≡ bit_xor (slice_index s.now (place + i)) (slice_index bytes.now i) }
+    ensures outside { (k : ℕ) → (k < place) ⊎ (place + length bytes.now ≤ k)
         → slice_index result k ≡ 0 }
 {
-    let mut sums = [0; USER_SIZE];
+    let mut sums = [0; EDC];
     for (i, byte) in bytes.iter().enumerate() {
-        sums[offset + i] = s.byte(USER_DATA + offset + i) ^ *byte;
+        sums[place + i] = s.byte(place + i) ^ *byte;
     }
     sums
 }
 
-/// Writes bytes between the sync field and the EDC, and leaves the EDC wrong by what it was wrong
-/// by. So the stored EDC changes by the sum of the right words before and after, and a carried
-/// change costs one EDC more.
-fn carry(s: &mut Sector, place: usize, bytes: &[u8])
+/// Writes many bytes, and leaves the EDC wrong by what it was wrong by. So the stored EDC changes by
+/// the sum of the right words before and after, and a carried change costs one EDC more.
+fn carry_many(s: &mut Sector, place: usize, bytes: &[u8])
     requires from { 12 ≤ place }
     requires below { place + length bytes.now ≤ 2064 }
     ensures { KeepsError s.old s.new place bytes.now }

@@ -1,5 +1,5 @@
-//! Changes of a Mode 1 sector that keep its parity right without encoding it again: the bytes of
-//! the parity change by what the change of a byte adds to them (ECMA-130, Annex A).
+//! Changes of a Mode 1 sector that keep its parity right without encoding it again: the bytes of the
+//! parity change by what the change of a byte adds to them (ECMA-130, Annex A).
 //!
 //! ```
 //! let mut sector = encode([0x00, 0x02, 0x00], &[0x00; USER_SIZE]);

@@ -60,8 +60,7 @@ pub(crate) fn change(s: &mut Sector, place: usize, bytes: &[u8], error: u32)
     }
 }
 
-/// Writes the bytes one by one, and then the EDC with `error` added, and carries each into the
-/// parity.
+/// Writes the bytes one by one, and then the EDC with `error` added, and carries each into the parity.
 fn change_few(s: &mut Sector, place: usize, bytes: &[u8], error: u32)
     requires from { 12 ≤ place }
     requires below { place + length bytes.now ≤ 2064 }

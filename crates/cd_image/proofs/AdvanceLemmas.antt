@@ -1,26 +1,28 @@
 -- One step of a pass, by what its calls have done.
-use Rattle.std.proofs.Common.{◌≡◌, ◌≢◌, ℕ, suc, ◌+◌, ◌-◌, ◌<◌, ◌≤◌, Bool, List, [], ◌∷◌, ◌++◌, length, take, drop, get_or, Option, None, Some, Result, Ok, Err, sym, ap, ◌∙◌, subst, arith, add-one, add-zero, take-append-drop, take_all}
-use Rattle.std.specs.Prelude.{All}
+use Rattle.std.proofs.Common.{◌≡◌, ◌≢◌, ℕ, suc, ◌+◌, ◌-◌, ◌<◌, ◌≤◌, Bool, List, [], ◌∷◌, ◌++◌, length, take, drop, get_or, Option, None, Some, Result, Ok, Err, true, sym, ap, ◌∙◌, subst, arith, add-one, add-zero, take-append-drop, take_all}
+use Rattle.std.specs.Prelude.{All, IsSome}
 use Rattle.std.specs.List.{slice_get}
 use Rattle.std.specs.List.Sorted.{IsNonDecreasingBy}
 use Rattle.std.proofs.Math.Seq.{drop-cons, take-suc}
 use Rattle.std.proofs.lemmas.List.{get_or-drop, length-drop}
 use Rattle.std.proofs.lemmas.Option.{get_or_from_slice_get, slice_get-get_or, slice_get_within}
+use Rattle.std.specs.Io.KnownBytes.{Appends, Keeps}
 use Rattle.std.proofs.Math.ListN.{length-take}
 use Rattle.cd_stream.specs.Stream.{Incoming, Outgoing}
-use Rattle.cd_stream.specs.Transfer.{Sends}
 use Rattle.cd_script.specs.Patch.{IsPatch}
 use Rattle.cd_script.specs.declared.patch.Patch.{Patch}
 use Rattle.cd_sector.specs.declared.sector.TheConstants.{SECTOR_SIZE}
 use Rattle.cd_image.specs.Applying.{Applies, Streams}
-use Rattle.cd_image.specs.InHand.{GainsSector, GainsTail, InHand}
-use Rattle.cd_image.specs.Passing.{GoesOn, Going}
+use Rattle.cd_image.specs.InHand.{GainsSector, GainsTail, InHand, tail_bytes}
+use Rattle.cd_image.specs.Passing.{GoesOn, Going, IsEnded}
 use Rattle.cd_read.specs.Reading.{ReadsSector}
 use Rattle.cd_read.specs.declared.fault.Fault.{Fault}
 use Rattle.cd_read.specs.declared.fault.Fault.TheVariants.{Log, Read, TooLong, Write}
 use Rattle.cd_image.specs.declared.pass.Pass.{Pass}
 use Rattle.cd_image.proofs.ApplyLemmas.{Applies-beyond, Applies-read, Applies-write}
-use Rattle.cd_image.proofs.CloseLemmas.{Applies-below}
+use Rattle.cd_image.specs.PatchLog.{log_end}
+use Rattle.cd_image.specs.declared.patch_log.Tally.{Tally}
+use Rattle.cd_image.proofs.CloseLemmas.{Applies-behind, Applies-below, Applies-counts, Applies-flush, Applies-log_flush, Applies-ok, Applies-tail, counts, counts_are, tally_of_all}
 use Rattle.std.proofs.lemmas.List.Sums.{count_by-le-length}
 use Rattle.cd_patch.specs.Blocks.{block_limit}
 use Rattle.cd_patch.specs.Outcome.{is_applied}
@@ -61,16 +63,16 @@ first_is window sector bytes others is same = is ∙ ap (λ (s : List ℕ). s �
 
 -- the first sector of a window goes out
 module _ (carry : Bool) (taken left : List Patch) (base : ℕ) (start now : Streams) (block count applied : ℕ) (end : Option (List ℕ)) (ahead : All (λ p. block < p.block) left) (out : Outgoing) where
-  pub Steps-sent : {X E : Type 0} {x : X} (window : List (List ℕ)) → Going carry taken left base start now window block count applied end → (sector : List ℕ) (others : List (List ℕ)) → window ≡ sector ∷ others → length sector ≡ SECTOR_SIZE
-      → Sends {X = X} {E = E} now.out out sector (Ok x) → Going carry taken left base start (record now { out = out }) (drop 1 window) (block + 1) count applied end
-  Steps-sent window g sector others is size sent =
+  pub Steps-sent : (window : List (List ℕ)) → Going carry taken left base start now window block count applied end → (sector : List ℕ) (others : List (List ℕ)) → window ≡ sector ∷ others → length sector ≡ SECTOR_SIZE
+      → Appends now.out.written out.written sector → out.failures ≡ now.out.failures → Going carry taken left base start (record now { out = out }) (drop 1 window) (block + 1) count applied end
+  Steps-sent window g sector others is size sent kept =
       subst (λ (ws : List (List ℕ)). Going carry taken left base start (record now { out = out }) (drop 1 ws) (block + 1) count applied end) (sym is)
-      (Going-send carry taken left base start now sector others block count applied end (subst (λ (ws : List (List ℕ)). Going carry taken left base start now ws block count applied end) is g) out sent size ahead)
+      (Going-send carry taken left base start now sector others block count applied end (subst (λ (ws : List (List ℕ)). Going carry taken left base start now ws block count applied end) is g) out sent kept size ahead)
 
-  pub Steps-unsent : {X E : Type 0} {e : E} (window : List (List ℕ)) → Going carry taken left base start now window block count applied end → (sector : List ℕ) (others : List (List ℕ)) → window ≡ sector ∷ others → length sector ≡ SECTOR_SIZE
-      → Sends {X = X} {E = E} now.out out sector (Err e) → Applies carry (taken ++ left) base start (record now { out = out }) (Err Write)
-  Steps-unsent window g sector others is size fails =
-      Applies-write carry taken left base start now sector others block count applied end (subst (λ (ws : List (List ℕ)). Going carry taken left base start now ws block count applied end) is g) out fails size ahead
+  pub Steps-unsent : (window : List (List ℕ)) → Going carry taken left base start now window block count applied end → (sector : List ℕ) (others : List (List ℕ)) → window ≡ sector ∷ others → length sector ≡ SECTOR_SIZE
+      → (n : ℕ) → n < length sector → Appends now.out.written out.written (take n sector) → out.failures ≡ now.out.failures + 1 → Applies carry (taken ++ left) base start (record now { out = out }) (Err Write)
+  Steps-unsent window g sector others is size n inside sent failed =
+      Applies-write carry taken left base start now sector others block count applied end (subst (λ (ws : List (List ℕ)). Going carry taken left base start now ws block count applied end) is g) out n inside sent failed size ahead
 
 -- ---- steps among all patches
 
@@ -121,9 +123,84 @@ strictly_ahead ps d block rising ahead other = λ k e inside.
 
 -- ---- the end
 
--- what is told of the patches behind a place is told of a slice from there to the end
-pub Sends-rest : {X E : Type 0} (ps : List Patch) (d : ℕ) (old new : Outgoing) (result : Result X E) → Sends old new (missing_lines (take (length ps - d) (drop d ps))) result → Sends old new (missing_lines (drop d ps)) result
-Sends-rest ps d old new result = subst (λ rest. Sends old new (missing_lines rest) result) (take_all (length ps - d) (drop d ps) (omega (arith, length-drop d ps)))
+-- what lies behind a place, as a slice from there to the end
+pub rest_from : (ps : List Patch) (d : ℕ) → take (length ps - d) (drop d ps) ≡ drop d ps
+rest_from ps d = take_all (length ps - d) (drop d ps) (omega (arith, length-drop d ps))
+
+closed_by : (carry : Bool) (taken left : List Patch) (base : ℕ) (start now : Streams) (window : List (List ℕ)) (block sectors applied : ℕ) (end : Option (List ℕ)) → IsSome end
+    → Going carry taken left base start now window block sectors applied end → Going carry taken left base start now window block sectors applied (Some (tail_bytes end))
+closed_by carry taken left base start now window block sectors applied None never g = cc
+closed_by carry taken left base start now window block sectors applied (Some bytes) some g = g
+
+-- nothing waits, and the tail is known
+pub closed : (carry : Bool) (taken left : List Patch) (base : ℕ) (start now : Streams) (pass : Pass) (end : List ℕ) → IsEnded pass → end ≡ tail_bytes pass.window.tail → GoesOn carry taken left base start now pass
+    → Going carry taken left base start now [] pass.block pass.sectors pass.applied (Some end)
+closed carry taken left base start now pass end ended is g =
+    subst (λ (t : List ℕ). Going carry taken left base start now [] pass.block pass.sectors pass.applied (Some t)) (sym is)
+    (subst (λ (ws : List (List ℕ)). Going carry taken left base start now ws pass.block pass.sectors pass.applied (Some (tail_bytes pass.window.tail))) ended.empty
+    (closed_by carry taken left base start now pass.window.sectors pass.block pass.sectors pass.applied pass.window.tail ended.ended g))
+
+module _ (carry : Bool) (ps : List Patch) (base : ℕ) (start now : Streams) (pass : Pass) (end : List ℕ) (ended : IsEnded pass) (is : end ≡ tail_bytes pass.window.tail) (g : GoesOn carry (take pass.decided ps) (drop pass.decided ps) base start now pass) where
+  -- the whole of it, behind the last sector
+  whole : Going carry (take pass.decided ps) (drop pass.decided ps) base start now [] pass.block pass.sectors pass.applied (Some end)
+  whole = closed carry (take pass.decided ps) (drop pass.decided ps) base start now pass end ended is g
+
+  of_all : (after : Streams) (result : Result Tally Fault) → Applies carry (take pass.decided ps ++ drop pass.decided ps) base start after result → Applies carry ps base start after result
+  of_all after result = subst (λ all. Applies carry all base start after result) (take-append-drop pass.decided ps)
+
+  pub Closes-tail : (out : Outgoing) (m : ℕ) → m < length end → Appends now.out.written out.written (take m end) → out.failures ≡ now.out.failures + 1
+      → Applies carry ps base start (record now { out = out }) (Err Write)
+  Closes-tail out m inside went failed =
+      of_all (record now { out = out }) (Err Write)
+      (Applies-tail carry (take pass.decided ps) (drop pass.decided ps) base start now pass.block pass.sectors pass.applied end whole out m inside went failed)
+
+  -- the patches that are left are told
+  module _ (out : Outgoing) (sent : Appends now.out.written out.written end) (out_kept : out.failures ≡ now.out.failures) (rest : List Patch) (rest_is : rest ≡ drop pass.decided ps) where
+    pub Closes-behind : (log : Outgoing) (m : ℕ) → m < length (missing_lines rest) → Appends now.log.written log.written (take m (missing_lines rest)) → log.failures ≡ now.log.failures + 1
+        → Applies carry ps base start (record now { out = out; log = log }) (Err Log)
+    Closes-behind log m inside went failed =
+        of_all (record now { out = out; log = log }) (Err Log)
+        (Applies-behind carry (take pass.decided ps) (drop pass.decided ps) base start now pass.block pass.sectors pass.applied end whole out sent out_kept log m
+        (subst (λ left. m < length (missing_lines left)) rest_is inside) (subst (λ left. Appends now.log.written log.written (take m (missing_lines left))) rest_is went) failed)
+
+    module _ (lines : Outgoing) (told_rest : Appends now.log.written lines.written (missing_lines rest)) (lines_kept : lines.failures ≡ now.log.failures) (refused : ℕ) (sum : pass.applied + refused ≡ length ps) where
+      told : Appends now.log.written lines.written (missing_lines (drop pass.decided ps))
+      told = subst (λ left. Appends now.log.written lines.written (missing_lines left)) rest_is told_rest
+
+      all_sum : pass.applied + refused ≡ length (take pass.decided ps ++ drop pass.decided ps)
+      all_sum = sum ∙ sym (ap length (take-append-drop pass.decided ps))
+
+      last_line : log_end pass.applied refused ≡ counts carry (take pass.decided ps) (drop pass.decided ps) base start now pass.block pass.sectors pass.applied end whole
+      last_line = counts_are carry (take pass.decided ps) (drop pass.decided ps) base start now pass.block pass.sectors pass.applied end whole refused all_sum
+
+      pub Closes-counts : (log : Outgoing) (m : ℕ) → m < length (log_end pass.applied refused) → Appends lines.written log.written (take m (log_end pass.applied refused)) → log.failures ≡ lines.failures + 1
+          → Applies carry ps base start (record now { out = out; log = log }) (Err Log)
+      Closes-counts log m inside went failed =
+          of_all (record now { out = out; log = log }) (Err Log)
+          (Applies-counts carry (take pass.decided ps) (drop pass.decided ps) base start now pass.block pass.sectors pass.applied end whole out sent out_kept lines told lines_kept log m
+          (subst (λ l. m < length l) last_line inside) (subst (λ l. Appends lines.written log.written (take m l)) last_line went) failed)
+
+      module _ (counted : Outgoing) (ended_lines : Appends lines.written counted.written (log_end pass.applied refused)) (counts_kept : counted.failures ≡ lines.failures) where
+        whole_lines : Appends lines.written counted.written (counts carry (take pass.decided ps) (drop pass.decided ps) base start now pass.block pass.sectors pass.applied end whole)
+        whole_lines = subst (Appends lines.written counted.written) last_line ended_lines
+
+        pub Closes-flush : (out' : Outgoing) → Keeps out.written out'.written → out'.failures ≡ out.failures + 1 → Applies carry ps base start (record now { out = out'; log = counted }) (Err Write)
+        Closes-flush out' kept failed =
+            of_all (record now { out = out'; log = counted }) (Err Write)
+            (Applies-flush carry (take pass.decided ps) (drop pass.decided ps) base start now pass.block pass.sectors pass.applied end whole out sent out_kept lines told lines_kept counted whole_lines out' kept failed counts_kept)
+
+        module _ (out' : Outgoing) (kept : Keeps out.written out'.written) (flushed : out'.failures ≡ out.failures) (log : Outgoing) (log_kept : Keeps counted.written log.written) where
+          pub Closes-log_flush : log.failures ≡ counted.failures + 1 → out'.finished ≡ true → Applies carry ps base start (record now { out = out'; log = log }) (Err Log)
+          Closes-log_flush failed out_finished =
+              of_all (record now { out = out'; log = log }) (Err Log)
+              (Applies-log_flush carry (take pass.decided ps) (drop pass.decided ps) base start now pass.block pass.sectors pass.applied end whole out sent out_kept lines told lines_kept counted whole_lines out' kept flushed log log_kept counts_kept failed out_finished)
+
+          pub Closes-ok : log.failures ≡ counted.failures → out'.finished ≡ true → log.finished ≡ true
+              → Applies carry ps base start (record now { out = out'; log = log }) (Ok (record { applied = pass.applied; refused = refused; sectors = pass.sectors; tail = length end }))
+          Closes-ok log_well out_finished log_finished =
+              of_all (record now { out = out'; log = log }) (Ok (record { applied = pass.applied; refused = refused; sectors = pass.sectors; tail = length end }))
+              (Applies-ok carry (take pass.decided ps) (drop pass.decided ps) base start now pass.block pass.sectors pass.applied end whole out sent out_kept lines told lines_kept counted whole_lines out' kept flushed log _ log_kept counts_kept log_well out_finished log_finished
+              (tally_of_all carry (take pass.decided ps) (drop pass.decided ps) base start now pass.block pass.sectors pass.applied end whole refused all_sum))
 
 -- ---- how large the numbers of a pass are
 
@@ -150,21 +227,21 @@ bounds carry ps base start now pass low g =
     }
 
 -- a new pass, behind the patches that begin below the image
-pub begun_pass : {X E : Type 0} {x : X} (carry : Bool) (ps : List Patch) (base : ℕ) (start : Streams) (log : Outgoing) (below : ℕ) (pass : Pass) → pass.window.sectors ≡ [] → pass.block ≡ base → pass.sectors ≡ 0 → pass.decided ≡ below → pass.applied ≡ 0 → pass.window.tail ≡ None
-    → All (λ p. p.block < base) (take below ps) → All (λ p. base ≤ p.block) (drop below ps) → Sends {X = X} {E = E} start.log log (missing_lines (take below ps)) (Ok x)
+pub begun_pass : (carry : Bool) (ps : List Patch) (base : ℕ) (start : Streams) (log : Outgoing) (below : ℕ) (pass : Pass) → pass.window.sectors ≡ [] → pass.block ≡ base → pass.sectors ≡ 0 → pass.decided ≡ below → pass.applied ≡ 0 → pass.window.tail ≡ None
+    → All (λ p. p.block < base) (take below ps) → All (λ p. base ≤ p.block) (drop below ps) → Appends start.log.written log.written (missing_lines (take below ps)) → log.failures ≡ start.log.failures
     → GoesOn carry (take pass.decided ps) (drop pass.decided ps) base start (record start { log = log }) pass
-begun_pass carry ps base start log below pass window block sectors decided applied tail under ahead told =
+begun_pass carry ps base start log below pass window block sectors decided applied tail under ahead told kept =
     subst (λ n. GoesOn carry (take n ps) (drop n ps) base start (record start { log = log }) pass) (sym decided)
     (subst (λ (ws : List (List ℕ)). Going carry (take below ps) (drop below ps) base start (record start { log = log }) ws pass.block pass.sectors pass.applied pass.window.tail) (sym window)
     (subst (λ b. Going carry (take below ps) (drop below ps) base start (record start { log = log }) [] b pass.sectors pass.applied pass.window.tail) (sym block)
     (subst (λ n. Going carry (take below ps) (drop below ps) base start (record start { log = log }) [] base n pass.applied pass.window.tail) (sym sectors)
     (subst (λ n. Going carry (take below ps) (drop below ps) base start (record start { log = log }) [] base 0 n pass.window.tail) (sym applied)
     (subst (λ t. Going carry (take below ps) (drop below ps) base start (record start { log = log }) [] base 0 0 t) (sym tail)
-    (Going-start carry (take below ps) (drop below ps) base start log under ahead told))))))
+    (Going-start carry (take below ps) (drop below ps) base start log under ahead told kept))))))
 
 -- the log fails before the first read
-pub Applies-first : {X E : Type 0} {e : E} (carry : Bool) (ps : List Patch) (base : ℕ) (start : Streams) (log : Outgoing) (below : ℕ) → All (λ p. p.block < base) (take below ps)
-    → Sends {X = X} {E = E} start.log log (missing_lines (take below ps)) (Err e) → Applies carry ps base start (record start { log = log }) (Err Log)
-Applies-first carry ps base start log below under fails =
+pub Applies-first : (carry : Bool) (ps : List Patch) (base : ℕ) (start : Streams) (log : Outgoing) (below : ℕ) → All (λ p. p.block < base) (take below ps) → (n : ℕ) → n < length (missing_lines (take below ps))
+    → Appends start.log.written log.written (take n (missing_lines (take below ps))) → log.failures ≡ start.log.failures + 1 → Applies carry ps base start (record start { log = log }) (Err Log)
+Applies-first carry ps base start log below under n inside went failed =
     subst (λ all. Applies carry all base start (record start { log = log }) (Err Log)) (take-append-drop below ps)
-    (Applies-below carry (take below ps) (drop below ps) base start log under fails)
+    (Applies-below carry (take below ps) (drop below ps) base start log under n inside went failed)

@@ -1,11 +1,12 @@
 -- How a pass ends by a fault before the image has ended: whatever the image may still be, what went out and what was told
 -- begins what belongs there.
-use Rattle.std.proofs.Common.{◌≡◌, ℕ, ◌+◌, ◌*◌, ◌/◌, ◌<◌, ◌≤◌, ◌⊎◌, inl, inr, Bool, false, List, [], ◌∷◌, ◌++◌, length, take, drop, Option, None, Err, refl, sym, ap, ◌∙◌, subst, arith, append_assoc, append-nil, length-append, take-append-drop, take_at}
+use Rattle.std.proofs.Common.{◌≡◌, ℕ, ◌+◌, ◌*◌, ◌/◌, ◌<◌, ◌≤◌, ◌⊎◌, inl, inr, Bool, false, List, [], ◌∷◌, ◌++◌, length, take, drop, Option, None, Err, sym, ap, ◌∙◌, subst, arith, append_assoc, append-nil, length-append, take-append-drop, take_at}
 use Rattle.std.specs.Prelude.{All, IsSome}
+use Rattle.std.specs.Io.KnownBytes.{Appends, Consumes}
+use Rattle.std.proofs.KnownBytes.{Appends-trans, Consumes-trans}
 use Rattle.std.proofs.lemmas.List.{length-take-le, take-append-le}
 use Rattle.cd_stream.specs.Stream.{Incoming, IsBeginning, Outgoing}
-use Rattle.cd_stream.specs.Transfer.{Gives, Sends, Takes}
-use Rattle.cd_stream.proofs.TransferLemmas.{Gives-trans, Takes-trans}
+use Rattle.cd_stream.specs.Transfer.{Gives}
 use Rattle.cd_script.specs.declared.patch.Patch.{Patch}
 use Rattle.cd_sector.specs.declared.sector.TheConstants.{SECTOR_SIZE}
 use Rattle.cd_patch.specs.Blocks.{block_limit, blocks_met}
@@ -22,7 +23,7 @@ use Rattle.cd_image.specs.Patched.{IsPatched}
 use Rattle.cd_image.specs.PatchLog.{lines_below, log_line, log_lines, log_text, sent_beside}
 use Rattle.cd_read.specs.Ends.{FitsLeft}
 use Rattle.cd_read.specs.declared.fault.Fault.TheVariants.{Log, Read, TooLong, Write}
-use Rattle.cd_image.proofs.KnownLemmas.{applies, Extends, Extends-begun, IsBeginning-front, Known, StopsAtLog-within, begins_now, extends_left, bytes_of-begins, known, lines-begin, lines-begin_within, told_lengths, unfinished_lines}
+use Rattle.cd_image.proofs.KnownLemmas.{Extends, Extends-begun, IsBeginning-front, Known, begins_now, extends_left, bytes_of-begins, known, lines-begin, lines-begin_within, told_lengths, unfinished_lines}
 use Rattle.cd_read.proofs.EndLemmas.{Fits-begins}
 use Rattle.cd_image.proofs.PassingLemmas.{bytes_of-more, length-bytes_of}
 use Rattle.cd_image.proofs.PatchLogLemmas.{bytes_before-within, lines_below-cut, log_beside-sector, sent_beside-behind, sent_beside-line}
@@ -33,42 +34,59 @@ module _ (carry : Bool) (taken left : List Patch) (base : ℕ) (start now : Stre
   length_read : length (bytes_of g.seen ++ came) ≡ 2352 * sectors_read + length came
   length_read = length-append (bytes_of g.seen) came ∙ ap (λ n. n + length came) (length-bytes_of g.seen g.seen_sizes ∙ ap (λ n. 2352 * n) (sym g.count))
 
-  all : Gives start.image image (bytes_of g.seen ++ came)
-  all = subst (λ l. Gives start.image image (l ++ came)) (append-nil (bytes_of g.seen)) (Gives-trans start.image now.image image _ came g.gives gives)
+  all_consumed : Consumes start.image.rest image.rest (bytes_of g.seen ++ came)
+  all_consumed = subst (λ l. Consumes start.image.rest image.rest (l ++ came)) (append-nil (bytes_of g.seen)) (Consumes-trans start.image.rest now.image.rest image.rest _ came g.consumes gives.consumes)
+
+  all_given : image.given ≡ start.image.given + length (bytes_of g.seen ++ came)
+  all_given = omega (arith, g.given, gives.counted, length-append (bytes_of g.seen) came, length-append (bytes_of g.seen) [])
 
   in_hand : length window < block_limit → length came < SECTOR_SIZE → length (bytes_of g.seen ++ came) ≤ length (bytes_of g.done) + bytes_in_hand
   in_hand room short = omega (arith, length_read, length-bytes_of g.done g.done_sizes, g.held, g.count)
 
   pub Applies-read : length window < block_limit → length came < SECTOR_SIZE → SECTOR_SIZE * sectors_read + length came ≤ image_limit → image.failures ≡ now.image.failures + 1 → image.ended ≡ false
       → Applies carry (taken ++ left) base start (record now { image = image }) (Err Read)
-  Applies-read room short few failed unended =
-      applies (bytes_of g.seen ++ came) (bytes_of g.done) (log_lines taken g.outcomes) (Err Read) all g.sends g.logs (in_hand room short)
-      (record {
-        failed = record { reads = omega (arith, failed, g.unfailed.reads); writes = g.unfailed.writes; logs = g.unfailed.logs };
-        flushes = record { outs = g.unflushed.outs; logs = g.unflushed.logs };
-        unended = unended;
-        within = omega (arith, length_read);
-        begins = λ whole fits.
-            let begins = Fits-begins (bytes_of g.seen ++ came) whole (omega (arith, length_read)) fits in
-            begins_now carry taken left base start now window block sectors_read applied None g whole
-            (Extends-begun g.seen whole (came ++ begins.0) g.seen_sizes (begins.1 ∙ append_assoc (bytes_of g.seen) came begins.0));
-      })
+  Applies-read room short few failed unended = record {
+    read = bytes_of g.seen ++ came;
+    sent = bytes_of g.done;
+    told = log_lines taken g.outcomes;
+    consumes = all_consumed;
+    given = all_given;
+    appends = g.appends;
+    logs = g.logs;
+    in_hand = in_hand room short;
+    answers = record {
+      failed = record { reads = omega (arith, failed, g.unfailed.reads); writes = g.unfailed.writes; logs = g.unfailed.logs };
+      unended = unended;
+      within = omega (arith, length_read);
+      begins = λ whole fits.
+          let begins = Fits-begins (bytes_of g.seen ++ came) whole (omega (arith, length_read)) fits in
+          begins_now carry taken left base start now window block sectors_read applied None g whole
+          (Extends-begun g.seen whole (came ++ begins.0) g.seen_sizes (begins.1 ∙ append_assoc (bytes_of g.seen) came begins.0));
+    };
+  }
 
   pub Applies-beyond : length window < block_limit → length came ≡ 1 → SECTOR_SIZE * sectors_read ≡ image_limit → image.failures ≡ now.image.failures → image.ended ≡ false
       → Applies carry (taken ++ left) base start (record now { image = image }) (Err TooLong)
-  Applies-beyond room one full kept unended =
-      applies (bytes_of g.seen ++ came) (bytes_of g.done) (log_lines taken g.outcomes) (Err TooLong) all g.sends g.logs (in_hand room (omega arith))
-      (record {
-        failed = record { reads = omega (arith, kept, g.unfailed.reads); writes = g.unfailed.writes; logs = g.unfailed.logs };
-        flushes = record { outs = g.unflushed.outs; logs = g.unflushed.logs };
-        beyond = omega (arith, length_read);
-        unended = unended;
-        begins = λ whole fits.
-            let size : length (bytes_of g.seen) ≡ image_limit = length-bytes_of g.seen g.seen_sizes ∙ ap (λ n. 2352 * n) (sym g.count) ∙ full in
-            let limited : take image_limit (bytes_of g.seen ++ came) ≡ bytes_of g.seen = take_at (bytes_of g.seen) came image_limit size in
-            begins_now carry taken left base start now window block sectors_read applied None g whole
-            (Extends-begun g.seen whole fits.begins.0 g.seen_sizes (fits.begins.1 ∙ ap (λ l. l ++ fits.begins.0) limited));
-      })
+  Applies-beyond room one full kept unended = record {
+    read = bytes_of g.seen ++ came;
+    sent = bytes_of g.done;
+    told = log_lines taken g.outcomes;
+    consumes = all_consumed;
+    given = all_given;
+    appends = g.appends;
+    logs = g.logs;
+    in_hand = in_hand room (omega arith);
+    answers = record {
+      failed = record { reads = omega (arith, kept, g.unfailed.reads); writes = g.unfailed.writes; logs = g.unfailed.logs };
+      beyond = omega (arith, length_read);
+      unended = unended;
+      begins = λ whole fits.
+          let size : length (bytes_of g.seen) ≡ image_limit = length-bytes_of g.seen g.seen_sizes ∙ ap (λ n. 2352 * n) (sym g.count) ∙ full in
+          let limited : take image_limit (bytes_of g.seen ++ came) ≡ bytes_of g.seen = take_at (bytes_of g.seen) came image_limit size in
+          begins_now carry taken left base start now window block sectors_read applied None g whole
+          (Extends-begun g.seen whole fits.begins.0 g.seen_sizes (fits.begins.1 ∙ ap (λ l. l ++ fits.begins.0) limited));
+    };
+  }
 
 -- what was read, in any state of a pass
 module _ (carry : Bool) (taken left : List Patch) (base : ℕ) (start now : Streams) (window : List (List ℕ)) (block sectors_read applied : ℕ) (end : Option (List ℕ)) (g : Going carry taken left base start now window block sectors_read applied end) where
@@ -84,40 +102,38 @@ module _ (carry : Bool) (taken left : List Patch) (base : ℕ) (start now : Stre
   settled : List (List ℕ)
   settled = g.done ++ sector ∷ []
 
-  pub Applies-write : {X E : Type 0} {e : E} (out : Outgoing) → Sends {X = X} {E = E} now.out out sector (Err e) → length sector ≡ SECTOR_SIZE → All (λ p. block < p.block) left
-      → Applies carry (taken ++ left) base start (record now { out = out }) (Err Write)
+  pub Applies-write : (out : Outgoing) (n : ℕ) → n < length sector → Appends now.out.written out.written (take n sector) → out.failures ≡ now.out.failures + 1 → length sector ≡ SECTOR_SIZE
+      → All (λ p. block < p.block) left → Applies carry (taken ++ left) base start (record now { out = out }) (Err Write)
   unfolding settled
-  Applies-write out fails size ahead =
-      applies (bytes_of g.seen ++ tail_bytes end) sent (log_lines taken g.outcomes) (Err Write) g.gives went g.logs (omega (arith, length_read, length_sent, g.in_hand, g.held, g.count))
-      (record {
-        failed = record { reads = g.unfailed.reads; writes = omega (arith, fails.count, g.unfailed.writes); logs = g.unfailed.logs };
-        out_flushes = 0;
-        flushes = record { outs = fails.flushes ∙ g.unflushed.outs; logs = g.unflushed.logs };
-        once = omega arith;
-        at_end = λ less. refl;
-        within = omega (arith, length_read, g.within);
-        begins = λ whole fits os last patched.
-            let k = knows whole fits os last patched in (
-              IsBeginning-front sent (drop n sector) last (subst (λ l. IsBeginning l last) regrouped (bytes_of-begins settled k.others last k.cut)),
-              subst (λ u. IsBeginning (log_lines taken g.outcomes) (log_text (taken ++ left) u)) (sym k.all) (lines-begin taken left g.outcomes k.back lengths),
-            );
-        beside = λ whole fits os last patched.
-            let k = knows whole fits os last patched in
-            let number : length sent / SECTOR_SIZE ≡ length g.done = omega (arith, length_sent) in
-            let before : length sent < SECTOR_SIZE * (length (bytes_of g.seen ++ tail_bytes end) / SECTOR_SIZE) = omega (arith, length_sent, length_read, g.held, g.count, g.short) in
-            sym (log_beside-sector (taken ++ left) os base (length (bytes_of g.seen ++ tail_bytes end)) (length sent) (length g.done) number before
-            ∙ ap (lines_below (base + length g.done + 1) (taken ++ left)) k.all
-            ∙ lines_below-cut (base + length g.done + 1) taken left g.outcomes k.back lengths (λ i d here. let h = g.due i d here in omega (arith, h.0, g.front)) (λ i d here. let h = ahead i d here in omega (arith, h, g.front)));
-      })
+  Applies-write out n inside went failed size ahead = record {
+    read = bytes_of g.seen ++ tail_bytes end;
+    sent = sent;
+    told = log_lines taken g.outcomes;
+    consumes = g.consumes;
+    given = g.given;
+    appends = Appends-trans start.out.written now.out.written out.written _ _ g.appends went;
+    logs = g.logs;
+    in_hand = omega (arith, length_read, length_sent, g.in_hand, g.held, g.count);
+    answers = record {
+      failed = record { reads = g.unfailed.reads; writes = omega (arith, failed, g.unfailed.writes); logs = g.unfailed.logs };
+      within = omega (arith, length_read, g.within);
+      begins = λ whole fits os last patched.
+          let k = knows whole fits os last patched in (
+            IsBeginning-front sent (drop n sector) last (subst (λ l. IsBeginning l last) regrouped (bytes_of-begins settled k.others last k.cut)),
+            subst (λ u. IsBeginning (log_lines taken g.outcomes) (log_text (taken ++ left) u)) (sym k.all) (lines-begin taken left g.outcomes k.back lengths),
+          );
+      beside = λ whole fits os last patched.
+          let k = knows whole fits os last patched in
+          let number : length sent / SECTOR_SIZE ≡ length g.done = omega (arith, length_sent) in
+          let before : length sent < SECTOR_SIZE * (length (bytes_of g.seen ++ tail_bytes end) / SECTOR_SIZE) = omega (arith, length_sent, length_read, g.held, g.count, g.short) in
+          sym (log_beside-sector (taken ++ left) os base (length (bytes_of g.seen ++ tail_bytes end)) (length sent) (length g.done) number before
+          ∙ ap (lines_below (base + length g.done + 1) (taken ++ left)) k.all
+          ∙ lines_below-cut (base + length g.done + 1) taken left g.outcomes k.back lengths (λ i d here. let h = g.due i d here in omega (arith, h.0, g.front)) (λ i d here. let h = ahead i d here in omega (arith, h, g.front)));
+    };
+  }
     where
-      n : ℕ
-      n = fails.taken.0
-
       sent : List ℕ
       sent = bytes_of g.done ++ take n sector
-
-      went : Takes start.out out (bytes_of g.done ++ take n sector)
-      went = Takes-trans start.out now.out out _ _ g.sends fails.taken.2
 
       lengths : length g.outcomes ≡ length taken
       lengths = told_lengths carry taken left base start now (sector ∷ window) block sectors_read applied end g
@@ -126,7 +142,7 @@ module _ (carry : Bool) (taken left : List Patch) (base : ℕ) (start now : Stre
       length_read = size_read carry taken left base start now (sector ∷ window) block sectors_read applied end g
 
       length_sent : length (bytes_of g.done ++ take n sector) ≡ 2352 * length g.done + n
-      length_sent = length-append (bytes_of g.done) (take n sector) ∙ ap (λ m. m + length (take n sector)) (length-bytes_of g.done g.done_sizes) ∙ ap (λ m. 2352 * length g.done + m) (length-take-le n sector (omega (arith, fails.taken.1)))
+      length_sent = length-append (bytes_of g.done) (take n sector) ∙ ap (λ m. m + length (take n sector)) (length-bytes_of g.done g.done_sizes) ∙ ap (λ m. 2352 * length g.done + m) (length-take-le n sector (omega arith))
 
       regrouped : bytes_of (g.done ++ sector ∷ []) ≡ (bytes_of g.done ++ take n sector) ++ drop n sector
       regrouped = bytes_of-more g.done sector ∙ ap (λ l. bytes_of g.done ++ l) (sym (take-append-drop n sector)) ∙ sym (append_assoc (bytes_of g.done) (take n sector) (drop n sector))
@@ -160,36 +176,40 @@ module _ (carry : Bool) (taken : List Patch) (p : Patch) (left : List Patch) (ba
       let found = next_of (g.done ++ (window ++ extended.more)) (sectors last) split.1 is (subst (λ m. PatchRun carry (p ∷ left) split.1 base m (sectors last)) same.1 split.5) in
       record { back = found.0; all = split.3 ∙ ap (λ f. f ++ split.1) same.0 ∙ ap (λ b. g.outcomes ++ b) found.1 }
 
-  pub Applies-log : {X E : Type 0} {e : E} (log : Outgoing) → Sends {X = X} {E = E} now.log log (log_line p o) (Err e)
+  pub Applies-log : (log : Outgoing) (n : ℕ) → n < length (log_line p o) → Appends now.log.written log.written (take n (log_line p o)) → log.failures ≡ now.log.failures + 1
       → Applies carry (taken ++ p ∷ left) base start (record now { log = log }) (Err Log)
-  Applies-log log fails =
-      applies (bytes_of g.seen ++ tail_bytes end) (bytes_of g.done) told (Err Log) g.gives g.sends went (omega (arith, size_read carry taken (p ∷ left) base start now window block sectors_read applied end g, length_sent, g.in_hand, g.held, g.count))
-      (StopsAtLog-within (record { reads = g.unfailed.reads; writes = g.unfailed.writes; logs = omega (arith, fails.count, g.unfailed.logs) })
-      (record { outs = g.unflushed.outs; logs = fails.flushes ∙ g.unflushed.logs }) (omega (arith, size_read carry taken (p ∷ left) base start now window block sectors_read applied end g, g.within))
-      (λ whole fits os last patched.
-      let extended = extends carry taken (p ∷ left) base start now window block sectors_read applied end g whole fits in
-      let r = next whole extended os last patched in (
-        (begins_now carry taken (p ∷ left) base start now window block sectors_read applied end g whole extended os last patched).0,
-        subst (λ u. IsBeginning told (log_text (taken ++ p ∷ left) u)) (sym r.all) (told_begins r.back),
-      ))
-      (λ whole fits os last patched.
-      let extended = extends carry taken (p ∷ left) base start now window block sectors_read applied end g whole fits in
-      let r = next whole extended os last patched in
-      let cut = ap length extended.cut ∙ length-append g.seen extended.more in
-      length_sent ∙ sym (ap (λ u. sent_beside (taken ++ p ∷ left) u base whole (length told)) r.all ∙ ap (sent_beside (taken ++ p ∷ left) (g.outcomes ++ o ∷ r.back) base whole) length_told
-      ∙ beside whole r.back (omega (arith, cut, g.held))))
-      (λ whole fits os last patched all.
-      let r = next whole (extends carry taken (p ∷ left) base start now window block sectors_read applied end g whole fits) os last patched in
-      unfinished_lines taken (p ∷ left) g.outcomes (o ∷ r.back) told n lengths length_told (in_line r.back) (all ∙ ap (log_text (taken ++ p ∷ left)) r.all)))
+  Applies-log log n inside went failed = record {
+    read = bytes_of g.seen ++ tail_bytes end;
+    sent = bytes_of g.done;
+    told = told;
+    consumes = g.consumes;
+    given = g.given;
+    appends = g.appends;
+    logs = Appends-trans start.log.written now.log.written log.written _ _ g.logs went;
+    in_hand = omega (arith, size_read carry taken (p ∷ left) base start now window block sectors_read applied end g, length_sent, g.in_hand, g.held, g.count);
+    answers = record {
+      failed = record { reads = g.unfailed.reads; writes = g.unfailed.writes; logs = omega (arith, failed, g.unfailed.logs) };
+      within = omega (arith, size_read carry taken (p ∷ left) base start now window block sectors_read applied end g, g.within);
+      begins = λ whole fits os last patched.
+          let extended = extends carry taken (p ∷ left) base start now window block sectors_read applied end g whole fits in
+          let n = next whole extended os last patched in (
+            (begins_now carry taken (p ∷ left) base start now window block sectors_read applied end g whole extended os last patched).0,
+            subst (λ u. IsBeginning told (log_text (taken ++ p ∷ left) u)) (sym n.all) (told_begins n.back),
+          );
+      beside = λ whole fits os last patched.
+          let extended = extends carry taken (p ∷ left) base start now window block sectors_read applied end g whole fits in
+          let n = next whole extended os last patched in
+          let cut = ap length extended.cut ∙ length-append g.seen extended.more in
+          length_sent ∙ sym (ap (λ u. sent_beside (taken ++ p ∷ left) u base whole (length told)) n.all ∙ ap (sent_beside (taken ++ p ∷ left) (g.outcomes ++ o ∷ n.back) base whole) length_told
+          ∙ beside whole n.back (omega (arith, cut, g.held)));
+      flushed = λ whole fits os last patched all.
+          let r = next whole (extends carry taken (p ∷ left) base start now window block sectors_read applied end g whole fits) os last patched in
+          absurd (unfinished_lines taken (p ∷ left) g.outcomes (o ∷ r.back) told n lengths length_told (in_line r.back) (all ∙ ap (log_text (taken ++ p ∷ left)) r.all));
+    };
+  }
     where
-      n : ℕ
-      n = fails.taken.0
-
       told : List ℕ
       told = log_lines taken g.outcomes ++ take n (log_line p o)
-
-      went : Takes start.log log (log_lines taken g.outcomes ++ take n (log_line p o))
-      went = Takes-trans start.log now.log log _ _ g.logs fails.taken.2
 
       lengths : length g.outcomes ≡ length taken
       lengths = told_lengths carry taken (p ∷ left) base start now window block sectors_read applied end g
@@ -198,18 +218,18 @@ module _ (carry : Bool) (taken : List Patch) (p : Patch) (left : List Patch) (ba
       length_sent = length-bytes_of g.done g.done_sizes
 
       length_told : length (log_lines taken g.outcomes ++ take n (log_line p o)) ≡ length (log_lines taken g.outcomes) + n
-      length_told = length-append (log_lines taken g.outcomes) (take n (log_line p o)) ∙ ap (λ m. length (log_lines taken g.outcomes) + m) (length-take-le n (log_line p o) (omega (arith, fails.taken.1)))
+      length_told = length-append (log_lines taken g.outcomes) (take n (log_line p o)) ∙ ap (λ m. length (log_lines taken g.outcomes) + m) (length-take-le n (log_line p o) (omega arith))
 
       in_line : (back : List Outcome) → n < length (log_lines (p ∷ left) (o ∷ back))
-      in_line back = omega (arith, fails.taken.1, length-append (log_line p o) (log_lines left back))
+      in_line back = omega (arith, inside, length-append (log_line p o) (log_lines left back))
 
       told_begins : (back : List Outcome) → IsBeginning (log_lines taken g.outcomes ++ take n (log_line p o)) (log_text (taken ++ p ∷ left) (g.outcomes ++ o ∷ back))
       told_begins back =
-          subst (λ t. IsBeginning (log_lines taken g.outcomes ++ t) (log_text (taken ++ p ∷ left) (g.outcomes ++ o ∷ back))) (take-append-le n (log_line p o) (log_lines left back) (omega (arith, fails.taken.1)))
+          subst (λ t. IsBeginning (log_lines taken g.outcomes ++ t) (log_text (taken ++ p ∷ left) (g.outcomes ++ o ∷ back))) (take-append-le n (log_line p o) (log_lines left back) (omega arith))
           (lines-begin_within taken (p ∷ left) g.outcomes (o ∷ back) lengths n)
 
       beside : (whole : List ℕ) (back : List Outcome) → length g.done < length (sectors whole)
           → sent_beside (taken ++ p ∷ left) (g.outcomes ++ o ∷ back) base whole (length (log_lines taken g.outcomes) + n) ≡ 2352 * length g.done
       beside whole back has =
-          sent_beside-behind whole base taken (p ∷ left) g.outcomes (o ∷ back) n lengths ∙ sent_beside-line whole base p left o back n fails.taken.1
+          sent_beside-behind whole base taken (p ∷ left) g.outcomes (o ∷ back) n lengths ∙ sent_beside-line whole base p left o back n inside
           ∙ bytes_before-within whole base p.block (length g.done) (at ∙ g.front) has

@@ -5,7 +5,7 @@ use Rattle.std.proofs.lemmas.Bool.{true≢false}
 use Rattle.cd_script.specs.Patch.{IsPatch}
 use Rattle.std.specs.Io.KnownBytes.{Appends}
 use Rattle.cd_script.specs.declared.patch.Patch.{Patch}
-use Rattle.cd_image.specs.Applying.{Applies, BeginsLog, HoldsFew, HoldsFewCounted, Streams, WritesCarried, WritesLog, WritesPatched}
+use Rattle.cd_image.specs.Applying.{Applies, BeginsLog, HoldsFew, Streams, WritesCarried, WritesLog, WritesPatched}
 use Rattle.cd_image.specs.Patched.{IsPatched}
 use Rattle.cd_image.specs.PatchLog.{log_text, patch_tally}
 use Rattle.cd_read.specs.Ends.{AnswersByEnd, AnswersByLength, EndsWell, TellsTooLong}
@@ -113,9 +113,6 @@ module _ {carry : Bool} {patches : List Patch} {base : ℕ} {old new : Streams} 
       let came = consumed_length old.image.rest new.image.rest a.read given left a.consumes gives leaves in
       let went = appended_length old.out.written new.out.written a.sent earlier now a.appends had has in
       omega (arith, came, went, a.in_hand)
-
-  pub Applies-few_counted : (result : Result Tally Fault) → Applies carry patches base old new result → HoldsFewCounted old new
-  Applies-few_counted result a = omega (arith, a.given, a.out_taken, a.in_hand)
 
   pub Applies-begins : (result : Result Tally Fault) → Applies carry patches base old new result → IfErr result (BeginsLog carry patches base old.image new.image old.log new.log)
   Applies-begins (Ok tally) a = tt

@@ -1,5 +1,5 @@
 -- What a pass knows of each run on an image that may be the one that is being read.
-use Rattle.std.proofs.Common.{◌≡◌, ◌≢◌, ℕ, ◌+◌, ◌<◌, ◌≤◌, Bool, List, [], ◌++◌, length, take, drop, Option, None, Some, Result, refl, sym, ap, ◌∙◌, subst, arith, append_assoc, append-nil, length-append, take-append-drop}
+use Rattle.std.proofs.Common.{◌≡◌, ◌≢◌, ℕ, ◌+◌, ◌<◌, ◌≤◌, Bool, List, [], ◌++◌, length, take, drop, Option, None, Some, refl, sym, ap, ◌∙◌, subst, arith, append_assoc, append-nil, length-append, take-append-drop}
 use Rattle.std.specs.Prelude.{All, IsSome}
 use Rattle.std.specs.Io.KnownBytes.{IsAtEnd}
 use Rattle.cd_script.specs.declared.patch.Patch.{Patch}
@@ -7,16 +7,13 @@ use Rattle.cd_sector.specs.declared.sector.TheConstants.{SECTOR_SIZE}
 use Rattle.cd_patch.specs.Run.{PatchRun}
 use Rattle.cd_patch.specs.declared.outcome.Outcome.{Outcome}
 use Rattle.cd_patch.proofs.RunLemmas.{PatchRun-determined, PatchRun-front, PatchRun-lengths, PatchRun-split}
-use Rattle.cd_image.specs.Applying.{Applies, AppliesBy, Begins, Failed, Flushed, StopsAtLog, Streams, bytes_in_hand}
+use Rattle.cd_image.specs.Applying.{Begins, Streams}
 use Rattle.cd_read.specs.Image.{image_limit, bytes_of, sectors, tail}
 use Rattle.cd_image.specs.InHand.{tail_bytes}
 use Rattle.cd_image.specs.Passing.{Going}
-use Rattle.cd_image.specs.Patched.{EachRun, IsPatched}
-use Rattle.cd_image.specs.PatchLog.{applied_count, log_end, log_lines, log_text, refused_count, sent_beside}
+use Rattle.cd_image.specs.Patched.{IsPatched}
+use Rattle.cd_image.specs.PatchLog.{applied_count, log_end, log_lines, log_text, refused_count}
 use Rattle.cd_stream.specs.Stream.{IsBeginning}
-use Rattle.cd_stream.specs.Transfer.{Gives, Takes}
-use Rattle.cd_read.specs.declared.fault.Fault.{Fault}
-use Rattle.cd_image.specs.declared.patch_log.Tally.{Tally}
 use Rattle.cd_read.specs.Ends.{FitsLeft}
 use Rattle.cd_read.proofs.ImageLemmas.{IsCut-sectors, sectors-bytes_of, sectors-short}
 use Rattle.cd_read.proofs.EndLemmas.{FitsLeft-begins, FitsLeft-end}
@@ -70,41 +67,6 @@ pub unfinished_lines : (taken left : List Patch) (front back : List Outcome) (to
 unfinished_lines taken left front back told n same size part =
     let lines = ap length (log_lines-append taken left front back same) ∙ length-append (log_lines taken front) (log_lines left back) in
     unfinished_log (taken ++ left) (front ++ back) told (omega (arith, lines, size, part))
-
--- the contract, by what each stream gave or took
-pub applies : {carry : Bool} {patches : List Patch} {base : ℕ} {old new : Streams} (read sent told : List ℕ) (result : Result Tally Fault) → Gives old.image new.image read → Takes old.out new.out sent → Takes old.log new.log told
-    → length read ≤ length sent + bytes_in_hand → AppliesBy carry patches base read sent told old new result → Applies carry patches base old new result
-applies read sent told result came went logged in_hand answers = record {
-  read = read;
-  sent = sent;
-  told = told;
-  consumes = came.consumes;
-  given = came.counted;
-  appends = went.appends;
-  out_taken = went.counted;
-  logs = logged.appends;
-  log_taken = logged.counted;
-  in_hand = in_hand;
-  answers = answers;
-}
-
--- a log that fails before its end: no sink was flushed
-module _ {carry : Bool} {patches : List Patch} {base : ℕ} {read sent told : List ℕ} {old new : Streams} where
-  pub StopsAtLog-within : Failed old new 0 0 1 → Flushed old new 0 0 → length read ≤ image_limit → ((whole : List ℕ) → FitsLeft new.image.rest read whole → EachRun carry patches base whole (Begins patches sent told))
-      → ((whole : List ℕ) → FitsLeft new.image.rest read whole → EachRun carry patches base whole (λ os last. length sent ≡ sent_beside patches os base whole (length told)))
-      → ((whole : List ℕ) → FitsLeft new.image.rest read whole → EachRun carry patches base whole (λ os last. told ≢ log_text patches os)) → StopsAtLog carry patches base read sent told old new
-  StopsAtLog-within failed unflushed within begins beside unfinished = record {
-    failed = failed;
-    out_flushes = 0;
-    log_flushes = 0;
-    flushes = unflushed;
-    once = (omega arith, omega arith);
-    within = within;
-    begins = begins;
-    beside = beside;
-    flushed = λ whole fits os last patched all. absurd (unfinished whole fits os last patched all);
-    at_end = λ whole fits os last patched. (λ all. absurd (unfinished whole fits os last patched all), λ once. absurd (omega (arith, once)));
-  }
 
 -- an image that may be the one that is being read: the sectors behind those that were seen
 pub record Extends (seen : List (List ℕ)) (end : Option (List ℕ)) (whole : List ℕ) : Type 0 where

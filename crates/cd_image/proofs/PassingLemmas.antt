@@ -1,8 +1,8 @@
 -- One step of a pass: a sector is read, or the end; a patch is taken; a sector goes out.
-use Rattle.std.proofs.Common.{◌≡◌, ℕ, ◌+◌, ◌*◌, ◌<◌, ◌≤◌, ◌⊎◌, inl, inr, Bool, true, List, [], ◌∷◌, ◌++◌, length, Option, None, Some, Ok, refl, sym, ap, ◌∙◌, subst, arith, append_assoc, append-nil, length-append}
+use Rattle.std.proofs.Common.{◌≡◌, ℕ, ◌+◌, ◌*◌, ◌<◌, ◌≤◌, ◌⊎◌, inl, inr, Bool, true, List, [], ◌∷◌, ◌++◌, length, Option, None, Some, refl, sym, ap, ◌∙◌, subst, arith, append_assoc, append-nil, length-append}
 use Rattle.std.specs.Prelude.{All, IsSome, cond}
-use Rattle.std.specs.Io.KnownBytes.{IsAtEnd}
-use Rattle.std.proofs.KnownBytes.{Consumes-nil}
+use Rattle.std.specs.Io.KnownBytes.{Appends, Consumes, IsAtEnd}
+use Rattle.std.proofs.KnownBytes.{Appends-nil, Appends-trans, Consumes-nil, Consumes-trans}
 use Rattle.std.proofs.lemmas.List.Elements.{All-append, All-cons, All-head, All-nil, All-tail}
 use Rattle.std.proofs.lemmas.Grind.{flat_map-append}
 use Rattle.cd_script.specs.declared.patch.Patch.{Patch}
@@ -20,8 +20,7 @@ use Rattle.cd_read.specs.Image.{image_limit, bytes_of, sector_limit}
 use Rattle.cd_image.specs.Passing.{Going, missing_outcomes}
 use Rattle.cd_image.specs.PatchLog.{log_line, log_lines}
 use Rattle.cd_stream.specs.Stream.{Incoming, Outgoing}
-use Rattle.cd_stream.specs.Transfer.{Gives, Sends, Takes}
-use Rattle.cd_stream.proofs.TransferLemmas.{Gives-trans, Takes-nil, Takes-trans}
+use Rattle.cd_stream.specs.Transfer.{Gives}
 use Rattle.cd_read.proofs.general.Counts.{count_by_push}
 use Rattle.cd_image.proofs.PatchLogLemmas.{PatchRun-missing, applied_count-missing_outcomes, log_lines-append}
 
@@ -46,18 +45,18 @@ AreSized-more : (whole : List (List ℕ)) (sector : List ℕ) → AreSized whole
 AreSized-more whole sector each size = All-append (λ t. length t ≡ SECTOR_SIZE) whole (sector ∷ []) each (All-cons (λ t. length t ≡ SECTOR_SIZE) sector [] size (All-nil (λ t. length t ≡ SECTOR_SIZE)))
 
 -- behind the patches whose first block is below the image's
-pub Going-start : {X E : Type 0} {x : X} (carry : Bool) (taken left : List Patch) (base : ℕ) (start : Streams) (log : Outgoing) → All (λ p. p.block < base) taken → All (λ p. base ≤ p.block) left
-    → Sends {X = X} {E = E} start.log log (log_lines taken (missing_outcomes taken)) (Ok x)
+pub Going-start : (carry : Bool) (taken left : List Patch) (base : ℕ) (start : Streams) (log : Outgoing) → All (λ p. p.block < base) taken → All (λ p. base ≤ p.block) left
+    → Appends start.log.written log.written (log_lines taken (missing_outcomes taken)) → log.failures ≡ start.log.failures
     → Going carry taken left base start (record start { log = log }) [] base 0 0 None
-Going-start carry taken left base start log below ahead told = record {
+Going-start carry taken left base start log below ahead told kept = record {
   seen = [];
   done = [];
   outcomes = missing_outcomes taken;
-  gives = record { consumes = Consumes-nil start.image.rest; counted = omega arith };
-  sends = Takes-nil start.out;
-  logs = told.taken;
-  unfailed = record { reads = omega arith; writes = omega arith; logs = omega (arith, told.count) };
-  unflushed = record { outs = omega arith; logs = omega (arith, told.flushes) };
+  consumes = Consumes-nil start.image.rest;
+  given = omega arith;
+  appends = Appends-nil start.out.written;
+  logs = told;
+  unfailed = record { reads = omega arith; writes = omega arith; logs = omega arith };
   seen_sizes = All-nil (λ t. length t ≡ SECTOR_SIZE);
   done_sizes = All-nil (λ t. length t ≡ SECTOR_SIZE);
   short = omega arith;
@@ -82,14 +81,15 @@ module _ (carry : Bool) (taken left : List Patch) (base : ℕ) (start now : Stre
     seen = g.seen ++ came ∷ [];
     done = g.done;
     outcomes = g.outcomes;
-    gives =
+    consumes =
         let bytes : (bytes_of g.seen ++ []) ++ came ≡ bytes_of (g.seen ++ came ∷ []) ++ [] =
         ap (λ l. l ++ came) (append-nil (bytes_of g.seen)) ∙ sym (bytes_of-more g.seen came) ∙ sym (append-nil _) in
-        subst (Gives start.image image) bytes (Gives-trans start.image now.image image _ came g.gives gives);
-    sends = g.sends;
+        subst (Consumes start.image.rest image.rest) bytes (Consumes-trans start.image.rest now.image.rest image.rest _ came g.consumes gives.consumes);
+    given =
+        omega (arith, g.given, gives.counted, length-append (bytes_of g.seen) [], length-append (bytes_of (g.seen ++ came ∷ [])) [], ap length (bytes_of-more g.seen came), length-append (bytes_of g.seen) came);
+    appends = g.appends;
     logs = g.logs;
     unfailed = record { reads = kept ∙ g.unfailed.reads; writes = g.unfailed.writes; logs = g.unfailed.logs };
-    unflushed = record { outs = g.unflushed.outs; logs = g.unflushed.logs };
     seen_sizes = AreSized-more g.seen came g.seen_sizes size;
     done_sizes = g.done_sizes;
     short = g.short;
@@ -116,11 +116,12 @@ module _ (carry : Bool) (taken left : List Patch) (base : ℕ) (start now : Stre
     seen = g.seen;
     done = g.done;
     outcomes = g.outcomes;
-    gives = subst (λ l. Gives start.image image (l ++ came)) (append-nil (bytes_of g.seen)) (Gives-trans start.image now.image image _ came g.gives gives);
-    sends = g.sends;
+    consumes =
+        subst (λ l. Consumes start.image.rest image.rest (l ++ came)) (append-nil (bytes_of g.seen)) (Consumes-trans start.image.rest now.image.rest image.rest _ came g.consumes gives.consumes);
+    given = omega (arith, g.given, gives.counted, length-append (bytes_of g.seen) [], length-append (bytes_of g.seen) came);
+    appends = g.appends;
     logs = g.logs;
     unfailed = record { reads = kept ∙ g.unfailed.reads; writes = g.unfailed.writes; logs = g.unfailed.logs };
-    unflushed = record { outs = g.unflushed.outs; logs = g.unflushed.logs };
     seen_sizes = g.seen_sizes;
     done_sizes = g.done_sizes;
     short = short;
@@ -137,19 +138,20 @@ module _ (carry : Bool) (taken left : List Patch) (base : ℕ) (start now : Stre
   }
 
 -- the first sector of the window has gone out, with no patch left that begins there
-pub Going-send : {X E : Type 0} {x : X} (carry : Bool) (taken left : List Patch) (base : ℕ) (start now : Streams) (sector : List ℕ) (window : List (List ℕ)) (block sectors applied : ℕ) (tail : Option (List ℕ))
-    → Going carry taken left base start now (sector ∷ window) block sectors applied tail → (out : Outgoing) → Sends {X = X} {E = E} now.out out sector (Ok x)
+pub Going-send : (carry : Bool) (taken left : List Patch) (base : ℕ) (start now : Streams) (sector : List ℕ) (window : List (List ℕ)) (block sectors applied : ℕ) (tail : Option (List ℕ))
+    → Going carry taken left base start now (sector ∷ window) block sectors applied tail → (out : Outgoing) → Appends now.out.written out.written sector → out.failures ≡ now.out.failures
     → length sector ≡ SECTOR_SIZE → All (λ p. block < p.block) left
     → Going carry taken left base start (record now { out = out }) window (block + 1) sectors applied tail
-Going-send carry taken left base start now sector window block sectors applied tail g out sent size ahead = record {
+Going-send carry taken left base start now sector window block sectors applied tail g out sent kept size ahead = record {
   seen = g.seen;
   done = g.done ++ sector ∷ [];
   outcomes = g.outcomes;
-  gives = g.gives;
-  sends = subst (Takes start.out out) (sym (bytes_of-more g.done sector)) (Takes-trans start.out now.out out _ sector g.sends sent.taken);
+  consumes = g.consumes;
+  given = g.given;
+  appends =
+      subst (Appends start.out.written out.written) (sym (bytes_of-more g.done sector)) (Appends-trans start.out.written now.out.written out.written _ sector g.appends sent);
   logs = g.logs;
-  unfailed = record { reads = g.unfailed.reads; writes = sent.count ∙ g.unfailed.writes; logs = g.unfailed.logs };
-  unflushed = record { outs = sent.flushes ∙ g.unflushed.outs; logs = g.unflushed.logs };
+  unfailed = record { reads = g.unfailed.reads; writes = kept ∙ g.unfailed.writes; logs = g.unfailed.logs };
   seen_sizes = g.seen_sizes;
   done_sizes = AreSized-more g.done sector g.done_sizes size;
   short = g.short;
@@ -176,22 +178,22 @@ PatchRun-one carry p o base old new is effect = record { decided = is; next = ne
 
 -- a patch that begins at the first sector of the window was taken: all that it meets is in the window, or nothing follows
 module _ (carry : Bool) (taken : List Patch) (p : Patch) (left : List Patch) (base : ℕ) (start now : Streams) (window window' : List (List ℕ)) (block sectors applied : ℕ) (tail : Option (List ℕ)) where
-  pub Going-take : {X E : Type 0} {x : X} → Going carry taken (p ∷ left) base start now window block sectors applied tail → (log : Outgoing) (o : Outcome) → o ≡ outcome carry window block p → Effect carry block p window window'
-      → Sends {X = X} {E = E} now.log log (log_line p o) (Ok x) → p.block ≡ block → 0 < length window
+  pub Going-take : Going carry taken (p ∷ left) base start now window block sectors applied tail → (log : Outgoing) (o : Outcome) → o ≡ outcome carry window block p → Effect carry block p window window'
+      → Appends now.log.written log.written (log_line p o) → log.failures ≡ now.log.failures → p.block ≡ block → 0 < length window
       → (block + blocks_met p ≤ block + length window) ⊎ IsSome tail
       → Going carry (taken ++ p ∷ []) left base start (record now { log = log }) window' block sectors (applied + cond (is_applied o) 1 0) tail
-  Going-take g log o decided effect told at some reach = record {
+  Going-take g log o decided effect told kept at some reach = record {
     seen = g.seen;
     done = g.done;
     outcomes = g.outcomes ++ o ∷ [];
-    gives = g.gives;
-    sends = g.sends;
+    consumes = g.consumes;
+    given = g.given;
+    appends = g.appends;
     logs =
         let lines : log_lines (taken ++ p ∷ []) (g.outcomes ++ o ∷ []) ≡ log_lines taken g.outcomes ++ log_line p o =
         log_lines-append taken (p ∷ []) g.outcomes (o ∷ []) lengths ∙ ap (λ l. log_lines taken g.outcomes ++ l) (append-nil (log_line p o)) in
-        subst (Takes start.log log) (sym lines) (Takes-trans start.log now.log log _ _ g.logs told.taken);
-    unfailed = record { reads = g.unfailed.reads; writes = g.unfailed.writes; logs = told.count ∙ g.unfailed.logs };
-    unflushed = record { outs = g.unflushed.outs; logs = told.flushes ∙ g.unflushed.logs };
+        subst (Appends start.log.written log.written) (sym lines) (Appends-trans start.log.written now.log.written log.written _ _ g.logs told);
+    unfailed = record { reads = g.unfailed.reads; writes = g.unfailed.writes; logs = kept ∙ g.unfailed.logs };
     seen_sizes = g.seen_sizes;
     done_sizes = g.done_sizes;
     short = g.short;

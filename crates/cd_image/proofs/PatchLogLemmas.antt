@@ -110,16 +110,18 @@ module _ (image : List ℕ) (base : ℕ) where
       ∙ ap (sent_beside (ps ++ qs) (os ++ us) base image) left
       ∙ sent_beside-behind ps qs os us n (omega arith)
 
-  -- where all of the image stands in front of each line
-  pub sent_beside-after : (ps : List Patch) (os : List Outcome) (n : ℕ) → All (λ p. bytes_before image base p.block ≡ length image) ps → sent_beside ps os base image n ≡ length image
-  sent_beside-after [] os n each = refl
-  sent_beside-after (p ∷ ps) [] n each = refl
-  sent_beside-after (p ∷ ps) (o ∷ os) n each =
+  -- behind all lines
+  pub sent_beside-end : (ps : List Patch) (os : List Outcome) (n : ℕ) → length os ≡ length ps → sent_beside ps os base image (length (log_lines ps os) + n) ≡ length image
+  sent_beside-end [] [] n same = refl
+  sent_beside-end [] (o ∷ os) n same = refl
+  sent_beside-end (p ∷ ps) [] n same = refl
+  sent_beside-end (p ∷ ps) (o ∷ os) n same =
       let line = log_line p o in
-      elim (cases_lt n (length line)) [
-        | inl here ↦ cond-true _ _ _ (lt-ltb n (length line) here) ∙ All-head (λ q. bytes_before image base q.block ≡ length image) p ps each
-        | inr further ↦ cond-false _ _ _ (le-ltb n (length line) further) ∙ sent_beside-after ps os (n - length line) (All-tail (λ q. bytes_before image base q.block ≡ length image) p ps each)
-      ]
+      let all = length-append line (log_lines ps os) in
+      let left : length (line ++ log_lines ps os) + n - length line ≡ length (log_lines ps os) + n = omega arith in
+      cond-false _ _ _ (le-ltb (length (line ++ log_lines ps os) + n) (length line) (omega arith))
+      ∙ ap (sent_beside ps os base image) left
+      ∙ sent_beside-end ps os n (omega arith)
 
   -- within the lines of patches in front of which as many bytes stand
   pub sent_beside-alike : (count : ℕ) (ps qs : List Patch) (os us : List Outcome) (n : ℕ) → length os ≡ length ps → All (λ p. bytes_before image base p.block ≡ count) ps → n < length (log_lines ps os)

@@ -1,7 +1,7 @@
 -- What `apply` and `check` have done, whatever they answer. Their plain clauses, at the end of this
 -- file, follow from `Applies`.
-use Rattle.std.specs.Prelude.{◌≡◌, ◌↔◌, ℕ, ◌+◌, ◌*◌, ◌<◌, ◌≤◌, Bool, true, false, List, [], ◌++◌}
-use Rattle.std.specs.Prelude.{length, Option, None, Some, Result, Ok, Err}
+use Rattle.std.specs.Prelude.{◌≡◌, ℕ, ◌+◌, ◌*◌, ◌≤◌, Bool, true, false, List, [], ◌++◌, length, Option}
+use Rattle.std.specs.Prelude.{None, Some, Result, Ok, Err}
 use Rattle.std.specs.Io.KnownBytes.{Appends, Consumes, IsAtEnd}
 use Rattle.cd_code.specs.Field.{AreBytes}
 use Rattle.cd_script.specs.declared.patch.Patch.{Patch}
@@ -33,17 +33,10 @@ pub record Failed (old new : Streams) (of_image of_out of_log : ℕ) : Type 0 wh
   pub writes : new.out.failures ≡ old.out.failures + of_out
   pub logs : new.log.failures ≡ old.log.failures + of_log
 
--- how many flushes of each sink were made meanwhile
-pub record Flushed (old new : Streams) (of_out of_log : ℕ) : Type 0 where
-  pub outs : new.out.flushes ≡ old.out.flushes + of_out
-  pub logs : new.log.flushes ≡ old.log.flushes + of_log
-
--- the whole image was read; its patched image went out, and the log of the patches. Each sink was
--- flushed just once
+-- the whole image was read; its patched image went out, and the log of the patches
 pub record CompletesPatching (carry : Bool) (patches : List Patch) (base : ℕ)
     (read sent told : List ℕ) (old new : Streams) (tally : Tally) : Type 0 where
   pub failed : Failed old new 0 0 0
-  pub flushes : Flushed old new 1 1
   pub out_finished : new.out.finished ≡ true
   pub log_finished : new.log.finished ≡ true
   pub at_end : IsAtEnd new.image.rest
@@ -59,11 +52,10 @@ abbrev pub Begins : List Patch → List ℕ → List ℕ → List Outcome → Li
 Begins patches sent told outcomes last =
     IsBeginning sent last × IsBeginning told (log_text patches outcomes)
 
--- a read failed: no sink was flushed
+-- a read failed
 pub record StopsAtRead (carry : Bool) (patches : List Patch) (base : ℕ) (read sent told : List ℕ)
     (old new : Streams) : Type 0 where
   pub failed : Failed old new 1 0 0
-  pub flushes : Flushed old new 0 0
   pub unended : new.image.ended ≡ false
   pub within : length read ≤ image_limit
   pub begins : (whole : List ℕ) → Fits read whole
@@ -71,14 +63,10 @@ pub record StopsAtRead (carry : Bool) (patches : List Patch) (base : ℕ) (read 
 
 -- a write to the output failed, or its flush: the log has got just the lines that belong before
 -- what went out. If the source has nothing left, or its bytes are not known, the image is taken to
--- end with the bytes read. The output was flushed once at most, after all of these, the log never
+-- end with the bytes read
 pub record StopsAtWrite (carry : Bool) (patches : List Patch) (base : ℕ) (read sent told : List ℕ)
     (old new : Streams) : Type 0 where
   pub failed : Failed old new 0 1 0
-  pub out_flushes : ℕ
-  pub flushes : Flushed old new out_flushes 0
-  pub once : out_flushes ≤ 1
-  pub at_end : length sent < length read → out_flushes ≡ 0
   pub within : length read ≤ image_limit
   pub begins : (whole : List ℕ) → FitsLeft new.image.rest read whole
       → EachRun carry patches base whole (Begins patches sent told)
@@ -87,15 +75,10 @@ pub record StopsAtWrite (carry : Bool) (patches : List Patch) (base : ℕ) (read
       (λ outcomes last. told ≡ log_beside patches outcomes base (length read) (length sent))
 
 -- a write to the log failed, or its flush: just the bytes that belong before the line it failed in
--- went out, and if the whole log was written, the output is finished. Only then was the output
--- flushed, just once, and the log at most once
+-- went out, and if the whole log was written, the output is finished
 pub record StopsAtLog (carry : Bool) (patches : List Patch) (base : ℕ) (read sent told : List ℕ)
     (old new : Streams) : Type 0 where
   pub failed : Failed old new 0 0 1
-  pub out_flushes : ℕ
-  pub log_flushes : ℕ
-  pub flushes : Flushed old new out_flushes log_flushes
-  pub once : (out_flushes ≤ 1) × (log_flushes ≤ out_flushes)
   pub within : length read ≤ image_limit
   pub begins : (whole : List ℕ) → FitsLeft new.image.rest read whole
       → EachRun carry patches base whole (Begins patches sent told)
@@ -105,16 +88,12 @@ pub record StopsAtLog (carry : Bool) (patches : List Patch) (base : ℕ) (read s
   pub flushed : (whole : List ℕ) → FitsLeft new.image.rest read whole
       → EachRun carry patches base whole
       (λ outcomes last. told ≡ log_text patches outcomes → new.out.finished ≡ true)
-  pub at_end : (whole : List ℕ) → FitsLeft new.image.rest read whole
-      → EachRun carry patches base whole
-      (λ outcomes last. (told ≡ log_text patches outcomes) ↔ (out_flushes ≡ 1))
 
 -- just one byte was read after the millionth sector. No clause names the patches that reach past
--- the last sector: their lines wait for the end. No sink was flushed
+-- the last sector: their lines wait for the end
 pub record StopsBeyond (carry : Bool) (patches : List Patch) (base : ℕ) (read sent told : List ℕ)
     (old new : Streams) : Type 0 where
   pub failed : Failed old new 0 0 0
-  pub flushes : Flushed old new 0 0
   pub beyond : length read ≡ image_limit + 1
   pub unended : new.image.ended ≡ false
   pub begins : (whole : List ℕ) → Fits read whole
@@ -139,7 +118,7 @@ abbrev pub bytes_in_hand : ℕ
 bytes_in_hand = SECTOR_SIZE * block_limit
 
 -- the whole contract of `apply`: it read some bytes, sent some and logged some, and answered by
--- these. Each of the three has counted its own. At most `bytes_in_hand` more were read than sent
+-- these. No more were read and not sent than may be in hand
 pub record Applies (carry : Bool) (patches : List Patch) (base : ℕ) (old new : Streams)
     (result : Result Tally Fault) : Type 0 where
   pub read : List ℕ
@@ -148,9 +127,7 @@ pub record Applies (carry : Bool) (patches : List Patch) (base : ℕ) (old new :
   pub consumes : Consumes old.image.rest new.image.rest read
   pub given : new.image.given ≡ old.image.given + length read
   pub appends : Appends old.out.written new.out.written sent
-  pub out_taken : new.out.taken ≡ old.out.taken + length sent
   pub logs : Appends old.log.written new.log.written told
-  pub log_taken : new.log.taken ≡ old.log.taken + length told
   pub in_hand : length read ≤ length sent + bytes_in_hand
   pub answers : AppliesBy carry patches base read sent told old new result
 
@@ -218,11 +195,6 @@ HoldsFew old new =
     (given left earlier now : List ℕ) → old.image.rest ≡ Some given → new.image.rest ≡ Some left
     → old.out.written ≡ Some earlier → new.out.written ≡ Some now
     → length given + length earlier ≤ length left + length now + bytes_in_hand
-
--- the same by the counts, whether or not the bytes are known
-abbrev pub HoldsFewCounted : Streams → Streams → Type 0
-HoldsFewCounted old new =
-    new.image.given + old.out.taken ≤ old.image.given + new.out.taken + bytes_in_hand
 
 -- if damage is carried, and the bytes of the image and the output are known: the output has got,
 -- after what it had, the image in which the patches have kept the damage

@@ -2,18 +2,17 @@
 -- its way.
 use Rattle.std.specs.Prelude.{◌≡◌, ℕ, ◌+◌, ◌-◌, ◌*◌, ◌<◌, ◌≤◌, Bool, true, List, [], ◌++◌, All}
 use Rattle.std.specs.Prelude.{length, take, drop, map, Option, None, Some, IsSome, Result, Ok, Err}
-use Rattle.std.specs.Io.KnownBytes.{IsAtEnd}
+use Rattle.std.specs.Io.KnownBytes.{Appends, Consumes, IsAtEnd}
 use Rattle.cd_script.specs.declared.patch.Patch.{Patch}
 use Rattle.cd_sector.specs.declared.sector.TheConstants.{SECTOR_SIZE}
 use Rattle.cd_patch.specs.Run.{PatchRun}
 use Rattle.cd_patch.specs.declared.outcome.Outcome.{Outcome}
 use Rattle.cd_patch.specs.declared.outcome.Outcome.TheVariants.{NoBlock}
-use Rattle.cd_image.specs.Applying.{Applies, Failed, Flushed, Streams, bytes_in_hand}
+use Rattle.cd_image.specs.Applying.{Applies, Failed, Streams, bytes_in_hand}
 use Rattle.cd_image.specs.InHand.{tail_bytes}
 use Rattle.cd_read.specs.Image.{image_limit, bytes_of, sector_limit}
 use Rattle.cd_image.specs.PatchLog.{applied_count, log_lines}
 use Rattle.cd_read.specs.declared.fault.Fault.{Fault}
-use Rattle.cd_stream.specs.Transfer.{Gives, Takes}
 use Rattle.cd_image.specs.declared.pass.Pass.{Pass}
 
 -- the outcomes of patches whose first block the image does not have
@@ -30,13 +29,13 @@ pub record Going (carry : Bool) (taken left : List Patch) (base : ℕ) (start no
   pub seen : List (List ℕ)
   pub done : List (List ℕ)
   pub outcomes : List Outcome
-  pub gives : Gives start.image now.image (bytes_of seen ++ tail_bytes tail)
-  pub sends : Takes start.out now.out (bytes_of done)
-  pub logs : Takes start.log now.log (log_lines taken outcomes)
-  -- nothing failed, no sink was flushed, and all sizes are right: the image is not too long, and no
-  -- more is in hand than may be
+  pub consumes : Consumes start.image.rest now.image.rest (bytes_of seen ++ tail_bytes tail)
+  pub given : now.image.given ≡ start.image.given + length (bytes_of seen ++ tail_bytes tail)
+  pub appends : Appends start.out.written now.out.written (bytes_of done)
+  pub logs : Appends start.log.written now.log.written (log_lines taken outcomes)
+  -- nothing failed, and all sizes are right: the image is not too long, and no more is in hand than
+  -- may be
   pub unfailed : Failed start now 0 0 0
-  pub unflushed : Flushed start now 0 0
   pub seen_sizes : All (λ sector. length sector ≡ SECTOR_SIZE) seen
   pub done_sizes : All (λ sector. length sector ≡ SECTOR_SIZE) done
   pub short : length (tail_bytes tail) < SECTOR_SIZE

@@ -5,7 +5,7 @@ ghost use Rattle.std.specs.Prelude.{drop, length, take, true};
 ghost use Rattle.std.specs.List.Sorted.{IsNonDecreasingBy};
 ghost use Rattle.cd_script.specs.Patch.{IsPatchList};
 ghost use Rattle.cd_read.specs.Ends.{AnswersByEnd, AnswersByLength, EndsWell, TellsTooLong};
-ghost use Rattle.cd_image.specs.Applying.{Applies, BeginsLog, Checks, HoldsFew, HoldsFewCounted};
+ghost use Rattle.cd_image.specs.Applying.{Applies, BeginsLog, Checks, HoldsFew};
 ghost use Rattle.cd_image.specs.Applying.{WritesCarried, WritesLog, WritesPatched, streams};
 ghost use Rattle.cd_stream.specs.Stream.{MayCount};
 ghost use Rattle.cd_read.specs.Image.{base_limit};
@@ -88,9 +88,6 @@ pub fn apply<I: Source, O: Sink, L: Sink>(
         → (L.seen log.new).failures ≡ (L.seen log.old).failures
         → AnswersByEnd (I.seen image.new) result }
     ensures holds_few { HoldsFew (streams (I.seen image.old) (O.seen out.old) (L.seen log.old))
-        (streams (I.seen image.new) (O.seen out.new) (L.seen log.new)) }
-    ensures holds_few_counted { HoldsFewCounted
-        (streams (I.seen image.old) (O.seen out.old) (L.seen log.old))
         (streams (I.seen image.new) (O.seen out.new) (L.seen log.new)) }
 {
     // Proof step: the clauses of `apply` are proved from the one record that this call answers

@@ -1,11 +1,12 @@
 -- How a line of the program's own goes out, and how a command ends.
-use Rattle.std.proofs.Common.{◌≡◌, ◌≢◌, ◌⊎◌, arith, ℕ, ◌+◌, Bool, true, false, subst, List, [], take, drop, Result, Ok, Err, OnOk, is_ok, refl, sym, inl, inr, append-nil, take-append-drop}
+use Rattle.std.proofs.Common.{◌≡◌, ◌≢◌, ◌⊎◌, arith, ℕ, ◌+◌, ◌<◌, Bool, false, subst, List, [], length, take, drop, Result, Ok, Err, is_ok, refl, sym, ap, ◌∙◌, inl, inr, append-nil, take-append-drop}
+use Rattle.std.specs.Io.KnownBytes.{Appends, Keeps}
+use Rattle.std.proofs.KnownBytes.{Appends-kept}
 use Rattle.cd_stream.specs.Stream.{Incoming, Outgoing}
-use Rattle.cd_stream.specs.Transfer.{Counts, CountsFlush, Flushes, Sends}
+use Rattle.cd_stream.specs.Transfer.{Counts}
 use Rattle.cd_stream.specs.declared.sink.SinkFailed.{SinkFailed}
 use Rattle.cd_read.specs.declared.fault.Fault.{Fault}
 use Rattle.cd_read.specs.declared.fault.Fault.TheVariants.{Log, Read, TooLong, Write}
-use Rattle.cd_stream.proofs.TransferLemmas.{Takes-flushed}
 use Rattle.cd_script.specs.declared.patch.Patch.{Patch}
 use Rattle.cd_image.specs.Applying.{Applies, AppliesBy, Streams}
 use Rattle.cd_report.specs.Report.{Answers, Reports, ReportSpec}
@@ -13,35 +14,29 @@ use Rattle.cd_jobs.specs.Run.{SaysLine}
 
 module _ (line : List ℕ) (before after : Outgoing) where
   -- a write of the line failed
-  pub SaysLine-cut : (e : SinkFailed) → Sends {X = Unit {0}} before after line (Err e) → SaysLine line before after
-  SaysLine-cut e sends = let went = sends.taken in record {
+  pub SaysLine-cut : (n : ℕ) × (n < length line) × Appends before.written after.written (take n line) → after.failures ≡ before.failures + 1 → SaysLine line before after
+  SaysLine-cut went failed = record {
     sent = take went.0 line;
-    takes = went.2;
+    appends = went.2;
     begins = (drop went.0 line, sym (take-append-drop went.0 line));
-    answer = Err e;
-    whole = tt;
-    count = sends.count;
-    flushes = (omega (arith, sends.flushes), omega (arith, sends.flushes));
-    unflushed = λ short. sends.flushes;
+    outcome = inr failed;
   }
 
   -- the line went out, and the flush answered
-  pub SaysLine-whole : (middle : Outgoing) (sent : Unit {0}) (flushed : Result (Unit {0}) SinkFailed) → Sends {E = SinkFailed} before middle line (Ok sent)
-      → Flushes middle after flushed → SaysLine line before after
-  SaysLine-whole middle x flushed sends flush = record {
+  pub SaysLine-whole : (middle : Outgoing) (flushed : Result (Unit {0}) SinkFailed) → Appends before.written middle.written line → middle.failures ≡ before.failures
+      → Keeps middle.written after.written → Counts middle.failures after.failures flushed → after.finished ≡ is_ok flushed → SaysLine line before after
+  SaysLine-whole middle (Ok x) went kept keeps count finished = record {
     sent = line;
-    takes = Takes-flushed before middle after line flushed sends.taken flush;
+    appends = Appends-kept _ _ _ line went keeps;
     begins = ([], sym (append-nil line));
-    answer = flushed;
-    whole = finished flushed flush.finished;
-    count = subst (λ n. Counts n after.failures flushed) sends.count flush.count;
-    flushes = subst (λ n. CountsFlush n after.flushes flushed) sends.flushes flush.flushes;
-    unflushed = λ short. absurd (omega (arith, short));
+    outcome = inl (count ∙ kept, refl, finished);
   }
-    where
-      finished : (flushed : Result (Unit {0}) SinkFailed) → after.finished ≡ is_ok flushed → OnOk flushed ((line ≡ line) × (after.finished ≡ true))
-      finished (Ok y) is = (refl, is)
-      finished (Err e) is = tt
+  SaysLine-whole middle (Err e) went kept keeps count finished = record {
+    sent = line;
+    appends = Appends-kept _ _ _ line went keeps;
+    begins = ([], sym (append-nil line));
+    outcome = inr (count ∙ ap (λ n. n + 1) kept);
+  }
 
 -- a count that has risen is another
 pub one-more : {m n : ℕ} → m ≡ n + 1 → m ≢ n
@@ -65,10 +60,3 @@ fault-counts Read a b c d = inl (a refl)
 fault-counts Write a b c d = inr (inl (b refl))
 fault-counts Log a b c d = inr (inr (inl (c refl)))
 fault-counts TooLong a b c d = inr (inr (inr (d refl)))
-
--- the same of a call without an output
-pub fault-counts-read : {A B C : Type 0} (fault : Fault) → (fault ≡ Read → A) → (fault ≢ Write) → (fault ≡ Log → B) → (fault ≡ TooLong → C) → A ⊎ B ⊎ C
-fault-counts-read Read a none b c = inl (a refl)
-fault-counts-read Write a none b c = absurd (none refl)
-fault-counts-read Log a none b c = inr (inl (b refl))
-fault-counts-read TooLong a none b c = inr (inr (c refl))

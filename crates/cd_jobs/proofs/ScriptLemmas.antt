@@ -1,10 +1,10 @@
 -- What came of a script's file before a fault.
 use Rattle.std.proofs.Common.{◌≡◌, ℕ, ◌+◌, ◌≤◌, List, ◌++◌, length, take, Result, Ok, Err, inl, inr, ap, sym, subst, arith, length-append}
 use Rattle.std.proofs.lemmas.List.{length-take-le}
+use Rattle.std.specs.Io.KnownBytes.{Consumes}
 use Rattle.std.specs.Result.{IsErrAnd}
+use Rattle.std.proofs.KnownBytes.{Consumes-trans}
 use Rattle.cd_stream.specs.Stream.{Incoming, Outgoing}
-use Rattle.cd_stream.specs.Transfer.{Gives}
-use Rattle.cd_stream.proofs.TransferLemmas.{Gives-trans}
 use Rattle.cd_jobs.specs.Messages.{load_fault_line}
 use Rattle.cd_jobs.specs.Run.{SaysLine}
 use Rattle.cd_jobs.specs.ScriptLines.{Gathers, Stops, TellsFailedReads}
@@ -17,17 +17,17 @@ length-with_last earlier into n h = omega (arith, length-append earlier (take n 
 
 -- a fault behind a read
 pub Gathers-stopped : {T : Type 0} (bytes_of : T → List ℕ) (file middle file' : Incoming) (fault : LoadFault) (earlier came : List ℕ)
-    → Gives file middle earlier → Gives middle file' came → Stops fault (earlier ++ came) file file' → Gathers bytes_of file file' (Err fault)
+    → Consumes file.rest middle.rest earlier → Consumes middle.rest file'.rest came → Stops fault (earlier ++ came) file file' → Gathers bytes_of file file' (Err fault)
 Gathers-stopped bytes_of file middle file' fault earlier came first last stops = record {
   read = earlier ++ came;
-  gives = Gives-trans _ _ _ earlier came first last;
+  consumes = Consumes-trans _ _ _ earlier came first last;
   answers = stops;
 }
 
 -- the fault was want of memory
 pub Gathers-refused : {T : Type 0} (bytes_of : T → List ℕ) (file middle file' : Incoming) (result : Result T LoadFault) (earlier came : List ℕ)
     → IsErrAnd result (λ fault. fault ≡ NoMemory)
-    → Gives file middle earlier → Gives middle file' came → Stops NoMemory (earlier ++ came) file file' → Gathers bytes_of file file' result
+    → Consumes file.rest middle.rest earlier → Consumes middle.rest file'.rest came → Stops NoMemory (earlier ++ came) file file' → Gathers bytes_of file file' result
 Gathers-refused bytes_of file middle file' (Ok text) earlier came refused first last stops = absurd refused
 Gathers-refused bytes_of file middle file' (Err fault) earlier came refused first last stops =
     Gathers-stopped bytes_of file middle file' fault earlier came first last (subst (λ f. Stops f (earlier ++ came) file file') (sym refused) stops)

@@ -1,7 +1,7 @@
 -- The status is 0, 1 or 2.
-use Rattle.std.proofs.Common.{◌≡◌, ℕ, ◌≤◌, ◌==◌, Bool, true, false, cond, List, Result, Ok, Err, inl, inr, arith}
+use Rattle.std.proofs.Common.{◌≡◌, ℕ, ◌+◌, ◌≤◌, ◌==◌, ◌⊎◌, Bool, true, false, cond, List, Result, Ok, Err, inl, inr, arith}
 use Rattle.std.specs.Prelude.{Option, Some, None}
-use Rattle.cd_command.specs.Fault.{printed_status}
+use Rattle.cd_command.specs.Fault.{printed, printed_status}
 use Rattle.cd_command.specs.declared.fault.LineFault.{LineFault}
 use Rattle.cd_command.specs.declared.job.Job.{Job}
 use Rattle.cd_command.specs.declared.job.Job.TheVariants as job
@@ -10,8 +10,6 @@ use Rattle.cd_report.specs.Report.{ReportSpec}
 use Rattle.cd_report.specs.declared.auditing.AuditTally.{AuditTally}
 use Rattle.cd_read.specs.declared.fault.Fault.{Fault}
 use Rattle.cd_stream.specs.Stream.{Incoming, Outgoing}
-use Rattle.cd_stream.specs.Transfer.{Counts}
-use Rattle.cd_stream.specs.declared.sink.SinkFailed.{SinkFailed}
 use Rattle.cd_jobs.specs.Hosting.{Hosting}
 use Rattle.cd_jobs.specs.Program.{ComesOfFile, DoesApply, DoesCheck, DoesJob, DoesReport, NoScript, ReadsScript, Tells}
 use Rattle.cd_jobs.specs.Run.{Ends, Runs, audit_status, script_status}
@@ -88,8 +86,8 @@ few-refused fault (Some text) = few-fault fault
 few-refused fault None = omega arith
 
 pub Tells-few : (fault : LineFault) (before after : Outgoing) (status : ℕ) → Tells fault before after status → status ≤ 2
-Tells-few fault before after status tells = go tells.says.answer tells.says.count
+Tells-few fault before after status tells = go tells.says.outcome
   where
-    go : (answer : Result (Unit {0}) SinkFailed) → Counts before.failures after.failures answer → status ≤ 2
-    go (Ok x) same = rw (tells.whole same) (few-refused fault tells.text)
-    go (Err e) more = let is = tells.cut (one-more more) in omega (arith, is)
+    go : (((after.failures ≡ before.failures) × (tells.says.sent ≡ printed tells.text) × (after.finished ≡ true)) ⊎ (after.failures ≡ before.failures + 1)) → status ≤ 2
+    go (inl same) = rw (tells.whole same.0) (few-refused fault tells.text)
+    go (inr more) = let is = tells.cut (one-more more) in omega (arith, is)

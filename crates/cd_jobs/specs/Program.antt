@@ -1,6 +1,7 @@
 -- What the program does for a job: which files it asks for, by which names and in which order, and
 -- what it does with them.
 use Rattle.std.specs.Prelude.{◌≡◌, ◌≢◌, ℕ, ◌≤◌, ◌⊎◌, List, [], Option, None, Result, Ok, Err, codes, false, string_bytes, true}
+use Rattle.std.specs.Io.KnownBytes.{Consumes}
 use Rattle.cd_command.specs.CommandLine.{IsJobOf, IsTaken, base_in, max_base}
 use Rattle.cd_command.specs.Fault.{HasKindOf, done_status, failed_status, kinds_of, printed, printed_status}
 use Rattle.cd_command.specs.declared.fault.LineFault.{LineFault}
@@ -17,7 +18,7 @@ use Rattle.cd_script.specs.Script.{script}
 use Rattle.cd_script.specs.declared.fault.ScriptFault.{ScriptFault}
 use Rattle.cd_script.specs.declared.patch.Patch.{Patch}
 use Rattle.cd_stream.specs.Stream.{Incoming, Outgoing}
-use Rattle.cd_stream.specs.Transfer.{Flushes, Gives}
+use Rattle.cd_stream.specs.Transfer.{Flushes}
 use Rattle.cd_stream.specs.declared.sink.SinkFailed.{SinkFailed}
 use Rattle.cd_jobs.specs.Hosting.{Hosting}
 use Rattle.cd_jobs.specs.Messages.{load_fault_line, no_image, no_output, no_script, open_fault_line, script_fault_line}
@@ -39,13 +40,13 @@ Fails line before after status = SaysLine line before after × (status ≡ faile
 -- fault of the file, or of its text
 abbrev pub ReadsScript : Incoming → Incoming → Outgoing → Outgoing → Result (List Patch) ℕ → Type 0
 ReadsScript file file' log log' (Ok patches) =
-    (text : List ℕ) × Gives file file' text × ReadsWhole text file file'
+    (text : List ℕ) × Consumes file.rest file'.rest text × ReadsWhole text file file'
     × ((ps : List Patch) × (script text ≡ Ok ps) × (patches ≡ order ps)) × (log' ≡ log)
 ReadsScript file file' log log' (Err status) =
-    ((read : List ℕ) × Gives file file' read
+    ((read : List ℕ) × Consumes file.rest file'.rest read
     × ((fault : LoadFault) × Stops fault read file file'
     × Fails (load_fault_line fault) log log' status))
-    ⊎ ((text : List ℕ) × Gives file file' text × ReadsWhole text file file'
+    ⊎ ((text : List ℕ) × Consumes file.rest file'.rest text × ReadsWhole text file file'
     × ((fault : ScriptFault) × IsFaultOf text fault
     × Fails (script_fault_line fault) log log' status))
 

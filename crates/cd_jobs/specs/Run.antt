@@ -1,8 +1,7 @@
 -- What the program does with the answer of a call on an image: the fault's line, and the status.
-use Rattle.std.specs.Prelude.{◌≡◌, ◌≢◌, ℕ, ◌==◌, ◌+◌, ◌<◌, if◌then◌else◌, Bool, List, [], ◌++◌, length, Some, false, true, Result, Ok, Err, OnOk}
+use Rattle.std.specs.Prelude.{◌≡◌, ◌≢◌, ℕ, ◌==◌, ◌+◌, ◌<◌, ◌⊎◌, if◌then◌else◌, Bool, List, [], ◌++◌, length, Some, false, true, codes, Result, Ok, Err}
+use Rattle.std.specs.Io.KnownBytes.{Appends}
 use Rattle.cd_stream.specs.Stream.{Incoming, IsBeginning, Outgoing}
-use Rattle.cd_stream.specs.Transfer.{Counts, CountsFlush, Takes}
-use Rattle.cd_stream.specs.declared.sink.SinkFailed.{SinkFailed}
 use Rattle.cd_script.specs.declared.patch.Patch.{Patch}
 use Rattle.cd_command.specs.Fault.{done_status, failed_status}
 use Rattle.cd_jobs.specs.Messages.{fault_line}
@@ -14,17 +13,13 @@ use Rattle.cd_report.specs.declared.auditing.AuditTally.{AuditTally}
 use Rattle.cd_read.specs.declared.fault.Fault.{Fault}
 use Rattle.cd_image.specs.declared.patch_log.Tally.{Tally}
 
--- a line went out whole and was passed on by one flush; or a failure was counted, a beginning of it
--- went out, and no flush was made before all of it
+-- a line went out whole and was passed on, or a failure was counted and a beginning of it went out
 pub record SaysLine (line : List ℕ) (before after : Outgoing) : Type 0 where
   pub sent : List ℕ
-  pub takes : Takes before after sent
+  pub appends : Appends before.written after.written sent
   pub begins : IsBeginning sent line
-  pub answer : Result (Unit {0}) SinkFailed
-  pub whole : OnOk answer ((sent ≡ line) × (after.finished ≡ true))
-  pub count : Counts before.failures after.failures answer
-  pub flushes : CountsFlush before.flushes after.flushes answer
-  pub unflushed : length sent < length line → after.flushes ≡ before.flushes
+  pub outcome : ((after.failures ≡ before.failures) × (sent ≡ line) × (after.finished ≡ true))
+      ⊎ (after.failures ≡ before.failures + 1)
 
 -- the fault's line, or nothing if it is `own`: the fault that this very sink has failed
 abbrev pub SaysFault : Fault → Fault → Outgoing → Outgoing → Type 0

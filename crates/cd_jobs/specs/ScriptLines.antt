@@ -1,14 +1,13 @@
 -- What reading a script does: the line of each fault, and what came of the file.
-use Rattle.std.specs.Prelude.{◌≡◌, ◌≢◌, ℕ, ◌+◌, ◌≤◌, ◌⊎◌, List, length, false, true, Result, Ok, Err, OnErr}
-use Rattle.std.specs.Io.KnownBytes.{IsAtEnd}
+use Rattle.std.specs.Prelude.{◌≡◌, ◌≢◌, ℕ, ◌+◌, ◌≤◌, ◌⊎◌, List, ◌++◌, length, codes, decimal, false, true, Result, Ok, Err, OnErr}
+use Rattle.std.specs.Io.KnownBytes.{Consumes, IsAtEnd}
 use Rattle.cd_stream.specs.Stream.{Incoming, Outgoing}
-use Rattle.cd_stream.specs.Transfer.{Gives}
 use Rattle.cd_script.specs.declared.fault.ScriptFault.{ScriptFault}
 use Rattle.cd_script.specs.declared.fault.ScriptFault.TheVariants as script_fault
 use Rattle.cd_script.specs.Script.{script}
 use Rattle.cd_script.specs.Limits.{text_limit}
 use Rattle.cd_command.specs.Fault.{failed_status}
-use Rattle.cd_jobs.specs.Messages.{load_fault_line}
+use Rattle.cd_jobs.specs.Messages.{load_fault_line, script_fault_line}
 use Rattle.cd_jobs.specs.Run.{SaysLine}
 use Rattle.cd_jobs.specs.declared.script.LoadFault.{LoadFault}
 use Rattle.cd_jobs.specs.declared.script.LoadFault.TheVariants.{Read, TooLong, NoMemory}
@@ -51,7 +50,7 @@ GatherAnswers bytes_of read file file' (Err fault) = Stops fault read file file'
 pub record Gathers {T : Type 0} (bytes_of : T → List ℕ) (file file' : Incoming)
     (result : Result T LoadFault) : Type 0 where
   pub read : List ℕ
-  pub gives : Gives file file' read
+  pub consumes : Consumes file.rest file'.rest read
   pub answers : GatherAnswers bytes_of read file file' result
 
 -- all bytes of the file, or the line of its fault and the status of a failure
@@ -68,7 +67,7 @@ LoadAnswers bytes_of read file file' log log' (Err status) = (status ≡ failed_
 pub record Loads {T : Type 0} (bytes_of : T → List ℕ) (file file' : Incoming) (log log' : Outgoing)
     (result : Result T ℕ) : Type 0 where
   pub read : List ℕ
-  pub gives : Gives file file' read
+  pub consumes : Consumes file.rest file'.rest read
   pub answers : LoadAnswers bytes_of read file file' log log' result
 
 -- the fault's line was printed, and the status is 2

@@ -1,6 +1,6 @@
 //! The commands: a call on an image, then the line of its fault, and the status.
 
-ghost use Rattle.std.specs.Prelude.{◌≡◌, ◌≢◌, ◌⊎◌, ◌+◌, ◌<◌, ◌≤◌, true};
+ghost use Rattle.std.specs.Prelude.{◌≡◌, ◌≢◌, ◌⊎◌, ◌<◌, ◌≤◌, true};
 ghost use Rattle.cd_command.specs.Fault.{done_status, failed_status};
 ghost use Rattle.cd_image.specs.Applying.{Applies, Checks, HoldsFew, WritesCarried, WritesPatched, streams};
 ghost use Rattle.cd_report.specs.AuditText.{audit_report};
@@ -86,8 +86,6 @@ pub fn run_list<I: Source, O: Sink>(image: &mut I, base: u32, out: &mut O) -> u8
         (I.seen image.old) (I.seen image.new) (O.seen out.old) (O.seen out.new) result }
     ensures ends_well { result ≢ failed_status
         → EndsWell (I.seen image.old) (I.seen image.new) (O.seen out.old) (O.seen out.new) }
-    ensures flushed { result ≢ failed_status
-        → (O.seen out.new).flushes ≡ (O.seen out.old).flushes + 1 }
     ensures failed { result ≡ failed_status
         → ((I.seen image.new).failures ≢ (I.seen image.old).failures)
         ⊎ ((O.seen out.new).failures ≢ (O.seen out.old).failures)
@@ -131,8 +129,6 @@ pub fn run_audit<I: Source, O: Sink>(image: &mut I, base: u32, out: &mut O) -> u
         (I.seen image.old) (I.seen image.new) (O.seen out.old) (O.seen out.new) result }
     ensures ends_well { result ≢ failed_status
         → EndsWell (I.seen image.old) (I.seen image.new) (O.seen out.old) (O.seen out.new) }
-    ensures flushed { result ≢ failed_status
-        → (O.seen out.new).flushes ≡ (O.seen out.old).flushes + 1 }
     ensures failed { result ≡ failed_status
         → ((I.seen image.new).failures ≢ (I.seen image.old).failures)
         ⊎ ((O.seen out.new).failures ≢ (O.seen out.old).failures)
@@ -183,8 +179,6 @@ pub fn run_check<I: Source, L: Sink>(
         (L.seen log.old) (L.seen log.new) result }
     ensures ends_well { result ≢ failed_status
         → EndsWell (I.seen image.old) (I.seen image.new) (L.seen log.old) (L.seen log.new) }
-    ensures flushed { result ≢ failed_status
-        → (L.seen log.new).flushes ≡ (L.seen log.old).flushes + 1 }
     ensures failed { result ≡ failed_status
         → ((I.seen image.new).failures ≢ (I.seen image.old).failures)
         ⊎ ((L.seen log.new).failures ≢ (L.seen log.old).failures)
@@ -236,10 +230,6 @@ pub fn run_apply<I: Source, O: Sink, L: Sink>(
         → EndsWell (I.seen image.old) (I.seen image.new) (O.seen out.old) (O.seen out.new) }
     ensures log_ends_well { result ≢ failed_status
         → EndsWell (I.seen image.old) (I.seen image.new) (L.seen log.old) (L.seen log.new) }
-    ensures output_flushed { result ≢ failed_status
-        → (O.seen out.new).flushes ≡ (O.seen out.old).flushes + 1 }
-    ensures log_flushed { result ≢ failed_status
-        → (L.seen log.new).flushes ≡ (L.seen log.old).flushes + 1 }
     ensures failed { result ≡ failed_status
         → ((I.seen image.new).failures ≢ (I.seen image.old).failures)
         ⊎ ((O.seen out.new).failures ≢ (O.seen out.old).failures)

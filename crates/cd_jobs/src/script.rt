@@ -11,7 +11,6 @@ ghost use Rattle.cd_jobs.specs.Messages.{script_fault_line};
 ghost use Rattle.cd_jobs.specs.Run.{SaysLine};
 ghost use Rattle.cd_jobs.specs.ScriptLines.{Gathers, IsFaultOf, Loads, TellsFailedReads};
 ghost use Rattle.cd_stream.specs.Stream.{MayCount};
-ghost use Rattle.cd_stream.specs.Transfer.{Gives};
 
 use crate::messages::{load_fault_line, script_fault_line};
 use crate::run::fail;
@@ -133,8 +132,6 @@ pub fn load_script<I: Source, L: Sink>(
         (L.seen log.old) (L.seen log.new) result }
     ensures whole { IfOk result
         (λ bytes. IfSome (I.seen file.old).rest (λ all. bytes.items ≡ all)) }
-    ensures given { IfOk result
-        (λ bytes. Gives (I.seen file.old) (I.seen file.new) bytes.items) }
     ensures within { IfOk result (λ bytes. length bytes.items ≤ text_limit) }
     ensures nothing_said { OnOk result (L.seen log.new ≡ L.seen log.old) }
     ensures failed_reads { TellsFailedReads (I.seen file.old) (I.seen file.new) (L.seen log.old)

@@ -1,8 +1,6 @@
 -- From the sink of the standard output to the text that is left.
-use Rattle.std.proofs.Common.{◌≡◌, ℕ, ◌+◌, true, false, nat_eq, List, Some, Result, Ok, Err, OnOk, ap, ◌∙◌}
+use Rattle.std.proofs.Common.{◌≡◌, ℕ, ◌+◌, ◌⊎◌, true, false, nat_eq, List, Option, Some, inl, inr, ap, ◌∙◌}
 use Rattle.cd_stream.specs.Stream.{Outgoing}
-use Rattle.cd_stream.specs.Transfer.{Counts}
-use Rattle.cd_stream.specs.declared.sink.SinkFailed.{SinkFailed}
 use Rattle.cd_jobs.specs.Run.{SaysLine}
 use Rattle.cd_memory.specs.Whole.{Left, Prints}
 use Rattle.cd_memory.proofs.KnownLemmas.{Appends-known, cut-by-failure}
@@ -18,15 +16,15 @@ pub Prints-line : (line front : List ℕ) (before after : Outgoing) (left : Left
     → SaysLine line before after → Prints left front line
 Prints-line line front before after left had none leaves says = record {
   said = says.sent;
-  text = Appends-known before.written after.written front left.text says.sent had leaves.text says.takes.appends;
+  text = Appends-known before.written after.written front left.text says.sent had leaves.text says.appends;
   begins = says.begins;
-  whole = go says.answer says.whole says.count;
+  whole = go says.outcome;
 }
   where
-    go : (answer : Result (Unit {0}) SinkFailed) → OnOk answer ((says.sent ≡ line) × (after.finished ≡ true))
-        → Counts before.failures after.failures answer → left.complete ≡ true → says.sent ≡ line
-    go (Ok x) went same is = went.0
-    go (Err e) went more is =
+    go : (((after.failures ≡ before.failures) × (says.sent ≡ line) × (after.finished ≡ true))
+        ⊎ (after.failures ≡ before.failures + 1)) → left.complete ≡ true → says.sent ≡ line
+    go (inl same) is = same.1
+    go (inr more) is =
         let cut : left.complete ≡ false =
         cut-by-failure left.complete after.failures leaves.complete (more ∙ ap (λ n. n + 1) none) in
         cc

@@ -1,6 +1,6 @@
 -- `list` and `audit` on an image that is there.
-use Rattle.std.proofs.Common.{◌≡◌, ℕ, ◌+◌, ◌≤◌, List, [], ◌++◌, length, take, Some, Result, Ok, Err, refl, sym, ap, ◌∙◌, subst, arith, length-append}
-use Rattle.std.specs.Io.KnownBytes.{Appends, IsAtEnd}
+use Rattle.std.proofs.Common.{◌≡◌, ℕ, ◌+◌, ◌<◌, ◌≤◌, List, [], ◌++◌, length, take, Option, None, Some, Result, Ok, Err, refl, sym, ap, ◌∙◌, subst, arith, length-append}
+use Rattle.std.specs.Io.KnownBytes.{Appends, Consumes, IsAtEnd}
 use Rattle.cd_read.specs.Ends.{Fits, FitsLeft}
 use Rattle.cd_read.specs.Image.{image_limit}
 use Rattle.cd_read.specs.declared.fault.Fault.{Fault}
@@ -34,18 +34,18 @@ module _ {T : Type 0} (spec : ReportSpec T) (status_of : T → ℕ) (before : Gi
   reports (Ok tally) r ends =
       let c = r.answers in
       let none : rest ≡ [] = subst IsAtEnd left c.at_end in
-      let read = Consumes-known image.rest image'.rest bytes rest r.read known left r.gives.consumes in
+      let read = Consumes-known image.rest image'.rest bytes rest r.read known left r.consumes in
       let whole : bytes ≡ r.read = read-whole bytes r.read rest read none in
       ReportsOn.reported bytes there
       (subst (λ b. length b ≤ image_limit) (sym whole) c.within)
-      (text-of r.sent r.takes.appends ends.0 ∙ c.whole_sent ∙ ap spec.text (sym whole))
+      (text-of r.sent r.appends ends.0 ∙ c.whole_sent ∙ ap spec.text (sym whole))
       (ends.1 ∙ ap status_of c.tally_right ∙ ap (λ b. status_of (spec.tally b)) (sym whole))
       none_made
   reports (Err Read) r ends = absurd (omega (arith, r.answers.reads, reads))
   reports (Err Log) r ends = absurd r.answers
   reports (Err Write) r ends =
       let c = r.answers in
-      let read = Consumes-known image.rest image'.rest bytes rest r.read known left r.gives.consumes in
+      let read = Consumes-known image.rest image'.rest bytes rest r.read known left r.consumes in
       let same : log ≡ out' = ends.0.0 refl in
       let none : out.failures ≡ 0 = ap (λ o. o.failures) fresh in
       ReportsOn.stopped bytes r.sent there
@@ -56,17 +56,17 @@ module _ {T : Type 0} (spec : ReportSpec T) (status_of : T → ℕ) (before : Gi
       (Stops.no_text
       (cut-by-failure after.complete log.failures leaves.complete
       (ap (λ o. o.failures) same ∙ c.writes ∙ ap (λ n. n + 1) none))
-      (text-of r.sent r.takes.appends same))
+      (text-of r.sent r.appends same))
       ends.1 none_made
   reports (Err TooLong) r ends =
       let c = r.answers in
-      let read = Consumes-known image.rest image'.rest bytes rest r.read known left r.gives.consumes in
+      let read = Consumes-known image.rest image'.rest bytes rest r.read known left r.consumes in
       let size : length bytes ≡ length (r.read ++ rest) = ap length read in
       ReportsOn.stopped bytes r.sent there
       (c.beginning (take image_limit bytes)
       (subst (λ b. Fits r.read (take image_limit b)) (sym read)
       (Fits-beyond r.read rest (omega (arith, c.beyond)))))
       (Stops.too_long (omega (arith, size, c.beyond, length-append r.read rest))
-      (Prints-line (fault_line TooLong) r.sent out' log after (got r.sent r.takes.appends)
+      (Prints-line (fault_line TooLong) r.sent out' log after (got r.sent r.appends)
       (c.writes ∙ ap (λ o. o.failures) fresh) leaves (ends.0.1 (λ is. cc))))
       ends.1 none_made

@@ -1,6 +1,7 @@
 -- The script of a file in memory: its patches, or why there are none.
-use Rattle.std.proofs.Common.{◌≡◌, ◌≢◌, ℕ, ◌+◌, ◌≤◌, ◌⊎◌, List, ◌++◌, length, Option, None, Some, Result, Ok, Err, inl, inr, refl, sym, ap, ◌∙◌, subst, arith, length-append}
-use Rattle.std.specs.Io.KnownBytes.{IsAtEnd}
+use Rattle.std.proofs.Common.{◌≡◌, ◌≢◌, ℕ, ◌+◌, ◌<◌, ◌≤◌, ◌⊎◌, List, ◌++◌, length, Option, None, Some, Result, Ok, Err, inl, inr, refl, sym, ap, ◌∙◌, subst, arith, length-append}
+use Rattle.std.specs.Io.KnownBytes.{Consumes, IsAtEnd}
+use Rattle.cd_command.specs.Fault.{failed_status}
 use Rattle.cd_script.specs.Limits.{text_limit}
 use Rattle.cd_script.specs.Script.{script}
 use Rattle.cd_script.specs.declared.fault.ScriptFault.{ScriptFault}
@@ -8,7 +9,6 @@ use Rattle.cd_script.specs.declared.fault.ScriptFault.TheVariants as script_faul
 use Rattle.cd_script.specs.declared.patch.Patch.{Patch}
 use Rattle.cd_stream.specs.Forms.{slice_incoming}
 use Rattle.cd_stream.specs.Stream.{Outgoing}
-use Rattle.cd_stream.specs.Transfer.{Gives}
 use Rattle.cd_stream.specs.declared.forms.slice_source.SliceSource.{SliceSource}
 use Rattle.cd_jobs.specs.Messages.{load_fault_line, no_script, open_fault_line, script_fault_line}
 use Rattle.cd_jobs.specs.Program.{ComesOfFile, Fails, ReadsScript}
@@ -30,12 +30,12 @@ memory-or-other _ = inr (λ is. cc)
 -- a text that was read to its end is the file's
 text-whole : (bytes text : List ℕ) (file left : SliceSource)
     → slice_incoming file ≡ fresh_incoming bytes
-    → Gives (slice_incoming file) (slice_incoming left) text
+    → Consumes (slice_incoming file).rest (slice_incoming left).rest text
     → IsAtEnd (slice_incoming left).rest → bytes ≡ text
 text-whole bytes text file left opens came at_end =
     read-whole bytes text left.rest.now
     (Consumes-known (slice_incoming file).rest (slice_incoming left).rest bytes left.rest.now text
-    (ap (λ i. i.rest) opens) refl came.consumes)
+    (ap (λ i. i.rest) opens) refl came)
     at_end
 
 -- there are no patches: the line that was said, and why
@@ -47,7 +47,7 @@ module _ (before : Given) (name : List ℕ) {log log' : Outgoing} where
   -- reading the file was stopped
   lacks-stopped : {status : ℕ} (bytes read : List ℕ) (file left : SliceSource) (fault : LoadFault)
       → bytes_at before.files name ≡ Some bytes → slice_incoming file ≡ fresh_incoming bytes
-      → Gives (slice_incoming file) (slice_incoming left) read
+      → Consumes (slice_incoming file).rest (slice_incoming left).rest read
       → Stops fault read (slice_incoming file) (slice_incoming left)
       → Fails (load_fault_line fault) log log' status → Lacks before name log log' status
   unfolding load_fault_line
@@ -55,7 +55,7 @@ module _ (before : Given) (name : List ℕ) {log log' : Outgoing} where
   lacks-stopped bytes read file left TooLong is opens came stops fails =
       let all : bytes ≡ read ++ left.rest.now =
       Consumes-known (slice_incoming file).rest (slice_incoming left).rest bytes left.rest.now read
-      (ap (λ i. i.rest) opens) refl came.consumes in
+      (ap (λ i. i.rest) opens) refl came in
       let long : length bytes ≡ length (read ++ left.rest.now) = ap length all in (
         load_fault_line TooLong,
         NoPatches.too_long bytes is (omega (arith, long, length-append read left.rest.now, stops.2)) refl,

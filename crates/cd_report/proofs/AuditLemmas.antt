@@ -1,13 +1,13 @@
 -- An audit sector by sector, and that it tells what it should of the whole image.
 use Rattle.std.proofs.Common.{◌≡◌, ℕ, ◌+◌, ◌<◌, ◌==◌, Bool, true, false, not, ◌&&◌, ◌||◌, cond, count_by, List, [], ◌∷◌, ◌++◌, length, take, Option, None, Some, Result, refl, sym, ap, ◌∙◌, subst, arith, add-zero, zero-add, add_assoc, append-nil}
 use Rattle.std.specs.List.{list_all}
+use Rattle.std.specs.Io.KnownBytes.{Appends}
 use Rattle.std.proofs.lemmas.Bool.Decides.{nat_tests}
 use Rattle.cd_sector.specs.Consistent.{is_mode1}
 use Rattle.cd_sector.specs.Defect.{defect_of, is_broken, is_nonzero, is_sound}
 use Rattle.cd_sector.specs.Kind.{kind_of}
 use Rattle.cd_sector.proofs.DefectLemmas.{some_nonzero}
 use Rattle.cd_stream.specs.Stream.{Outgoing}
-use Rattle.cd_stream.specs.Transfer.{Takes}
 use Rattle.cd_stream.specs.declared.sink.SinkFailed.{SinkFailed}
 use Rattle.cd_report.specs.AuditText.{audit_end, audit_lines, audit_report, finding_count, finding_line, found_of, findings_of, is_any, is_damage, is_damaged, line_of, report_of}
 use Rattle.cd_read.specs.Image.{sectors, tail}
@@ -113,12 +113,12 @@ module _ (base : ℕ) (tally : AuditTally) (sector : List ℕ) (out out' : Outgo
   abbrev block : ℕ
   block = base + tally.sectors
 
-  line_taken : (next : AuditTally) → next ≡ tally_with tally (findings_of block sector) → Takes out out' (text_of (line_of block (findings_of block sector)))
+  line_taken : (next : AuditTally) → next ≡ tally_with tally (findings_of block sector) → Appends out.written out'.written (text_of (line_of block (findings_of block sector)))
       → HasVisited (audit_remaining base tally) (audit_remaining base next) sector out out'
   line_taken next is went =
       subst (λ t. HasVisited (audit_remaining base tally) (audit_remaining base t) sector out out') (sym is) (record {
         sent = line_of block (findings_of block sector);
-        takes = went;
+        appends = went;
         lines = λ others. ap (λ b. line_of block (findings_of block sector) ++ audit_lines b others) further;
         end = λ others left. ap audit_end (all others left);
         tally = all;
@@ -132,7 +132,7 @@ module _ (base : ℕ) (tally : AuditTally) (sector : List ℕ) (out out' : Outgo
           ≡ tally_with_all (tally_with tally (findings_of block sector)) (base + (tally_with tally (findings_of block sector)).sectors) others left
       all others left = tally_with_all-step tally block sector others left ∙ ap (λ b. tally_with_all (tally_with tally (findings_of block sector)) b others left) further
 
-  line_failed : (n : ℕ) × (n < length (text_of (line_of block (findings_of block sector)))) × Takes out out' (take n (text_of (line_of block (findings_of block sector))))
+  line_failed : (n : ℕ) × (n < length (text_of (line_of block (findings_of block sector)))) × Appends out.written out'.written (take n (text_of (line_of block (findings_of block sector))))
       → HasFailed (audit_remaining base tally) sector out out'
   line_failed went =
       let one = one_line block (findings_of block sector) (omega (arith, went.1)) in
@@ -140,7 +140,7 @@ module _ (base : ℕ) (tally : AuditTally) (sector : List ℕ) (out out' : Outgo
         line = one.0;
         count = went.0;
         behind = λ others. audit_lines (block + 1) others;
-        takes = subst (λ t. Takes out out' (take went.0 t)) (ap text_of one.1 ∙ append-nil one.0) went.2;
+        appends = subst (λ t. Appends out.written out'.written (take went.0 t)) (ap text_of one.1 ∙ append-nil one.0) went.2;
         lines = λ others. ap (λ ls. ls ++ audit_lines (block + 1) others) one.1;
         last = refl;
       }
@@ -153,15 +153,15 @@ module _ (base : ℕ) (tally : AuditTally) (sector : List ℕ) (out out' : Outgo
   line_there : line_of (base + count) found ≡ line_of (base + tally.sectors) (findings_of (base + tally.sectors) sector)
   line_there = ap (λ n. line_of (base + n) found) (sym is.sectors) ∙ ap (line_of (base + tally.sectors)) found_there
 
-  pub Audit-visited : (next : AuditTally) → next ≡ tally_with tally found → Takes out out' (text_of (line_of (base + count) found))
+  pub Audit-visited : (next : AuditTally) → next ≡ tally_with tally found → Appends out.written out'.written (text_of (line_of (base + count) found))
       → HasVisited (audit_remaining base tally) (audit_remaining base next) sector out out'
   Audit-visited next next_is went =
-      line_taken base tally sector out out' next (next_is ∙ ap (tally_with tally) found_there) (subst (λ ls. Takes out out' (text_of ls)) line_there went)
+      line_taken base tally sector out out' next (next_is ∙ ap (tally_with tally) found_there) (subst (λ ls. Appends out.written out'.written (text_of ls)) line_there went)
 
-  pub Audit-failed : (n : ℕ) × (n < length (text_of (line_of (base + count) found))) × Takes out out' (take n (text_of (line_of (base + count) found)))
+  pub Audit-failed : (n : ℕ) × (n < length (text_of (line_of (base + count) found))) × Appends out.written out'.written (take n (text_of (line_of (base + count) found)))
       → HasFailed (audit_remaining base tally) sector out out'
   Audit-failed went =
-      line_failed base tally sector out out' (subst (λ ls. (n : ℕ) × (n < length (text_of ls)) × Takes out out' (take n (text_of ls))) line_there went)
+      line_failed base tally sector out out' (subst (λ ls. (n : ℕ) × (n < length (text_of ls)) × Appends out.written out'.written (take n (text_of ls))) line_there went)
 
 -- what goes out at the end, with no sector to follow
 pub Audit-closes : (tally : AuditTally) (first left : ℕ) (out out' : Outgoing) (result : Result AuditTally SinkFailed) → Finishes (audit_end (record tally { tail = left })) out out' result

@@ -20,7 +20,7 @@ module _ (base : ℕ) (run : Option OpenRun) (count : ℕ) (sector : List ℕ) (
   List-taken : (next : OpenRun) → HasExtended run next (base + count) (kind_of sector) out out' → HasVisited (list_remaining base run count) (list_remaining base (Some next) (count + 1)) sector out out'
   List-taken next taken = record {
     sent = taken.sent;
-    takes = taken.takes;
+    appends = taken.appends;
     lines = λ others. taken.lines (map kind_of others);
     end = λ others left.
         ap (λ l. l ++ list_end (tally_of (count + suc (length others)) left)) (taken.end (map kind_of others))
@@ -37,7 +37,7 @@ module _ (base : ℕ) (run : Option OpenRun) (count : ℕ) (sector : List ℕ) (
     line = failed.line;
     count = failed.count;
     behind = λ others. ended_lines (base + count) (kind_of sector ∷ map kind_of others);
-    takes = failed.takes;
+    appends = failed.appends;
     lines = λ others. failed.lines (map kind_of others);
     last = refl;
   }

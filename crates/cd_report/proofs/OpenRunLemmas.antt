@@ -1,9 +1,9 @@
 -- What an open run and the kinds behind it make of the text.
 use Rattle.std.proofs.Common.{◌≡◌, ℕ, zero, suc, ◌+◌, ◌-◌, ◌<◌, ◌≤◌, List, [], ◌∷◌, ◌++◌, length, replicate, take, Option, Some, refl, sym, ap, ◌∙◌, subst, arith, append-nil}
+use Rattle.std.specs.Io.KnownBytes.{Appends}
+use Rattle.std.proofs.KnownBytes.{Appends-nil}
 use Rattle.cd_sector.specs.declared.kinds.SectorKind.{SectorKind}
 use Rattle.cd_stream.specs.Stream.{Outgoing}
-use Rattle.cd_stream.specs.Transfer.{Takes}
-use Rattle.cd_stream.proofs.TransferLemmas.{Takes-nil}
 use Rattle.cd_report.specs.Lines.{all_but_last}
 use Rattle.cd_report.specs.ListText.{run_line, run_lines}
 use Rattle.cd_report.specs.OpenRun.{EndsBefore, open_first, open_kinds}
@@ -57,7 +57,7 @@ module _ (run : OpenRun) (block : ℕ) (kind : SectorKind) (ends : EndsBefore (S
   same_kind_taken : (out : Outgoing) → run.kind ≡ kind → HasExtended (Some run) (record run { last = block }) block kind out out
   same_kind_taken out same = record {
     sent = [];
-    takes = Takes-nil out;
+    appends = Appends-nil out.written;
     ends = (omega arith, refl);
     lines = λ others. ap (ended_lines run.first) (longer others);
     end = λ others. ap (λ ks. last_line run.first (runs ks)) (longer others);
@@ -85,17 +85,17 @@ module _ (run : OpenRun) (block : ℕ) (kind : SectorKind) (ends : EndsBefore (S
         ap (last_line run.first) (runs-open run (kind ∷ others) ends.0 other) ∙ last-more run.first (run_of run) (runs (kind ∷ others)) _ _ begins.2
         ∙ ap (λ b. last_line b (runs (kind ∷ others))) next_is
 
-  other_kind_taken : (old new : Outgoing) → (run.kind ≡ kind → ⊥) → Takes old new (line_of run) → HasExtended (Some run) (record { first = block; last = block; kind = kind }) block kind old new
+  other_kind_taken : (old new : Outgoing) → (run.kind ≡ kind → ⊥) → Appends old.written new.written (line_of run) → HasExtended (Some run) (record { first = block; last = block; kind = kind }) block kind old new
   other_kind_taken old new other went = record {
     sent = line_of run ∷ [];
-    takes = subst (Takes old new) (sym (append-nil (line_of run))) went;
+    appends = subst (Appends old.written new.written) (sym (append-nil (line_of run))) went;
     ends = (omega arith, refl);
     lines = λ others. ended-other other others ∙ ap (λ ks. line_of run ∷ ended_lines block ks) (kinds-new block kind others);
     end = λ others. last-other other others ∙ ap (λ ks. last_line block (runs ks)) (kinds-new block kind others);
   }
 
-  other_kind_failed : (old new : Outgoing) → (run.kind ≡ kind → ⊥) → (n : ℕ) × (n < length (line_of run)) × Takes old new (take n (line_of run)) → FailsToExtend (Some run) block kind old new
-  other_kind_failed old new other went = record { line = line_of run; count = went.0; takes = went.2; lines = λ others. ended-other other others }
+  other_kind_failed : (old new : Outgoing) → (run.kind ≡ kind → ⊥) → (n : ℕ) × (n < length (line_of run)) × Appends old.written new.written (take n (line_of run)) → FailsToExtend (Some run) block kind old new
+  other_kind_failed old new other went = record { line = line_of run; count = went.0; appends = went.2; lines = λ others. ended-other other others }
 
 -- the same of a run that is given
 module _ (given : Option OpenRun) (run : OpenRun) (is : given ≡ Some run) where
@@ -110,8 +110,8 @@ module _ (given : Option OpenRun) (run : OpenRun) (is : given ≡ Some run) wher
     ExtendsRun-same out same = subst (λ r. HasExtended r (record run { last = block }) block kind out out) (sym is) (same_kind_taken run block kind ends out same)
 
     module _ (old new : Outgoing) (other : run.kind ≡ kind → ⊥) where
-      pub ExtendsRun-other : Takes old new (line_of run) → HasExtended given (record { first = block; last = block; kind = kind }) block kind old new
+      pub ExtendsRun-other : Appends old.written new.written (line_of run) → HasExtended given (record { first = block; last = block; kind = kind }) block kind old new
       ExtendsRun-other went = subst (λ r. HasExtended r (record { first = block; last = block; kind = kind }) block kind old new) (sym is) (other_kind_taken run block kind ends old new other went)
 
-      pub ExtendsRun-failed : (n : ℕ) × (n < length (line_of run)) × Takes old new (take n (line_of run)) → FailsToExtend given block kind old new
+      pub ExtendsRun-failed : (n : ℕ) × (n < length (line_of run)) × Appends old.written new.written (take n (line_of run)) → FailsToExtend given block kind old new
       ExtendsRun-failed went = subst (λ r. FailsToExtend r block kind old new) (sym is) (other_kind_failed run block kind ends old new other went)

@@ -14,9 +14,9 @@ use Rattle.cd_read.specs.declared.fault.Fault.TheVariants.{Log, Read, TooLong, W
 module _ {T : Type 0} {spec : ReportSpec T} {image image' : Incoming} {out out' : Outgoing} where
   pub Reports-text : (result : Result T Fault) → Reports spec image image' out out' result → IfOk result (WritesText spec image image' out out')
   Reports-text (Ok told) report = λ bytes earlier gives holds.
-      let all = consumed_all image.rest image'.rest report.read bytes report.gives.consumes report.answers.at_end gives in (
+      let all = consumed_all image.rest image'.rest report.read bytes report.consumes report.answers.at_end gives in (
         all.0,
-        appended out.written out'.written report.sent earlier report.takes.appends holds ∙ ap (λ l. Some (earlier ++ l)) (report.answers.whole_sent ∙ ap spec.text all.1),
+        appended out.written out'.written report.sent earlier report.appends holds ∙ ap (λ l. Some (earlier ++ l)) (report.answers.whole_sent ∙ ap spec.text all.1),
         report.answers.tally_right ∙ ap spec.tally all.1,
       )
   Reports-text (Err fault) report = tt
@@ -40,18 +40,18 @@ module _ {T : Type 0} {spec : ReportSpec T} {image image' : Incoming} {out out' 
   Reports-write_failed (Err TooLong) report = (λ e. cc, λ h. absurd (omega (arith, report.answers.writes)))
 
   pub Reports-too_long_told : (result : Result T Fault) → Reports spec image image' out out' result → TellsTooLong image image' result
-  Reports-too_long_told (Ok told) report = not_beyond image image' (Ok told) report.read report.gives.consumes report.answers.within (λ e. cc)
-  Reports-too_long_told (Err Read) report = not_beyond image image' (Err Read) report.read report.gives.consumes report.answers.within (λ e. cc)
-  Reports-too_long_told (Err Write) report = not_beyond image image' (Err Write) report.read report.gives.consumes report.answers.within (λ e. cc)
+  Reports-too_long_told (Ok told) report = not_beyond image image' (Ok told) report.read report.consumes report.answers.within (λ e. cc)
+  Reports-too_long_told (Err Read) report = not_beyond image image' (Err Read) report.read report.consumes report.answers.within (λ e. cc)
+  Reports-too_long_told (Err Write) report = not_beyond image image' (Err Write) report.read report.consumes report.answers.within (λ e. cc)
   Reports-too_long_told (Err Log) report = absurd report.answers
-  Reports-too_long_told (Err TooLong) report = told_beyond image image' report.read report.gives.consumes (omega (arith, report.answers.beyond))
+  Reports-too_long_told (Err TooLong) report = told_beyond image image' report.read report.consumes (omega (arith, report.answers.beyond))
 
   pub Reports-by_length : (result : Result T Fault) → Reports spec image image' out out' result → image'.failures ≡ image.failures → out'.failures ≡ out.failures → AnswersByLength image result
-  Reports-by_length (Ok told) report no_read no_write = ended_by_length image image' told report.read report.gives.consumes report.answers.at_end report.answers.within
+  Reports-by_length (Ok told) report no_read no_write = ended_by_length image image' told report.read report.consumes report.answers.at_end report.answers.within
   Reports-by_length (Err Read) report no_read no_write = absurd (omega (arith, report.answers.reads, no_read))
   Reports-by_length (Err Write) report no_read no_write = absurd (omega (arith, report.answers.writes, no_write))
   Reports-by_length (Err Log) report no_read no_write = absurd report.answers
-  Reports-by_length (Err TooLong) report no_read no_write = beyond_by_length image image' report.read report.gives.consumes (omega (arith, report.answers.beyond))
+  Reports-by_length (Err TooLong) report no_read no_write = beyond_by_length image image' report.read report.consumes (omega (arith, report.answers.beyond))
 
   pub Reports-ended : (result : Result T Fault) → Reports spec image image' out out' result → OnOk result (image'.ended ≡ true)
   Reports-ended (Ok told) report = report.answers.ended

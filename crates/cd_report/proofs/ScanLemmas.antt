@@ -1,7 +1,7 @@
 -- One pass over an image that tells of it: how far it has come, and how it ends.
 use Rattle.std.proofs.Common.{◌≡◌, ℕ, ◌+◌, ◌*◌, ◌<◌, ◌≤◌, false, true, List, [], ◌∷◌, ◌++◌, length, take, Result, Ok, Err, refl, sym, ap, ◌∙◌, subst, arith, length-append, append_assoc, append-nil, take_at}
-use Rattle.std.specs.Io.KnownBytes.{IsAtEnd}
-use Rattle.std.proofs.KnownBytes.{Consumes-nil}
+use Rattle.std.specs.Io.KnownBytes.{Appends, Consumes, IsAtEnd}
+use Rattle.std.proofs.KnownBytes.{Appends-nil, Appends-trans, Consumes-nil, Consumes-trans}
 use Rattle.std.proofs.lemmas.Grind.{flat_map-append}
 use Rattle.cd_read.specs.Image.{image_limit, sectors, tail}
 use Rattle.cd_report.specs.Lines.{all_but_last, text_of}
@@ -11,8 +11,7 @@ use Rattle.cd_report.specs.Scanning.{Finishes, HasFailed, HasVisited, Remaining,
 use Rattle.cd_read.specs.declared.fault.Fault.{Fault}
 use Rattle.cd_read.specs.declared.fault.Fault.TheVariants.{Log, Read, TooLong, Write}
 use Rattle.cd_stream.specs.Stream.{Incoming, IsBeginning, Outgoing}
-use Rattle.cd_stream.specs.Transfer.{CountsFlush, Gives, Takes}
-use Rattle.cd_stream.proofs.TransferLemmas.{Gives-trans, Takes-nil, Takes-trans}
+use Rattle.cd_stream.specs.Transfer.{Gives}
 use Rattle.cd_stream.specs.declared.sink.SinkFailed.{SinkFailed}
 use Rattle.cd_read.proofs.ImageLemmas.{length-tail, sectors-sector, sectors-short}
 use Rattle.cd_read.proofs.EndLemmas.{Fits-begins, FitsLeft-begins, FitsLeft-end}
@@ -35,18 +34,14 @@ all_but_last-begins (x ∷ y ∷ ys) = IsBeginning-behind x (text_of (all_but_la
 
 -- ---- the pass
 
--- no flush is one at most
-at_most_one : {old new : ℕ} → new ≡ old → (old ≤ new) × (new ≤ old + 1)
-at_most_one same = (omega (arith, same), omega (arith, same))
-
 -- behind `count` sectors: whatever sectors may still come, what is told of all is what has gone out and what is still to tell
 pub record Told {T : Type 0} (first now : Remaining T) (image image' : Incoming) (out out' : Outgoing) (count : ℕ) : Type 0 where
   pub read : List ℕ
   pub sent : List (List ℕ)
   pub done : List (List ℕ)
-  pub gives : Gives image image' read
-  pub takes : Takes out out' (text_of sent)
-  pub unflushed : out'.flushes ≡ out.flushes
+  pub consumes : Consumes image.rest image'.rest read
+  pub given : image'.given ≡ image.given + length read
+  pub appends : Appends out.written out'.written (text_of sent)
   pub reads : image'.failures ≡ image.failures
   pub writes : out'.failures ≡ out.failures
   pub counted : length done ≡ count
@@ -62,9 +57,9 @@ Told-start first image out none = record {
   read = [];
   sent = [];
   done = [];
-  gives = record { consumes = Consumes-nil image.rest; counted = omega arith };
-  takes = Takes-nil out;
-  unflushed = refl;
+  consumes = Consumes-nil image.rest;
+  given = omega arith;
+  appends = Appends-nil out.written;
   reads = refl;
   writes = refl;
   counted = refl;
@@ -93,8 +88,11 @@ module _ {T : Type 0} (first now : Remaining T) (image before after : Incoming) 
   sent_begins more = (_, known more)
 
   module _ (came : List ℕ) (gives : Gives before after came) where
-    gives_all : Gives image after (told.read ++ came)
-    gives_all = Gives-trans image before after told.read came told.gives gives
+    consumes : Consumes image.rest after.rest (told.read ++ came)
+    consumes = Consumes-trans image.rest before.rest after.rest told.read came told.consumes gives.consumes
+
+    given : after.given ≡ image.given + length (told.read ++ came)
+    given = omega (arith, told.given, gives.counted, length-append told.read came)
 
     length_read : length (told.read ++ came) ≡ 2352 * count + length came
     length_read = length-append told.read came ∙ ap (λ n. n + length came) told.size
@@ -115,13 +113,12 @@ module _ {T : Type 0} (first now : Remaining T) (image before after : Incoming) 
       Told-read few failed unended = record {
         read = told.read ++ came;
         sent = text_of told.sent;
-        gives = gives_all;
-        takes = told.takes;
-        flushes = at_most_one told.unflushed;
+        consumes = consumes;
+        given = given;
+        appends = told.appends;
         answers = record {
           reads = failed ∙ ap (λ n. n + 1) told.reads;
           writes = told.writes;
-          unflushed = told.unflushed;
           unended = unended;
           within = omega (arith, length_read);
           due_sent = ap text_of (sym due_is);
@@ -133,13 +130,12 @@ module _ {T : Type 0} (first now : Remaining T) (image before after : Incoming) 
       Told-too_long full one kept unended = record {
         read = told.read ++ came;
         sent = text_of told.sent;
-        gives = gives_all;
-        takes = told.takes;
-        flushes = at_most_one told.unflushed;
+        consumes = consumes;
+        given = given;
+        appends = told.appends;
         answers = record {
           reads = kept ∙ told.reads;
           writes = told.writes;
-          unflushed = told.unflushed;
           unended = unended;
           beyond = omega (arith, length_read);
           due_sent = ap text_of (sym due_is);
@@ -151,14 +147,14 @@ module _ {T : Type 0} (first now : Remaining T) (image before after : Incoming) 
 
     module _ (sunk' : Outgoing) (kept : after.failures ≡ before.failures) where
       module _ (size : length came ≡ 2352) where
-        pub Told-next : (next : Remaining T) → HasVisited now next came sunk sunk' → sunk'.flushes ≡ sunk.flushes → sunk'.failures ≡ sunk.failures → Told first next image after out sunk' (count + 1)
-        Told-next next taken unflushed wrote = record {
+        pub Told-next : (next : Remaining T) → HasVisited now next came sunk sunk' → sunk'.failures ≡ sunk.failures → Told first next image after out sunk' (count + 1)
+        Told-next next taken wrote = record {
           read = told.read ++ came;
           sent = told.sent ++ taken.sent;
           done = told.done ++ came ∷ [];
-          gives = gives_all;
-          takes = subst (λ t. Takes out sunk' t) (sym (text_of-append told.sent taken.sent)) (Takes-trans out sunk sunk' (text_of told.sent) (text_of taken.sent) told.takes taken.takes);
-          unflushed = unflushed ∙ told.unflushed;
+          consumes = consumes;
+          given = given;
+          appends = subst (λ t. Appends out.written sunk'.written t) (sym (text_of-append told.sent taken.sent)) (Appends-trans out.written sunk.written sunk'.written (text_of told.sent) (text_of taken.sent) told.appends taken.appends);
           reads = kept ∙ told.reads;
           writes = wrote ∙ told.writes;
           counted = length-append told.done (came ∷ []) ∙ ap (λ n. n + 1) told.counted;
@@ -174,18 +170,16 @@ module _ {T : Type 0} (first now : Remaining T) (image before after : Incoming) 
           nothing_due = taken.nothing_due;
         }
 
-        pub Told-write : HasFailed now came sunk sunk' → sunk'.flushes ≡ sunk.flushes → 2352 * count + 2352 ≤ image_limit → sunk'.failures ≡ sunk.failures + 1
-            → Reports (spec_of first) image after out sunk' (Err Write)
-        Told-write failed unflushed few rose = record {
+        pub Told-write : HasFailed now came sunk sunk' → 2352 * count + 2352 ≤ image_limit → sunk'.failures ≡ sunk.failures + 1 → Reports (spec_of first) image after out sunk' (Err Write)
+        Told-write failed few rose = record {
           read = told.read ++ came;
           sent = text_of told.sent ++ part;
-          gives = gives_all;
-          takes = Takes-trans out sunk sunk' (text_of told.sent) part told.takes failed.takes;
-          flushes = at_most_one (unflushed ∙ told.unflushed);
+          consumes = consumes;
+          given = given;
+          appends = Appends-trans out.written sunk.written sunk'.written (text_of told.sent) part told.appends failed.appends;
           answers = record {
             reads = kept ∙ told.reads;
             writes = rose ∙ ap (λ n. n + 1) told.writes;
-            unflushed = λ short. unflushed ∙ told.unflushed;
             within = omega (arith, length_read);
             due_sent = (part, ap (λ ls. text_of ls ++ part) (sym (ap all_but_last due_is ∙ all_but_last-append told.sent failed.line)));
             beginning = λ whole fits.
@@ -229,14 +223,14 @@ module _ {T : Type 0} (first now : Remaining T) (image before after : Incoming) 
             ∙ ap (λ ls. text_of told.sent ++ (text_of ls ++ now.end [] (length (tail (told.read ++ came))))) told.nothing_due
             ∙ ap (λ n. text_of told.sent ++ now.end [] n) tail_is
 
-        pub Told-end : (answer : T) → answer ≡ now.tally [] left → Finishes {X = T} {E = SinkFailed} (now.end [] left) sunk sunk' (Ok answer) → sunk'.flushes ≡ sunk.flushes + 1
-            → sunk'.failures ≡ sunk.failures → Reports (spec_of first) image after out sunk' (Ok answer)
-        Told-end answer is finished flushed wrote = record {
+        pub Told-end : (answer : T) → answer ≡ now.tally [] left → Finishes {X = T} {E = SinkFailed} (now.end [] left) sunk sunk' (Ok answer) → sunk'.failures ≡ sunk.failures
+            → Reports (spec_of first) image after out sunk' (Ok answer)
+        Told-end answer is finished wrote = record {
           read = told.read ++ came;
           sent = text_of told.sent ++ now.end [] left;
-          gives = gives_all;
-          takes = Takes-trans out sunk sunk' (text_of told.sent) (now.end [] left) told.takes finished.1;
-          flushes = flushed ∙ ap (λ n. n + 1) told.unflushed;
+          consumes = consumes;
+          given = given;
+          appends = Appends-trans out.written sunk.written sunk'.written (text_of told.sent) (now.end [] left) told.appends finished.1;
           answers = record {
             reads = kept ∙ told.reads;
             writes = wrote ∙ told.writes;
@@ -250,20 +244,17 @@ module _ {T : Type 0} (first now : Remaining T) (image before after : Incoming) 
           };
         }
 
-        pub Told-end_failed : (e : SinkFailed) → Finishes {X = T} (now.end [] left) sunk sunk' (Err e) → CountsFlush {X = T} sunk.flushes sunk'.flushes (Err e)
-            → sunk'.failures ≡ sunk.failures + 1 → Reports (spec_of first) image after out sunk' (Err Write)
-        Told-end_failed e finished flushed failed = record {
+        pub Told-end_failed : (e : SinkFailed) → Finishes {X = T} (now.end [] left) sunk sunk' (Err e) → sunk'.failures ≡ sunk.failures + 1
+            → Reports (spec_of first) image after out sunk' (Err Write)
+        Told-end_failed e finished failed = record {
           read = told.read ++ came;
           sent = text_of told.sent ++ finished.0;
-          gives = gives_all;
-          takes = Takes-trans out sunk sunk' (text_of told.sent) finished.0 told.takes finished.1;
-          flushes = (omega (arith, flushed.0, told.unflushed), omega (arith, flushed.1, told.unflushed));
+          consumes = consumes;
+          given = given;
+          appends = Appends-trans out.written sunk.written sunk'.written (text_of told.sent) finished.0 told.appends finished.1;
           answers = record {
             reads = kept ∙ told.reads;
             writes = failed ∙ ap (λ n. n + 1) told.writes;
-            unflushed = λ short.
-                let size = ap length text_is ∙ length-append (text_of told.sent) (now.end [] left) in
-                finished.3 (omega (arith, short, size, length-append (text_of told.sent) finished.0)) ∙ told.unflushed;
             within = omega (arith, length_read);
             due_sent =
                 let begins = all_but_last-begins told.sent in
@@ -306,7 +297,6 @@ module _ {T : Type 0} (a b : ReportSpec T) (text : (image : List ℕ) → a.text
   answers_same read sent image image' out out' (Err Read) r = record {
     reads = r.reads;
     writes = r.writes;
-    unflushed = r.unflushed;
     unended = r.unended;
     within = r.within;
     due_sent = r.due_sent ∙ ap text_of (due read);
@@ -315,7 +305,6 @@ module _ {T : Type 0} (a b : ReportSpec T) (text : (image : List ℕ) → a.text
   answers_same read sent image image' out out' (Err Write) r = record {
     reads = r.reads;
     writes = r.writes;
-    unflushed = λ short. r.unflushed (subst (λ t. length sent < length t) (sym (text read)) short);
     within = r.within;
     due_sent = subst (λ ls. IsBeginning (text_of (all_but_last ls)) sent) (due read) r.due_sent;
     beginning = begins_same sent r.beginning;
@@ -324,7 +313,6 @@ module _ {T : Type 0} (a b : ReportSpec T) (text : (image : List ℕ) → a.text
   answers_same read sent image image' out out' (Err TooLong) r = record {
     reads = r.reads;
     writes = r.writes;
-    unflushed = r.unflushed;
     unended = r.unended;
     beyond = r.beyond;
     due_sent = r.due_sent ∙ ap text_of (due read);
@@ -336,8 +324,8 @@ module _ {T : Type 0} (a b : ReportSpec T) (text : (image : List ℕ) → a.text
   Reports-same result report = record {
     read = report.read;
     sent = report.sent;
-    gives = report.gives;
-    takes = report.takes;
-    flushes = report.flushes;
+    consumes = report.consumes;
+    given = report.given;
+    appends = report.appends;
     answers = answers_same report.read report.sent _ _ _ _ result report.answers;
   }

@@ -2,14 +2,13 @@
 -- the calls follow from `Reports`.
 use Rattle.std.specs.Prelude.{◌≡◌, ◌↔◌, ℕ, ◌+◌, ◌<◌, ◌≤◌, IsOk, false, true, List, [], ◌∷◌, ◌++◌}
 use Rattle.std.specs.Prelude.{length, take, Option, None, Some, Result, Ok, Err}
-use Rattle.std.specs.Io.KnownBytes.{IsAtEnd}
+use Rattle.std.specs.Io.KnownBytes.{Appends, Consumes, IsAtEnd}
 use Rattle.cd_read.specs.Ends.{Fits, FitsLeft}
 use Rattle.cd_read.specs.Image.{image_limit}
 use Rattle.cd_report.specs.Lines.{all_but_last, text_of}
 use Rattle.cd_read.specs.declared.fault.Fault.{Fault}
 use Rattle.cd_read.specs.declared.fault.Fault.TheVariants.{Log, Read, TooLong, Write}
 use Rattle.cd_stream.specs.Stream.{Incoming, IsBeginning, Outgoing}
-use Rattle.cd_stream.specs.Transfer.{CountsFlush, Gives, Takes}
 
 -- a report: of an image its text and its counts (`tally`), and the lines that are `due` once some
 -- of its bytes were read
@@ -31,35 +30,31 @@ pub record Completes {T : Type 0} (spec : ReportSpec T) (read sent : List ℕ)
   pub tally_right : told ≡ spec.tally read
 
 -- a read failed: just the lines that were due went out, which begin the text of each image that
--- begins with what was read, and no flush was made
+-- begins with what was read
 pub record StopsReading {T : Type 0} (spec : ReportSpec T) (read sent : List ℕ)
     (image image' : Incoming) (out out' : Outgoing) : Type 0 where
   pub reads : image'.failures ≡ image.failures + 1
   pub writes : out'.failures ≡ out.failures
-  pub unflushed : out'.flushes ≡ out.flushes
   pub unended : image'.ended ≡ false
   pub within : length read ≤ image_limit
   pub due_sent : sent ≡ text_of (spec.due read)
   pub beginning : (whole : List ℕ) → Fits read whole → IsBeginning sent (spec.text whole)
 
--- a write failed, or the flush: the lines that were due went out, but for the last one. No flush
--- was made before the whole text went out
+-- a write failed, or the flush: the lines that were due went out, but for the last one
 pub record StopsWriting {T : Type 0} (spec : ReportSpec T) (read sent : List ℕ)
     (image image' : Incoming) (out out' : Outgoing) : Type 0 where
   pub reads : image'.failures ≡ image.failures
   pub writes : out'.failures ≡ out.failures + 1
-  pub unflushed : length sent < length (spec.text read) → out'.flushes ≡ out.flushes
   pub within : length read ≤ image_limit
   pub due_sent : IsBeginning (text_of (all_but_last (spec.due read))) sent
   pub beginning : (whole : List ℕ) → FitsLeft image'.rest read whole
       → IsBeginning sent (spec.text whole)
 
--- just one byte was read after the millionth sector; no flush was made
+-- just one byte was read after the millionth sector
 pub record StopsTooLong {T : Type 0} (spec : ReportSpec T) (read sent : List ℕ)
     (image image' : Incoming) (out out' : Outgoing) : Type 0 where
   pub reads : image'.failures ≡ image.failures
   pub writes : out'.failures ≡ out.failures
-  pub unflushed : out'.flushes ≡ out.flushes
   pub unended : image'.ended ≡ false
   pub beyond : length read ≡ image_limit + 1
   pub due_sent : sent ≡ text_of (spec.due read)
@@ -78,15 +73,15 @@ Answers spec read sent image image' out out' (Err Log) = ⊥
 Answers spec read sent image image' out out' (Err TooLong) =
     StopsTooLong spec read sent image image' out out'
 
--- a call's whole contract: it read some bytes, sent some, made one flush at the end, and answered
--- by these. It serves sources and sinks whose bytes are known, and others
+-- a call's whole contract: it read some bytes, sent some, and answered by them. It serves sources
+-- and sinks whose bytes are known, and others
 pub record Reports {T : Type 0} (spec : ReportSpec T) (image image' : Incoming)
     (out out' : Outgoing) (result : Result T Fault) : Type 0 where
   pub read : List ℕ
   pub sent : List ℕ
-  pub gives : Gives image image' read
-  pub takes : Takes out out' sent
-  pub flushes : CountsFlush out.flushes out'.flushes result
+  pub consumes : Consumes image.rest image'.rest read
+  pub given : image'.given ≡ image.given + length read
+  pub appends : Appends out.written out'.written sent
   pub answers : Answers spec read sent image image' out out' result
 
 -- if the bytes of source and sink are known: all of the image was read, and the sink got its text

@@ -1,11 +1,11 @@
 -- Plumbing of `list` and `audit`: what is still to be written of an image, sector by sector.
-use Rattle.std.specs.Prelude.{◌≡◌, ℕ, ◌+◌, ◌<◌, ◌≤◌, true, List, [], ◌∷◌, ◌++◌, length, take}
-use Rattle.std.specs.Prelude.{count_by, map, if◌then◌else◌, Option, None, Some, Result, Ok, Err}
+use Rattle.std.specs.Prelude.{◌≡◌, ℕ, ◌+◌, ◌≤◌, true, List, [], ◌∷◌, ◌++◌, length, take, count_by}
+use Rattle.std.specs.Prelude.{map, if◌then◌else◌, Option, None, Some, Result, Ok, Err}
+use Rattle.std.specs.Io.KnownBytes.{Appends}
 use Rattle.cd_sector.specs.Consistent.{is_mode1}
 use Rattle.cd_sector.specs.Kind.{kind_of}
 use Rattle.cd_sector.specs.declared.kinds.SectorKind.{SectorKind}
 use Rattle.cd_stream.specs.Stream.{IsBeginning, Outgoing}
-use Rattle.cd_stream.specs.Transfer.{Takes}
 use Rattle.cd_report.specs.AuditText.{audit_end, audit_lines, finding_count, is_any, is_damage}
 use Rattle.cd_report.specs.AuditText.{is_damaged}
 use Rattle.cd_read.specs.Image.{sectors, tail}
@@ -40,7 +40,7 @@ spec_of remaining = record {
 pub record HasVisited {T : Type 0} (old new : Remaining T) (sector : List ℕ)
     (out out' : Outgoing) : Type 0 where
   pub sent : List (List ℕ)
-  pub takes : Takes out out' (text_of sent)
+  pub appends : Appends out.written out'.written (text_of sent)
   pub lines : (others : List (List ℕ)) → old.lines (sector ∷ others) ≡ sent ++ new.lines others
   pub end : (others : List (List ℕ)) (left : ℕ)
       → old.end (sector ∷ others) left ≡ new.end others left
@@ -54,7 +54,7 @@ pub record HasFailed {T : Type 0} (old : Remaining T) (sector : List ℕ)
   pub line : List ℕ
   pub count : ℕ
   pub behind : List (List ℕ) → List (List ℕ)
-  pub takes : Takes out out' (take count line)
+  pub appends : Appends out.written out'.written (take count line)
   pub lines : (others : List (List ℕ)) → old.lines (sector ∷ others) ≡ line ∷ behind others
   pub last : behind [] ≡ []
 
@@ -64,12 +64,11 @@ abbrev pub Visits : {T X E : Type 0} → Remaining T → Remaining T → List �
 Visits old new sector out out' (Ok x) = HasVisited old new sector out out'
 Visits old new sector out out' (Err e) = HasFailed old sector out out'
 
--- the end of a text goes out, and the sink is finished; at Err a front of it, and no flush was made
--- before all of it
+-- the end of a text goes out, and the sink is finished
 abbrev pub Finishes : {X E : Type 0} → List ℕ → Outgoing → Outgoing → Result X E → Type 0
-Finishes text out out' (Ok x) = (out'.finished ≡ true) × Takes out out' text
-Finishes text out out' (Err e) = (sent : List ℕ) × Takes out out' sent × IsBeginning sent text
-    × (length sent < length text → out'.flushes ≡ out.flushes)
+Finishes text out out' (Ok x) = (out'.finished ≡ true) × Appends out.written out'.written text
+Finishes text out out' (Err e) =
+    (sent : List ℕ) × Appends out.written out'.written sent × IsBeginning sent text
 
 -- ---- a listing
 
@@ -97,7 +96,7 @@ list_remaining base run count = record {
 pub record HasExtended (run : Option OpenRun) (next : OpenRun) (block : ℕ) (kind : SectorKind)
     (out out' : Outgoing) : Type 0 where
   pub sent : List (List ℕ)
-  pub takes : Takes out out' (text_of sent)
+  pub appends : Appends out.written out'.written (text_of sent)
   pub ends : EndsBefore (Some next) (block + 1)
   pub lines : (others : List SectorKind)
       → ended_lines (open_first run block) (open_kinds run ++ kind ∷ others)
@@ -111,7 +110,7 @@ pub record FailsToExtend (run : Option OpenRun) (block : ℕ) (kind : SectorKind
     (out out' : Outgoing) : Type 0 where
   pub line : List ℕ
   pub count : ℕ
-  pub takes : Takes out out' (take count line)
+  pub appends : Appends out.written out'.written (take count line)
   pub lines : (others : List SectorKind)
       → ended_lines (open_first run block) (open_kinds run ++ kind ∷ others)
       ≡ line ∷ ended_lines block (kind ∷ others)

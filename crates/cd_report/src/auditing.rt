@@ -5,7 +5,7 @@ ghost use Rattle.cd_report.specs.AuditText.{audit_end, audit_report};
 ghost use Rattle.cd_read.specs.Ends.{AnswersByEnd, AnswersByLength, EndsWell, TellsTooLong};
 ghost use Rattle.cd_report.specs.Report.{Reports, WritesText};
 ghost use Rattle.cd_report.specs.Scanning.{tally_with};
-ghost use Rattle.cd_stream.specs.Transfer.{CountsFlush, Sends};
+ghost use Rattle.cd_stream.specs.Transfer.{Sends};
 ghost use Rattle.cd_stream.specs.Stream.{MayCount};
 ghost use Rattle.cd_read.specs.Image.{base_limit, sector_limit};
 
@@ -150,7 +150,6 @@ pub fn audit<I: Source, O: Sink>(image: &mut I, base: u32, out: &mut O) -> Resul
         (I.seen image.old) (I.seen image.new) (O.seen out.old) (O.seen out.new)) }
     ensures ends_well { OnOk result (EndsWell
         (I.seen image.old) (I.seen image.new) (O.seen out.old) (O.seen out.new)) }
-    ensures flushes { CountsFlush (O.seen out.old).flushes (O.seen out.new).flushes result }
     ensures read_failed { (result ≡ Err Fault.Read)
         ↔ ((I.seen image.new).failures ≡ (I.seen image.old).failures + 1) }
     ensures write_failed { (result ≡ Err Fault.Write)

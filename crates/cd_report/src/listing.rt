@@ -8,7 +8,7 @@ ghost use Rattle.cd_read.specs.Ends.{AnswersByEnd, AnswersByLength, EndsWell, Te
 ghost use Rattle.cd_report.specs.Report.{Reports, WritesText};
 ghost use Rattle.cd_report.specs.Runs.{runs};
 ghost use Rattle.cd_report.specs.Scanning.{ExtendsRun, last_line};
-ghost use Rattle.cd_stream.specs.Transfer.{Counts, CountsFlush, Sends};
+ghost use Rattle.cd_stream.specs.Transfer.{Counts, Sends};
 ghost use Rattle.cd_stream.specs.Stream.{MayCount};
 ghost use Rattle.cd_read.specs.Image.{base_limit};
 
@@ -79,7 +79,6 @@ fn extend_run<O: Sink>(
     requires countable { MayCount (O.seen out.old).failures }
     requires follows { EndsBefore run.old block }
     ensures text { ExtendsRun run.old run.new block kind (O.seen out.old) (O.seen out.new) result }
-    ensures flushes { (O.seen out.new).flushes ≡ (O.seen out.old).flushes }
     ensures count { Counts (O.seen out.old).failures (O.seen out.new).failures result }
 {
     if let Some(open_run) = run {
@@ -203,7 +202,6 @@ pub fn list<I: Source, O: Sink>(image: &mut I, base: u32, out: &mut O) -> Result
         (I.seen image.old) (I.seen image.new) (O.seen out.old) (O.seen out.new)) }
     ensures ends_well { OnOk result (EndsWell
         (I.seen image.old) (I.seen image.new) (O.seen out.old) (O.seen out.new)) }
-    ensures flushes { CountsFlush (O.seen out.old).flushes (O.seen out.new).flushes result }
     ensures read_failed { (result ≡ Err Fault.Read)
         ↔ ((I.seen image.new).failures ≡ (I.seen image.old).failures + 1) }
     ensures write_failed { (result ≡ Err Fault.Write)

@@ -3,7 +3,7 @@
 ghost use Rattle.std.specs.Prelude.{◌≡◌, ◌+◌, ◌<◌, [], IfOk, OnOk};
 ghost use Rattle.cd_report.specs.Report.{Reports};
 ghost use Rattle.cd_report.specs.Scanning.{Finishes, Visits, spec_of};
-ghost use Rattle.cd_stream.specs.Transfer.{Counts, CountsFlush};
+ghost use Rattle.cd_stream.specs.Transfer.{Counts};
 ghost use Rattle.cd_stream.specs.Stream.{MayCount};
 ghost use Rattle.cd_read.specs.Image.{sector_limit};
 
@@ -33,7 +33,6 @@ pub(crate) trait Visitor {
         ensures takes { Visits (remaining self.old count) (remaining self.new (count + 1))
             sector.now (O.seen out.old) (O.seen out.new) result }
         ensures at { OnOk result (has_visited self.new (count + 1)) }
-        ensures flushes { (O.seen out.new).flushes ≡ (O.seen out.old).flushes }
         ensures count { Counts (O.seen out.old).failures (O.seen out.new).failures result };
 
     /// Writes what is left of the report after `count` sectors and a tail, and finishes.
@@ -48,7 +47,6 @@ pub(crate) trait Visitor {
         ensures text { Finishes ((remaining self.old count).end [] tail)
             (O.seen out.old) (O.seen out.new) result }
         ensures tally { IfOk result (λ told. told ≡ (remaining self.old count).tally [] tail) }
-        ensures flushes { CountsFlush (O.seen out.old).flushes (O.seen out.new).flushes result }
         ensures count { Counts (O.seen out.old).failures (O.seen out.new).failures result };
 }
 

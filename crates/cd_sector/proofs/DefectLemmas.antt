@@ -29,8 +29,7 @@ pub one-le : (b : Bool) (one : ℕ) → one ≡ cond {A = ℕ} b 1 0 → one ≤
 one-le true one e = omega (arith, e)
 one-le false one e = omega (arith, e)
 
-pub broken_more : (word : ℕ → List ℕ) (count i number one : ℕ) (plain weighted : List ℕ)
-    → SumsOf word count plain weighted → i < count
+pub broken_more : (word : ℕ → List ℕ) (count i number one : ℕ) (plain weighted : List ℕ) → SumsOf word count plain weighted → i < count
     → number ≡ count_by is_broken (all_syndromes word i)
     → one ≡ cond {A = ℕ} (is_broken (get_or plain i 0, get_or weighted i 0)) 1 0
     → number + one ≡ count_by is_broken (all_syndromes word (i + 1))
@@ -41,36 +40,28 @@ broken_more word count i number one plain weighted sums h before e =
     (e
     ∙ ap (λ a. cond {A = ℕ} (is_broken (a, get_or weighted i 0)) 1 0) (sums.first i h)
     ∙ ap (λ b. cond {A = ℕ} (is_broken (first_syndrome (word i), b)) 1 0) (sums.second i h))
-    ∙ sym (sum_by-map-range_with_len_more (λ w. cond {A = ℕ} (is_broken w) 1 0)
-    (λ k. (first_syndrome (word k), second_syndrome (word k))) 0 i i (omega arith))
+    ∙ sym (sum_by-map-range_with_len_more (λ w. cond {A = ℕ} (is_broken w) 1 0) (λ k. (first_syndrome (word k), second_syndrome (word k))) 0 i i (omega arith))
 
 -- the count over as many words as there are sums
-pub broken_of : (word : ℕ → List ℕ) (count r : ℕ) (plain weighted : List ℕ) → length plain ≡ count
-    → SumsOf word count plain weighted
-    → (SumsOf word (length plain) plain weighted
-    → r ≡ count_by is_broken (all_syndromes word (length plain)))
+pub broken_of : (word : ℕ → List ℕ) (count r : ℕ) (plain weighted : List ℕ) → length plain ≡ count → SumsOf word count plain weighted
+    → (SumsOf word (length plain) plain weighted → r ≡ count_by is_broken (all_syndromes word (length plain)))
     → r ≡ count_by is_broken (all_syndromes word count)
 broken_of word count r plain weighted long sums h =
-    subst (λ n. r ≡ count_by is_broken (all_syndromes word n)) long
-    (h (subst (λ n. SumsOf word n plain weighted) (sym long) sums))
+    subst (λ n. r ≡ count_by is_broken (all_syndromes word n)) long (h (subst (λ n. SumsOf word n plain weighted) (sym long) sums))
 
-same_all : {X : Type 0} (p q : X → Bool) → ((x : X) → p x ≡ q x) → (xs : List X)
-    → list_all p xs ≡ list_all q xs
+same_all : {X : Type 0} (p q : X → Bool) → ((x : X) → p x ≡ q x) → (xs : List X) → list_all p xs ≡ list_all q xs
 same_all p q h [] = refl
-same_all p q h (x ∷ xs) =
-    ap (λ b. b && list_all p xs) (h x) ∙ ap (λ b. q x && b) (same_all p q h xs)
+same_all p q h (x ∷ xs) = ap (λ b. b && list_all p xs) (h x) ∙ ap (λ b. q x && b) (same_all p q h xs)
 
 one_or_none : (b : Bool) → (cond {A = ℕ} b 1 0 == 0) ≡ not b
 one_or_none true = refl
 one_or_none false = refl
 
 -- none is broken
-pub none_broken : (ws : List (ℕ × ℕ))
-    → (count_by is_broken ws == 0) ≡ list_all (λ w. not (is_broken w)) ws
+pub none_broken : (ws : List (ℕ × ℕ)) → (count_by is_broken ws == 0) ≡ list_all (λ w. not (is_broken w)) ws
 none_broken ws =
     sum_by-zero (λ w. cond {A = ℕ} (is_broken w) 1 0) ws
-    ∙ same_all (λ w. cond {A = ℕ} (is_broken w) 1 0 == 0) (λ w. not (is_broken w))
-    (λ w. one_or_none (is_broken w)) ws
+    ∙ same_all (λ w. cond {A = ℕ} (is_broken w) 1 0 == 0) (λ w. not (is_broken w)) (λ w. one_or_none (is_broken w)) ws
 
 not-and : (x y : Bool) → not (x && y) ≡ (not x || not y)
 not-and true y = refl
@@ -79,8 +70,7 @@ not-and false y = refl
 -- not all are 0
 pub some_nonzero : (xs : List ℕ) → not (list_all (λ b. b == 0) xs) ≡ list_any is_nonzero xs
 some_nonzero [] = refl
-some_nonzero (x ∷ xs) =
-    not-and (x == 0) (list_all (λ b. b == 0) xs) ∙ ap (λ r. not (x == 0) || r) (some_nonzero xs)
+some_nonzero (x ∷ xs) = not-and (x == 0) (list_all (λ b. b == 0) xs) ∙ ap (λ r. not (x == 0) || r) (some_nonzero xs)
 
 -- ---- the members of the defect
 
@@ -112,19 +102,15 @@ whole_word w =
     Decides-at (not (is_broken w)) ((w.0 == 0) && (w.1 == 0)) (both_zero (w.0 == 0) (w.1 == 0))
     (Decides-and (w.0 == 0) (w.1 == 0) (Decides-eqb w.0 0) (Decides-eqb w.1 0))
 
-whole_words : (word : ℕ → List ℕ) (n : ℕ)
-    → Decides (list_all (λ w. not (is_broken w)) (all_syndromes word n))
-    ((i : ℕ) → i < n → IsCodeWord (word i))
+whole_words : (word : ℕ → List ℕ) (n : ℕ) → Decides (list_all (λ w. not (is_broken w)) (all_syndromes word n)) ((i : ℕ) → i < n → IsCodeWord (word i))
 unfolding all_syndromes
 whole_words word n =
     let f : ℕ → ℕ × ℕ = λ i. (first_syndrome (word i), second_syndrome (word i)) in
     let P : ℕ × ℕ → Type 0 = λ w. (w.0 ≡ 0) × (w.1 ≡ 0) in
     let ws = map f (range_with_len 0 n) in
     let long : length ws ≡ n = length-map-range_with_len f 0 n in
-    let at : (i : ℕ) (d : ℕ × ℕ) → i < n → get_or ws i d ≡ f i =
-    λ i d h. get_or-map-range_with_len f 0 n i i d h (omega arith) in
-    let each = Decides-by_and (λ w. not (is_broken w)) P (list_all (λ w. not (is_broken w)))
-    whole_word refl (λ x xs. refl) ws in
+    let at : (i : ℕ) (d : ℕ × ℕ) → i < n → get_or ws i d ≡ f i = λ i d h. get_or-map-range_with_len f 0 n i i d h (omega arith) in
+    let each = Decides-by_and (λ w. not (is_broken w)) P (list_all (λ w. not (is_broken w))) whole_word refl (λ x xs. refl) ws in
     Decides-like (list_all (λ w. not (is_broken w)) ws)
     (λ all i h.
     let k : i < length ws = omega (arith, long) in
@@ -142,10 +128,8 @@ all_bytes s =
       | inl inside ↦ all i 0 inside
       | inr past ↦ let none : get_or s i 0 ≡ 0 = get_or_past s i 0 past in rw none (lit< tt)
     ])
-    (λ bytes i d h. let same : get_or s i d ≡ get_or s i 0 =
-    get_or_default s i d 0 h in rw same (bytes i))
-    (Decides-by_and (λ b. nat_lt b 256) (λ b. b < 256) (list_all (λ b. nat_lt b 256))
-    (λ b. Decides-ltb b 256) refl (λ x xs. refl) s)
+    (λ bytes i d h. let same : get_or s i d ≡ get_or s i 0 = get_or_default s i d 0 h in rw same (bytes i))
+    (Decides-by_and (λ b. nat_lt b 256) (λ b. b < 256) (list_all (λ b. nat_lt b 256)) (λ b. Decides-ltb b 256) refl (λ x xs. refl) s)
 
 pub mode1_told : (k : SectorKind) → Decides (is_mode1 k) (k ≡ Mode1)
 mode1_told NoSync = (λ e. absurd cc, λ e. absurd cc)
@@ -154,17 +138,14 @@ mode1_told Mode1 = (λ e. refl, λ e. refl)
 mode1_told Mode2 = (λ e. absurd cc, λ e. absurd cc)
 mode1_told Other = (λ e. absurd cc, λ e. absurd cc)
 
-pub range-byte : (s : List ℕ) (a b i : ℕ) → a + i < b
-    → get_or (slice_range s a b) i 0 ≡ get_or s (a + i) 0
+pub range-byte : (s : List ℕ) (a b i : ℕ) → a + i < b → get_or (slice_range s a b) i 0 ≡ get_or s (a + i) 0
 range-byte s a b i h = get_or-take (b - a) (drop a s) i 0 (omega arith) ∙ get_or-drop a s i 0
 
-pub length-range : (s : List ℕ) (a b : ℕ) → a ≤ b → b ≤ length s
-    → length (slice_range s a b) ≡ b - a
+pub length-range : (s : List ℕ) (a b : ℕ) → a ≤ b → b ≤ length s → length (slice_range s a b) ≡ b - a
 length-range s a b h k = length-take-le (b - a) (drop a s) (omega (arith, length-drop a s))
 
 all_zeros : (s : List ℕ) → length s ≡ 2352
-    → Decides (list_all (λ b. b == 0) (slice_range s 2068 2076))
-    ((i : ℕ) → 2068 ≤ i → i < 2076 → get_or s i 0 ≡ 0)
+    → Decides (list_all (λ b. b == 0) (slice_range s 2068 2076)) ((i : ℕ) → 2068 ≤ i → i < 2076 → get_or s i 0 ≡ 0)
 all_zeros s size =
     let zs = slice_range s 2068 2076 in
     let long : length zs ≡ 8 = length-range s 2068 2076 (lit≤ tt) (omega (arith, size)) in
@@ -172,14 +153,11 @@ all_zeros s size =
     (λ all i low high.
     let k : i - 2068 < length zs = omega (arith, long) in
     let e : 2068 + (i - 2068) ≡ i = omega arith in
-    sym (range-byte s 2068 2076 (i - 2068) (omega arith) ∙ ap (λ n. get_or s n 0) e)
-    ∙ all (i - 2068) 0 k)
+    sym (range-byte s 2068 2076 (i - 2068) (omega arith) ∙ ap (λ n. get_or s n 0) e) ∙ all (i - 2068) 0 k)
     (λ zero_at i d h.
     let k : i < 8 = omega (arith, long) in
-    get_or_default zs i d 0 h ∙ range-byte s 2068 2076 i (omega arith)
-    ∙ zero_at (2068 + i) (omega arith) (omega arith))
-    (Decides-by_and (λ b. b == 0) (λ b. b ≡ 0) (list_all (λ b. b == 0)) (λ b. Decides-eqb b 0) refl
-    (λ x xs. refl) zs)
+    get_or_default zs i d 0 h ∙ range-byte s 2068 2076 i (omega arith) ∙ zero_at (2068 + i) (omega arith) (omega arith))
+    (Decides-by_and (λ b. b == 0) (λ b. b ≡ 0) (list_all (λ b. b == 0)) (λ b. Decides-eqb b 0) refl (λ x xs. refl) zs)
 
 -- the test by its parts
 abbrev pub parts_of : List ℕ → Bool
@@ -193,13 +171,10 @@ unfolding defect_of
 sound-parts s = refl
 
 pub consistent-parts : (s : List ℕ)
-    → consistent s
-    ≡ ((((length s == 2352) && list_all (λ b. nat_lt b 256) s) && is_mode1 (kind_of s))
-    && parts_of s)
+    → consistent s ≡ ((((length s == 2352) && list_all (λ b. nat_lt b 256) s) && is_mode1 (kind_of s)) && parts_of s)
 unfolding consistent
 consistent-parts s =
-    ap (λ b. (((length s == 2352) && list_all (λ b. nat_lt b 256) s) && is_mode1 (kind_of s)) && b)
-    (sound-parts s)
+    ap (λ b. (((length s == 2352) && list_all (λ b. nat_lt b 256) s) && is_mode1 (kind_of s)) && b) (sound-parts s)
 
 abbrev pub IsWhole : List ℕ → Type 0
 IsWhole s =
@@ -214,9 +189,7 @@ parts_told s size =
     let c = list_all (λ w. not (is_broken w)) (all_syndromes (column_of s) 86) in
     let d = list_all (λ w. not (is_broken w)) (all_syndromes (diagonal_of s) 52) in
     Decides-and ((a && b) && c) d
-    (Decides-and (a && b) c
-    (Decides-and a b (all_zeros s size) (Decides-eqb (remainder (bits (take 2068 s))) 0))
-    (whole_words (column_of s) 86))
+    (Decides-and (a && b) c (Decides-and a b (all_zeros s size) (Decides-eqb (remainder (bits (take 2068 s))) 0)) (whole_words (column_of s) 86))
     (whole_words (diagonal_of s) 52)
 
 by_plane : (s : List ℕ) → IsConsistent s → IsWhole s
@@ -232,8 +205,7 @@ consistent-told s =
     let bytes = list_all (λ b. nat_lt b 256) s in
     let mode = is_mode1 (kind_of s) in (
       λ e.
-          let outer = and_parts ((size && bytes) && mode) (parts_of s)
-          (sym (consistent-parts s) ∙ e) in
+          let outer = and_parts ((size && bytes) && mode) (parts_of s) (sym (consistent-parts s) ∙ e) in
           let inner = and_parts (size && bytes) mode outer.0 in
           let first = and_parts size bytes inner.0 in
           let long : length s ≡ 2352 = (Decides-eqb (length s) 2352).0 first.0 in
@@ -267,8 +239,7 @@ counts_of s =
 
 pub sound-counts : (s : List ℕ) → is_sound (defect_of s) ≡ counts_of s
 sound-counts s =
-    let front = list_all (λ b. b == 0) (slice_range s 2068 2076)
-    && (remainder (bits (take 2068 s)) == 0) in
+    let front = list_all (λ b. b == 0) (slice_range s 2068 2076) && (remainder (bits (take 2068 s)) == 0) in
     let ws = all_syndromes (column_of s) 86 in
     let us = all_syndromes (diagonal_of s) 52 in
     sound-parts s
@@ -277,12 +248,9 @@ sound-counts s =
 
 -- the way of the code through the four parts: all hold, or the first that fails
 module _ (s : List ℕ) where
-  pub sound-all : (zeros edc : Bool) (p q : ℕ)
-      → zeros ≡ list_all (λ b. b == 0) (slice_range s 2068 2076) → zeros ≡ true
-      → edc ≡ (remainder (bits (take 2068 s)) == 0) → edc ≡ true
-      → p ≡ count_by is_broken (all_syndromes (column_of s) 86)
-      → (p == 0) ≡ true → q ≡ count_by is_broken (all_syndromes (diagonal_of s) 52)
-      → (q == 0) ≡ is_sound (defect_of s)
+  pub sound-all : (zeros edc : Bool) (p q : ℕ) → zeros ≡ list_all (λ b. b == 0) (slice_range s 2068 2076) → zeros ≡ true
+      → edc ≡ (remainder (bits (take 2068 s)) == 0) → edc ≡ true → p ≡ count_by is_broken (all_syndromes (column_of s) 86)
+      → (p == 0) ≡ true → q ≡ count_by is_broken (all_syndromes (diagonal_of s) 52) → (q == 0) ≡ is_sound (defect_of s)
   sound-all zeros edc p q a holds_a b holds_b c holds_c d =
       let edc_of_s = remainder (bits (take 2068 s)) == 0 in
       let columns = count_by is_broken (all_syndromes (column_of s) 86) == 0 in
@@ -293,16 +261,14 @@ module _ (s : List ℕ) where
       ∙ ap (λ t. t && diagonals) (ap (λ n. n == 0) (sym c) ∙ holds_c)
       ∙ ap (λ n. n == 0) (sym d))
 
-  pub unsound-zeros : (zeros : Bool) → zeros ≡ list_all (λ b. b == 0) (slice_range s 2068 2076)
-      → zeros ≡ false → false ≡ is_sound (defect_of s)
+  pub unsound-zeros : (zeros : Bool) → zeros ≡ list_all (λ b. b == 0) (slice_range s 2068 2076) → zeros ≡ false → false ≡ is_sound (defect_of s)
   unsound-zeros zeros a fails =
       let edc_of_s = remainder (bits (take 2068 s)) == 0 in
       let columns = count_by is_broken (all_syndromes (column_of s) 86) == 0 in
       let diagonals = count_by is_broken (all_syndromes (diagonal_of s) 52) == 0 in
       sym (sound-counts s ∙ ap (λ t. ((t && edc_of_s) && columns) && diagonals) (sym a ∙ fails))
 
-  pub unsound-edc : (edc : Bool) → edc ≡ (remainder (bits (take 2068 s)) == 0) → edc ≡ false
-      → false ≡ is_sound (defect_of s)
+  pub unsound-edc : (edc : Bool) → edc ≡ (remainder (bits (take 2068 s)) == 0) → edc ≡ false → false ≡ is_sound (defect_of s)
   unsound-edc edc b fails =
       let zeros = list_all (λ b. b == 0) (slice_range s 2068 2076) in
       let columns = count_by is_broken (all_syndromes (column_of s) 86) == 0 in
@@ -310,43 +276,34 @@ module _ (s : List ℕ) where
       sym (sound-counts s ∙ ap (λ t. ((zeros && t) && columns) && diagonals) (sym b ∙ fails)
       ∙ ap (λ t. (t && columns) && diagonals) (and-false zeros))
 
-  pub unsound-columns : (p : ℕ) → p ≡ count_by is_broken (all_syndromes (column_of s) 86)
-      → (p == 0) ≡ false → false ≡ is_sound (defect_of s)
+  pub unsound-columns : (p : ℕ) → p ≡ count_by is_broken (all_syndromes (column_of s) 86) → (p == 0) ≡ false → false ≡ is_sound (defect_of s)
   unsound-columns p c fails =
-      let front = list_all (λ b. b == 0) (slice_range s 2068 2076)
-      && (remainder (bits (take 2068 s)) == 0) in
+      let front = list_all (λ b. b == 0) (slice_range s 2068 2076) && (remainder (bits (take 2068 s)) == 0) in
       let diagonals = count_by is_broken (all_syndromes (diagonal_of s) 52) == 0 in
       sym (sound-counts s ∙ ap (λ t. (front && t) && diagonals) (ap (λ n. n == 0) (sym c) ∙ fails)
       ∙ ap (λ t. t && diagonals) (and-false front))
 
 -- of a list that is a sector only the kind and the defect are asked
-pub consistent-sector : (s : List ℕ) → length s ≡ 2352 → AreBytes s
-    → consistent s ≡ (is_mode1 (kind_of s) && is_sound (defect_of s))
+pub consistent-sector : (s : List ℕ) → length s ≡ 2352 → AreBytes s → consistent s ≡ (is_mode1 (kind_of s) && is_sound (defect_of s))
 unfolding consistent
 consistent-sector s long bytes =
     let mode = is_mode1 (kind_of s) in
     let sound = is_sound (defect_of s) in
-    ap (λ t. ((t && list_all (λ b. nat_lt b 256) s) && mode) && sound)
-    ((Decides-eqb (length s) 2352).1 long)
+    ap (λ t. ((t && list_all (λ b. nat_lt b 256) s) && mode) && sound) ((Decides-eqb (length s) 2352).1 long)
     ∙ ap (λ t. ((true && t) && mode) && sound) ((all_bytes s).1 bytes)
 
 -- the test of a defect's members
 pub sound_told : (s : List ℕ) → length s ≡ 2352 → Decides (is_sound (defect_of s)) (IsWhole s)
-sound_told s size =
-    Decides-at (is_sound (defect_of s)) (parts_of s) (sound-parts s) (parts_told s size)
+sound_told s size = Decides-at (is_sound (defect_of s)) (parts_of s) (sound-parts s) (parts_told s size)
 
 -- the way of the code, where the kind is right, and where it is not
-pub consistent-true : (s bytes : List ℕ) (mode whole : Bool) → length s ≡ 2352
-    → AreBytes s → bytes ≡ s
-    → mode ≡ is_mode1 (kind_of s) → mode ≡ true → whole ≡ is_sound (defect_of bytes)
-    → whole ≡ consistent s
+pub consistent-true : (s bytes : List ℕ) (mode whole : Bool) → length s ≡ 2352 → AreBytes s → bytes ≡ s
+    → mode ≡ is_mode1 (kind_of s) → mode ≡ true → whole ≡ is_sound (defect_of bytes) → whole ≡ consistent s
 consistent-true s bytes mode whole size each same e held f =
     sym (consistent-sector s size each ∙ ap (λ t. t && is_sound (defect_of s)) (sym e ∙ held)
     ∙ ap (λ v. is_sound (defect_of v)) (sym same) ∙ sym f)
 
-pub consistent-false : (s : List ℕ) (mode : Bool) → mode ≡ is_mode1 (kind_of s) → mode ≡ false
-    → false ≡ consistent s
+pub consistent-false : (s : List ℕ) (mode : Bool) → mode ≡ is_mode1 (kind_of s) → mode ≡ false → false ≡ consistent s
 consistent-false s mode e fails =
     let sized = (length s == 2352) && list_all (λ b. nat_lt b 256) s in
-    sym (consistent-parts s ∙ ap (λ t. (sized && t) && parts_of s) (sym e ∙ fails)
-    ∙ ap (λ t. t && parts_of s) (and-false sized))
+    sym (consistent-parts s ∙ ap (λ t. (sized && t) && parts_of s) (sym e ∙ fails) ∙ ap (λ t. t && parts_of s) (and-false sized))

@@ -1,5 +1,4 @@
--- Sixteen diagonals of both planes side by side: the bytes that their lanes take, and the sums in
--- their order.
+-- Sixteen diagonals of both planes side by side: the bytes that their lanes take, and the sums in their order.
 use Rattle.std.proofs.Common.{◌≡◌, ℕ, ◌+◌, ◌-◌, ◌*◌, ◌/◌, ◌%◌, ◌<◌, ◌≤◌, ◌⊎◌, inl, inr, Bool, true, nat_lt, List, [], ◌∷◌, ◌++◌, length, get_or, set, replicate, take, bit_and, bit_xor, refl, sym, ap, ◌∙◌, arith, lit≤, append_assoc}
 use Rattle.std.specs.Int.Bits.{xor_zero_r}
 use Rattle.std.specs.Bool.{◌==◌, if◌then◌else◌}
@@ -26,10 +25,8 @@ length-word : (s : List ℕ) (plane n : ℕ) → length (bytes_at s (diagonal_in
 length-word s plane n = length-bytes_at s (diagonal_input plane n) ∙ length-diagonal_input plane n
 
 -- a lane that takes a byte
-taken-more : (s : List ℕ) (top step i : ℕ) → i / 2 ≤ top → top ≤ step + i / 2
-    → step + i / 2 < top + 43
-    → bytes_taken s top (step + 1) i
-    ≡ bytes_taken s top step i ++ get_or s (lane_place top step i) 0 ∷ []
+taken-more : (s : List ℕ) (top step i : ℕ) → i / 2 ≤ top → top ≤ step + i / 2 → step + i / 2 < top + 43
+    → bytes_taken s top (step + 1) i ≡ bytes_taken s top step i ++ get_or s (lane_place top step i) 0 ∷ []
 taken-more s top step i within begun running =
     let n = top - i / 2 in
     let m = step - n in
@@ -37,15 +34,13 @@ taken-more s top step i within begun running =
     let word = bytes_at s (diagonal_input plane n) in
     let inside : m < 43 = omega arith in
     let one_more : step + 1 - n ≡ m + 1 = omega arith in
-    let place : place_of plane ((44 * m + 43 * n) % 1118) ≡ lane_place top step i =
-    place_at top step i n m within refl begun refl inside in
+    let place : place_of plane ((44 * m + 43 * n) % 1118) ≡ lane_place top step i = place_at top step i n m within refl begun refl inside in
     ap (λ k. take k word) one_more
     ∙ take-row word m (get_or s (lane_place top step i) 0) (omega (arith, length-word s plane n))
     (bytes_at-byte s (diagonal_input plane n) m (omega (arith, length-diagonal_input plane n))
     ∙ ap (λ p. get_or s p 0) (diagonal_input_place plane n m inside ∙ place))
   where
-    place_at : (top step i n m : ℕ) → i / 2 ≤ top → n ≡ top - i / 2 → top ≤ step + i / 2
-        → m ≡ step - n → m < 43
+    place_at : (top step i n m : ℕ) → i / 2 ≤ top → n ≡ top - i / 2 → top ≤ step + i / 2 → m ≡ step - n → m < 43
         → place_of (i % 2) ((44 * m + 43 * n) % 1118) ≡ lane_place top step i
     place_at top step i n m within e begun f inside =
         let same_step : step ≡ m + n = omega arith in
@@ -53,8 +48,7 @@ taken-more s top step i within begun running =
         omega arith
 
 -- a lane that has not begun, or has ended
-taken-same : (s : List ℕ) (top step i : ℕ) → i / 2 ≤ top
-    → (step + i / 2 < top) ⊎ (top + 43 ≤ step + i / 2)
+taken-same : (s : List ℕ) (top step i : ℕ) → i / 2 ≤ top → (step + i / 2 < top) ⊎ (top + 43 ≤ step + i / 2)
     → bytes_taken s top (step + 1) i ≡ bytes_taken s top step i
 taken-same s top step i within (inl before) =
     let word = bytes_at s (diagonal_input (i % 2) (top - i / 2)) in
@@ -64,59 +58,45 @@ taken-same s top step i within (inl before) =
 taken-same s top step i within (inr past) =
     let word = bytes_at s (diagonal_input (i % 2) (top - i / 2)) in
     let long = length-word s (i % 2) (top - i / 2) in
-    take_all (step + 1 - (top - i / 2)) word (omega arith)
-    ∙ sym (take_all (step - (top - i / 2)) word (omega arith))
+    take_all (step + 1 - (top - i / 2)) word (omega arith) ∙ sym (take_all (step - (top - i / 2)) word (omega arith))
 
 -- no lane has begun
-pub HasTaken-none : (s : List ℕ) (top step : ℕ) → step + 15 ≤ top
-    → HasTaken s top step (replicate 32 0) (replicate 32 0)
+pub HasTaken-none : (s : List ℕ) (top step : ℕ) → step + 15 ≤ top → HasTaken s top step (replicate 32 0) (replicate 32 0)
 HasTaken-none s top step h =
     let none : (i : ℕ) → i < 32 → bytes_taken s top step i ≡ [] =
-    λ i k. (let e : step - (top - i / 2) ≡ 0 = omega arith in
-    ap (λ n. take n (bytes_at s (diagonal_input (i % 2) (top - i / 2)))) e) in
+    λ i k. (let e : step - (top - i / 2) ≡ 0 = omega arith in ap (λ n. take n (bytes_at s (diagonal_input (i % 2) (top - i / 2)))) e) in
     record {
-      first = λ i k. get_or-replicate 32 i 0 0 k
-          ∙ sym (ap first_syndrome (none i k) ∙ first_syndrome-nil);
-      second = λ i k. get_or-replicate 32 i 0 0 k
-          ∙ sym (ap second_syndrome (none i k) ∙ second_syndrome-nil);
+      first = λ i k. get_or-replicate 32 i 0 0 k ∙ sym (ap first_syndrome (none i k) ∙ first_syndrome-nil);
+      second = λ i k. get_or-replicate 32 i 0 0 k ∙ sym (ap second_syndrome (none i k) ∙ second_syndrome-nil);
     }
 
 -- the weighted sum of a lane that has not begun
-pub weighted-unbegun : (s : List ℕ) (top step : ℕ) (plain weighted : List ℕ)
-    → HasTaken s top step plain weighted
+pub weighted-unbegun : (s : List ℕ) (top step : ℕ) (plain weighted : List ℕ) → HasTaken s top step plain weighted
     → (i : ℕ) → i < 32 → step + i / 2 < top → get_or weighted i 0 ≡ 0
 weighted-unbegun s top step plain weighted sums i h before =
     let none : step - (top - i / 2) ≡ 0 = omega arith in
-    sums.second i h
-    ∙ ap (λ n. second_syndrome (take n (bytes_at s (diagonal_input (i % 2) (top - i / 2))))) none
-    ∙ second_syndrome-nil
+    sums.second i h ∙ ap (λ n. second_syndrome (take n (bytes_at s (diagonal_input (i % 2) (top - i / 2))))) none ∙ second_syndrome-nil
 
 -- one step: a lane takes its byte, or stays
-pub HasTaken-step : (s : List ℕ) (top step : ℕ) (plain weighted next next_weighted : List ℕ)
-    → AreBytes s → 15 ≤ top
+pub HasTaken-step : (s : List ℕ) (top step : ℕ) (plain weighted next next_weighted : List ℕ) → AreBytes s → 15 ≤ top
     → HasTaken s top step plain weighted
     → ((i : ℕ) → i < 32 → top ≤ step + i / 2 → step + i / 2 < top + 43
     → (get_or next i 0 ≡ bit_xor (get_or plain i 0) (get_or s (lane_place top step i) 0))
-    × (get_or next_weighted i 0
-    ≡ bit_xor (double (get_or weighted i 0)) (get_or s (lane_place top step i) 0)))
+    × (get_or next_weighted i 0 ≡ bit_xor (double (get_or weighted i 0)) (get_or s (lane_place top step i) 0)))
     → ((i : ℕ) → i < 32 → (step + i / 2 < top) ⊎ (top + 43 ≤ step + i / 2)
     → (get_or next i 0 ≡ get_or plain i 0) × (get_or next_weighted i 0 ≡ get_or weighted i 0))
     → HasTaken s top (step + 1) next next_weighted
 HasTaken-step s top step plain weighted next next_weighted bytes least sums takes stays =
     let lane : (i : ℕ) → i < 32
-    → (get_or next i 0 ≡ first_syndrome (bytes_taken s top (step + 1) i))
-    × (get_or next_weighted i 0 ≡ second_syndrome (bytes_taken s top (step + 1) i)) =
+    → (get_or next i 0 ≡ first_syndrome (bytes_taken s top (step + 1) i)) × (get_or next_weighted i 0 ≡ second_syndrome (bytes_taken s top (step + 1) i)) =
     λ i h.
     let within : i / 2 ≤ top = omega arith in
     let rests : (step + i / 2 < top) ⊎ (top + 43 ≤ step + i / 2)
-    → (get_or next i 0 ≡ first_syndrome (bytes_taken s top (step + 1) i))
-    × (get_or next_weighted i 0 ≡ second_syndrome (bytes_taken s top (step + 1) i)) =
+    → (get_or next i 0 ≡ first_syndrome (bytes_taken s top (step + 1) i)) × (get_or next_weighted i 0 ≡ second_syndrome (bytes_taken s top (step + 1) i)) =
     λ outside.
     let same = taken-same s top step i within outside in
-    let stay = stays i h outside in (
-      stay.0 ∙ sums.first i h ∙ ap first_syndrome (sym same),
-      stay.1 ∙ sums.second i h ∙ ap second_syndrome (sym same),
-    ) in
+    let stay = stays i h outside in
+    (stay.0 ∙ sums.first i h ∙ ap first_syndrome (sym same), stay.1 ∙ sums.second i h ∙ ap second_syndrome (sym same)) in
     elim (cases_lt (step + i / 2) top) [
       | inl before ↦ rests (inl before)
       | inr begun ↦ elim (cases_lt (step + i / 2) (top + 43)) [
@@ -125,11 +105,9 @@ HasTaken-step s top step plain weighted next next_weighted bytes least sums take
             let took = takes i h begun running in
             let byte = get_or s (lane_place top step i) 0 in
             let so_far = bytes_taken s top step i in (
-              took.0 ∙ ap (λ z. bit_xor z byte) (sums.first i h)
-                  ∙ sym (ap first_syndrome more ∙ first_syndrome-push so_far byte),
+              took.0 ∙ ap (λ z. bit_xor z byte) (sums.first i h) ∙ sym (ap first_syndrome more ∙ first_syndrome-push so_far byte),
               took.1 ∙ ap (λ z. bit_xor (double z) byte) (sums.second i h)
-                  ∙ sym (ap second_syndrome more
-                  ∙ second_syndrome-push so_far byte (bytes (lane_place top step i))),
+                  ∙ sym (ap second_syndrome more ∙ second_syndrome-push so_far byte (bytes (lane_place top step i))),
             )
         | inr past ↦ rests (inr past)
       ]
@@ -142,39 +120,30 @@ pub HasTaken-first : (s zeros zeros_weighted lanes next next_weighted : List ℕ
     → ((i : ℕ) → i < 30 → get_or lanes i 0 ≡ 0)
     → get_or lanes 30 0 ≡ get_or s 12 0 → get_or lanes 31 0 ≡ get_or s 13 0
     → ((i : ℕ) → i < 32 → get_or next i 0 ≡ bit_xor (get_or zeros i 0) (get_or lanes i 0))
-    → ((i : ℕ) → i < 32
-    → get_or next_weighted i 0 ≡ bit_xor (double (get_or zeros_weighted i 0)) (get_or lanes i 0))
+    → ((i : ℕ) → i < 32 → get_or next_weighted i 0 ≡ bit_xor (double (get_or zeros_weighted i 0)) (get_or lanes i 0))
     → HasTaken s 15 1 next next_weighted
-HasTaken-first s zeros zeros_weighted lanes next next_weighted bytes e f none low high plain
-    weighted =
-    let lane_is : (i : ℕ) → i < 32 → 15 ≤ i / 2
-    → get_or lanes i 0 ≡ get_or s (lane_place 15 0 i) 0 =
+HasTaken-first s zeros zeros_weighted lanes next next_weighted bytes e f none low high plain weighted =
+    let lane_is : (i : ℕ) → i < 32 → 15 ≤ i / 2 → get_or lanes i 0 ≡ get_or s (lane_place 15 0 i) 0 =
     λ i h last. elim (cases_lt i 31) [
       | inl lower ↦
           let here : i ≡ 30 = omega arith in
           let place : lane_place 15 0 30 ≡ 12 = omega arith in
-          ap (λ k. get_or lanes k 0) here ∙ low ∙ ap (λ p. get_or s p 0) (sym place)
-          ∙ ap (λ k. get_or s (lane_place 15 0 k) 0) (sym here)
+          ap (λ k. get_or lanes k 0) here ∙ low ∙ ap (λ p. get_or s p 0) (sym place) ∙ ap (λ k. get_or s (lane_place 15 0 k) 0) (sym here)
       | inr upper ↦
           let here : i ≡ 31 = omega arith in
           let place : lane_place 15 0 31 ≡ 13 = omega arith in
-          ap (λ k. get_or lanes k 0) here ∙ high ∙ ap (λ p. get_or s p 0) (sym place)
-          ∙ ap (λ k. get_or s (lane_place 15 0 k) 0) (sym here)
+          ap (λ k. get_or lanes k 0) here ∙ high ∙ ap (λ p. get_or s p 0) (sym place) ∙ ap (λ k. get_or s (lane_place 15 0 k) 0) (sym here)
     ] in
-    let zero_is : (i : ℕ) → i < 32 → get_or zeros_weighted i 0 ≡ 0 =
-    λ i h. ap (λ v. get_or v i 0) f ∙ get_or-replicate 32 i 0 0 h in
+    let zero_is : (i : ℕ) → i < 32 → get_or zeros_weighted i 0 ≡ 0 = λ i h. ap (λ v. get_or v i 0) f ∙ get_or-replicate 32 i 0 0 h in
     HasTaken-step s 15 0 zeros zeros_weighted next next_weighted bytes (lit≤ tt)
     (rw e (rw f (HasTaken-none s 15 0 (lit≤ tt))))
     (λ i h begun running.
-    let lane = lane_is i h (omega arith) in (
-      plain i h ∙ ap (bit_xor (get_or zeros i 0)) lane,
-      weighted i h ∙ ap (bit_xor (double (get_or zeros_weighted i 0))) lane,
-    ))
+    let lane = lane_is i h (omega arith) in
+    (plain i h ∙ ap (bit_xor (get_or zeros i 0)) lane, weighted i h ∙ ap (bit_xor (double (get_or zeros_weighted i 0))) lane))
     (λ i h outside.
     let lane = none i (early i h outside) in (
       plain i h ∙ ap (bit_xor (get_or zeros i 0)) lane ∙ xor_zero_r (get_or zeros i 0),
-      weighted i h ∙ ap (bit_xor (double (get_or zeros_weighted i 0))) lane
-          ∙ xor_zero_r (double (get_or zeros_weighted i 0))
+      weighted i h ∙ ap (bit_xor (double (get_or zeros_weighted i 0))) lane ∙ xor_zero_r (double (get_or zeros_weighted i 0))
           ∙ ap double (zero_is i h) ∙ double-zero ∙ sym (zero_is i h),
     ))
   where
@@ -192,102 +161,78 @@ corner_none x y i h =
 -- ---- diagonals in their order
 
 -- the lanes of ended diagonals, the last one first
-pub SumsOf-rising : (s : List ℕ) (top step count : ℕ) (number : ℕ → ℕ)
-    (plain weighted next next_weighted : List ℕ) → count ≤ 32
-    → ((i : ℕ) → i < count
-    → (number i / 2 + 15 ≡ top + i / 2) × ((number i % 2 ≡ i % 2) × (number i / 2 + 43 ≤ step)))
+pub SumsOf-rising : (s : List ℕ) (top step count : ℕ) (number : ℕ → ℕ) (plain weighted next next_weighted : List ℕ) → count ≤ 32
+    → ((i : ℕ) → i < count → (number i / 2 + 15 ≡ top + i / 2) × ((number i % 2 ≡ i % 2) × (number i / 2 + 43 ≤ step)))
     → HasTaken s top step plain weighted
     → ((i : ℕ) → i < 32 → get_or next i 0 ≡ get_or plain (2 * (15 - i / 2) + i % 2) 0)
     → ((i : ℕ) → i < 32 → get_or next_weighted i 0 ≡ get_or weighted (2 * (15 - i / 2) + i % 2) 0)
-    → SumsOf (λ i. bytes_at s (diagonal_input (number i % 2) (number i / 2))) count
-    next next_weighted
+    → SumsOf (λ i. bytes_at s (diagonal_input (number i % 2) (number i / 2))) count next next_weighted
 SumsOf-rising s top step count number plain weighted next next_weighted few is sums firsts seconds =
-    let word : (i : ℕ) → i < count
-    → bytes_taken s top step (2 * (15 - i / 2) + i % 2)
-    ≡ bytes_at s (diagonal_input (number i % 2) (number i / 2)) =
+    let word : (i : ℕ) → i < count → bytes_taken s top step (2 * (15 - i / 2) + i % 2) ≡ bytes_at s (diagonal_input (number i % 2) (number i / 2)) =
     λ i h.
     let numbered = is i h in
     whole s top step i (number i) (omega arith) numbered.0 numbered.1.0 numbered.1.1 in
     record {
-      first = λ i h. firsts i (omega arith) ∙ sums.first (2 * (15 - i / 2) + i % 2) (omega arith)
-          ∙ ap first_syndrome (word i h);
-      second = λ i h. seconds i (omega arith) ∙ sums.second (2 * (15 - i / 2) + i % 2) (omega arith)
-          ∙ ap second_syndrome (word i h);
+      first = λ i h. firsts i (omega arith) ∙ sums.first (2 * (15 - i / 2) + i % 2) (omega arith) ∙ ap first_syndrome (word i h);
+      second = λ i h. seconds i (omega arith) ∙ sums.second (2 * (15 - i / 2) + i % 2) (omega arith) ∙ ap second_syndrome (word i h);
     }
   where
-    whole : (s : List ℕ) (top step i n : ℕ) → i < 32 → n / 2 + 15 ≡ top + i / 2 → n % 2 ≡ i % 2
-        → n / 2 + 43 ≤ step
-        → bytes_taken s top step (2 * (15 - i / 2) + i % 2)
-        ≡ bytes_at s (diagonal_input (n % 2) (n / 2))
+    whole : (s : List ℕ) (top step i n : ℕ) → i < 32 → n / 2 + 15 ≡ top + i / 2 → n % 2 ≡ i % 2 → n / 2 + 43 ≤ step
+        → bytes_taken s top step (2 * (15 - i / 2) + i % 2) ≡ bytes_at s (diagonal_input (n % 2) (n / 2))
     whole s top step i n h e f past =
         let j = 2 * (15 - i / 2) + i % 2 in
         let diagonal : top - j / 2 ≡ n / 2 = omega arith in
         let plane : j % 2 ≡ n % 2 = omega arith in
         ap (λ d. take (step - d) (bytes_at s (diagonal_input (j % 2) d))) diagonal
         ∙ ap (λ k. take (step - n / 2) (bytes_at s (diagonal_input k (n / 2)))) plane
-        ∙ take_all (step - n / 2) (bytes_at s (diagonal_input (n % 2) (n / 2)))
-        (omega (arith, length-word s (n % 2) (n / 2)))
+        ∙ take_all (step - n / 2) (bytes_at s (diagonal_input (n % 2) (n / 2))) (omega (arith, length-word s (n % 2) (n / 2)))
 
 -- the sums of the first 20 words, and of the 32 behind them
-pub SumsOf-joined : (word : ℕ → List ℕ)
-    (low low_weighted high high_weighted plain weighted : List ℕ)
+pub SumsOf-joined : (word : ℕ → List ℕ) (low low_weighted high high_weighted plain weighted : List ℕ)
     → SumsOf word 20 low low_weighted → SumsOf (λ i. word (20 + i)) 32 high high_weighted
-    → ((i : ℕ) → i < 20 → get_or plain i 0 ≡ get_or low i 0)
-    → ((i : ℕ) → i < 32 → get_or plain (20 + i) 0 ≡ get_or high i 0)
+    → ((i : ℕ) → i < 20 → get_or plain i 0 ≡ get_or low i 0) → ((i : ℕ) → i < 32 → get_or plain (20 + i) 0 ≡ get_or high i 0)
     → ((i : ℕ) → i < 20 → get_or weighted i 0 ≡ get_or low_weighted i 0)
     → ((i : ℕ) → i < 32 → get_or weighted (20 + i) 0 ≡ get_or high_weighted i 0)
     → SumsOf word 52 plain weighted
 SumsOf-joined word low low_weighted high high_weighted plain weighted below above p q r t =
-    let lane : (i : ℕ) → i < 52
-    → (get_or plain i 0 ≡ first_syndrome (word i))
-    × (get_or weighted i 0 ≡ second_syndrome (word i)) =
+    let lane : (i : ℕ) → i < 52 → (get_or plain i 0 ≡ first_syndrome (word i)) × (get_or weighted i 0 ≡ second_syndrome (word i)) =
     λ i h. elim (cases_lt i 20) [
       | inl lower ↦ (p i lower ∙ below.first i lower, r i lower ∙ below.second i lower)
       | inr upper ↦
           let k = i - 20 in
           let place : 20 + k ≡ i = omega arith in
           let few : k < 32 = omega arith in (
-            ap (λ n. get_or plain n 0) (sym place) ∙ q k few ∙ above.first k few
-                ∙ ap (λ n. first_syndrome (word n)) place,
-            ap (λ n. get_or weighted n 0) (sym place) ∙ t k few ∙ above.second k few
-                ∙ ap (λ n. second_syndrome (word n)) place,
+            ap (λ n. get_or plain n 0) (sym place) ∙ q k few ∙ above.first k few ∙ ap (λ n. first_syndrome (word n)) place,
+            ap (λ n. get_or weighted n 0) (sym place) ∙ t k few ∙ above.second k few ∙ ap (λ n. second_syndrome (word n)) place,
           )
     ] in
     record { first = λ i h. (lane i h).0; second = λ i h. (lane i h).1 }
 
 -- the two rows of the diagonals' parity
-pub SumsOf-parity : (s : List ℕ) (count : ℕ) (number : ℕ → ℕ)
-    (first second plain weighted one one_weighted two two_weighted : List ℕ) → count ≤ 32
-    → SumsOf (λ i. bytes_at s (diagonal_input (number i % 2) (number i / 2))) count plain weighted
-    → AreBytes s
+pub SumsOf-parity : (s : List ℕ) (count : ℕ) (number : ℕ → ℕ) (first second plain weighted one one_weighted two two_weighted : List ℕ) → count ≤ 32
+    → SumsOf (λ i. bytes_at s (diagonal_input (number i % 2) (number i / 2))) count plain weighted → AreBytes s
     → ((i : ℕ) → i < 32 → get_or first i 0 ≡ get_or s (2248 + number i) 0)
     → ((i : ℕ) → i < 32 → get_or second i 0 ≡ get_or s (2300 + number i) 0)
     → ((i : ℕ) → i < 32 → get_or one i 0 ≡ bit_xor (get_or plain i 0) (get_or first i 0))
-    → ((i : ℕ) → i < 32
-    → get_or one_weighted i 0 ≡ bit_xor (double (get_or weighted i 0)) (get_or first i 0))
+    → ((i : ℕ) → i < 32 → get_or one_weighted i 0 ≡ bit_xor (double (get_or weighted i 0)) (get_or first i 0))
     → ((i : ℕ) → i < 32 → get_or two i 0 ≡ bit_xor (get_or one i 0) (get_or second i 0))
-    → ((i : ℕ) → i < 32
-    → get_or two_weighted i 0 ≡ bit_xor (double (get_or one_weighted i 0)) (get_or second i 0))
+    → ((i : ℕ) → i < 32 → get_or two_weighted i 0 ≡ bit_xor (double (get_or one_weighted i 0)) (get_or second i 0))
     → SumsOf (λ i. diagonal_of s (number i)) count two two_weighted
-SumsOf-parity s count number first second plain weighted one one_weighted two two_weighted few
-    sums bytes firsts seconds f1 s1 f2 s2 =
+SumsOf-parity s count number first second plain weighted one one_weighted two two_weighted few sums bytes firsts seconds f1 s1 f2 s2 =
     let input : ℕ → List ℕ = λ i. bytes_at s (diagonal_input (number i % 2) (number i / 2)) in
     let with_first : ℕ → List ℕ = λ i. input i ++ get_or first i 0 ∷ [] in
     let step = SumsOf-more input with_first count plain weighted first one one_weighted sums
     (λ i k. rw (firsts i (omega arith)) (bytes (2248 + number i))) (λ i k. refl)
     (λ i k. f1 i (omega arith)) (λ i k. s1 i (omega arith)) in
-    SumsOf-more with_first (λ i. diagonal_of s (number i)) count one one_weighted second two
-    two_weighted step
+    SumsOf-more with_first (λ i. diagonal_of s (number i)) count one one_weighted second two two_weighted step
     (λ i k. rw (seconds i (omega arith)) (bytes (2300 + number i)))
     (λ i k.
     let n = number i in
     let p : place_of (n % 2) (1118 + n / 2) ≡ 2248 + n = omega arith in
     let q : place_of (n % 2) (1144 + n / 2) ≡ 2300 + n = omega arith in
     diagonal_bytes-parts s (n % 2) (n / 2)
-    ∙ ap (λ a. input i ++ a ∷ get_or s (place_of (n % 2) (1144 + n / 2)) 0 ∷ [])
-    (ap (λ k. get_or s k 0) p ∙ sym (firsts i (omega arith)))
-    ∙ ap (λ b. input i ++ get_or first i 0 ∷ b ∷ [])
-    (ap (λ k. get_or s k 0) q ∙ sym (seconds i (omega arith)))
+    ∙ ap (λ a. input i ++ a ∷ get_or s (place_of (n % 2) (1144 + n / 2)) 0 ∷ []) (ap (λ k. get_or s k 0) p ∙ sym (firsts i (omega arith)))
+    ∙ ap (λ b. input i ++ get_or first i 0 ∷ b ∷ []) (ap (λ k. get_or s k 0) q ∙ sym (seconds i (omega arith)))
     ∙ sym (append_assoc (input i) (get_or first i 0 ∷ []) (get_or second i 0 ∷ [])))
     (λ i k. f2 i (omega arith)) (λ i k. s2 i (omega arith))
 
@@ -303,8 +248,7 @@ is_mask-all : agree_below is_mask (λ _. true) 146 ≡ true
 is_mask-all = refl
 
 lane_mask-entry : (k : ℕ) → k < 146 → get_or LANE_MASKS k 0 ≡ mask_at k
-lane_mask-entry k h = eqb-true (get_or LANE_MASKS k 0) (mask_at k)
-    (agree_below_at is_mask (λ _. true) 146 k is_mask-all h)
+lane_mask-entry k h = eqb-true (get_or LANE_MASKS k 0) (mask_at k) (agree_below_at is_mask (λ _. true) 146 k is_mask-all h)
 
 pub lane_mask-yes : (k : ℕ) → 30 ≤ k → k < 116 → get_or LANE_MASKS k 0 ≡ 255
 lane_mask-yes k low high =
@@ -313,8 +257,7 @@ lane_mask-yes k low high =
     ∙ cond-true (nat_lt k 116) 255 0 (lt-ltb k 116 high)
 
 pub lane_mask-no : (k : ℕ) → k < 146 → (k < 30) ⊎ (116 ≤ k) → get_or LANE_MASKS k 0 ≡ 0
-lane_mask-no k h (inl before) = lane_mask-entry k h
-    ∙ cond-true (nat_lt k 30) 0 (if nat_lt k 116 then 255 else 0) (lt-ltb k 30 before)
+lane_mask-no k h (inl before) = lane_mask-entry k h ∙ cond-true (nat_lt k 30) 0 (if nat_lt k 116 then 255 else 0) (lt-ltb k 30 before)
 lane_mask-no k h (inr past) =
     lane_mask-entry k h
     ∙ cond-false (nat_lt k 30) 0 (if nat_lt k 116 then 255 else 0) (le-ltb k 30 (omega arith))
@@ -323,17 +266,13 @@ lane_mask-no k h (inr past) =
 -- lanes under a mask
 mask_lanes-lane : (lanes mask : List ℕ) → length lanes ≡ 32 → length mask ≡ 32 → (i : ℕ) → i < 32
     → get_or (zip2 bit_and lanes mask) i 0 ≡ bit_and (get_or lanes i 0) (get_or mask i 0)
-mask_lanes-lane lanes mask hl ht i h =
-    get_or-zip2 bit_and lanes mask i 0 0 0 (omega arith) (omega arith)
+mask_lanes-lane lanes mask hl ht i h = get_or-zip2 bit_and lanes mask i 0 0 0 (omega arith) (omega arith)
 
-pub mask_lanes-takes : (lanes mask : List ℕ) → length lanes ≡ 32 → length mask ≡ 32
-    → Each1 (Fits w8) lanes
-    → (i : ℕ) → i < 32 → get_or mask i 0 ≡ 255
-    → get_or (zip2 bit_and lanes mask) i 0 ≡ get_or lanes i 0
+pub mask_lanes-takes : (lanes mask : List ℕ) → length lanes ≡ 32 → length mask ≡ 32 → Each1 (Fits w8) lanes
+    → (i : ℕ) → i < 32 → get_or mask i 0 ≡ 255 → get_or (zip2 bit_and lanes mask) i 0 ≡ get_or lanes i 0
 mask_lanes-takes lanes mask hl ht fits i h e =
     let x = get_or lanes i 0 in
-    let small : x < 256 =
-    Each1-get_or (λ n. n < 256) lanes i 0 (omega arith) (below_from_Fits w8 lanes fits) in
+    let small : x < 256 = Each1-get_or (λ n. n < 256) lanes i 0 (omega arith) (below_from_Fits w8 lanes fits) in
     let whole : x % 256 ≡ x = omega arith in
     mask_lanes-lane lanes mask hl ht i h ∙ ap (bit_and x) e ∙ and_mask x 8 ∙ whole
 
@@ -351,12 +290,10 @@ is_rising-all : agree_below is_rising (λ _. true) 32 ≡ true
 is_rising-all = refl
 
 -- lanes by the places of the table
-pub rising_lane : (v w : List ℕ) → length v ≡ 32 → (i : ℕ) → i < 32
-    → get_or (pick_l 0 (v ++ w) RISING) i 0 ≡ get_or v (2 * (15 - i / 2) + i % 2) 0
+pub rising_lane : (v w : List ℕ) → length v ≡ 32 → (i : ℕ) → i < 32 → get_or (pick_l 0 (v ++ w) RISING) i 0 ≡ get_or v (2 * (15 - i / 2) + i % 2) 0
 rising_lane v w long i h =
     let place : get_or RISING i 0 ≡ 2 * (15 - i / 2) + i % 2 =
-    eqb-true (get_or RISING i 0) (2 * (15 - i / 2) + i % 2)
-    (agree_below_at is_rising (λ _. true) 32 i is_rising-all h) in
+    eqb-true (get_or RISING i 0) (2 * (15 - i / 2) + i % 2) (agree_below_at is_rising (λ _. true) 32 i is_rising-all h) in
     get_or-map (λ k. get_or (v ++ w) k 0) RISING i 0 0 h
     ∙ ap (λ k. get_or (v ++ w) k 0) place
     ∙ get_or_append_left v w 0 (2 * (15 - i / 2) + i % 2) (omega arith)

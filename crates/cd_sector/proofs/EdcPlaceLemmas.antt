@@ -14,25 +14,18 @@ use Rattle.cd_code.proofs.general.Lists.{front-same, length-part}
 use Rattle.cd_code.proofs.EdcLemmas.{edc_unique}
 
 -- a list that has four bytes in the place of the EDC
-pub edc_written : (old new four : List ℕ) → length old ≡ 2352 → length four ≡ 4
-    → new ≡ take 2064 old ++ (four ++ drop 2068 old)
+pub edc_written : (old new four : List ℕ) → length old ≡ 2352 → length four ≡ 4 → new ≡ take 2064 old ++ (four ++ drop 2068 old)
     → (take 2068 new ≡ take 2064 old ++ four)
     × ((k : ℕ) → (k < 2064) ⊎ (2068 ≤ k) → get_or new k 0 ≡ get_or old k 0)
 edc_written old new four size long e =
     let front = take 2064 old in
     let front_len : length front ≡ 2064 = length-take-le 2064 old (omega (arith, size)) in
-    let joined : (front ++ four) ++ drop 2068 old ≡ new =
-    append_assoc front four (drop 2068 old) ∙ sym e in
-    let both_len : length (front ++ four) ≡ 2068 =
-    length-append front four ∙ ap (λ n. n + length four) front_len ∙ ap (λ n. 2064 + n) long in (
-      ap (take 2068) (sym joined)
-          ∙ ap (λ n. take n ((front ++ four) ++ drop 2068 old)) (sym both_len)
-          ∙ take-append_seam (front ++ four) (drop 2068 old),
+    let joined : (front ++ four) ++ drop 2068 old ≡ new = append_assoc front four (drop 2068 old) ∙ sym e in
+    let both_len : length (front ++ four) ≡ 2068 = length-append front four ∙ ap (λ n. n + length four) front_len ∙ ap (λ n. 2064 + n) long in (
+      ap (take 2068) (sym joined) ∙ ap (λ n. take n ((front ++ four) ++ drop 2068 old)) (sym both_len) ∙ take-append_seam (front ++ four) (drop 2068 old),
       λ k h. elim h [
         | inl low ↦
-            ap (λ v. get_or v k 0) e
-            ∙ get_or_append_left front (four ++ drop 2068 old) 0 k (omega (arith, front_len))
-            ∙ get_or-take 2064 old k 0 low
+            ap (λ v. get_or v k 0) e ∙ get_or_append_left front (four ++ drop 2068 old) 0 k (omega (arith, front_len)) ∙ get_or-take 2064 old k 0 low
         | inr high ↦
             let f : 2068 + (k - 2068) ≡ k = omega arith in
             ap (λ v. get_or v k 0) (sym joined)
@@ -42,25 +35,21 @@ edc_written old new four size long e =
     )
 
 -- the bytes up to the EDC's end, where its four bytes stand in their place
-edc_front : (new four : List ℕ) → slice_range new 2064 2068 ≡ four
-    → take 2068 new ≡ take 2064 new ++ four
+edc_front : (new four : List ℕ) → slice_range new 2064 2068 ≡ four → take 2068 new ≡ take 2064 new ++ four
 edc_front new four e = take-add 2064 4 new ∙ ap (λ v. take 2064 new ++ v) e
 
 -- the EDC's word written in its place
-pub edc_filled : (old new : List ℕ) (w : ℕ) → length old ≡ 2352 → length new ≡ 2352
-    → IsEdc (take 2064 old) w
+pub edc_filled : (old new : List ℕ) (w : ℕ) → length old ≡ 2352 → length new ≡ 2352 → IsEdc (take 2064 old) w
     → slice_range new 2064 2068 ≡ to_le_bytes w32 w
     → ((k : ℕ) → (k < 2064) ⊎ (2068 ≤ k) → get_or new k 0 ≡ get_or old k 0)
     → remainder (bits (take 2068 new)) ≡ 0
 edc_filled old new w old_size new_size edc put stays =
     let front : take 2064 new ≡ take 2064 old =
     front-same new old 2064 (omega arith) (omega arith) (λ i below. stays i (inl below)) in
-    ap (λ v. remainder (bits v))
-    (edc_front new (to_le_bytes w32 w) put ∙ ap (λ v. v ++ to_le_bytes w32 w) front) ∙ edc.divides
+    ap (λ v. remainder (bits v)) (edc_front new (to_le_bytes w32 w) put ∙ ap (λ v. v ++ to_le_bytes w32 w) front) ∙ edc.divides
 
 -- the test of the word that stands in the EDC's place
-pub edc_told : (s : List ℕ) (w stored : ℕ) (r : Bool) → length s ≡ 2352 → AreBytes s
-    → IsEdc (take 2064 s) w
+pub edc_told : (s : List ℕ) (w stored : ℕ) (r : Bool) → length s ≡ 2352 → AreBytes s → IsEdc (take 2064 s) w
     → stored ≡ from_le_bytes w32 (slice_range s 2064 2068) → Decides r (w ≡ stored)
     → r ≡ (remainder (bits (take 2068 s)) == 0)
 edc_told s w stored r size bytes edc read told =
@@ -70,8 +59,7 @@ edc_told s w stored r size bytes edc read told =
     let front_len : length front ≡ 2064 = length-take-le 2064 s (omega (arith, size)) in
     let whole_len : length (take 2068 s) ≡ 2068 = length-take-le 2068 s (omega (arith, size)) in
     let right : w ≡ stored → four ≡ to_le_bytes w32 w =
-    λ same. sym (le_bytes_4 four w (length-part s 2064 4 (omega (arith, size)))
-    (AreBytes-take _ 4 (AreBytes-drop s 2064 bytes)) (same ∙ read)) in
+    λ same. sym (le_bytes_4 four w (length-part s 2064 4 (omega (arith, size))) (AreBytes-take _ 4 (AreBytes-drop s 2064 bytes)) (same ∙ read)) in
     let goal : Decides (remainder (bits (take 2068 s)) == 0) (w ≡ stored) =
     Decides-like (remainder (bits (take 2068 s)) == 0)
     (λ none.
@@ -79,19 +67,15 @@ edc_told s w stored r size bytes edc read told =
     edc_unique (take 2068 s) (front ++ to_le_bytes w32 w)
     (record {
       bytes_left = AreBytes-take s 2068 bytes;
-      bytes_right =
-          AreBytes-append front (to_le_bytes w32 w) (AreBytes-take s 2064 bytes) (AreBytes-word w);
-      same_length =
-          whole_len ∙ sym (length-append front (to_le_bytes w32 w) ∙ ap (λ n. n + 4) front_len);
+      bytes_right = AreBytes-append front (to_le_bytes w32 w) (AreBytes-take s 2064 bytes) (AreBytes-word w);
+      same_length = whole_len ∙ sym (length-append front (to_le_bytes w32 w) ∙ ap (λ n. n + 4) front_len);
       front = λ i below.
           let low : i < 2064 = omega (arith, whole_len) in
           get_or-take 2068 s i 0 (omega arith)
-          ∙ sym (get_or_append_left front (to_le_bytes w32 w) 0 i (omega (arith, front_len))
-          ∙ get_or-take 2064 s i 0 low);
+          ∙ sym (get_or_append_left front (to_le_bytes w32 w) 0 i (omega (arith, front_len)) ∙ get_or-take 2064 s i 0 low);
     })
     (none ∙ sym edc.divides) in
-    let found : four ≡ to_le_bytes w32 w =
-    append_cancel_left front four (to_le_bytes w32 w) (sym split ∙ same) in
+    let found : four ≡ to_le_bytes w32 w = append_cancel_left front four (to_le_bytes w32 w) (sym split ∙ same) in
     sym (read ∙ ap (from_le_bytes w32) found ∙ from_le_bytes-to_le_bytes_4 w edc.fits))
     (λ same. ap (λ v. remainder (bits v)) (split ∙ ap (λ v. front ++ v) (right same)) ∙ edc.divides)
     (Decides-eqb (remainder (bits (take 2068 s))) 0) in

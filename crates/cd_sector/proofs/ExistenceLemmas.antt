@@ -34,8 +34,7 @@ edc_of_front v h (suc n) k =
     let low : before.0 % 256 < 256 = omega arith in
     let t = one_byte (bit_xor (before.0 % 256) x) (xor_lt 8 (before.0 % 256) x low (h n)) in
     let longer : take n v ++ x ∷ [] ≡ take (suc n) v =
-    sym (take_more v n 0 (omega arith))
-    ∙ (let e : n + 1 ≡ suc n = omega arith in ap (λ m. take m v) e) in
+    sym (take_more v n 0 (omega arith)) ∙ (let e : n + 1 ≡ suc n = omega arith in ap (λ m. take m v) e) in
     (bit_xor (before.0 / 256) t.0, rw longer at (IsEdc-push (take n v) before.0 x t.0 before.1 t.1))
 
 -- ---- pairs
@@ -45,19 +44,15 @@ record Made (word : ℕ → List ℕ) (start count n : ℕ) (old : List ℕ) : T
   sector : List ℕ
   size : length sector ≡ length old
   bytes : AreBytes sector
-  filled : Filled (λ i. IsPair (first_syndrome (word i)) (second_syndrome (word i))) start
-      count n old sector
+  filled : Filled (λ i. IsPair (first_syndrome (word i)) (second_syndrome (word i))) start count n old sector
 
-made : (word : ℕ → List ℕ) (start count : ℕ) (old : List ℕ)
-    → ((i : ℕ) → i < count → first_syndrome (word i) < 256)
-    → AreBytes old → start + 2 * count ≤ length old → (n : ℕ) → n ≤ count
-    → Made word start count n old
+made : (word : ℕ → List ℕ) (start count : ℕ) (old : List ℕ) → ((i : ℕ) → i < count → first_syndrome (word i) < 256)
+    → AreBytes old → start + 2 * count ≤ length old → (n : ℕ) → n ≤ count → Made word start count n old
 made word start count old low h room zero k = record {
   sector = old;
   size = refl;
   bytes = h;
-  filled = Filled-none (λ i. IsPair (first_syndrome (word i)) (second_syndrome (word i)))
-      start count old;
+  filled = Filled-none (λ i. IsPair (first_syndrome (word i)) (second_syndrome (word i))) start count old;
 }
 made word start count old low h room (suc n) k =
     let before = made word start count old low h room n (omega arith) in
@@ -68,21 +63,17 @@ made word start count old low h room (suc n) k =
     let p_lt : p < 256 = low n (omega arith) in
     let a_lt : a < 256 = product-lt 244 (bit_xor p (double (double q))) (lit< tt) in
     let b_lt : b < 256 = xor_lt 8 p a p_lt a_lt in
-    let pair : IsPair p q a b =
-    (λ v _ firsts seconds. IsCodeWord-pair v p q a p_lt firsts seconds refl) in
+    let pair : IsPair p q a b = (λ v _ firsts seconds. IsCodeWord-pair v p q a p_lt firsts seconds refl) in
     let one = set before.sector (start + n) a in
     let two = set one (start + count + n) b in
     let e : n + 1 ≡ suc n = omega arith in
     record {
       sector = two;
-      size = length-set one (start + count + n) b ∙ length-set before.sector (start + n) a
-          ∙ before.size;
-      bytes = AreBytes-set one (start + count + n) b
-          (AreBytes-set before.sector (start + n) a before.bytes a_lt) b_lt;
+      size = length-set one (start + count + n) b ∙ length-set before.sector (start + n) a ∙ before.size;
+      bytes = AreBytes-set one (start + count + n) b (AreBytes-set before.sector (start + n) a before.bytes a_lt) b_lt;
       filled =
           rw e at
-          (Filled-more (λ i. IsPair (first_syndrome (word i)) (second_syndrome (word i))) start
-          count n old before.sector a b
+          (Filled-more (λ i. IsPair (first_syndrome (word i)) (second_syndrome (word i))) start count n old before.sector a b
           (omega arith) (omega (arith, before.size)) pair before.filled);
     }
 
@@ -90,11 +81,9 @@ made word start count old low h room (suc n) k =
 
 AreBytes-replicate : (n : ℕ) → AreBytes (replicate n 0)
 AreBytes-replicate n = λ i. elim (cases_lt i n) [
-  | inl inside ↦ let e : get_or (replicate {A = ℕ} n 0) i 0 ≡ 0 =
-      get_or-replicate n i 0 0 inside in rw e (lit< tt)
+  | inl inside ↦ let e : get_or (replicate {A = ℕ} n 0) i 0 ≡ 0 = get_or-replicate n i 0 0 inside in rw e (lit< tt)
   | inr past ↦
-      let e : get_or (replicate {A = ℕ} n 0) i 0 ≡ 0 =
-      get_or_past (replicate n 0) i 0 (omega (arith, length-replicate {A = ℕ} n 0)) in
+      let e : get_or (replicate {A = ℕ} n 0) i 0 ≡ 0 = get_or_past (replicate n 0) i 0 (omega (arith, length-replicate {A = ℕ} n 0)) in
       rw e (lit< tt)
 ]
 
@@ -105,15 +94,13 @@ AreBytes-sync = λ i. elim (cases_lt i 12) [
 ]
   where
     sync_byte : (i : ℕ) → i < 12 → get_or sync_field i 0 < 256
-    sync_byte i h = ltb-true (get_or sync_field i 0) 256
-        (agree_below_at (λ k. nat_lt (get_or sync_field k 0) 256) (λ _. true) 12 i refl h)
+    sync_byte i h = ltb-true (get_or sync_field i 0) 256 (agree_below_at (λ k. nat_lt (get_or sync_field k 0) 256) (λ _. true) 12 i refl h)
 
 -- the content, and 00 behind it
 abbrev blank : List ℕ → List ℕ → List ℕ
 blank header user = content_of header user ++ replicate 288 0
 
-AreBytes-blank : (header user : List ℕ) → AreBytes header → AreBytes user
-    → AreBytes (blank header user)
+AreBytes-blank : (header user : List ℕ) → AreBytes header → AreBytes user → AreBytes (blank header user)
 AreBytes-blank header user h k =
     AreBytes-append (content_of header user) (replicate 288 0)
     (AreBytes-append sync_field (header ++ 1 ∷ user) AreBytes-sync
@@ -124,15 +111,12 @@ AreBytes-blank header user h k =
     one e zero = e
     one e (suc i) = lit< tt
 
-length-content : (header user : List ℕ) → length header ≡ 3 → length user ≡ 2048
-    → length (content_of header user) ≡ 2064
+length-content : (header user : List ℕ) → length header ≡ 3 → length user ≡ 2048 → length (content_of header user) ≡ 2064
 length-content header user h k =
-    let a : length (header ++ 1 ∷ user) ≡ 2052 =
-    length-append header (1 ∷ user) ∙ ap (λ n. n + length (1 ∷ user)) h ∙ ap (λ n. 3 + suc n) k in
+    let a : length (header ++ 1 ∷ user) ≡ 2052 = length-append header (1 ∷ user) ∙ ap (λ n. n + length (1 ∷ user)) h ∙ ap (λ n. 3 + suc n) k in
     length-append sync_field (header ++ 1 ∷ user) ∙ ap (λ n. 12 + n) a
 
-length-blank : (header user : List ℕ) → length header ≡ 3 → length user ≡ 2048
-    → length (blank header user) ≡ 2352
+length-blank : (header user : List ℕ) → length header ≡ 3 → length user ≡ 2048 → length (blank header user) ≡ 2352
 length-blank header user h k =
     length-append (content_of header user) (replicate 288 0)
     ∙ ap (λ n. n + length (replicate {A = ℕ} 288 0)) (length-content header user h k)
@@ -201,8 +185,7 @@ pub with_diagonals : (old : List ℕ) → WithColumns old → WithWords old
 with_diagonals old p =
     let word : ℕ → List ℕ = λ i. bytes_at p.sector (diagonal_input (i % 2) (i / 2)) in
     let low : (i : ℕ) → i < 52 → first_syndrome (word i) < 256 =
-    λ i _. first_syndrome-lt (word i)
-    (AreBytes-bytes_at p.sector (diagonal_input (i % 2) (i / 2)) p.bytes) in
+    λ i _. first_syndrome-lt (word i) (AreBytes-bytes_at p.sector (diagonal_input (i % 2) (i / 2)) p.bytes) in
     let q = made word 2248 52 p.sector low p.bytes
     (omega (arith, p.size)) 52 (lit≤ tt) in
     record {
@@ -211,8 +194,7 @@ with_diagonals old p =
       bytes = q.bytes;
       words =
           AllCodeWords-by_number q.sector
-          (λ i h. rw (column_of-same p.sector q.sector i h
-          (λ k low. sym (q.filled.stays k (inl low)))) at (p.words i h))
+          (λ i h. rw (column_of-same p.sector q.sector i h (λ k low. sym (q.filled.stays k (inl low)))) at (p.words i h))
           (diagonals_made p.sector q.sector p.bytes q.filled);
       stays = λ k low. q.filled.stays k (inl (below_q k low)) ∙ p.stays k low;
     }
@@ -221,34 +203,25 @@ with_diagonals old p =
     below_q k h = omega arith
 
 found_from : (header user : List ℕ) → length header ≡ 3 → length user ≡ 2048
-    → (edc : Checked (blank header user)) → WithWords edc.sector
-    → (s : List ℕ) × IsEncoded header user s
+    → (edc : Checked (blank header user)) → WithWords edc.sector → (s : List ℕ) × IsEncoded header user s
 found_from header user header_size user_size edc filled =
     let content = content_of header user in
     let long = length-content header user header_size user_size in
     let front : (k : ℕ) → k < 2064 → get_or filled.sector k 0 ≡ get_or content k 0 =
-    (λ k h. filled.stays k (omega arith) ∙ edc.stays k (inl h)
-    ∙ get_or_append_left content (replicate 288 0) 0 k (omega (arith, long))) in
+    (λ k h. filled.stays k (omega arith) ∙ edc.stays k (inl h) ∙ get_or_append_left content (replicate 288 0) 0 k (omega (arith, long))) in
     let zeros : (k : ℕ) → 2068 ≤ k → k < 2076 → get_or filled.sector k 0 ≡ 0 =
     (λ k from h.
-    filled.stays k h ∙ edc.stays k (inr from)
-    ∙ get_or-append_right content (replicate 288 0) 2064 k 0 long (omega arith)
+    filled.stays k h ∙ edc.stays k (inr from) ∙ get_or-append_right content (replicate 288 0) 2064 k 0 long (omega arith)
     ∙ get_or-replicate 288 (k - 2064) 0 0 (omega arith)) in
     let divides : remainder (bits (take 2068 filled.sector)) ≡ 0 =
     ap (λ v. remainder (bits v))
-    (front-same filled.sector edc.sector 2068 (omega (arith, filled.size)) (omega (arith, edc.size))
-    (λ i h. filled.stays i (omega arith)))
-    ∙ edc.divides in (
-      filled.sector,
-      encoded header user filled.sector header_size user_size filled.size filled.bytes
-          front zeros divides filled.words,
-    )
+    (front-same filled.sector edc.sector 2068 (omega (arith, filled.size)) (omega (arith, edc.size)) (λ i h. filled.stays i (omega arith)))
+    ∙ edc.divides in
+    (filled.sector, encoded header user filled.sector header_size user_size filled.size filled.bytes front zeros divides filled.words)
 
-pub sector_found : (header user : List ℕ) → AreBytes header → length header ≡ 3 → AreBytes user
-    → length user ≡ 2048
+pub sector_found : (header user : List ℕ) → AreBytes header → length header ≡ 3 → AreBytes user → length user ≡ 2048
     → (s : List ℕ) × IsEncoded header user s
 sector_found header user header_bytes header_size user_bytes user_size =
     let edc = checked (blank header user) (length-blank header user header_size user_size)
     (AreBytes-blank header user header_bytes user_bytes) in
-    found_from header user header_size user_size edc
-    (with_diagonals edc.sector (with_columns edc.sector edc.size edc.bytes))
+    found_from header user header_size user_size edc (with_diagonals edc.sector (with_columns edc.sector edc.size edc.bytes))

@@ -9,8 +9,7 @@ use Rattle.cd_sector.specs.CodeWords.{place_of, column_places, column_input, dia
 -- ---- the places
 
 pub column_places-parts : (plane n : ℕ)
-    → column_places plane n
-    ≡ column_input plane n ++ place_of plane (1032 + n) ∷ place_of plane (1075 + n) ∷ []
+    → column_places plane n ≡ column_input plane n ++ place_of plane (1032 + n) ∷ place_of plane (1075 + n) ∷ []
 unfolding column_places column_input
 column_places-parts plane n = refl
 
@@ -18,11 +17,9 @@ pub length-column_input : (plane n : ℕ) → length (column_input plane n) ≡ 
 unfolding column_input
 length-column_input plane n = refl
 
-pub column_input_place : (plane n m : ℕ) → m < 24
-    → get_or (column_input plane n) m 0 ≡ place_of plane (43 * m + n)
+pub column_input_place : (plane n m : ℕ) → m < 24 → get_or (column_input plane n) m 0 ≡ place_of plane (43 * m + n)
 unfolding column_input
-column_input_place plane n m h =
-    get_or-map-range_with_len (λ k. place_of plane (43 * k + n)) 0 24 m m 0 h (omega arith)
+column_input_place plane n m h = get_or-map-range_with_len (λ k. place_of plane (43 * k + n)) 0 24 m m 0 h (omega arith)
 
 pub diagonal_places-parts : (plane n : ℕ)
     → diagonal_places plane n ≡ diagonal_input plane n ++ diagonal_pair plane n
@@ -41,35 +38,27 @@ pub length-diagonal_input : (plane n : ℕ) → length (diagonal_input plane n) 
 unfolding diagonal_input
 length-diagonal_input plane n = refl
 
-pub column_place : (plane n m : ℕ) → m < 26
-    → get_or (column_places plane n) m 0 ≡ place_of plane (43 * m + n)
+pub column_place : (plane n m : ℕ) → m < 26 → get_or (column_places plane n) m 0 ≡ place_of plane (43 * m + n)
 unfolding column_places
-column_place plane n m h =
-    get_or-map-range_with_len (λ k. place_of plane (43 * k + n)) 0 26 m m 0 h (omega arith)
+column_place plane n m h = get_or-map-range_with_len (λ k. place_of plane (43 * k + n)) 0 26 m m 0 h (omega arith)
 
-pub diagonal_input_place : (plane n m : ℕ) → m < 43
-    → get_or (diagonal_input plane n) m 0 ≡ place_of plane ((44 * m + 43 * n) % 1118)
+pub diagonal_input_place : (plane n m : ℕ) → m < 43 → get_or (diagonal_input plane n) m 0 ≡ place_of plane ((44 * m + 43 * n) % 1118)
 unfolding diagonal_input
 diagonal_input_place plane n m h =
-    get_or-map-range_with_len (λ k. place_of plane ((44 * k + 43 * n) % 1118)) 0 43 m m 0
-    h (omega arith)
+    get_or-map-range_with_len (λ k. place_of plane ((44 * k + 43 * n) % 1118)) 0 43 m m 0 h (omega arith)
 
-pub diagonal_place : (plane n m : ℕ) → m < 43
-    → get_or (diagonal_places plane n) m 0 ≡ place_of plane ((44 * m + 43 * n) % 1118)
+pub diagonal_place : (plane n m : ℕ) → m < 43 → get_or (diagonal_places plane n) m 0 ≡ place_of plane ((44 * m + 43 * n) % 1118)
 diagonal_place plane n m h =
     let pair = place_of plane (1118 + n) ∷ place_of plane (1144 + n) ∷ [] in
     ap (λ ps. get_or ps m 0) (diagonal_places-parts plane n)
-    ∙ get_or_append_left (diagonal_input plane n) pair 0 m
-    (omega (arith, length-diagonal_input plane n))
+    ∙ get_or_append_left (diagonal_input plane n) pair 0 m (omega (arith, length-diagonal_input plane n))
     ∙ diagonal_input_place plane n m h
 
-pub diagonal_place-first : (plane n : ℕ)
-    → get_or (diagonal_places plane n) 43 0 ≡ place_of plane (1118 + n)
+pub diagonal_place-first : (plane n : ℕ) → get_or (diagonal_places plane n) 43 0 ≡ place_of plane (1118 + n)
 unfolding diagonal_places diagonal_input
 diagonal_place-first plane n = refl
 
-pub diagonal_place-second : (plane n : ℕ)
-    → get_or (diagonal_places plane n) 44 0 ≡ place_of plane (1144 + n)
+pub diagonal_place-second : (plane n : ℕ) → get_or (diagonal_places plane n) 44 0 ≡ place_of plane (1144 + n)
 unfolding diagonal_places diagonal_input
 diagonal_place-second plane n = refl
 
@@ -79,8 +68,7 @@ pub length-bytes_at : (s ps : List ℕ) → length (bytes_at s ps) ≡ length ps
 unfolding bytes_at
 length-bytes_at s ps = length-map ps (λ p. get_or s p 0)
 
-pub bytes_at-byte : (s ps : List ℕ) (k : ℕ) → k < length ps
-    → get_or (bytes_at s ps) k 0 ≡ get_or s (get_or ps k 0) 0
+pub bytes_at-byte : (s ps : List ℕ) (k : ℕ) → k < length ps → get_or (bytes_at s ps) k 0 ≡ get_or s (get_or ps k 0) 0
 unfolding bytes_at
 bytes_at-byte s ps k h = get_or-map (λ p. get_or s p 0) ps k 0 0 h
 
@@ -88,8 +76,7 @@ pub bytes_at-append : (s ps qs : List ℕ) → bytes_at s (ps ++ qs) ≡ bytes_a
 unfolding bytes_at
 bytes_at-append s ps qs = map-append (λ p. get_or s p 0) ps qs
 
-pub bytes_at-two : (s : List ℕ) (p q : ℕ)
-    → bytes_at s (p ∷ q ∷ []) ≡ get_or s p 0 ∷ get_or s q 0 ∷ []
+pub bytes_at-two : (s : List ℕ) (p q : ℕ) → bytes_at s (p ∷ q ∷ []) ≡ get_or s p 0 ∷ get_or s q 0 ∷ []
 unfolding bytes_at
 bytes_at-two s p q = refl
 
@@ -97,14 +84,12 @@ pub AreBytes-bytes_at : (s ps : List ℕ) → AreBytes s → AreBytes (bytes_at 
 AreBytes-bytes_at s ps h = λ k. elim (cases_lt k (length ps)) [
   | inl inside ↦ rw (bytes_at-byte s ps k inside) (h (get_or ps k 0))
   | inr past ↦
-      let none : get_or (bytes_at s ps) k 0 ≡ 0 =
-      get_or_past (bytes_at s ps) k 0 (omega (arith, length-bytes_at s ps)) in
+      let none : get_or (bytes_at s ps) k 0 ≡ 0 = get_or_past (bytes_at s ps) k 0 (omega (arith, length-bytes_at s ps)) in
       rw none (lit< tt)
 ]
 
 -- the bytes of two sectors that agree at the places
-pub bytes_at-same : (s t ps : List ℕ)
-    → ((k : ℕ) → k < length ps → get_or s (get_or ps k 0) 0 ≡ get_or t (get_or ps k 0) 0)
+pub bytes_at-same : (s t ps : List ℕ) → ((k : ℕ) → k < length ps → get_or s (get_or ps k 0) 0 ≡ get_or t (get_or ps k 0) 0)
     → bytes_at s ps ≡ bytes_at t ps
 bytes_at-same s t ps h =
     ext_get_or 0 (bytes_at s ps) (bytes_at t ps) (length-bytes_at s ps ∙ sym (length-bytes_at t ps))
@@ -115,23 +100,19 @@ bytes_at-same s t ps h =
 -- a diagonal's bytes are those of its input and its pair
 pub diagonal_bytes-parts : (s : List ℕ) (plane n : ℕ)
     → bytes_at s (diagonal_places plane n)
-    ≡ bytes_at s (diagonal_input plane n) ++ get_or s (place_of plane (1118 + n)) 0
-    ∷ get_or s (place_of plane (1144 + n)) 0 ∷ []
+    ≡ bytes_at s (diagonal_input plane n) ++ get_or s (place_of plane (1118 + n)) 0 ∷ get_or s (place_of plane (1144 + n)) 0 ∷ []
 diagonal_bytes-parts s plane n =
     let pair = place_of plane (1118 + n) ∷ place_of plane (1144 + n) ∷ [] in
     ap (bytes_at s) (diagonal_places-parts plane n)
     ∙ bytes_at-append s (diagonal_input plane n) pair
-    ∙ ap (λ v. bytes_at s (diagonal_input plane n) ++ v)
-    (bytes_at-two s (place_of plane (1118 + n)) (place_of plane (1144 + n)))
+    ∙ ap (λ v. bytes_at s (diagonal_input plane n) ++ v) (bytes_at-two s (place_of plane (1118 + n)) (place_of plane (1144 + n)))
 
 -- and a column's
 pub column_bytes-parts : (s : List ℕ) (plane n : ℕ)
     → bytes_at s (column_places plane n)
-    ≡ bytes_at s (column_input plane n) ++ get_or s (place_of plane (1032 + n)) 0
-    ∷ get_or s (place_of plane (1075 + n)) 0 ∷ []
+    ≡ bytes_at s (column_input plane n) ++ get_or s (place_of plane (1032 + n)) 0 ∷ get_or s (place_of plane (1075 + n)) 0 ∷ []
 column_bytes-parts s plane n =
     let pair = place_of plane (1032 + n) ∷ place_of plane (1075 + n) ∷ [] in
     ap (bytes_at s) (column_places-parts plane n)
     ∙ bytes_at-append s (column_input plane n) pair
-    ∙ ap (λ v. bytes_at s (column_input plane n) ++ v)
-    (bytes_at-two s (place_of plane (1032 + n)) (place_of plane (1075 + n)))
+    ∙ ap (λ v. bytes_at s (column_input plane n) ++ v) (bytes_at-two s (place_of plane (1032 + n)) (place_of plane (1075 + n)))

@@ -28,8 +28,7 @@ use Rattle.cd_sector.proofs.PlaceLemmas.{length-bytes_at, bytes_at-byte, AreByte
 abbrev pub Agree : List ℕ → List ℕ → ℕ → Type 0
 Agree s t n = (i : ℕ) → i < n → get_or s i 0 ≡ get_or t i 0
 
-pub range-agree : (s t : List ℕ) (a b : ℕ) → slice_range s a b ≡ slice_range t a b → (i : ℕ) → a ≤ i
-    → i < b → get_or s i 0 ≡ get_or t i 0
+pub range-agree : (s t : List ℕ) (a b : ℕ) → slice_range s a b ≡ slice_range t a b → (i : ℕ) → a ≤ i → i < b → get_or s i 0 ≡ get_or t i 0
 range-agree s t a b same i low high =
     let e : a + (i - a) ≡ i = omega arith in
     sym (range-byte s a b (i - a) (omega arith) ∙ ap (λ n. get_or s n 0) e)
@@ -38,8 +37,7 @@ range-agree s t a b same i low high =
 
 -- ---- sync and mode
 
-not_mode1 : (x y : Bool)
-    → cond {A = SectorKind} x Mode0 (cond {A = SectorKind} y Mode2 Other) ≡ Mode1 → ⊥
+not_mode1 : (x y : Bool) → cond {A = SectorKind} x Mode0 (cond {A = SectorKind} y Mode2 Other) ≡ Mode1 → ⊥
 not_mode1 true y e = cc
 not_mode1 false true e = cc
 not_mode1 false false e = cc
@@ -48,20 +46,16 @@ mode_is : (m : ℕ) → kind_of_mode m ≡ Mode1 → m ≡ 1
 mode_is m e = elim (eqb_tells m 1) [
   | inl one ↦ one.1
   | inr other ↦
-      let f : cond {A = SectorKind} (m == 0) Mode0 (cond {A = SectorKind} (m == 2) Mode2 Other)
-      ≡ kind_of_mode m =
-      ap (λ b. cond {A = SectorKind} (m == 0) Mode0
-      (cond {A = SectorKind} b Mode1 (cond {A = SectorKind} (m == 2) Mode2 Other))) (sym other.0) in
+      let f : cond {A = SectorKind} (m == 0) Mode0 (cond {A = SectorKind} (m == 2) Mode2 Other) ≡ kind_of_mode m =
+      ap (λ b. cond {A = SectorKind} (m == 0) Mode0 (cond {A = SectorKind} b Mode1 (cond {A = SectorKind} (m == 2) Mode2 Other))) (sym other.0) in
       absurd (not_mode1 (m == 0) (m == 2) (f ∙ e))
 ]
 
-kind_parts : (b : Bool) (m : ℕ) → (if b then kind_of_mode m else NoSync) ≡ Mode1
-    → (b ≡ true) × (m ≡ 1)
+kind_parts : (b : Bool) (m : ℕ) → (if b then kind_of_mode m else NoSync) ≡ Mode1 → (b ≡ true) × (m ≡ 1)
 kind_parts true m e = (refl, mode_is m e)
 kind_parts false m e = absurd cc
 
-pub mode1-parts : (s : List ℕ) → kind_of s ≡ Mode1
-    → (s ≡ sync_field ++ drop 12 s) × (get_or s 15 0 ≡ 1)
+pub mode1-parts : (s : List ℕ) → kind_of s ≡ Mode1 → (s ≡ sync_field ++ drop 12 s) × (get_or s 15 0 ≡ 1)
 unfolding kind_of
 mode1-parts s e =
     let parts = kind_parts (starts_with nat_eq s sync_field) (get_or s 15 0) e in
@@ -70,8 +64,7 @@ mode1-parts s e =
 pub mode1-from : (s rest : List ℕ) → s ≡ sync_field ++ rest → get_or s 15 0 ≡ 1 → kind_of s ≡ Mode1
 unfolding kind_of
 mode1-from s rest e m =
-    let begins =
-    (starts_is Decides-eqb s sync_field (starts_with nat_eq s sync_field) refl).1 rest e in
+    let begins = (starts_is Decides-eqb s sync_field (starts_with nat_eq s sync_field) refl).1 rest e in
     ap (λ b. if b then kind_of_mode (get_or s 15 0) else NoSync) begins ∙ ap kind_of_mode m
 
 -- ---- the same kind and header
@@ -79,20 +72,17 @@ mode1-from s rest e m =
 kind_from : List ℕ → ℕ → SectorKind
 kind_from front mode = if pointwise nat_eq sync_field front then kind_of_mode mode else NoSync
 
-pub kind_of-same : (s t : List ℕ) → 16 ≤ length s → length s ≡ length t
-    → ((i : ℕ) → i < 12 → get_or s i 0 ≡ get_or t i 0)
+pub kind_of-same : (s t : List ℕ) → 16 ≤ length s → length s ≡ length t → ((i : ℕ) → i < 12 → get_or s i 0 ≡ get_or t i 0)
     → get_or s 15 0 ≡ get_or t 15 0 → kind_of s ≡ kind_of t
 unfolding kind_of kind_from
 kind_of-same s t inside same_size h mode =
     let front : take 12 s ≡ take 12 t = front-same s t 12 (omega arith) (omega arith) h in
     ap (λ v. kind_from v (get_or s 15 0)) front ∙ ap (kind_from (take 12 t)) mode
 
-pub header_of-same : (s t : List ℕ) → 16 ≤ length s → length s ≡ length t
-    → ((i : ℕ) → i < 16 → get_or s i 0 ≡ get_or t i 0)
+pub header_of-same : (s t : List ℕ) → 16 ≤ length s → length s ≡ length t → ((i : ℕ) → i < 16 → get_or s i 0 ≡ get_or t i 0)
     → header_of s ≡ header_of t
 unfolding header_of
-header_of-same s t inside same_size h =
-    part-same s t 12 4 inside (omega arith) (λ i _ below. h i below)
+header_of-same s t inside same_size h = part-same s t 12 4 inside (omega arith) (λ i _ below. h i below)
 
 -- ---- one word after the other
 
@@ -111,8 +101,7 @@ word_agrees s t ps n hs ht same inside sums k h =
       same_length = long_s ∙ sym long_t;
       front = λ i below.
           let k_below : i + 2 < length ps = omega (arith, long_s) in
-          bytes_at-byte s ps i (omega arith) ∙ same (get_or ps i 0) (inside i k_below)
-          ∙ sym (bytes_at-byte t ps i (omega arith));
+          bytes_at-byte s ps i (omega arith) ∙ same (get_or ps i 0) (inside i k_below) ∙ sym (bytes_at-byte t ps i (omega arith));
     })
     sums in
     sym (bytes_at-byte s ps k h) ∙ ap (λ v. get_or v k 0) equal ∙ bytes_at-byte t ps k h
@@ -132,26 +121,21 @@ sector_same s t ls lt hs ht front rest zeros sums =
       same_length = long_s ∙ sym long_t;
       front = λ i below.
           let low : i < 2064 = omega (arith, long_s) in
-          get_or-take 2068 s i 0 (omega arith) ∙ front i low
-          ∙ sym (get_or-take 2068 t i 0 (omega arith));
+          get_or-take 2068 s i 0 (omega arith) ∙ front i low ∙ sym (get_or-take 2068 t i 0 (omega arith));
     })
     rest in
     let to_zeros : Agree s t 2076 =
     (λ i below. elim (cases_lt i 2068) [
-      | inl low ↦ sym (get_or-take 2068 s i 0 low) ∙ ap (λ v. get_or v i 0) with_edc
-          ∙ get_or-take 2068 t i 0 low
+      | inl low ↦ sym (get_or-take 2068 s i 0 low) ∙ ap (λ v. get_or v i 0) with_edc ∙ get_or-take 2068 t i 0 low
       | inr high ↦ zeros i high below
     ]) in
-    let column_byte : (c m : ℕ) → c < 86 → m < 26
-    → get_or s (place_of (c % 2) (43 * m + c / 2)) 0
-    ≡ get_or t (place_of (c % 2) (43 * m + c / 2)) 0 =
+    let column_byte : (c m : ℕ) → c < 86 → m < 26 → get_or s (place_of (c % 2) (43 * m + c / 2)) 0 ≡ get_or t (place_of (c % 2) (43 * m + c / 2)) 0 =
     (λ c m hc hm.
     let ps = column_places (c % 2) (c / 2) in
     let long = length-column_places (c % 2) (c / 2) in
     let at = column_place (c % 2) (c / 2) m hm in
     rw at at (word_agrees s t ps 2076 hs ht to_zeros
-    (λ k below. let p =
-    column_place (c % 2) (c / 2) k (omega (arith, long)) in omega (arith, p, long))
+    (λ k below. let p = column_place (c % 2) (c / 2) k (omega (arith, long)) in omega (arith, p, long))
     (sums.columns (c % 2) (c / 2) (omega arith) (omega arith)) m (omega (arith, long)))) in
     let to_p : Agree s t 2248 =
     (λ i below. elim (cases_lt i 2076) [
@@ -166,14 +150,12 @@ sector_same s t ls lt hs ht front rest zeros sums =
       ]
     ]) in
     let diagonal_byte : (c m : ℕ) → c < 52 → m < 45
-    → get_or s (get_or (diagonal_places (c % 2) (c / 2)) m 0) 0
-    ≡ get_or t (get_or (diagonal_places (c % 2) (c / 2)) m 0) 0 =
+    → get_or s (get_or (diagonal_places (c % 2) (c / 2)) m 0) 0 ≡ get_or t (get_or (diagonal_places (c % 2) (c / 2)) m 0) 0 =
     (λ c m hc hm.
     let ps = diagonal_places (c % 2) (c / 2) in
     let long = length-diagonal_places (c % 2) (c / 2) in
     word_agrees s t ps 2248 hs ht to_p
-    (λ k below. let p =
-    diagonal_place (c % 2) (c / 2) k (omega (arith, long)) in omega (arith, p, long))
+    (λ k below. let p = diagonal_place (c % 2) (c / 2) k (omega (arith, long)) in omega (arith, p, long))
     (sums.diagonals (c % 2) (c / 2) (omega arith) (omega arith)) m (omega (arith, long))) in
     let to_q : Agree s t 2352 =
     (λ i below. elim (cases_lt i 2248) [
@@ -181,33 +163,28 @@ sector_same s t ls lt hs ht front rest zeros sums =
       | inr high ↦ elim (cases_lt i 2300) [
         | inl one ↦
             let c = i - 2248 in
-            let e : get_or (diagonal_places (c % 2) (c / 2)) 43 0 ≡ i =
-            diagonal_place-first (c % 2) (c / 2) ∙ omega arith in
+            let e : get_or (diagonal_places (c % 2) (c / 2)) 43 0 ≡ i = diagonal_place-first (c % 2) (c / 2) ∙ omega arith in
             rw e at (diagonal_byte c 43 (omega arith) (lit< tt))
         | inr two ↦
             let c = i - 2300 in
-            let e : get_or (diagonal_places (c % 2) (c / 2)) 44 0 ≡ i =
-            diagonal_place-second (c % 2) (c / 2) ∙ omega arith in
+            let e : get_or (diagonal_places (c % 2) (c / 2)) 44 0 ≡ i = diagonal_place-second (c % 2) (c / 2) ∙ omega arith in
             rw e at (diagonal_byte c 44 (omega arith) (lit< tt))
       ]
     ]) in
     ext_get_or 0 s t (ls ∙ sym lt) (λ i inside. to_q i (omega (arith, ls)))
 
 SameSums-code_words : (v w : List ℕ) → IsCodeWord v → IsCodeWord w → SameSums v w
-SameSums-code_words v w h k =
-    record { first = h.first ∙ sym k.first; second = h.second ∙ sym k.second }
+SameSums-code_words v w h k = record { first = h.first ∙ sym k.first; second = h.second ∙ sym k.second }
 
 pub SameSyndromes-code_words : (s t : List ℕ) → AllCodeWords s → AllCodeWords t → SameSyndromes s t
 SameSyndromes-code_words s t h k = record {
   columns = λ plane n p q. SameSums-code_words _ _ (h.columns plane n p q) (k.columns plane n p q);
-  diagonals = λ plane n p q. SameSums-code_words _ _ (h.diagonals plane n p q)
-      (k.diagonals plane n p q);
+  diagonals = λ plane n p q. SameSums-code_words _ _ (h.diagonals plane n p q) (k.diagonals plane n p q);
 }
 
 -- equal sync, header and user data
 front_agrees : (s t : List ℕ) → (s ≡ sync_field ++ drop 12 s) → (t ≡ sync_field ++ drop 12 t)
-    → slice_range s 12 16 ≡ slice_range t 12 16 → slice_range s 16 2064 ≡ slice_range t 16 2064
-    → Agree s t 2064
+    → slice_range s 12 16 ≡ slice_range t 12 16 → slice_range s 16 2064 ≡ slice_range t 16 2064 → Agree s t 2064
 front_agrees s t es et header user i h = elim (cases_lt i 12) [
   | inl low ↦
       ap (λ v. get_or v i 0) es ∙ get_or_append_left sync_field (drop 12 s) 0 i low
@@ -219,8 +196,7 @@ front_agrees s t es et header user i h = elim (cases_lt i 12) [
 ]
 
 -- two consistent sectors with equal content are equal
-pub sector_unique : (s t : List ℕ) → IsConsistent s → IsConsistent t → header_of s ≡ header_of t
-    → user_of s ≡ user_of t → s ≡ t
+pub sector_unique : (s t : List ℕ) → IsConsistent s → IsConsistent t → header_of s ≡ header_of t → user_of s ≡ user_of t → s ≡ t
 unfolding header_of user_of
 sector_unique s t hs ht header user =
     sector_same s t hs.size ht.size hs.bytes ht.bytes

@@ -1,7 +1,6 @@
-//! The Q diagonals of a sector, sixteen neighbours of both planes side by side (ECMA-130, Annex A).
-//! At step t diagonal n takes its byte t - n. That byte stands in row t mod 26 and in column t - n,
-//! so neighbours' bytes stand side by side in the sector, those of the diagonal with the highest
-//! number first.
+//! The Q diagonals of a sector, sixteen neighbours of both planes side by side (ECMA-130, Annex A). At step t diagonal
+//! n takes its byte t - n. That byte stands in row t mod 26 and in column t - n, so neighbours' bytes stand side by
+//! side in the sector, those of the diagonal with the highest number first.
 
 ghost use Rattle.std.specs.Prelude.{◌≡◌, ℕ, ◌+◌, ◌-◌, ◌*◌, ◌/◌, ◌%◌, ◌<◌, ◌≤◌, ◌⊎◌, length, slice_index};
 ghost use Rattle.cd_sector.specs.CodeWords.{SumsOf, bytes_at, diagonal_input, diagonal_of};
@@ -212,12 +211,10 @@ fn reverse_pairs(v: u8x32) -> u8x32
     v.swizzle(RISING)
 }
 
-/// The syndromes of the first 43 bytes of diagonals 0 to 15. Those of diagonals 10 to 15 are left
-/// unfinished.
+/// The syndromes of the first 43 bytes of diagonals 0 to 15. Those of diagonals 10 to 15 are left unfinished.
 ///
-/// Where few diagonals take a byte the steps are parted in two, here and below: a loop so short is
-/// written out, with its masks as constants, and a register of which no lane takes a byte is left
-/// out.
+/// Where few diagonals take a byte the steps are parted in two, here and below: a loop so short is written out, with
+/// its masks as constants, and a register of which no lane takes a byte is left out.
 pub(crate) fn low_input_sums(bytes: &[u8; SECTOR_SIZE]) -> LaneSums
     ensures { SumsOf (λ i. bytes_at bytes.now (diagonal_input (i % 2) (i / 2))) 20
         result.plain result.weighted }
@@ -247,8 +244,7 @@ pub(crate) fn high_input_sums(bytes: &[u8; SECTOR_SIZE]) -> LaneSums
         .rising()
 }
 
-/// Both syndromes of the 52 diagonals: entry `2N + plane` is of diagonal N of that plane (ECMA-130,
-/// Annex A).
+/// Both syndromes of the 52 diagonals: entry `2N + plane` is of diagonal N of that plane (ECMA-130, Annex A).
 #[derive(Clone, Copy)]
 pub(crate) struct DiagonalSums {
     /// The sum of each diagonal's bytes.

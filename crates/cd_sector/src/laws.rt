@@ -12,8 +12,7 @@ pub fn sector_is_unique()
     ensures { SectorIsUnique }
 {}
 
-/// For any three header bytes and 2048 bytes of user data there is a consistent sector, with mode
-/// byte 01.
+/// For any three header bytes and 2048 bytes of user data there is a consistent sector, with mode byte 01.
 pub fn sector_exists()
     ensures { SectorExists }
 {}
@@ -23,14 +22,13 @@ pub fn sector_by_defect()
     ensures { SectorByDefect }
 {}
 
-/// There is at most one sector with a sector's sync field and defect, and a given header and given
-/// user data.
+/// There is at most one sector with a sector's sync field and defect, and a given header and given user data.
 pub fn carried_is_unique()
     ensures { CarriedIsUnique }
 {}
 
-/// For any sector, any four header bytes and 2048 bytes of user data there is a sector with that
-/// content and the old sync field and defect.
+/// For any sector, any four header bytes and 2048 bytes of user data there is a sector with that content and the old
+/// sync field and defect.
 pub fn carried_exists()
     ensures { CarriedExists }
 {}
@@ -40,8 +38,7 @@ pub fn carried_of_consistent()
     ensures { CarriedOfConsistent }
 {}
 
-/// A consistent sector is what any other consistent one is carried to, with its header and user
-/// data.
+/// A consistent sector is what any other consistent one is carried to, with its header and user data.
 pub fn consistent_is_carried()
     ensures { ConsistentIsCarried }
 {}

@@ -5,8 +5,7 @@
 /// The number of columns in a plane, which are the bytes of a row.
 pub const PLANE_COLUMNS: usize = 43;
 
-/// The number of rows in a plane, those of P parity with them. A column has as many bytes, and a
-/// plane as many diagonals.
+/// The number of rows in a plane, those of P parity with them. A column has as many bytes, and a plane as many diagonals.
 pub const ROWS: usize = 26;
 
 /// The row of the first byte of P parity of each column.

@@ -16,35 +16,26 @@ abbrev pub between : ℕ → ℕ → List ℕ → List ℕ
 between start end space = take (end - start) (drop start space)
 
 -- the bytes that a write put after those that are held are held with them
-pub held-longer : (start end : ℕ) (space bytes : List ℕ) → start ≤ end
-    → end + length bytes ≤ length space
-    → between start (end + length bytes)
-    (take end space ++ (bytes ++ drop (end + length bytes) space))
-    ≡ between start end space ++ bytes
+pub held-longer : (start end : ℕ) (space bytes : List ℕ) → start ≤ end → end + length bytes ≤ length space
+    → between start (end + length bytes) (take end space ++ (bytes ++ drop (end + length bytes) space)) ≡ between start end space ++ bytes
 held-longer start end space bytes ordered room =
     let rest = bytes ++ drop (end + length bytes) space in
     let front : length (take end space) ≡ end = length-take-le end space (omega arith) in
     let cut : drop start (take end space) ≡ between start end space =
     ap (λ k. drop start (take k space)) (omega arith) ∙ drop-take start (end - start) space in
-    let size : length (between start end space) ≡ end - start =
-    length-take-le (end - start) (drop start space) (omega (arith, length-drop start space)) in
-    ap (take (end + length bytes - start))
-    (drop-append-le start (take end space) rest (omega (arith, front)) ∙ ap (λ l. l ++ rest) cut)
+    let size : length (between start end space) ≡ end - start = length-take-le (end - start) (drop start space) (omega (arith, length-drop start space)) in
+    ap (take (end + length bytes - start)) (drop-append-le start (take end space) rest (omega (arith, front)) ∙ ap (λ l. l ++ rest) cut)
     ∙ ap (λ k. take k (between start end space ++ rest)) (omega (arith, size))
     ∙ take-append-add (between start end space) rest (length bytes)
-    ∙ ap (λ l. between start end space ++ l)
-    (take-append-le (length bytes) bytes (drop (end + length bytes) space) (omega arith)
-    ∙ take_all (length bytes) bytes (omega arith))
+    ∙ ap (λ l. between start end space ++ l) (take-append-le (length bytes) bytes (drop (end + length bytes) space) (omega arith) ∙ take_all (length bytes) bytes (omega arith))
 
 -- the same of the buffer as a write through a slice of it left it
-pub held-put : (start end : ℕ) (space lent new items bytes : List ℕ) → start ≤ end
-    → end + length bytes ≤ length space → lent ≡ space
+pub held-put : (start end : ℕ) (space lent new items bytes : List ℕ) → start ≤ end → end + length bytes ≤ length space → lent ≡ space
     → new ≡ take end lent ++ bytes ++ drop (end + length bytes) lent → items ≡ new
     → between start (end + length bytes) items ≡ between start end space ++ bytes
 held-put start end space lent new items bytes ordered room whole put same =
     let written : items ≡ take end space ++ (bytes ++ drop (end + length bytes) space) =
-    same ∙ put ∙ ap (λ l. take end l ++ bytes ++ drop (end + length bytes) l) whole
-    ∙ append_assoc (take end space) bytes (drop (end + length bytes) space) in
+    same ∙ put ∙ ap (λ l. take end l ++ bytes ++ drop (end + length bytes) l) whole ∙ append_assoc (take end space) bytes (drop (end + length bytes) space) in
     ap (between start (end + length bytes)) written ∙ held-longer start end space bytes ordered room
 
 -- what is held is its first n bytes, and then what is held from n places on
@@ -55,50 +46,38 @@ held-cut start end n space few =
     ap (λ k. drop n (take k (drop start space))) (omega arith)
     ∙ drop-take n (end - (start + n)) (drop start space)
     ∙ ap (take (end - (start + n))) (drop-drop n start space) in
-    sym (take-append-drop n (between start end space))
-    ∙ ap (λ l. take n (between start end space) ++ l) rest
+    sym (take-append-drop n (between start end space)) ∙ ap (λ l. take n (between start end space) ++ l) rest
 
 -- bytes that the sink below took are no longer held
-pub Keeps-passed : (before got got' : Option (List ℕ)) (start end n : ℕ) (space lent : List ℕ)
-    → n ≤ end - start → lent ≡ between start end space
+pub Keeps-passed : (before got got' : Option (List ℕ)) (start end n : ℕ) (space lent : List ℕ) → n ≤ end - start → lent ≡ between start end space
     → Keeps before (append_known got (between start end space)) → Appends got got' (take n lent)
     → Keeps before (append_known got' (between (start + n) end space))
 Keeps-passed before got got' start end n space lent few same kept went =
-    let passed = append_known-moved got got' (take n lent) (between (start + n) end space)
-    (between start end space) went
-    (held-cut start end n space few
-    ∙ ap (λ l. take n l ++ between (start + n) end space) (sym same)) in
+    let passed = append_known-moved got got' (take n lent) (between (start + n) end space) (between start end space) went
+    (held-cut start end n space few ∙ ap (λ l. take n l ++ between (start + n) end space) (sym same)) in
     Keeps-trans before _ _ kept passed
 
 -- a buffer whose places are its front holds nothing
-pub between-none : (start end : ℕ) (space : List ℕ) → start ≡ 0 → end ≡ 0
-    → between start end space ≡ []
+pub between-none : (start end : ℕ) (space : List ℕ) → start ≡ 0 → end ≡ 0 → between start end space ≡ []
 between-none start end space s e =
     let none : end - start ≡ 0 = omega (arith, s, e) in
     ap (λ k. take k (drop start space)) none
 
 -- a write past a buffer that holds nothing is the write of the sink below
-pub Goes-past : {E : Type 0} (before after old new : Outgoing) (held given : List ℕ)
-    (result : Result ℕ E) → held ≡ []
-    → after.written ≡ append_known new.written held
-    → Keeps before.written (append_known old.written held) → Goes old new given result
-    → Goes before after given result
+pub Goes-past : {E : Type 0} (before after old new : Outgoing) (held given : List ℕ) (result : Result ℕ E) → held ≡ []
+    → after.written ≡ append_known new.written held → Keeps before.written (append_known old.written held) → Goes old new given result → Goes before after given result
 Goes-past before after old new held given (Ok n) none same kept went =
-    let passed = append_known-passed before.written old.written new.written held held (take n given)
-    [] kept none went.2 (sym (append-nil held)) in (
+    let passed = append_known-passed before.written old.written new.written held held (take n given) [] kept none went.2 (sym (append-nil held)) in (
       went.0,
       went.1,
       subst (λ w. Appends before.written w (take n given)) (sym same)
-          (subst (Appends before.written (append_known new.written held))
-          (append-nil (take n given)) passed),
+          (subst (Appends before.written (append_known new.written held)) (append-nil (take n given)) passed),
     )
 Goes-past before after old new held given (Err e) none same kept went =
-    subst (Keeps before.written) (sym same)
-    (Keeps-trans before.written _ _ kept (append_known-kept old.written new.written held went))
+    subst (Keeps before.written) (sym same) (Keeps-trans before.written _ _ kept (append_known-kept old.written new.written held went))
 
 -- bytes that are more than the space are not held
-pub alone-past : (space : ℕ) (bytes : List ℕ) → space < length bytes
-    → (if nat_le (length bytes) space then bytes else []) ≡ []
+pub alone-past : (space : ℕ) (bytes : List ℕ) → space < length bytes → (if nat_le (length bytes) space then bytes else []) ≡ []
 alone-past space bytes more = rw (lt-leb (length bytes) space more) refl
 
 -- what holds in any case holds at Ok

@@ -72,7 +72,7 @@ passes_at_most s = s.most
 abbrev pub short_finished : {S : Type 0} → Short S → Bool
 short_finished s = s.finished
 
--- what a contract sees of it: as the sink inside, but finished or not by its own calls
+-- what a contract sees of it: as the sink inside, but whether it is finished depends on its own calls
 abbrev pub short_outgoing : {S : Type 0} → (S → Outgoing) → Short S → Outgoing
 short_outgoing seen s = record (seen s.inner) { finished = s.finished }
 

@@ -232,11 +232,7 @@ fn help_tells_of_the_options(rt: HostRuntime) -> Result<(), AllocError> {
         ("apply --help", "With --carry patches on damaged sectors"),
     ];
     assert!(rt;
-        !helps(
-            rt.alloc(),
-            "list --help",
-            "With --carry patches on damaged sectors"
-        )?,
+        !helps(rt.alloc(), "list --help", "With --carry patches on damaged sectors")?,
         "no --carry there"
     );
     expect_help(&rt, rt.alloc(), ROWS)

@@ -23,8 +23,7 @@ returns c =
     ∙ c.loop-change.invariant.rest ∙ ap (λ s. changed s changes) c.add_at.ensures.sum in
     let size : length old ≡ 2352 = ap length (sym c.bytes.ensures.bytes) ∙ c.bytes.ensures.size in
     let each : AreBytes old = rw c.bytes.ensures.bytes at c.bytes.ensures.each in
-    let others : (i : ℕ) → i ≢ place → (Contains (places_of changes) i → ⊥)
-    → get_or final i 0 ≡ get_or old i 0 =
+    let others : (i : ℕ) → i ≢ place → (Contains (places_of changes) i → ⊥) → get_or final i 0 ≡ get_or old i 0 =
     λ i apart none.
     ap (λ s. get_or s i 0) whole
     ∙ changed-other changes (added old place d) i none
@@ -33,8 +32,7 @@ returns c =
     record {
       byte =
           ap (λ s. get_or s place 0) whole
-          ∙ changed-other changes (added old place d) place
-          (places_of-behind changes place made.inside below)
+          ∙ changed-other changes (added old place d) place (places_of-behind changes place made.inside below)
           ∙ ap (λ s. get_or (added s place d) place 0) (sym c.bytes.ensures.bytes)
           ∙ added-value read place value (omega arith);
       syndromes = rw whole (made.keeps old each size);

@@ -19,12 +19,10 @@ returns c =
     let three : length bcd ≡ 3 = search rules in
     let kind = header-kind changed three in
     let carried : IsCarried old (bcd ++ drop 3 (header_of old)) (user_of old) new =
-    carried-of changed stored (lit≤ tt) (bcd ++ drop 3 (header_of old)) (user_of old)
-    (header-of changed three) (header-user changed three) in
+    carried-of changed stored (lit≤ tt) (bcd ++ drop 3 (header_of old)) (user_of old) (header-of changed three) (header-user changed three) in
     record {
       carried = carried;
-      alone = λ t other. carried_unique old (bcd ++ drop 3 (header_of old)) (user_of old) t new
-          other carried;
+      alone = λ t other. carried_unique old (bcd ++ drop 3 (header_of old)) (user_of old) t new other carried;
       kind = kind;
       edc = stored-sum stored changed.edc;
       consistent = carried-consistent changed stored kind;

@@ -10,20 +10,18 @@ use Rattle.cd_delta.proofs.carrying.carry_user.Goals as goal
 pub returns : goal.returns
 returns c =
     let old = c.args.s.now in
-    let new = c.carry_in_user.new.s in
+    let new = c.carry.new.s in
     let offset = c.args.offset in
     let bytes = c.args.bytes.now in
-    let kept : KeepsError old new (16 + offset) bytes = c.carry_in_user.ensures in
+    let kept : KeepsError old new (16 + offset) bytes = c.carry.ensures in
     let stored = kept.before in
     let changed = kept.changed in
     let kind = user-kind offset changed in
     let carried : IsCarried old (header_of old) (written (user_of old) offset bytes) new =
-    carried-of changed stored (omega arith) (header_of old) (written (user_of old) offset bytes)
-    (user-header offset changed) (user-of offset changed) in
+    carried-of changed stored (omega arith) (header_of old) (written (user_of old) offset bytes) (user-header offset changed) (user-of offset changed) in
     record {
       carried = carried;
-      alone = λ t other. carried_unique old (header_of old) (written (user_of old) offset bytes) t
-          new other carried;
+      alone = λ t other. carried_unique old (header_of old) (written (user_of old) offset bytes) t new other carried;
       kind = kind;
       edc = stored-sum stored changed.edc;
       consistent = carried-consistent changed stored kind;

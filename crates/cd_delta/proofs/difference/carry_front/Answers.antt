@@ -9,10 +9,8 @@ returns c =
     let filled = c.fill_parity.new.s in
     record {
       front = λ i h.
-          front-sum old c.args.front.now c.sum_of-difference.result filled new i h
-          c.sum_of-difference.ensures.sum c.fill_parity.ensures.stays c.sum_of.ensures.sum;
-      syndromes = SameSyndromes-sum new old filled (record { byte = c.sum_of.ensures.sum })
-          c.fill_parity.ensures.words;
+          front-sum old c.args.front.now c.sum_of-difference.result filled new i h c.sum_of-difference.ensures.sum c.fill_parity.ensures.stays c.sum_of.ensures.sum;
+      syndromes = SameSyndromes-sum new old filled (record { byte = c.sum_of.ensures.sum }) c.fill_parity.ensures.words;
       size = c.sum_of.ensures.size;
       each = c.sum_of.ensures.each;
     }

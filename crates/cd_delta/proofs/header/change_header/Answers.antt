@@ -6,8 +6,7 @@ use Rattle.cd_delta.proofs.header.change_header.Goals as goal
 
 pub returns : goal.returns
 returns c =
-    let changed : IsChanged c.args.s.now c.put_address.new.s 12 c.args.bcd 0 =
-    c.put_address.ensures in
+    let changed : IsChanged c.args.s.now c.put_address.new.s 12 c.args.bcd 0 = c.put_address.ensures in
     let three : length c.args.bcd ≡ 3 = search rules in
     record {
       header = header-of changed three;

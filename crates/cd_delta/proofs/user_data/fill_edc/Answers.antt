@@ -4,6 +4,5 @@ use Rattle.cd_delta.proofs.user_data.fill_edc.Goals as goal
 
 pub returns-clause-edc : goal.returns-clause-edc
 returns-clause-edc c =
-    StoresEdc-put c.args.bytes.now c.put_edc.new.bytes c.edc_of-word.result c.args.error
-    c.told-bytes c.put_edc.array_long (omega arith)
+    StoresEdc-put c.args.bytes.now c.put_edc.new.bytes c.edc_of-word.result c.args.error c.told-bytes c.put_edc.array_long (omega arith)
     c.edc_of-word.ensures.word c.put_edc.ensures.word c.put_edc.ensures.stays

@@ -3,7 +3,7 @@ use Rattle.std.specs.Prelude.{All}
 use Rattle.cd_script.specs.Patch.{IsPatch}
 use Rattle.cd_image.specs.Applying.{Applies, streams}
 use Rattle.cd_image.proofs.ApplyReportLemmas.{Applies-by_end, Applies-by_length, Applies-carried, Applies-ended}
-use Rattle.cd_image.proofs.ApplyReportLemmas.{Applies-ends_log, Applies-ends_out, Applies-few, Applies-few_counted, Applies-log_failed}
+use Rattle.cd_image.proofs.ApplyReportLemmas.{Applies-ends_log, Applies-ends_out, Applies-few, Applies-log_failed}
 use Rattle.cd_image.proofs.ApplyReportLemmas.{Applies-output, Applies-read_failed, Applies-told, Applies-too_long}
 use Rattle.cd_image.proofs.ApplyReportLemmas.{Applies-write_failed}
 use Rattle.cd_image.proofs.applying.apply.Given.{Over}
@@ -61,6 +61,3 @@ returns-clause-by_end g c = Applies-by_end _ (done g c)
 
 pub returns-clause-holds_few : goal.returns-clause-holds_few
 returns-clause-holds_few g c = Applies-few _ (done g c)
-
-pub returns-clause-holds_few_counted : goal.returns-clause-holds_few_counted
-returns-clause-holds_few_counted g c = Applies-few_counted _ (done g c)

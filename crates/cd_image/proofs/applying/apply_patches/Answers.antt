@@ -7,8 +7,9 @@ use Rattle.cd_image.proofs.applying.apply_patches.Goals as goal
 pub returns-in_err-send_missing : goal.returns-in_err-send_missing
 returns-in_err-send_missing g c =
     let failed = err_from_is_err_and c.from_residual.result c.from_residual.ensures.1 in
+    let went = c.in_err-send_missing.ensures.bytes in
     rw (failed.1, failed.2)
-    (Applies-first c.args.carry c.args.patches.now c.args.base (streams (g.I.Source.seen c.args.image.now) (g.O.Sink.seen c.args.out.now) (g.L.Sink.seen c.args.log.now)) (g.L.Sink.seen c.send_missing.new.log) c.count_below-below.result c.count_below-below.ensures.below c.in_err-send_missing.ensures)
+    (Applies-first c.args.carry c.args.patches.now c.args.base (streams (g.I.Source.seen c.args.image.now) (g.O.Sink.seen c.args.out.now) (g.L.Sink.seen c.args.log.now)) (g.L.Sink.seen c.send_missing.new.log) c.count_below-below.result c.count_below-below.ensures.below went.0 went.1 went.2 c.in_err-send_missing.ensures.count)
 
 pub loop-more-init : goal.loop-more-init
 loop-more-init g c =
@@ -16,7 +17,7 @@ loop-more-init g c =
     record {
       goes =
           begun_pass c.args.carry c.args.patches.now c.args.base (streams (g.I.Source.seen c.args.image.now) (g.O.Sink.seen c.args.out.now) (g.L.Sink.seen c.args.log.now)) (g.L.Sink.seen c.send_missing.new.log) c.count_below-below.result c.new-pass.result new.empty new.block new.sectors new.decided new.applied new.unended
-          c.count_below-below.ensures.below c.count_below-below.ensures.others c.in_ok-send_missing.ensures;
+          c.count_below-below.ensures.below c.count_below-below.ensures.others c.in_ok-send_missing.ensures.bytes c.in_ok-send_missing.ensures.count;
       known = omega (arith, new.decided, c.count_below-below.ensures.within);
       ended = λ never. cc;
     }

@@ -41,9 +41,3 @@ returns-in-Ok-clause-carried g c = λ carried done. c.in-Ok.ensures.carried carr
 
 pub returns-in-Ok-clause-output_ends_well : goal.returns-in-Ok-clause-output_ends_well
 returns-in-Ok-clause-output_ends_well g c = λ done. c.in-Ok.ensures.output_ends_well
-
-pub returns-in-Ok-clause-output_flushed : goal.returns-in-Ok-clause-output_flushed
-returns-in-Ok-clause-output_flushed g c = λ done. c.in-Ok.ensures.report.answers.flushes.outs
-
-pub returns-in-Ok-clause-log_flushed : goal.returns-in-Ok-clause-log_flushed
-returns-in-Ok-clause-log_flushed g c = λ done. c.in-Ok.ensures.report.answers.flushes.logs

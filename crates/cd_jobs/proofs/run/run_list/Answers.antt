@@ -7,6 +7,3 @@ returns-in-Ok-clause-report g c =
 
 pub returns-in-Ok-clause-failed : goal.returns-in-Ok-clause-failed
 returns-in-Ok-clause-failed g c = λ failed. absurd (omega arith)
-
-pub returns-in-Ok-clause-flushed : goal.returns-in-Ok-clause-flushed
-returns-in-Ok-clause-flushed g c = λ done. c.in-Ok.ensures.flushes

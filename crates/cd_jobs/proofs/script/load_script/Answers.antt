@@ -1,17 +1,12 @@
-use Rattle.std.proofs.Common.{subst, sym}
-use Rattle.cd_stream.specs.Transfer.{Gives}
 use Rattle.cd_jobs.proofs.ScriptLemmas.{Stops-tells}
 use Rattle.cd_jobs.proofs.script.load_script.Goals as goal
 
 pub returns-in-Err-clause-loads : goal.returns-in-Err-clause-loads
 returns-in-Err-clause-loads g c = record {
   read = c.in-Err.ensures.read;
-  gives = c.in-Err.ensures.gives;
+  consumes = c.in-Err.ensures.consumes;
   answers = (assumption, (c.in-Err.fault, c.in-Err.ensures.answers, rw (← c.load_fault_line.ensures, ← c.as_bytes.ensures.value) assumption));
 }
-
-pub returns-in-Ok-clause-given : goal.returns-in-Ok-clause-given
-returns-in-Ok-clause-given g c = subst (Gives _ _) (sym c.in-Ok.ensures.answers.0) c.in-Ok.ensures.gives
 
 pub returns-in-Err-clause-whole : goal.returns-in-Err-clause-whole
 returns-in-Err-clause-whole g c = tt

@@ -1,8 +1,8 @@
 use Rattle.std.proofs.Common.{◌≡◌, [], ap, arith, nat_eq, refl, subst, take, ◌∙◌, append-nil}
 use Rattle.std.proofs.lemmas.Bool.{ne_eqb}
+use Rattle.std.specs.Io.KnownBytes.{Consumes}
+use Rattle.std.proofs.KnownBytes.{Consumes-trans}
 use Rattle.std.proofs.Math.ListN.{length-take}
-use Rattle.cd_stream.specs.Transfer.{Gives}
-use Rattle.cd_stream.proofs.TransferLemmas.{Gives-front, Gives-trans}
 use Rattle.cd_jobs.specs.declared.script.LoadFault.TheVariants.{TooLong}
 use Rattle.cd_jobs.proofs.ScriptLemmas.{Gathers-refused, Gathers-stopped, length-with_last}
 use Rattle.cd_jobs.proofs.script.read_all.Goals as goal
@@ -12,13 +12,10 @@ returns-then-n-eq0 g c =
     let before = c.loop-bytes.invariant in
     let came = c.in_ok-n.ensures.bytes in
     let none : c.in_ok-n.n ≡ 0 = omega arith in
-    let middle = g.I.Source.seen c.loop-bytes.file in
-    let after = g.I.Source.seen c.read.new.self in
-    let last = subst (λ n. Gives middle after (take n c.read.new.into)) none
-    (Gives-front middle after c.in_ok-n.n c.read.new.into came.0 came.1 c.in_ok-n.ensures.given) in
+    let last = subst (λ n. Consumes ((g.I.Source.seen c.loop-bytes.file).rest) ((g.I.Source.seen c.read.new.self).rest) (take n c.read.new.into)) none came.1 in
     record {
       read = c.loop-bytes.bytes.items;
-      gives = subst (Gives _ _) (append-nil _) (Gives-trans _ _ _ c.loop-bytes.bytes.items [] before.given last);
+      consumes = subst (Consumes _ _) (append-nil _) (Consumes-trans _ _ _ c.loop-bytes.bytes.items [] before.consumed last);
       answers = (
         refl,
         record {
@@ -37,8 +34,7 @@ returns-then-n-left g c =
     let count = length-with_last c.loop-bytes.bytes.items c.read.new.into c.in_ok-n.n came.0 in
     let room = length-take c.min-room.result c.loop-bytes.chunk in
     Gathers-stopped _ _ (g.I.Source.seen c.loop-bytes.file) _ TooLong
-    c.loop-bytes.bytes.items (take c.in_ok-n.n c.read.new.into) before.given
-    (Gives-front _ _ c.in_ok-n.n c.read.new.into came.0 came.1 c.in_ok-n.ensures.given) (
+    c.loop-bytes.bytes.items (take c.in_ok-n.n c.read.new.into) before.consumed came.1 (
       c.in_ok-n.ensures.count ∙ before.counted,
       c.in_ok-n.ensures.ended ∙ ne_eqb c.in_ok-n.n 0 c.if-n-eq0.false,
       omega (arith, count, came.0, room),
@@ -51,7 +47,7 @@ returns-in_err-extend_from_slice g c =
     let count = length-with_last c.loop-bytes.bytes.items c.read.new.into c.in_ok-n.n came.0 in
     Gathers-refused _ _ (g.I.Source.seen c.loop-bytes.file) _ _
     c.loop-bytes.bytes.items (take c.in_ok-n.n c.read.new.into) c.from_residual-in_err-extend_from_slice.ensures.1
-    before.given (Gives-front _ _ c.in_ok-n.n c.read.new.into came.0 came.1 c.in_ok-n.ensures.given) (
+    before.consumed came.1 (
       c.in_ok-n.ensures.count ∙ before.counted,
       c.in_ok-n.ensures.ended ∙ ne_eqb c.in_ok-n.n 0 c.if-n-eq0.false,
       omega (arith, count, came.0),

@@ -26,9 +26,6 @@ returns-clause-text g c = Reports-text _ (done g c)
 pub returns-clause-ends_well : goal.returns-clause-ends_well
 returns-clause-ends_well g c = Reports-ends_well _ (done g c)
 
-pub returns-clause-flushes : goal.returns-clause-flushes
-returns-clause-flushes g c = (done g c).flushes
-
 pub returns-clause-read_failed : goal.returns-clause-read_failed
 returns-clause-read_failed g c = Reports-read_failed _ (done g c)
 

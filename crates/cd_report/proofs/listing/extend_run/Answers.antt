@@ -15,9 +15,9 @@ returns-in_err-send_run-clause-text g c =
     let other = same_false the_type c.in-Some.open_run.kind c.args.kind (sym c.if-eq.ensures) in
     let failed = err_from_is_err_and c.from_residual.result c.from_residual.ensures.1 in
     rw failed.1
-    (sym c.in-Some.is, ExtendsRun-failed c.args.run.now c.in-Some.open_run c.in-Some.is c.args.block c.args.kind c.requires.follows (g.O.Sink.seen c.args.out.now) (g.O.Sink.seen c.send_run.new.out) other c.in_err-send_run.ensures.taken)
+    (sym c.in-Some.is, ExtendsRun-failed c.args.run.now c.in-Some.open_run c.in-Some.is c.args.block c.args.kind c.requires.follows (g.O.Sink.seen c.args.out.now) (g.O.Sink.seen c.send_run.new.out) other c.in_err-send_run.ensures.bytes)
 
 pub returns-in_ok-send_run-clause-text : goal.returns-in_ok-send_run-clause-text
 returns-in_ok-send_run-clause-text g c =
     let other = same_false the_type c.in-Some.open_run.kind c.args.kind (sym c.if-eq.ensures) in
-    (_, refl, ExtendsRun-other c.args.run.now c.in-Some.open_run c.in-Some.is c.args.block c.args.kind c.requires.follows (g.O.Sink.seen c.args.out.now) (g.O.Sink.seen c.send_run.new.out) other c.in_ok-send_run.ensures.taken)
+    (_, refl, ExtendsRun-other c.args.run.now c.in-Some.open_run c.in-Some.is c.args.block c.args.kind c.requires.follows (g.O.Sink.seen c.args.out.now) (g.O.Sink.seen c.send_run.new.out) other c.in_ok-send_run.ensures.bytes)

@@ -19,7 +19,7 @@ returns-in_err-visit-in-None g c =
     let takes = c.in_err-visit-in-None.ensures.takes in
     rw (failed.1, failed.2)
     (Told-write _ _ _ _ (g.I.Source.seen c.read_sector.new.image) _ _ _ c.loop-visitor.invariant.told c.read_sector.new.sector (record { consumes = came.consumes; counted = omega (arith, came.counted, came.size) })
-    (g.O.Sink.seen c.visit.new.out) came.kept came.size takes c.in_err-visit-in-None.ensures.flushes (omega (arith, came.few)) c.in_err-visit-in-None.ensures.count)
+    (g.O.Sink.seen c.visit.new.out) came.kept came.size takes (omega (arith, came.few)) c.in_err-visit-in-None.ensures.count)
 
 pub loop-visitor-preserved : goal.loop-visitor-preserved
 loop-visitor-preserved g c =
@@ -28,7 +28,7 @@ loop-visitor-preserved g c =
     record {
       told =
           Told-next _ _ _ _ (g.I.Source.seen c.read_sector.new.image) _ _ _ c.loop-visitor.invariant.told c.read_sector.new.sector (record { consumes = came.consumes; counted = omega (arith, came.counted, came.size) })
-          (g.O.Sink.seen c.visit.new.out) came.kept came.size _ takes c.in_ok-visit-in-None.ensures.flushes c.in_ok-visit-in-None.ensures.count;
+          (g.O.Sink.seen c.visit.new.out) came.kept came.size _ takes c.in_ok-visit-in-None.ensures.count;
       at = c.in_ok-visit-in-None.ensures.at;
       few = omega (arith, came.few);
     }
@@ -40,11 +40,11 @@ returns-in_err-close-in-Some g c =
     rw (failed.1, failed.2)
     (Told-end_failed _ _ _ _ (g.I.Source.seen c.read_sector.new.image) _ _ _ c.loop-visitor.invariant.told _ (record { consumes = ended.consumes; counted = omega (arith, ended.counted, ended.size) })
     (g.O.Sink.seen c.close.new.out) ended.kept
-    (omega (arith, ended.size, ended.short)) (omega (arith, ended.size, ended.within)) ended.at_end ended.ended _ (omega (arith, ended.size)) _ c.in_err-close-in-Some.ensures.text c.in_err-close-in-Some.ensures.flushes c.in_err-close-in-Some.ensures.count)
+    (omega (arith, ended.size, ended.short)) (omega (arith, ended.size, ended.within)) ended.at_end ended.ended _ (omega (arith, ended.size)) _ c.in_err-close-in-Some.ensures.text c.in_err-close-in-Some.ensures.count)
 
 pub returns-in-Some : goal.returns-in-Some
 returns-in-Some g c =
     let ended = rw c.in-Some.is at c.in_ok-read_sector.ensures in
     Told-end _ _ _ _ (g.I.Source.seen c.read_sector.new.image) _ _ _ c.loop-visitor.invariant.told _ (record { consumes = ended.consumes; counted = omega (arith, ended.counted, ended.size) })
     (g.O.Sink.seen c.close.new.out) ended.kept
-    (omega (arith, ended.size, ended.short)) (omega (arith, ended.size, ended.within)) ended.at_end ended.ended _ (omega (arith, ended.size)) _ c.in_ok-close-in-Some.ensures.tally c.in_ok-close-in-Some.ensures.text c.in_ok-close-in-Some.ensures.flushes c.in_ok-close-in-Some.ensures.count
+    (omega (arith, ended.size, ended.short)) (omega (arith, ended.size, ended.within)) ended.at_end ended.ended _ (omega (arith, ended.size)) _ c.in_ok-close-in-Some.ensures.tally c.in_ok-close-in-Some.ensures.text c.in_ok-close-in-Some.ensures.count

@@ -7,8 +7,7 @@ unfolding address
 none_past block h = search rules
 
 some_to : (block minute second fraction : ℕ) → block ≤ 449849
-    → minute ≡ bcd ((block + 150) / 4500) → second ≡ bcd ((block + 150) / 75 % 60)
-    → fraction ≡ bcd ((block + 150) % 75)
+    → minute ≡ bcd ((block + 150) / 4500) → second ≡ bcd ((block + 150) / 75 % 60) → fraction ≡ bcd ((block + 150) % 75)
     → Some (minute ∷ second ∷ fraction ∷ []) ≡ address block
 unfolding address
 some_to block minute second fraction h e f g = search rules
@@ -18,6 +17,5 @@ returns-then-block-gt-MAX_BLOCK-clause-value c = none_past c.args.block c.if-blo
 
 pub returns-clause-value : goal.returns-clause-value
 returns-clause-value c =
-    some_to c.args.block c.bcd_of.result c.bcd_of-2.result c.bcd_of-3.result
-    c.if-block-gt-MAX_BLOCK.false
+    some_to c.args.block c.bcd_of.result c.bcd_of-2.result c.bcd_of-3.result c.if-block-gt-MAX_BLOCK.false
     c.bcd_of.ensures c.bcd_of-2.ensures c.bcd_of-3.ensures

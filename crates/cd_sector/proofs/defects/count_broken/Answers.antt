@@ -15,14 +15,8 @@ loop-i-preserved c =
     let plain = c.args.plain.now in
     let weighted = c.args.weighted.now in
     record {
-      most = omega (
-        arith,
-        c.loop-i.invariant.most,
-        one-le (is_broken (get_or plain i 0, get_or weighted i 0)) c.one_if_broken-number.result
-            c.one_if_broken-number.ensures,
-      );
+      most = omega (arith, c.loop-i.invariant.most, one-le (is_broken (get_or plain i 0, get_or weighted i 0)) c.one_if_broken-number.result c.one_if_broken-number.ensures);
       counts = λ word sums.
-          broken_more word (length plain) i c.loop-i.number c.one_if_broken-number.result plain
-          weighted sums c.loop-i-test.true
+          broken_more word (length plain) i c.loop-i.number c.one_if_broken-number.result plain weighted sums c.loop-i-test.true
           (c.loop-i.invariant.counts word sums) c.one_if_broken-number.ensures;
     }

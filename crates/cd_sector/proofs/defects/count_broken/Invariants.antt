@@ -7,6 +7,5 @@ use Rattle.cd_sector.proofs.defects.count_broken.Given as goal
 abbrev pub invariant-loop-i : goal.invariant-loop-i
 invariant-loop-i l = record {
   most : l.number ≤ l.i;
-  counts : (word : ℕ → List ℕ) → SumsOf word (length l.plain) l.plain l.weighted
-      → l.number ≡ count_by is_broken (all_syndromes word l.i);
+  counts : (word : ℕ → List ℕ) → SumsOf word (length l.plain) l.plain l.weighted → l.number ≡ count_by is_broken (all_syndromes word l.i);
 }

@@ -7,6 +7,5 @@ pub returns : goal.returns
 returns c =
     let sums = c.all_column_sums-sums.result in
     let long : length sums.plain ≡ 86 = search rules in
-    broken_of (column_of c.args.bytes.now) 86 c.count_broken.result sums.plain sums.weighted long
-    c.all_column_sums-sums.ensures
+    broken_of (column_of c.args.bytes.now) 86 c.count_broken.result sums.plain sums.weighted long c.all_column_sums-sums.ensures
     (c.count_broken.ensures (column_of c.args.bytes.now))

@@ -7,6 +7,5 @@ pub returns : goal.returns
 returns c =
     let sums = c.diagonal_sums-sums.result in
     let long : length sums.plain ≡ 52 = search rules in
-    broken_of (diagonal_of c.args.bytes.now) 52 c.count_broken.result sums.plain sums.weighted long
-    c.diagonal_sums-sums.ensures
+    broken_of (diagonal_of c.args.bytes.now) 52 c.count_broken.result sums.plain sums.weighted long c.diagonal_sums-sums.ensures
     (c.count_broken.ensures (diagonal_of c.args.bytes.now))

@@ -4,6 +4,5 @@ use Rattle.cd_sector.proofs.defects.has_edc.Goals as goal
 
 pub returns : goal.returns
 returns c =
-    edc_told c.args.bytes.now c.edc_of.result c.stored_edc.result _ c.told-bytes c.fits-bytes
-    c.edc_of.ensures.word c.stored_edc.ensures
+    edc_told c.args.bytes.now c.edc_of.result c.stored_edc.result _ c.told-bytes c.fits-bytes c.edc_of.ensures.word c.stored_edc.ensures
     (Decides-eqb c.edc_of.result c.stored_edc.result)

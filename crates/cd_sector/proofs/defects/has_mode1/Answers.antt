@@ -4,8 +4,7 @@ use Rattle.cd_sector.specs.declared.kinds.SectorKind.{SectorKind}
 use Rattle.cd_sector.specs.declared.kinds.SectorKind.TheVariants.{NoSync, Mode0, Mode2, Other}
 use Rattle.cd_sector.proofs.defects.has_mode1.Goals as goal
 
-another_kind : (k : SectorKind) → (k ≡ NoSync) ⊎ ((k ≡ Mode0) ⊎ ((k ≡ Mode2) ⊎ (k ≡ Other)))
-    → false ≡ is_mode1 k
+another_kind : (k : SectorKind) → (k ≡ NoSync) ⊎ ((k ≡ Mode0) ⊎ ((k ≡ Mode2) ⊎ (k ≡ Other))) → false ≡ is_mode1 k
 another_kind k (inl e) = sym (ap is_mode1 e)
 another_kind k (inr (inl e)) = sym (ap is_mode1 e)
 another_kind k (inr (inr (inl e))) = sym (ap is_mode1 e)

@@ -7,18 +7,13 @@ pub returns-then-count_broken_columns-eq0 : goal.returns-then-count_broken_colum
 returns-then-count_broken_columns-eq0 c = elim c.if-has_edc.branch [
   | then-has_edc w ↦ elim c.if-has_zeros.branch [
     | then-has_zeros v ↦
-        sound-all c.args.bytes.now c.has_zeros.result v.has_edc.result w.count_broken_columns.result
-        c.count_broken_diagonals.result
-        c.has_zeros.ensures v.if-has_zeros.true v.has_edc.ensures
-        (sym v.value-is ∙ w.if-has_edc.true)
-        w.count_broken_columns.ensures (sym w.value-is ∙ c.if-count_broken_columns-eq0.true)
-        c.count_broken_diagonals.ensures
+        sound-all c.args.bytes.now c.has_zeros.result v.has_edc.result w.count_broken_columns.result c.count_broken_diagonals.result
+        c.has_zeros.ensures v.if-has_zeros.true v.has_edc.ensures (sym v.value-is ∙ w.if-has_edc.true)
+        w.count_broken_columns.ensures (sym w.value-is ∙ c.if-count_broken_columns-eq0.true) c.count_broken_diagonals.ensures
     | else-has_zeros v ↦
-        let both : true ≡ false =
-        sym w.if-has_edc.true ∙ v.value-is ∙ v.if-has_zeros.false in absurd cc
+        let both : true ≡ false = sym w.if-has_edc.true ∙ v.value-is ∙ v.if-has_zeros.false in absurd cc
   ]
-  | else-has_edc w ↦ let both : true ≡ false =
-      sym c.if-count_broken_columns-eq0.true ∙ w.value-is ∙ w.if-has_edc.false in absurd cc
+  | else-has_edc w ↦ let both : true ≡ false = sym c.if-count_broken_columns-eq0.true ∙ w.value-is ∙ w.if-has_edc.false in absurd cc
 ]
 
 pub returns-else-count_broken_columns-eq0 : goal.returns-else-count_broken_columns-eq0
@@ -28,15 +23,11 @@ returns-else-count_broken_columns-eq0 c =
     ∙ elim c.if-has_edc.branch [
       | then-has_edc w ↦ elim c.if-has_zeros.branch [
         | then-has_zeros v ↦
-            unsound-columns s w.count_broken_columns.result w.count_broken_columns.ensures
-            (sym w.value-is ∙ c.if-count_broken_columns-eq0.false)
-        | else-has_zeros v ↦
-            unsound-zeros s c.has_zeros.result c.has_zeros.ensures v.if-has_zeros.false
+            unsound-columns s w.count_broken_columns.result w.count_broken_columns.ensures (sym w.value-is ∙ c.if-count_broken_columns-eq0.false)
+        | else-has_zeros v ↦ unsound-zeros s c.has_zeros.result c.has_zeros.ensures v.if-has_zeros.false
       ]
       | else-has_edc w ↦ elim c.if-has_zeros.branch [
-        | then-has_zeros v ↦
-            unsound-edc s v.has_edc.result v.has_edc.ensures (sym v.value-is ∙ w.if-has_edc.false)
-        | else-has_zeros v ↦
-            unsound-zeros s c.has_zeros.result c.has_zeros.ensures v.if-has_zeros.false
+        | then-has_zeros v ↦ unsound-edc s v.has_edc.result v.has_edc.ensures (sym v.value-is ∙ w.if-has_edc.false)
+        | else-has_zeros v ↦ unsound-zeros s c.has_zeros.result c.has_zeros.ensures v.if-has_zeros.false
       ]
     ]

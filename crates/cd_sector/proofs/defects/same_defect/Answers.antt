@@ -12,12 +12,10 @@ returns c =
     let long_b : length b ≡ 2352 = rw c.bytes-2.ensures.bytes at c.bytes-2.ensures.size in
     let bytes_a : AreBytes a = rw c.bytes.ensures.bytes at c.bytes.ensures.each in
     let bytes_b : AreBytes b = rw c.bytes-2.ensures.bytes at c.bytes-2.ensures.each in
-    let sum : IsSum c.sum_of_bytes.result a b =
-    rw c.bytes.ensures.bytes at (rw c.bytes-2.ensures.bytes at c.sum_of_bytes.ensures) in
+    let sum : IsSum c.sum_of_bytes.result a b = rw c.bytes.ensures.bytes at (rw c.bytes-2.ensures.bytes at c.sum_of_bytes.ensures) in
     let long : length c.sum_of_bytes.result ≡ 2352 = search rules in
     let told : Decides c.is_whole.result (defect_of a ≡ defect_of b) =
-    same_defect-told a b c.sum_of_bytes.result c.is_whole.result long_a long_b long sum
-    c.is_whole.ensures in
+    same_defect-told a b c.sum_of_bytes.result c.is_whole.result long_a long_b long sum c.is_whole.ensures in
     record {
       same = told;
       alone = λ yes front. same_defect-alone a b long_a bytes_a long_b bytes_b front (told.0 yes);

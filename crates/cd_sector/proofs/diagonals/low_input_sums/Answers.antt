@@ -9,7 +9,5 @@ returns c =
     c.in_the_middle-2.ensures.top ∙ c.in_the_middle.ensures.top
     ∙ c.at_the_beginning-2.ensures.top ∙ c.at_the_beginning.ensures.top ∙ c.low.ensures.top in
     let top : last.top ≡ 15 = c.at_the_end.ensures.top ∙ running in
-    SumsOf-rising c.args.bytes.now last.top 52 20 (λ i. i) last.sums.plain last.sums.weighted
-    c.rising.result.plain c.rising.result.weighted
-    (lit≤ tt) (λ i h. (omega arith, (omega arith, omega arith))) c.at_the_end.ensures.taken
-    c.rising.ensures.plain c.rising.ensures.weighted
+    SumsOf-rising c.args.bytes.now last.top 52 20 (λ i. i) last.sums.plain last.sums.weighted c.rising.result.plain c.rising.result.weighted
+    (lit≤ tt) (λ i h. (omega arith, (omega arith, omega arith))) c.at_the_end.ensures.taken c.rising.ensures.plain c.rising.ensures.weighted

@@ -8,5 +8,4 @@ returns-clause-word c =
     let four = c.edc_bytes.result in
     let long : length four ≡ 4 = ap length c.edc_bytes.ensures in
     ap (λ n. take n (drop 2064 new)) (sym long)
-    ∙ part-list new four 2064 (omega (arith, c.put_part.array_long)) c.put_part.ensures.inside
-    ∙ c.edc_bytes.ensures
+    ∙ part-list new four 2064 (omega (arith, c.put_part.array_long)) c.put_part.ensures.inside ∙ c.edc_bytes.ensures

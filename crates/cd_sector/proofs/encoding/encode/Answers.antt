@@ -4,8 +4,7 @@ use Rattle.cd_sector.proofs.encoding.encode.Goals as goal
 
 pub returns : goal.returns
 returns c =
-    let made : IsEncoded c.args.header c.args.user.now c.from_bytes.result =
-    rw (← c.from_bytes.ensures.bytes) at c.fill_sector.ensures in
+    let made : IsEncoded c.args.header c.args.user.now c.from_bytes.result = rw (← c.from_bytes.ensures.bytes) at c.fill_sector.ensures in
     record {
       consistent = made.is_consistent;
       header = made.has_header;

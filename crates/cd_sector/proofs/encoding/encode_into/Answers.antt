@@ -5,8 +5,7 @@ use Rattle.cd_sector.proofs.encoding.encode_into.Goals as goal
 
 pub returns : goal.returns
 returns c =
-    let made : IsEncoded c.args.header c.args.user.now c.read_with.new.self =
-    search (rules, c.read_with.ensures) in
+    let made : IsEncoded c.args.header c.args.user.now c.read_with.new.self = search (rules, c.read_with.ensures) in
     record {
       consistent = made.is_consistent;
       header = made.has_header;

@@ -8,9 +8,7 @@ pub returns-clause-zeros : goal.returns-clause-zeros
 returns-clause-zeros c = λ k from below.
     let place : 2068 + (k - 2068) ≡ k = omega arith in
     c.fill_words.ensures.stays k below ∙ c.fill_edc.ensures.stays k (inr from)
-    ∙ ap (λ n. get_or c.put_part.new.bytes n 0) (sym place)
-    ∙ c.put_part.ensures.inside (k - 2068) (omega arith)
-    ∙ get_or-replicate 8 (k - 2068) 0 0 (omega arith)
+    ∙ ap (λ n. get_or c.put_part.new.bytes n 0) (sym place) ∙ c.put_part.ensures.inside (k - 2068) (omega arith) ∙ get_or-replicate 8 (k - 2068) 0 0 (omega arith)
 
 pub returns-clause-edc : goal.returns-clause-edc
 returns-clause-edc c =
@@ -18,7 +16,5 @@ returns-clause-edc c =
     let edc = c.fill_edc.new.bytes in
     let end_size = c.fill_words.array_long in
     let edc_size = c.fill_edc.array_long in
-    ap (λ v. remainder (bits v))
-    (front-same end edc 2068 (omega arith) (omega arith)
-    (λ k h. c.fill_words.ensures.stays k (omega arith)))
+    ap (λ v. remainder (bits v)) (front-same end edc 2068 (omega arith) (omega arith) (λ k h. c.fill_words.ensures.stays k (omega arith)))
     ∙ c.fill_edc.ensures.divides

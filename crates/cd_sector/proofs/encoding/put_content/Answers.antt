@@ -4,8 +4,7 @@ use Rattle.cd_sector.proofs.encoding.put_content.Goals as goal
 
 pub returns : goal.returns
 returns c =
-    content_put c.args.header c.args.user.now c.args.bytes.now c.put_part.new.bytes
-    c.put_part-2.new.bytes c.put_part-3.new.bytes c.put_part-4.new.bytes
+    content_put c.args.header c.args.user.now c.args.bytes.now c.put_part.new.bytes c.put_part-2.new.bytes c.put_part-3.new.bytes c.put_part-4.new.bytes
     (omega arith) c.told-user
     (record { inside = c.put_part.ensures.inside; outside = c.put_part.ensures.outside })
     (record { inside = c.put_part-2.ensures.inside; outside = c.put_part-2.ensures.outside })

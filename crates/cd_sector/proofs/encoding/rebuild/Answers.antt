@@ -10,10 +10,8 @@ pub returns : goal.returns
 returns c =
     let old = c.args.s.now in
     let new = c.read_with.new.self in
-    let front : (k : ℕ) → k < 2064 → get_or new k 0 ≡ get_or old k 0 =
-    search (rules, c.read_with.ensures) in
-    let zeros : (k : ℕ) → 2068 ≤ k → k < 2076 → get_or new k 0 ≡ 0 =
-    search (rules, c.read_with.ensures) in
+    let front : (k : ℕ) → k < 2064 → get_or new k 0 ≡ get_or old k 0 = search (rules, c.read_with.ensures) in
+    let zeros : (k : ℕ) → 2068 ≤ k → k < 2076 → get_or new k 0 ≡ 0 = search (rules, c.read_with.ensures) in
     let divides : remainder (bits (take 2068 new)) ≡ 0 = search (rules, c.read_with.ensures) in
     let words : AllCodeWords new = search (rules, c.read_with.ensures) in
     let old_size : length old ≡ 2352 = search rules in
@@ -24,6 +22,5 @@ returns c =
       consistent = made.0;
       header = made.1.0;
       user = made.1.1;
-      alone = λ t sound header user. sector_unique t new sound made.0 (header ∙ sym made.1.0)
-          (user ∙ sym made.1.1);
+      alone = λ t sound header user. sector_unique t new sound made.0 (header ∙ sym made.1.0) (user ∙ sym made.1.1);
     }

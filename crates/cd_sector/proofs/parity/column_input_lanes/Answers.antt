@@ -10,7 +10,5 @@ returns c =
     let chunks = c.as_chunks.result.0.now in
     let n = length (take 2064 (drop 12 s)) / 86 in
     let number : n ≡ 24 = rows_of_columns s c.told-bytes in
-    AreColumns-same (column_of_rows chunks) (λ i. bytes_at s (column_input (i % 2) (i / 2)))
-    c.column_lanes.result
-    (λ k h. column_of_input s chunks n k c.as_chunks.ensures.front number
-    c.as_chunks.ensures.front_len h) c.column_lanes.ensures
+    AreColumns-same (column_of_rows chunks) (λ i. bytes_at s (column_input (i % 2) (i / 2))) c.column_lanes.result
+    (λ k h. column_of_input s chunks n k c.as_chunks.ensures.front number c.as_chunks.ensures.front_len h) c.column_lanes.ensures

@@ -7,7 +7,5 @@ returns-clause-words c =
     let mid = c.fill_columns.new.bytes in
     let end = c.fill_diagonals.new.bytes in
     AllCodeWords-by_number end
-    (λ i h. rw (column_of-same mid end i h
-    (λ k below. sym (c.fill_diagonals.ensures.stays k below))) at (c.fill_columns.ensures.words i
-    h))
+    (λ i h. rw (column_of-same mid end i h (λ k below. sym (c.fill_diagonals.ensures.stays k below))) at (c.fill_columns.ensures.words i h))
     c.fill_diagonals.ensures.words

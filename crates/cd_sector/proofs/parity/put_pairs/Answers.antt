@@ -8,8 +8,7 @@ returns c =
     let at = c.args.at in
     record {
       pairs = λ i h.
-          rw (second.outside (at + i) (inl (omega arith)), first.inside i h, second.inside i h)
-          (c.pairs.ensures i h);
+          rw (second.outside (at + i) (inl (omega arith)), first.inside i h, second.inside i h) (c.pairs.ensures i h);
       before = λ k h. second.outside k (inl (omega arith)) ∙ first.outside k (inl h);
       between = λ k h g. second.outside k (inl g) ∙ first.outside k (inr h);
       behind = λ k h. second.outside k (inr h) ∙ first.outside k (inr (omega arith));

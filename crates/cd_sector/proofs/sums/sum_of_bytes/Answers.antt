@@ -9,5 +9,4 @@ pub loop-i-preserved : goal.loop-i-preserved
 loop-i-preserved c = AreSums-more (omega arith) c.loop-i.invariant
 
 pub returns : goal.returns
-returns c = AreSums-all c.args.s.now c.args.t.now c.loop-i.sum c.told-s c.told-t (omega arith)
-    c.loop-i.invariant
+returns c = AreSums-all c.args.s.now c.args.t.now c.loop-i.sum c.told-s c.told-t (omega arith) c.loop-i.invariant

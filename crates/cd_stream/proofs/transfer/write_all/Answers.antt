@@ -12,8 +12,7 @@ loop-sent-preserved g c =
     omega (arith, went.1, length-behind c.loop-sent.sent c.args.bytes.now) in
     record {
       within = omega (arith, few, c.loop-sent-test.true);
-      appended = Appends-sent _ _ _ c.loop-sent.sent c.in_ok-sent.field-0 c.args.bytes.now few
-          before.appended went.2;
+      appended = Appends-sent _ _ _ c.loop-sent.sent c.in_ok-sent.field-0 c.args.bytes.now few before.appended went.2;
       taken = omega (arith, c.in_ok-sent.ensures.taken, before.taken);
       flushes = c.in_ok-sent.ensures.flushes ∙ before.flushes;
       counted = c.in_ok-sent.ensures.count ∙ before.counted;
@@ -22,13 +21,11 @@ loop-sent-preserved g c =
 
 pub returns : goal.returns
 returns g c =
-    let all : take c.loop-sent.sent c.args.bytes.now ≡ c.args.bytes.now =
-    take_all c.loop-sent.sent c.args.bytes.now (omega arith) in
+    let all : take c.loop-sent.sent c.args.bytes.now ≡ c.args.bytes.now = take_all c.loop-sent.sent c.args.bytes.now (omega arith) in
     record {
       bytes = rw all at c.loop-sent.invariant.appended;
       taken = subst (Takes (g.O.Sink.seen c.args.out.now) (g.O.Sink.seen c.loop-sent.out)) all
-          (Takes-front _ _ c.loop-sent.sent c.args.bytes.now c.loop-sent.invariant.within
-          c.loop-sent.invariant.appended c.loop-sent.invariant.taken);
+          (Takes-front _ _ c.loop-sent.sent c.args.bytes.now c.loop-sent.invariant.within c.loop-sent.invariant.appended c.loop-sent.invariant.taken);
       flushes = c.loop-sent.invariant.flushes;
       count = c.loop-sent.invariant.counted;
       unfinished = λ some. c.loop-sent.invariant.unfinished (omega arith);

@@ -5,8 +5,7 @@ use Rattle.cd_stream.proofs.transfer.write_all.Given as goal
 abbrev pub invariant-loop-sent : goal.invariant-loop-sent
 invariant-loop-sent g l = record {
   within : l.sent ≤ length l.bytes;
-  appended : Appends (g.O.Sink.seen l.fn.out).written (g.O.Sink.seen l.out).written
-      (take l.sent l.bytes);
+  appended : Appends (g.O.Sink.seen l.fn.out).written (g.O.Sink.seen l.out).written (take l.sent l.bytes);
   taken : (g.O.Sink.seen l.out).taken ≡ (g.O.Sink.seen l.fn.out).taken + l.sent;
   flushes : (g.O.Sink.seen l.out).flushes ≡ (g.O.Sink.seen l.fn.out).flushes;
   counted : (g.O.Sink.seen l.out).failures ≡ (g.O.Sink.seen l.fn.out).failures;

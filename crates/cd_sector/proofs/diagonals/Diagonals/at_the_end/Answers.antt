@@ -11,13 +11,11 @@ loop-step-preserved c =
     let new = c.with_lanes_where-sums.ensures in
     let from : c.args.self.step ≤ step = c.loop-step.auto.step in
     HasTaken-step c.args.bytes.now top step sums.plain sums.weighted
-    c.with_lanes_where-sums.result.plain c.with_lanes_where-sums.result.weighted c.fits-bytes
-    c.args.self.least c.loop-step.invariant
+    c.with_lanes_where-sums.result.plain c.with_lanes_where-sums.result.weighted c.fits-bytes c.args.self.least c.loop-step.invariant
     (λ i h begun running.
     let yes = c.lane_mask.ensures.takes i h (omega arith) (omega arith) in (
       new.plain i h yes ∙ ap (bit_xor (get_or sums.plain i 0)) (c.window-lanes.ensures i h),
-      new.weighted i h yes
-          ∙ ap (bit_xor (double (get_or sums.weighted i 0))) (c.window-lanes.ensures i h),
+      new.weighted i h yes ∙ ap (bit_xor (double (get_or sums.weighted i 0))) (c.window-lanes.ensures i h),
     ))
     (λ i h outside.
     let place : (step + 15 - top + i / 2 < 15) ⊎ (58 ≤ step + 15 - top + i / 2) = elim outside [

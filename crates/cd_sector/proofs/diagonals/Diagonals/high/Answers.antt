@@ -4,5 +4,4 @@ use Rattle.cd_sector.proofs.diagonals.Diagonals.high.Goals as goal
 
 pub returns-clause-taken : goal.returns-clause-taken
 returns-clause-taken c =
-    rw c.zero.ensures.plain
-    (rw c.zero.ensures.weighted (HasTaken-none c.args.bytes.now 25 10 (lit≤ tt)))
+    rw c.zero.ensures.plain (rw c.zero.ensures.weighted (HasTaken-none c.args.bytes.now 25 10 (lit≤ tt)))

@@ -9,8 +9,7 @@ loop-step-preserved c =
     let new = c.with_lanes-sums.ensures in
     let from : c.args.self.step ≤ c.loop-step.step = c.loop-step.auto.step in
     HasTaken-step c.args.bytes.now c.args.self.top c.loop-step.step sums.plain sums.weighted
-    c.with_lanes-sums.result.plain c.with_lanes-sums.result.weighted c.fits-bytes c.args.self.least
-    c.loop-step.invariant
+    c.with_lanes-sums.result.plain c.with_lanes-sums.result.weighted c.fits-bytes c.args.self.least c.loop-step.invariant
     (λ i h begun running. (
       new.plain i h ∙ ap (bit_xor (get_or sums.plain i 0)) (c.window.ensures i h),
       new.weighted i h ∙ ap (bit_xor (double (get_or sums.weighted i 0))) (c.window.ensures i h),

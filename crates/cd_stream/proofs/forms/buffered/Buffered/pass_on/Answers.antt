@@ -9,20 +9,9 @@ loop-self-preserved g c =
     let now = c.loop-self.self in
     let went = c.in_ok-self.ensures.bytes in
     record {
-      bytes = Keeps-passed _ _ _ now.start now.end c.in_ok-self.field-0 now.space.items _
-          (omega (
-            arith,
-            went.1,
-            length-take (now.end - now.start) (drop now.start c.deref.result.now),
-          ))
+      bytes = Keeps-passed _ _ _ now.start now.end c.in_ok-self.field-0 now.space.items _ (omega (arith, went.1, length-take (now.end - now.start) (drop now.start c.deref.result.now)))
           (ap (between now.start now.end) c.deref.ensures.value) before.bytes went.2;
-      taken = omega (
-        arith,
-        before.taken,
-        c.in_ok-self.ensures.taken,
-        went.1,
-        length-take (now.end - now.start) (drop now.start c.deref.result.now),
-      );
+      taken = omega (arith, before.taken, c.in_ok-self.ensures.taken, went.1, length-take (now.end - now.start) (drop now.start c.deref.result.now));
       flushes = c.in_ok-self.ensures.flushes ∙ before.flushes;
       counted = c.in_ok-self.ensures.count ∙ before.counted;
       finished = before.finished;

@@ -5,10 +5,8 @@ use Rattle.cd_stream.proofs.forms.buffered.Buffered.pass_on.Given as goal
 
 abbrev pub invariant-loop-self : goal.invariant-loop-self
 invariant-loop-self g l = record {
-  bytes : Keeps (buffered_outgoing g.S.Sink.seen l.initial.self).written
-      (buffered_outgoing g.S.Sink.seen l.self).written;
-  taken : (buffered_outgoing g.S.Sink.seen l.self).taken
-      ≡ (buffered_outgoing g.S.Sink.seen l.initial.self).taken;
+  bytes : Keeps (buffered_outgoing g.S.Sink.seen l.initial.self).written (buffered_outgoing g.S.Sink.seen l.self).written;
+  taken : (buffered_outgoing g.S.Sink.seen l.self).taken ≡ (buffered_outgoing g.S.Sink.seen l.initial.self).taken;
   flushes : (g.S.Sink.seen l.self.inner).flushes ≡ (g.S.Sink.seen l.initial.self.inner).flushes;
   counted : (g.S.Sink.seen l.self.inner).failures ≡ (g.S.Sink.seen l.initial.self.inner).failures;
   finished : l.self.finished ≡ l.initial.self.finished;

@@ -26,12 +26,9 @@ returns-clause-writes g c =
       bytes = (
         c.requires.some,
         omega arith,
-        subst (Appends got _)
-            (sym (take_all (length c.args.bytes.now) c.args.bytes.now (omega arith)))
-            (append_known-grown got (seen c.hold.new.self.inner).written held
-            (held_bytes c.hold.new.self) c.args.bytes.now
-            (subst (λ s. Keeps got (append_known (seen s).written held)) (sym c.hold.ensures.inner)
-            (Keeps-refl got)) c.hold.ensures.held),
+        subst (Appends got _) (sym (take_all (length c.args.bytes.now) c.args.bytes.now (omega arith)))
+            (append_known-grown got (seen c.hold.new.self.inner).written held (held_bytes c.hold.new.self) c.args.bytes.now
+            (subst (λ s. Keeps got (append_known (seen s).written held)) (sym c.hold.ensures.inner) (Keeps-refl got)) c.hold.ensures.held),
       );
       taken = omega (arith, c.hold.ensures.count, ap (λ s. (seen s).taken) c.hold.ensures.inner);
       flushes = ap (λ s. (seen s).flushes) c.hold.ensures.inner;

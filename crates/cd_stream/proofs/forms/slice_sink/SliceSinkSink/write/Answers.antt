@@ -22,6 +22,5 @@ returns-clause-room_left c = search rules
 pub returns-clause-rest : goal.returns-clause-rest
 returns-clause-rest c =
     let old = c.args.self.now in
-    drop-put_mid old.used _ old.space.now c.copy_from_slice.new.self (old.used + c.min-n.result)
-    (omega arith) old.within (search rules)
+    drop-put_mid old.used _ old.space.now c.copy_from_slice.new.self (old.used + c.min-n.result) (omega arith) old.within (search rules)
     ∙ sym (drop-drop c.min-n.result old.used old.space.now)

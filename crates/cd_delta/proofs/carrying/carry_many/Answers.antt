@@ -1,6 +1,6 @@
 use Rattle.std.proofs.Common.{rules}
 use Rattle.cd_delta.proofs.UserLemmas.{IsChanged-same}
-use Rattle.cd_delta.proofs.carrying.carry.Goals as goal
+use Rattle.cd_delta.proofs.carrying.carry_many.Goals as goal
 
 pub returns : goal.returns
 returns c = record {
