@@ -121,7 +121,7 @@ strictly_ahead ps d block rising ahead other = λ k e inside.
 
 -- ---- the end
 
--- what is told of the patches behind a place is told of a slice from there to the end
+-- what holds of the patches after a place holds of a slice from there to the end
 pub Sends-rest : {X E : Type 0} (ps : List Patch) (d : ℕ) (old new : Outgoing) (result : Result X E) → Sends old new (missing_lines (take (length ps - d) (drop d ps))) result → Sends old new (missing_lines (drop d ps)) result
 Sends-rest ps d old new result = subst (λ rest. Sends old new (missing_lines rest) result) (take_all (length ps - d) (drop d ps) (omega (arith, length-drop d ps)))
 

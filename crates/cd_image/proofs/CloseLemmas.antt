@@ -216,7 +216,7 @@ module _ (carry : Bool) (ps : List Patch) (base : ℕ) (start now : Streams) (pa
   ends out log sent told result went logged in_hand answers =
       subst (λ qs. Applies carry qs base start (record now { out = out; log = log }) result) (take-append-drop pass.decided ps) (applies read sent told result gives went logged in_hand answers)
 
-  -- the log behind the lines that were written
+  -- the log after the lines that were written
   rest_of_log : List ℕ
   rest_of_log = log_lines left (missing_outcomes left) ++ counts
 
@@ -270,7 +270,7 @@ module _ (carry : Bool) (ps : List Patch) (base : ℕ) (start now : Streams) (pa
     unfolding last
     all_sent = Takes-trans start.out now.out out _ _ g.sends sent.taken
 
-    -- the log fails behind the lines that were written
+    -- the log fails after the lines that were written
     log_stops : (log : Outgoing) (n : ℕ) → n < length rest_of_log → Takes now.log log (take n rest_of_log) → log.failures ≡ now.log.failures + 1 → log.flushes ≡ now.log.flushes
         → Applies carry ps base start (record now { out = out; log = log }) (Err Log)
     log_stops log n inside went failed unflushed =
@@ -290,7 +290,7 @@ module _ (carry : Bool) (ps : List Patch) (base : ℕ) (start now : Streams) (pa
         length_told : length (log_lines taken g.outcomes ++ take n rest_of_log) ≡ length (log_lines taken g.outcomes) + n
         length_told = length-append (log_lines taken g.outcomes) (take n rest_of_log) ∙ ap (λ m. length (log_lines taken g.outcomes) + m) (length-take-le n rest_of_log (omega (arith, inside)))
 
-    -- in those of the patches behind the image
+    -- in those of the patches after the image
     pub Closes-behind : {Y F : Type 0} {f : F} (log : Outgoing) → Sends {X = Y} {E = F} now.log log (log_lines left (missing_outcomes left)) (Err f)
         → Applies carry ps base start (record now { out = out; log = log }) (Err Log)
     unfolding rest_of_log

@@ -11,7 +11,7 @@ use Rattle.cd_jobs.specs.declared.host.OpenFault.TheVariants as open_fault
 use Rattle.cd_jobs.specs.declared.script.LoadFault.{LoadFault}
 use Rattle.cd_jobs.specs.declared.script.LoadFault.TheVariants as load_fault
 
--- there is no file of a script, or a read of it failed
+-- a script's file could not be opened or read
 abbrev pub no_script : List ℕ
 no_script = codes "cdpatch: cannot read the script\n"
 
