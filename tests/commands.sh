@@ -22,14 +22,12 @@ says() {
 }
 
 # The script is read before the image is opened, and the image is opened before OUT is made.
-no_script='cdpatch: cannot read the script'
 says "$no_script" check image missing
 says "$no_script" check image folder
 says "$no_script" check image -
 says "$no_script" check missing missing
 says "$no_script" apply missing folder out
 says "$no_script" apply missing - out
-long_script='cdpatch: the script is longer than 67108864 bytes'
 says "$long_script" check image long
 says "$long_script" apply missing long out
 says 'script line 2: bad hex' check image wrong
@@ -40,22 +38,19 @@ patches=$(limit 'patches of a script')
 says "script line $((patches + 2)): more than $patches patches" check image many
 says "script line $((patches + 2)): more than $patches patches" apply missing many out
 
-no_image='cdpatch: cannot open the image'
 says "$no_image" audit missing
 says "$no_image" check missing script
 says "$no_image" apply missing script image
 says "$no_image" apply missing script nowhere/out
 
-unread='cdpatch: reading the image failed'
-says "$unread" audit folder
-says "$unread" check folder script
+says "$read_failed" audit folder
+says "$read_failed" check folder script
 run apply folder script out
-judge 'apply folder script out' ended 2 "$unread\n"
+judge 'apply folder script out' ended 2 "$read_failed\n"
 judge 'OUT is made before the image is read' test -e out -a ! -s out
 rm -f out
 
 # Whatever stands in OUT's place stays as it was.
-no_output='cdpatch: cannot make the output file'
 echo kept > there
 ln -s nothing dangling
 for out in there image script folder nowhere/out dangling; do

@@ -95,7 +95,7 @@ image_failed() {
     local moved sectors
     moved=$(moved_before)
     sectors=$((moved / 2352))
-    ended_at_fault && says 'cdpatch: reading the image failed' || return
+    ended_at_fault && says "$read_failed" || return
     case $2 in
         list) head -n -1 list.log | awk -F '[- ]' -v n=$sectors '$2 < n - 1' | cmp -s - before ;;
         audit) head -n -1 audit.log | awk -v n=$sectors '$1 < n' | cmp -s - before ;;
@@ -117,13 +117,13 @@ image_cut() {
 
 # An image that was not opened.
 image_refused() {
-    ended_at_fault && [ ! -e out ] && [ "$(cat log)" = 'cdpatch: cannot open the image' ]
+    ended_at_fault && [ ! -e out ] && [ "$(cat log)" = "$no_image" ]
 }
 
 # ---- the script
 
 script_failed() {
-    ended_at_fault && [ ! -e out ] && [ "$(cat log)" = 'cdpatch: cannot read the script' ]
+    ended_at_fault && [ ! -e out ] && [ "$(cat log)" = "$no_script" ]
 }
 
 # ---- the output
@@ -131,17 +131,17 @@ script_failed() {
 out_failed() {
     local moved
     moved=$(moved_before)
-    ended_at_fault && says 'cdpatch: writing the output failed' || return
+    ended_at_fault && says "$write_failed" || return
     logged $((moved / 2352)) && sent "$moved" && [ "$(stat -c %s out)" = "$moved" ]
 }
 
 # A failed sync: all is written, and told.
 sync_failed() {
-    ended_at_fault && says 'cdpatch: writing the output failed' && cmp -s before "$right_log" && cmp -s out "$right_out"
+    ended_at_fault && says "$write_failed" && cmp -s before "$right_log" && cmp -s out "$right_out"
 }
 
 out_refused() {
-    ended_at_fault && [ ! -e out ] && [ "$(cat log)" = 'cdpatch: cannot make the output file' ]
+    ended_at_fault && [ ! -e out ] && [ "$(cat log)" = "$no_output" ]
 }
 
 # ---- standard output

@@ -163,7 +163,7 @@ make_large 2351
 # full ROOM NAME: judges the last run, after which `out` has this number of bytes of the patched image and no more.
 full() {
     judge "$2: the status" test "$status" = 2
-    judge "$2: the last line" test "$(tail -n 1 log)" = 'cdpatch: writing the output failed'
+    judge "$2: the last line" test "$(tail -n 1 log)" = "$write_failed"
     head -n -1 log > before
     judge "$2: the lines before it" within before large.log
     judge "$2: nothing on standard error" test ! -s errors

@@ -1,5 +1,6 @@
 # What all tests that run as processes share: a scratch directory, which is gone afterwards, and the counts.
 
+. "$top/tests/messages.sh"
 scratch=$(mktemp -d)
 trap 'rm -rf "$scratch"' EXIT
 passed=0

@@ -9,8 +9,6 @@ set -u
 
 prepare_large
 make_large 2351
-no_memory='cdpatch: no memory'
-no_script_memory='script: no memory'
 declare -A lines_told=()
 
 # right_answer COMMAND: the last run was right.

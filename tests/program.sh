@@ -21,9 +21,6 @@ head -c 7056 "$vectors" > image
 printf 'cdpatch 1\nset 1 0 41\n' > script
 keep
 
-no_script='cdpatch: cannot read the script\n'
-no_image='cdpatch: cannot open the image\n'
-no_output='cdpatch: cannot make the output file\n'
 applied='line 2: applied\napplied 1 refused 0\n'
 
 run apply image script out
@@ -34,7 +31,7 @@ judge 'the output is not the image' test $? = 1
 cp out patched
 
 run apply image script out
-judge 'an output that is there is refused' ended 2 "$no_output"
+judge 'an output that is there is refused' ended 2 "$no_output\n"
 judge 'an output that is there stays' cmp -s out patched
 rm out
 
@@ -75,69 +72,69 @@ run
 judge 'no words list the standard input' ended 0 'sectors 0 tail 0\n'
 
 run list missing
-judge 'no such image' ended 2 "$no_image"
+judge 'no such image' ended 2 "$no_image\n"
 "$program" list '' > log 2> errors < image
 status=$?
-judge 'no name as image' ended 2 "$no_image"
+judge 'no name as image' ended 2 "$no_image\n"
 run apply '' script out
-judge 'no name as image to patch' ended_without_output 2 "$no_image"
+judge 'no name as image to patch' ended_without_output 2 "$no_image\n"
 cp image ./-
 "$program" list - > log 2> errors < /dev/null
 status=$?
 judge 'the standard input comes before a file of the name -' ended 0 'sectors 0 tail 0\n'
 rm ./-
 run apply missing script out
-judge 'no such image to patch' ended_without_output 2 "$no_image"
+judge 'no such image to patch' ended_without_output 2 "$no_image\n"
 run apply image missing out
-judge 'no such script' ended_without_output 2 "$no_script"
+judge 'no such script' ended_without_output 2 "$no_script\n"
 "$program" apply image - out > log 2> errors < script
 status=$?
-judge 'a script is no standard input' ended_without_output 2 "$no_script"
+judge 'a script is no standard input' ended_without_output 2 "$no_script\n"
 run apply image '' out
-judge 'no name as script' ended_without_output 2 "$no_script"
+judge 'no name as script' ended_without_output 2 "$no_script\n"
 run apply missing missing out
-judge 'the script comes before the image' ended_without_output 2 "$no_script"
+judge 'the script comes before the image' ended_without_output 2 "$no_script\n"
 
 mkdir folder
 run apply image folder out
-judge 'a directory as script' ended_without_output 2 "$no_script"
+judge 'a directory as script' ended_without_output 2 "$no_script\n"
 run list folder
-judge 'a directory as image' ended 2 'cdpatch: reading the image failed\n'
+judge 'a directory as image' ended 2 "$read_failed\n"
 run apply image script folder
-judge 'a directory as output' ended 2 "$no_output"
+judge 'a directory as output' ended 2 "$no_output\n"
 run apply image script nowhere/out
-judge 'an output in a folder that is not there' ended 2 "$no_output"
+judge 'an output in a folder that is not there' ended 2 "$no_output\n"
 run apply image script image
-judge 'the image as output' ended 2 "$no_output"
+judge 'the image as output' ended 2 "$no_output\n"
 run apply image script script
-judge 'the script as output' ended 2 "$no_output"
+judge 'the script as output' ended 2 "$no_output\n"
 run apply image script ''
-judge 'no name as output' ended 2 "$no_output"
+judge 'no name as output' ended 2 "$no_output\n"
 ln -s nothing dangling
 run apply image script dangling
-judge 'a dangling link as output' ended 2 "$no_output"
+judge 'a dangling link as output' ended 2 "$no_output\n"
 judge 'nothing behind the link' test ! -e nothing
 ln -s image to_image
 run apply image script to_image
-judge 'a link to the image as output' ended 2 "$no_output"
+judge 'a link to the image as output' ended 2 "$no_output\n"
 ln image same_image
 run apply image script same_image
-judge 'another name of the image as output' ended 2 "$no_output"
+judge 'another name of the image as output' ended 2 "$no_output\n"
 rm same_image
 echo kept > old
 ln -s old to_old
 run apply image script to_old
-judge 'a link to a file as output' ended 2 "$no_output"
+judge 'a link to a file as output' ended 2 "$no_output\n"
 judge 'the file behind the link stays' test "$(cat old)" = kept
 for device in /dev/null /dev/full /dev/stdout; do
     run apply image script $device
-    judge "$device as output" ended 2 "$no_output"
+    judge "$device as output" ended 2 "$no_output\n"
 done
 # This shell holds both ends of the FIFO, so that no one waits to open it.
 mkfifo fifo
 exec 5<> fifo
 run apply image script fifo
-judge 'a FIFO as output' ended 2 "$no_output"
+judge 'a FIFO as output' ended 2 "$no_output\n"
 judge 'nothing in the FIFO' test "$(echo end >&5; head -n 1 <&5 | head -c 9)" = end
 exec 5>&-
 run apply image script -
@@ -175,12 +172,12 @@ if [ "$(id -u)" != 0 ] || [ ${#reader[@]} != 0 ]; then
     chmod 000 shelf/image
     (cd shelf && "${reader[@]}" ./cdpatch list image) > log 2> errors
     status=$?
-    judge 'an image that may not be read' ended 2 "$no_image"
+    judge 'an image that may not be read' ended 2 "$no_image\n"
     chmod 444 shelf/image
     chmod 555 shelf
     (cd shelf && "${reader[@]}" ./cdpatch apply image script another) > log 2> errors
     status=$?
-    judge 'an output in a folder that may only be read' ended 2 "$no_output"
+    judge 'an output in a folder that may only be read' ended 2 "$no_output\n"
 fi
 
 printf 'cdpatch 1\nset 1 0 4\n' > wrong
@@ -196,7 +193,7 @@ judge 'a patch too many' ended_without_output 2 "script line $((patches + 2)): m
 
 truncate -s 67108865 long
 run apply image long out
-judge 'a script that is too long' ended_without_output 2 'cdpatch: the script is longer than 67108864 bytes\n'
+judge 'a script that is too long' ended_without_output 2 "$long_script\n"
 rm long
 
 # A limit on the size of a file stands for a disk that has room for so much.
@@ -207,7 +204,7 @@ rm long
     exit "$status"
 )
 status=$?
-judge 'a full disk' ended 2 "${applied}cdpatch: writing the output failed\n"
+judge 'a full disk' ended 2 "${applied}$write_failed\n"
 judge 'the output has what the full disk took' test "$(stat -c %s out)" = 4096
 judge 'output before a full disk' within out patched
 rm -f out
@@ -258,7 +255,7 @@ refused apply image script out --base 0 --base 0
 refused list image --carry
 refused audit image --carry
 run list $'\xff'
-judge 'a word that is no text' ended 2 'cdpatch: the words are not text\n'
+judge 'a word that is no text' ended 2 "$no_text\n"
 run list image --base 449849
 judge 'the largest base' ended 0 '449849-449851 mode1\nsectors 3 tail 0\n'
 
@@ -287,7 +284,7 @@ rm -f out
 
 "$program" apply - script out <&- > log 2> errors
 status=$?
-judge 'the standard input closed' ended 2 'cdpatch: reading the image failed\n'
+judge 'the standard input closed' ended 2 "$read_failed\n"
 judge 'no output of that' test ! -s out
 rm -f out
 

@@ -12,6 +12,7 @@ import errno
 import functools
 import os
 import random
+import re
 import subprocess
 import sys
 
@@ -21,14 +22,16 @@ TAILS = [0, 1, 2351]
 BLANK = range(40, 50)
 ERRORS = [errno.EIO, errno.ENOSPC, errno.EINTR, errno.EAGAIN, errno.EACCES, errno.EPERM, errno.EINVAL, errno.ENXIO, errno.EDQUOT,
           errno.EOPNOTSUPP, errno.ENOSYS, errno.ETIMEDOUT]
+with open(os.path.join(os.path.dirname(__file__), "messages.sh"), encoding="ascii") as messages:
+    MESSAGES = {name: text.encode() + b"\n" for name, text in re.findall(r"^(\w+)='(.*)'$", messages.read(), re.M)}
 LINES = {
-    ("open", "script"): b"cdpatch: cannot read the script\n",
-    ("read", "script"): b"cdpatch: cannot read the script\n",
-    ("open", "image"): b"cdpatch: cannot open the image\n",
-    ("read", "image"): b"cdpatch: reading the image failed\n",
-    ("open", "out"): b"cdpatch: cannot make the output file\n",
-    ("write", "out"): b"cdpatch: writing the output failed\n",
-    ("sync", "out"): b"cdpatch: writing the output failed\n",
+    ("open", "script"): MESSAGES["no_script"],
+    ("read", "script"): MESSAGES["no_script"],
+    ("open", "image"): MESSAGES["no_image"],
+    ("read", "image"): MESSAGES["read_failed"],
+    ("open", "out"): MESSAGES["no_output"],
+    ("write", "out"): MESSAGES["write_failed"],
+    ("sync", "out"): MESSAGES["write_failed"],
     ("write", "log"): b"",
 }
 

@@ -261,12 +261,12 @@ fails() {
     done
 }
 
-reads_of_the_image_fail() { fails read image 'cdpatch: reading the image failed' 3; }
-reads_of_the_standard_input_fail() { fails read image 'cdpatch: reading the image failed' 3 -; }
-reads_of_the_script_fail() { fails read large.script 'cdpatch: cannot read the script' 2; }
-writes_of_out_fail() { fails write out 'cdpatch: writing the output failed' 2; }
+reads_of_the_image_fail() { fails read image "$read_failed" 3; }
+reads_of_the_standard_input_fail() { fails read image "$read_failed" 3 -; }
+reads_of_the_script_fail() { fails read large.script "$no_script" 2; }
+writes_of_out_fail() { fails write out "$write_failed" 2; }
 writes_of_the_log_fail() { fails write log '' 1; }
-syncs_of_out_fail() { fails fdatasync out 'cdpatch: writing the output failed' 1; }
+syncs_of_out_fail() { fails fdatasync out "$write_failed" 1; }
 
 traced 'each kind of error of a read of the image' reads_of_the_image_fail takes_a_forbidden_read_for_the_end waits_for_a_read \
     repeats_a_read
@@ -298,12 +298,12 @@ two_faults() {
 # The image or the log fails, and then OUT: its failed call is its last.
 second_fault_in_a_write() {
     two_faults image read:error=EIO:when=3 write:error=ENOSPC:when=2+ || return
-    [ "$(tail -n 1 log)" = 'cdpatch: reading the image failed' ] || return
+    [ "$(tail -n 1 log)" = "$read_failed" ] || return
     two_faults log write:error=ENOSPC:when=1+ && [ ! -s log ]
 }
 second_fault_in_a_sync() {
     two_faults image read:error=EIO:when=3 fdatasync:error=EIO:when=1+ || return
-    [ "$(tail -n 1 log)" = 'cdpatch: reading the image failed' ] && [ "$(stat -c %s out)" -ge $((2 * 65856 - 2352)) ] || return
+    [ "$(tail -n 1 log)" = "$read_failed" ] && [ "$(stat -c %s out)" -ge $((2 * 65856 - 2352)) ] || return
     two_faults log write:error=ENOSPC:when=1 fdatasync:error=EIO:when=1+ && [ ! -s log ]
 }
 
@@ -331,7 +331,7 @@ file_gets_all_at_once() {
 # The line for want of memory, if the buffer of the standard output found none.
 want_of_memory_is_printed() {
     REFUSE=1 REFUSED=refused LD_PRELOAD=$scratch/refuse.so "$program" list image > log 2> errors
-    [ $? = 2 ] && [ "$(cat log)" = 'cdpatch: no memory' ]
+    [ $? = 2 ] && [ "$(cat log)" = "$no_memory" ]
 }
 
 for number in 0 1; do
@@ -360,7 +360,7 @@ arguments_are_all_read() {
 
 arguments_must_be_text() {
     run list $'\xff'
-    [ "$status" = 2 ] && echo 'cdpatch: the words are not text' | cmp -s - log
+    [ "$status" = 2 ] && echo "$no_text" | cmp -s - log
 }
 
 row 'all arguments are read' arguments_are_all_read drops_the_eighth_argument
@@ -397,7 +397,7 @@ closed_streams_are_no_files() {
             *) answers apply || return ;;
         esac
         [[ $closed == 0* && $closed != *1* ]] || continue
-        [ "$(cat log)" = 'cdpatch: reading the image failed' ] || return
+        [ "$(cat log)" = "$read_failed" ] || return
     done
 }
 
@@ -408,7 +408,7 @@ closed_streams_without_a_root() {
         for given in image -; do
             with_closed $closed apply $given large.script out
             [ $status = 2 ] && [ ! -e out ] || return
-            [[ $closed == *1* ]] || [ "$(cat log)" = 'cdpatch: cannot open the root directory' ] || return
+            [[ $closed == *1* ]] || [ "$(cat log)" = "$no_root" ] || return
         done
     done
     with_closed none apply image large.script out

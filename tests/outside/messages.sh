@@ -90,20 +90,20 @@ patches=$(limit 'patches of a script')
 { echo 'cdpatch 1'; yes 'rebuild 0' | head -n $((patches + 1)); } > many
 produces "script line $((patches + 2)): more than $patches patches" 2 cdpatch check disc.bin many
 
-produces 'cdpatch: cannot open the image' 2 cdpatch list nothing
-produces 'cdpatch: cannot read the script' 2 cdpatch check disc.bin nothing
-produces 'cdpatch: cannot read the script' 2 cdpatch check disc.bin "$PWD"
+produces "$no_image" 2 cdpatch list nothing
+produces "$no_script" 2 cdpatch check disc.bin nothing
+produces "$no_script" 2 cdpatch check disc.bin "$PWD"
 truncate -s 67108865 longest
-produces 'cdpatch: the script is longer than 67108864 bytes' 2 cdpatch check disc.bin longest
-produces 'cdpatch: cannot make the output file' 2 cdpatch apply disc.bin script disc.bin
-produces 'cdpatch: cannot make the output file' 2 cdpatch apply disc.bin script nowhere/out
-produces 'cdpatch: reading the image failed' 2 cdpatch list "$PWD"
-produces 'cdpatch: writing the output failed' 2 bash -c "trap '' XFSZ; ulimit -f 4; cdpatch apply disc.bin script out; exit \$?"
-produces 'cdpatch: cannot open the root directory' 2 bash -c 'exec <&-; ulimit -n 3; exec cdpatch list disc.bin'
+produces "$long_script" 2 cdpatch check disc.bin longest
+produces "$no_output" 2 cdpatch apply disc.bin script disc.bin
+produces "$no_output" 2 cdpatch apply disc.bin script nowhere/out
+produces "$read_failed" 2 cdpatch list "$PWD"
+produces "$write_failed" 2 bash -c "trap '' XFSZ; ulimit -f 4; cdpatch apply disc.bin script out; exit \$?"
+produces "$no_root" 2 bash -c 'exec <&-; ulimit -n 3; exec cdpatch list disc.bin'
 truncate -s 2352000001 endless
-produces 'cdpatch: the image has more than 1000000 sectors' 2 cdpatch list endless
+produces "$long_image" 2 cdpatch list endless
 rm longest endless
-produces 'cdpatch: the words are not text' 2 cdpatch list $'\xe9.bin'
+produces "$no_text" 2 cdpatch list $'\xe9.bin'
 produces 'error:' 2 cdpatch frobnicate
 
 # out_of_memory LINE COMMAND..: a line for want of memory, by the first limit on the room of the process at which it comes.
@@ -116,8 +116,8 @@ out_of_memory() {
     produces "$line" 2 bash -c 'ulimit -v $0; "$@"' $room "$@"
 }
 { echo 'cdpatch 1'; yes "set 0 0 $(head -c 512 /dev/zero | tr '\0' 4)" | head -n 60000; } > large
-out_of_memory 'cdpatch: no memory' cdpatch list disc.bin
-out_of_memory 'script: no memory' cdpatch check disc.bin large
+out_of_memory "$no_memory" cdpatch list disc.bin
+out_of_memory "$no_script_memory" cdpatch check disc.bin large
 rm large
 
 # The page's messages: each was produced.

@@ -5,6 +5,7 @@ mod command_line;
 mod examples;
 mod hosts;
 mod in_memory;
+mod messages;
 mod patching;
 mod reports;
 mod script;

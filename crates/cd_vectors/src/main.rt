@@ -9,12 +9,12 @@ fn main(rt: HostRuntime) -> io::Result<()> {
     let image = fs::read(&rt, "cdrkit-8.bin")?;
     let (sectors, tail) = image.as_slice().as_chunks::<SECTOR_SIZE>();
     for (number, bytes) in sectors.iter().enumerate() {
-        let told = if is_encoded_alike(bytes) {
+        let verdict = if is_encoded_alike(bytes) {
             "as"
         } else {
             "NOT as"
         };
-        println!(rt; "sector {number}: byte for byte {told} cdrkit and libburn encoded it")?;
+        println!(rt; "sector {number}: byte for byte {verdict} cdrkit and libburn encoded it")?;
     }
     let (count, left) = (sectors.len(), tail.len());
     println!(rt; "sectors {count} tail {left}")

@@ -106,18 +106,18 @@ impl Parts {
 fn output_fails(rt: &impl Abort, alloc: Global, call: &Call, count: usize) -> Result<(), AllocError>
     requires { call.now.base ≡ 10 }
 {
-    let told = match count {
+    let logged = match count {
         0..FIRST_SECTOR => FIRST,
         FIRST_SECTOR..OUTPUT_SIZE => SECOND,
         _ => LOG_SIZE,
     };
     let ended = apply_within(alloc, call, &passing(ALL, count as u64, ALL))?;
-    let due = failed(&ended, Fault::Write, count, told);
+    let due = failed(&ended, Fault::Write, count, logged);
     expect_ending(rt, &ended, &due, "output", count);
     Ok(())
 }
 
-/// The log fails after so many bytes, of a call of each kind. Where all of it was told, the output is finished.
+/// The log fails after so many bytes, of a call of each kind. Where all of it was logged, the output is finished.
 fn log_fails(rt: &impl Abort, alloc: Global, call: &Call, count: usize) -> Result<(), AllocError>
     requires { call.now.base ≡ 10 }
 {
@@ -139,19 +139,19 @@ fn log_fails(rt: &impl Abort, alloc: Global, call: &Call, count: usize) -> Resul
     Ok(())
 }
 
-/// Where the image has failed after so many bytes: the patch below the base was told, and that of block 10 only where its
+/// Where the image has failed after so many bytes: the patch below the base was logged, and that of block 10 only where its
 /// sector came; that of block 11 would ask for the end.
 fn is_begun(rt: &impl Abort, ended: &Ending, count: usize) {
-    let (sent, told) = (ended.out.count, ended.log.count);
+    let (sent, logged) = (ended.out.count, ended.log.count);
     expect_ending(
         rt,
         ended,
-        &failed(ended, Fault::Read, sent, told),
+        &failed(ended, Fault::Read, sent, logged),
         "image",
         count,
     );
-    let is_first = told == FIRST && FIRST_SECTOR <= count;
-    assert!(rt; told == BELOW || is_first, "{told} of the log at {count}");
+    let is_first = logged == FIRST && FIRST_SECTOR <= count;
+    assert!(rt; logged == BELOW || is_first, "{logged} of the log at {count}");
     assert!(rt;
         sent == 0 || sent == FIRST_SECTOR && is_first,
         "{sent} of the output at {count}"

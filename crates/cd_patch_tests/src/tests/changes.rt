@@ -21,8 +21,8 @@ fn wrong_at(came: &Sector, due: &Sector) -> Option<usize> {
 }
 
 /// Asserts that a sector is the one that is due, and tells the first byte that is not.
-fn expect_sector(rt: &impl Abort, came: &Sector, due: &Sector, told: &str) {
-    assert_eq!(rt; wrong_at(came, due), None, "{told}");
+fn expect_sector(rt: &impl Abort, came: &Sector, due: &Sector, name: &str) {
+    assert_eq!(rt; wrong_at(came, due), None, "{name}");
 }
 
 /// Asserts the first bytes and the damage of a sector of which a byte was damaged.

@@ -27,10 +27,10 @@ fn expect_fault(
     alloc: Global,
     text: &[u8],
     fault: Option<ScriptFault>,
-    told: &str,
+    name: &str,
 ) {
     assert!(rt; text.len() <= MAX_TEXT);
-    assert_eq!(rt; parse(alloc, text).err(), fault, "{told}");
+    assert_eq!(rt; parse(alloc, text).err(), fault, "{name}");
 }
 
 /// Asserts the fault of each text.

@@ -91,13 +91,13 @@ pub fn expect_text(rt: &impl Abort, came: &Written, text: &str) {
 }
 
 /// A call has answered this status. Words are told of it.
-pub fn expect_status(rt: &impl Abort, came: u8, due: u8, words: &str) {
-    assert_eq!(rt; came, due, "{words}");
+pub fn expect_status(rt: &impl Abort, came: u8, due: u8, name: &str) {
+    assert_eq!(rt; came, due, "{name}");
 }
 
 /// A text is this one. Words are told of it.
-pub fn expect_same(rt: &impl Abort, came: &str, due: &str, words: &str) {
-    assert_eq!(rt; came, due, "{words}");
+pub fn expect_same(rt: &impl Abort, came: &str, due: &str, name: &str) {
+    assert_eq!(rt; came, due, "{name}");
 }
 
 /// Lists an image from block 0 on, to memory that lets so much pass.

@@ -1,6 +1,7 @@
 //! The command line: what its words ask for, what refuses them, and help.
 
 use super::calls::{expect_same, expect_status};
+use super::messages;
 use cd_command::{Job, LineFault, NO_MEMORY, job_of, refusal_line};
 use std::alloc::{AllocError, Global};
 use std::process::Abort;
@@ -249,6 +250,6 @@ fn prints_want_of_memory(rt: HostRuntime) {
     let line = refusal_line(text.as_deref());
     expect_status(&rt, fault.status(), 2, line);
     expect_status(&rt, fault.status_with(text.as_deref()), 2, line);
-    expect_same(&rt, line, "cdpatch: no memory\n", "its line");
-    expect_same(&rt, NO_MEMORY, "cdpatch: no memory\n", "the line");
+    expect_same(&rt, line, messages::NO_MEMORY, "its line");
+    expect_same(&rt, NO_MEMORY, messages::NO_MEMORY, "the line");
 }

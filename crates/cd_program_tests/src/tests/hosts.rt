@@ -4,6 +4,7 @@ ghost use Rattle.cd_jobs.specs.Hosting.{any_answers};
 
 use super::calls::{expect_same, expect_status, expect_text};
 use super::command_line::words_of;
+use super::messages::{APPLIED, COUNTED_WRITE_FAILED, NO_IMAGE, NO_MEMORY, NO_OUTPUT, NO_SCRIPT};
 use super::streams::Unflushed;
 use cd_image::{SliceSink, SliceSource, ToWrite};
 use cd_jobs::{Host, OpenFault, do_words};
@@ -118,12 +119,6 @@ fn expect_rows(rt: &impl Abort, alloc: Global, rows: &[Asking]) -> Result<(), Al
 fn questions_in_order(rt: HostRuntime) -> Result<(), AllocError> {
     const LISTED: &str = "0-1 mode1\nsectors 2 tail 0\n";
     const AUDITED: &str = "sectors 2 mode1 2 damaged 0 tail 0\n";
-    const APPLIED: &str = "line 2: applied\napplied 1 refused 0\n";
-    const UNWRITTEN: &str =
-        "line 2: applied\napplied 1 refused 0\ncdpatch: writing the output failed\n";
-    const NO_SCRIPT: &str = "cdpatch: cannot read the script\n";
-    const NO_IMAGE: &str = "cdpatch: cannot open the image\n";
-    const NO_OUTPUT: &str = "cdpatch: cannot make the output file\n";
     const ROWS: &[Asking] = &[
         Asking {
             words: "",
@@ -179,14 +174,14 @@ fn questions_in_order(rt: HostRuntime) -> Result<(), AllocError> {
             failing: 0,
             asked: " read script read image make out take back out",
             status: 2,
-            text: UNWRITTEN,
+            text: COUNTED_WRITE_FAILED,
         },
         Asking {
             words: "apply - script out",
             failing: 0,
             asked: " read script take make out take back out",
             status: 2,
-            text: UNWRITTEN,
+            text: COUNTED_WRITE_FAILED,
         },
         Asking {
             words: "list script2",
@@ -229,7 +224,6 @@ fn questions_in_order(rt: HostRuntime) -> Result<(), AllocError> {
 
 #[test]
 fn buffers_without_memory(rt: HostRuntime) -> Result<(), AllocError> {
-    const NO_MEMORY: &str = "cdpatch: no memory\n";
     const ROWS: &[Asking] = &[
         Asking {
             words: "",

@@ -3,6 +3,7 @@
 
 use super::calls::{expect_same, expect_status};
 use super::command_line::words_of;
+use super::messages::{APPLIED, NO_IMAGE, NO_OUTPUT, NO_SCRIPT};
 use cd_memory::{Ended, File, run_on_files};
 use cd_test_images::Sample::{self, Addressed, Damaged, Filled, Zeros};
 use cd_test_images::image_of;
@@ -86,7 +87,6 @@ fn expect_row(rt: &impl Abort, alloc: Global, files: &[File], row: &Row) -> Resu
 
 #[test]
 fn each_command_on_files_in_memory(rt: HostRuntime) -> Result<(), AllocError> {
-    const APPLIED: &str = "line 2: applied\napplied 1 refused 0\n";
     const ROWS: &[Row] = &[
         Row {
             words: "apply image script out",
@@ -115,19 +115,19 @@ fn each_command_on_files_in_memory(rt: HostRuntime) -> Result<(), AllocError> {
         Row {
             words: "apply image script image",
             status: 2,
-            text: "cdpatch: cannot make the output file\n",
+            text: NO_OUTPUT,
             made: None,
         },
         Row {
             words: "apply none script out",
             status: 2,
-            text: "cdpatch: cannot open the image\n",
+            text: NO_IMAGE,
             made: None,
         },
         Row {
             words: "apply image none out",
             status: 2,
-            text: "cdpatch: cannot read the script\n",
+            text: NO_SCRIPT,
             made: None,
         },
         Row {

@@ -6,6 +6,10 @@ ghost use Rattle.std.specs.Prelude.{◌≡◌};
 use super::calls::{
     apply_within, check_within, expect_ending, expect_rows, expect_status, expect_text,
 };
+use super::messages::{
+    APPLIED, APPLIED_READ_FAILED, APPLIED_WRITE_FAILED, COUNTED_WRITE_FAILED, LONG_IMAGE,
+    READ_FAILED, WRITE_FAILED,
+};
 use cd_image::{SliceSink, ZeroSource};
 use cd_jobs::run_check;
 use cd_script::Script;
@@ -56,19 +60,6 @@ fn statuses(rt: HostRuntime) -> Result<(), Fail> {
     expect_rows(rt.alloc(), BUT_FOR_DAMAGE, &CARRYING)
 }
 
-const READ_LINE: &str = "cdpatch: reading the image failed\n";
-
-const READ_AT_LAST: &str = "line 2: applied\ncdpatch: reading the image failed\n";
-
-const WRITE_LINE: &str = "cdpatch: writing the output failed\n";
-
-const WRITE_IN_THE_SECOND: &str = "line 2: applied\ncdpatch: writing the output failed\n";
-
-const WRITE_AT_LAST: &str =
-    "line 2: applied\napplied 1 refused 0\ncdpatch: writing the output failed\n";
-
-const LOG: &str = "line 2: applied\napplied 1 refused 0\n";
-
 /// How many bytes pass from an image of three sectors whose second one is patched, to the output and to the log; which of them
 /// fail; and the lines of which as many go to the log as pass.
 #[derive(Clone, Copy)]
@@ -92,7 +83,7 @@ const WRITE: Failures = Failures {
     log: 0,
 };
 
-const TOLD: Failures = Failures {
+const LOG_FAILS: Failures = Failures {
     image: 0,
     out: 0,
     log: 1,
@@ -104,77 +95,77 @@ const STOPPED: &[Stopped] = &[
         out: ALL,
         log: ALL,
         failures: READ,
-        lines: READ_LINE,
+        lines: READ_FAILED,
     },
     Stopped {
         image: 4703,
         out: ALL,
         log: ALL,
         failures: READ,
-        lines: READ_LINE,
+        lines: READ_FAILED,
     },
     Stopped {
         image: 7056,
         out: ALL,
         log: ALL,
         failures: READ,
-        lines: READ_AT_LAST,
+        lines: APPLIED_READ_FAILED,
     },
     Stopped {
         image: ALL,
         out: 0,
         log: ALL,
         failures: WRITE,
-        lines: WRITE_LINE,
+        lines: WRITE_FAILED,
     },
     Stopped {
         image: ALL,
         out: 2351,
         log: ALL,
         failures: WRITE,
-        lines: WRITE_LINE,
+        lines: WRITE_FAILED,
     },
     Stopped {
         image: ALL,
         out: 2353,
         log: ALL,
         failures: WRITE,
-        lines: WRITE_IN_THE_SECOND,
+        lines: APPLIED_WRITE_FAILED,
     },
     Stopped {
         image: ALL,
         out: 7056,
         log: ALL,
         failures: WRITE,
-        lines: WRITE_AT_LAST,
+        lines: COUNTED_WRITE_FAILED,
     },
     Stopped {
         image: ALL,
         out: ALL,
         log: 0,
-        failures: TOLD,
-        lines: LOG,
+        failures: LOG_FAILS,
+        lines: APPLIED,
     },
     Stopped {
         image: ALL,
         out: ALL,
         log: 15,
-        failures: TOLD,
-        lines: LOG,
+        failures: LOG_FAILS,
+        lines: APPLIED,
     },
     Stopped {
         image: ALL,
         out: ALL,
         log: 16,
-        failures: TOLD,
-        lines: LOG,
+        failures: LOG_FAILS,
+        lines: APPLIED,
     },
     Stopped {
         image: ALL,
         out: ALL,
         log: 36,
-        failures: TOLD,
-        lines: LOG,
+        failures: LOG_FAILS,
+        lines: APPLIED,
     },
 ];
 
@@ -269,7 +260,7 @@ fn both_fail(rt: &impl Abort, alloc: Global, call: &Call, count: usize) -> Resul
     };
     let ended = apply_within(alloc, call, &passing(ALL, 0, count as u64))?;
     let wanted = ended_by(&ended, both, 0, count);
-    expect_ending(rt, &ended, &wanted, WRITE_LINE, count);
+    expect_ending(rt, &ended, &wanted, WRITE_FAILED, count);
     Ok(())
 }
 
@@ -279,7 +270,7 @@ fn none_fails(rt: &impl Abort, alloc: Global, call: &Call) -> Result<(), AllocEr
 {
     let ended = apply_within(alloc, call, &passing(7057, 7057, 37))?;
     let due = done(Answer::Status(0), call, 7056);
-    expect_ending(rt, &ended, &due, LOG, 0);
+    expect_ending(rt, &ended, &due, APPLIED, 0);
     Ok(())
 }
 
@@ -287,23 +278,22 @@ fn none_fails(rt: &impl Abort, alloc: Global, call: &Call) -> Result<(), AllocEr
 fn the_log_fails_in_the_line_of_a_fault(rt: HostRuntime) -> Result<(), Fail> {
     let parts = make_parts(rt.alloc())?;
     for count in 0..35usize {
-        both_fail(&rt, rt.alloc(), &parts.call(WRITE_LINE), count)?;
+        both_fail(&rt, rt.alloc(), &parts.call(WRITE_FAILED), count)?;
     }
-    none_fails(&rt, rt.alloc(), &parts.call(LOG))?;
+    none_fails(&rt, rt.alloc(), &parts.call(APPLIED))?;
     Ok(())
 }
 
 #[test]
 fn a_byte_too_many(rt: HostRuntime) -> Result<(), Fail> {
-    const TOO_LONG: &str = "cdpatch: the image has more than 1000000 sectors\n";
     let script = script_of(rt.alloc(), "cdpatch 1\nset 1000000 0 41\n")?;
     let mut lines = [UNTOUCHED; 128];
     let mut log = SliceSink::new(&mut lines);
     let mut image = ZeroSource::new(2_352_000_001);
     let status = run_check(&mut image, &script, 0, false, &mut log);
     let count = log.written().len();
-    let told = written_in(&lines, count, TOO_LONG.as_bytes());
-    expect_status(&rt, status, 2, TOO_LONG);
-    expect_text(&rt, &told, TOO_LONG);
+    let told = written_in(&lines, count, LONG_IMAGE.as_bytes());
+    expect_status(&rt, status, 2, LONG_IMAGE);
+    expect_text(&rt, &told, LONG_IMAGE);
     Ok(())
 }

@@ -1,13 +1,12 @@
 //! Listings and audits: one row for each status, and one for each line of a fault after what went out.
 
 use super::calls::{audit_of, expect_reported, list_of};
+use super::messages::{LONG_IMAGE, READ_FAILED};
 use cd_image::{FailAfter, MAX_BASE, SliceSource, ZeroSource};
 use cd_test_images::Sample::{self, Damaged, Zeros};
 use cd_test_images::{ALL, Answer, Limit, NO_LIMIT, Reported, Written, image_of};
 use std::alloc::AllocError;
 use std::process::Abort;
-
-const READ_LINE: &str = "cdpatch: reading the image failed\n";
 
 /// An image of so many bytes `00`, of which so many can be read, and a sink that takes so many; the status, and what it gets.
 #[derive(Clone, Copy)]
@@ -49,7 +48,7 @@ const LISTINGS: &[Listing] = &[
         read: 100,
         taken: ALL,
         status: 2,
-        text: READ_LINE,
+        text: READ_FAILED,
     },
     Listing {
         size: 2352,
@@ -70,7 +69,7 @@ const TOO_LONG: &[Listing] = &[Listing {
     read: ALL,
     taken: ALL,
     status: 2,
-    text: "cdpatch: the image has more than 1000000 sectors\n",
+    text: LONG_IMAGE,
 }];
 
 #[test]

@@ -4,6 +4,7 @@ ghost use Rattle.std.specs.Prelude.{◌<◌};
 ghost use Rattle.cd_stream.specs.Stream.{MayCount};
 
 use super::calls::expect_text;
+use super::messages::{LONG_SCRIPT, NO_SCRIPT};
 use cd_image::{FailAfter, Short, Sink, SliceSink, SliceSource, Source, ZeroSource};
 use cd_jobs::{load_script, read_script};
 use cd_script::{MAX_BYTES, MAX_PATCHES, MAX_TEXT, Patch};
@@ -315,7 +316,6 @@ fn the_longest_file(rt: HostRuntime) {
 
 #[test]
 fn a_byte_too_many(rt: HostRuntime) {
-    const TOO_LONG: &str = "cdpatch: the script is longer than 67108864 bytes\n";
     expect_files(
         &rt,
         rt.alloc(),
@@ -323,44 +323,43 @@ fn a_byte_too_many(rt: HostRuntime) {
             size: MAX_TEXT as u64 + 1,
             read: ALL,
             loaded: Err(2),
-            line: TOO_LONG,
+            line: LONG_SCRIPT,
         }],
     );
 }
 
 #[test]
 fn a_file_that_fails(rt: HostRuntime) {
-    const UNREAD: &str = "cdpatch: cannot read the script\n";
     const ROWS: &[File] = &[
         File {
             size: 30_000,
             read: 0,
             loaded: Err(2),
-            line: UNREAD,
+            line: NO_SCRIPT,
         },
         File {
             size: 30_000,
             read: 1,
             loaded: Err(2),
-            line: UNREAD,
+            line: NO_SCRIPT,
         },
         File {
             size: 30_000,
             read: 20,
             loaded: Err(2),
-            line: UNREAD,
+            line: NO_SCRIPT,
         },
         File {
             size: 30_000,
             read: 16_384,
             loaded: Err(2),
-            line: UNREAD,
+            line: NO_SCRIPT,
         },
         File {
             size: 30_000,
             read: 30_000,
             loaded: Err(2),
-            line: UNREAD,
+            line: NO_SCRIPT,
         },
     ];
     expect_files(&rt, rt.alloc(), ROWS);

@@ -1,6 +1,7 @@
 //! Listings and audits of readers of std, and to writers of std, that fail.
 
 use super::calls::list_of;
+use super::messages::READ_FAILED;
 use cd_image::{FailAfter, FromRead, ToWrite, ZeroSource};
 use cd_jobs::{run_audit, run_list};
 use cd_test_images::{Answer, NO_LIMIT, Written};
@@ -50,7 +51,7 @@ impl Read for Nothing {
 #[test]
 fn a_failed_read_and_an_end(rt: HostRuntime) {
     let mut failing = FromRead::new(Nothing { fails: true });
-    let line = "cdpatch: reading the image failed\n";
+    let line = READ_FAILED;
     let failed = list_of(&mut failing, &NO_LIMIT, line);
     assert_eq!(rt;
         (failed.answer, failed.text),

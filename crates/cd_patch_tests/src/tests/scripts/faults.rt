@@ -74,45 +74,45 @@ fn line_faults(rt: HostRuntime) -> Result<(), AllocError> {
 
 /// A fault, and its text.
 #[derive(Clone, Copy)]
-struct Told {
+struct FaultText {
     fault: ScriptFault,
     text: &'static str,
 }
 
-const TEXTS: &[Told] = &[
-    Told {
+const TEXTS: &[FaultText] = &[
+    FaultText {
         fault: Head(7),
         text: "no cdpatch 1 line",
     },
-    Told {
+    FaultText {
         fault: Verb(7),
         text: "unknown verb",
     },
-    Told {
+    FaultText {
         fault: Words(7),
         text: "wrong number of words",
     },
-    Told {
+    FaultText {
         fault: Number(7),
         text: "bad number",
     },
-    Told {
+    FaultText {
         fault: Hex(7),
         text: "bad hex",
     },
-    Told {
+    FaultText {
         fault: Length(7),
         text: "bad length",
     },
-    Told {
+    FaultText {
         fault: Offset(7),
         text: "offset over 2047",
     },
-    Told {
+    FaultText {
         fault: Address(7),
         text: "bad address",
     },
-    Told {
+    FaultText {
         fault: NoMemory,
         text: "no memory",
     },
@@ -124,15 +124,15 @@ fn expect_text(
     fault: ScriptFault,
     text: &str,
 ) -> Result<(), AllocError> {
-    let told = format!(in alloc; "{fault}")?;
-    assert_eq!(rt; told.as_str(), text);
+    let printed = format!(in alloc; "{fault}")?;
+    assert_eq!(rt; printed.as_str(), text);
     Ok(())
 }
 
 #[test]
 fn texts(rt: HostRuntime) -> Result<(), AllocError> {
-    for told in TEXTS {
-        expect_text(&rt, rt.alloc(), told.fault, told.text)?;
+    for row in TEXTS {
+        expect_text(&rt, rt.alloc(), row.fault, row.text)?;
     }
     let text = format!(in rt.alloc(); "more than {MAX_PATCHES} patches")?;
     expect_text(&rt, rt.alloc(), TooMany(7), &text)

@@ -159,8 +159,8 @@ fn expect_lengths(rt: &impl Abort, alloc: Global, row: &Lengths) -> Result<(), A
     let Lengths { new, old, fault } = *row;
     let front = repeated(alloc, "cdpatch 1\nset 0 0 ", "41", new, " was ")?;
     let text = repeated(alloc, &front, "42", old, "")?;
-    let told = format!(in alloc; "{new} and {old}")?;
-    expect_fault(rt, alloc, text.as_bytes(), fault, &told);
+    let name = format!(in alloc; "{new} and {old}")?;
+    expect_fault(rt, alloc, text.as_bytes(), fault, &name);
     Ok(())
 }
 

@@ -1,0 +1,29 @@
+//! The program's own lines, as its users read them: each stands here once for all tests of this crate.
+
+pub const NO_IMAGE: &str = "cdpatch: cannot open the image\n";
+
+pub const NO_SCRIPT: &str = "cdpatch: cannot read the script\n";
+
+pub const NO_OUTPUT: &str = "cdpatch: cannot make the output file\n";
+
+pub const LONG_SCRIPT: &str = "cdpatch: the script is longer than 67108864 bytes\n";
+
+pub const LONG_IMAGE: &str = "cdpatch: the image has more than 1000000 sectors\n";
+
+pub const NO_MEMORY: &str = "cdpatch: no memory\n";
+
+pub const READ_FAILED: &str = "cdpatch: reading the image failed\n";
+
+pub const WRITE_FAILED: &str = "cdpatch: writing the output failed\n";
+
+/// What `apply` prints of the patch in line 2 if nothing fails.
+pub const APPLIED: &str = "line 2: applied\napplied 1 refused 0\n";
+
+/// If the image's last read fails after that patch's line.
+pub const APPLIED_READ_FAILED: &str = "line 2: applied\ncdpatch: reading the image failed\n";
+
+/// If the output fails after that patch's line, and after the counts.
+pub const APPLIED_WRITE_FAILED: &str = "line 2: applied\ncdpatch: writing the output failed\n";
+
+pub const COUNTED_WRITE_FAILED: &str =
+    "line 2: applied\napplied 1 refused 0\ncdpatch: writing the output failed\n";
