@@ -9,8 +9,8 @@ use cd_patch::{Outcome, apply_patch, blocks_met};
 use cd_script::{Edit, ScriptFault, parse};
 use cd_sector::{
     EDC, HEADER, SECTOR_SIZE, Sector, SectorKind, USER_SIZE, address_of, defect, edc_bytes, encode,
-    encode_into, fill_parity, is_consistent, kind, put_edc, put_part, rebuild, same_defect,
-    stored_edc, sum_of,
+    encode_into, fill_edc, fill_parity, is_consistent, kind, put_edc, put_part, rebuild,
+    same_defect, stored_edc, sum_of,
 };
 use std::simd::prelude::*;
 use std::test::Fail;
@@ -160,6 +160,13 @@ fn parts_of_a_sector(rt: HostRuntime) {
     put_edc(&mut bytes, 0x9091_0101);
     assert_eq!(rt; bytes[2067], 0x90); // the most significant byte is the last
     assert_eq!(rt; stored_edc(&bytes), 0x9091_0101);
+
+    let mut bytes = [0x00; SECTOR_SIZE];
+    bytes[2063] = 0x01; // the last byte of the user data
+    fill_edc(&mut bytes, 0);
+    assert_eq!(rt; stored_edc(&bytes), 0x9091_0101);
+    fill_edc(&mut bytes, 0x0000_0001); // wrong by its last bit
+    assert_eq!(rt; stored_edc(&bytes), 0x9091_0100);
 }
 
 #[test]
