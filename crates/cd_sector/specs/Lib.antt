@@ -7,4 +7,4 @@ pub mod DiagonalSteps
 pub mod EdcField
 pub mod Kind
 pub mod Laws
-pub mod Reads
+pub mod WithBytes

@@ -55,7 +55,7 @@ pub fn encode_into(s: &mut Sector, header: [u8; 3], user: &[u8; USER_SIZE])
     ensures alone { (t : List ℕ) → IsConsistent t → header_of t ≡ header ++ 1 ∷ []
         → user_of t ≡ user.now → t ≡ s.new }
 {
-    s.read_with(&mut (), |_, bytes| fill_sector(bytes, header, user));
+    s.with_bytes_mut(&mut (), |_, bytes| fill_sector(bytes, header, user));
 }
 
 /// Makes a sector of Mode 1 the one consistent sector with its header and its user data
@@ -79,7 +79,7 @@ pub fn rebuild(s: &mut Sector)
     ensures alone { (t : List ℕ) → IsConsistent t → header_of t ≡ header_of s.old
         → user_of t ≡ user_of s.old → t ≡ s.new }
 {
-    s.read_with(&mut (), |_, bytes| fill_codes(bytes));
+    s.with_bytes_mut(&mut (), |_, bytes| fill_codes(bytes));
 }
 
 /// Writes all bytes of a Mode 1 sector with this content.

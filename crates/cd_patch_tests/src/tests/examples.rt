@@ -134,7 +134,7 @@ fn bytes_of_a_sector(rt: HostRuntime) {
     assert_eq!(rt; (sector.byte(16), sector.byte(17)), (0x41, 0x00));
 
     let mut sector = Sector::default(); // all 00
-    sector.read_with(&mut 0x41, |source, bytes| bytes[16] = *source);
+    sector.with_bytes_mut(&mut 0x41, |byte, bytes| bytes[16] = *byte);
     assert_eq!(rt; sector.byte(16), 0x41);
 
     let mut bytes = [0x00; SECTOR_SIZE];
