@@ -1,8 +1,8 @@
 //! The examples of the rustdoc of cd_code, cd_sector, cd_delta, cd_patch and cd_script.
 
 use cd_code::{
-    ColumnSums, LaneSums, alpha_power, column_lanes, column_sums, edc_of, lanes_at, pair_change,
-    pair_from, parity_pair, put_lanes, row_sums, syndromes, times,
+    COLUMNS, ColumnSums, LaneSums, ROWS_SIZE, alpha_power, column_lanes, column_sums, edc_of,
+    lanes_at, pair_change, pair_from, parity_pair, put_lanes, row_sums, syndromes, times,
 };
 use cd_delta::{carry_header, carry_user, change_byte, change_header, change_user, parity_changes};
 use cd_patch::{Outcome, apply_patch, blocks_met};
@@ -43,15 +43,15 @@ fn pairs_of_a_word(rt: HostRuntime) {
 #[test]
 fn columns_of_rows(rt: HostRuntime) {
     let mut sums = ColumnSums::zero();
-    row_sums(&[0x80; 86], &mut sums);
-    row_sums(&[0x01; 86], &mut sums);
+    row_sums(&[0x80; COLUMNS], &mut sums);
+    row_sums(&[0x01; COLUMNS], &mut sums);
     assert_eq!(rt; (sums.plain[85], sums.weighted[85]), (0x81, 0x1C)); // 80 + 01, and 2 * 80 + 01
 
-    let lanes = column_lanes(&[[0x80; 86], [0x01; 86]]); // two rows
+    let lanes = column_lanes(&[[0x80; COLUMNS], [0x01; COLUMNS]]); // two rows
     assert_eq!(rt; lanes.front.plain[0], 0x81); // 80 + 01, in column 0
     assert_eq!(rt; lanes.back.weighted[31], 0x1C); // 2 * 80 + 01, in column 85
 
-    let mut rows = [0x00; 2236];
+    let mut rows = [0x00; ROWS_SIZE];
     rows[0] = 0x01; // column 0 is 01, and 25 times 00
     let sums = column_sums(&rows);
     assert_eq!(rt; (sums.plain[0], sums.weighted[0]), (0x01, alpha_power(25)));
