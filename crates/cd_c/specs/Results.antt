@@ -2,18 +2,8 @@
 use Rattle.std.specs.Prelude.{ℕ, ◌+◌, nat_lt, Bool, not, if◌then◌else◌, List}
 use Rattle.cd_sector.specs.Consistent.{consistent, is_mode1}
 use Rattle.cd_sector.specs.Kind.{kind_of}
-use Rattle.cd_sector.specs.declared.kinds.SectorKind.{SectorKind}
-use Rattle.cd_sector.specs.declared.kinds.SectorKind.TheVariants.{NoSync, Mode0, Mode1, Mode2, Other}
 use Rattle.cd_sector.specs.declared.sector.TheConstants.{USER_SIZE}
 use Rattle.cd_c.specs.declared.results.TheConstants.{OK, NOT_MODE1, DAMAGED, OUT_OF_RANGE}
-
--- a kind as a number
-abbrev pub kind_number : SectorKind → ℕ
-kind_number NoSync = 0
-kind_number Mode0 = 1
-kind_number Mode1 = 2
-kind_number Mode2 = 3
-kind_number Other = 4
 
 -- a truth as a byte
 abbrev pub as_byte : Bool → ℕ

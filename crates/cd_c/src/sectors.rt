@@ -7,8 +7,8 @@ ghost use Rattle.cd_sector.specs.Address.{address};
 ghost use Rattle.cd_sector.specs.CodeWords.{AllCodeWords};
 ghost use Rattle.cd_sector.specs.Consistent.{IsConsistent, consistent, header_of, user_of};
 ghost use Rattle.cd_sector.specs.Defect.{defect_of, is_broken, is_nonzero};
-ghost use Rattle.cd_sector.specs.Kind.{kind_of};
-ghost use Rattle.cd_c.specs.Results.{as_byte, kind_number};
+ghost use Rattle.cd_sector.specs.Kind.{kind_number, kind_of};
+ghost use Rattle.cd_c.specs.Results.{as_byte};
 
 use cd_code::edc_of;
 use cd_sector::{

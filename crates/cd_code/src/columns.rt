@@ -9,20 +9,29 @@ ghost use Rattle.cd_code.specs.Syndrome.{column, first_syndrome, second_syndrome
 use crate::lane_sums::LaneSums;
 use crate::lanes::{add_lanes, add_rest, double_and_add_lanes, lanes_at, put_lanes};
 
+/// The number of P columns of both planes, and of the bytes in a row of both (ECMA-130, Annex A).
+pub const COLUMNS: usize = 86;
+
+/// The number of rows, with those of P parity, and of a column's bytes (ECMA-130, Annex A).
+pub const ROWS: usize = 26;
+
+/// The number of bytes in all rows (ECMA-130, Annex A).
+pub const ROWS_SIZE: usize = ROWS * COLUMNS;
+
 /// The first column of the middle lanes of [`ColumnLanes`].
 pub const MIDDLE_COLUMN: usize = 32;
 
 /// The first column of the back lanes of [`ColumnLanes`], which are the last 32 of 86.
-pub const BACK_COLUMN: usize = 54;
+pub const BACK_COLUMN: usize = COLUMNS - 32;
 
 /// Both syndromes of 86 columns of bytes, by column: entry `2N + plane` is of column N of that plane
 /// (ECMA-130, Annex A).
 #[derive(Clone, Copy, Debug, PartialEq, Eq)]
 pub struct ColumnSums {
     /// The sum of each column's bytes.
-    pub plain: [u8; 86],
+    pub plain: [u8; COLUMNS],
     /// The sum of each column's bytes times falling powers of alpha, down to 1 in the last row.
-    pub weighted: [u8; 86],
+    pub weighted: [u8; COLUMNS],
 }
 
 impl ColumnSums {
@@ -34,8 +43,8 @@ impl ColumnSums {
         ensures weighted { result.weighted ≡ replicate 86 0 }
     {
         ColumnSums {
-            plain: [0; 86],
-            weighted: [0; 86],
+            plain: [0; COLUMNS],
+            weighted: [0; COLUMNS],
         }
     }
 }
@@ -48,11 +57,11 @@ impl ColumnSums {
 ///
 /// ```
 /// let mut sums = ColumnSums::zero();
-/// row_sums(&[0x80; 86], &mut sums);
-/// row_sums(&[0x01; 86], &mut sums);
+/// row_sums(&[0x80; COLUMNS], &mut sums);
+/// row_sums(&[0x01; COLUMNS], &mut sums);
 /// assert_eq!(rt; (sums.plain[85], sums.weighted[85]), (0x81, 0x1C)); // 80 + 01, and 2 * 80 + 01
 /// ```
-pub fn row_sums(row: &[u8; 86], sums: &mut ColumnSums)
+pub fn row_sums(row: &[u8; COLUMNS], sums: &mut ColumnSums)
     ensures plain { (c : ℕ) → c < 86
         → slice_index sums.new.plain c
         ≡ bit_xor (slice_index sums.old.plain c) (slice_index row.now c) }
@@ -96,7 +105,7 @@ impl ColumnLanes {
 
     /// Puts one more row under the columns.
     #[inline(always)]
-    fn with_row(self, row: &[u8; 86]) -> Self
+    fn with_row(self, row: &[u8; COLUMNS]) -> Self
         ensures { (word longer : ℕ → List ℕ) → AreColumns word self
             → ((c : ℕ) → c < 86 → longer c ≡ word c ++ slice_index row.now c ∷ [])
             → AreColumns longer result }
@@ -130,12 +139,12 @@ impl ColumnLanes {
 /// # Examples
 ///
 /// ```
-/// let lanes = column_lanes(&[[0x80; 86], [0x01; 86]]); // two rows
+/// let lanes = column_lanes(&[[0x80; COLUMNS], [0x01; COLUMNS]]); // two rows
 /// assert_eq!(rt; lanes.front.plain[0], 0x81); // 80 + 01, in column 0
 /// assert_eq!(rt; lanes.back.weighted[31], 0x1C); // 2 * 80 + 01, in column 85
 /// ```
 #[inline(always)]
-pub fn column_lanes(rows: &[[u8; 86]]) -> ColumnLanes
+pub fn column_lanes(rows: &[[u8; COLUMNS]]) -> ColumnLanes
     ensures { AreColumns (column_of_rows rows.now) result }
 {
     let mut lanes = ColumnLanes::zero();
@@ -150,17 +159,17 @@ pub fn column_lanes(rows: &[[u8; 86]]) -> ColumnLanes
 /// # Examples
 ///
 /// ```
-/// let mut rows = [0x00; 2236];
+/// let mut rows = [0x00; ROWS_SIZE];
 /// rows[0] = 0x01; // column 0 is 01, and 25 times 00
 /// let sums = column_sums(&rows);
 /// assert_eq!(rt; (sums.plain[0], sums.weighted[0]), (0x01, alpha_power(25)));
 /// ```
-pub fn column_sums(rows: &[u8; 2236]) -> ColumnSums
+pub fn column_sums(rows: &[u8; ROWS_SIZE]) -> ColumnSums
     ensures plain { (c : ℕ) → c < 86
         → slice_index result.plain c ≡ first_syndrome (column rows.now c) }
     ensures weighted { (c : ℕ) → c < 86
         → slice_index result.weighted c ≡ second_syndrome (column rows.now c) }
 {
-    let (each_row, _) = rows.as_chunks::<86>();
+    let (each_row, _) = rows.as_chunks::<COLUMNS>();
     column_lanes(each_row).sums()
 }

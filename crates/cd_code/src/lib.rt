@@ -39,7 +39,8 @@ mod laws;
 mod syndrome;
 
 pub use columns::{
-    BACK_COLUMN, ColumnLanes, ColumnSums, MIDDLE_COLUMN, column_lanes, column_sums, row_sums,
+    BACK_COLUMN, COLUMNS, ColumnLanes, ColumnSums, MIDDLE_COLUMN, ROWS, ROWS_SIZE, column_lanes,
+    column_sums, row_sums,
 };
 pub use edc::edc_of;
 pub use field::{alpha_power, times};

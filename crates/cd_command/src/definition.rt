@@ -179,7 +179,7 @@ fn with_command<'a>(
 /// # Errors
 ///
 /// Memory was refused.
-pub fn command_line<'a>(alloc: Global) -> Result<Command<'a>, AllocError>
+pub(crate) fn command_line<'a>(alloc: Global) -> Result<Command<'a>, AllocError>
     ensures { IfOk result (λ c. app_of c ≡ command_line) }
 {
     let list = image_command(alloc, "list", LIST_ABOUT, LIST_MORE);

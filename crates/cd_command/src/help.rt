@@ -1,11 +1,11 @@
 //! The texts of help.
 
 /// What the program is.
-pub const PROGRAM_ABOUT: &str =
+pub(crate) const PROGRAM_ABOUT: &str =
     "List, audit and patch raw images of CDs (sectors of 2352 bytes, ECMA-130)";
 
 /// How to make a script, what the program writes, its statuses and, as the last line, its version.
-pub const PROGRAM_MORE: &str = "\
+pub(crate) const PROGRAM_MORE: &str = "\
 Without arguments cdpatch lists the image on standard input; on a terminal end
 it with Ctrl-D. 'cdpatch COMMAND --help' has more on a command.
 
@@ -41,10 +41,10 @@ Status:
 cdpatch 1.0.0";
 
 /// What `list` does.
-pub const LIST_ABOUT: &str = "List the kinds of an image's sectors";
+pub(crate) const LIST_ABOUT: &str = "List the kinds of an image's sectors";
 
 /// What `list` writes, and its statuses.
-pub const LIST_MORE: &str = "\
+pub(crate) const LIST_MORE: &str = "\
 For each run of sectors of one kind it prints FIRST-LAST KIND: the first and
 last block, and nosync, mode0, mode1, mode2 or other. Then it prints
 'sectors S tail T', with T bytes after the last whole sector.
@@ -52,10 +52,10 @@ last block, and nosync, mode0, mode1, mode2 or other. Then it prints
 Status: 0 done, 2 an I/O error.";
 
 /// What `audit` does.
-pub const AUDIT_ABOUT: &str = "Report what is wrong with an image's sectors";
+pub(crate) const AUDIT_ABOUT: &str = "Report what is wrong with an image's sectors";
 
 /// What `audit` writes, and its statuses.
-pub const AUDIT_MORE: &str = "\
+pub(crate) const AUDIT_MORE: &str = "\
 For each Mode 1 sector with findings it prints the block's number and what was
 found:
   address  the address in the header is not that of the block
@@ -69,10 +69,10 @@ audited, nor are those that lost sync field or mode byte: compare M with S.
 Status: 0 nothing found, 1 something found, 2 an I/O error.";
 
 /// What `check` does.
-pub const CHECK_ABOUT: &str = "Report what a script's patches would do to an image";
+pub(crate) const CHECK_ABOUT: &str = "Report what a script's patches would do to an image";
 
 /// What `check` writes, and its statuses.
-pub const CHECK_MORE: &str = "\
+pub(crate) const CHECK_MORE: &str = "\
 For each patch it prints 'line L: applied' or 'line L: refused: WHY', ordered by
 blocks, and then 'applied A refused R'. No file is written.
 'cdpatch --help' has an example of a script.
@@ -84,10 +84,10 @@ damage unless it is rebuilt. Use it to keep damage visible, or before a
 Status: 0 all applied, 1 a patch refused, 2 an I/O error or an invalid script.";
 
 /// What `apply` does.
-pub const APPLY_ABOUT: &str = "Patch an image by a script, into a new file";
+pub(crate) const APPLY_ABOUT: &str = "Patch an image by a script, into a new file";
 
 /// What `apply` writes, and its statuses.
-pub const APPLY_MORE: &str = "\
+pub(crate) const APPLY_MORE: &str = "\
 For each patch it prints 'line L: applied' or 'line L: refused: WHY', ordered by
 blocks, and then 'applied A refused R'. A refused patch changes nothing. OUT is
 as long as the image. After an error OUT has a prefix of the patched image.

@@ -14,11 +14,13 @@ use Rattle.cd_code.proofs.EdcLemmas.{IsEdc-same, IsEdc-sum, IsEdc-unique, after,
 use Rattle.cd_code.proofs.general.Xor.{xor_swap, xor_twice_left}
 use Rattle.cd_sector.specs.Carried.{IsCarried, sync_of}
 use Rattle.cd_sector.specs.Consistent.{IsConsistent, header_of, user_of}
+use Rattle.cd_sector.specs.EdcField.{StoresEdc}
 use Rattle.cd_sector.specs.Kind.{kind_of}
 use Rattle.cd_sector.proofs.CarriedLemmas.{defect-same}
+use Rattle.cd_sector.proofs.EdcPlaceLemmas.{StoresEdc-remainder}
 use Rattle.cd_sector.proofs.ExistenceLemmas.{edc_of_front}
-use Rattle.cd_delta.specs.Writing.{IsChanged, IsWritten, KeepsError, StoresEdc}
-use Rattle.cd_delta.proofs.UserLemmas.{IsChanged-carried, IsConsistent-of, StoresEdc-remainder, WithEdc-written}
+use Rattle.cd_delta.specs.Writing.{IsChanged, IsWritten, KeepsError}
+use Rattle.cd_delta.proofs.UserLemmas.{IsChanged-carried, IsConsistent-of, WithEdc-written}
 
 -- ---- the word that is stored
 

@@ -1,20 +1,21 @@
 -- A sector into whose user data bytes were written, and then the EDC.
-use Rattle.std.proofs.Common.{◌≡◌, ◌⊎◌, ℕ, ◌+◌, ◌-◌, ◌^◌, ◌<◌, ◌≤◌, inl, inr, List, ◌++◌, length, get_or, take, drop, bit_xor, refl, sym, ap, subst, ◌∙◌, arith, lit<}
+use Rattle.std.proofs.Common.{◌≡◌, ◌⊎◌, ℕ, ◌+◌, ◌-◌, ◌^◌, ◌<◌, ◌≤◌, inl, inr, List, ◌++◌, length, get_or, take, drop, bit_xor, refl, sym, ap, subst, ◌∙◌, arith}
 use Rattle.std.specs.Prelude.{slice_range}
 use Rattle.std.specs.Int.{from_le_bytes, to_le_bytes, w32}
-use Rattle.std.specs.Int.Bits.{xor_zero_l, xor_zero_r}
-use Rattle.std.proofs.Math.Seq.{take-add}
+use Rattle.std.specs.Int.Bits.{xor_zero_r}
 use Rattle.std.proofs.lemmas.Bool.{cases_lt}
 use Rattle.std.proofs.lemmas.List.{ext_get_or, get_or-append_right, get_or_append_left, get_or-drop, get_or-take, length-append, length-drop, length-take-le}
-use Rattle.std.proofs.lemmas.Nat.{from_le_bytes-to_le_bytes_4, xor_lt}
+use Rattle.std.proofs.lemmas.Nat.{from_le_bytes-to_le_bytes_4}
 use Rattle.cd_code.specs.Edc.{IsEdc, bits, remainder}
 use Rattle.cd_code.specs.Field.{AreBytes}
 use Rattle.cd_code.proofs.general.Lists.{front-same, get_or-part, length-part, part-list, part-same}
-use Rattle.cd_code.proofs.EdcLemmas.{Ends-from, after, after-append, after-lt, after-word, after_bits, after_bits-xor, after_bits-zero, remainder-after}
+use Rattle.cd_code.proofs.EdcLemmas.{after_bits-zero}
 use Rattle.cd_sector.specs.CodeWords.{SameSyndromes}
 use Rattle.cd_sector.specs.Consistent.{IsConsistent, header_of, user_of}
+use Rattle.cd_sector.specs.EdcField.{StoresEdc}
 use Rattle.cd_sector.specs.Kind.{kind_of}
-use Rattle.cd_delta.specs.Writing.{IsChanged, IsWritten, StoresEdc, WithEdc, written}
+use Rattle.cd_delta.specs.Writing.{IsChanged, IsWritten, WithEdc, written}
+use Rattle.cd_sector.proofs.EdcPlaceLemmas.{StoresEdc-remainder}
 use Rattle.cd_sector.proofs.SectorLemmas.{header_of-same, kind_of-same}
 use Rattle.cd_sector.proofs.SumLemmas.{AllCodeWords-same}
 use Rattle.cd_delta.proofs.WritingLemmas.{SameSyndromes-trans}
@@ -106,23 +107,6 @@ user_of-written old new offset bytes inside size same_size range others =
 
 -- ---- the EDC
 
--- what the division leaves is what the error leaves
-pub StoresEdc-remainder : {s : List ℕ} {error : ℕ} → StoresEdc s error
-    → remainder (bits (take 2068 s)) ≡ after_bits 32 0 error
-StoresEdc-remainder {s} {error} h =
-    let front = take 2064 s in
-    let four = to_le_bytes w32 (bit_xor h.word error) in
-    let rest = after 0 front in
-    let below : rest < 2 ^ 32 = after-lt 0 front (lit< tt) in
-    let ends = Ends-from front h.word h.is_word in
-    ap (λ v. remainder (bits v)) (take-add 2064 4 s ∙ ap (λ v. front ++ v) h.at_end)
-    ∙ remainder-after (front ++ four) ∙ after-append 0 front four
-    ∙ after-word rest (bit_xor h.word error) (xor_lt 32 h.word error h.is_word.fits h.fits)
-    ∙ ap (λ r. after_bits 32 r (bit_xor h.word error)) (sym (xor_zero_r rest))
-    ∙ after_bits-xor 32 rest 0 h.word error below (lit< tt)
-    ∙ ap (λ n. bit_xor n (after_bits 32 0 error)) ends.ends
-    ∙ xor_zero_l (after_bits 32 0 error)
-
 -- the word of the first bytes, written behind them
 pub WithEdc-written : (old new four : List ℕ) (w error : ℕ) → length old ≡ 2352 → AreBytes old
     → error < 2 ^ 32
@@ -172,17 +156,6 @@ IsChanged-carried old t new place bytes error fits user edc = record {
   edc = edc.edc;
   syndromes = SameSyndromes-trans edc.syndromes user.syndromes;
 }
-
--- the word of the first bytes, put behind them
-pub StoresEdc-put : (old new : List ℕ) (w error : ℕ) → length old ≡ 2352 → length new ≡ 2352
-    → error < 2 ^ 32
-    → IsEdc (take 2064 old) w → slice_range new 2064 2068 ≡ to_le_bytes w32 (bit_xor w error)
-    → ((k : ℕ) → (k < 2064) ⊎ (2068 ≤ k) → get_or new k 0 ≡ get_or old k 0)
-    → StoresEdc new error
-StoresEdc-put old new w error old_size new_size fits word put stays =
-    let front : take 2064 new ≡ take 2064 old =
-    front-same new old 2064 (omega arith) (omega arith) (λ i below. stays i (inl below)) in
-    record { word = w; fits = fits; is_word = rw front word; at_end = put }
 
 -- the front of another sector, with its EDC
 pub IsChanged-front : (old front new : List ℕ) (place : ℕ) (bytes : List ℕ) (error : ℕ)

@@ -1,10 +1,9 @@
 -- Bytes written into a sector before its parity, and carried into it (ECMA-130, Annex A). All but
 -- `written` is plumbing.
-use Rattle.std.specs.Prelude.{◌≡◌, ℕ, ◌+◌, ◌^◌, ◌<◌, ◌≤◌, ◌⊎◌, bit_xor, List, ◌++◌, length, take, drop, slice_index, slice_range}
-use Rattle.std.specs.Int.{to_le_bytes, w32}
-use Rattle.cd_code.specs.Edc.{IsEdc}
+use Rattle.std.specs.Prelude.{◌≡◌, ℕ, ◌+◌, ◌<◌, ◌≤◌, ◌⊎◌, List, ◌++◌, length, take, drop, slice_index}
 use Rattle.cd_code.specs.Field.{AreBytes}
 use Rattle.cd_sector.specs.CodeWords.{SameSyndromes}
+use Rattle.cd_sector.specs.EdcField.{StoresEdc}
 
 -- the user data, in which `bytes` stand from `offset` on instead of as many others
 unfoldable pub written : List ℕ → ℕ → List ℕ → List ℕ
@@ -19,13 +18,6 @@ pub record IsWritten (old new : List ℕ) (place count : ℕ) (bytes : List ℕ)
   pub front : (i : ℕ) → i < 2076 → (i < place) ⊎ (place + count ≤ i)
       → slice_index new i ≡ slice_index old i
   pub syndromes : SameSyndromes new old
-
--- the EDC of the first 2064 bytes, with `error` added to it, stands after them
-pub record StoresEdc (s : List ℕ) (error : ℕ) : Type 0 where
-  pub word : ℕ
-  pub fits : error < 2 ^ 32
-  pub is_word : IsEdc (take 2064 s) word
-  pub at_end : slice_range s 2064 2068 ≡ to_le_bytes w32 (bit_xor word error)
 
 -- plumbing of `write_edc`: the EDC with `error` added is written and carried into the parity
 pub record WithEdc (old new : List ℕ) (error : ℕ) : Type 0 where

@@ -6,9 +6,10 @@ ghost use Rattle.std.specs.Int.{from_le_bytes, w32};
 ghost use Rattle.cd_code.specs.Edc.{IsEdc};
 ghost use Rattle.cd_sector.specs.Carried.{IsCarried};
 ghost use Rattle.cd_sector.specs.Consistent.{IsConsistent, header_of, user_of};
+ghost use Rattle.cd_sector.specs.EdcField.{StoresEdc};
 ghost use Rattle.cd_sector.specs.Kind.{kind_of};
 ghost use Rattle.cd_sector.specs.declared.kinds.SectorKind.TheVariants.{Mode1};
-ghost use Rattle.cd_delta.specs.Writing.{KeepsError, StoresEdc, written};
+ghost use Rattle.cd_delta.specs.Writing.{KeepsError, written};
 
 use crate::byte_by_byte::write_few;
 use crate::user_data::{MANY, change};

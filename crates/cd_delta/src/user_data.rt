@@ -5,14 +5,15 @@ ghost use Rattle.std.specs.Int.{from_le_bytes, w32};
 ghost use Rattle.cd_code.specs.Edc.{IsEdc, bits, remainder};
 ghost use Rattle.cd_sector.specs.CodeWords.{SameSyndromes};
 ghost use Rattle.cd_sector.specs.Consistent.{IsConsistent, header_of, user_of};
+ghost use Rattle.cd_sector.specs.EdcField.{StoresEdc};
 ghost use Rattle.cd_sector.specs.Kind.{kind_of};
 ghost use Rattle.cd_sector.specs.declared.kinds.SectorKind.TheVariants.{Mode1};
-ghost use Rattle.cd_delta.specs.Writing.{IsChanged, StoresEdc, WithEdc, written};
+ghost use Rattle.cd_delta.specs.Writing.{IsChanged, WithEdc, written};
 
 use crate::byte_by_byte::write_few;
 use crate::difference::carry_front;
 use cd_code::edc_of;
-use cd_sector::{EDC, SECTOR_SIZE, Sector, USER_DATA, edc_bytes, put_edc, put_part};
+use cd_sector::{EDC, Sector, USER_DATA, edc_bytes, fill_edc, put_part};
 
 /// The number of bytes from which on a difference sector costs less than a change of each byte. An
 /// address, of three bytes, is written byte by byte.
@@ -106,14 +107,4 @@ fn front_with(s: &Sector, place: usize, bytes: &[u8], error: u32) -> Sector
     put_part(&mut front, place, bytes);
     fill_edc(&mut front, error);
     Sector::from_bytes(front)
-}
-
-/// Writes the EDC of bytes 0 to 2063 after them, with `error` added.
-fn fill_edc(bytes: &mut [u8; SECTOR_SIZE], error: u32)
-    ensures edc { StoresEdc bytes.new error }
-    ensures stays { (k : ℕ) → (k < 2064) ⊎ (2068 ≤ k)
-        → slice_index bytes.new k ≡ slice_index bytes.old k }
-{
-    let word = edc_of(&bytes[..EDC]);
-    put_edc(bytes, word ^ error);
 }

@@ -11,27 +11,27 @@ use cd_image::{Fault, Line};
 use cd_script::{MAX_PATCHES, ScriptFault};
 
 /// There is no file of a script, or a read of it failed.
-pub const NO_SCRIPT: &str = "cdpatch: cannot read the script\n";
+pub(crate) const NO_SCRIPT: &str = "cdpatch: cannot read the script\n";
 
 /// The file of a script has more bytes than a script may have.
 const LONG_SCRIPT: &str = "cdpatch: the script is longer than 67108864 bytes\n";
 
 /// There is no image.
-pub const NO_IMAGE: &str = "cdpatch: cannot open the image\n";
+pub(crate) const NO_IMAGE: &str = "cdpatch: cannot open the image\n";
 
 /// No new file was made.
-pub const NO_OUTPUT: &str = "cdpatch: cannot make the output file\n";
+pub(crate) const NO_OUTPUT: &str = "cdpatch: cannot make the output file\n";
 
 /// A standard stream is closed, and the file that was to take its number was not opened.
-pub const NO_ROOT: &str = "cdpatch: cannot open the root directory\n";
+pub(crate) const NO_ROOT: &str = "cdpatch: cannot open the root directory\n";
 
 /// An argument is not valid UTF-8.
-pub const NOT_TEXT: &str = "cdpatch: the words are not text\n";
+pub(crate) const NOT_TEXT: &str = "cdpatch: the words are not text\n";
 
 /// The line for a file that is not there; `refused` if it was refused, else that for want of
 /// memory.
 #[tactic(auto, unfolding(crate::specs::Messages::open_fault_line))]
-pub fn open_fault_line(refused: &'static str, fault: OpenFault) -> &'static str
+pub(crate) fn open_fault_line(refused: &'static str, fault: OpenFault) -> &'static str
     ensures { result.now ≡ open_fault_line refused.now fault }
 {
     match fault {
@@ -54,7 +54,7 @@ pub fn load_fault_line(fault: LoadFault) -> &'static str
 
 /// The line of a call's fault. A log that failed has none, since the lines go to the log.
 #[tactic(auto, unfolding(crate::specs::Messages::fault_line))]
-pub fn fault_line(fault: Fault) -> &'static str
+pub(crate) fn fault_line(fault: Fault) -> &'static str
     ensures { result.now ≡ fault_line fault }
 {
     match fault {
@@ -95,7 +95,7 @@ fn too_many() -> Line
 
 /// The line of a script's fault.
 #[tactic(auto, unfolding(crate::specs::Messages::script_fault_line))]
-pub fn script_fault_line(fault: ScriptFault) -> Line
+pub(crate) fn script_fault_line(fault: ScriptFault) -> Line
     ensures { result ≡ script_fault_line fault }
 {
     match fault {

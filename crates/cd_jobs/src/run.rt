@@ -30,7 +30,7 @@ const REFUSED: u8 = 1;
 /// # Errors
 ///
 /// A write failed, or the flush.
-pub fn say<O: Sink>(line: &[u8], out: &mut O) -> Result<(), SinkFailed>
+pub(crate) fn say<O: Sink>(line: &[u8], out: &mut O) -> Result<(), SinkFailed>
     requires { MayCount (O.seen out.old).failures }
     ensures line { SaysLine line.now (O.seen out.old) (O.seen out.new) }
     ensures count { Counts (O.seen out.old).failures (O.seen out.new).failures result }

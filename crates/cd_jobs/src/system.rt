@@ -101,12 +101,12 @@ impl<'a> System<'a> {
 
     /// The standard output. A terminal gets each line at once, so none is held back from someone
     /// who watches; a file or a pipe gets as many bytes at a time as are read. It is not synced: a
-    /// pipe and a terminal cannot be. It has no example: a test prints on the same output.
+    /// pipe and a terminal cannot be.
     ///
     /// # Errors
     ///
     /// Its buffer found no memory.
-    pub fn standard_output(&self) -> Result<Buffered<ToWrite<Stdout>>, AllocError>
+    pub(crate) fn standard_output(&self) -> Result<Buffered<ToWrite<Stdout>>, AllocError>
         ensures { IfOk result (λ out.
             (⟦<Buffered<ToWrite<Stdout>> as Sink>⟧.seen out).failures ≡ 0) }
     {

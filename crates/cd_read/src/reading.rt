@@ -39,7 +39,7 @@ pub fn read_sector<I: Source>(
 {
     // Proof step: the source goes through the call, since nothing would be known of what the
     // closure captured.
-    sector.read_with(image, |image, bytes| read_bytes(image, count, bytes))
+    sector.with_bytes_mut(image, |image, bytes| read_bytes(image, count, bytes))
 }
 
 /// Reads the next sector of an image, after `count` others, to the bytes of a sector.

@@ -1,9 +1,10 @@
 -- Runs of equal kinds.
 use Rattle.std.proofs.Common.{◌≡◌, ◌≢◌, ℕ, zero, suc, ◌+◌, true, false, List, [], ◌∷◌, ◌++◌, replicate, refl, sym, ap, ◌∙◌, subst, arith, add-one, cond, ◌<◌}
 use Rattle.std.proofs.lemmas.Bool.Decides.{nat_tests}
+use Rattle.cd_sector.specs.Kind.{kind_number}
 use Rattle.cd_sector.specs.declared.kinds.SectorKind.{SectorKind}
 use Rattle.cd_sector.specs.declared.kinds.SectorKind.TheVariants.{NoSync, Mode0, Mode1, Mode2, Other}
-use Rattle.cd_report.specs.Runs.{Run, AreMaximal, number_of, put_before, runs, same_kind, kinds_of}
+use Rattle.cd_report.specs.Runs.{Run, AreMaximal, put_before, runs, same_kind, kinds_of}
 
 -- the kind of a number
 kind_at : ℕ → SectorKind
@@ -13,13 +14,13 @@ kind_at (suc (suc zero)) = Mode1
 kind_at (suc (suc (suc zero))) = Mode2
 kind_at (suc (suc (suc (suc n)))) = Other
 
-kind_at-number_of : (kind : SectorKind) → kind_at (number_of kind) ≡ kind
+kind_at-kind_number : (kind : SectorKind) → kind_at (kind_number kind) ≡ kind
 unfolding kind_at
-kind_at-number_of NoSync = refl
-kind_at-number_of Mode0 = refl
-kind_at-number_of Mode1 = refl
-kind_at-number_of Mode2 = refl
-kind_at-number_of Other = refl
+kind_at-kind_number NoSync = refl
+kind_at-kind_number Mode0 = refl
+kind_at-kind_number Mode1 = refl
+kind_at-kind_number Mode2 = refl
+kind_at-kind_number Other = refl
 
 pub same_kind-refl : (kind : SectorKind) → same_kind kind kind ≡ true
 same_kind-refl NoSync = refl
@@ -30,8 +31,8 @@ same_kind-refl Other = refl
 
 pub same_kind-true : (a b : SectorKind) → same_kind a b ≡ true → a ≡ b
 same_kind-true a b e =
-    let numbers : number_of a ≡ number_of b = grind (arith, nat_tests) in
-    sym (kind_at-number_of a) ∙ ap kind_at numbers ∙ kind_at-number_of b
+    let numbers : kind_number a ≡ kind_number b = grind (arith, nat_tests) in
+    sym (kind_at-kind_number a) ∙ ap kind_at numbers ∙ kind_at-kind_number b
 
 pub same_kind-false : (a b : SectorKind) → a ≢ b → same_kind a b ≡ false
 same_kind-false a b differ =

@@ -2,26 +2,17 @@
 use Rattle.std.specs.Prelude.{◌≡◌, ◌≢◌, ℕ, ◌==◌, ◌+◌, ◌<◌, Bool, if◌then◌else◌, List, [], ◌∷◌}
 use Rattle.std.specs.Prelude.{replicate}
 use Rattle.std.specs.List.{flat_map}
+use Rattle.cd_sector.specs.Kind.{kind_number}
 use Rattle.cd_sector.specs.declared.kinds.SectorKind.{SectorKind}
-use Rattle.cd_sector.specs.declared.kinds.SectorKind.TheVariants.{NoSync, Mode0, Mode1, Mode2}
-use Rattle.cd_sector.specs.declared.kinds.SectorKind.TheVariants.{Other}
 
 -- `count` sectors of one kind
 pub record Run : Type 0 where
   pub kind : SectorKind
   pub count : ℕ
 
--- a number for each kind, by which kinds are compared
-abbrev pub number_of : SectorKind → ℕ
-number_of NoSync = 0
-number_of Mode0 = 1
-number_of Mode1 = 2
-number_of Mode2 = 3
-number_of Other = 4
-
 -- whether two kinds are the same
 abbrev pub same_kind : SectorKind → SectorKind → Bool
-same_kind a b = number_of a == number_of b
+same_kind a b = kind_number a == kind_number b
 
 -- one more sector before runs: it joins the first if that is of its kind
 abbrev pub put_before : SectorKind → List Run → List Run

@@ -1,17 +1,19 @@
 -- The EDC in its place: written there, and compared with what stands there.
-use Rattle.std.proofs.Common.{◌≡◌, ℕ, ◌+◌, ◌-◌, ◌<◌, ◌≤◌, ◌⊎◌, inl, inr, Bool, Decides, append_assoc, List, ◌++◌, length, get_or, take, drop, refl, sym, ap, ◌∙◌, arith}
+use Rattle.std.proofs.Common.{◌≡◌, ℕ, ◌+◌, ◌-◌, ◌^◌, ◌<◌, ◌≤◌, ◌⊎◌, inl, inr, Bool, Decides, append_assoc, List, ◌++◌, length, get_or, take, drop, bit_xor, refl, sym, ap, ◌∙◌, arith, lit<}
 use Rattle.std.specs.Bool.{◌==◌, one_answer}
 use Rattle.std.specs.Prelude.{slice_range}
 use Rattle.std.specs.Int.{from_le_bytes, to_le_bytes, w32}
+use Rattle.std.specs.Int.Bits.{xor_zero_l, xor_zero_r}
 use Rattle.std.proofs.lemmas.Bool.Decides.{Decides-eqb, Decides-like}
 use Rattle.std.proofs.lemmas.List.{append_cancel_left, get_or-append_right, get_or-drop, get_or-take, get_or_append_left, length-append, length-take-le}
-use Rattle.std.proofs.lemmas.Nat.{from_le_bytes-to_le_bytes_4, le_bytes_4}
+use Rattle.std.proofs.lemmas.Nat.{from_le_bytes-to_le_bytes_4, le_bytes_4, xor_lt}
 use Rattle.std.proofs.Math.Seq.{take-add, take-append_seam}
 use Rattle.cd_code.specs.Edc.{IsEdc, bits, remainder}
 use Rattle.cd_code.specs.Field.{AreBytes}
 use Rattle.cd_code.proofs.ByteLemmas.{AreBytes-append, AreBytes-drop, AreBytes-take, AreBytes-word}
 use Rattle.cd_code.proofs.general.Lists.{front-same, length-part}
-use Rattle.cd_code.proofs.EdcLemmas.{edc_unique}
+use Rattle.cd_code.proofs.EdcLemmas.{Ends-from, after, after-append, after-lt, after-word, after_bits, after_bits-xor, edc_unique, remainder-after}
+use Rattle.cd_sector.specs.EdcField.{StoresEdc}
 
 -- a list that has four bytes in the place of the EDC
 pub edc_written : (old new four : List ℕ) → length old ≡ 2352 → length four ≡ 4
@@ -46,17 +48,33 @@ edc_front : (new four : List ℕ) → slice_range new 2064 2068 ≡ four
     → take 2068 new ≡ take 2064 new ++ four
 edc_front new four e = take-add 2064 4 new ∙ ap (λ v. take 2064 new ++ v) e
 
--- the EDC's word written in its place
-pub edc_filled : (old new : List ℕ) (w : ℕ) → length old ≡ 2352 → length new ≡ 2352
-    → IsEdc (take 2064 old) w
-    → slice_range new 2064 2068 ≡ to_le_bytes w32 w
+-- the word of the first bytes, put behind them
+pub StoresEdc-put : (old new : List ℕ) (w error : ℕ) → length old ≡ 2352 → length new ≡ 2352
+    → error < 2 ^ 32
+    → IsEdc (take 2064 old) w → slice_range new 2064 2068 ≡ to_le_bytes w32 (bit_xor w error)
     → ((k : ℕ) → (k < 2064) ⊎ (2068 ≤ k) → get_or new k 0 ≡ get_or old k 0)
-    → remainder (bits (take 2068 new)) ≡ 0
-edc_filled old new w old_size new_size edc put stays =
+    → StoresEdc new error
+StoresEdc-put old new w error old_size new_size fits word put stays =
     let front : take 2064 new ≡ take 2064 old =
     front-same new old 2064 (omega arith) (omega arith) (λ i below. stays i (inl below)) in
-    ap (λ v. remainder (bits v))
-    (edc_front new (to_le_bytes w32 w) put ∙ ap (λ v. v ++ to_le_bytes w32 w) front) ∙ edc.divides
+    record { word = w; fits = fits; is_word = rw front word; at_end = put }
+
+-- what the division leaves is what the error leaves
+pub StoresEdc-remainder : {s : List ℕ} {error : ℕ} → StoresEdc s error
+    → remainder (bits (take 2068 s)) ≡ after_bits 32 0 error
+StoresEdc-remainder {s} {error} h =
+    let front = take 2064 s in
+    let four = to_le_bytes w32 (bit_xor h.word error) in
+    let rest = after 0 front in
+    let below : rest < 2 ^ 32 = after-lt 0 front (lit< tt) in
+    let ends = Ends-from front h.word h.is_word in
+    ap (λ v. remainder (bits v)) (take-add 2064 4 s ∙ ap (λ v. front ++ v) h.at_end)
+    ∙ remainder-after (front ++ four) ∙ after-append 0 front four
+    ∙ after-word rest (bit_xor h.word error) (xor_lt 32 h.word error h.is_word.fits h.fits)
+    ∙ ap (λ r. after_bits 32 r (bit_xor h.word error)) (sym (xor_zero_r rest))
+    ∙ after_bits-xor 32 rest 0 h.word error below (lit< tt)
+    ∙ ap (λ n. bit_xor n (after_bits 32 0 error)) ends.ends
+    ∙ xor_zero_l (after_bits 32 0 error)
 
 -- the test of the word that stands in the EDC's place
 pub edc_told : (s : List ℕ) (w stored : ℕ) (r : Bool) → length s ≡ 2352 → AreBytes s

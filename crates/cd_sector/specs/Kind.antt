@@ -17,3 +17,11 @@ kind_of_mode mode =
 unfoldable pub kind_of : List ℕ → SectorKind
 kind_of sector =
     if starts_with nat_eq sector sync_field then kind_of_mode (slice_index sector 15) else NoSync
+
+-- a number for each kind
+abbrev pub kind_number : SectorKind → ℕ
+kind_number NoSync = 0
+kind_number Mode0 = 1
+kind_number Mode1 = 2
+kind_number Mode2 = 3
+kind_number Other = 4

@@ -4,6 +4,7 @@ pub mod CodeWords
 pub mod Consistent
 pub mod Defect
 pub mod DiagonalSteps
+pub mod EdcField
 pub mod Kind
 pub mod Laws
-pub mod Reads
+pub mod WithBytes

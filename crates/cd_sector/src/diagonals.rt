@@ -7,7 +7,7 @@ ghost use Rattle.std.specs.Prelude.{◌≡◌, ℕ, ◌+◌, ◌-◌, ◌*◌, �
 ghost use Rattle.cd_sector.specs.CodeWords.{SumsOf, bytes_at, diagonal_input, diagonal_of};
 ghost use Rattle.cd_sector.specs.DiagonalSteps.{HasTaken, lane_place};
 
-use crate::product_code::{COLUMNS, DIAGONALS, ROWS};
+use crate::product_code::{COLUMNS, DIAGONALS, PLANE_COLUMNS, ROWS};
 use crate::sector::{HEADER, Q_PARITY, SECTOR_SIZE};
 use cd_code::{LaneSums, lanes_at, put_lanes};
 use std::simd::prelude::*;
@@ -225,9 +225,9 @@ pub(crate) fn low_input_sums(bytes: &[u8; SECTOR_SIZE]) -> LaneSums
     Diagonals::low(bytes)
         .at_the_beginning(bytes, 8)
         .at_the_beginning(bytes, 15)
-        .in_the_middle(bytes, 26)
-        .in_the_middle(bytes, 43)
-        .at_the_end(bytes, 52)
+        .in_the_middle(bytes, ROWS)
+        .in_the_middle(bytes, PLANE_COLUMNS)
+        .at_the_end(bytes, 2 * ROWS)
         .rising()
 }
 
@@ -239,8 +239,8 @@ pub(crate) fn high_input_sums(bytes: &[u8; SECTOR_SIZE]) -> LaneSums
     Diagonals::high(bytes)
         .at_the_beginning(bytes, 18)
         .at_the_beginning(bytes, 25)
-        .in_the_middle(bytes, 26)
-        .in_the_middle(bytes, 52)
+        .in_the_middle(bytes, ROWS)
+        .in_the_middle(bytes, 2 * ROWS)
         .in_the_middle(bytes, 53)
         .at_the_end(bytes, 61)
         .at_the_end(bytes, 68)

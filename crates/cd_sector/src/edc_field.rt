@@ -3,9 +3,11 @@
 
 ghost use Rattle.std.specs.Prelude.{◌≡◌, ℕ, ◌<◌, ◌≤◌, ◌⊎◌, slice_index, slice_range};
 ghost use Rattle.std.specs.Int.{from_le_bytes, to_le_bytes, w32};
+ghost use Rattle.cd_sector.specs.EdcField.{StoresEdc};
 
 use crate::sector::{EDC, INTERMEDIATE, SECTOR_SIZE, put_part};
 use byteorder::{ByteOrder, LittleEndian};
+use cd_code::edc_of;
 
 /// The four bytes of an EDC word, as they stand in a sector (ECMA-130, 14).
 ///
@@ -47,4 +49,26 @@ pub fn put_edc(bytes: &mut [u8; SECTOR_SIZE], word: u32)
         → slice_index bytes.new k ≡ slice_index bytes.old k }
 {
     put_part(bytes, EDC, &edc_bytes(word));
+}
+
+/// Writes the EDC of bytes 0 to 2063 after them, with `error` added: 0, or what the EDC of a
+/// damaged sector was wrong by (ECMA-130, 14).
+///
+/// # Examples
+///
+/// ```
+/// let mut bytes = [0x00; SECTOR_SIZE];
+/// bytes[2063] = 0x01; // the last byte of the user data
+/// fill_edc(&mut bytes, 0);
+/// assert_eq!(rt; stored_edc(&bytes), 0x9091_0101);
+/// fill_edc(&mut bytes, 0x0000_0001); // wrong by its last bit
+/// assert_eq!(rt; stored_edc(&bytes), 0x9091_0100);
+/// ```
+pub fn fill_edc(bytes: &mut [u8; SECTOR_SIZE], error: u32)
+    ensures edc { StoresEdc bytes.new error }
+    ensures stays { (k : ℕ) → (k < 2064) ⊎ (2068 ≤ k)
+        → slice_index bytes.new k ≡ slice_index bytes.old k }
+{
+    let word = edc_of(&bytes[..EDC]);
+    put_edc(bytes, word ^ error);
 }

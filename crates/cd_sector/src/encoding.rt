@@ -1,6 +1,6 @@
 //! Making the one consistent sector with a given content.
 
-ghost use Rattle.std.specs.Prelude.{◌≡◌, ℕ, ◌<◌, ◌≤◌, ◌⊎◌, List, [], ◌∷◌, ◌++◌, slice_index, take};
+ghost use Rattle.std.specs.Prelude.{◌≡◌, ℕ, ◌<◌, ◌≤◌, List, [], ◌∷◌, ◌++◌, slice_index, take};
 ghost use Rattle.cd_code.specs.Edc.{bits, remainder};
 ghost use Rattle.cd_code.specs.Field.{AreBytes};
 ghost use Rattle.cd_sector.specs.CodeWords.{AllCodeWords};
@@ -9,13 +9,12 @@ ghost use Rattle.cd_sector.specs.Kind.{kind_of, sync_field};
 ghost use Rattle.cd_sector.specs.Laws.{IsEncoded};
 ghost use Rattle.cd_sector.specs.declared.kinds.SectorKind.TheVariants.{Mode1};
 
-use crate::edc_field::put_edc;
+use crate::edc_field::fill_edc;
 use crate::kinds::SYNC;
 use crate::parity::fill_words;
 use crate::sector::{
-    EDC, HEADER, INTERMEDIATE, MODE, SECTOR_SIZE, Sector, USER_DATA, USER_SIZE, are_bytes, put_part,
+    HEADER, INTERMEDIATE, MODE, SECTOR_SIZE, Sector, USER_DATA, USER_SIZE, are_bytes, put_part,
 };
-use cd_code::edc_of;
 
 /// The one consistent sector with these three header bytes, which may be any, the mode byte 01 and
 /// this user data (ECMA-130, 14 and Annex A).
@@ -56,7 +55,7 @@ pub fn encode_into(s: &mut Sector, header: [u8; 3], user: &[u8; USER_SIZE])
     ensures alone { (t : List ℕ) → IsConsistent t → header_of t ≡ header ++ 1 ∷ []
         → user_of t ≡ user.now → t ≡ s.new }
 {
-    s.read_with(&mut (), |_, bytes| fill_sector(bytes, header, user));
+    s.with_bytes_mut(&mut (), |_, bytes| fill_sector(bytes, header, user));
 }
 
 /// Makes a sector of Mode 1 the one consistent sector with its header and its user data
@@ -80,7 +79,7 @@ pub fn rebuild(s: &mut Sector)
     ensures alone { (t : List ℕ) → IsConsistent t → header_of t ≡ header_of s.old
         → user_of t ≡ user_of s.old → t ≡ s.new }
 {
-    s.read_with(&mut (), |_, bytes| fill_codes(bytes));
+    s.with_bytes_mut(&mut (), |_, bytes| fill_codes(bytes));
 }
 
 /// Writes all bytes of a Mode 1 sector with this content.
@@ -114,17 +113,7 @@ fn fill_codes(bytes: &mut [u8; SECTOR_SIZE])
     ensures each { AreBytes bytes.new }
 {
     put_part(bytes, INTERMEDIATE, &[0; 8]);
-    fill_edc(bytes);
+    fill_edc(bytes, 0);
     fill_words(bytes);
     are_bytes(bytes);
-}
-
-/// Writes the EDC of bytes 0 to 2063 after them.
-fn fill_edc(bytes: &mut [u8; SECTOR_SIZE])
-    ensures divides { remainder (bits (take 2068 bytes.new)) ≡ 0 }
-    ensures stays { (k : ℕ) → (k < 2064) ⊎ (2068 ≤ k)
-        → slice_index bytes.new k ≡ slice_index bytes.old k }
-{
-    let word = edc_of(&bytes[..EDC]);
-    put_edc(bytes, word);
 }

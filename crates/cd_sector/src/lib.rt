@@ -39,7 +39,7 @@ mod sums;
 
 pub use addresses::{MAX_BLOCK, address_of};
 pub use defects::{DefectReport, defect, is_consistent, same_defect};
-pub use edc_field::{edc_bytes, put_edc, stored_edc};
+pub use edc_field::{edc_bytes, fill_edc, put_edc, stored_edc};
 pub use encoding::{encode, encode_into, rebuild};
 pub use kinds::{SectorKind, kind};
 pub use laws::{

@@ -27,7 +27,7 @@ pub fn fill_parity(s: &mut Sector)
     ensures words { AllCodeWords s.new }
     ensures stays { (i : ℕ) → i < 2076 → slice_index s.new i ≡ slice_index s.old i }
 {
-    s.read_with(&mut (), |_, bytes| fill_words(bytes));
+    s.with_bytes_mut(&mut (), |_, bytes| fill_words(bytes));
 }
 
 /// Makes the P parity, and then the Q parity, whose diagonals run through the P parity.

@@ -2,18 +2,17 @@
 //! then two rows of P parity, then the Q parity of its 26 diagonals. A byte's number in its plane
 //! counts from 0, row after row.
 
-/// The number of columns in a plane, which are the bytes of a row.
-pub const PLANE_COLUMNS: usize = 43;
+pub(crate) use cd_code::COLUMNS;
+pub use cd_code::ROWS;
 
-/// The number of rows in a plane, those of P parity with them. A column has as many bytes, and a
-/// plane as many diagonals.
-pub const ROWS: usize = 26;
+/// The number of columns in a plane, which are the bytes of a row.
+pub const PLANE_COLUMNS: usize = COLUMNS / 2;
 
 /// The row of the first byte of P parity of each column.
-pub const FIRST_P_ROW: usize = 24;
+pub const FIRST_P_ROW: usize = ROWS - 2;
 
 /// The row of the second byte of P parity of each column.
-pub const SECOND_P_ROW: usize = 25;
+pub const SECOND_P_ROW: usize = ROWS - 1;
 
 /// The number in its plane of the first byte of P parity, that of column 0.
 pub const FIRST_P: usize = FIRST_P_ROW * PLANE_COLUMNS;
@@ -30,8 +29,5 @@ pub const SECOND_Q: usize = FIRST_Q + ROWS;
 /// The number of bytes in a diagonal: one of each column, and two of parity.
 pub const DIAGONAL_SIZE: usize = PLANE_COLUMNS + 2;
 
-/// The number of P columns over both planes, which are the bytes of a row of both.
-pub(crate) const COLUMNS: usize = 86;
-
-/// The number of Q diagonals over both planes.
-pub(crate) const DIAGONALS: usize = 52;
+/// The number of Q diagonals of both planes; a plane has as many as rows.
+pub(crate) const DIAGONALS: usize = 2 * ROWS;

@@ -7,7 +7,7 @@
 ghost use Rattle.std.specs.Prelude.{◌≡◌, ◌+◌, ◌<◌, ◌≤◌, ◌⊎◌, List, ℕ, length, replicate, slice_index, slice_set};
 ghost use Rattle.cd_code.specs.Field.{AreBytes};
 ghost use Rattle.cd_sector.specs.Consistent.{header_of, user_of};
-ghost use Rattle.cd_sector.specs.Reads.{CanRead, Reads};
+ghost use Rattle.cd_sector.specs.WithBytes.{Calls, CanCall};
 
 use std::marker::Model;
 
@@ -114,28 +114,28 @@ impl Sector {
         self.bytes[place] = b;
     }
 
-    /// Proof step: lends the 2352 bytes to `read`, which reads them from `source`; no array is
-    /// filled beside the sector. The answer is that of `read`. The toolchain does not prove a
-    /// method that returns the loan, and knows nothing of what a closure captured by `&mut`, so the
-    /// bytes and the source go through a call.
+    /// Proof step: calls `f` with `context` and the 2352 bytes, where they stand, and gives its
+    /// answer. The toolchain does not prove a method that returns the loan, and knows nothing of
+    /// what a closure captured by `&mut`, so the bytes, and what else `f` changes, go through a
+    /// call.
     ///
     /// # Examples
     ///
     /// ```
     /// let mut sector = Sector::default(); // all 00
-    /// sector.read_with(&mut 0x41, |source, bytes| bytes[16] = *source);
+    /// sector.with_bytes_mut(&mut 0x41, |byte, bytes| bytes[16] = *byte);
     /// assert_eq!(rt; sector.byte(16), 0x41);
     /// ```
     #[inline(always)]
-    pub fn read_with<S, R, F: FnOnce(&mut S, &mut [u8; SECTOR_SIZE]) -> R>(
+    pub fn with_bytes_mut<C, R, F: FnOnce(&mut C, &mut [u8; SECTOR_SIZE]) -> R>(
         &mut self,
-        source: &mut S,
-        read: F,
+        context: &mut C,
+        f: F,
     ) -> R
-        requires { CanRead F.FnOnce read source.old self.old }
-        ensures { Reads F.FnOnce read source.old self.old result source.new self.new }
+        requires { CanCall F.FnOnce f context.old self.old }
+        ensures { Calls F.FnOnce f context.old self.old result context.new self.new }
     {
-        let result = read(source, &mut self.bytes);
+        let result = f(context, &mut self.bytes);
         // So the list of bytes that contracts see is one of numbers below 256 again.
         are_bytes(&self.bytes);
         result

@@ -1,16 +1,16 @@
 //! The examples of the rustdoc of cd_code, cd_sector, cd_delta, cd_patch and cd_script.
 
 use cd_code::{
-    ColumnSums, LaneSums, alpha_power, column_lanes, column_sums, edc_of, lanes_at, pair_change,
-    pair_from, parity_pair, put_lanes, row_sums, syndromes, times,
+    COLUMNS, ColumnSums, LaneSums, ROWS_SIZE, alpha_power, column_lanes, column_sums, edc_of,
+    lanes_at, pair_change, pair_from, parity_pair, put_lanes, row_sums, syndromes, times,
 };
 use cd_delta::{carry_header, carry_user, change_byte, change_header, change_user, parity_changes};
 use cd_patch::{Outcome, apply_patch, blocks_met};
 use cd_script::{Edit, ScriptFault, parse};
 use cd_sector::{
     EDC, HEADER, SECTOR_SIZE, Sector, SectorKind, USER_SIZE, address_of, defect, edc_bytes, encode,
-    encode_into, fill_parity, is_consistent, kind, put_edc, put_part, rebuild, same_defect,
-    stored_edc, sum_of,
+    encode_into, fill_edc, fill_parity, is_consistent, kind, put_edc, put_part, rebuild,
+    same_defect, stored_edc, sum_of,
 };
 use std::simd::prelude::*;
 use std::test::Fail;
@@ -43,15 +43,15 @@ fn pairs_of_a_word(rt: HostRuntime) {
 #[test]
 fn columns_of_rows(rt: HostRuntime) {
     let mut sums = ColumnSums::zero();
-    row_sums(&[0x80; 86], &mut sums);
-    row_sums(&[0x01; 86], &mut sums);
+    row_sums(&[0x80; COLUMNS], &mut sums);
+    row_sums(&[0x01; COLUMNS], &mut sums);
     assert_eq!(rt; (sums.plain[85], sums.weighted[85]), (0x81, 0x1C)); // 80 + 01, and 2 * 80 + 01
 
-    let lanes = column_lanes(&[[0x80; 86], [0x01; 86]]); // two rows
+    let lanes = column_lanes(&[[0x80; COLUMNS], [0x01; COLUMNS]]); // two rows
     assert_eq!(rt; lanes.front.plain[0], 0x81); // 80 + 01, in column 0
     assert_eq!(rt; lanes.back.weighted[31], 0x1C); // 2 * 80 + 01, in column 85
 
-    let mut rows = [0x00; 2236];
+    let mut rows = [0x00; ROWS_SIZE];
     rows[0] = 0x01; // column 0 is 01, and 25 times 00
     let sums = column_sums(&rows);
     assert_eq!(rt; (sums.plain[0], sums.weighted[0]), (0x01, alpha_power(25)));
@@ -134,7 +134,7 @@ fn bytes_of_a_sector(rt: HostRuntime) {
     assert_eq!(rt; (sector.byte(16), sector.byte(17)), (0x41, 0x00));
 
     let mut sector = Sector::default(); // all 00
-    sector.read_with(&mut 0x41, |source, bytes| bytes[16] = *source);
+    sector.with_bytes_mut(&mut 0x41, |byte, bytes| bytes[16] = *byte);
     assert_eq!(rt; sector.byte(16), 0x41);
 
     let mut bytes = [0x00; SECTOR_SIZE];
@@ -160,6 +160,13 @@ fn parts_of_a_sector(rt: HostRuntime) {
     put_edc(&mut bytes, 0x9091_0101);
     assert_eq!(rt; bytes[2067], 0x90); // the most significant byte is the last
     assert_eq!(rt; stored_edc(&bytes), 0x9091_0101);
+
+    let mut bytes = [0x00; SECTOR_SIZE];
+    bytes[2063] = 0x01; // the last byte of the user data
+    fill_edc(&mut bytes, 0);
+    assert_eq!(rt; stored_edc(&bytes), 0x9091_0101);
+    fill_edc(&mut bytes, 0x0000_0001); // wrong by its last bit
+    assert_eq!(rt; stored_edc(&bytes), 0x9091_0100);
 }
 
 #[test]

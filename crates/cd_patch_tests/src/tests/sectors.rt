@@ -119,16 +119,16 @@ fn parity_of_a_foreign_front(rt: HostRuntime) {
 }
 
 #[test]
-fn a_sector_that_is_read_into(rt: HostRuntime) {
+fn bytes_lent_to_a_closure(rt: HostRuntime) {
     let mut sector = noise();
-    let mut source = 0x5A;
-    let first = sector.read_with(&mut source, |source, bytes| {
+    let mut byte = 0x5A;
+    let first = sector.with_bytes_mut(&mut byte, |byte, bytes| {
         let first = bytes[12];
-        bytes[2351] = *source;
-        *source = 0xA5;
+        bytes[2351] = *byte;
+        *byte = 0xA5;
         first
     });
-    assert!(rt; first == 0x12 && source == 0xA5);
+    assert!(rt; first == 0x12 && byte == 0xA5);
     assert!(rt; sector.byte(2351) == 0x5A && sector.byte(2350) == noise().byte(2350));
     assert_eq!(rt; sector.user(), noise().user());
 }

@@ -5,11 +5,11 @@ use Rattle.cd_sector.proofs.encoding.encode_into.Goals as goal
 
 pub returns : goal.returns
 returns c =
-    let made : IsEncoded c.args.header c.args.user.now c.read_with.new.self =
-    search (rules, c.read_with.ensures) in
+    let made : IsEncoded c.args.header c.args.user.now c.with_bytes_mut.new.self =
+    search (rules, c.with_bytes_mut.ensures) in
     record {
       consistent = made.is_consistent;
       header = made.has_header;
       user = made.has_user;
-      alone = λ t. encoded-alone c.args.header c.args.user.now t c.read_with.new.self made;
+      alone = λ t. encoded-alone c.args.header c.args.user.now t c.with_bytes_mut.new.self made;
     }

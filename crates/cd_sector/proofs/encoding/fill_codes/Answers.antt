@@ -2,6 +2,8 @@ use Rattle.std.proofs.Common.{◌+◌, ◌-◌, ◌≡◌, inr, get_or, sym, ap,
 use Rattle.std.proofs.lemmas.List.{get_or-replicate}
 use Rattle.cd_code.specs.Edc.{bits, remainder}
 use Rattle.cd_code.proofs.general.Lists.{front-same}
+use Rattle.cd_code.proofs.EdcLemmas.{after_bits-zero}
+use Rattle.cd_sector.proofs.EdcPlaceLemmas.{StoresEdc-remainder}
 use Rattle.cd_sector.proofs.encoding.fill_codes.Goals as goal
 
 pub returns-clause-zeros : goal.returns-clause-zeros
@@ -21,4 +23,4 @@ returns-clause-edc c =
     ap (λ v. remainder (bits v))
     (front-same end edc 2068 (omega arith) (omega arith)
     (λ k h. c.fill_words.ensures.stays k (omega arith)))
-    ∙ c.fill_edc.ensures.divides
+    ∙ StoresEdc-remainder c.fill_edc.ensures.edc ∙ after_bits-zero 32

@@ -1,5 +1,5 @@
 use Rattle.std.proofs.Common.{rules}
-use Rattle.cd_sector.proofs.sector.Sector.read_with.Goals as goal
+use Rattle.cd_sector.proofs.sector.Sector.with_bytes_mut.Goals as goal
 
 pub returns : goal.returns
 returns g c = search rules

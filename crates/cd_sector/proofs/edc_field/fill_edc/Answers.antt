@@ -1,6 +1,6 @@
 use Rattle.std.proofs.Common.{arith}
-use Rattle.cd_delta.proofs.UserLemmas.{StoresEdc-put}
-use Rattle.cd_delta.proofs.user_data.fill_edc.Goals as goal
+use Rattle.cd_sector.proofs.EdcPlaceLemmas.{StoresEdc-put}
+use Rattle.cd_sector.proofs.edc_field.fill_edc.Goals as goal
 
 pub returns-clause-edc : goal.returns-clause-edc
 returns-clause-edc c =
