@@ -89,21 +89,23 @@ first-stays text other = first-script_from 1 (lines text) other
 
 -- ---- the second version
 
-second-patch : (line : ℕ) (ws : List (List ℕ)) → has_new_verb ws ≡ false
-    → patch_by Two line ws ≡ patch_by One line ws
+-- words without the verb of the second version
+pub old_verb : (version : Version) (line : ℕ) (ws : List (List ℕ)) → has_new_verb ws ≡ false
+    → patch_by version line ws ≡ patch_at line ws
 unfolding patch_by
-second-patch line [] old = refl
-second-patch line (verb ∷ ws) old =
+old_verb Two line (verb ∷ ws) old =
     cond-false (bytes_eq verb (codes "address")) (address_line line ws)
     (patch_at line (verb ∷ ws)) old
+old_verb Two line [] old = refl
+old_verb One line ws old = refl
 
 second-line : (line earlier : ℕ) (text : List ℕ) → has_new_verb (words text) ≡ false
     → line_at Two line earlier text ≡ line_at One line earlier text
-unfolding line_at
+unfolding line_at patch_by
 second-line line earlier text old =
     ap (λ (r : Result Patch ScriptFault).
     cond (is_passed_over (words text)) (Ok None) (r >>= at_limit line earlier))
-    (second-patch line (words text) old)
+    (old_verb Two line (words text) old)
 
 pub second-extends : (line earlier : ℕ) (texts : List (List ℕ))
     → All (λ text. has_new_verb (words text) ≡ false) texts
