@@ -84,12 +84,17 @@ plain_word w test =
           leb-true 33 (get_or w k d) (AllPass-from_list_all (nat_le 33) w parts.1 k d lt);
     }
 
+-- a plain word that is read as a value
+pub record Spells {V : Type 0} (read : List ℕ → Result V ScriptFault) (w : List ℕ) (v : V)
+    : Type 0 where
+  pub plain : IsPlainWord w
+  pub reads : read w ≡ Ok v
+
 -- a kind of words: how one is read, the limits of its values, and how a value is spelled
 pub record IsKind {V : Type 0} (read : List ℕ → Result V ScriptFault) (Fits : V → Type 0)
     (spell : V → List ℕ) : Type 0 where
   pub keeps : (w : List ℕ) → IfOk (read w) Fits
-  pub reads : (v : V) → Fits v → read (spell v) ≡ Ok v
-  pub plain : (v : V) → Fits v → IsPlainWord (spell v)
+  pub spells : (v : V) → Fits v → Spells read (spell v) v
 
 -- a word of a kind, and what is read after it
 pub word_keeps : {V B : Type 0} {read : List ℕ → Result V ScriptFault} {Fits : V → Type 0}
@@ -163,7 +168,7 @@ pub number-kind : (line : ℕ) → IsKind (number_at line) (λ n. n ≤ number_l
 unfolding number_at number
 number-kind line = record {
   keeps = λ w. given_keeps _ (number w) (Number line) (number-keeps w);
-  reads = λ n le.
+  spells = λ n le.
       let numeral = decimal_is_IsNumeral n (omega arith) in
       let some : 1 ≤ length (decimal n) = omega (arith, numeral.0.0) in
       let few = length-decimal-le digit_limit n (omega arith) (omega arith) (omega arith) in
@@ -171,41 +176,40 @@ number-kind line = record {
       let least : nat_le 1 (length (decimal n)) ≡ true = grind (arith, nat_tests) in
       let most : nat_le (length (decimal n)) digit_limit ≡ true = grind (arith, nat_tests) in
       let value = digits-fold 0 (decimal n) numeral.0.1 ∙ numeral.1 in
-      rw (least, most, digits, value) refl;
-  plain = λ n le.
-      let numeral = decimal_is_IsNumeral n (omega arith) in
-      let digits = digits-all (decimal n) numeral.0.1 in
       record {
-        some = numeral.0.0;
-        plain = λ k d lt.
-            digit-plain _ (AllPass-from_list_all is_ascii_digit (decimal n) digits k d lt);
+        plain = record {
+          some = some;
+          plain = λ k d lt.
+              digit-plain _ (AllPass-from_list_all is_ascii_digit (decimal n) digits k d lt);
+        };
+        reads = rw (least, most, digits, value) refl;
       };
 }
 
 pub offset-kind : (line : ℕ) → IsKind (offset_at line) (λ n. n ≤ offset_limit) decimal
 unfolding offset_at
 offset-kind line = record {
-  keeps = λ w. word_keeps _ (number-kind line) w _
-      (λ n _. cond_keeps _ (nat_le n offset_limit) _ _ (λ test. leb-true n offset_limit test) (λ _. tt));
-  reads = λ n le.
-      let read = (number-kind line).reads n (omega arith) in
+  keeps = λ w.
+      word_keeps _ (number-kind line) w _ (λ n _.
+      cond_keeps _ (nat_le n offset_limit) _ _ (λ test. grind (arith, nat_tests)) (λ _. tt));
+  spells = λ n le.
+      let same = (number-kind line).spells n (omega arith) in
       let most : nat_le n offset_limit ≡ true = grind (arith, nat_tests) in
-      rw (read, most) refl;
-  plain = λ n le. (number-kind line).plain n (omega arith);
+      record { plain = same.plain; reads = rw (same.reads, most) refl };
 }
 
 pub count-kind : (line : ℕ) → IsKind (count_at line) (λ n. (1 ≤ n) × (n ≤ bytes_limit)) decimal
 unfolding count_at
 count-kind line = record {
-  keeps = λ w. word_keeps _ (number-kind line) w _
-      (λ n _. cond_keeps _ (nat_le 1 n && nat_le n bytes_limit) _ _
+  keeps = λ w.
+      word_keeps _ (number-kind line) w _ (λ n _.
+      cond_keeps _ (nat_le 1 n && nat_le n bytes_limit) _ _
       (λ test. grind (arith, nat_tests)) (λ _. tt));
-  reads = λ n le.
-      let read = (number-kind line).reads n (omega arith) in
+  spells = λ n le.
+      let same = (number-kind line).spells n (omega (arith, le.1)) in
       let least : nat_le 1 n ≡ true = grind (arith, nat_tests) in
       let most : nat_le n bytes_limit ≡ true = grind (arith, nat_tests) in
-      rw (read, least, most) refl;
-  plain = λ n le. (number-kind line).plain n (omega (arith, le.1));
+      record { plain = same.plain; reads = rw (same.reads, least, most) refl };
 }
 
 -- ---- bytes
@@ -226,51 +230,56 @@ decoded-encode bytes each =
       | inr past ↦ rw (get_or_past bytes i 0 past) (omega arith)
     ])
 
-hex_at-encode : (line : ℕ) (bytes : List ℕ) → All (λ b. b < 256) bytes
-    → hex_at line (encode_lower bytes) ≡ Ok bytes
-unfolding hex_at
-hex_at-encode line bytes each =
-    ap (λ (o : Option (List ℕ)). ok_or o (Hex line))
-    (sym (result_ok-decode_of (encode_lower bytes)) ∙ ap result_ok (decoded-encode bytes each))
-
 hex_digit-plain : (b : ℕ) → is_hex_digit b ≡ true → 33 ≤ b
 hex_digit-plain b h = grind (arith, nat_tests)
 
-hex-plain : (bytes : List ℕ) → 1 ≤ length bytes → All (λ b. b < 256) bytes
-    → IsPlainWord (encode_lower bytes)
-hex-plain bytes some each =
-    let parts = decode_of-ok (encode_lower bytes) bytes (decoded-encode bytes each) in
-    record { some = omega (arith, parts.2); plain = λ k d lt. hex_digit-plain _ (parts.1 k d lt) }
+hex-spells : (line : ℕ) (bytes : List ℕ) → 1 ≤ length bytes → All (λ b. b < 256) bytes
+    → Spells (hex_at line) (encode_lower bytes) bytes
+unfolding hex_at
+hex-spells line bytes some each =
+    let decodes = decoded-encode bytes each in
+    let parts = decode_of-ok (encode_lower bytes) bytes decodes in
+    record {
+      plain = record {
+        some = omega (arith, parts.2);
+        plain = λ k d lt. hex_digit-plain _ (parts.1 k d lt);
+      };
+      reads =
+          ap (λ (o : Option (List ℕ)). ok_or o (Hex line))
+          (sym (result_ok-decode_of (encode_lower bytes)) ∙ ap result_ok decodes);
+    }
 
 pub new-kind : (line : ℕ) → IsKind (new_at line) IsBytes encode_lower
 unfolding new_at
 new-kind line = record {
-  keeps = λ w. then_keeps _ _ (hex_at line w) _ (hex_at-keeps line w) (λ bytes each.
+  keeps = λ w.
+      then_keeps _ _ (hex_at line w) _ (hex_at-keeps line w) (λ bytes each.
       cond_keeps _ (nat_le 1 (length bytes) && nat_le (length bytes) bytes_limit) _ _ (λ test.
-      record { some = grind (arith, nat_tests); most = grind (arith, nat_tests); each = each }) (λ _. tt));
-  reads = λ bytes fits.
-      let read = hex_at-encode line bytes fits.each in
+      record { some = grind (arith, nat_tests); most = grind (arith, nat_tests); each = each })
+      (λ _. tt));
+  spells = λ bytes fits.
       let some = fits.some in
       let few = fits.most in
+      let hex = hex-spells line bytes some fits.each in
       let least : nat_le 1 (length bytes) ≡ true = grind (arith, nat_tests) in
       let most : nat_le (length bytes) bytes_limit ≡ true = grind (arith, nat_tests) in
-      rw (read, least, most) refl;
-  plain = λ bytes fits. hex-plain bytes fits.some fits.each;
+      record { plain = hex.plain; reads = rw (hex.reads, least, most) refl };
 }
 
 pub old-kind : (line : ℕ) (new : List ℕ) → IsBytes new
     → IsKind (old_at line new) (λ old. IsBytes old × (length old ≡ length new)) encode_lower
 unfolding old_at
 old-kind line new fit = record {
-  keeps = λ w. then_keeps _ _ (hex_at line w) _ (hex_at-keeps line w) (λ bytes each.
+  keeps = λ w.
+      then_keeps _ _ (hex_at line w) _ (hex_at-keeps line w) (λ bytes each.
       cond_keeps _ (length bytes == length new) _ _ (λ test.
-      let same : length bytes ≡ length new = eqb-true _ _ test in (
-        record { some = omega (arith, fit.some); most = omega (arith, fit.most); each = each },
-        same,
-      )) (λ _. tt));
-  reads = λ bytes fits.
-      rw (hex_at-encode line bytes fits.0.each, eq-eqb _ _ fits.1) refl;
-  plain = λ bytes fits. hex-plain bytes fits.0.some fits.0.each;
+      let same : length bytes ≡ length new = eqb-true _ _ test in
+      let some : 1 ≤ length bytes = omega (arith, fit.some) in
+      let few : length bytes ≤ bytes_limit = omega (arith, fit.most) in
+      (record { some = some; most = few; each = each }, same)) (λ _. tt));
+  spells = λ bytes fits.
+      let hex = hex-spells line bytes fits.0.some fits.0.each in
+      record { plain = hex.plain; reads = rw (hex.reads, eq-eqb _ _ fits.1) refl };
 }
 
 one_byte : (v : ℕ) → v < 256 → All (λ b. b < 256) (v ∷ [])
@@ -285,10 +294,9 @@ pub byte-kind : (line : ℕ) → IsKind (byte_at line) (λ v. v < 256) (λ v. en
 unfolding byte_at
 byte-kind line = record {
   keeps = λ w. then_keeps _ _ (hex_at line w) _ (hex_at-keeps line w) (only_byte-keeps line);
-  reads = λ v lt.
-      ap (λ (r : Result (List ℕ) ScriptFault). r >>= only_byte line)
-      (hex_at-encode line (v ∷ []) (one_byte v lt));
-  plain = λ v lt. hex-plain (v ∷ []) (omega arith) (one_byte v lt);
+  spells = λ v lt.
+      let hex = hex-spells line (v ∷ []) (omega arith) (one_byte v lt) in
+      record { plain = hex.plain; reads = rw hex.reads refl };
 }
 
 -- ---- addresses
@@ -359,7 +367,10 @@ pub address-kind : (line : ℕ) → IsKind (address_at line) IsAddress address_w
 unfolding address_at
 address-kind line = record {
   keeps = λ w. given_keeps _ (address w) (Address line) (address-keeps w);
-  reads = λ bytes fits. rw (address-reads bytes fits) refl;
-  plain = λ bytes fits. subst (λ (bs : List ℕ). IsPlainWord (address_word bs)) (sym fits.are)
-      (plain_bytes (bcd fits.minute) (bcd fits.second) (bcd fits.fraction));
+  spells = λ bytes fits. record {
+    plain =
+        subst (λ (bs : List ℕ). IsPlainWord (address_word bs)) (sym fits.are)
+        (plain_bytes (bcd fits.minute) (bcd fits.second) (bcd fits.fraction));
+    reads = rw (address-reads bytes fits) refl;
+  };
 }

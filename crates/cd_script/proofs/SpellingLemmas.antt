@@ -40,79 +40,52 @@ edit_words-spelled : (version : Version) (line b o : ℕ) (e : Edit) → b ≤ n
     → o ≤ offset_limit → IsEditAt o e → has_form version e ≡ true → IsSpelled version line b o e
 unfolding patch_by patch_at put_at put_where_at fill_at rebuild_at readdress_at edit_words
 edit_words-spelled version line b o (Put bytes None) hb ho fits form =
-    let block = number-kind line in
-    let offset = offset-kind line in
-    let new = new-kind line in
+    let block = (number-kind line).spells b hb in
+    let offset = (offset-kind line).spells o ho in
+    let new = (new-kind line).spells bytes fits.0 in
     record {
-      words = (
-        plain_word (codes "set") refl,
-        (
-          block.plain b hb,
-          (
-            offset.plain o ho,
-            (new.plain bytes fits.0, tt),
-          ),
-        ),
-      );
+      words = assumption (plain_word (codes "set") refl);
       patch = refl;
-      reads = old_verb version line _ refl
-          ∙ rw (block.reads b hb, offset.reads o ho, new.reads bytes fits.0) refl;
+      reads = old_verb version line _ refl ∙ rw (block.reads, offset.reads, new.reads) refl;
     }
 edit_words-spelled version line b o (Put bytes (Some old)) hb ho fits form =
-    let block = number-kind line in
-    let offset = offset-kind line in
-    let new = new-kind line in
-    let was = old-kind line bytes fits.0 in
+    let block = (number-kind line).spells b hb in
+    let offset = (offset-kind line).spells o ho in
+    let new = (new-kind line).spells bytes fits.0 in
+    let were = (old-kind line bytes fits.0).spells old fits.1 in
     record {
-      words = (
-        plain_word (codes "set") refl,
-        (
-          block.plain b hb,
-          (
-            offset.plain o ho,
-            (new.plain bytes fits.0, (plain_word (codes "was") refl, (was.plain old fits.1, tt))),
-          ),
-        ),
-      );
+      words = assumption (plain_word (codes "set") refl, plain_word (codes "was") refl);
       patch = refl;
-      reads = old_verb version line _ refl
-          ∙ rw (block.reads b hb, offset.reads o ho, new.reads bytes fits.0, was.reads old fits.1) refl;
+      reads =
+          old_verb version line _ refl
+          ∙ rw (block.reads, offset.reads, new.reads, were.reads) refl;
     }
 edit_words-spelled version line b o (Fill n v) hb ho fits form =
-    let block = number-kind line in
-    let offset = offset-kind line in
-    let count = count-kind line in
-    let byte = byte-kind line in
+    let block = (number-kind line).spells b hb in
+    let offset = (offset-kind line).spells o ho in
+    let count = (count-kind line).spells n (fits.0, fits.1) in
+    let byte = (byte-kind line).spells v fits.2 in
     record {
-      words = (
-        plain_word (codes "fill") refl,
-        (
-          block.plain b hb,
-          (
-            offset.plain o ho,
-            (count.plain n (fits.0, fits.1), (byte.plain v fits.2, tt)),
-          ),
-        ),
-      );
+      words = assumption (plain_word (codes "fill") refl);
       patch = refl;
-      reads = old_verb version line _ refl
-          ∙ rw (block.reads b hb, offset.reads o ho, count.reads n (fits.0, fits.1), byte.reads v fits.2) refl;
+      reads =
+          old_verb version line _ refl
+          ∙ rw (block.reads, offset.reads, count.reads, byte.reads) refl;
     }
 edit_words-spelled version line b o Rebuild hb ho fits form =
-    let block = number-kind line in
+    let block = (number-kind line).spells b hb in
     record {
-      words = (plain_word (codes "rebuild") refl, (block.plain b hb, tt));
+      words = assumption (plain_word (codes "rebuild") refl);
       patch = refl;
-      reads = old_verb version line _ refl
-          ∙ rw (block.reads b hb, fits) refl;
+      reads = old_verb version line _ refl ∙ rw (block.reads, fits) refl;
     }
 edit_words-spelled Two line b o (Address bytes) hb ho fits form =
-    let block = number-kind line in
-    let address = address-kind line in
+    let block = (number-kind line).spells b hb in
+    let address = (address-kind line).spells bytes fits.1 in
     record {
-      words = (plain_word (codes "address") refl, (block.plain b hb, (address.plain bytes fits.1, tt)));
+      words = assumption (plain_word (codes "address") refl);
       patch = refl;
-      reads = rw (block.reads b hb, address.reads bytes fits.1, fits.0) refl;
+      reads = rw (block.reads, address.reads, fits.0) refl;
     }
 edit_words-spelled One line b o (Address bytes) hb ho fits form = absurd cc
 

@@ -1,10 +1,5 @@
 -- The first seven words say all that the words of a line say.
-use Rattle.std.proofs.Common.{◌≡◌, ℕ, List, [], ◌∷◌, take, Result, refl, ap, ◌∙◌}
-use Rattle.std.specs.Prelude.{codes, cond, Err}
-use Rattle.std.specs.Str.{bytes_eq}
-use Rattle.cd_script.specs.declared.fault.ScriptFault.{ScriptFault}
-use Rattle.cd_script.specs.declared.fault.ScriptFault.TheVariants.{Verb}
-use Rattle.cd_script.specs.declared.patch.Patch.{Patch}
+use Rattle.std.proofs.Common.{◌≡◌, ℕ, List, [], ◌∷◌, take, refl}
 use Rattle.cd_script.specs.declared.version.Version.{Version}
 use Rattle.cd_script.specs.declared.version.Version.TheVariants.{One, Two}
 use Rattle.cd_script.specs.Line.{set_line, fill_line, rebuild_line, address_line, patch_at, patch_by}
@@ -43,20 +38,7 @@ patch_at-take : (line : ℕ) (ws : List (List ℕ)) → patch_at line (take 7 ws
 unfolding patch_at
 patch_at-take line [] = refl
 patch_at-take line (verb ∷ ws) =
-    ap (λ (r : Result Patch ScriptFault).
-    cond (bytes_eq verb (codes "set")) r
-    (cond (bytes_eq verb (codes "fill")) (fill_line line (take 6 ws))
-    (cond (bytes_eq verb (codes "rebuild")) (rebuild_line line (take 6 ws)) (Err (Verb line)))))
-    (set_line-take line ws)
-    ∙ ap (λ (r : Result Patch ScriptFault).
-    cond (bytes_eq verb (codes "set")) (set_line line ws)
-    (cond (bytes_eq verb (codes "fill")) r
-    (cond (bytes_eq verb (codes "rebuild")) (rebuild_line line (take 6 ws)) (Err (Verb line)))))
-    (fill_line-take line ws)
-    ∙ ap (λ (r : Result Patch ScriptFault).
-    cond (bytes_eq verb (codes "set")) (set_line line ws)
-    (cond (bytes_eq verb (codes "fill")) (fill_line line ws)
-    (cond (bytes_eq verb (codes "rebuild")) r (Err (Verb line))))) (rebuild_line-take line ws)
+    rw (set_line-take line ws, fill_line-take line ws, rebuild_line-take line ws) refl
 
 pub patch_by-take : (version : Version) (line : ℕ) (ws : List (List ℕ))
     → patch_by version line (take 7 ws) ≡ patch_by version line ws
@@ -64,9 +46,4 @@ unfolding patch_by
 patch_by-take One line ws = patch_at-take line ws
 patch_by-take Two line [] = refl
 patch_by-take Two line (verb ∷ ws) =
-    ap (λ (r : Result Patch ScriptFault).
-    cond (bytes_eq verb (codes "address")) r (patch_at line (take 7 (verb ∷ ws))))
-    (address_line-take line ws)
-    ∙ ap (λ (r : Result Patch ScriptFault).
-    cond (bytes_eq verb (codes "address")) (address_line line ws) r)
-    (patch_at-take line (verb ∷ ws))
+    rw (address_line-take line ws, patch_at-take line (verb ∷ ws)) refl
