@@ -1,20 +1,18 @@
 -- The kinds of words: what is read of a word keeps to the limits of its kind, and what keeps to them
 -- is spelled by a word that is read as it.
-use Rattle.std.proofs.Common.{◌≡◌, ℕ, suc, ◌+◌, ◌-◌, ◌*◌, ◌/◌, ◌%◌, ◌^◌, ◌<◌, ◌≤◌, Bool, true, false, cond, List, [], ◌∷◌, length, get_or, Option, Some, None, Result, Ok, Err, refl, subst, sym, ap, ◌∙◌, arith, inl, inr}
+use Rattle.std.proofs.Common.{◌≡◌, ℕ, ◌+◌, ◌-◌, ◌*◌, ◌/◌, ◌%◌, ◌<◌, ◌≤◌, Bool, true, false, cond, List, [], ◌∷◌, length, get_or, Option, Some, None, Result, Ok, Err, refl, subst, sym, ap, ◌∙◌, arith, rules, inl, inr}
 use Rattle.std.specs.Prelude.{All, fold, option_and_then, nat_lt, ok_or, nat_le, ◌==◌, ◌&&◌, IfOk, IfSome}
-use Rattle.std.specs.Char.{is_ascii_digit, digit_value}
+use Rattle.std.specs.Char.{is_ascii_digit}
 use Rattle.std.specs.Fmt.{decimal}
 use Rattle.std.specs.List.{list_all}
 use Rattle.std.specs.Result.{result_ok}
-use Rattle.std.specs.Str.Parse.{AllDigits, digits_value_after}
-use Rattle.std.specs.Cmp.Derive.{both_true}
 use Rattle.std.proofs.lemmas.Bool.{and_parts, cases_lt, leb-true, eqb-true, eq-eqb}
 use Rattle.std.proofs.lemmas.Bool.Decides.{nat_tests}
-use Rattle.std.proofs.lemmas.Fmt.{decimal_is_IsNumeral, length-decimal-le}
+use Rattle.std.proofs.lemmas.Fmt.{decimal_is_IsNumeral, digits_decimal, digits_value-decimal, length-decimal-le}
+use Rattle.std.proofs.lemmas.Str.Parse.{IsNumeralModel, digits_value_short, numerals_by_fold}
 use Rattle.std.proofs.lemmas.List.{get_or_default, get_or_past}
 use Rattle.std.proofs.lemmas.List.Elements.{All-nil, All-cons}
 use Rattle.std.proofs.lemmas.List.Sums.{AllPass-from_list_all}
-use Rattle.std.proofs.Math.Nat.{pow-le-pow_right, mul-le-mul_right}
 use Rattle.hex.specs.Hex.{decode_of, encode_lower, is_hex_digit}
 use Rattle.hex.proofs.HexLemmas.{decode_of-encode_lower, decode_of-ok}
 use Rattle.cd_script.specs.declared.fault.ScriptFault.{ScriptFault}
@@ -105,61 +103,21 @@ word_keeps {V} {B} {read} {Fits} Q kind w f next =
 
 -- ---- numbers
 
-is_digit-most : (b : ℕ) → is_ascii_digit b ≡ true → b ≤ 57
-is_digit-most b e = grind (arith, nat_tests)
-
--- the value of digits after the value a
-digits-below : (a : ℕ) (w : List ℕ) → list_all is_ascii_digit w ≡ true
-    → fold (λ n b. 10 * n + (b - 48)) a w < (a + 1) * 10 ^ length w
-digits-below a [] digits = omega arith
-digits-below a (b ∷ w) digits =
-    let parts = and_parts (is_ascii_digit b) (list_all is_ascii_digit w) digits in
-    let digit : b ≤ 57 = is_digit-most b parts.0 in
-    let ih = digits-below (10 * a + (b - 48)) w parts.1 in
-    let top : (10 * a + (b - 48) + 1) * 10 ^ length w ≤ (10 * (a + 1)) * 10 ^ length w =
-    mul-le-mul_right (10 ^ length w) (omega arith) in
-    let wide : 10 ^ suc (length w) ≡ 10 * 10 ^ length w = omega arith in
-    rw wide (omega arith)
+digits : IsNumeralModel (λ w. list_all is_ascii_digit w ≡ true) digits_value
+digits =
+    numerals_by_fold _ (search rules) (λ n w. fold (λ n b. 10 * n + (b - 48)) n w) (search rules)
 
 number-keeps : (w : List ℕ) → IfSome (number w) (λ n. n ≤ number_limit)
 unfolding number
 number-keeps w =
     some_keeps _ (nat_le 1 (length w) && nat_le (length w) digit_limit && list_all is_ascii_digit w)
     _ (λ test.
-    let outer =
+    let parts =
     and_parts (nat_le 1 (length w) && nat_le (length w) digit_limit)
     (list_all is_ascii_digit w) test in
-    let inner = and_parts (nat_le 1 (length w)) (nat_le (length w) digit_limit) outer.0 in
-    let short : length w ≤ digit_limit = leb-true (length w) digit_limit inner.1 in
-    let below : digits_value w < 1 * 10 ^ length w = digits-below 0 w outer.1 in
-    let most : 10 ^ length w ≤ 10 ^ digit_limit =
-    pow-le-pow_right {n = 10} (omega arith) {i = length w} {j = digit_limit} short in
+    let few : length w ≤ digit_limit = grind (arith, nat_tests, parts.0) in
+    let below = digits_value_short digits w digit_limit parts.1 few in
     omega arith)
-
--- a decimal digit
-digit-lies : (b : ℕ) → digit_value b < 10 → (48 ≤ b) × (b ≤ 57)
-digit-lies b h = (grind (arith, nat_tests), grind (arith, nat_tests))
-
-digit-is : (b : ℕ) → 48 ≤ b → b ≤ 57 → digit_value b ≡ b - 48
-digit-is b low high = grind (arith, nat_tests)
-
-is_digit : (b : ℕ) → 48 ≤ b → b ≤ 57 → is_ascii_digit b ≡ true
-is_digit b low high = grind (arith, nat_tests)
-
-digits-fold : (a : ℕ) (w : List ℕ) → AllDigits 10 w
-    → fold (λ n b. 10 * n + (b - 48)) a w ≡ digits_value_after 10 a w
-digits-fold a [] h = refl
-digits-fold a (b ∷ w) h =
-    let lies = digit-lies b h.0 in
-    let is = digit-is b lies.0 lies.1 in
-    let same : 10 * a + (b - 48) ≡ a * 10 + digit_value b = omega (arith, is) in
-    ap (λ (n : ℕ). fold (λ n b. 10 * n + (b - 48)) n w) same
-    ∙ digits-fold (a * 10 + digit_value b) w h.1
-
-digits-all : (w : List ℕ) → AllDigits 10 w → list_all is_ascii_digit w ≡ true
-digits-all [] h = refl
-digits-all (b ∷ w) h =
-    let lies = digit-lies b h.0 in both_true (is_digit b lies.0 lies.1) (digits-all w h.1)
 
 digit-plain : (b : ℕ) → is_ascii_digit b ≡ true → 33 ≤ b
 digit-plain b e = grind (arith, nat_tests)
@@ -169,20 +127,19 @@ unfolding number_at number
 number-kind line = record {
   keeps = λ w. given_keeps _ (number w) (Number line) (number-keeps w);
   spells = λ n le.
-      let numeral = decimal_is_IsNumeral n (omega arith) in
-      let some : 1 ≤ length (decimal n) = omega (arith, numeral.0.0) in
+      let some = (decimal_is_IsNumeral n (omega arith)).0.0 in
       let few = length-decimal-le digit_limit n (omega arith) (omega arith) (omega arith) in
-      let digits = digits-all (decimal n) numeral.0.1 in
+      let all = digits_decimal digits n (omega arith) in
+      let value = digits_value-decimal digits n (omega arith) in
       let least : nat_le 1 (length (decimal n)) ≡ true = grind (arith, nat_tests) in
       let most : nat_le (length (decimal n)) digit_limit ≡ true = grind (arith, nat_tests) in
-      let value = digits-fold 0 (decimal n) numeral.0.1 ∙ numeral.1 in
       record {
         plain = record {
           some = some;
           plain = λ k d lt.
-              digit-plain _ (AllPass-from_list_all is_ascii_digit (decimal n) digits k d lt);
+              digit-plain _ (AllPass-from_list_all is_ascii_digit (decimal n) all k d lt);
         };
-        reads = rw (least, most, digits, value) refl;
+        reads = rw (least, most, all, value) refl;
       };
 }
 
@@ -332,6 +289,9 @@ unfolding address
 address-keeps (m ∷ n ∷ c ∷ s ∷ t ∷ d ∷ f ∷ g ∷ []) =
     some_keeps _ (c == 58 && d == 58) _ (λ _. header_bytes-keeps m n s t f g)
 address-keeps _ = tt
+
+is_digit : (b : ℕ) → 48 ≤ b → b ≤ 57 → is_ascii_digit b ≡ true
+is_digit b low high = grind (arith, nat_tests)
 
 bcd_below-digits : (limit n : ℕ) → n < limit → limit ≤ minute_limit
     → bcd_below limit (high_digit (bcd n)) (low_digit (bcd n)) ≡ Some (bcd n)
