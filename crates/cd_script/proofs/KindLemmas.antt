@@ -1,12 +1,12 @@
--- The kinds of words: what is read of a word keeps to the limits of its kind, and what keeps to them
--- is spelled by a word that is read as it.
-use Rattle.std.proofs.Common.{◌≡◌, ℕ, ◌+◌, ◌-◌, ◌*◌, ◌/◌, ◌%◌, ◌<◌, ◌≤◌, Bool, true, false, cond, List, [], ◌∷◌, length, get_or, Option, Some, None, Result, Ok, Err, refl, subst, sym, ap, ◌∙◌, arith, rules, inl, inr}
+-- The kinds of words: what is read of a word keeps to the limits of its kind, and a value that keeps
+-- to them is spelled by a word that is read as it.
+use Rattle.std.proofs.Common.{◌≡◌, ℕ, ◌+◌, ◌-◌, ◌*◌, ◌<◌, ◌≤◌, Bool, true, false, cond, List, [], ◌∷◌, length, get_or, Option, Some, None, Result, Ok, Err, refl, subst, sym, ap, ◌∙◌, arith, rules}
 use Rattle.std.specs.Prelude.{All, fold, option_and_then, nat_lt, ok_or, nat_le, ◌==◌, ◌&&◌, IfOk, IfSome}
 use Rattle.std.specs.Char.{is_ascii_digit}
 use Rattle.std.specs.Fmt.{decimal}
 use Rattle.std.specs.List.{list_all}
 use Rattle.std.specs.Result.{result_ok}
-use Rattle.std.proofs.lemmas.Bool.{and_parts, cases_lt, leb-true, eqb-true, eq-eqb}
+use Rattle.std.proofs.lemmas.Bool.{and_parts, leb-true, le-leb, eqb-true, eq-eqb}
 use Rattle.std.proofs.lemmas.Bool.Decides.{nat_tests}
 use Rattle.std.proofs.lemmas.Fmt.{decimal_is_IsNumeral, digits_decimal, digits_value-decimal, length-decimal-le}
 use Rattle.std.proofs.lemmas.Str.Parse.{IsNumeralModel, digits_value_short, numerals_by_fold}
@@ -109,15 +109,7 @@ digits =
 
 number-keeps : (w : List ℕ) → IfSome (number w) (λ n. n ≤ number_limit)
 unfolding number
-number-keeps w =
-    some_keeps _ (nat_le 1 (length w) && nat_le (length w) digit_limit && list_all is_ascii_digit w)
-    _ (λ test.
-    let parts =
-    and_parts (nat_le 1 (length w) && nat_le (length w) digit_limit)
-    (list_all is_ascii_digit w) test in
-    let few : length w ≤ digit_limit = grind (arith, nat_tests, parts.0) in
-    let below = digits_value_short digits w digit_limit parts.1 few in
-    omega arith)
+number-keeps w = grind (arith, nat_tests, digits_value_short digits w digit_limit)
 
 digit-plain : (b : ℕ) → is_ascii_digit b ≡ true → 33 ≤ b
 digit-plain b e = grind (arith, nat_tests)
@@ -131,42 +123,32 @@ number-kind line = record {
       let few = length-decimal-le digit_limit n (omega arith) (omega arith) (omega arith) in
       let all = digits_decimal digits n (omega arith) in
       let value = digits_value-decimal digits n (omega arith) in
-      let least : nat_le 1 (length (decimal n)) ≡ true = grind (arith, nat_tests) in
-      let most : nat_le (length (decimal n)) digit_limit ≡ true = grind (arith, nat_tests) in
       record {
         plain = record {
           some = some;
           plain = λ k d lt.
               digit-plain _ (AllPass-from_list_all is_ascii_digit (decimal n) all k d lt);
         };
-        reads = rw (least, most, all, value) refl;
+        reads = rw (le-leb _ _ some, le-leb _ _ few, all, value) refl;
       };
 }
 
 pub offset-kind : (line : ℕ) → IsKind (offset_at line) (λ n. n ≤ offset_limit) decimal
 unfolding offset_at
 offset-kind line = record {
-  keeps = λ w.
-      word_keeps _ (number-kind line) w _ (λ n _.
-      cond_keeps _ (nat_le n offset_limit) _ _ (λ test. grind (arith, nat_tests)) (λ _. tt));
+  keeps = λ w. grind (arith, nat_tests, (number-kind line).keeps w);
   spells = λ n le.
       let same = (number-kind line).spells n (omega arith) in
-      let most : nat_le n offset_limit ≡ true = grind (arith, nat_tests) in
-      record { plain = same.plain; reads = rw (same.reads, most) refl };
+      record { plain = same.plain; reads = rw (same.reads, le-leb _ _ le) refl };
 }
 
 pub count-kind : (line : ℕ) → IsKind (count_at line) (λ n. (1 ≤ n) × (n ≤ bytes_limit)) decimal
 unfolding count_at
 count-kind line = record {
-  keeps = λ w.
-      word_keeps _ (number-kind line) w _ (λ n _.
-      cond_keeps _ (nat_le 1 n && nat_le n bytes_limit) _ _
-      (λ test. grind (arith, nat_tests)) (λ _. tt));
+  keeps = λ w. grind (arith, nat_tests, (number-kind line).keeps w);
   spells = λ n le.
       let same = (number-kind line).spells n (omega (arith, le.1)) in
-      let least : nat_le 1 n ≡ true = grind (arith, nat_tests) in
-      let most : nat_le n bytes_limit ≡ true = grind (arith, nat_tests) in
-      record { plain = same.plain; reads = rw (same.reads, least, most) refl };
+      record { plain = same.plain; reads = rw (same.reads, le-leb _ _ le.0, le-leb _ _ le.1) refl };
 }
 
 -- ---- bytes
@@ -181,11 +163,7 @@ hex_at-keeps line w = given_keeps _ (hex_bytes w) (Hex line) (some_if (hex_bytes
 decoded-encode : (bytes : List ℕ) → All (λ b. b < 256) bytes
     → decode_of (encode_lower bytes) ≡ Ok bytes
 decoded-encode bytes each =
-    decode_of-encode_lower bytes (λ i.
-    elim (cases_lt i (length bytes)) [
-      | inl lt ↦ each i 0 lt
-      | inr past ↦ rw (get_or_past bytes i 0 past) (omega arith)
-    ])
+    decode_of-encode_lower bytes (λ i. grind (arith, each i 0, get_or_past bytes i 0))
 
 hex_digit-plain : (b : ℕ) → is_hex_digit b ≡ true → 33 ≤ b
 hex_digit-plain b h = grind (arith, nat_tests)
@@ -215,12 +193,11 @@ new-kind line = record {
       record { some = grind (arith, nat_tests); most = grind (arith, nat_tests); each = each })
       (λ _. tt));
   spells = λ bytes fits.
-      let some = fits.some in
-      let few = fits.most in
-      let hex = hex-spells line bytes some fits.each in
-      let least : nat_le 1 (length bytes) ≡ true = grind (arith, nat_tests) in
-      let most : nat_le (length bytes) bytes_limit ≡ true = grind (arith, nat_tests) in
-      record { plain = hex.plain; reads = rw (hex.reads, least, most) refl };
+      let hex = hex-spells line bytes fits.some fits.each in
+      record {
+        plain = hex.plain;
+        reads = rw (hex.reads, le-leb _ _ fits.some, le-leb _ _ fits.most) refl;
+      };
 }
 
 pub old-kind : (line : ℕ) (new : List ℕ) → IsBytes new
@@ -244,8 +221,7 @@ one_byte v lt = All-cons (λ b. b < 256) v [] lt (All-nil (λ b. b < 256))
 
 only_byte-keeps : (line : ℕ) (bytes : List ℕ) → All (λ b. b < 256) bytes
     → IfOk (only_byte line bytes) (λ v. v < 256)
-only_byte-keeps line (b ∷ []) each = each 0 0 (omega arith)
-only_byte-keeps line _ each = tt
+only_byte-keeps line bytes each = grind (arith, each 0 0)
 
 pub byte-kind : (line : ℕ) → IsKind (byte_at line) (λ v. v < 256) (λ v. encode_lower (v ∷ []))
 unfolding byte_at
@@ -286,9 +262,7 @@ header_bytes-keeps m n s t f g =
 
 address-keeps : (word : List ℕ) → IfSome (address word) IsAddress
 unfolding address
-address-keeps (m ∷ n ∷ c ∷ s ∷ t ∷ d ∷ f ∷ g ∷ []) =
-    some_keeps _ (c == 58 && d == 58) _ (λ _. header_bytes-keeps m n s t f g)
-address-keeps _ = tt
+address-keeps word = grind (arith, header_bytes-keeps)
 
 is_digit : (b : ℕ) → 48 ≤ b → b ≤ 57 → is_ascii_digit b ≡ true
 is_digit b low high = grind (arith, nat_tests)
@@ -296,15 +270,7 @@ is_digit b low high = grind (arith, nat_tests)
 bcd_below-digits : (limit n : ℕ) → n < limit → limit ≤ minute_limit
     → bcd_below limit (high_digit (bcd n)) (low_digit (bcd n)) ≡ Some (bcd n)
 unfolding bcd_below
-bcd_below-digits limit n lt most =
-    let high : high_digit (bcd n) ≡ 48 + n / 10 = omega arith in
-    let low : low_digit (bcd n) ≡ 48 + n % 10 = omega arith in
-    let value : digits_value (high_digit (bcd n) ∷ low_digit (bcd n) ∷ []) ≡ n =
-    omega (arith, high, low) in
-    let first = is_digit (high_digit (bcd n)) (omega (arith, high)) (omega (arith, high)) in
-    let second = is_digit (low_digit (bcd n)) (omega (arith, low)) (omega (arith, low)) in
-    let below : nat_lt n limit ≡ true = grind (arith, nat_tests) in
-    rw (first, second, value, below) refl
+bcd_below-digits limit n lt most = grind (arith, nat_tests)
 
 address-reads : (bytes : List ℕ) → IsAddress bytes → address (address_word bytes) ≡ Some bytes
 unfolding address address_word header_bytes

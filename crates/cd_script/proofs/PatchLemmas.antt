@@ -1,82 +1,69 @@
 -- What is read keeps to what a patch keeps to.
 use Rattle.std.proofs.Common.{◌≡◌, ℕ, ◌+◌, ◌<◌, ◌≤◌, List, [], ◌∷◌, length, Option, Some, None, Ok, refl, arith}
-use Rattle.std.specs.Prelude.{All, nat_le, codes, IfOk, IfSome}
+use Rattle.std.specs.Prelude.{All, IfOk, IfSome}
 use Rattle.std.specs.List.{cons_option}
 use Rattle.std.specs.Option.{option_to_list}
-use Rattle.std.specs.Str.{bytes_eq}
 use Rattle.std.proofs.lemmas.Bool.Decides.{nat_tests}
 use Rattle.std.proofs.lemmas.List.Elements.{All-nil, All-cons}
 use Rattle.std.proofs.lemmas.Result.{IfOk-at_ok}
 use Rattle.cd_script.specs.declared.patch.Patch.{Patch}
 use Rattle.cd_script.specs.declared.version.Version.{Version}
-use Rattle.cd_script.specs.declared.version.Version.TheVariants.{One, Two}
 use Rattle.cd_script.specs.Limits.{patch_limit}
-use Rattle.cd_script.specs.Line.{put_at, put_where_at, fill_at, rebuild_at, readdress_at, set_line, fill_line, rebuild_line, address_line, patch_at, patch_by}
+use Rattle.cd_script.specs.Line.{put_at, put_where_at, fill_at, rebuild_at, readdress_at, patch_at, patch_by}
 use Rattle.cd_script.specs.Patch.{IsPatch}
 use Rattle.cd_script.specs.Script.{is_passed_over, head_version, line_at, patches_behind, patches_from, script_from}
 use Rattle.cd_script.specs.Words.{words}
 use Rattle.cd_script.proofs.KindLemmas.{address-kind, byte-kind, cond_keeps, count-kind, new-kind, number-kind, offset-kind, old-kind, then_keeps, word_keeps}
 
--- ---- the forms
+-- ---- the forms, word by word
 
-set_line-patch : (line : ℕ) (ws : List (List ℕ)) → IfOk (set_line line ws) IsPatch
-unfolding put_at put_where_at
-set_line-patch line (block ∷ offset ∷ new ∷ []) =
+put_at-patch : (line : ℕ) (block offset new : List ℕ) → IfOk (put_at line block offset new) IsPatch
+unfolding put_at
+put_at-patch line block offset new =
     word_keeps IsPatch (number-kind line) block _ (λ b at.
     word_keeps IsPatch (offset-kind line) offset _ (λ o from.
     word_keeps IsPatch (new-kind line) new _ (λ bytes fit.
     record { block = at; offset = from; edit = (fit, tt) })))
-set_line-patch line (block ∷ offset ∷ new ∷ was ∷ old ∷ []) =
-    cond_keeps IsPatch (bytes_eq was (codes "was")) _ _ (λ _.
+
+put_where_at-patch : (line : ℕ) (block offset new old : List ℕ)
+    → IfOk (put_where_at line block offset new old) IsPatch
+unfolding put_where_at
+put_where_at-patch line block offset new old =
     word_keeps IsPatch (number-kind line) block _ (λ b at.
     word_keeps IsPatch (offset-kind line) offset _ (λ o from.
     word_keeps IsPatch (new-kind line) new _ (λ bytes fit.
     word_keeps IsPatch (old-kind line bytes fit) old _ (λ were fits.
-    record { block = at; offset = from; edit = (fit, fits) }))))) (λ _. tt)
-set_line-patch line _ = tt
+    record { block = at; offset = from; edit = (fit, fits) }))))
 
-fill_line-patch : (line : ℕ) (ws : List (List ℕ)) → IfOk (fill_line line ws) IsPatch
+fill_at-patch : (line : ℕ) (block offset count byte : List ℕ)
+    → IfOk (fill_at line block offset count byte) IsPatch
 unfolding fill_at
-fill_line-patch line (block ∷ offset ∷ count ∷ byte ∷ []) =
+fill_at-patch line block offset count byte =
     word_keeps IsPatch (number-kind line) block _ (λ b at.
     word_keeps IsPatch (offset-kind line) offset _ (λ o from.
     word_keeps IsPatch (count-kind line) count _ (λ n many.
     word_keeps IsPatch (byte-kind line) byte _ (λ v value.
     record { block = at; offset = from; edit = (many.0, many.1, value) }))))
-fill_line-patch line _ = tt
 
-rebuild_line-patch : (line : ℕ) (ws : List (List ℕ)) → IfOk (rebuild_line line ws) IsPatch
+rebuild_at-patch : (line : ℕ) (block : List ℕ) → IfOk (rebuild_at line block) IsPatch
 unfolding rebuild_at
-rebuild_line-patch line (block ∷ []) =
+rebuild_at-patch line block =
     word_keeps IsPatch (number-kind line) block _ (λ b at.
     record { block = at; offset = omega arith; edit = refl })
-rebuild_line-patch line _ = tt
 
-address_line-patch : (line : ℕ) (ws : List (List ℕ)) → IfOk (address_line line ws) IsPatch
+readdress_at-patch : (line : ℕ) (block address : List ℕ)
+    → IfOk (readdress_at line block address) IsPatch
 unfolding readdress_at
-address_line-patch line (block ∷ address ∷ []) =
+readdress_at-patch line block address =
     word_keeps IsPatch (number-kind line) block _ (λ b at.
     word_keeps IsPatch (address-kind line) address _ (λ bcd fit.
     record { block = at; offset = omega arith; edit = (refl, fit) }))
-address_line-patch line _ = tt
-
-patch_at-patch : (line : ℕ) (ws : List (List ℕ)) → IfOk (patch_at line ws) IsPatch
-unfolding patch_at
-patch_at-patch line [] = tt
-patch_at-patch line (verb ∷ ws) =
-    cond_keeps IsPatch (bytes_eq verb (codes "set")) _ _ (λ _. set_line-patch line ws) (λ _.
-    cond_keeps IsPatch (bytes_eq verb (codes "fill")) _ _ (λ _. fill_line-patch line ws) (λ _.
-    cond_keeps IsPatch (bytes_eq verb (codes "rebuild")) _ _ (λ _. rebuild_line-patch line ws) (λ _.
-    tt)))
 
 patch_by-patch : (version : Version) (line : ℕ) (ws : List (List ℕ))
     → IfOk (patch_by version line ws) IsPatch
-unfolding patch_by
-patch_by-patch Two line (verb ∷ ws) =
-    cond_keeps IsPatch (bytes_eq verb (codes "address")) _ _ (λ _. address_line-patch line ws)
-    (λ _. patch_at-patch line (verb ∷ ws))
-patch_by-patch Two line [] = patch_at-patch line []
-patch_by-patch One line ws = patch_at-patch line ws
+unfolding patch_at patch_by
+patch_by-patch version line ws = grind
+    (arith, put_at-patch, put_where_at-patch, fill_at-patch, rebuild_at-patch, readdress_at-patch)
 
 -- ---- the lines
 
@@ -85,11 +72,7 @@ line_at-patch : (version : Version) (line earlier : ℕ) (text : List ℕ)
     (λ found. IfSome found (λ p. IsPatch p × (earlier < patch_limit)))
 unfolding line_at
 line_at-patch version line earlier text =
-    cond_keeps _ (is_passed_over (words text)) _ _ (λ _. tt) (λ _.
-    then_keeps IsPatch _ (patch_by version line (words text)) _
-    (patch_by-patch version line (words text)) (λ p fits.
-    cond_keeps _ (nat_le patch_limit earlier) _ _ (λ _. tt) (λ test.
-    (fits, grind (arith, nat_tests)))))
+    grind (arith, nat_tests, patch_by-patch version line (words text))
 
 -- patches of lines after so many others
 record AreBehind (earlier : ℕ) (ps : List Patch) : Type 0 where
@@ -99,8 +82,7 @@ record AreBehind (earlier : ℕ) (ps : List Patch) : Type 0 where
 room : (earlier : ℕ) (found : Option Patch) → earlier ≤ patch_limit
     → IfSome found (λ p. IsPatch p × (earlier < patch_limit))
     → earlier + length (option_to_list found) ≤ patch_limit
-room earlier None le h = omega arith
-room earlier (Some p) le h = omega (arith, h.1)
+room earlier found le h = grind arith
 
 put_on : (earlier : ℕ) (found : Option Patch) (ps : List Patch)
     → IfSome found (λ p. IsPatch p × (earlier < patch_limit))
