@@ -1,18 +1,16 @@
 -- The first version says what it said before there was a second, and the second extends it.
-use Rattle.std.proofs.Common.{◌≡◌, ◌≢◌, ℕ, ◌+◌, Bool, true, false, cond, List, [], ◌∷◌, length, Option, Some, None, Result, Ok, Err, refl, ap}
-use Rattle.std.specs.Prelude.{All, codes, ◌&&◌}
+use Rattle.std.proofs.Common.{◌≡◌, ◌≢◌, ℕ, ◌+◌, Bool, true, false, cond, List, [], ◌∷◌, length, Option, Some, None, Result, Ok, Err, refl, ap, arith}
+use Rattle.std.specs.Prelude.{All}
 use Rattle.std.specs.List.{cons_option}
 use Rattle.std.specs.Option.{option_to_list}
-use Rattle.std.specs.Str.{bytes_eq}
 use Rattle.std.specs.Str.Lines.{lines}
-use Rattle.std.proofs.lemmas.Bool.{cond-false}
 use Rattle.std.proofs.lemmas.List.Elements.{All-head, All-tail}
 use Rattle.cd_script.specs.declared.fault.ScriptFault.{ScriptFault}
 use Rattle.cd_script.specs.declared.fault.ScriptFault.TheVariants.{Head}
 use Rattle.cd_script.specs.declared.patch.Patch.{Patch}
 use Rattle.cd_script.specs.declared.version.Version.{Version}
 use Rattle.cd_script.specs.declared.version.Version.TheVariants.{One, Two}
-use Rattle.cd_script.specs.Line.{address_line, patch_at, patch_by}
+use Rattle.cd_script.specs.Line.{patch_at, patch_by}
 use Rattle.cd_script.specs.Reading.{◌>>=◌}
 use Rattle.cd_script.specs.Script.{at_limit, head_version, is_passed_over, line_at, patches_behind, patches_from, script, script_from}
 use Rattle.cd_script.specs.Versions.{is_first_head, first_line_at, first_patches_from, first_script_from, first_script, version_of, has_new_verb}
@@ -47,26 +45,12 @@ first-patches line earlier (text ∷ rest) =
     (λ n. patches_from One (line + 1) n rest) (λ n. first_patches_from (line + 1) n rest)
     (λ n. first-patches (line + 1) n rest))
 
-first-named : (name one two : Bool) (line : ℕ) (rest : List (List ℕ))
-    → cond name (cond one (Some One) (cond two (Some Two) None)) None ≢ Some Two
-    → patches_behind line (cond name (cond one (Some One) (cond two (Some Two) None)) None) rest
-    ≡ cond (name && one) (first_patches_from (line + 1) 0 rest) (Err (Head line))
-first-named true true two line rest other = first-patches (line + 1) 0 rest
-first-named true false true line rest other = absurd (other refl)
-first-named true false false line rest other = refl
-first-named false one two line rest other = refl
-
 first-head : (ws : List (List ℕ)) (line : ℕ) (rest : List (List ℕ)) → head_version ws ≢ Some Two
     → patches_behind line (head_version ws) rest
     ≡ cond (is_first_head ws) (first_patches_from (line + 1) 0 rest) (Err (Head line))
-first-head [] line rest other = refl
-first-head (a ∷ []) line rest other = refl
-first-head (a ∷ b ∷ []) line rest other =
-    first-named (bytes_eq a (codes "cdpatch")) (bytes_eq b (codes "1"))
-    (bytes_eq b (codes "2")) line rest other
-first-head (a ∷ b ∷ c ∷ ws) line rest other = refl
+first-head ws line rest other = grind (arith, first-patches)
 
--- behind a line that may be passed over
+-- after a line that may be passed over
 first-behind : (passed : Bool) (below named : Option Version)
     (on on' here here' : Result (List Patch) ScriptFault) → cond passed below named ≢ Some Two
     → (below ≢ Some Two → on ≡ on') → (named ≢ Some Two → here ≡ here')
@@ -89,21 +73,19 @@ first-stays text other = first-script_from 1 (lines text) other
 
 -- ---- the second version
 
-second-patch : (line : ℕ) (ws : List (List ℕ)) → has_new_verb ws ≡ false
-    → patch_by Two line ws ≡ patch_by One line ws
+-- words without the verb of the second version
+pub old_verb : (version : Version) (line : ℕ) (ws : List (List ℕ)) → has_new_verb ws ≡ false
+    → patch_by version line ws ≡ patch_at line ws
 unfolding patch_by
-second-patch line [] old = refl
-second-patch line (verb ∷ ws) old =
-    cond-false (bytes_eq verb (codes "address")) (address_line line ws)
-    (patch_at line (verb ∷ ws)) old
+old_verb version line ws old = grind arith
 
 second-line : (line earlier : ℕ) (text : List ℕ) → has_new_verb (words text) ≡ false
     → line_at Two line earlier text ≡ line_at One line earlier text
-unfolding line_at
+unfolding line_at patch_by
 second-line line earlier text old =
     ap (λ (r : Result Patch ScriptFault).
     cond (is_passed_over (words text)) (Ok None) (r >>= at_limit line earlier))
-    (second-patch line (words text) old)
+    (old_verb Two line (words text) old)
 
 pub second-extends : (line earlier : ℕ) (texts : List (List ℕ))
     → All (λ text. has_new_verb (words text) ≡ false) texts

@@ -1,4 +1,5 @@
 //! The forms of a patch line.
+#![tactic(auto, using(crate::proofs::FormLemmas::forms))]
 
 ghost use Rattle.std.specs.Prelude.{map};
 ghost use Rattle.cd_script.specs.Reading.{Reads};
@@ -154,7 +155,7 @@ fn readdress_of<'a>(line: u32, words: &[&'a [u8]]) -> Result<SpelledPatch<'a>, S
 }
 
 /// The patch that the words of this line spell in version 1.
-#[tactic(auto, unfolding(crate::specs::Line::patch_at))]
+#[tactic(auto, using(crate::proofs::FormLemmas::forms), unfolding(crate::specs::Line::patch_at))]
 fn first_patch_of<'a>(line: u32, words: &[&'a [u8]]) -> Result<SpelledPatch<'a>, ScriptFault>
     ensures { Reads as_patch result (patch_at line (map (λ w. w.now) words.now)) }
 {
@@ -171,7 +172,7 @@ fn first_patch_of<'a>(line: u32, words: &[&'a [u8]]) -> Result<SpelledPatch<'a>,
 
 /// The patch that the words of this line spell. Version 2 has one verb more; everything else passes
 /// on to version 1, whose definition stands as it was.
-#[tactic(auto, unfolding(crate::specs::Line::patch_by))]
+#[tactic(auto, using(crate::proofs::FormLemmas::forms), unfolding(crate::specs::Line::patch_by))]
 pub(crate) fn patch_of<'a>(
     version: Version,
     line: u32,

@@ -66,6 +66,7 @@ impl Script {
 }
 
 /// Whether a line of these words is blank or a comment.
+#[tactic(auto, using(crate::proofs::FormLemmas::forms))]
 fn is_passed_over(words: &[&[u8]]) -> bool
     ensures { result ≡ is_passed_over (map (λ w. w.now) words.now) }
 {
@@ -79,6 +80,7 @@ fn is_passed_over(words: &[&[u8]]) -> bool
 }
 
 /// The version that the second word of a head line names.
+#[tactic(auto, using(crate::proofs::FormLemmas::forms))]
 fn named_version(word: &[u8]) -> Option<Version>
     ensures { result ≡ named_version word.now }
 {
@@ -90,6 +92,7 @@ fn named_version(word: &[u8]) -> Option<Version>
 }
 
 /// The version that the head line names, if a line of these words is one.
+#[tactic(auto, using(crate::proofs::FormLemmas::forms))]
 fn head_version(words: &[&[u8]]) -> Option<Version>
     ensures { result ≡ head_version (map (λ w. w.now) words.now) }
 {
