@@ -1,5 +1,5 @@
 -- One step of a pass, by what its calls have done.
-use Rattle.std.proofs.Common.{◌≡◌, ◌≢◌, ℕ, suc, ◌+◌, ◌-◌, ◌<◌, ◌≤◌, Bool, List, [], ◌∷◌, ◌++◌, length, take, drop, get_or, Option, None, Some, Result, Ok, Err, sym, ap, ◌∙◌, subst, arith, add-one, add-zero, take-append-drop, take_all}
+use Rattle.std.proofs.Common.{◌≡◌, ◌≢◌, ℕ, suc, ◌+◌, ◌<◌, ◌≤◌, Bool, List, [], ◌∷◌, ◌++◌, length, take, drop, get_or, Option, None, Some, Ok, Err, sym, ap, ◌∙◌, subst, arith, add-one, add-zero, take-append-drop}
 use Rattle.std.specs.Prelude.{All}
 use Rattle.std.specs.List.{slice_get}
 use Rattle.std.specs.List.Sorted.{IsNonDecreasingBy}
@@ -118,12 +118,6 @@ strictly_ahead ps d block rising ahead other = λ k e inside.
     let differs : (get_or ps d e).block ≢ block = other (get_or ps d e) (slice_get-get_or ps d e (omega arith)) in
     let rises : (get_or ps d e).block ≤ (get_or ps (d + k) e).block = rising d (d + k) e (omega arith) within in
     omega (arith, ap (λ (p : Patch). p.block) at, ap (λ (p : Patch). p.block) here, first, differs, rises)
-
--- ---- the end
-
--- what holds of the patches after a place holds of a slice from there to the end
-pub Sends-rest : {X E : Type 0} (ps : List Patch) (d : ℕ) (old new : Outgoing) (result : Result X E) → Sends old new (missing_lines (take (length ps - d) (drop d ps))) result → Sends old new (missing_lines (drop d ps)) result
-Sends-rest ps d old new result = subst (λ rest. Sends old new (missing_lines rest) result) (take_all (length ps - d) (drop d ps) (omega (arith, length-drop d ps)))
 
 -- ---- how large the numbers of a pass are
 

@@ -1,5 +1,5 @@
 -- What a pass knows of each run on an image that may be the one that is being read.
-use Rattle.std.proofs.Common.{◌≡◌, ◌≢◌, ℕ, ◌+◌, ◌<◌, ◌≤◌, Bool, List, [], ◌++◌, length, take, drop, Option, None, Some, Result, refl, sym, ap, ◌∙◌, subst, arith, append_assoc, append-nil, length-append, take-append-drop}
+use Rattle.std.proofs.Common.{◌≡◌, ◌≢◌, ℕ, ◌+◌, ◌<◌, ◌≤◌, Bool, List, [], ◌++◌, length, take, drop, Option, None, Some, Result, Ok, Err, IsErrAnd, refl, sym, ap, ◌∙◌, subst, arith, append_assoc, append-nil, length-append, take-append-drop}
 use Rattle.std.specs.Prelude.{All, IsSome}
 use Rattle.std.specs.Io.KnownBytes.{IsAtEnd}
 use Rattle.cd_script.specs.declared.patch.Patch.{Patch}
@@ -87,6 +87,14 @@ applies read sent told result came went logged in_hand answers = record {
   in_hand = in_hand;
   answers = answers;
 }
+
+-- the `?` of a call that fails
+pub Applies-fault : {carry : Bool} {patches : List Patch} {base : ℕ} {old new : Streams} {fault : Fault}
+    {result : Result Tally Fault} → IsErrAnd result (λ f. f ≡ fault)
+    → Applies carry patches base old new (Err fault) → Applies carry patches base old new result
+Applies-fault {result = Ok tally} is applies = elim is [ ]
+Applies-fault {carry} {patches} {base} {old} {new} {result = Err f} is applies =
+    subst (λ f. Applies carry patches base old new (Err f)) (sym is) applies
 
 -- a log that fails before its end: no sink was flushed
 module _ {carry : Bool} {patches : List Patch} {base : ℕ} {read sent told : List ℕ} {old new : Streams} where
