@@ -130,23 +130,13 @@ ended_pass {carry} {taken} {left} {base} {start} {now} {pass} ended g =
     let length_done = length-bytes_of g.done g.done_sizes in
     let cut = cut_of_joined g.seen end g.seen_sizes g.short in
     let cut_done = cut_of_joined g.done end g.done_sizes g.short in
-    let applied : pass.applied ≡ applied_count os =
-    omega (
-      arith,
-      g.counted,
-      count_by-append is_applied g.outcomes missing,
-      applied_count-missing_outcomes left,
-    ) in
+    let both = count_by-append is_applied g.outcomes missing in
+    let none = applied_count-missing_outcomes left in
+    let applied : pass.applied ≡ applied_count os = omega (arith, g.counted) in
+    let all_told = length-append g.outcomes missing ∙ ap (λ n. n + length missing) lengths in
+    let every = length-append taken left in
     let refused : length (taken ++ left) - pass.applied ≡ refused_count os =
-    omega (
-      arith,
-      applied,
-      counts-all os,
-      lengths,
-      length-append g.outcomes missing,
-      length-missing_outcomes left,
-      length-append taken left,
-    ) in
+    omega (arith, counts-all os, length-missing_outcomes left) in
     let ahead : All (λ p. base + length g.seen ≤ p.block) left =
     (λ k d here. let h = g.ahead k d here in omega (arith, h, g.front, as_many)) in
     record {
@@ -266,7 +256,8 @@ module _ {carry : Bool} {ps : List Patch} {base : ℕ} {start now : Streams}
         let rest = lines ++ last_line in
         let whole : log_text ps e.outcomes ≡ (e.told ++ take n rest) ++ drop n rest =
         e.whole_log ∙ rw (append_assoc, take-append-drop n rest) in
-        let less : 0 < length (drop n rest) = omega (arith, length-drop n rest) in
+        let size = length-append (e.told ++ take n rest) (drop n rest) in
+        let left = length-drop n rest in
         applies e.read (e.sent ++ end) (e.told ++ take n rest) (Err Log) e.gives all_sent
         (Takes-trans start.log now.log log _ _ e.logs logged) (omega arith)
         (StopsAtLog-within
@@ -274,12 +265,7 @@ module _ {carry : Bool} {ps : List Patch} {base : ℕ} {start now : Streams}
         (record { outs = omega arith; logs = omega arith }) e.within
         (by_run _ (([], sym (append-nil _)), (drop n rest, whole)))
         (by_run _ (beside (take n rest)))
-        (by_run _ (λ all. absurd (omega (
-          arith,
-          less,
-          ap length (all ∙ whole),
-          length-append (e.told ++ take n rest) (drop n rest),
-        )))))
+        (by_run _ (λ all. absurd (omega (arith, ap length (all ∙ whole))))))
 
     -- in those of the patches that are left
     pub Closes-behind : {Y F : Type 0} {f : F} {log : Outgoing}
