@@ -1,4 +1,4 @@
--- How a call on patches ends before its first read, and behind the last sector of the image.
+-- How a call on patches ends before its first read, and after the last sector of the image.
 use Rattle.std.proofs.Common.{take_all, true, ◌≡◌, ℕ, ◌+◌, ◌-◌, ◌<◌, ◌≤◌, inl, inr, Bool, List, [], ◌++◌, length, take, drop, Ok, Err, refl, sym, ap, ◌∙◌, subst, arith, append_assoc, append-nil, length-append, take-append-drop}
 use Rattle.std.specs.Prelude.{All}
 use Rattle.std.proofs.KnownBytes.{Consumes-nil}
@@ -34,38 +34,61 @@ use Rattle.cd_image.proofs.PatchLogLemmas.{PatchRun-missing, applied_count-missi
 
 -- a tally by its four numbers
 abbrev pub tally : ℕ → ℕ → ℕ → ℕ → Tally
-tally applied refused count left = record { applied = applied; refused = refused; sectors = count; tail = left }
+tally applied refused count left =
+    record { applied = applied; refused = refused; sectors = count; tail = left }
 
--- ---- the log fails before the first read, in the lines of the patches below the image's first block
+-- ---- the log fails before the first read, in the lines of the patches below the first block
 
-module _ (carry : Bool) (below left : List Patch) (base : ℕ) (start : Streams) (log : Outgoing) (under : All (λ p. p.block < base) below) where
+module _ (carry : Bool) (below left : List Patch) (base : ℕ) (start : Streams) (log : Outgoing)
+    (under : All (λ p. p.block < base) below) where
   -- each run begins by refusing these
-  refuses : (os : List Outcome) (whole last : List ℕ) → IsPatched carry (below ++ left) os base whole last → (back : List Outcome) × (os ≡ missing_outcomes below ++ back)
+  refuses : (os : List Outcome) (whole last : List ℕ)
+      → IsPatched carry (below ++ left) os base whole last
+      → (back : List Outcome) × (os ≡ missing_outcomes below ++ back)
   refuses os whole last patched =
-      let split = PatchRun-split carry below left os base (sectors whole) (sectors last) patched.run in
-      let none = PatchRun-missing carry below (sectors whole) base (λ k d inside. inl (under k d inside)) in
-      let same = PatchRun-determined carry below split.0 (missing_outcomes below) base (sectors whole) split.2 (sectors whole) split.4 none in
+      let split =
+      PatchRun-split carry below left os base (sectors whole) (sectors last) patched.run in
+      let none =
+      PatchRun-missing carry below (sectors whole) base (λ k d inside. inl (under k d inside)) in
+      let same =
+      PatchRun-determined carry below split.0 (missing_outcomes below) base (sectors whole) split.2
+      (sectors whole) split.4 none in
       (split.1, split.3 ∙ ap (λ f. f ++ split.1) same.0)
 
-  pub Applies-below : {X E : Type 0} {e : E} → Sends {X = X} {E = E} start.log log (log_lines below (missing_outcomes below)) (Err e)
+  pub Applies-below : {X E : Type 0} {e : E}
+      → Sends {X = X} {E = E} start.log log (log_lines below (missing_outcomes below)) (Err e)
       → Applies carry (below ++ left) base start (record start { log = log }) (Err Log)
   unfolding log_text
   Applies-below fails =
-      applies [] [] (take n (log_lines below (missing_outcomes below))) (Err Log) (record { consumes = Consumes-nil start.image.rest; counted = omega arith }) (Takes-nil start.out) fails.taken.2 (omega arith)
-      (StopsAtLog-within (record { reads = omega arith; writes = omega arith; logs = fails.count }) (record { outs = omega arith; logs = omega (arith, fails.flushes) }) (omega arith)
+      applies [] [] (take n (log_lines below (missing_outcomes below))) (Err Log)
+      (record { consumes = Consumes-nil start.image.rest; counted = omega arith })
+      (Takes-nil start.out) fails.taken.2 (omega arith)
+      (StopsAtLog-within (record { reads = omega arith; writes = omega arith; logs = fails.count })
+      (record { outs = omega arith; logs = omega (arith, fails.flushes) }) (omega arith)
       (λ whole fits os last patched.
       let r = refuses os whole last patched in (
         (last, refl),
-        subst (λ u. IsBeginning (take n (log_lines below (missing_outcomes below))) (log_text (below ++ left) u)) (sym r.1) (told_begins r.0),
+        subst (λ u. IsBeginning (take n (log_lines below (missing_outcomes below)))
+            (log_text (below ++ left) u)) (sym r.1) (told_begins r.0),
       ))
       (λ whole fits os last patched.
       let r = refuses os whole last patched in
-      sym (ap (λ u. sent_beside (below ++ left) u base whole (length (take n (log_lines below (missing_outcomes below))))) r.1
-      ∙ ap (sent_beside (below ++ left) (missing_outcomes below ++ r.0) base whole) (length-take-le n (log_lines below (missing_outcomes below)) (omega (arith, inside)))
-      ∙ sent_beside-alike whole base 0 below left (missing_outcomes below) r.0 n (length-missing_outcomes below) (λ k d here. bytes_before-below whole base _ (under k d here)) inside))
+      sym (ap (λ u. sent_beside (below ++ left) u base whole
+      (length (take n (log_lines below (missing_outcomes below))))) r.1
+      ∙ ap (sent_beside (below ++ left) (missing_outcomes below ++ r.0) base whole)
+      (length-take-le n (log_lines below (missing_outcomes below)) (omega (arith, inside)))
+      ∙ sent_beside-alike whole base 0 below left (missing_outcomes below) r.0 n
+      (length-missing_outcomes below)
+      (λ k d here. bytes_before-below whole base _ (under k d here)) inside))
       (λ whole fits os last patched all.
       let r = refuses os whole last patched in
-      unfinished_log (below ++ left) (missing_outcomes below ++ r.0) (take n (log_lines below (missing_outcomes below))) (omega (arith, length-take-le n (log_lines below (missing_outcomes below)) (omega (arith, inside)), under_all r.0)) (all ∙ ap (log_text (below ++ left)) r.1)))
+      unfinished_log (below ++ left) (missing_outcomes below ++ r.0)
+      (take n (log_lines below (missing_outcomes below)))
+      (omega (
+        arith,
+        length-take-le n (log_lines below (missing_outcomes below)) (omega (arith, inside)),
+        under_all r.0,
+      )) (all ∙ ap (log_text (below ++ left)) r.1)))
     where
       n : ℕ
       n = fails.taken.0
@@ -73,16 +96,30 @@ module _ (carry : Bool) (below left : List Patch) (base : ℕ) (start : Streams)
       inside : n < length (log_lines below (missing_outcomes below))
       inside = fails.taken.1
 
-      under_all : (back : List Outcome) → n < length (log_lines (below ++ left) (missing_outcomes below ++ back))
-      under_all back = let lines = ap length (log_lines-append below left (missing_outcomes below) back (length-missing_outcomes below)) ∙ length-append (log_lines below (missing_outcomes below)) (log_lines left back) in omega (arith, lines, inside)
+      under_all : (back : List Outcome)
+          → n < length (log_lines (below ++ left) (missing_outcomes below ++ back))
+      under_all back =
+          let lines =
+          ap length (log_lines-append below left (missing_outcomes below) back
+          (length-missing_outcomes below))
+          ∙ length-append (log_lines below (missing_outcomes below)) (log_lines left back) in
+          omega (arith, lines, inside)
 
-      told_begins : (back : List Outcome) → IsBeginning (take n (log_lines below (missing_outcomes below))) (log_text (below ++ left) (missing_outcomes below ++ back))
+      told_begins : (back : List Outcome)
+          → IsBeginning (take n (log_lines below (missing_outcomes below)))
+          (log_text (below ++ left) (missing_outcomes below ++ back))
       told_begins back =
           let lines = log_lines below (missing_outcomes below) in
-          let end = log_end (applied_count (missing_outcomes below ++ back)) (refused_count (missing_outcomes below ++ back)) in (
+          let end =
+          log_end (applied_count (missing_outcomes below ++ back))
+          (refused_count (missing_outcomes below ++ back)) in (
             drop n lines ++ (log_lines left back ++ end),
-            ap (λ l. l ++ end) (log_lines-append below left (missing_outcomes below) back (length-missing_outcomes below) ∙ ap (λ l. l ++ log_lines left back) (sym (take-append-drop n lines)))
-                ∙ append_assoc (take n lines ++ drop n lines) (log_lines left back) end ∙ append_assoc (take n lines) (drop n lines) (log_lines left back ++ end),
+            ap (λ l. l ++ end)
+                (log_lines-append below left (missing_outcomes below) back
+                (length-missing_outcomes below)
+                ∙ ap (λ l. l ++ log_lines left back) (sym (take-append-drop n lines)))
+                ∙ append_assoc (take n lines ++ drop n lines) (log_lines left back) end
+                ∙ append_assoc (take n lines) (drop n lines) (log_lines left back ++ end),
           )
 
 -- ---- after the last sector

@@ -24,7 +24,8 @@ pub returns-in_err-finish_output : goal.returns-in_err-finish_output
 returns-in_err-finish_output g c = λ carry base start image going.
     let e = closing c.args.patches.now c.requires.ended c.tail-tail.ensures.bytes going in
     Applies-fault c.from_residual-in_err-finish_output.ensures.1
-    (Closes-flush e c.in_ok-write_all.ensures c.in_ok-send_missing.ensures c.in_ok-send_counts.ensures
+    (Closes-flush e c.in_ok-write_all.ensures c.in_ok-send_missing.ensures
+    c.in_ok-send_counts.ensures
     (rw c.in_err-finish_output.was at c.finish_output.ensures))
 
 pub returns-in_err-finish_log : goal.returns-in_err-finish_log
