@@ -1,4 +1,4 @@
--- The words of a line, as the forms are told apart by their number and their first word.
+-- The words of a line, as the forms differ by their number and their first word.
 use Rattle.std.proofs.Common.{◌≡◌, ◌-◌, ◌<◌, ◌≤◌, ℕ, true, false, List, [], ◌∷◌, length, get_or, take, drop, map, Some, None, Err, refl, sym, ap, ◌∙◌, ◌⊎◌, inl, inr, arith}
 use Rattle.std.specs.Prelude.{codes}
 use Rattle.std.specs.Borrow.{Bor}
@@ -14,7 +14,7 @@ use Rattle.cd_script.specs.Script.{head_version, is_passed_over, named_version}
 abbrev pub seen : List (Bor (List ℕ)) → List (List ℕ)
 seen = map (λ w. w.now)
 
--- ---- the words behind a verb
+-- ---- the words after a verb
 
 pub set_line-three : (line : ℕ) (ws : List (Bor (List ℕ))) (d : Bor (List ℕ)) → 3 ≤ length ws
     → length ws < 4

@@ -70,7 +70,7 @@ not_taken false d x z e = (refl, cc)
 is_digit-most : (b : ℕ) → is_ascii_digit b ≡ true → b ≤ 57
 is_digit-most b e = grind (arith, nat_tests)
 
--- the value of digits behind the value a
+-- the value of digits after the value a
 digits-below : (a : ℕ) (w : List ℕ) → list_all is_ascii_digit w ≡ true
     → fold (λ n b. 10 * n + (b - 48)) a w < (a + 1) * 10 ^ length w
 digits-below a [] digits = omega arith
@@ -83,7 +83,7 @@ digits-below a (b ∷ w) digits =
     let wide : 10 ^ suc (length w) ≡ 10 * 10 ^ length w = omega arith in
     rw wide (omega arith)
 
--- the value behind a test
+-- the value after a test
 some_if : {A : Type 0} (b : Bool) (o : Option A) (x : A) → cond b o None ≡ Some x → o ≡ Some x
 some_if true o x e = e
 some_if false o x e = absurd cc
@@ -388,7 +388,7 @@ room : (earlier : ℕ) (found : Option Patch) → earlier ≤ patch_limit
 room earlier None le h = omega arith
 room earlier (Some p) le h = omega (arith, h.1)
 
--- patches of lines behind so many others
+-- patches of lines after so many others
 record AreBehind (earlier : ℕ) (ps : List Patch) : Type 0 where
   pub each : All IsPatch ps
   pub count : earlier + length ps ≤ patch_limit
