@@ -84,7 +84,7 @@ column_of_rows-more rows d k c h =
     ap (λ v. column_of_rows v c) (take_more rows k d h)
     ∙ map-append (λ row. get_or row c 0) (take k rows) (get_or rows k d ∷ [])
 
--- a lane that two writes behind it leave
+-- a lane that two later writes leave
 pub put_thrice : (zero one two three front middle back : List ℕ)
     → ((i : ℕ) → i < 32 → get_or one (0 + i) 0 ≡ get_or front i 0)
     → ((i : ℕ) → i < 32 → get_or two (32 + i) 0 ≡ get_or middle i 0)

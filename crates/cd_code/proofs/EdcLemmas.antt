@@ -16,7 +16,7 @@ use Rattle.cd_code.proofs.general.Xor.{xor_half, xor_low, xor_twice_left, xor_sw
 
 -- ---- one step
 
--- what is added where a bit leaves at the top
+-- what is added if a bit leaves at the top
 abbrev carry : ℕ → ℕ
 carry zero = 0
 carry (suc n) = generator
@@ -327,7 +327,7 @@ IsEdc-same_front u v rest b t same whole h =
     (after-append 0 v rest ∙ ap (λ z. after z rest) (sym front) ∙ sym (after-append 0 u rest)
     ∙ ap (after 0) whole) h
 
--- one more byte behind a list
+-- one more byte after a list
 pub IsEdc-push : (v : List ℕ) (w x t : ℕ) → IsEdc v w → IsEdc (bit_xor (w % 256) x ∷ []) t
     → IsEdc (v ++ x ∷ []) (bit_xor (w / 256) t)
 IsEdc-push v w x t h k =
@@ -352,7 +352,7 @@ after-xor_zeros r s (x ∷ v) hr hs =
     ∙ after-xor_zeros (after_bits 8 r 0) (after_bits 8 s x) v (after_bits-lt 8 r 0 hr)
     (after_bits-lt 8 s x hs)
 
--- a byte in front of a list: its own word with zeros behind it, and the list's
+-- a byte before a list: its own word with zeros after it, and the list's
 pub IsEdc-cons : (y : ℕ) (v : List ℕ) (t w : ℕ) → IsEdc (y ∷ replicate (length v) 0) t → IsEdc v w
     → IsEdc (y ∷ v) (bit_xor t w)
 IsEdc-cons y v t w h k =
@@ -364,7 +364,7 @@ IsEdc-cons y v t w h k =
     (rw e at (Ends-xor (after r (replicate (length v) 0)) (after 0 v) t w
     (Ends-from (y ∷ replicate (length v) 0) t h) (Ends-from v w k)))
 
--- four bytes behind a list, and its word: the bytes of their sum
+-- four bytes after a list, and its word: the bytes of their sum
 pub after-four : (v : List ℕ) (w : ℕ) (four : List ℕ) → IsEdc v w → AreBytes four → length four ≡ 4
     → after 0 (v ++ four) ≡ after 0 (to_le_bytes w32 (bit_xor w (number four)))
 after-four v w four h bytes long =
@@ -425,7 +425,7 @@ pub edc_unique : (v w : List ℕ) → DifferAtMostInLast 4 v w → remainder (bi
 edc_unique v w d same =
     same_from_after 0 v w (lit< tt) d (sym (remainder-after v) ∙ same ∙ remainder-after w)
 
--- eight bytes behind a list: the first four are added to the word, and each of the eight then
+-- eight bytes after a list: the first four are added to the word, and each of the eight then
 -- stands alone
 pub IsEdc-eight : (v b ys : List ℕ) (w n t₇ t₆ t₅ t₄ t₃ t₂ t₁ t₀ : ℕ) → IsEdc v w → AreBytes b
     → length b ≡ 8

@@ -190,7 +190,7 @@ tripled_third b h =
     eqb-true (product 244 (bit_xor (double b) b)) b
     (agree_below_at is_redone_by_inverse (λ _. true) 256 b is_redone_by_inverse-all h)
 
--- one more bit of fuel changes nothing where the factor has no such bit
+-- one more bit of fuel changes nothing if the factor has no such bit
 product_of_bits-fuel : (n a b : ℕ) → b < 2 ^ n → product_of_bits (suc n) a b ≡ product_of_bits n a b
 product_of_bits-fuel zero a b h =
     let e : b ≡ 0 = omega arith in

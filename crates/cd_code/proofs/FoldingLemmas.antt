@@ -15,7 +15,7 @@ use Rattle.cd_code.proofs.general.Xor.{xor_swap}
 
 -- ---- k bytes 00
 
--- n bits 0 behind what left r
+-- n bits 0 after what left r
 zero_bits-step : (n r : ℕ) → after_bits n (divide_step r 0) 0 ≡ divide_step (after_bits n r 0) 0
 zero_bits-step zero r = refl
 zero_bits-step (suc n) r = zero_bits-step n (divide_step r 0)
@@ -84,7 +84,7 @@ step-bit zero h = refl
 step-bit (suc zero) h = refl
 step-bit (suc (suc b)) h = absurd (omega arith)
 
--- one step before zeros is a step behind them, and the bit's own zeros
+-- one step before zeros is a step after them, and the bit's own zeros
 zeros-after_step : (k r b : ℕ) → r < 2 ^ 32 → b < 2
     → zeros k (divide_step r b) ≡ bit_xor (divide_step (zeros k r) 0) (zeros k b)
 zeros-after_step k r b hr hb =
@@ -141,7 +141,7 @@ four-after r (x ∷ v) hr h =
 left-lt : (v : List ℕ) → after 0 v < 2 ^ 32
 left-lt v = after-lt 0 v (lit< tt)
 
--- one list behind another
+-- one list after another
 left-append : (u v : List ℕ) → after 0 (u ++ v) ≡ bit_xor (zeros (length v) (after 0 u)) (after 0 v)
 left-append u v =
     after-append 0 u v ∙ ap (λ z. after z v) (sym (xor_zero_r (after 0 u)))

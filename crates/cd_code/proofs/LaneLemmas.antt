@@ -14,7 +14,7 @@ use Rattle.cd_code.proofs.general.Xor.{xor_twice_left}
 use mir.Syntax.{w8}
 use mir.Val.{Fits}
 
--- one lane: the sum with itself, and 1D where the top bit was set
+-- one lane: the sum with itself, and 1D if the top bit was set
 abbrev lane_doubled : ℕ → ℕ
 lane_doubled x = bit_xor ((x + x) % 256) (cond (top 7 (cond (leb 128 x) 255 0)) 29 0)
 

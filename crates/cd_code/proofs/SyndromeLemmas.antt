@@ -1,5 +1,5 @@
 -- The two syndromes of lists: at the end of a list, at a changed byte, and with a parity pair
--- behind it.
+-- after it.
 use Rattle.std.proofs.Common.{◌≡◌, ◌≢◌, ℕ, zero, suc, ◌+◌, ◌-◌, ◌<◌, List, [], ◌∷◌, ◌++◌, length, get_or, bit_xor, refl, sym, ap, ◌∙◌, arith, lit<, append_assoc, subst}
 use Rattle.std.specs.Int.Bits.{xor_self, xor_zero_l, xor_zero_r, xor_assoc}
 use Rattle.std.proofs.lemmas.Nat.{xor_comm, xor_lt}
@@ -30,7 +30,7 @@ pub second_syndrome-cons : (x : ℕ) (v : List ℕ)
 unfolding second_syndrome
 second_syndrome-cons x v = refl
 
--- one more byte behind a list
+-- one more byte after a list
 pub first_syndrome-push : (v : List ℕ) (x : ℕ)
     → first_syndrome (v ++ x ∷ []) ≡ bit_xor (first_syndrome v) x
 unfolding first_syndrome
@@ -102,7 +102,7 @@ second_syndrome-added (y ∷ v) (suc place) d weight h =
     (second_syndrome-added v place d weight (omega arith))
     ∙ sym (xor_assoc (product (power (length v)) y) (second_syndrome v) (product (power weight) d))
 
--- with the pair that `pair_from` gives behind it, a list is a code word
+-- with the pair that `pair_from` gives after it, a list is a code word
 pub IsCodeWord-pair : (v : List ℕ) (plain weighted a : ℕ)
     → plain < 256 → first_syndrome v ≡ plain → second_syndrome v ≡ weighted
     → a ≡ product 244 (bit_xor plain (double (double weighted)))
@@ -192,7 +192,7 @@ SameSums-change v len place d moved p long inside below moves e =
           ∙ xor_twice s moved;
     }
 
--- and where d is not 0, neither of the pair is
+-- and if d is not 0, neither of the pair is
 pub pair-nonzero : (weight d moved p : ℕ) → 1 < weight → weight < 255 → 0 < d → d < 256
     → moved ≡ product (power weight) d → p ≡ product 244 (bit_xor moved d)
     → (p ≢ 0) × (bit_xor p d ≢ 0)

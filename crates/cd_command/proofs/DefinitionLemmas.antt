@@ -1,4 +1,4 @@
--- What a command has behind each of its arguments, and the program behind each of its commands.
+-- What a command has for each of its arguments, and the program for each of its commands.
 use Rattle.std.proofs.Common.{◌≡◌, ◌∙◌, ap₂, false, Ok, Err}
 use Rattle.std.specs.Prelude.{IfOk, IsOkAnd, Result}
 use Rattle.clap.specs.Words.{App, Rule, Shape, app_of, shape_of, with_subcommand}

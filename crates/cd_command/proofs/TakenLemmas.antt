@@ -264,7 +264,7 @@ subcommand_met : (b : Bool) → (not b && true) ≡ false → b ≡ true
 subcommand_met true e = refl
 subcommand_met false e = cc
 
--- the last checks of a level pass only where a subcommand that is required was met, and each
+-- the last checks of a level pass only if a subcommand that is required was met, and each
 -- argument
 -- that is required was given
 check_parts : (s : Shape) (rows : List Row) (met : Bool) → check_fault s rows met ≡ []
@@ -278,8 +278,9 @@ check_parts s rows met e =
     (not (s.subcommand_negates_reqs && met) && list_any
     (λ (a : Rule). a.required && not (is_given a.id rows)) s.rules) e
 
--- what the rows of a command have where its words give no kind
-module _ (s : Shape) (by : Each (IsUsedBy IsBaseText) s.rules) (words : List Text) (e : level_fault s [] nothing_held words false [] ≡ []) where
+-- what the rows of a command have if its words give no kind
+module _ (s : Shape) (by : Each (IsUsedBy IsBaseText) s.rules) (words : List Text)
+    (e : level_fault s [] nothing_held words false [] ≡ []) where
   abbrev held_rows : List Row
   held_rows = (settled s.rules (walk s.rules [] nothing_held words).held).rows
 
@@ -294,7 +295,7 @@ module _ (s : Shape) (by : Each (IsUsedBy IsBaseText) s.rules) (words : List Tex
       && list_any (λ (a : Rule). a.required && not (is_given a.id level_rows)) s.rules) ≡ false
   level_checked = (check_parts s level_rows false (level_parts s [] words false [] e).checks).1
 
--- the option `--base` has a row behind its default
+-- the option `--base` has a row after its default
 based : (rows : List Row)
     → has_row (codes "base") (with_default (with_default rows base_built) help_built) ≡ true
 based rows =
@@ -326,7 +327,7 @@ image_level name words e =
 
 -- ---- the program
 
--- where a command's words give no kind, its matches are complete
+-- if a command's words give no kind, its matches are complete
 abbrev IsSound : Shape → Type 0
 IsSound s =
     (words : List Text) → level_fault s [] nothing_held words false [] ≡ []

@@ -1,5 +1,5 @@
 -- What a pass knows of each run on an image that may be the one that is being read.
-use Rattle.std.proofs.Common.{◌≡◌, ◌≢◌, ℕ, ◌+◌, ◌<◌, ◌≤◌, Bool, List, [], ◌++◌, length, take, drop, Option, None, Some, Result, refl, sym, ap, ◌∙◌, subst, arith, append_assoc, append-nil, length-append, take-append-drop}
+use Rattle.std.proofs.Common.{◌≡◌, ◌≢◌, ℕ, ◌+◌, ◌<◌, ◌≤◌, Bool, List, [], ◌++◌, length, take, drop, Option, None, Some, Result, Ok, Err, IsErrAnd, refl, sym, ap, ◌∙◌, subst, arith, append_assoc, append-nil, length-append, take-append-drop}
 use Rattle.std.specs.Prelude.{All, IsSome}
 use Rattle.std.specs.Io.KnownBytes.{IsAtEnd}
 use Rattle.cd_script.specs.declared.patch.Patch.{Patch}
@@ -24,56 +24,81 @@ use Rattle.cd_image.proofs.PassingLemmas.{AreSized, bytes_of-append}
 use Rattle.cd_image.proofs.PatchLogLemmas.{log_lines-append}
 
 -- a front of a beginning is one
-pub IsBeginning-front : (front more whole : List ℕ) → IsBeginning (front ++ more) whole → IsBeginning front whole
-IsBeginning-front front more whole begins = (more ++ begins.0, begins.1 ∙ append_assoc front more begins.0)
+pub IsBeginning-front : (front more whole : List ℕ) → IsBeginning (front ++ more) whole
+    → IsBeginning front whole
+IsBeginning-front front more whole begins =
+    (more ++ begins.0, begins.1 ∙ append_assoc front more begins.0)
 
 -- an image whose first sectors are these
-pub bytes_of-begins : (front others : List (List ℕ)) (last : List ℕ) → sectors last ≡ front ++ others → IsBeginning (bytes_of front) last
+pub bytes_of-begins : (front others : List (List ℕ)) (last : List ℕ)
+    → sectors last ≡ front ++ others → IsBeginning (bytes_of front) last
 bytes_of-begins front others last cut = (
   bytes_of others ++ tail last,
-  sym (IsCut-sectors last).joined ∙ ap (λ ss. bytes_of ss ++ tail last) cut ∙ ap (λ l. l ++ tail last) (bytes_of-append front others)
+  sym (IsCut-sectors last).joined ∙ ap (λ ss. bytes_of ss ++ tail last) cut
+      ∙ ap (λ l. l ++ tail last) (bytes_of-append front others)
       ∙ append_assoc (bytes_of front) (bytes_of others) (tail last),
 )
 
 -- the lines of the first patches begin the log
-pub lines-begin : (taken left : List Patch) (front back : List Outcome) → length front ≡ length taken → IsBeginning (log_lines taken front) (log_text (taken ++ left) (front ++ back))
+pub lines-begin : (taken left : List Patch) (front back : List Outcome)
+    → length front ≡ length taken
+    → IsBeginning (log_lines taken front) (log_text (taken ++ left) (front ++ back))
 unfolding log_text
 lines-begin taken left front back same =
     let end = log_end (applied_count (front ++ back)) (refused_count (front ++ back)) in (
       log_lines left back ++ end,
-      ap (λ l. l ++ end) (log_lines-append taken left front back same) ∙ append_assoc (log_lines taken front) (log_lines left back) end,
+      ap (λ l. l ++ end) (log_lines-append taken left front back same)
+          ∙ append_assoc (log_lines taken front) (log_lines left back) end,
     )
 
--- the same with a part of the lines behind them
-pub lines-begin_within : (taken left : List Patch) (front back : List Outcome) → length front ≡ length taken → (n : ℕ)
-    → IsBeginning (log_lines taken front ++ take n (log_lines left back)) (log_text (taken ++ left) (front ++ back))
+-- the same with a part of the lines after them
+pub lines-begin_within : (taken left : List Patch) (front back : List Outcome)
+    → length front ≡ length taken → (n : ℕ)
+    → IsBeginning (log_lines taken front ++ take n (log_lines left back))
+    (log_text (taken ++ left) (front ++ back))
 unfolding log_text
 lines-begin_within taken left front back same n =
     let end = log_end (applied_count (front ++ back)) (refused_count (front ++ back)) in
     let lines = log_lines taken front in
     let others = log_lines left back in (
       drop n others ++ end,
-      ap (λ l. l ++ end) (log_lines-append taken left front back same ∙ ap (λ l. lines ++ l) (sym (take-append-drop n others)) ∙ sym (append_assoc lines (take n others) (drop n others)))
+      ap (λ l. l ++ end)
+          (log_lines-append taken left front back same
+          ∙ ap (λ l. lines ++ l) (sym (take-append-drop n others))
+          ∙ sym (append_assoc lines (take n others) (drop n others)))
           ∙ append_assoc (lines ++ take n others) (drop n others) end,
     )
 
 -- less than the whole log
-pub unfinished_log : (patches : List Patch) (os : List Outcome) (told : List ℕ) → length told < length (log_lines patches os) + length (log_end (applied_count os) (refused_count os)) → told ≢ log_text patches os
+pub unfinished_log : (patches : List Patch) (os : List Outcome) (told : List ℕ)
+    → length told
+    < length (log_lines patches os) + length (log_end (applied_count os) (refused_count os))
+    → told ≢ log_text patches os
 unfolding log_text
 unfinished_log patches os told less = λ all.
-    let whole = ap length all ∙ length-append (log_lines patches os) (log_end (applied_count os) (refused_count os)) in
+    let whole =
+    ap length all
+    ∙ length-append (log_lines patches os) (log_end (applied_count os) (refused_count os)) in
     absurd (omega (arith, whole, less))
 
 -- lines of the first patches, and a part of the other lines
-pub unfinished_lines : (taken left : List Patch) (front back : List Outcome) (told : List ℕ) (n : ℕ) → length front ≡ length taken → length told ≡ length (log_lines taken front) + n → n < length (log_lines left back)
+pub unfinished_lines : (taken left : List Patch) (front back : List Outcome) (told : List ℕ) (n : ℕ)
+    → length front ≡ length taken → length told ≡ length (log_lines taken front) + n
+    → n < length (log_lines left back)
     → told ≢ log_text (taken ++ left) (front ++ back)
 unfinished_lines taken left front back told n same size part =
-    let lines = ap length (log_lines-append taken left front back same) ∙ length-append (log_lines taken front) (log_lines left back) in
+    let lines =
+    ap length (log_lines-append taken left front back same)
+    ∙ length-append (log_lines taken front) (log_lines left back) in
     unfinished_log (taken ++ left) (front ++ back) told (omega (arith, lines, size, part))
 
 -- the contract, by what each stream gave or took
-pub applies : {carry : Bool} {patches : List Patch} {base : ℕ} {old new : Streams} (read sent told : List ℕ) (result : Result Tally Fault) → Gives old.image new.image read → Takes old.out new.out sent → Takes old.log new.log told
-    → length read ≤ length sent + bytes_in_hand → AppliesBy carry patches base read sent told old new result → Applies carry patches base old new result
+pub applies : {carry : Bool} {patches : List Patch} {base : ℕ} {old new : Streams}
+    (read sent told : List ℕ) (result : Result Tally Fault) → Gives old.image new.image read
+    → Takes old.out new.out sent → Takes old.log new.log told
+    → length read ≤ length sent + bytes_in_hand
+    → AppliesBy carry patches base read sent told old new result
+    → Applies carry patches base old new result
 applies read sent told result came went logged in_hand answers = record {
   read = read;
   sent = sent;
@@ -88,11 +113,27 @@ applies read sent told result came went logged in_hand answers = record {
   answers = answers;
 }
 
+-- the `?` of a call that fails
+pub Applies-fault : {carry : Bool} {patches : List Patch} {base : ℕ} {old new : Streams}
+    {fault : Fault}
+    {result : Result Tally Fault} → IsErrAnd result (λ f. f ≡ fault)
+    → Applies carry patches base old new (Err fault) → Applies carry patches base old new result
+Applies-fault {result = Ok tally} is applies = elim is [ ]
+Applies-fault {carry} {patches} {base} {old} {new} {result = Err f} is applies =
+    subst (λ f. Applies carry patches base old new (Err f)) (sym is) applies
+
 -- a log that fails before its end: no sink was flushed
-module _ {carry : Bool} {patches : List Patch} {base : ℕ} {read sent told : List ℕ} {old new : Streams} where
-  pub StopsAtLog-within : Failed old new 0 0 1 → Flushed old new 0 0 → length read ≤ image_limit → ((whole : List ℕ) → FitsLeft new.image.rest read whole → EachRun carry patches base whole (Begins patches sent told))
-      → ((whole : List ℕ) → FitsLeft new.image.rest read whole → EachRun carry patches base whole (λ os last. length sent ≡ sent_beside patches os base whole (length told)))
-      → ((whole : List ℕ) → FitsLeft new.image.rest read whole → EachRun carry patches base whole (λ os last. told ≢ log_text patches os)) → StopsAtLog carry patches base read sent told old new
+module _ {carry : Bool} {patches : List Patch} {base : ℕ} {read sent told : List ℕ}
+    {old new : Streams} where
+  pub StopsAtLog-within : Failed old new 0 0 1 → Flushed old new 0 0 → length read ≤ image_limit
+      → ((whole : List ℕ) → FitsLeft new.image.rest read whole
+      → EachRun carry patches base whole (Begins patches sent told))
+      → ((whole : List ℕ) → FitsLeft new.image.rest read whole
+      → EachRun carry patches base whole
+      (λ os last. length sent ≡ sent_beside patches os base whole (length told)))
+      → ((whole : List ℕ) → FitsLeft new.image.rest read whole
+      → EachRun carry patches base whole (λ os last. told ≢ log_text patches os))
+      → StopsAtLog carry patches base read sent told old new
   StopsAtLog-within failed unflushed within begins beside unfinished = record {
     failed = failed;
     out_flushes = 0;
@@ -103,71 +144,111 @@ module _ {carry : Bool} {patches : List Patch} {base : ℕ} {read sent told : Li
     begins = begins;
     beside = beside;
     flushed = λ whole fits os last patched all. absurd (unfinished whole fits os last patched all);
-    at_end = λ whole fits os last patched. (λ all. absurd (unfinished whole fits os last patched all), λ once. absurd (omega (arith, once)));
+    at_end =
+        λ whole fits os last patched. (
+          λ all. absurd (unfinished whole fits os last patched all),
+          λ once. absurd (omega (arith, once)),
+        );
   }
 
--- an image that may be the one that is being read: the sectors behind those that were seen
+-- an image that may be the one that is being read: the sectors after those that were seen
 pub record Extends (seen : List (List ℕ)) (end : Option (List ℕ)) (whole : List ℕ) : Type 0 where
   pub more : List (List ℕ)
   pub cut : sectors whole ≡ seen ++ more
   pub unended : IsSome end → more ≡ []
 
--- a run on it: the outcomes behind those that are known, and the last sectors behind those that are settled
-pub record Known (settled : List (List ℕ)) (outcomes os : List Outcome) (last : List ℕ) : Type 0 where
+-- a run on it: the outcomes after those that are known, and the last sectors after those that are
+-- settled
+pub record Known (settled : List (List ℕ)) (outcomes os : List Outcome)
+    (last : List ℕ) : Type 0 where
   pub back : List Outcome
   pub others : List (List ℕ)
   pub all : os ≡ outcomes ++ back
   pub cut : sectors last ≡ settled ++ others
 
-module _ (carry : Bool) (taken left : List Patch) (base : ℕ) (start now : Streams) (window : List (List ℕ)) (block sectors_read applied : ℕ) (end : Option (List ℕ)) (g : Going carry taken left base start now window block sectors_read applied end) where
+module _ (carry : Bool) (taken left : List Patch) (base : ℕ) (start now : Streams)
+    (window : List (List ℕ)) (block sectors_read applied : ℕ) (end : Option (List ℕ))
+    (g : Going carry taken left base start now window block sectors_read applied end) where
   pub told_lengths : length g.outcomes ≡ length taken
-  told_lengths = PatchRun-lengths carry taken g.outcomes base (g.seen ++ []) (g.done ++ (window ++ [])) (g.run [] (λ some. refl))
+  told_lengths =
+      PatchRun-lengths carry taken g.outcomes base (g.seen ++ []) (g.done ++ (window ++ []))
+      (g.run [] (λ some. refl))
 
   -- sectors at the front that no patch left begins in are settled
-  pub known : (whole : List ℕ) → Extends g.seen end whole → (settled : List (List ℕ)) (behind : List (List ℕ) → List (List ℕ))
-      → ((more : List (List ℕ)) → g.done ++ (window ++ more) ≡ settled ++ behind more) → All (λ p. base + length settled ≤ p.block) left
-      → (os : List Outcome) (last : List ℕ) → IsPatched carry (taken ++ left) os base whole last → Known settled g.outcomes os last
+  pub known : (whole : List ℕ) → Extends g.seen end whole
+      → (settled : List (List ℕ)) (behind : List (List ℕ) → List (List ℕ))
+      → ((more : List (List ℕ)) → g.done ++ (window ++ more) ≡ settled ++ behind more)
+      → All (λ p. base + length settled ≤ p.block) left
+      → (os : List Outcome) (last : List ℕ) → IsPatched carry (taken ++ left) os base whole last
+      → Known settled g.outcomes os last
   known whole extends settled behind grouped ahead os last patched =
-      let run = subst (λ old. PatchRun carry (taken ++ left) os base old (sectors last)) extends.cut patched.run in
-      let split = PatchRun-split carry taken left os base (g.seen ++ extends.more) (sectors last) run in
-      let same = PatchRun-determined carry taken split.0 g.outcomes base (g.seen ++ extends.more) split.2 (g.done ++ (window ++ extends.more)) split.4 (g.run extends.more extends.unended) in
-      let from = subst (λ m. PatchRun carry left split.1 base m (sectors last)) (same.1 ∙ grouped extends.more) split.5 in
-      let rest = PatchRun-front carry left split.1 base settled (behind extends.more) (sectors last) ahead from in
-      record { back = split.1; others = rest.0; all = split.3 ∙ ap (λ f. f ++ split.1) same.0; cut = rest.1 }
+      let run =
+      subst (λ old. PatchRun carry (taken ++ left) os base old (sectors last)) extends.cut
+      patched.run in
+      let split =
+      PatchRun-split carry taken left os base (g.seen ++ extends.more) (sectors last) run in
+      let same =
+      PatchRun-determined carry taken split.0 g.outcomes base (g.seen ++ extends.more) split.2
+      (g.done ++ (window ++ extends.more)) split.4 (g.run extends.more extends.unended) in
+      let from =
+      subst (λ m. PatchRun carry left split.1 base m (sectors last))
+      (same.1 ∙ grouped extends.more) split.5 in
+      let rest =
+      PatchRun-front carry left split.1 base settled (behind extends.more)
+      (sectors last) ahead from in
+      record {
+        back = split.1;
+        others = rest.0;
+        all = split.3 ∙ ap (λ f. f ++ split.1) same.0;
+        cut = rest.1;
+      }
 
   pub ahead_of_done : All (λ p. base + length g.done ≤ p.block) left
   ahead_of_done = λ k d inside. let h = g.ahead k d inside in omega (arith, h, g.front)
 
-  -- what went out and what was told begin the patched image and its log
-  pub begins_now : (whole : List ℕ) → Extends g.seen end whole → (os : List Outcome) (last : List ℕ) → IsPatched carry (taken ++ left) os base whole last
+  -- what went out and what was logged begin the patched image and its log
+  pub begins_now : (whole : List ℕ) → Extends g.seen end whole → (os : List Outcome) (last : List ℕ)
+      → IsPatched carry (taken ++ left) os base whole last
       → Begins (taken ++ left) (bytes_of g.done) (log_lines taken g.outcomes) os last
   begins_now whole extends os last patched =
-      let k = known whole extends g.done (λ more. window ++ more) (λ more. refl) ahead_of_done os last patched in (
+      let k =
+      known whole extends g.done (λ more. window ++ more)
+      (λ more. refl) ahead_of_done os last patched in (
         bytes_of-begins g.done k.others last k.cut,
-        subst (λ u. IsBeginning (log_lines taken g.outcomes) (log_text (taken ++ left) u)) (sym k.all) (lines-begin taken left g.outcomes k.back told_lengths),
+        subst (λ u. IsBeginning (log_lines taken g.outcomes) (log_text (taken ++ left) u))
+            (sym k.all) (lines-begin taken left g.outcomes k.back told_lengths),
       )
 
-  -- an image that fits while the end is told where nothing is left
-  pub extends_left : (whole : List ℕ) → FitsLeft now.image.rest (bytes_of g.seen ++ tail_bytes end) whole → length (bytes_of g.seen ++ tail_bytes end) ≤ image_limit → Extends g.seen end whole
+  -- an image that fits: if nothing is left, its end is known
+  pub extends_left : (whole : List ℕ)
+      → FitsLeft now.image.rest (bytes_of g.seen ++ tail_bytes end) whole
+      → length (bytes_of g.seen ++ tail_bytes end) ≤ image_limit → Extends g.seen end whole
   extends_left whole fits few = by_end end g.seen_sizes g.short (λ some. (g.ended some).0) fits few
     where
-      by_end : (t : Option (List ℕ)) → AreSized g.seen → length (tail_bytes t) < SECTOR_SIZE → (IsSome t → IsAtEnd now.image.rest) → FitsLeft now.image.rest (bytes_of g.seen ++ tail_bytes t) whole
+      by_end : (t : Option (List ℕ)) → AreSized g.seen → length (tail_bytes t) < SECTOR_SIZE
+          → (IsSome t → IsAtEnd now.image.rest)
+          → FitsLeft now.image.rest (bytes_of g.seen ++ tail_bytes t) whole
           → length (bytes_of g.seen ++ tail_bytes t) ≤ image_limit → Extends g.seen t whole
       by_end None sized short ended fits few =
           let begins = FitsLeft-begins now.image.rest (bytes_of g.seen ++ []) whole few fits in
           record {
             more = sectors begins.0;
-            cut = ap sectors (begins.1 ∙ ap (λ l. l ++ begins.0) (append-nil (bytes_of g.seen))) ∙ sectors-bytes_of g.seen begins.0 sized;
+            cut =
+                ap sectors (begins.1 ∙ ap (λ l. l ++ begins.0) (append-nil (bytes_of g.seen)))
+                ∙ sectors-bytes_of g.seen begins.0 sized;
             unended = λ never. cc;
           }
       by_end (Some t) sized short ended fits few = record {
         more = [];
-        cut = ap sectors (FitsLeft-end now.image.rest (bytes_of g.seen ++ t) whole (ended refl) fits) ∙ sectors-bytes_of g.seen t sized ∙ ap (λ ss. g.seen ++ ss) (sectors-short t short);
+        cut =
+            ap sectors (FitsLeft-end now.image.rest (bytes_of g.seen ++ t) whole (ended refl) fits)
+            ∙ sectors-bytes_of g.seen t sized ∙ ap (λ ss. g.seen ++ ss) (sectors-short t short);
         unended = λ some. refl;
       }
 
 -- an image that begins with the sectors that were seen, before the end is known
-pub Extends-begun : (seen : List (List ℕ)) (whole more : List ℕ) → AreSized seen → whole ≡ bytes_of seen ++ more → Extends seen None whole
+pub Extends-begun : (seen : List (List ℕ)) (whole more : List ℕ) → AreSized seen
+    → whole ≡ bytes_of seen ++ more → Extends seen None whole
 Extends-begun seen whole more sized is = record {
   more = sectors more;
   cut = ap sectors is ∙ sectors-bytes_of seen more sized;

@@ -25,28 +25,37 @@ use Rattle.cd_stream.proofs.TransferLemmas.{Gives-trans, Takes-nil, Takes-trans}
 use Rattle.cd_read.proofs.general.Counts.{count_by_push}
 use Rattle.cd_image.proofs.PatchLogLemmas.{PatchRun-missing, applied_count-missing_outcomes, log_lines-append}
 
-pub bytes_of-append : (front back : List (List ℕ)) → bytes_of (front ++ back) ≡ bytes_of front ++ bytes_of back
+pub bytes_of-append : (front back : List (List ℕ))
+    → bytes_of (front ++ back) ≡ bytes_of front ++ bytes_of back
 bytes_of-append front back = flat_map-append (λ sector. sector) front back
 
-pub bytes_of-more : (front : List (List ℕ)) (sector : List ℕ) → bytes_of (front ++ sector ∷ []) ≡ bytes_of front ++ sector
-bytes_of-more front sector = bytes_of-append front (sector ∷ []) ∙ ap (λ l. bytes_of front ++ l) (append-nil sector)
+pub bytes_of-more : (front : List (List ℕ)) (sector : List ℕ)
+    → bytes_of (front ++ sector ∷ []) ≡ bytes_of front ++ sector
+bytes_of-more front sector =
+    bytes_of-append front (sector ∷ []) ∙ ap (λ l. bytes_of front ++ l) (append-nil sector)
 
 -- sectors of 2352 bytes
 abbrev pub AreSized : List (List ℕ) → Type 0
 AreSized whole = All (λ sector. length sector ≡ SECTOR_SIZE) whole
 
-pub length-bytes_of : (whole : List (List ℕ)) → AreSized whole → length (bytes_of whole) ≡ 2352 * length whole
+pub length-bytes_of : (whole : List (List ℕ)) → AreSized whole
+    → length (bytes_of whole) ≡ 2352 * length whole
 length-bytes_of [] each = refl
 length-bytes_of (s ∷ ss) each =
     let size = All-head (λ t. length t ≡ SECTOR_SIZE) s ss each in
     let others = length-bytes_of ss (All-tail (λ t. length t ≡ SECTOR_SIZE) s ss each) in
     length-append s (bytes_of ss) ∙ omega arith
 
-AreSized-more : (whole : List (List ℕ)) (sector : List ℕ) → AreSized whole → length sector ≡ SECTOR_SIZE → AreSized (whole ++ sector ∷ [])
-AreSized-more whole sector each size = All-append (λ t. length t ≡ SECTOR_SIZE) whole (sector ∷ []) each (All-cons (λ t. length t ≡ SECTOR_SIZE) sector [] size (All-nil (λ t. length t ≡ SECTOR_SIZE)))
+AreSized-more : (whole : List (List ℕ)) (sector : List ℕ) → AreSized whole
+    → length sector ≡ SECTOR_SIZE → AreSized (whole ++ sector ∷ [])
+AreSized-more whole sector each size =
+    All-append (λ t. length t ≡ SECTOR_SIZE) whole (sector ∷ []) each
+    (All-cons (λ t. length t ≡ SECTOR_SIZE) sector [] size (All-nil (λ t. length t ≡ SECTOR_SIZE)))
 
--- behind the patches whose first block is below the image's
-pub Going-start : {X E : Type 0} {x : X} (carry : Bool) (taken left : List Patch) (base : ℕ) (start : Streams) (log : Outgoing) → All (λ p. p.block < base) taken → All (λ p. base ≤ p.block) left
+-- after the patches whose first block is below the image's
+pub Going-start : {X E : Type 0} {x : X} (carry : Bool) (taken left : List Patch) (base : ℕ)
+    (start : Streams) (log : Outgoing) → All (λ p. p.block < base) taken
+    → All (λ p. base ≤ p.block) left
     → Sends {X = X} {E = E} start.log log (log_lines taken (missing_outcomes taken)) (Ok x)
     → Going carry taken left base start (record start { log = log }) [] base 0 0 None
 Going-start carry taken left base start log below ahead told = record {
@@ -64,7 +73,8 @@ Going-start carry taken left base start log below ahead told = record {
   within = omega arith;
   ended = λ never. cc;
   in_hand = omega arith;
-  run = λ more unended. PatchRun-missing carry taken more base (λ k d inside. inl (below k d inside));
+  run =
+      λ more unended. PatchRun-missing carry taken more base (λ k d inside. inl (below k d inside));
   front = omega arith;
   count = refl;
   held = refl;
@@ -73,22 +83,33 @@ Going-start carry taken left base start log below ahead told = record {
   ahead = ahead;
 }
 
-module _ (carry : Bool) (taken left : List Patch) (base : ℕ) (start now : Streams) (window : List (List ℕ)) (block sectors applied : ℕ) where
+module _ (carry : Bool) (taken left : List Patch) (base : ℕ) (start now : Streams)
+    (window : List (List ℕ)) (block sectors applied : ℕ) where
   -- a sector has come
-  pub Going-read : Going carry taken left base start now window block sectors applied None → (image : Incoming) (came : List ℕ) → Gives now.image image came → image.failures ≡ now.image.failures
+  pub Going-read : Going carry taken left base start now window block sectors applied None
+      → (image : Incoming) (came : List ℕ) → Gives now.image image came
+      → image.failures ≡ now.image.failures
       → length came ≡ SECTOR_SIZE → sectors < sector_limit → length window < block_limit
-      → Going carry taken left base start (record now { image = image }) (window ++ came ∷ []) block (sectors + 1) applied None
+      → Going carry taken left base start (record now { image = image }) (window ++ came ∷ []) block
+      (sectors + 1) applied None
   Going-read g image came gives kept size few room = record {
     seen = g.seen ++ came ∷ [];
     done = g.done;
     outcomes = g.outcomes;
     gives =
         let bytes : (bytes_of g.seen ++ []) ++ came ≡ bytes_of (g.seen ++ came ∷ []) ++ [] =
-        ap (λ l. l ++ came) (append-nil (bytes_of g.seen)) ∙ sym (bytes_of-more g.seen came) ∙ sym (append-nil _) in
-        subst (Gives start.image image) bytes (Gives-trans start.image now.image image _ came g.gives gives);
+        ap (λ l. l ++ came) (append-nil (bytes_of g.seen)) ∙ sym (bytes_of-more g.seen came)
+        ∙ sym (append-nil _) in
+        subst (Gives start.image image) bytes
+        (Gives-trans start.image now.image image _ came g.gives gives);
     sends = g.sends;
     logs = g.logs;
-    unfailed = record { reads = kept ∙ g.unfailed.reads; writes = g.unfailed.writes; logs = g.unfailed.logs };
+    unfailed =
+        record {
+          reads = kept ∙ g.unfailed.reads;
+          writes = g.unfailed.writes;
+          logs = g.unfailed.logs;
+        };
     unflushed = record { outs = g.unflushed.outs; logs = g.unflushed.logs };
     seen_sizes = AreSized-more g.seen came g.seen_sizes size;
     done_sizes = g.done_sizes;
@@ -97,29 +118,45 @@ module _ (carry : Bool) (taken left : List Patch) (base : ℕ) (start now : Stre
     ended = λ never. cc;
     in_hand = let all = length-append window (came ∷ []) in omega arith;
     run = λ more unended.
-        subst (λ old. PatchRun carry taken g.outcomes base old (g.done ++ ((window ++ came ∷ []) ++ more))) (sym (append_assoc g.seen (came ∷ []) more))
-        (subst (λ new. PatchRun carry taken g.outcomes base (g.seen ++ (came ∷ more)) (g.done ++ new)) (sym (append_assoc window (came ∷ []) more))
+        subst (λ old. PatchRun carry taken g.outcomes base old
+        (g.done ++ ((window ++ came ∷ []) ++ more))) (sym (append_assoc g.seen (came ∷ []) more))
+        (subst (λ new. PatchRun carry taken g.outcomes base (g.seen ++ (came ∷ more))
+        (g.done ++ new)) (sym (append_assoc window (came ∷ []) more))
         (g.run (came ∷ more) (λ never. cc)));
     front = g.front;
     count = let all = length-append g.seen (came ∷ []) in omega (arith, g.count);
-    held = let all = length-append g.seen (came ∷ []) in let more = length-append window (came ∷ []) in omega (arith, g.held);
+    held =
+        let all = length-append g.seen (came ∷ []) in
+        let more = length-append window (came ∷ []) in
+        omega (arith, g.held);
     counted = g.counted;
     due = λ k d inside. let h = g.due k d inside in (h.0, omega (arith, h.1));
     ahead = g.ahead;
   }
 
   -- less than a sector has come, and nothing is left
-  pub Going-end : Going carry taken left base start now window block sectors applied None → (image : Incoming) (came : List ℕ) → Gives now.image image came → image.failures ≡ now.image.failures
-      → length came < SECTOR_SIZE → SECTOR_SIZE * sectors + length came ≤ image_limit → length window < block_limit → IsAtEnd image.rest → image.ended ≡ true
-      → Going carry taken left base start (record now { image = image }) window block sectors applied (Some came)
+  pub Going-end : Going carry taken left base start now window block sectors applied None
+      → (image : Incoming) (came : List ℕ) → Gives now.image image came
+      → image.failures ≡ now.image.failures
+      → length came < SECTOR_SIZE → SECTOR_SIZE * sectors + length came ≤ image_limit
+      → length window < block_limit → IsAtEnd image.rest → image.ended ≡ true
+      → Going carry taken left base start (record now { image = image }) window block sectors
+      applied (Some came)
   Going-end g image came gives kept short within room end told = record {
     seen = g.seen;
     done = g.done;
     outcomes = g.outcomes;
-    gives = subst (λ l. Gives start.image image (l ++ came)) (append-nil (bytes_of g.seen)) (Gives-trans start.image now.image image _ came g.gives gives);
+    gives =
+        subst (λ l. Gives start.image image (l ++ came)) (append-nil (bytes_of g.seen))
+        (Gives-trans start.image now.image image _ came g.gives gives);
     sends = g.sends;
     logs = g.logs;
-    unfailed = record { reads = kept ∙ g.unfailed.reads; writes = g.unfailed.writes; logs = g.unfailed.logs };
+    unfailed =
+        record {
+          reads = kept ∙ g.unfailed.reads;
+          writes = g.unfailed.writes;
+          logs = g.unfailed.logs;
+        };
     unflushed = record { outs = g.unflushed.outs; logs = g.unflushed.logs };
     seen_sizes = g.seen_sizes;
     done_sizes = g.done_sizes;
@@ -137,49 +174,76 @@ module _ (carry : Bool) (taken left : List Patch) (base : ℕ) (start now : Stre
   }
 
 -- the first sector of the window has gone out, with no patch left that begins there
-pub Going-send : {X E : Type 0} {x : X} (carry : Bool) (taken left : List Patch) (base : ℕ) (start now : Streams) (sector : List ℕ) (window : List (List ℕ)) (block sectors applied : ℕ) (tail : Option (List ℕ))
-    → Going carry taken left base start now (sector ∷ window) block sectors applied tail → (out : Outgoing) → Sends {X = X} {E = E} now.out out sector (Ok x)
+pub Going-send : {X E : Type 0} {x : X} (carry : Bool) (taken left : List Patch) (base : ℕ)
+    (start now : Streams) (sector : List ℕ) (window : List (List ℕ)) (block sectors applied : ℕ)
+    (tail : Option (List ℕ))
+    → Going carry taken left base start now (sector ∷ window) block sectors applied tail
+    → (out : Outgoing) → Sends {X = X} {E = E} now.out out sector (Ok x)
     → length sector ≡ SECTOR_SIZE → All (λ p. block < p.block) left
-    → Going carry taken left base start (record now { out = out }) window (block + 1) sectors applied tail
-Going-send carry taken left base start now sector window block sectors applied tail g out sent size ahead = record {
-  seen = g.seen;
-  done = g.done ++ sector ∷ [];
-  outcomes = g.outcomes;
-  gives = g.gives;
-  sends = subst (Takes start.out out) (sym (bytes_of-more g.done sector)) (Takes-trans start.out now.out out _ sector g.sends sent.taken);
-  logs = g.logs;
-  unfailed = record { reads = g.unfailed.reads; writes = sent.count ∙ g.unfailed.writes; logs = g.unfailed.logs };
-  unflushed = record { outs = sent.flushes ∙ g.unflushed.outs; logs = g.unflushed.logs };
-  seen_sizes = g.seen_sizes;
-  done_sizes = AreSized-more g.done sector g.done_sizes size;
-  short = g.short;
-  within = g.within;
-  ended = g.ended;
-  in_hand = omega (arith, g.in_hand);
-  run = λ more unended. subst (PatchRun carry taken g.outcomes base (g.seen ++ more)) (sym (append_assoc g.done (sector ∷ []) (window ++ more))) (g.run more unended);
-  front = let all = length-append g.done (sector ∷ []) in omega (arith, g.front);
-  count = g.count;
-  held = let all = length-append g.done (sector ∷ []) in omega (arith, g.held);
-  counted = g.counted;
-  due = λ k d inside. let h = g.due k d inside in (omega (arith, h.0), h.1);
-  ahead = λ k d inside. let h = ahead k d inside in omega arith;
-}
+    → Going carry taken left base start (record now { out = out }) window
+    (block + 1) sectors applied tail
+Going-send carry taken left base start now sector window block sectors applied tail g out sent size
+    ahead = record {
+      seen = g.seen;
+      done = g.done ++ sector ∷ [];
+      outcomes = g.outcomes;
+      gives = g.gives;
+      sends =
+          subst (Takes start.out out) (sym (bytes_of-more g.done sector))
+          (Takes-trans start.out now.out out _ sector g.sends sent.taken);
+      logs = g.logs;
+      unfailed =
+          record {
+            reads = g.unfailed.reads;
+            writes = sent.count ∙ g.unfailed.writes;
+            logs = g.unfailed.logs;
+          };
+      unflushed = record { outs = sent.flushes ∙ g.unflushed.outs; logs = g.unflushed.logs };
+      seen_sizes = g.seen_sizes;
+      done_sizes = AreSized-more g.done sector g.done_sizes size;
+      short = g.short;
+      within = g.within;
+      ended = g.ended;
+      in_hand = omega (arith, g.in_hand);
+      run =
+          λ more unended.
+          subst (PatchRun carry taken g.outcomes base (g.seen ++ more))
+          (sym (append_assoc g.done (sector ∷ []) (window ++ more))) (g.run more unended);
+      front = let all = length-append g.done (sector ∷ []) in omega (arith, g.front);
+      count = g.count;
+      held = let all = length-append g.done (sector ∷ []) in omega (arith, g.held);
+      counted = g.counted;
+      due = λ k d inside. let h = g.due k d inside in (omega (arith, h.0), h.1);
+      ahead = λ k d inside. let h = ahead k d inside in omega arith;
+    }
 
 -- all that the patch meets is in the window, or nothing follows
-pub reaches : (block met count : ℕ) (tail : Option (List ℕ)) → (met ≤ count) ⊎ IsSome tail → (block + met ≤ block + count) ⊎ IsSome tail
+pub reaches : (block met count : ℕ) (tail : Option (List ℕ)) → (met ≤ count) ⊎ IsSome tail
+    → (block + met ≤ block + count) ⊎ IsSome tail
 reaches block met count tail (inl within) = inl (omega arith)
 reaches block met count tail (inr ended) = inr ended
 
--- one patch alone
-PatchRun-one : (carry : Bool) (p : Patch) (o : Outcome) (base : ℕ) (old new : List (List ℕ)) → o ≡ outcome carry old base p → Effect carry base p old new → PatchRun carry (p ∷ []) (o ∷ []) base old new
-PatchRun-one carry p o base old new is effect = record { decided = is; next = new; effect = effect; others = refl }
+-- only one patch
+PatchRun-one : (carry : Bool) (p : Patch) (o : Outcome) (base : ℕ) (old new : List (List ℕ))
+    → o ≡ outcome carry old base p → Effect carry base p old new
+    → PatchRun carry (p ∷ []) (o ∷ []) base old new
+PatchRun-one carry p o base old new is effect =
+    record { decided = is; next = new; effect = effect; others = refl }
 
--- a patch that begins at the first sector of the window was taken: all that it meets is in the window, or nothing follows
-module _ (carry : Bool) (taken : List Patch) (p : Patch) (left : List Patch) (base : ℕ) (start now : Streams) (window window' : List (List ℕ)) (block sectors applied : ℕ) (tail : Option (List ℕ)) where
-  pub Going-take : {X E : Type 0} {x : X} → Going carry taken (p ∷ left) base start now window block sectors applied tail → (log : Outgoing) (o : Outcome) → o ≡ outcome carry window block p → Effect carry block p window window'
-      → Sends {X = X} {E = E} now.log log (log_line p o) (Ok x) → p.block ≡ block → 0 < length window
+-- a patch that begins at the first sector of the window was taken: all that it meets is in the
+-- window, or nothing follows
+module _ (carry : Bool) (taken : List Patch) (p : Patch) (left : List Patch) (base : ℕ)
+    (start now : Streams) (window window' : List (List ℕ)) (block sectors applied : ℕ)
+    (tail : Option (List ℕ)) where
+  pub Going-take : {X E : Type 0} {x : X}
+      → Going carry taken (p ∷ left) base start now window block sectors applied tail
+      → (log : Outgoing) (o : Outcome) → o ≡ outcome carry window block p
+      → Effect carry block p window window'
+      → Sends {X = X} {E = E} now.log log (log_line p o) (Ok x) → p.block ≡ block
+      → 0 < length window
       → (block + blocks_met p ≤ block + length window) ⊎ IsSome tail
-      → Going carry (taken ++ p ∷ []) left base start (record now { log = log }) window' block sectors (applied + cond (is_applied o) 1 0) tail
+      → Going carry (taken ++ p ∷ []) left base start
+      (record now { log = log }) window' block sectors (applied + cond (is_applied o) 1 0) tail
   Going-take g log o decided effect told at some reach = record {
     seen = g.seen;
     done = g.done;
@@ -187,10 +251,18 @@ module _ (carry : Bool) (taken : List Patch) (p : Patch) (left : List Patch) (ba
     gives = g.gives;
     sends = g.sends;
     logs =
-        let lines : log_lines (taken ++ p ∷ []) (g.outcomes ++ o ∷ []) ≡ log_lines taken g.outcomes ++ log_line p o =
-        log_lines-append taken (p ∷ []) g.outcomes (o ∷ []) lengths ∙ ap (λ l. log_lines taken g.outcomes ++ l) (append-nil (log_line p o)) in
-        subst (Takes start.log log) (sym lines) (Takes-trans start.log now.log log _ _ g.logs told.taken);
-    unfailed = record { reads = g.unfailed.reads; writes = g.unfailed.writes; logs = told.count ∙ g.unfailed.logs };
+        let lines : log_lines (taken ++ p ∷ []) (g.outcomes ++ o ∷ [])
+        ≡ log_lines taken g.outcomes ++ log_line p o =
+        log_lines-append taken (p ∷ []) g.outcomes (o ∷ []) lengths
+        ∙ ap (λ l. log_lines taken g.outcomes ++ l) (append-nil (log_line p o)) in
+        subst (Takes start.log log) (sym lines)
+        (Takes-trans start.log now.log log _ _ g.logs told.taken);
+    unfailed =
+        record {
+          reads = g.unfailed.reads;
+          writes = g.unfailed.writes;
+          logs = told.count ∙ g.unfailed.logs;
+        };
     unflushed = record { outs = g.unflushed.outs; logs = told.flushes ∙ g.unflushed.logs };
     seen_sizes = g.seen_sizes;
     done_sizes = g.done_sizes;
@@ -198,14 +270,21 @@ module _ (carry : Bool) (taken : List Patch) (p : Patch) (left : List Patch) (ba
     within = g.within;
     ended = g.ended;
     in_hand = omega (arith, g.in_hand, same_length);
-    run = λ more unended. PatchRun-append carry taken (p ∷ []) g.outcomes (o ∷ []) base _ (g.done ++ (window ++ more)) _ (g.run more unended) (last more unended);
+    run =
+        λ more unended.
+        PatchRun-append carry taken (p ∷ []) g.outcomes (o ∷ []) base _
+        (g.done ++ (window ++ more)) _ (g.run more unended) (last more unended);
     front = g.front;
     count = g.count;
     held = omega (arith, g.held, same_length);
-    counted = ap (λ n. n + cond (is_applied o) 1 0) g.counted ∙ sym (count_by_push is_applied g.outcomes o);
+    counted =
+        ap (λ n. n + cond (is_applied o) 1 0) g.counted
+        ∙ sym (count_by_push is_applied g.outcomes o);
     due =
         All-append (λ q. (q.block ≤ block) × (q.block < base + sectors)) taken (p ∷ []) g.due
-        (All-cons (λ q. (q.block ≤ block) × (q.block < base + sectors)) p [] (omega arith, omega (arith, g.front, g.held, g.count)) (All-nil (λ q. (q.block ≤ block) × (q.block < base + sectors))));
+        (All-cons (λ q. (q.block ≤ block) × (q.block < base + sectors)) p []
+        (omega arith, omega (arith, g.front, g.held, g.count))
+        (All-nil (λ q. (q.block ≤ block) × (q.block < base + sectors))));
     ahead = All-tail (λ q. block ≤ q.block) p left g.ahead;
   }
     where
@@ -213,15 +292,24 @@ module _ (carry : Bool) (taken : List Patch) (p : Patch) (left : List Patch) (ba
       same_length = Effect-length carry block p window window' effect
 
       lengths : length g.outcomes ≡ length taken
-      lengths = PatchRun-lengths carry taken g.outcomes base (g.seen ++ []) (g.done ++ (window ++ [])) (g.run [] (λ some. refl))
+      lengths =
+          PatchRun-lengths carry taken g.outcomes base (g.seen ++ []) (g.done ++ (window ++ []))
+          (g.run [] (λ some. refl))
 
-      reaches : (more : List (List ℕ)) → (IsSome tail → more ≡ []) → (p.block + blocks_met p ≤ block + length window) ⊎ (more ≡ [])
+      reaches : (more : List (List ℕ)) → (IsSome tail → more ≡ [])
+          → (p.block + blocks_met p ≤ block + length window) ⊎ (more ≡ [])
       reaches more unended = elim reach [
         | inl within ↦ inl (omega arith)
         | inr some ↦ inr (unended some)
       ]
 
-      last : (more : List (List ℕ)) → (IsSome tail → more ≡ []) → PatchRun carry (p ∷ []) (o ∷ []) base (g.done ++ (window ++ more)) (g.done ++ (window' ++ more))
+      last : (more : List (List ℕ)) → (IsSome tail → more ≡ [])
+          → PatchRun carry (p ∷ []) (o ∷ []) base (g.done ++ (window ++ more))
+          (g.done ++ (window' ++ more))
       last more unended =
-          PatchRun-one carry p o base _ _ (decided ∙ sym (outcome-frame carry g.done window more base block p g.front (omega arith) (reaches more unended)))
-          (Effect-frame carry g.done window window' more base block p g.front (omega arith) (reaches more unended) effect)
+          PatchRun-one carry p o base _ _
+          (decided
+          ∙ sym (outcome-frame carry g.done window more base block p g.front (omega arith)
+          (reaches more unended)))
+          (Effect-frame carry g.done window window' more base block p g.front (omega arith)
+          (reaches more unended) effect)

@@ -1,4 +1,4 @@
--- The log of patches in two parts, and where one sink stands when the other fails.
+-- The log of patches in two parts, and how far one sink has come when the other fails.
 use Rattle.std.proofs.Common.{◌≡◌, ℕ, suc, ◌+◌, ◌-◌, ◌*◌, ◌/◌, ◌<◌, ◌≤◌, ◌⊎◌, inl, inr, Bool, true, false, not, List, [], ◌∷◌, ◌++◌, length, take, drop, refl, sym, ap, ◌∙◌, arith, append_assoc, append-nil, length-append, take-append-drop, add-one, get_or, Err, subst}
 use Rattle.std.specs.Prelude.{All, codes, cond, decimal, nat_lt}
 use Rattle.std.proofs.Math.Seq.{drop-cons, take-append-add, take-suc}
@@ -20,61 +20,85 @@ use Rattle.cd_image.specs.Passing.{missing_outcomes}
 use Rattle.cd_image.specs.PatchLog.{applied_count, bytes_before, lines_below, log_beside, log_line, log_lines, log_text, outcome_text, refused_count, sent_beside}
 use Rattle.cd_read.proofs.general.Counts.{count_by-cons}
 
-pub log_lines-append : (ps qs : List Patch) (os us : List Outcome) → length os ≡ length ps → log_lines (ps ++ qs) (os ++ us) ≡ log_lines ps os ++ log_lines qs us
+pub log_lines-append : (ps qs : List Patch) (os us : List Outcome) → length os ≡ length ps
+    → log_lines (ps ++ qs) (os ++ us) ≡ log_lines ps os ++ log_lines qs us
 log_lines-append [] qs [] us same = refl
 log_lines-append [] qs (o ∷ os) us same = absurd (omega arith)
 log_lines-append (p ∷ ps) qs [] us same = absurd (omega arith)
 log_lines-append (p ∷ ps) qs (o ∷ os) us same =
-    ap (λ l. log_line p o ++ l) (log_lines-append ps qs os us (omega arith)) ∙ sym (append_assoc (log_line p o) (log_lines ps os) (log_lines qs us))
+    ap (λ l. log_line p o ++ l) (log_lines-append ps qs os us (omega arith))
+    ∙ sym (append_assoc (log_line p o) (log_lines ps os) (log_lines qs us))
 
 -- ---- beside a failed output
 
-lines_below-all : (block : ℕ) (ps : List Patch) (os : List Outcome) → All (λ p. p.block < block) ps → lines_below block ps os ≡ log_lines ps os
+lines_below-all : (block : ℕ) (ps : List Patch) (os : List Outcome) → All (λ p. p.block < block) ps
+    → lines_below block ps os ≡ log_lines ps os
 lines_below-all block [] os below = refl
 lines_below-all block (p ∷ ps) [] below = refl
 lines_below-all block (p ∷ ps) (o ∷ os) below =
-    ap (λ l. l ++ lines_below block ps os) (cond-true _ (log_line p o) [] (lt-ltb p.block block (All-head (λ q. q.block < block) p ps below)))
-    ∙ ap (λ l. log_line p o ++ l) (lines_below-all block ps os (All-tail (λ q. q.block < block) p ps below))
+    ap (λ l. l ++ lines_below block ps os)
+    (cond-true _ (log_line p o) []
+    (lt-ltb p.block block (All-head (λ q. q.block < block) p ps below)))
+    ∙ ap (λ l. log_line p o ++ l)
+    (lines_below-all block ps os (All-tail (λ q. q.block < block) p ps below))
 
-lines_below-none : (block : ℕ) (ps : List Patch) (os : List Outcome) → All (λ p. block ≤ p.block) ps → lines_below block ps os ≡ []
+lines_below-none : (block : ℕ) (ps : List Patch) (os : List Outcome) → All (λ p. block ≤ p.block) ps
+    → lines_below block ps os ≡ []
 lines_below-none block [] os behind = refl
 lines_below-none block (p ∷ ps) [] behind = refl
 lines_below-none block (p ∷ ps) (o ∷ os) behind =
-    ap (λ l. l ++ lines_below block ps os) (cond-false _ (log_line p o) [] (le-ltb p.block block (All-head (λ q. block ≤ q.block) p ps behind)))
+    ap (λ l. l ++ lines_below block ps os)
+    (cond-false _ (log_line p o) []
+    (le-ltb p.block block (All-head (λ q. block ≤ q.block) p ps behind)))
     ∙ lines_below-none block ps os (All-tail (λ q. block ≤ q.block) p ps behind)
 
-lines_below-append : (block : ℕ) (ps qs : List Patch) (os us : List Outcome) → length os ≡ length ps → lines_below block (ps ++ qs) (os ++ us) ≡ lines_below block ps os ++ lines_below block qs us
+lines_below-append : (block : ℕ) (ps qs : List Patch) (os us : List Outcome) → length os ≡ length ps
+    → lines_below block (ps ++ qs) (os ++ us) ≡ lines_below block ps os ++ lines_below block qs us
 lines_below-append block [] qs [] us same = refl
 lines_below-append block [] qs (o ∷ os) us same = absurd (omega arith)
 lines_below-append block (p ∷ ps) qs [] us same = absurd (omega arith)
 lines_below-append block (p ∷ ps) qs (o ∷ os) us same =
-    ap (λ l. cond (nat_lt p.block block) (log_line p o) [] ++ l) (lines_below-append block ps qs os us (omega arith))
-    ∙ sym (append_assoc (cond (nat_lt p.block block) (log_line p o) []) (lines_below block ps os) (lines_below block qs us))
+    ap (λ l. cond (nat_lt p.block block) (log_line p o) [] ++ l)
+    (lines_below-append block ps qs os us (omega arith))
+    ∙ sym (append_assoc (cond (nat_lt p.block block) (log_line p o) []) (lines_below block ps os)
+    (lines_below block qs us))
 
 -- the first patches begin below the block, and the others do not
-pub lines_below-cut : (block : ℕ) (ps qs : List Patch) (os us : List Outcome) → length os ≡ length ps → All (λ p. p.block < block) ps → All (λ p. block ≤ p.block) qs
+pub lines_below-cut : (block : ℕ) (ps qs : List Patch) (os us : List Outcome)
+    → length os ≡ length ps → All (λ p. p.block < block) ps → All (λ p. block ≤ p.block) qs
     → lines_below block (ps ++ qs) (os ++ us) ≡ log_lines ps os
 lines_below-cut block ps qs os us same below behind =
-    lines_below-append block ps qs os us same ∙ ap (λ l. l ++ lines_below block qs us) (lines_below-all block ps os below)
-    ∙ ap (λ l. log_lines ps os ++ l) (lines_below-none block qs us behind) ∙ append-nil (log_lines ps os)
+    lines_below-append block ps qs os us same
+    ∙ ap (λ l. l ++ lines_below block qs us) (lines_below-all block ps os below)
+    ∙ ap (λ l. log_lines ps os ++ l) (lines_below-none block qs us behind)
+    ∙ append-nil (log_lines ps os)
 
 module _ (ps : List Patch) (os : List Outcome) (base count sent : ℕ) where
   -- within a whole sector
-  pub log_beside-sector : (number : ℕ) → sent / SECTOR_SIZE ≡ number → sent < SECTOR_SIZE * (count / SECTOR_SIZE) → log_beside ps os base count sent ≡ lines_below (base + number + 1) ps os
+  pub log_beside-sector : (number : ℕ) → sent / SECTOR_SIZE ≡ number
+      → sent < SECTOR_SIZE * (count / SECTOR_SIZE)
+      → log_beside ps os base count sent ≡ lines_below (base + number + 1) ps os
   unfolding log_beside
   log_beside-sector number at inside =
-      cond-true _ _ _ (lt-ltb sent (SECTOR_SIZE * (count / SECTOR_SIZE)) inside) ∙ ap (λ n. lines_below (base + n + 1) ps os) at
+      cond-true _ _ _ (lt-ltb sent (SECTOR_SIZE * (count / SECTOR_SIZE)) inside)
+      ∙ ap (λ n. lines_below (base + n + 1) ps os) at
 
   -- within the tail
-  pub log_beside-tail : (number : ℕ) → count / SECTOR_SIZE ≡ number → SECTOR_SIZE * (count / SECTOR_SIZE) ≤ sent → sent < count → log_beside ps os base count sent ≡ lines_below (base + number) ps os
+  pub log_beside-tail : (number : ℕ) → count / SECTOR_SIZE ≡ number
+      → SECTOR_SIZE * (count / SECTOR_SIZE) ≤ sent → sent < count
+      → log_beside ps os base count sent ≡ lines_below (base + number) ps os
   unfolding log_beside
   log_beside-tail number all behind inside =
-      cond-false _ _ _ (le-ltb sent (SECTOR_SIZE * (count / SECTOR_SIZE)) behind) ∙ cond-true _ _ _ (lt-ltb sent count inside) ∙ ap (λ n. lines_below (base + n) ps os) all
+      cond-false _ _ _ (le-ltb sent (SECTOR_SIZE * (count / SECTOR_SIZE)) behind)
+      ∙ cond-true _ _ _ (lt-ltb sent count inside) ∙ ap (λ n. lines_below (base + n) ps os) all
 
-  -- behind all
-  pub log_beside-end : SECTOR_SIZE * (count / SECTOR_SIZE) ≤ sent → count ≤ sent → log_beside ps os base count sent ≡ log_text ps os
+  -- after all
+  pub log_beside-end : SECTOR_SIZE * (count / SECTOR_SIZE) ≤ sent → count ≤ sent
+      → log_beside ps os base count sent ≡ log_text ps os
   unfolding log_beside
-  log_beside-end behind all = cond-false _ _ _ (le-ltb sent (SECTOR_SIZE * (count / SECTOR_SIZE)) behind) ∙ cond-false _ _ _ (le-ltb sent count all)
+  log_beside-end behind all =
+      cond-false _ _ _ (le-ltb sent (SECTOR_SIZE * (count / SECTOR_SIZE)) behind)
+      ∙ cond-false _ _ _ (le-ltb sent count all)
 
 -- ---- beside a failed log
 
@@ -83,46 +107,66 @@ module _ (image : List ℕ) (base : ℕ) where
   unfolding bytes_before
   bytes_before-below block below = cond-true _ _ _ (lt-ltb block base below)
 
-  pub bytes_before-within : (block number : ℕ) → block ≡ base + number → number < length (sectors image) → bytes_before image base block ≡ SECTOR_SIZE * number
+  pub bytes_before-within : (block number : ℕ) → block ≡ base + number
+      → number < length (sectors image) → bytes_before image base block ≡ SECTOR_SIZE * number
   unfolding bytes_before
   bytes_before-within block number at inside =
       let which : block - base ≡ number = omega arith in
-      cond-false _ _ _ (le-ltb block base (omega arith)) ∙ cond-true _ _ _ (lt-ltb (block - base) (length (sectors image)) (omega arith)) ∙ ap (λ n. SECTOR_SIZE * n) which
+      cond-false _ _ _ (le-ltb block base (omega arith))
+      ∙ cond-true _ _ _ (lt-ltb (block - base) (length (sectors image)) (omega arith))
+      ∙ ap (λ n. SECTOR_SIZE * n) which
 
-  pub bytes_before-behind : (block : ℕ) → base + length (sectors image) ≤ block → bytes_before image base block ≡ length image
+  pub bytes_before-behind : (block : ℕ) → base + length (sectors image) ≤ block
+      → bytes_before image base block ≡ length image
   unfolding bytes_before
   bytes_before-behind block behind =
-      cond-false _ _ _ (le-ltb block base (omega arith)) ∙ cond-false _ _ _ (le-ltb (block - base) (length (sectors image)) (omega arith))
+      cond-false _ _ _ (le-ltb block base (omega arith))
+      ∙ cond-false _ _ _ (le-ltb (block - base) (length (sectors image)) (omega arith))
 
-  pub sent_beside-line : (p : Patch) (qs : List Patch) (o : Outcome) (us : List Outcome) (n : ℕ) → n < length (log_line p o) → sent_beside (p ∷ qs) (o ∷ us) base image n ≡ bytes_before image base p.block
+  pub sent_beside-line : (p : Patch) (qs : List Patch) (o : Outcome) (us : List Outcome) (n : ℕ)
+      → n < length (log_line p o)
+      → sent_beside (p ∷ qs) (o ∷ us) base image n ≡ bytes_before image base p.block
   sent_beside-line p qs o us n inside = cond-true _ _ _ (lt-ltb n (length (log_line p o)) inside)
 
-  -- behind the lines of the first patches
-  pub sent_beside-behind : (ps qs : List Patch) (os us : List Outcome) (n : ℕ) → length os ≡ length ps → sent_beside (ps ++ qs) (os ++ us) base image (length (log_lines ps os) + n) ≡ sent_beside qs us base image n
+  -- after the lines of the first patches
+  pub sent_beside-behind : (ps qs : List Patch) (os us : List Outcome) (n : ℕ)
+      → length os ≡ length ps
+      → sent_beside (ps ++ qs) (os ++ us) base image (length (log_lines ps os) + n)
+      ≡ sent_beside qs us base image n
   sent_beside-behind [] qs [] us n same = ap (sent_beside qs us base image) (omega arith)
   sent_beside-behind [] qs (o ∷ os) us n same = absurd (omega arith)
   sent_beside-behind (p ∷ ps) qs [] us n same = absurd (omega arith)
   sent_beside-behind (p ∷ ps) qs (o ∷ os) us n same =
       let line = log_line p o in
       let all = length-append line (log_lines ps os) in
-      let left : length (line ++ log_lines ps os) + n - length line ≡ length (log_lines ps os) + n = omega arith in
+      let left : length (line ++ log_lines ps os) + n - length line ≡ length (log_lines ps os) + n =
+      omega arith in
       cond-false _ _ _ (le-ltb (length (line ++ log_lines ps os) + n) (length line) (omega arith))
       ∙ ap (sent_beside (ps ++ qs) (os ++ us) base image) left
       ∙ sent_beside-behind ps qs os us n (omega arith)
 
-  -- where all of the image stands in front of each line
-  pub sent_beside-after : (ps : List Patch) (os : List Outcome) (n : ℕ) → All (λ p. bytes_before image base p.block ≡ length image) ps → sent_beside ps os base image n ≡ length image
+  -- if all of the image belongs before each line
+  pub sent_beside-after : (ps : List Patch) (os : List Outcome) (n : ℕ)
+      → All (λ p. bytes_before image base p.block ≡ length image) ps
+      → sent_beside ps os base image n ≡ length image
   sent_beside-after [] os n each = refl
   sent_beside-after (p ∷ ps) [] n each = refl
   sent_beside-after (p ∷ ps) (o ∷ os) n each =
       let line = log_line p o in
       elim (cases_lt n (length line)) [
-        | inl here ↦ cond-true _ _ _ (lt-ltb n (length line) here) ∙ All-head (λ q. bytes_before image base q.block ≡ length image) p ps each
-        | inr further ↦ cond-false _ _ _ (le-ltb n (length line) further) ∙ sent_beside-after ps os (n - length line) (All-tail (λ q. bytes_before image base q.block ≡ length image) p ps each)
+        | inl here ↦
+            cond-true _ _ _ (lt-ltb n (length line) here)
+            ∙ All-head (λ q. bytes_before image base q.block ≡ length image) p ps each
+        | inr further ↦
+            cond-false _ _ _ (le-ltb n (length line) further)
+            ∙ sent_beside-after ps os (n - length line)
+            (All-tail (λ q. bytes_before image base q.block ≡ length image) p ps each)
       ]
 
-  -- within the lines of patches in front of which as many bytes stand
-  pub sent_beside-alike : (count : ℕ) (ps qs : List Patch) (os us : List Outcome) (n : ℕ) → length os ≡ length ps → All (λ p. bytes_before image base p.block ≡ count) ps → n < length (log_lines ps os)
+  -- within the lines of patches before which as many bytes belong
+  pub sent_beside-alike : (count : ℕ) (ps qs : List Patch) (os us : List Outcome) (n : ℕ)
+      → length os ≡ length ps → All (λ p. bytes_before image base p.block ≡ count) ps
+      → n < length (log_lines ps os)
       → sent_beside (ps ++ qs) (os ++ us) base image n ≡ count
   sent_beside-alike count [] qs [] us n same each inside = absurd (omega arith)
   sent_beside-alike count [] qs (o ∷ os) us n same each inside = absurd (omega arith)
@@ -131,10 +175,13 @@ module _ (image : List ℕ) (base : ℕ) where
       let line = log_line p o in
       let all = length-append line (log_lines ps os) in
       elim (cases_lt n (length line)) [
-        | inl here ↦ cond-true _ _ _ (lt-ltb n (length line) here) ∙ All-head (λ q. bytes_before image base q.block ≡ count) p ps each
+        | inl here ↦
+            cond-true _ _ _ (lt-ltb n (length line) here)
+            ∙ All-head (λ q. bytes_before image base q.block ≡ count) p ps each
         | inr further ↦
             cond-false _ _ _ (le-ltb n (length line) further)
-            ∙ sent_beside-alike count ps qs os us (n - length line) (omega arith) (All-tail (λ q. bytes_before image base q.block ≡ count) p ps each) (omega arith)
+            ∙ sent_beside-alike count ps qs os us (n - length line) (omega arith)
+            (All-tail (λ q. bytes_before image base q.block ≡ count) p ps each) (omega arith)
       ]
 
 -- ---- patches whose first block is missing
@@ -143,7 +190,8 @@ module _ (image : List ℕ) (base : ℕ) where
 abbrev pub AreMissing : List (List ℕ) → ℕ → List Patch → Type 0
 AreMissing whole base ps = All (λ p. (p.block < base) ⊎ (base + length whole ≤ p.block)) ps
 
-pub PatchRun-missing : (carry : Bool) (ps : List Patch) (whole : List (List ℕ)) (base : ℕ) → AreMissing whole base ps → PatchRun carry ps (missing_outcomes ps) base whole whole
+pub PatchRun-missing : (carry : Bool) (ps : List Patch) (whole : List (List ℕ)) (base : ℕ)
+    → AreMissing whole base ps → PatchRun carry ps (missing_outcomes ps) base whole whole
 PatchRun-missing carry [] whole base none = refl
 PatchRun-missing carry (p ∷ ps) whole base none =
     let here = All-head (λ q. (q.block < base) ⊎ (base + length whole ≤ q.block)) p ps none in
@@ -170,8 +218,10 @@ counts-all (o ∷ os) =
     let others = counts-all os in
     let accepted = count_by-cons is_applied o os in
     let refused = count_by-cons (λ u. not (is_applied u)) o os in
-    let both : (cond (is_applied o) 1 0 + applied_count os) + (cond (not (is_applied o)) 1 0 + refused_count os) ≡ suc (length os) =
-    elim (is_applied o) as (λ t. (cond t 1 0 + applied_count os) + (cond (not t) 1 0 + refused_count os) ≡ suc (length os)) [
+    let both : (cond (is_applied o) 1 0 + applied_count os)
+    + (cond (not (is_applied o)) 1 0 + refused_count os) ≡ suc (length os) =
+    elim (is_applied o) as (λ t. (cond t 1 0 + applied_count os)
+    + (cond (not t) 1 0 + refused_count os) ≡ suc (length os)) [
       | true ↦ omega arith
       | false ↦ omega arith
     ] in
@@ -182,39 +232,60 @@ counts-all (o ∷ os) =
 -- no line is empty
 pub log_line-some : (p : Patch) (o : Outcome) → 0 < length (log_line p o)
 unfolding log_line
-log_line-some p o = omega (arith, length-append (codes "line " ++ decimal p.line ++ codes ": " ++ outcome_text o) (codes "\n"))
+log_line-some p o =
+    omega (
+      arith,
+      length-append (codes "line " ++ decimal p.line ++ codes ": " ++ outcome_text o) (codes "\n"),
+    )
 
 abbrev pub missing_lines : List Patch → List ℕ
 missing_lines ps = log_lines ps (missing_outcomes ps)
 
-pub missing_lines-append : (ps qs : List Patch) → missing_lines (ps ++ qs) ≡ missing_lines ps ++ missing_lines qs
+pub missing_lines-append : (ps qs : List Patch)
+    → missing_lines (ps ++ qs) ≡ missing_lines ps ++ missing_lines qs
 missing_lines-append ps qs =
-    ap (log_lines (ps ++ qs)) (map-append (λ p. NoBlock p.block) ps qs) ∙ log_lines-append ps qs (missing_outcomes ps) (missing_outcomes qs) (length-missing_outcomes ps)
+    ap (log_lines (ps ++ qs)) (map-append (λ p. NoBlock p.block) ps qs)
+    ∙ log_lines-append ps qs (missing_outcomes ps) (missing_outcomes qs)
+    (length-missing_outcomes ps)
 
-module _ (ps : List Patch) (i : ℕ) (p : Patch) (inside : i < length ps) (is : p ≡ get_or ps i p) where
+module _ (ps : List Patch) (i : ℕ) (p : Patch) (inside : i < length ps)
+    (is : p ≡ get_or ps i p) where
   -- one patch more
-  pub missing_lines-more : missing_lines (take (i + 1) ps) ≡ missing_lines (take i ps) ++ log_line p (NoBlock p.block)
+  pub missing_lines-more : missing_lines (take (i + 1) ps)
+      ≡ missing_lines (take i ps) ++ log_line p (NoBlock p.block)
   missing_lines-more =
-      ap (λ n. missing_lines (take n ps)) (add-one i) ∙ ap missing_lines (take-suc ps i p inside) ∙ ap (λ q. missing_lines (take i ps ++ q ∷ [])) (sym is)
-      ∙ missing_lines-append (take i ps) (p ∷ []) ∙ ap (λ l. missing_lines (take i ps) ++ l) (append-nil (log_line p (NoBlock p.block)))
+      ap (λ n. missing_lines (take n ps)) (add-one i) ∙ ap missing_lines (take-suc ps i p inside)
+      ∙ ap (λ q. missing_lines (take i ps ++ q ∷ [])) (sym is)
+      ∙ missing_lines-append (take i ps) (p ∷ [])
+      ∙ ap (λ l. missing_lines (take i ps) ++ l) (append-nil (log_line p (NoBlock p.block)))
 
-  all_lines : missing_lines ps ≡ missing_lines (take i ps) ++ (log_line p (NoBlock p.block) ++ missing_lines (drop (suc i) ps))
+  all_lines : missing_lines ps
+      ≡ missing_lines (take i ps)
+      ++ (log_line p (NoBlock p.block) ++ missing_lines (drop (suc i) ps))
   all_lines =
       ap missing_lines (sym (take-append-drop i ps)) ∙ missing_lines-append (take i ps) (drop i ps)
-      ∙ ap (λ qs. missing_lines (take i ps) ++ missing_lines qs) (drop-cons ps i p inside ∙ ap (λ q. q ∷ drop (suc i) ps) (sym is))
+      ∙ ap (λ qs. missing_lines (take i ps) ++ missing_lines qs)
+      (drop-cons ps i p inside ∙ ap (λ q. q ∷ drop (suc i) ps) (sym is))
 
   -- a log that fails in the next line has got a front of all the lines
-  pub missing_lines-cut : {X E : Type 0} (old before new : Outgoing) (n : ℕ) → n < length (log_line p (NoBlock p.block)) → Takes old before (missing_lines (take i ps))
-      → Takes before new (take n (log_line p (NoBlock p.block))) → new.flushes ≡ old.flushes → before.failures ≡ old.failures → new.failures ≡ before.failures + 1 → new.finished ≡ false → (e : E)
+  pub missing_lines-cut : {X E : Type 0} (old before new : Outgoing) (n : ℕ)
+      → n < length (log_line p (NoBlock p.block)) → Takes old before (missing_lines (take i ps))
+      → Takes before new (take n (log_line p (NoBlock p.block))) → new.flushes ≡ old.flushes
+      → before.failures ≡ old.failures → new.failures ≡ before.failures + 1 → new.finished ≡ false
+      → (e : E)
       → Sends {X = X} {E = E} old new (missing_lines ps) (Err e)
   missing_lines-cut {X} {E} old before new n short told went unflushed kept failed unfinished e =
       let front = missing_lines (take i ps) in
       let line = log_line p (NoBlock p.block) in
       let behind = missing_lines (drop (suc i) ps) in
-      let size : length (missing_lines ps) ≡ length front + (length line + length behind) = ap length all_lines ∙ length-append front (line ++ behind) ∙ ap (λ m. length front + m) (length-append line behind) in
+      let size : length (missing_lines ps) ≡ length front + (length line + length behind) =
+      ap length all_lines ∙ length-append front (line ++ behind)
+      ∙ ap (λ m. length front + m) (length-append line behind) in
       let part : take (length front + n) (missing_lines ps) ≡ front ++ take n line =
-      ap (take (length front + n)) all_lines ∙ take-append-add front (line ++ behind) n ∙ ap (λ l. front ++ l) (take-append-le n line behind (omega arith)) in
-      let all : Takes old new (take (length front + n) (missing_lines ps)) = subst (Takes old new) (sym part) (Takes-trans old before new front (take n line) told went) in
+      ap (take (length front + n)) all_lines ∙ take-append-add front (line ++ behind) n
+      ∙ ap (λ l. front ++ l) (take-append-le n line behind (omega arith)) in
+      let all : Takes old new (take (length front + n) (missing_lines ps)) =
+      subst (Takes old new) (sym part) (Takes-trans old before new front (take n line) told went) in
       record {
         bytes = (length front + n, omega (arith, size), all.appends);
         taken = (length front + n, omega (arith, size), all);

@@ -13,7 +13,8 @@ use Rattle.cd_jobs.specs.Run.{SaysLine}
 
 module _ (line : List ℕ) (before after : Outgoing) where
   -- a write of the line failed
-  pub SaysLine-cut : (e : SinkFailed) → Sends {X = Unit {0}} before after line (Err e) → SaysLine line before after
+  pub SaysLine-cut : (e : SinkFailed) → Sends {X = Unit {0}} before after line (Err e)
+      → SaysLine line before after
   SaysLine-cut e sends = let went = sends.taken in record {
     sent = take went.0 line;
     takes = went.2;
@@ -26,7 +27,8 @@ module _ (line : List ℕ) (before after : Outgoing) where
   }
 
   -- the line went out, and the flush answered
-  pub SaysLine-whole : (middle : Outgoing) (sent : Unit {0}) (flushed : Result (Unit {0}) SinkFailed) → Sends {E = SinkFailed} before middle line (Ok sent)
+  pub SaysLine-whole : (middle : Outgoing) (sent : Unit {0})
+      (flushed : Result (Unit {0}) SinkFailed) → Sends {E = SinkFailed} before middle line (Ok sent)
       → Flushes middle after flushed → SaysLine line before after
   SaysLine-whole middle x flushed sends flush = record {
     sent = line;
@@ -39,7 +41,8 @@ module _ (line : List ℕ) (before after : Outgoing) where
     unflushed = λ short. absurd (omega (arith, short));
   }
     where
-      finished : (flushed : Result (Unit {0}) SinkFailed) → after.finished ≡ is_ok flushed → OnOk flushed ((line ≡ line) × (after.finished ≡ true))
+      finished : (flushed : Result (Unit {0}) SinkFailed) → after.finished ≡ is_ok flushed
+          → OnOk flushed ((line ≡ line) × (after.finished ≡ true))
       finished (Ok y) is = (refl, is)
       finished (Err e) is = tt
 
@@ -47,27 +50,32 @@ module _ (line : List ℕ) (before after : Outgoing) where
 pub one-more : {m n : ℕ} → m ≡ n + 1 → m ≢ n
 one-more up same = omega (arith, up, same)
 
--- a call that says that the image is too long has not been told its end
+-- a call that says that the image is too long has not met its end
 pub Reports-unended : {T : Type 0} {spec : ReportSpec T} {image image' : Incoming}
     {out out' : Outgoing} {fault : Fault}
     → Reports spec image image' out out' (Err fault) → fault ≡ TooLong → image'.ended ≡ false
 Reports-unended {spec = spec} {image} {image'} {out} {out'} reports is =
-    (subst (λ f. Answers spec reports.read reports.sent image image' out out' (Err f)) is reports.answers).unended
+    (subst (λ f. Answers spec reports.read reports.sent image image' out out' (Err f)) is
+    reports.answers).unended
 
-pub Applies-unended : {carry : Bool} {patches : List Patch} {base : ℕ} {old new : Streams} {fault : Fault}
+pub Applies-unended : {carry : Bool} {patches : List Patch} {base : ℕ} {old new : Streams}
+    {fault : Fault}
     → Applies carry patches base old new (Err fault) → fault ≡ TooLong → new.image.ended ≡ false
 Applies-unended {carry} {patches} {base} {old} {new} applies is =
-    (subst (λ f. AppliesBy carry patches base applies.read applies.sent applies.told old new (Err f)) is applies.answers).unended
+    (subst (λ f. AppliesBy carry patches base applies.read applies.sent applies.told old new
+    (Err f)) is applies.answers).unended
 
 -- what each fault shows
-pub fault-counts : {A B C D : Type 0} (fault : Fault) → (fault ≡ Read → A) → (fault ≡ Write → B) → (fault ≡ Log → C) → (fault ≡ TooLong → D) → A ⊎ B ⊎ C ⊎ D
+pub fault-counts : {A B C D : Type 0} (fault : Fault) → (fault ≡ Read → A) → (fault ≡ Write → B)
+    → (fault ≡ Log → C) → (fault ≡ TooLong → D) → A ⊎ B ⊎ C ⊎ D
 fault-counts Read a b c d = inl (a refl)
 fault-counts Write a b c d = inr (inl (b refl))
 fault-counts Log a b c d = inr (inr (inl (c refl)))
 fault-counts TooLong a b c d = inr (inr (inr (d refl)))
 
 -- the same of a call without an output
-pub fault-counts-read : {A B C : Type 0} (fault : Fault) → (fault ≡ Read → A) → (fault ≢ Write) → (fault ≡ Log → B) → (fault ≡ TooLong → C) → A ⊎ B ⊎ C
+pub fault-counts-read : {A B C : Type 0} (fault : Fault) → (fault ≡ Read → A) → (fault ≢ Write)
+    → (fault ≡ Log → B) → (fault ≡ TooLong → C) → A ⊎ B ⊎ C
 fault-counts-read Read a none b c = inl (a refl)
 fault-counts-read Write a none b c = absurd (none refl)
 fault-counts-read Log a none b c = inr (inl (b refl))

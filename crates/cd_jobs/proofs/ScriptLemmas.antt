@@ -12,12 +12,16 @@ use Rattle.cd_jobs.specs.declared.script.LoadFault.{LoadFault}
 use Rattle.cd_jobs.specs.declared.script.LoadFault.TheVariants.{NoMemory, Read, TooLong}
 
 -- the bytes that had come, and those of the last read
-pub length-with_last : (earlier into : List ℕ) (n : ℕ) → n ≤ length into → length (earlier ++ take n into) ≡ length earlier + n
-length-with_last earlier into n h = omega (arith, length-append earlier (take n into), length-take-le n into h)
+pub length-with_last : (earlier into : List ℕ) (n : ℕ) → n ≤ length into
+    → length (earlier ++ take n into) ≡ length earlier + n
+length-with_last earlier into n h =
+    omega (arith, length-append earlier (take n into), length-take-le n into h)
 
--- a fault behind a read
-pub Gathers-stopped : {T : Type 0} (bytes_of : T → List ℕ) (file middle file' : Incoming) (fault : LoadFault) (earlier came : List ℕ)
-    → Gives file middle earlier → Gives middle file' came → Stops fault (earlier ++ came) file file' → Gathers bytes_of file file' (Err fault)
+-- a fault after a read
+pub Gathers-stopped : {T : Type 0} (bytes_of : T → List ℕ) (file middle file' : Incoming)
+    (fault : LoadFault) (earlier came : List ℕ)
+    → Gives file middle earlier → Gives middle file' came → Stops fault (earlier ++ came) file file'
+    → Gathers bytes_of file file' (Err fault)
 Gathers-stopped bytes_of file middle file' fault earlier came first last stops = record {
   read = earlier ++ came;
   gives = Gives-trans _ _ _ earlier came first last;
@@ -25,16 +29,28 @@ Gathers-stopped bytes_of file middle file' fault earlier came first last stops =
 }
 
 -- the fault was want of memory
-pub Gathers-refused : {T : Type 0} (bytes_of : T → List ℕ) (file middle file' : Incoming) (result : Result T LoadFault) (earlier came : List ℕ)
+pub Gathers-refused : {T : Type 0} (bytes_of : T → List ℕ) (file middle file' : Incoming)
+    (result : Result T LoadFault) (earlier came : List ℕ)
     → IsErrAnd result (λ fault. fault ≡ NoMemory)
-    → Gives file middle earlier → Gives middle file' came → Stops NoMemory (earlier ++ came) file file' → Gathers bytes_of file file' result
-Gathers-refused bytes_of file middle file' (Ok text) earlier came refused first last stops = absurd refused
+    → Gives file middle earlier → Gives middle file' came
+    → Stops NoMemory (earlier ++ came) file file' → Gathers bytes_of file file' result
+Gathers-refused bytes_of file middle file' (Ok text) earlier came refused first last stops =
+    absurd refused
 Gathers-refused bytes_of file middle file' (Err fault) earlier came refused first last stops =
-    Gathers-stopped bytes_of file middle file' fault earlier came first last (subst (λ f. Stops f (earlier ++ came) file file') (sym refused) stops)
+    Gathers-stopped bytes_of file middle file' fault earlier came first last
+    (subst (λ f. Stops f (earlier ++ came) file file') (sym refused) stops)
 
--- a fault and its line tell whether a read failed
-pub Stops-tells : {T : Type 0} (fault : LoadFault) (read : List ℕ) (file file' : Incoming) (log log' : Outgoing) (status : ℕ)
-    → status ≡ 2 → Stops fault read file file' → SaysLine (load_fault_line fault) log log' → TellsFailedReads {T = T} file file' log log' (Err status)
-Stops-tells Read read file file' log log' status is stops says = record { failed = λ rose. (ap Err is, says); others = λ same. absurd (omega (arith, stops.0, same)) }
-Stops-tells TooLong read file file' log log' status is stops says = record { failed = λ rose. absurd (rose stops.0); others = λ same. inl (ap Err is, says) }
-Stops-tells NoMemory read file file' log log' status is stops says = record { failed = λ rose. absurd (rose stops.0); others = λ same. inr (ap Err is, says) }
+-- a fault and its line say whether a read failed
+pub Stops-tells : {T : Type 0} (fault : LoadFault) (read : List ℕ) (file file' : Incoming)
+    (log log' : Outgoing) (status : ℕ)
+    → status ≡ 2 → Stops fault read file file' → SaysLine (load_fault_line fault) log log'
+    → TellsFailedReads {T = T} file file' log log' (Err status)
+Stops-tells Read read file file' log log' status is stops says =
+    record {
+      failed = λ rose. (ap Err is, says);
+      others = λ same. absurd (omega (arith, stops.0, same));
+    }
+Stops-tells TooLong read file file' log log' status is stops says =
+    record { failed = λ rose. absurd (rose stops.0); others = λ same. inl (ap Err is, says) }
+Stops-tells NoMemory read file file' log log' status is stops says =
+    record { failed = λ rose. absurd (rose stops.0); others = λ same. inr (ap Err is, says) }

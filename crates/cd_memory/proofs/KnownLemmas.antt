@@ -74,7 +74,8 @@ Fits-within read rest within = record {
   begins = (
     take (image_limit - length read) rest,
     cut-at image_limit read rest within
-        ∙ ap (λ front. front ++ take (image_limit - length read) rest) (sym (take_all image_limit read within)),
+        ∙ ap (λ front. front ++ take (image_limit - length read) rest)
+        (sym (take_all image_limit read within)),
   );
 }
 
@@ -82,7 +83,8 @@ pub Fits-beyond : (read rest : List ℕ) → image_limit ≤ length read
     → Fits read (take image_limit (read ++ rest))
 Fits-beyond read rest beyond = record {
   within = omega (arith, length-take image_limit (read ++ rest));
-  begins = ([], take-append-le image_limit read rest beyond ∙ sym (append-nil (take image_limit read)));
+  begins =
+      ([], take-append-le image_limit read rest beyond ∙ sym (append-nil (take image_limit read)));
 }
 
 pub FitsLeft-within : (read rest : List ℕ) → length read ≤ image_limit

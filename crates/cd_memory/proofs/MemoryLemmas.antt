@@ -16,15 +16,18 @@ use Rattle.cd_memory.specs.declared.memory.Memory.{Memory}
 -- ---- the image of a name
 
 module _ {O : Type 0} (gone : O → Outgoing) where
-  pub TakesImage-opens : (name : List ℕ) (host host' : Memory) (answer : Result SliceSource OpenFault)
+  pub TakesImage-opens : (name : List ℕ) (host host' : Memory)
+      (answer : Result SliceSource OpenFault)
       → TakesImage (memory_hosting gone) name host answer host'
       → (host' ≡ host) × Opens (image_at (given (files_of host) (input_of host)) name) answer
   TakesImage-opens name host host' answer takes = go (bytes_eq name (codes "-")) refl
     where
       go : (b : Bool) → bytes_eq name (codes "-") ≡ b
-          → (host' ≡ host) × Opens (if b then Some (input_of host) else bytes_at (files_of host) name) answer
+          → (host' ≡ host)
+          × Opens (if b then Some (input_of host) else bytes_at (files_of host) name) answer
       go true is = takes.standard ((bytes_eq-Decides name (codes "-")).0 is)
-      go false is = takes.file (λ same. let other = (bytes_eq-Decides name (codes "-")).1 same in cc)
+      go false is =
+          takes.file (λ same. let other = (bytes_eq-Decides name (codes "-")).1 same in cc)
 
 -- ---- whether there is a file
 
@@ -62,7 +65,8 @@ pub with_bytes-one : (name earlier bytes : List ℕ)
 with_bytes-one name earlier bytes = go (bytes_eq name name) (bytes_eq-same name)
   where
     go : (b : Bool) → b ≡ true
-        → with_file (named name earlier ∷ []) (position (λ f. b) (named name earlier ∷ [])) (named name bytes)
+        → with_file (named name earlier ∷ []) (position (λ f. b) (named name earlier ∷ []))
+        (named name bytes)
         ≡ named name bytes ∷ []
     go true is = refl
     go false is = cc

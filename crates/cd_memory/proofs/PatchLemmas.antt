@@ -40,10 +40,12 @@ module _ (settings : Settings) {before : Given} {image name : List ℕ} (after :
   -- what was read and what is left
   parts : (read : List ℕ) → Consumes old.image.rest new.image.rest read → files.bytes ≡ read ++ rest
   parts read came =
-      Consumes-known old.image.rest new.image.rest files.bytes rest read memory.before memory.behind came
+      Consumes-known old.image.rest new.image.rest files.bytes rest read memory.before
+      memory.behind came
 
   -- what the log has got
-  logged : (told : List ℕ) → Appends old.log.written new.log.written told → new.log.written ≡ Some told
+  logged : (told : List ℕ) → Appends old.log.written new.log.written told
+      → new.log.written ≡ Some told
   logged told went =
       Appends-Some old.log.written new.log.written [] told (ap (λ o. o.written) memory.log) went
 
@@ -52,7 +54,7 @@ module _ (settings : Settings) {before : Given} {image name : List ℕ} (after :
   failed-log n rose =
       let none : old.log.failures ≡ 0 = ap (λ o. o.failures) memory.log in omega (arith, rose, none)
 
-  -- the text that is left, where nothing followed
+  -- the text that is left, if nothing followed
   text-of : (told : List ℕ) → Appends old.log.written new.log.written told → log ≡ new.log
       → after.text ≡ told
   text-of told went same =
@@ -70,7 +72,7 @@ module _ (settings : Settings) {before : Given} {image name : List ℕ} (after :
   fits-beyond read is beyond =
       subst (λ b. Fits read (take image_limit b)) (sym is) (Fits-beyond read rest beyond)
 
-  -- a line was said after what was told
+  -- a line was said after what was logged
   line-after : (line told : List ℕ) → Appends old.log.written new.log.written told
       → new.log.failures ≡ old.log.failures + 0 → SaysLine line new.log log
       → Prints after told line
@@ -83,13 +85,15 @@ module _ (settings : Settings) {before : Given} {image name : List ℕ} (after :
   takes (Ok tally) a ends =
       let c = a.answers in
       let none : rest ≡ [] = subst IsAtEnd memory.behind c.at_end in
-      let whole : files.bytes ≡ a.read = read-whole files.bytes a.read rest (parts a.read a.consumes) none in
+      let whole : files.bytes ≡ a.read =
+      read-whole files.bytes a.read rest (parts a.read a.consumes) none in
       Took.done
       (record {
         within = subst (λ b. length b ≤ image_limit) (sym whole) c.within;
         outcomes = c.outcomes;
         last = a.sent;
-        patched = subst (λ b. IsPatched settings.carry files.patches c.outcomes settings.base b a.sent)
+        patched =
+            subst (λ b. IsPatched settings.carry files.patches c.outcomes settings.base b a.sent)
             (sym whole) c.patched;
         text = text-of a.told a.logs ends.0 ∙ c.log_told;
         status = ends.1 ∙ ap script_status c.tally_right
@@ -101,7 +105,9 @@ module _ (settings : Settings) {before : Given} {image name : List ℕ} (after :
       let read = parts a.read a.consumes in
       Took.stopped (record {
         told = a.told;
-        begins = a.answers.begins (take image_limit files.bytes) (fits-left a.read read a.answers.within);
+        begins =
+            a.answers.begins (take image_limit files.bytes)
+            (fits-left a.read read a.answers.within);
         why = Stops.no_room (line-after (fault_line Write) a.told a.logs a.answers.failed.logs
             (ends.0.1 (λ is. cc)));
         status = ends.1;
@@ -111,7 +117,9 @@ module _ (settings : Settings) {before : Given} {image name : List ℕ} (after :
       let same : log ≡ new.log = ends.0.0 refl in
       Took.stopped (record {
         told = a.told;
-        begins = a.answers.begins (take image_limit files.bytes) (fits-left a.read read a.answers.within);
+        begins =
+            a.answers.begins (take image_limit files.bytes)
+            (fits-left a.read read a.answers.within);
         why = Stops.no_text
             (cut-by-failure after.complete log.failures leaves.complete
             (ap (λ o. o.failures) same ∙ failed-log 1 a.answers.failed.logs))
@@ -127,6 +135,7 @@ module _ (settings : Settings) {before : Given} {image name : List ℕ} (after :
         begins = a.answers.begins (take image_limit files.bytes)
             (fits-beyond a.read read (omega (arith, beyond)));
         why = Stops.too_long (omega (arith, size, beyond, length-append a.read rest))
-            (line-after (fault_line TooLong) a.told a.logs a.answers.failed.logs (ends.0.1 (λ is. cc)));
+            (line-after (fault_line TooLong) a.told a.logs a.answers.failed.logs
+            (ends.0.1 (λ is. cc)));
         status = ends.1;
       })

@@ -18,12 +18,15 @@ pub Prints-line : (line front : List ℕ) (before after : Outgoing) (left : Left
     → SaysLine line before after → Prints left front line
 Prints-line line front before after left had none leaves says = record {
   said = says.sent;
-  text = Appends-known before.written after.written front left.text says.sent had leaves.text says.takes.appends;
+  text =
+      Appends-known before.written after.written front left.text says.sent had leaves.text
+      says.takes.appends;
   begins = says.begins;
   whole = go says.answer says.whole says.count;
 }
   where
-    go : (answer : Result (Unit {0}) SinkFailed) → OnOk answer ((says.sent ≡ line) × (after.finished ≡ true))
+    go : (answer : Result (Unit {0}) SinkFailed)
+        → OnOk answer ((says.sent ≡ line) × (after.finished ≡ true))
         → Counts before.failures after.failures answer → left.complete ≡ true → says.sent ≡ line
     go (Ok x) went same is = went.0
     go (Err e) went more is =

@@ -34,7 +34,8 @@ module _ {T : Type 0} (spec : ReportSpec T) (status_of : T → ℕ) (before : Gi
   reports (Ok tally) r ends =
       let c = r.answers in
       let none : rest ≡ [] = subst IsAtEnd left c.at_end in
-      let read = Consumes-known image.rest image'.rest bytes rest r.read known left r.gives.consumes in
+      let read =
+      Consumes-known image.rest image'.rest bytes rest r.read known left r.gives.consumes in
       let whole : bytes ≡ r.read = read-whole bytes r.read rest read none in
       ReportsOn.reported bytes there
       (subst (λ b. length b ≤ image_limit) (sym whole) c.within)
@@ -45,7 +46,8 @@ module _ {T : Type 0} (spec : ReportSpec T) (status_of : T → ℕ) (before : Gi
   reports (Err Log) r ends = absurd r.answers
   reports (Err Write) r ends =
       let c = r.answers in
-      let read = Consumes-known image.rest image'.rest bytes rest r.read known left r.gives.consumes in
+      let read =
+      Consumes-known image.rest image'.rest bytes rest r.read known left r.gives.consumes in
       let same : log ≡ out' = ends.0.0 refl in
       let none : out.failures ≡ 0 = ap (λ o. o.failures) fresh in
       ReportsOn.stopped bytes r.sent there
@@ -60,7 +62,8 @@ module _ {T : Type 0} (spec : ReportSpec T) (status_of : T → ℕ) (before : Gi
       ends.1 none_made
   reports (Err TooLong) r ends =
       let c = r.answers in
-      let read = Consumes-known image.rest image'.rest bytes rest r.read known left r.gives.consumes in
+      let read =
+      Consumes-known image.rest image'.rest bytes rest r.read known left r.gives.consumes in
       let size : length bytes ≡ length (r.read ++ rest) = ap length read in
       ReportsOn.stopped bytes r.sent there
       (c.beginning (take image_limit bytes)

@@ -51,14 +51,16 @@ module _ (before : Given) (name : List ℕ) {log log' : Outgoing} where
       → Stops fault read (slice_incoming file) (slice_incoming left)
       → Fails (load_fault_line fault) log log' status → Lacks before name log log' status
   unfolding load_fault_line
-  lacks-stopped bytes read file left Read is opens came stops fails = absurd (omega (arith, stops.0))
+  lacks-stopped bytes read file left Read is opens came stops fails =
+      absurd (omega (arith, stops.0))
   lacks-stopped bytes read file left TooLong is opens came stops fails =
       let all : bytes ≡ read ++ left.rest.now =
       Consumes-known (slice_incoming file).rest (slice_incoming left).rest bytes left.rest.now read
       (ap (λ i. i.rest) opens) refl came.consumes in
       let long : length bytes ≡ length (read ++ left.rest.now) = ap length all in (
         load_fault_line TooLong,
-        NoPatches.too_long bytes is (omega (arith, long, length-append read left.rest.now, stops.2)) refl,
+        NoPatches.too_long bytes is
+            (omega (arith, long, length-append read left.rest.now, stops.2)) refl,
         fails,
       )
   lacks-stopped bytes read file left NoMemory is opens came stops fails =
@@ -71,9 +73,15 @@ module _ (before : Given) (name : List ℕ) {log log' : Outgoing} where
       → Fails (script_fault_line fault) log log' status → Lacks before name log log' status
   lacks-faulty {status = status} bytes fault is other fails = go (memory-or-other fault)
     where
-      go : ((fault ≡ script_fault.NoMemory) ⊎ (fault ≢ script_fault.NoMemory)) → Lacks before name log log' status
-      go (inl memory) = (script_fault_line fault, NoPatches.without_memory (inr (ap script_fault_line memory)), fails)
-      go (inr another) = (script_fault_line fault, NoPatches.faulty bytes fault is (other another) refl, fails)
+      go : ((fault ≡ script_fault.NoMemory) ⊎ (fault ≢ script_fault.NoMemory))
+          → Lacks before name log log' status
+      go (inl memory) = (
+        script_fault_line fault,
+        NoPatches.without_memory (inr (ap script_fault_line memory)),
+        fails,
+      )
+      go (inr another) =
+          (script_fault_line fault, NoPatches.faulty bytes fault is (other another) refl, fails)
 
   lacks-read : {status : ℕ} (bytes : List ℕ) (file left : SliceSource)
       → bytes_at before.files name ≡ Some bytes → slice_incoming file ≡ fresh_incoming bytes
@@ -99,7 +107,8 @@ module _ (before : Given) (name : List ℕ) {log log' : Outgoing} where
       (subst (λ f. SaysLine (open_fault_line no_script f) log log') opens comes.1, cc),
     )
     lacks-patches (Some bytes) is (Err fault) opens comes = absurd opens
-    lacks-patches (Some bytes) is (Ok file) opens comes = lacks-read bytes file comes.0 is opens comes.1
+    lacks-patches (Some bytes) is (Ok file) opens comes =
+        lacks-read bytes file comes.0 is opens comes.1
 
     -- the patches, and nothing was said
     pub has-patches : (patches : List Patch) (found : Option (List ℕ))

@@ -45,8 +45,10 @@ rest-kept old new bytes rest got = go old.finished refl old.failures refl
     go : (finished : Bool) → old.finished ≡ finished → (failures : ℕ) → old.failures ≡ failures
         → new.written ≡ Some bytes
     go true done failures count = unmoved (rest.idle (inl done))
-    go false unfinished zero count = Keeps-Some old.written new.written bytes got (rest.once unfinished count).1.bytes
-    go false unfinished (suc n) count = unmoved (rest.idle (inr (λ none. let no : suc n ≡ 0 = sym count ∙ none in cc)))
+    go false unfinished zero count =
+        Keeps-Some old.written new.written bytes got (rest.once unfinished count).1.bytes
+    go false unfinished (suc n) count =
+        unmoved (rest.idle (inr (λ none. let no : suc n ≡ 0 = sym count ∙ none in cc)))
 
 module _ {O : Type 0} (gone : O → Outgoing) (host host' : Memory) (log : Outgoing) (after : Left)
     (fresh_host : made_of host ≡ []) (leaves : Leaves log after)
@@ -68,10 +70,13 @@ module _ {O : Type 0} (gone : O → Outgoing) (host host' : Memory) (log : Outgo
 
   -- there is no image
   no-image : (name : List ℕ)
-      → NoImage slice_incoming gone (memory_hosting gone) host' log after.status name host fresh_outgoing
+      → NoImage slice_incoming gone (memory_hosting gone) host' log after.status name host
+      fresh_outgoing
       → (image_at before name ≡ None) × Fails after no_image
   unfolding open_fault_line
-  no-image name missing = go (image_at before name) refl (TakesImage-opens gone name host host' (Err missing.0) missing.1)
+  no-image name missing =
+      go (image_at before name) refl
+      (TakesImage-opens gone name host host' (Err missing.0) missing.1)
     where
       go : (found : Option (List ℕ)) → image_at before name ≡ found
           → (host' ≡ host) × Opens found (Err missing.0)
@@ -80,14 +85,16 @@ module _ {O : Type 0} (gone : O → Outgoing) (host host' : Memory) (log : Outgo
       go None is opens = (
         is,
         fails-with no_image (none-made opens.0)
-            (subst (λ f. SaysLine (open_fault_line no_image f) fresh_outgoing log) opens.1 missing.2.0)
+            (subst (λ f. SaysLine (open_fault_line no_image f) fresh_outgoing log)
+            opens.1 missing.2.0)
             missing.2.1,
       )
 
   -- ---- `list` and `audit`
 
   pub reports-on : {T : Type 0} (spec : ReportSpec T) (status_of : T → ℕ) (name : List ℕ)
-      → DoesReport slice_incoming gone (memory_hosting gone) host' log after.status spec status_of name host fresh_outgoing
+      → DoesReport slice_incoming gone (memory_hosting gone) host' log after.status spec status_of
+      name host fresh_outgoing
       → ReportsOn spec status_of name before after
   reports-on spec status_of name (DoesReport.without_image missing) =
       let none = no-image name missing in ReportsOn.without_image none.0 none.1
@@ -106,7 +113,8 @@ module _ {O : Type 0} (gone : O → Outgoing) (host host' : Memory) (log : Outgo
   -- ---- scripts
 
   no-script : (name : List ℕ)
-      → NoScript slice_incoming gone (memory_hosting gone) host' log after.status name host fresh_outgoing
+      → NoScript slice_incoming gone (memory_hosting gone) host' log after.status name host
+      fresh_outgoing
       → (line : List ℕ) × NoPatches before name line × Fails after line
   no-script name missing =
       let lacks = lacks-patches before name gone (bytes_at (files_of host) name) refl
@@ -114,13 +122,15 @@ module _ {O : Type 0} (gone : O → Outgoing) (host host' : Memory) (log : Outgo
       (lacks.0, lacks.1, fails-with lacks.0 (none-made missing.asked.0) lacks.2.0 lacks.2.1)
 
   -- the script was read, nothing was said, and the host is as it was
-  record ReadScript (name : List ℕ) (patches : List Patch) (second : Memory) (said : Outgoing) : Type 0 where
+  record ReadScript (name : List ℕ) (patches : List Patch) (second : Memory)
+      (said : Outgoing) : Type 0 where
     pub has : HasPatches before name patches
     pub silent : said ≡ fresh_outgoing
     pub same : second ≡ host
 
   read-script : (name : List ℕ) (patches : List Patch) (second : Memory) (said : Outgoing)
-      → TakesScript slice_incoming (memory_hosting gone) name host second fresh_outgoing said (Ok patches)
+      → TakesScript slice_incoming (memory_hosting gone) name host second fresh_outgoing said
+      (Ok patches)
       → ReadScript name patches second said
   read-script name patches second said script =
       let read = has-patches before name gone patches (bytes_at (files_of host) name) refl
@@ -128,7 +138,8 @@ module _ {O : Type 0} (gone : O → Outgoing) (host host' : Memory) (log : Outgo
       record { has = read.0; silent = read.1; same = script.asked.0 }
 
   -- the image was opened too
-  record OpenedBoth (name script : List ℕ) (patches : List Patch) (image : SliceSource) (third : Memory) : Type 0 where
+  record OpenedBoth (name script : List ℕ) (patches : List Patch) (image : SliceSource)
+      (third : Memory) : Type 0 where
     pub files : Opened before name script
     pub same_patches : files.patches ≡ patches
     pub fresh : slice_incoming image ≡ fresh_incoming files.bytes
@@ -159,12 +170,15 @@ module _ {O : Type 0} (gone : O → Outgoing) (host host' : Memory) (log : Outgo
       → (image_at before name ≡ None) × Fails after no_image
   no-image-after name second said silent same missing =
       no-image name
-      (subst (λ h. NoImage slice_incoming gone (memory_hosting gone) host' log after.status name h fresh_outgoing) same
-      (subst (λ o. NoImage slice_incoming gone (memory_hosting gone) host' log after.status name second o) silent missing))
+      (subst (λ h. NoImage slice_incoming gone
+      (memory_hosting gone) host' log after.status name h fresh_outgoing) same
+      (subst (λ o. NoImage slice_incoming gone
+      (memory_hosting gone) host' log after.status name second o) silent missing))
 
   -- ---- a call that patches
 
-  took : (settings : Settings) (name script : List ℕ) (patches : List Patch) (image left : SliceSource)
+  took : (settings : Settings) (name script : List ℕ) (patches : List Patch)
+      (image left : SliceSource)
       (third : Memory) (both : OpenedBoth name script patches image third)
       (out out' said middle : Outgoing) → said ≡ fresh_outgoing → (result : Result Tally Fault)
       → (a : Applies settings.carry patches settings.base (streams (slice_incoming image) out said)
@@ -175,7 +189,8 @@ module _ {O : Type 0} (gone : O → Outgoing) (host host' : Memory) (log : Outgo
       subst
       (λ ps. (a : Applies settings.carry ps settings.base (streams (slice_incoming image) out said)
       (streams (slice_incoming left) out' middle) result)
-      → Ends Log script_status result middle log after.status → Took settings after both.files a.sent)
+      → Ends Log script_status result middle log after.status
+      → Took settings after both.files a.sent)
       both.same_patches
       (takes settings after both.files left.rest.now (streams (slice_incoming image) out said)
       (streams (slice_incoming left) out' middle) log
@@ -183,19 +198,24 @@ module _ {O : Type 0} (gone : O → Outgoing) (host host' : Memory) (log : Outgo
       leaves result)
 
   pub checks-on : (settings : Settings) (name script : List ℕ)
-      → DoesCheck slice_incoming gone (memory_hosting gone) host' log after.status settings name script host fresh_outgoing
+      → DoesCheck slice_incoming gone (memory_hosting gone) host' log after.status settings name
+      script host fresh_outgoing
       → ChecksOn settings name script before after
   checks-on settings name script (DoesCheck.without_script missing) =
       let none = no-script script missing in ChecksOn.without_script none.0 none.1 none.2
-  checks-on settings name script (DoesCheck.without_image patches second said takes_script missing) =
+  checks-on settings name script
+      (DoesCheck.without_image patches second said takes_script missing) =
       let read = read-script script patches second said takes_script in
       let none = no-image-after name second said read.silent read.same missing in
       ChecksOn.without_image patches read.has none.0 none.1
-  checks-on settings name script (DoesCheck.checked patches second said takes_script image asked checks) =
+  checks-on settings name script
+      (DoesCheck.checked patches second said takes_script image asked checks) =
       let read = read-script script patches second said takes_script in
       let both = opened-both name script patches second said read image host' asked in
       go both (took settings name script patches image checks.left host' both
-      (null_outgoing 0 0 false) (null_outgoing checks.runs.does.0 checks.runs.does.1 checks.runs.does.2) said checks.runs.middle read.silent
+      (null_outgoing 0 0 false)
+      (null_outgoing checks.runs.does.0 checks.runs.does.1 checks.runs.does.2) said
+      checks.runs.middle read.silent
       checks.runs.result checks.runs.does.3 checks.runs.ends)
     where
       go : (both : OpenedBoth name script patches image host') {sent : List ℕ}
@@ -228,27 +248,31 @@ module _ {O : Type 0} (gone : O → Outgoing) (host host' : Memory) (log : Outgo
       → after.made ≡ named path sent ∷ []
   came-back path sent out made_out last fourth file went rest back =
       let got : (gone made_out).written ≡ Some sent =
-      Appends-Some (gone out).written (gone made_out).written [] sent (ap (λ o. o.written) file.fresh) went in
+      Appends-Some (gone out).written (gone made_out).written [] sent
+      (ap (λ o. o.written) file.fresh) went in
       let same : back.bytes ≡ sent =
       Some-injective (sym back.written ∙ rest-kept (gone made_out) (gone last) sent rest got) in
       as_made ∙ back.made ∙ ap (λ m. with_bytes m path back.bytes) file.made
       ∙ ap (λ b. with_bytes (named path [] ∷ []) path b) same ∙ with_bytes-one path [] sent
 
   -- there is one already, or memory was refused
-  no-output : (name script path : List ℕ) (patches : List Patch) (image : SliceSource) (third : Memory)
+  no-output : (name script path : List ℕ) (patches : List Patch) (image : SliceSource)
+      (third : Memory)
       (both : OpenedBoth name script patches image third) (said : Outgoing) → said ≡ fresh_outgoing
       → (settings : Settings) (fault : OpenFault) → Makes gone third path (Err fault) host'
       → SaysLine (open_fault_line no_output fault) said log → after.status ≡ failed_status
       → AppliesOn settings name script path before after
   unfolding open_fault_line
-  no-output name script path patches image third both said silent settings Refused makes says status =
+  no-output name script path patches image third both said silent settings Refused
+      makes says status =
       let some = there-of (bytes_at (files_of host) path) (bytes_at (made_of host) path)
       (subst (λ h. is_there h path ≡ true) both.same makes.0)
       (subst (λ m. is_some (bytes_at m path) ≡ false) (sym fresh_host) refl) in
       AppliesOn.without_output both.files some.0 some.1
       (fails-with no_output (as_made ∙ makes.1 ∙ ap made_of both.same ∙ fresh_host)
       (subst (λ o. SaysLine no_output o log) silent says) status)
-  no-output name script path patches image third both said silent settings NoMemory makes says status =
+  no-output name script path patches image third both said silent settings NoMemory
+      makes says status =
       AppliesOn.without_memory both.files
       (absent-of (bytes_at (files_of host) path) (bytes_at (made_of host) path)
       (subst (λ h. is_there h path ≡ false) both.same makes.0))
@@ -256,31 +280,39 @@ module _ {O : Type 0} (gone : O → Outgoing) (host host' : Memory) (log : Outgo
       (subst (λ o. SaysLine no_memory o log) silent says) status)
 
   pub applies-on : (settings : Settings) (name script path : List ℕ)
-      → DoesApply slice_incoming gone (memory_hosting gone) host' log after.status settings name script path host fresh_outgoing
+      → DoesApply slice_incoming gone (memory_hosting gone) host' log after.status settings name
+      script path host fresh_outgoing
       → AppliesOn settings name script path before after
   applies-on settings name script path (DoesApply.without_script missing) =
       let none = no-script script missing in AppliesOn.without_script none.0 none.1 none.2
-  applies-on settings name script path (DoesApply.without_image patches second said takes_script missing) =
+  applies-on settings name script path
+      (DoesApply.without_image patches second said takes_script missing) =
       let read = read-script script patches second said takes_script in
       let none = no-image-after name second said read.silent read.same missing in
       AppliesOn.without_image patches read.has none.0 none.1
-  applies-on settings name script path (DoesApply.without_output patches second said takes_script image third asked missing) =
+  applies-on settings name script path
+      (DoesApply.without_output patches second said takes_script image third asked missing) =
       let read = read-script script patches second said takes_script in
       no-output name script path patches image third
       (opened-both name script patches second said read image third asked) said read.silent settings
       missing.0 missing.1.1 missing.2.0 missing.2.1
-  applies-on settings name script path (DoesApply.applied patches second said takes_script image third asked out fourth gives applies) =
+  applies-on settings name script path
+      (DoesApply.applied patches second said takes_script image third asked out fourth
+      gives applies) =
       let read = read-script script patches second said takes_script in
       let both = opened-both name script patches second said read image third asked in
       let file = made-file path out third fourth both.same gives.1 in
       let a = applies.runs.does in
       go both file
-      (came-back path a.sent out applies.made applies.last fourth file a.appends applies.rest applies.back)
-      (took settings name script patches image applies.left third both (gone out) (gone applies.made)
+      (came-back path a.sent out applies.made applies.last fourth file a.appends
+      applies.rest applies.back)
+      (took settings name script patches image applies.left third both (gone out)
+      (gone applies.made)
       said applies.runs.middle read.silent applies.runs.result a applies.runs.ends)
     where
       go : (both : OpenedBoth name script patches image third) → MadeFile path out fourth
-          → {sent : List ℕ} → after.made ≡ named path sent ∷ [] → Took settings after both.files sent
+          → {sent : List ℕ} → after.made ≡ named path sent ∷ []
+          → Took settings after both.files sent
           → AppliesOn settings name script path before after
       go both file back (Took.done p last) =
           AppliesOn.applied both.files file.absent p (back ∙ ap (λ b. named path b ∷ []) (sym last))
@@ -290,12 +322,16 @@ module _ {O : Type 0} (gone : O → Outgoing) (host host' : Memory) (log : Outgo
   -- ---- jobs and arguments
 
   pub does-on : (j : Job)
-      → DoesJob slice_incoming gone (memory_hosting gone) j host host' fresh_outgoing log after.status
+      → DoesJob slice_incoming gone (memory_hosting gone) j host host' fresh_outgoing
+      log after.status
       → DoesOn j before after
-  does-on (job.List image base) does = reports-on (list_report base) (λ _. done_status) (string_bytes image) does
-  does-on (job.Audit image base) does = reports-on (audit_report base) audit_status (string_bytes image) does
+  does-on (job.List image base) does =
+      reports-on (list_report base) (λ _. done_status) (string_bytes image) does
+  does-on (job.Audit image base) does =
+      reports-on (audit_report base) audit_status (string_bytes image) does
   does-on (job.Check image script base carry) does =
-      checks-on (record { base = base; carry = carry }) (string_bytes image) (string_bytes script) does
+      checks-on (record { base = base; carry = carry }) (string_bytes image)
+      (string_bytes script) does
   does-on (job.Apply image script out base carry) does =
       applies-on (record { base = base; carry = carry }) (string_bytes image) (string_bytes script)
       (string_bytes out) does
@@ -309,14 +345,17 @@ module _ {O : Type 0} (gone : O → Outgoing) (host host' : Memory) (log : Outgo
         kind = refuses.kind;
         memory = refuses.memory;
         text = tells.text;
-        prints = Prints-line (printed tells.text) [] fresh_outgoing log after refl refl leaves tells.says;
+        prints =
+            Prints-line (printed tells.text) [] fresh_outgoing log after refl refl
+            leaves tells.says;
         status = λ all. tells.whole (none-failed after.complete log.failures leaves.complete all);
         cut = λ part. tells.cut (some-failed after.complete log.failures leaves.complete part);
         none_made = none-made refuses.unchanged;
       }
 
   pub runs-on : (words : List (List ℕ))
-      → DoesWords slice_incoming gone (memory_hosting gone) words host host' fresh_outgoing log after.status
+      → DoesWords slice_incoming gone (memory_hosting gone) words host host' fresh_outgoing
+      log after.status
       → RunsOn words before after
   runs-on words (inl does) = inl (does.0, does.1, does.2, does-on does.0 does.4)
   runs-on words (inr refuses) = inr (explains words refuses)

@@ -69,7 +69,7 @@ never-damaged base block p ss h =
     (asks-nothing p) e))
     (by_difference-unasked p.block block place) h
 
--- ---- where there is nothing to carry
+-- ---- if there is nothing to carry
 
 loose : (mode asks sound : Bool) (block : ℕ)
     → (if not mode then Some (NotMode1 block) else if asks && not sound then Some (Damaged block)
@@ -96,7 +96,8 @@ first_refusal-loose ss base asks block (suc count) h =
     (refusal_at-loose asks block (sector_at ss base block) both.0)
     ∙ first_refusal-loose ss base asks (block + 1) count both.1
 
-module _ (base : ℕ) (p : Patch) (old : List (List ℕ)) (accepted : outcome false old base p ≡ Applied) where
+module _ (base : ℕ) (p : Patch) (old : List (List ℕ))
+    (accepted : outcome false old base p ≡ Applied) where
   unrefused : first_refusal old base (needs_consistent false p.edit) p.block (blocks_met p) ≡ None
   unfolding outcome
   unrefused =

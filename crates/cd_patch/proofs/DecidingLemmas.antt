@@ -22,7 +22,7 @@ use Rattle.cd_patch.specs.declared.outcome.Outcome.TheVariants.{Damaged, Differs
 
 -- ---- refusals
 
--- a block that does not refuse has a sector of Mode 1, which is consistent where that is asked
+-- a block that does not refuse has a sector of Mode 1, which is consistent if that is asked
 abbrev pub IsMet : Bool → Option (List ℕ) → Type 0
 IsMet asks None = ⊥
 IsMet asks (Some sector) = (kind_of sector ≡ Mode1) × (asks ≡ true → consistent sector ≡ true)
@@ -67,7 +67,7 @@ first_refusal-none ss base asks block (suc count) h (suc k) below =
     subst (λ b. IsMet asks (sector_at ss base b)) there
     (first_refusal-none ss base asks (block + 1) count both.1 k (omega arith))
 
--- the next block is asked where one does not refuse
+-- the next block is asked if one does not refuse
 pub first_refusal-next : (ss : List (List ℕ)) (base : ℕ) (asks : Bool) (block count : ℕ)
     → refusal_at asks block (sector_at ss base block) ≡ None
     → first_refusal ss base asks block (suc count) ≡ first_refusal ss base asks (block + 1) count
@@ -293,7 +293,7 @@ first_refusal-stop ss base asks k count (Some refusal) told some =
 
 -- ---- what an accepted patch has found
 
--- `count` sectors of Mode 1, each consistent where that is asked
+-- `count` sectors of Mode 1, each consistent if that is asked
 pub record AreMet (asks : Bool) (ss : List (List ℕ)) (count : ℕ) : Type 0 where
   pub enough : count ≤ length ss
   pub mode : (k : ℕ) → k < count → kind_of (get_or ss k []) ≡ Mode1
@@ -369,7 +369,7 @@ difference-told ss p old place patch is users enough value =
     ∙ ap (first_difference p.offset
     (drop p.offset (joined_user ss p.block p.block (blocks_met p)))) is
 
--- where no block refuses, the difference that was found decides
+-- if no block refuses, the difference that was found decides
 pub outcome-told : (carry : Bool) (ss : List (List ℕ)) (p : Patch) (old : List ℕ) (place : Option ℕ)
     → IsPatch p
     → first_refusal ss p.block (needs_consistent carry p.edit) p.block (blocks_met p) ≡ None

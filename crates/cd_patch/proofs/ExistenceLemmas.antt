@@ -106,7 +106,7 @@ sector_made true old header user h k bytes size =
 
 -- ---- the sectors that an accepted patch makes
 
--- what stands in a block behind an accepted patch
+-- what stands in a block after an accepted patch
 record Follows (carry : Bool) (base : ℕ) (p : Patch) (old : List (List ℕ)) (block : ℕ)
     (after : List ℕ) : Type 0 where
   met : (before : List ℕ) → p.block ≤ block → block < p.block + blocks_met p

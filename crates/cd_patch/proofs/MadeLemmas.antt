@@ -83,14 +83,14 @@ pub IsMade-unique : (carry : Bool) (edit : Edit) (old user s t : List ℕ)
 IsMade-unique carry edit old user s t h k =
     MadeBy-unique (keeps_defect carry edit) old (new_header edit (header_of old)) user s t h k
 
--- where it does not keep the defect
+-- if it does not keep the defect
 pub IsMade-anew : (carry : Bool) (edit : Edit) (old user new : List ℕ)
     → keeps_defect carry edit ≡ false → IsMade carry edit old user new → IsConsistent new
 IsMade-anew carry edit old user new none h =
     let made = subst (λ b. MadeBy b old (new_header edit (header_of old)) user new) none h in
     made.is_consistent
 
--- and where it does
+-- and if it does
 pub IsMade-carried : (carry : Bool) (edit : Edit) (old user new : List ℕ)
     → keeps_defect carry edit ≡ true → IsMade carry edit old user new → SameDamage old new
 IsMade-carried carry edit old user new keeps h =
@@ -102,7 +102,7 @@ header-mode : (s : List ℕ) → IsConsistent s → get_or (header_of s) 3 0 ≡
 unfolding header_of
 header-mode s h = range-byte s 12 16 3 (lit< tt) ∙ (mode1-parts s h.mode).1
 
--- and it stays behind a new address
+-- and it stays after a new address
 with_address-mode : (m : EditMeaning) (address : Option (List ℕ)) (header : List ℕ)
     → IfSome address (IsAddressAlone m) → get_or header 3 0 ≡ 1
     → get_or (with_address address header) 3 0 ≡ 1

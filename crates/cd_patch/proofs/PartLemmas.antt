@@ -20,7 +20,8 @@ pub HasPart-written : (carried : Bool) (k offset place first end : ℕ)
     → ((i : ℕ) → i < length part → get_or part i 0 ≡ get_or bytes (first + i) 0)
     → MadeBy carried before header (written (user_of before) place part) after
     → HasPart carried k offset bytes header before after
-HasPart-written carried k offset place first end bytes part header before after at size long same is_made =
+HasPart-written carried k offset place first end bytes part header before after at size long
+    same is_made =
     let rises = at.rises in
     let within = at.within in
     let fits = at.fits in
@@ -67,7 +68,8 @@ pub user_part-of : (carried : Bool) (k count offset : ℕ) (bytes joined header 
     → HasPart carried k offset bytes header before after
     → user_of after ≡ user_part (written joined offset bytes) k
 unfolding user_part
-user_part-of carried k count offset bytes joined header before after inside size fits after_size same part =
+user_part-of carried k count offset bytes joined header before after inside size fits
+    after_size same part =
     let whole = written joined offset bytes in
     let room : offset + length bytes ≤ length joined = omega arith in
     let long = length-written joined offset bytes room in

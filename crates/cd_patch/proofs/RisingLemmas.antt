@@ -1,4 +1,4 @@
--- Patches whose blocks rise: those before one, those behind it, and where a block cuts them.
+-- Patches whose blocks rise: those before one, those after it, and where a block cuts them.
 use Rattle.std.proofs.Common.{ℕ, suc, ◌<◌, ◌≤◌, inl, inr, List, [], ◌∷◌, length, get_or, take, drop, arith}
 use Rattle.std.specs.List.{All}
 use Rattle.std.specs.List.Sorted.{IsNonDecreasingBy}
@@ -10,7 +10,7 @@ pub rising-tail : (p : Patch) (ps : List Patch) → IsNonDecreasingBy (λ q. q.b
     → IsNonDecreasingBy (λ q. q.block) ps
 rising-tail p ps rises = λ i j d le inside. rises (suc i) (suc j) d (omega arith) (omega arith)
 
--- all begin at a block or later where the first does
+-- all begin at a block or later if the first does
 pub rising-from : (p : Patch) (ps : List Patch) (bound : ℕ)
     → IsNonDecreasingBy (λ q. q.block) (p ∷ ps) → bound ≤ p.block
     → All (λ q. bound ≤ q.block) (p ∷ ps)

@@ -36,7 +36,7 @@ PatchRun-count carry (p ∷ ps) (o ∷ os) base old last h =
     PatchRun-count carry ps os base h.next last h.others
     ∙ Effect-length carry base p old h.next h.effect
 
--- ---- one run behind another
+-- ---- one run after another
 
 pub PatchRun-append : (carry : Bool) (ps ps' : List Patch) (os os' : List Outcome) (base : ℕ)
     (old middle last : List (List ℕ)) → PatchRun carry ps os base old middle
@@ -165,7 +165,7 @@ Applied-agree carry bound base p old old' new new' room same h h' block below =
         (user_part user (block - p.block)) after.0) users made) made' in
         after.1 ∙ ap (λ s. Some s) equal ∙ sym after'.1
 
--- where the sectors below a block are equal, a patch whose blocks lie there leaves them equal
+-- if the sectors below a block are equal, a patch whose blocks lie there leaves them equal
 pub Effects-agree : (carry : Bool) (bound base : ℕ) (p : Patch) (old old' new new' : List (List ℕ))
     → p.block + blocks_met p ≤ bound
     → ((block : ℕ) → block < bound → sector_at old base block ≡ sector_at old' base block)

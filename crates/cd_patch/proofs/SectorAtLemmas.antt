@@ -33,7 +33,7 @@ pub sector_at-missing : (sectors : List (List ℕ)) (base block : ℕ)
 sector_at-missing sectors base block (inl below) = sector_at-below sectors base block below
 sector_at-missing sectors base block (inr behind) = sector_at-behind sectors base block behind
 
--- where there is a sector
+-- if there is a sector
 pub sector_at-within : (sectors : List (List ℕ)) (base block : ℕ) (sector : List ℕ)
     → sector_at sectors base block ≡ Some sector → (base ≤ block) × (block < base + length sectors)
 sector_at-within sectors base block sector e = elim (cases_lt block base) [
@@ -93,7 +93,7 @@ sector_at-back front others base middle block e h =
     ∙ slice_get-append_right front others (block - middle) (block - base) (omega arith)
     ∙ sym (sector_at-from others middle block h)
 
--- a part of a list has the sectors of its blocks, and of those behind it where nothing follows
+-- a part of a list has the sectors of its blocks, and of those after it if nothing follows
 pub sector_at-frame : (front window more : List (List ℕ)) (base middle block : ℕ)
     → middle ≡ base + length front → middle ≤ block
     → (block < middle + length window) ⊎ (more ≡ [])

@@ -112,7 +112,7 @@ met-where-applied carry ss p h =
     (first_difference p.offset (drop p.offset (user_met ss p.block p)) (old_bytes p.edit)))
     (first_refusal-told ss p.block (needs_consistent carry p.edit) p.block (blocks_met p)) h)
 
--- ---- the sectors in front and those behind them
+-- ---- the sectors before and those after them
 
 pub mode-front : (asks : Bool) (ss : List (List ℕ)) (n : ℕ) → AreMet asks ss n
     → All (λ s. kind_of s ≡ Mode1) (take n ss)

@@ -88,7 +88,8 @@ AreBytes-written user offset bytes h k =
     (AreBytes-append bytes (drop (offset + length bytes) user) k
     (AreBytes-drop user (offset + length bytes) h))
 
-module _ (sectors : List (List ℕ)) (base : ℕ) (p : Patch) (each : All IsSector sectors) (there : AreThere sectors base p) where
+module _ (sectors : List (List ℕ)) (base : ℕ) (p : Patch) (each : All IsSector sectors)
+    (there : AreThere sectors base p) where
   whole : BlocksHaveUsers USER_SIZE sectors base p.block (blocks_met p)
   whole k below =
       let t = there (p.block + k) (omega arith) (omega arith) in

@@ -27,7 +27,7 @@ FitsLeft-end (Some []) read whole end fits = fits
 FitsLeft-end (Some (x ∷ xs)) read whole end fits = cc
 
 module _ {T : Type 0} (image image' : Incoming) where
-  -- no byte behind the millionth sector was read, and nothing else is said
+  -- no byte after the millionth sector was read, and nothing else is said
   pub not_beyond : (result : Result T Fault) (read : List ℕ) → Consumes image.rest image'.rest read
       → length read ≤ image_limit → (result ≡ Err TooLong → ⊥) → TellsTooLong image image' result
   not_beyond result read consumed within other = λ bytes left gives leaves.

@@ -26,7 +26,7 @@ sectors-short more short =
     let none : length more / 2352 ≡ 0 = omega arith in
     ap (λ k. first_chunks 2352 k more) none
 
--- behind n sectors
+-- after n sectors
 pub length-tail : (read rest : List ℕ) (n : ℕ) → length read ≡ 2352 * n → length rest < 2352
     → length (tail (read ++ rest)) ≡ length rest
 unfolding tail

@@ -1,4 +1,4 @@
--- A listing sector by sector, and that it tells what it should of the whole image.
+-- A listing sector by sector, and that it reports what it should of the whole image.
 use Rattle.std.proofs.Common.{◌≡◌, ℕ, suc, ◌+◌, List, [], ◌∷◌, ◌++◌, length, map, Option, None, Some, Result, Ok, Err, refl, sym, ap, ◌∙◌, subst, arith, add-zero, zero-add, append-nil, append_assoc}
 use Rattle.cd_sector.specs.Kind.{kind_of}
 use Rattle.cd_stream.specs.Stream.{Outgoing}
@@ -17,14 +17,18 @@ abbrev pub tally_of : ℕ → ℕ → ListTally
 tally_of count left = record { sectors = count; tail = left }
 
 module _ (base : ℕ) (run : Option OpenRun) (count : ℕ) (sector : List ℕ) (out out' : Outgoing) where
-  List-taken : (next : OpenRun) → HasExtended run next (base + count) (kind_of sector) out out' → HasVisited (list_remaining base run count) (list_remaining base (Some next) (count + 1)) sector out out'
+  List-taken : (next : OpenRun) → HasExtended run next (base + count) (kind_of sector) out out'
+      → HasVisited (list_remaining base run count)
+      (list_remaining base (Some next) (count + 1)) sector out out'
   List-taken next taken = record {
     sent = taken.sent;
     takes = taken.takes;
     lines = λ others. taken.lines (map kind_of others);
     end = λ others left.
-        ap (λ l. l ++ list_end (tally_of (count + suc (length others)) left)) (taken.end (map kind_of others))
-        ∙ ap (λ n. last_line next.first (runs (open_kinds (Some next) ++ map kind_of others)) ++ list_end (tally_of n left)) (further others);
+        ap (λ l. l ++ list_end (tally_of (count + suc (length others)) left))
+        (taken.end (map kind_of others))
+        ∙ ap (λ n. last_line next.first (runs (open_kinds (Some next) ++ map kind_of others))
+        ++ list_end (tally_of n left)) (further others);
     tally = λ others left. ap (λ n. tally_of n left) (further others);
     nothing_due = nothing_ended next taken.ends.0;
   }
@@ -32,7 +36,8 @@ module _ (base : ℕ) (run : Option OpenRun) (count : ℕ) (sector : List ℕ) (
       further : (others : List (List ℕ)) → count + suc (length others) ≡ count + 1 + length others
       further others = omega arith
 
-  List-failed : FailsToExtend run (base + count) (kind_of sector) out out' → HasFailed (list_remaining base run count) sector out out'
+  List-failed : FailsToExtend run (base + count) (kind_of sector) out out'
+      → HasFailed (list_remaining base run count) sector out out'
   List-failed failed = record {
     line = failed.line;
     count = failed.count;
@@ -42,43 +47,67 @@ module _ (base : ℕ) (run : Option OpenRun) (count : ℕ) (sector : List ℕ) (
     last = refl;
   }
 
-  pub List-visits : (run' : Option OpenRun) (result : Result (Unit {0}) SinkFailed) → ExtendsRun run run' (base + count) (kind_of sector) out out' result → Visits (list_remaining base run count) (list_remaining base run' (count + 1)) sector out out' result
-  List-visits run' (Ok x) taken = subst (λ r. HasVisited (list_remaining base run count) (list_remaining base r (count + 1)) sector out out') (sym taken.1) (List-taken taken.0 taken.2)
+  pub List-visits : (run' : Option OpenRun) (result : Result (Unit {0}) SinkFailed)
+      → ExtendsRun run run' (base + count) (kind_of sector) out out' result
+      → Visits (list_remaining base run count)
+      (list_remaining base run' (count + 1)) sector out out' result
+  List-visits run' (Ok x) taken =
+      subst (λ r. HasVisited (list_remaining base run count) (list_remaining base r (count + 1))
+      sector out out') (sym taken.1) (List-taken taken.0 taken.2)
   List-visits run' (Err e) failed = List-failed failed.1
 
 -- what goes out at the end, with no sector to follow
-list_end_is : (base : ℕ) (run : Option OpenRun) (count left : ℕ) → last_line (open_first run 0) (runs (open_kinds run)) ++ list_end (tally_of count left) ≡ (list_remaining base run count).end [] left
+list_end_is : (base : ℕ) (run : Option OpenRun) (count left : ℕ)
+    → last_line (open_first run 0) (runs (open_kinds run)) ++ list_end (tally_of count left)
+    ≡ (list_remaining base run count).end [] left
 list_end_is base None count left = ap (λ n. list_end (tally_of n left)) (sym (add-zero count))
 list_end_is base (Some run) count left =
-    ap (λ ks. last_line run.first (runs ks) ++ list_end (tally_of count left)) (sym (append-nil (open_kinds (Some run))))
-    ∙ ap (λ n. last_line run.first (runs (open_kinds (Some run) ++ [])) ++ list_end (tally_of n left)) (sym (add-zero count))
+    ap (λ ks. last_line run.first (runs ks) ++ list_end (tally_of count left))
+    (sym (append-nil (open_kinds (Some run))))
+    ∙ ap (λ n. last_line run.first (runs (open_kinds (Some run) ++ []))
+    ++ list_end (tally_of n left)) (sym (add-zero count))
 
-pub List-closes : (base : ℕ) (run : Option OpenRun) (count left : ℕ) (out out' : Outgoing) (result : Result ListTally SinkFailed)
-    → Finishes (last_line (open_first run 0) (runs (open_kinds run)) ++ list_end (tally_of count left)) out out' result → Finishes ((list_remaining base run count).end [] left) out out' result
-List-closes base run count left out out' result finished = subst (λ t. Finishes t out out' result) (list_end_is base run count left) finished
+pub List-closes : (base : ℕ) (run : Option OpenRun) (count left : ℕ) (out out' : Outgoing)
+    (result : Result ListTally SinkFailed)
+    → Finishes (last_line (open_first run 0) (runs (open_kinds run))
+    ++ list_end (tally_of count left)) out out' result
+    → Finishes ((list_remaining base run count).end [] left) out out' result
+List-closes base run count left out out' result finished =
+    subst (λ t. Finishes t out out' result) (list_end_is base run count left) finished
 
 -- ---- the whole image
 
-last-apart : (first : ℕ) (rs : List Run) → text_of (run_lines first rs) ≡ text_of (all_but_last (run_lines first rs)) ++ last_line first rs
+last-apart : (first : ℕ) (rs : List Run)
+    → text_of (run_lines first rs)
+    ≡ text_of (all_but_last (run_lines first rs)) ++ last_line first rs
 last-apart first [] = refl
 last-apart first (run ∷ []) = append-nil (run_line first run)
 last-apart first (run ∷ next ∷ others) =
     ap (λ t. run_line first run ++ t) (last-apart (first + run.count) (next ∷ others))
-    ∙ sym (append_assoc (run_line first run) (text_of (all_but_last (run_lines (first + run.count) (next ∷ others)))) (last_line (first + run.count) (next ∷ others)))
+    ∙ sym (append_assoc (run_line first run)
+    (text_of (all_but_last (run_lines (first + run.count) (next ∷ others))))
+    (last_line (first + run.count) (next ∷ others)))
 
 module _ (base : ℕ) where
-  pub Listing-text : (image : List ℕ) → (spec_of (list_remaining base None 0)).text image ≡ (list_report base).text image
+  pub Listing-text : (image : List ℕ)
+      → (spec_of (list_remaining base None 0)).text image ≡ (list_report base).text image
   Listing-text image =
       let rs = runs (map kind_of (sectors image)) in
       let left = length (tail image) in
       let last = last_line base rs in
-      ap (λ b. text_of (all_but_last (run_lines b rs)) ++ (last_line b rs ++ list_end (tally_of (0 + length (sectors image)) left))) (add-zero base)
-      ∙ ap (λ n. text_of (all_but_last (run_lines base rs)) ++ (last ++ list_end (tally_of n left))) (zero-add (length (sectors image)))
-      ∙ sym (append_assoc (text_of (all_but_last (run_lines base rs))) last (list_end (tally_of (length (sectors image)) left)))
+      ap (λ b. text_of (all_but_last (run_lines b rs))
+      ++ (last_line b rs ++ list_end (tally_of (0 + length (sectors image)) left))) (add-zero base)
+      ∙ ap (λ n. text_of (all_but_last (run_lines base rs)) ++ (last ++ list_end (tally_of n left)))
+      (zero-add (length (sectors image)))
+      ∙ sym (append_assoc (text_of (all_but_last (run_lines base rs))) last
+      (list_end (tally_of (length (sectors image)) left)))
       ∙ ap (λ t. t ++ list_end (tally_of (length (sectors image)) left)) (sym (last-apart base rs))
 
-  pub Listing-due : (read : List ℕ) → (spec_of (list_remaining base None 0)).due read ≡ (list_report base).due read
+  pub Listing-due : (read : List ℕ)
+      → (spec_of (list_remaining base None 0)).due read ≡ (list_report base).due read
   Listing-due read = ap (λ b. ended_lines b (map kind_of (sectors read))) (add-zero base)
 
-  pub Listing-tally : (image : List ℕ) → (spec_of (list_remaining base None 0)).tally image ≡ (list_report base).tally image
-  Listing-tally image = ap (λ n. tally_of n (length (tail image))) (zero-add (length (sectors image)))
+  pub Listing-tally : (image : List ℕ)
+      → (spec_of (list_remaining base None 0)).tally image ≡ (list_report base).tally image
+  Listing-tally image =
+      ap (λ n. tally_of n (length (tail image))) (zero-add (length (sectors image)))

@@ -8,35 +8,51 @@ use Rattle.cd_stream.specs.declared.sink.SinkFailed.{SinkFailed}
 
 -- a failed write of a line has sent a front of it
 pub IsBeginning-take : (n : ℕ) (line more : List ℕ) → IsBeginning (take n line) (line ++ more)
-IsBeginning-take n line more =
-    (drop n line ++ more, ap (λ l. l ++ more) (sym (take-append-drop n line)) ∙ append_assoc (take n line) (drop n line) more)
+IsBeginning-take n line more = (
+  drop n line ++ more,
+  ap (λ l. l ++ more) (sym (take-append-drop n line))
+      ∙ append_assoc (take n line) (drop n line) more,
+)
 
-module _ (X : Type 0) (rest last : List ℕ) (out out' : Outgoing) (e : SinkFailed) (unflushed : out'.flushes ≡ out.flushes) where
+module _ (X : Type 0) (rest last : List ℕ) (out out' : Outgoing) (e : SinkFailed)
+    (unflushed : out'.flushes ≡ out.flushes) where
   -- the write of what was left failed
-  pub Finishes-at_rest : (n : ℕ) × (n < length rest) × Takes out out' (take n rest) → Finishes {X = X} (rest ++ last) out out' (Err e)
-  Finishes-at_rest went = (take went.0 rest, went.2, IsBeginning-take went.0 rest last, λ short. unflushed)
+  pub Finishes-at_rest : (n : ℕ) × (n < length rest) × Takes out out' (take n rest)
+      → Finishes {X = X} (rest ++ last) out out' (Err e)
+  Finishes-at_rest went =
+      (take went.0 rest, went.2, IsBeginning-take went.0 rest last, λ short. unflushed)
 
   -- the write of the last line failed
-  pub Finishes-at_last : (middle : Outgoing) → Takes out middle rest → (n : ℕ) × (n < length last) × Takes middle out' (take n last) → Finishes {X = X} (rest ++ last) out out' (Err e)
+  pub Finishes-at_last : (middle : Outgoing) → Takes out middle rest
+      → (n : ℕ) × (n < length last) × Takes middle out' (take n last)
+      → Finishes {X = X} (rest ++ last) out out' (Err e)
   Finishes-at_last middle line went =
       let front = take went.0 last in
       let left = drop went.0 last in (
         rest ++ front,
         Takes-trans out middle out' rest front line went.2,
-        (left, ap (λ l. rest ++ l) (sym (take-append-drop went.0 last)) ∙ sym (append_assoc rest front left)),
+        (
+          left,
+          ap (λ l. rest ++ l) (sym (take-append-drop went.0 last))
+              ∙ sym (append_assoc rest front left),
+        ),
         λ short. unflushed,
       )
 
 -- the flush failed
-pub Finishes-at_flush : (X : Type 0) (rest last : List ℕ) (out middle late out' : Outgoing) (e : SinkFailed) → Takes out middle rest → Takes middle late last
+pub Finishes-at_flush : (X : Type 0) (rest last : List ℕ) (out middle late out' : Outgoing)
+    (e : SinkFailed) → Takes out middle rest → Takes middle late last
     → Flushes late out' (Err e) → Finishes {X = X} (rest ++ last) out out' (Err e)
 Finishes-at_flush X rest last out middle late out' e line end flush = (
   rest ++ last,
-  Takes-flushed out late out' (rest ++ last) (Err e) (Takes-trans out middle late rest last line end) flush,
+  Takes-flushed out late out' (rest ++ last) (Err e)
+      (Takes-trans out middle late rest last line end) flush,
   ([], sym (append-nil _)),
   λ short. absurd (omega (arith, short)),
 )
 
--- a beginning of what comes behind
-pub IsBeginning-behind : (front part whole : List ℕ) → IsBeginning part whole → IsBeginning (front ++ part) (front ++ whole)
-IsBeginning-behind front part whole begins = (begins.0, ap (λ w. front ++ w) begins.1 ∙ sym (append_assoc front part begins.0))
+-- a beginning of what comes after
+pub IsBeginning-behind : (front part whole : List ℕ) → IsBeginning part whole
+    → IsBeginning (front ++ part) (front ++ whole)
+IsBeginning-behind front part whole begins =
+    (begins.0, ap (λ w. front ++ w) begins.1 ∙ sym (append_assoc front part begins.0))

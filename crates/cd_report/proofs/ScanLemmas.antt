@@ -1,4 +1,4 @@
--- One pass over an image that tells of it: how far it has come, and how it ends.
+-- One pass over an image that reports on it: how far it has come, and how it ends.
 use Rattle.std.proofs.Common.{◌≡◌, ℕ, ◌+◌, ◌*◌, ◌<◌, ◌≤◌, false, true, List, [], ◌∷◌, ◌++◌, length, take, Result, Ok, Err, refl, sym, ap, ◌∙◌, subst, arith, length-append, append_assoc, append-nil, take_at}
 use Rattle.std.specs.Io.KnownBytes.{IsAtEnd}
 use Rattle.std.proofs.KnownBytes.{Consumes-nil}
@@ -20,18 +20,23 @@ use Rattle.cd_report.proofs.PassLemmas.{IsBeginning-behind, IsBeginning-take}
 
 -- ---- lines
 
-pub text_of-append : (front behind : List (List ℕ)) → text_of (front ++ behind) ≡ text_of front ++ text_of behind
+pub text_of-append : (front behind : List (List ℕ))
+    → text_of (front ++ behind) ≡ text_of front ++ text_of behind
 text_of-append front behind = flat_map-append (λ line. line) front behind
 
-all_but_last-append : (front : List (List ℕ)) (line : List ℕ) → all_but_last (front ++ line ∷ []) ≡ front
+all_but_last-append : (front : List (List ℕ)) (line : List ℕ)
+    → all_but_last (front ++ line ∷ []) ≡ front
 all_but_last-append [] line = refl
 all_but_last-append (x ∷ []) line = refl
 all_but_last-append (x ∷ y ∷ ys) line = ap (λ ls. x ∷ ls) (all_but_last-append (y ∷ ys) line)
 
-all_but_last-begins : (lines : List (List ℕ)) → IsBeginning (text_of (all_but_last lines)) (text_of lines)
+all_but_last-begins : (lines : List (List ℕ))
+    → IsBeginning (text_of (all_but_last lines)) (text_of lines)
 all_but_last-begins [] = ([], refl)
 all_but_last-begins (x ∷ []) = (text_of (x ∷ []), refl)
-all_but_last-begins (x ∷ y ∷ ys) = IsBeginning-behind x (text_of (all_but_last (y ∷ ys))) (text_of (y ∷ ys)) (all_but_last-begins (y ∷ ys))
+all_but_last-begins (x ∷ y ∷ ys) =
+    IsBeginning-behind x (text_of (all_but_last (y ∷ ys))) (text_of (y ∷ ys))
+    (all_but_last-begins (y ∷ ys))
 
 -- ---- the pass
 
@@ -39,8 +44,10 @@ all_but_last-begins (x ∷ y ∷ ys) = IsBeginning-behind x (text_of (all_but_la
 at_most_one : {old new : ℕ} → new ≡ old → (old ≤ new) × (new ≤ old + 1)
 at_most_one same = (omega (arith, same), omega (arith, same))
 
--- behind `count` sectors: whatever sectors may still come, what is told of all is what has gone out and what is still to tell
-pub record Told {T : Type 0} (first now : Remaining T) (image image' : Incoming) (out out' : Outgoing) (count : ℕ) : Type 0 where
+-- after `count` sectors: whatever sectors may still come, the report of all is what has gone out
+-- and what is still to be written
+pub record Told {T : Type 0} (first now : Remaining T) (image image' : Incoming)
+    (out out' : Outgoing) (count : ℕ) : Type 0 where
   pub read : List ℕ
   pub sent : List (List ℕ)
   pub done : List (List ℕ)
@@ -53,11 +60,14 @@ pub record Told {T : Type 0} (first now : Remaining T) (image image' : Incoming)
   pub size : length read ≡ 2352 * count
   pub cut : (more : List ℕ) → sectors (read ++ more) ≡ done ++ sectors more
   pub lines : (others : List (List ℕ)) → first.lines (done ++ others) ≡ sent ++ now.lines others
-  pub end : (others : List (List ℕ)) (left : ℕ) → first.end (done ++ others) left ≡ now.end others left
-  pub tally : (others : List (List ℕ)) (left : ℕ) → first.tally (done ++ others) left ≡ now.tally others left
+  pub end : (others : List (List ℕ)) (left : ℕ)
+      → first.end (done ++ others) left ≡ now.end others left
+  pub tally : (others : List (List ℕ)) (left : ℕ)
+      → first.tally (done ++ others) left ≡ now.tally others left
   pub nothing_due : now.lines [] ≡ []
 
-pub Told-start : {T : Type 0} (first : Remaining T) (image : Incoming) (out : Outgoing) → first.lines [] ≡ [] → Told first first image image out out 0
+pub Told-start : {T : Type 0} (first : Remaining T) (image : Incoming) (out : Outgoing)
+    → first.lines [] ≡ [] → Told first first image image out out 0
 Told-start first image out none = record {
   read = [];
   sent = [];
@@ -76,10 +86,14 @@ Told-start first image out none = record {
   nothing_due = none;
 }
 
-module _ {T : Type 0} (first now : Remaining T) (image before after : Incoming) (out sunk : Outgoing) (count : ℕ) (told : Told first now image before out sunk count) where
+module _ {T : Type 0} (first now : Remaining T) (image before after : Incoming)
+    (out sunk : Outgoing) (count : ℕ) (told : Told first now image before out sunk count) where
   -- the text of an image that begins with what was read
   known : (more : List ℕ)
-      → (spec_of first).text (told.read ++ more) ≡ text_of told.sent ++ (text_of (now.lines (sectors more)) ++ now.end (sectors more) (length (tail (told.read ++ more))))
+      → (spec_of first).text (told.read ++ more)
+      ≡ text_of told.sent
+      ++ (text_of (now.lines (sectors more))
+      ++ now.end (sectors more) (length (tail (told.read ++ more))))
   known more =
       let left = length (tail (told.read ++ more)) in
       let ss = sectors more in
@@ -89,7 +103,8 @@ module _ {T : Type 0} (first now : Remaining T) (image before after : Incoming) 
       ∙ ap (λ t. t ++ now.end ss left) (text_of-append told.sent (now.lines ss))
       ∙ append_assoc (text_of told.sent) (text_of (now.lines ss)) (now.end ss left)
 
-  sent_begins : (more : List ℕ) → IsBeginning (text_of told.sent) ((spec_of first).text (told.read ++ more))
+  sent_begins : (more : List ℕ)
+      → IsBeginning (text_of told.sent) ((spec_of first).text (told.read ++ more))
   sent_begins more = (_, known more)
 
   module _ (came : List ℕ) (gives : Gives before after came) where
@@ -99,9 +114,11 @@ module _ {T : Type 0} (first now : Remaining T) (image before after : Incoming) 
     length_read : length (told.read ++ came) ≡ 2352 * count + length came
     length_read = length-append told.read came ∙ ap (λ n. n + length came) told.size
 
-    begins_further : (whole : List ℕ) → IsBeginning (told.read ++ came) whole → IsBeginning (text_of told.sent) ((spec_of first).text whole)
+    begins_further : (whole : List ℕ) → IsBeginning (told.read ++ came) whole
+        → IsBeginning (text_of told.sent) ((spec_of first).text whole)
     begins_further whole begins =
-        subst (λ w. IsBeginning (text_of told.sent) ((spec_of first).text w)) (sym (begins.1 ∙ append_assoc told.read came begins.0)) (sent_begins (came ++ begins.0))
+        subst (λ w. IsBeginning (text_of told.sent) ((spec_of first).text w))
+        (sym (begins.1 ∙ append_assoc told.read came begins.0)) (sent_begins (came ++ begins.0))
 
     module _ (short : length came < 2352) where
       done_is : sectors (told.read ++ came) ≡ told.done ++ []
@@ -109,9 +126,13 @@ module _ {T : Type 0} (first now : Remaining T) (image before after : Incoming) 
 
       -- the lines that are due are those that went out
       due_is : (spec_of first).due (told.read ++ came) ≡ told.sent
-      due_is = ap first.lines done_is ∙ told.lines [] ∙ ap (λ ls. told.sent ++ ls) told.nothing_due ∙ append-nil told.sent
+      due_is =
+          ap first.lines done_is ∙ told.lines [] ∙ ap (λ ls. told.sent ++ ls) told.nothing_due
+          ∙ append-nil told.sent
 
-      pub Told-read : 2352 * count + length came ≤ image_limit → after.failures ≡ before.failures + 1 → after.ended ≡ false → Reports (spec_of first) image after out sunk (Err Read)
+      pub Told-read : 2352 * count + length came ≤ image_limit
+          → after.failures ≡ before.failures + 1 → after.ended ≡ false
+          → Reports (spec_of first) image after out sunk (Err Read)
       Told-read few failed unended = record {
         read = told.read ++ came;
         sent = text_of told.sent;
@@ -125,11 +146,16 @@ module _ {T : Type 0} (first now : Remaining T) (image before after : Incoming) 
           unended = unended;
           within = omega (arith, length_read);
           due_sent = ap text_of (sym due_is);
-          beginning = λ whole fits. begins_further whole (Fits-begins (told.read ++ came) whole (omega (arith, length_read)) fits);
+          beginning =
+              λ whole fits.
+              begins_further whole
+              (Fits-begins (told.read ++ came) whole (omega (arith, length_read)) fits);
         };
       }
 
-      pub Told-too_long : 2352 * count ≡ image_limit → length came ≡ 1 → after.failures ≡ before.failures → after.ended ≡ false → Reports (spec_of first) image after out sunk (Err TooLong)
+      pub Told-too_long : 2352 * count ≡ image_limit → length came ≡ 1
+          → after.failures ≡ before.failures → after.ended ≡ false
+          → Reports (spec_of first) image after out sunk (Err TooLong)
       Told-too_long full one kept unended = record {
         read = told.read ++ came;
         sent = text_of told.sent;
@@ -144,37 +170,54 @@ module _ {T : Type 0} (first now : Remaining T) (image before after : Incoming) 
           beyond = omega (arith, length_read);
           due_sent = ap text_of (sym due_is);
           beginning = λ whole fits.
-              let limited : take image_limit (told.read ++ came) ≡ told.read = take_at told.read came image_limit (told.size ∙ full) in
-              subst (λ w. IsBeginning (text_of told.sent) ((spec_of first).text w)) (sym (fits.begins.1 ∙ ap (λ l. l ++ fits.begins.0) limited)) (sent_begins fits.begins.0);
+              let limited : take image_limit (told.read ++ came) ≡ told.read =
+              take_at told.read came image_limit (told.size ∙ full) in
+              subst (λ w. IsBeginning (text_of told.sent) ((spec_of first).text w))
+              (sym (fits.begins.1 ∙ ap (λ l. l ++ fits.begins.0) limited))
+              (sent_begins fits.begins.0);
         };
       }
 
     module _ (sunk' : Outgoing) (kept : after.failures ≡ before.failures) where
       module _ (size : length came ≡ 2352) where
-        pub Told-next : (next : Remaining T) → HasVisited now next came sunk sunk' → sunk'.flushes ≡ sunk.flushes → sunk'.failures ≡ sunk.failures → Told first next image after out sunk' (count + 1)
+        pub Told-next : (next : Remaining T) → HasVisited now next came sunk sunk'
+            → sunk'.flushes ≡ sunk.flushes → sunk'.failures ≡ sunk.failures
+            → Told first next image after out sunk' (count + 1)
         Told-next next taken unflushed wrote = record {
           read = told.read ++ came;
           sent = told.sent ++ taken.sent;
           done = told.done ++ came ∷ [];
           gives = gives_all;
-          takes = subst (λ t. Takes out sunk' t) (sym (text_of-append told.sent taken.sent)) (Takes-trans out sunk sunk' (text_of told.sent) (text_of taken.sent) told.takes taken.takes);
+          takes =
+              subst (λ t. Takes out sunk' t) (sym (text_of-append told.sent taken.sent))
+              (Takes-trans out sunk sunk' (text_of told.sent)
+              (text_of taken.sent) told.takes taken.takes);
           unflushed = unflushed ∙ told.unflushed;
           reads = kept ∙ told.reads;
           writes = wrote ∙ told.writes;
           counted = length-append told.done (came ∷ []) ∙ ap (λ n. n + 1) told.counted;
           size = length_read ∙ omega arith;
           cut = λ more.
-              ap sectors (append_assoc told.read came more) ∙ told.cut (came ++ more) ∙ ap (λ ss. told.done ++ ss) (sectors-sector came more size)
+              ap sectors (append_assoc told.read came more) ∙ told.cut (came ++ more)
+              ∙ ap (λ ss. told.done ++ ss) (sectors-sector came more size)
               ∙ sym (append_assoc told.done (came ∷ []) (sectors more));
           lines = λ others.
-              ap first.lines (append_assoc told.done (came ∷ []) others) ∙ told.lines (came ∷ others) ∙ ap (λ ls. told.sent ++ ls) (taken.lines others)
+              ap first.lines (append_assoc told.done (came ∷ []) others)
+              ∙ told.lines (came ∷ others) ∙ ap (λ ls. told.sent ++ ls) (taken.lines others)
               ∙ sym (append_assoc told.sent taken.sent (next.lines others));
-          end = λ others left. ap (λ ss. first.end ss left) (append_assoc told.done (came ∷ []) others) ∙ told.end (came ∷ others) left ∙ taken.end others left;
-          tally = λ others left. ap (λ ss. first.tally ss left) (append_assoc told.done (came ∷ []) others) ∙ told.tally (came ∷ others) left ∙ taken.tally others left;
+          end =
+              λ others left.
+              ap (λ ss. first.end ss left) (append_assoc told.done (came ∷ []) others)
+              ∙ told.end (came ∷ others) left ∙ taken.end others left;
+          tally =
+              λ others left.
+              ap (λ ss. first.tally ss left) (append_assoc told.done (came ∷ []) others)
+              ∙ told.tally (came ∷ others) left ∙ taken.tally others left;
           nothing_due = taken.nothing_due;
         }
 
-        pub Told-write : HasFailed now came sunk sunk' → sunk'.flushes ≡ sunk.flushes → 2352 * count + 2352 ≤ image_limit → sunk'.failures ≡ sunk.failures + 1
+        pub Told-write : HasFailed now came sunk sunk' → sunk'.flushes ≡ sunk.flushes
+            → 2352 * count + 2352 ≤ image_limit → sunk'.failures ≡ sunk.failures + 1
             → Reports (spec_of first) image after out sunk' (Err Write)
         Told-write failed unflushed few rose = record {
           read = told.read ++ came;
@@ -187,10 +230,17 @@ module _ {T : Type 0} (first now : Remaining T) (image before after : Incoming) 
             writes = rose ∙ ap (λ n. n + 1) told.writes;
             unflushed = λ short. unflushed ∙ told.unflushed;
             within = omega (arith, length_read);
-            due_sent = (part, ap (λ ls. text_of ls ++ part) (sym (ap all_but_last due_is ∙ all_but_last-append told.sent failed.line)));
+            due_sent = (
+              part,
+              ap (λ ls. text_of ls ++ part)
+                  (sym (ap all_but_last due_is ∙ all_but_last-append told.sent failed.line)),
+            );
             beginning = λ whole fits.
-                let begins = FitsLeft-begins after.rest (told.read ++ came) whole (omega (arith, length_read)) fits in
-                subst (λ w. IsBeginning (text_of told.sent ++ part) ((spec_of first).text w)) (sym (begins.1 ∙ append_assoc told.read came begins.0)) (part_begins begins.0);
+                let begins =
+                FitsLeft-begins after.rest (told.read ++ came) whole
+                (omega (arith, length_read)) fits in
+                subst (λ w. IsBeginning (text_of told.sent ++ part) ((spec_of first).text w))
+                (sym (begins.1 ∙ append_assoc told.read came begins.0)) (part_begins begins.0);
           };
         }
           where
@@ -202,40 +252,60 @@ module _ {T : Type 0} (first now : Remaining T) (image before after : Incoming) 
 
             due_is : (spec_of first).due (told.read ++ came) ≡ told.sent ++ failed.line ∷ []
             due_is =
-                let only : sectors came ≡ came ∷ [] = ap sectors (sym (append-nil came)) ∙ with_came [] ∙ ap (λ ss. came ∷ ss) (sectors-short [] (omega arith)) in
-                ap first.lines (told.cut came ∙ ap (λ ss. told.done ++ ss) only) ∙ told.lines (came ∷ [])
-                ∙ ap (λ ls. told.sent ++ ls) (failed.lines [] ∙ ap (λ ls. failed.line ∷ ls) failed.last)
+                let only : sectors came ≡ came ∷ [] =
+                ap sectors (sym (append-nil came)) ∙ with_came []
+                ∙ ap (λ ss. came ∷ ss) (sectors-short [] (omega arith)) in
+                ap first.lines (told.cut came ∙ ap (λ ss. told.done ++ ss) only)
+                ∙ told.lines (came ∷ [])
+                ∙ ap (λ ls. told.sent ++ ls)
+                (failed.lines [] ∙ ap (λ ls. failed.line ∷ ls) failed.last)
 
-            part_begins : (more : List ℕ) → IsBeginning (text_of told.sent ++ part) ((spec_of first).text (told.read ++ (came ++ more)))
+            part_begins : (more : List ℕ)
+                → IsBeginning (text_of told.sent ++ part)
+                ((spec_of first).text (told.read ++ (came ++ more)))
             part_begins more =
                 let ss = sectors more in
                 let left = length (tail (told.read ++ (came ++ more))) in
                 let behind = text_of (failed.behind ss) in
                 let rest = now.end (came ∷ ss) left in
                 let is =
-                known (came ++ more) ∙ ap (λ all. text_of told.sent ++ (text_of (now.lines all) ++ now.end all left)) (with_came more)
+                known (came ++ more)
+                ∙ ap (λ all. text_of told.sent ++ (text_of (now.lines all) ++ now.end all left))
+                (with_came more)
                 ∙ ap (λ ls. text_of told.sent ++ (text_of ls ++ rest)) (failed.lines ss)
                 ∙ ap (λ t. text_of told.sent ++ t) (append_assoc failed.line behind rest) in
                 subst (IsBeginning (text_of told.sent ++ part)) (sym is)
-                (IsBeginning-behind (text_of told.sent) part (failed.line ++ (behind ++ rest)) (IsBeginning-take failed.count failed.line (behind ++ rest)))
+                (IsBeginning-behind (text_of told.sent) part (failed.line ++ (behind ++ rest))
+                (IsBeginning-take failed.count failed.line (behind ++ rest)))
 
-      module _ (short : length came < 2352) (few : 2352 * count + length came ≤ image_limit) (end : IsAtEnd after.rest) (ended : after.ended ≡ true) (left : ℕ) (left_is : left ≡ length came) where
+      module _ (short : length came < 2352) (few : 2352 * count + length came ≤ image_limit)
+          (end : IsAtEnd after.rest) (ended : after.ended ≡ true) (left : ℕ)
+          (left_is : left ≡ length came) where
         tail_is : length (tail (told.read ++ came)) ≡ left
         tail_is = length-tail told.read came count told.size short ∙ sym left_is
 
         text_is : (spec_of first).text (told.read ++ came) ≡ text_of told.sent ++ now.end [] left
         text_is =
-            known came ∙ ap (λ ss. text_of told.sent ++ (text_of (now.lines ss) ++ now.end ss (length (tail (told.read ++ came))))) (sectors-short came short)
-            ∙ ap (λ ls. text_of told.sent ++ (text_of ls ++ now.end [] (length (tail (told.read ++ came))))) told.nothing_due
+            known came
+            ∙ ap (λ ss. text_of told.sent
+            ++ (text_of (now.lines ss) ++ now.end ss (length (tail (told.read ++ came)))))
+            (sectors-short came short)
+            ∙ ap (λ ls. text_of told.sent
+            ++ (text_of ls ++ now.end [] (length (tail (told.read ++ came))))) told.nothing_due
             ∙ ap (λ n. text_of told.sent ++ now.end [] n) tail_is
 
-        pub Told-end : (answer : T) → answer ≡ now.tally [] left → Finishes {X = T} {E = SinkFailed} (now.end [] left) sunk sunk' (Ok answer) → sunk'.flushes ≡ sunk.flushes + 1
-            → sunk'.failures ≡ sunk.failures → Reports (spec_of first) image after out sunk' (Ok answer)
+        pub Told-end : (answer : T) → answer ≡ now.tally [] left
+            → Finishes {X = T} {E = SinkFailed} (now.end [] left) sunk sunk' (Ok answer)
+            → sunk'.flushes ≡ sunk.flushes + 1
+            → sunk'.failures ≡ sunk.failures
+            → Reports (spec_of first) image after out sunk' (Ok answer)
         Told-end answer is finished flushed wrote = record {
           read = told.read ++ came;
           sent = text_of told.sent ++ now.end [] left;
           gives = gives_all;
-          takes = Takes-trans out sunk sunk' (text_of told.sent) (now.end [] left) told.takes finished.1;
+          takes =
+              Takes-trans out sunk sunk' (text_of told.sent)
+              (now.end [] left) told.takes finished.1;
           flushes = flushed ∙ ap (λ n. n + 1) told.unflushed;
           answers = record {
             reads = kept ∙ told.reads;
@@ -246,53 +316,79 @@ module _ {T : Type 0} (first now : Remaining T) (image before after : Incoming) 
             within = omega (arith, length_read);
             whole_sent = sym text_is;
             tally_right =
-                is ∙ sym (told.tally [] left) ∙ ap (λ ss. first.tally ss left) (sym (done_is short)) ∙ ap (λ n. first.tally (sectors (told.read ++ came)) n) (sym tail_is);
+                is ∙ sym (told.tally [] left) ∙ ap (λ ss. first.tally ss left) (sym (done_is short))
+                ∙ ap (λ n. first.tally (sectors (told.read ++ came)) n) (sym tail_is);
           };
         }
 
-        pub Told-end_failed : (e : SinkFailed) → Finishes {X = T} (now.end [] left) sunk sunk' (Err e) → CountsFlush {X = T} sunk.flushes sunk'.flushes (Err e)
-            → sunk'.failures ≡ sunk.failures + 1 → Reports (spec_of first) image after out sunk' (Err Write)
+        pub Told-end_failed : (e : SinkFailed)
+            → Finishes {X = T} (now.end [] left) sunk sunk' (Err e)
+            → CountsFlush {X = T} sunk.flushes sunk'.flushes (Err e)
+            → sunk'.failures ≡ sunk.failures + 1
+            → Reports (spec_of first) image after out sunk' (Err Write)
         Told-end_failed e finished flushed failed = record {
           read = told.read ++ came;
           sent = text_of told.sent ++ finished.0;
           gives = gives_all;
           takes = Takes-trans out sunk sunk' (text_of told.sent) finished.0 told.takes finished.1;
-          flushes = (omega (arith, flushed.0, told.unflushed), omega (arith, flushed.1, told.unflushed));
+          flushes =
+              (omega (arith, flushed.0, told.unflushed), omega (arith, flushed.1, told.unflushed));
           answers = record {
             reads = kept ∙ told.reads;
             writes = failed ∙ ap (λ n. n + 1) told.writes;
             unflushed = λ short.
-                let size = ap length text_is ∙ length-append (text_of told.sent) (now.end [] left) in
-                finished.3 (omega (arith, short, size, length-append (text_of told.sent) finished.0)) ∙ told.unflushed;
+                let size =
+                ap length text_is ∙ length-append (text_of told.sent) (now.end [] left) in
+                finished.3
+                (omega (arith, short, size, length-append (text_of told.sent) finished.0))
+                ∙ told.unflushed;
             within = omega (arith, length_read);
             due_sent =
                 let begins = all_but_last-begins told.sent in
-                subst (λ ls. IsBeginning (text_of (all_but_last ls)) (text_of told.sent ++ finished.0)) (sym (due_is short))
-                (begins.0 ++ finished.0, ap (λ t. t ++ finished.0) begins.1 ∙ append_assoc (text_of (all_but_last told.sent)) begins.0 finished.0);
+                subst (λ ls. IsBeginning (text_of (all_but_last ls))
+                (text_of told.sent ++ finished.0)) (sym (due_is short)) (
+                  begins.0 ++ finished.0,
+                  ap (λ t. t ++ finished.0) begins.1
+                      ∙ append_assoc (text_of (all_but_last told.sent)) begins.0 finished.0,
+                );
             beginning = λ whole fits.
-                subst (λ w. IsBeginning (text_of told.sent ++ finished.0) ((spec_of first).text w)) (sym (FitsLeft-end after.rest (told.read ++ came) whole end fits))
-                (subst (IsBeginning (text_of told.sent ++ finished.0)) (sym text_is) (IsBeginning-behind (text_of told.sent) finished.0 (now.end [] left) finished.2));
+                subst (λ w. IsBeginning (text_of told.sent ++ finished.0) ((spec_of first).text w))
+                (sym (FitsLeft-end after.rest (told.read ++ came) whole end fits))
+                (subst (IsBeginning (text_of told.sent ++ finished.0)) (sym text_is)
+                (IsBeginning-behind (text_of told.sent) finished.0 (now.end [] left) finished.2));
           };
         }
 
 -- the next sector was not read
-pub Told-unread : {T : Type 0} (first now : Remaining T) (image before after : Incoming) (out sunk : Outgoing) (count : ℕ) → Told first now image before out sunk count → (bytes : List ℕ) (fault : Fault)
-    → ReadsSector count bytes before after (Err fault) → Reports (spec_of first) image after out sunk (Err fault)
-Told-unread first now image before after out sunk count told bytes Read r = Told-read first now image before after out sunk count told r.came (record { consumes = r.consumes; counted = r.counted }) r.short r.within r.rose r.unended
-Told-unread first now image before after out sunk count told bytes TooLong r = Told-too_long first now image before after out sunk count told r.came (record { consumes = r.consumes; counted = r.counted }) (omega (arith, r.one)) r.full r.one r.kept r.unended
+pub Told-unread : {T : Type 0} (first now : Remaining T) (image before after : Incoming)
+    (out sunk : Outgoing) (count : ℕ) → Told first now image before out sunk count
+    → (bytes : List ℕ) (fault : Fault)
+    → ReadsSector count bytes before after (Err fault)
+    → Reports (spec_of first) image after out sunk (Err fault)
+Told-unread first now image before after out sunk count told bytes Read r =
+    Told-read first now image before after out sunk count told r.came
+    (record { consumes = r.consumes; counted = r.counted }) r.short r.within r.rose r.unended
+Told-unread first now image before after out sunk count told bytes TooLong r =
+    Told-too_long first now image before after out sunk count told r.came
+    (record { consumes = r.consumes; counted = r.counted })
+    (omega (arith, r.one)) r.full r.one r.kept r.unended
 Told-unread first now image before after out sunk count told bytes Write r = elim r [ ]
 Told-unread first now image before after out sunk count told bytes Log r = elim r [ ]
 
--- ---- what is told in other words
+-- ---- the same in other words
 
 module _ {T : Type 0} (a b : ReportSpec T) (text : (image : List ℕ) → a.text image ≡ b.text image)
-    (due : (read : List ℕ) → a.due read ≡ b.due read) (tally : (image : List ℕ) → a.tally image ≡ b.tally image) where
-  begins_same : {left : List ℕ → Type 0} (sent : List ℕ) → ((whole : List ℕ) → left whole → IsBeginning sent (a.text whole))
+    (due : (read : List ℕ) → a.due read ≡ b.due read)
+    (tally : (image : List ℕ) → a.tally image ≡ b.tally image) where
+  begins_same : {left : List ℕ → Type 0} (sent : List ℕ)
+      → ((whole : List ℕ) → left whole → IsBeginning sent (a.text whole))
       → (whole : List ℕ) → left whole → IsBeginning sent (b.text whole)
   begins_same sent begins = λ whole fits. subst (IsBeginning sent) (text whole) (begins whole fits)
 
-  answers_same : (read sent : List ℕ) (image image' : Incoming) (out out' : Outgoing) (result : Result T Fault)
-      → Answers a read sent image image' out out' result → Answers b read sent image image' out out' result
+  answers_same : (read sent : List ℕ) (image image' : Incoming) (out out' : Outgoing)
+      (result : Result T Fault)
+      → Answers a read sent image image' out out' result
+      → Answers b read sent image image' out out' result
   answers_same read sent image image' out out' (Ok told) r = record {
     reads = r.reads;
     writes = r.writes;

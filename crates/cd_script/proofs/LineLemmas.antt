@@ -22,7 +22,7 @@ pub Reads-same : {X Y : Type 0} (view : X → Y) (r : Result X ScriptFault)
 Reads-same view (Ok x) read same e h = e ∙ h
 Reads-same view (Err f) read same e h = e ∙ h
 
--- where a reading has no fault, neither has what was answered for it
+-- if a reading has no fault, neither has what was answered for it
 pub reads_ok : {X Y : Type 0} (view : X → Y) (r : Result X ScriptFault)
     (read : Result Y ScriptFault) → Reads view r read
     → ((e : ScriptFault) → read ≡ Err e → ⊥) → IsOk r
@@ -73,7 +73,8 @@ pub goes_on : (version : Version) (front after : List Patch) (line count earlier
     → with_front front (patches_from version line earlier all) ≡ total
     → with_front after (patches_from version (line + 1) later rest) ≡ total
 unfolding patches_from
-goes_on version front after line count earlier later text all rest found total same more grown parts read so_far =
+goes_on version front after line count earlier later text all rest found total same more grown
+    parts read so_far =
     let reads : line_at version line earlier text ≡ Ok found =
     ap (λ (n : ℕ). line_at version line n text) (sym same) ∙ read in
     let step : with_front front (patches_from version line earlier (text ∷ rest))
@@ -87,7 +88,7 @@ goes_on version front after line count earlier later text all rest found total s
     ∙ sym step ∙ ap (λ (ls : List (List ℕ)).
     with_front front (patches_from version line earlier ls)) (sym parts) ∙ so_far
 
--- where the lines have no fault, the next has none
+-- if the lines have no fault, the next has none
 pub next_sound : (version : Version) (front : List Patch) (line count earlier : ℕ) (text : List ℕ)
     (all rest : List (List ℕ)) (e : ScriptFault) (total : Result (List Patch) ScriptFault)
     → count ≡ earlier → all ≡ text ∷ rest
@@ -142,7 +143,7 @@ unfolding patches_from
 fault_none version line earlier all none =
     ap (λ (ls : List (List ℕ)). result_err (patches_from version line earlier ls)) none
 
--- one more where a line has a patch
+-- one more if a line has a patch
 pub counted : {X Y : Type 0} (f : X → Y) (found : Option X)
     → from_bool (is_some found) ≡ length (option_to_list (option_map f found))
 counted f None = refl
@@ -163,7 +164,7 @@ head_passed line text rest found is passed =
     sym (is_passed_over-take (words text)) ∙ ap is_passed_over (sym is) ∙ passed in
     rw passes refl
 
--- the lines behind a head line, or its fault
+-- the lines after a head line, or its fault
 pub head_read : (line : ℕ) (text : List ℕ) (rest found : List (List ℕ)) (named : Option Version)
     → found ≡ take 7 (words text) → is_passed_over found ≡ false → head_version found ≡ named
     → script_from line (text ∷ rest) ≡ patches_behind line named rest

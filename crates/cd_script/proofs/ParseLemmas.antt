@@ -60,7 +60,7 @@ order-list ls ps e = record {
   rising = order-rises ps;
 }
 
--- the script of a text is what its lines behind the head line give
+-- the script of a text is what its lines after the head line give
 pub script-rest : (version : Version) (text bytes : List ℕ) (all rest : List (List ℕ)) (head : ℕ)
     → all ≡ map without_terminator (lines_of text)
     → script_from 1 all ≡ patches_from version (head + 1) 0 rest

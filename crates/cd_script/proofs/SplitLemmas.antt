@@ -14,7 +14,7 @@ use Rattle.cd_script.specs.Words.{words, is_space, is_word}
 abbrev seen : List (Bor (List ℕ)) → List (List ℕ)
 seen = map (λ w. w.now)
 
--- ---- a part that is put behind words
+-- ---- a part that is put after words
 
 pub part_empty : (ws : List (Bor (List ℕ))) (part : List ℕ) → length part ≡ 0
     → seen ws ≡ seen ws ++ filter is_word (part ∷ [])
@@ -66,7 +66,7 @@ cut_at part x rest none space =
     ap (filter is_word) (slice_split_at is_space part x rest none space)
     ∙ filter-append is_word (part ∷ []) (slice_split is_space rest)
 
--- the first space, and what stands before and behind it
+-- the first space, and what stands before and after it
 pub words-cut : (line part behind rest : List ℕ) (end : ℕ)
     → NoneBefore (Passes is_space line) 0 (length line) end × Passes is_space line end
     → part ≡ take end line → behind ≡ drop end line

@@ -16,7 +16,7 @@ use Rattle.cd_script.specs.Script.{at_limit, head_version, is_passed_over, line_
 use Rattle.cd_script.specs.Versions.{is_first_head, first_line_at, first_patches_from, first_script_from, first_script, version_of, has_new_verb}
 use Rattle.cd_script.specs.Words.{words}
 
--- lines that are read alike behind a line that is read
+-- lines that are read alike after a line that is read
 same_rest : (read : Result (Option Patch) ScriptFault) (earlier : ℕ)
     (one other : ℕ → Result (List Patch) ScriptFault) → ((n : ℕ) → one n ≡ other n)
     → (read >>= λ found. one (earlier + length (option_to_list found))

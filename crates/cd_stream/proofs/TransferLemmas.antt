@@ -49,7 +49,8 @@ Takes-trans a b c bs cs p q = record {
 }
 
 -- a flush moves no byte
-pub Takes-flushed : {E : Type 0} (a b c : Outgoing) (bs : List ℕ) (result : Result (Unit {0}) E) → Takes a b bs → Flushes b c result → Takes a c bs
+pub Takes-flushed : {E : Type 0} (a b c : Outgoing) (bs : List ℕ) (result : Result (Unit {0}) E)
+    → Takes a b bs → Flushes b c result → Takes a c bs
 Takes-flushed a b c bs result went flush = record {
   appends = Appends-kept a.written b.written c.written bs went.appends flush.bytes;
   counted = flush.taken ∙ went.counted;

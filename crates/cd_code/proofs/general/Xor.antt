@@ -28,7 +28,7 @@ xor_cancel a b c e = sym (xor_twice_left a b) ∙ ap (bit_xor a) e ∙ xor_twice
 pub xor_cancel_right : (a b c : ℕ) → bit_xor a c ≡ bit_xor b c → a ≡ b
 xor_cancel_right a b c e = sym (xor_twice a c) ∙ ap (λ z. bit_xor z c) e ∙ xor_twice b c
 
--- two numbers are equal where their sum is 0
+-- two numbers are equal if their sum is 0
 pub same_from_xor : (a b : ℕ) → bit_xor a b ≡ 0 → a ≡ b
 same_from_xor a b e = xor_cancel_right a b b (e ∙ sym (xor_self b))
 

@@ -16,7 +16,7 @@ use Rattle.clap.specs.declared.error.kind.ErrorKind.TheVariants.{TooManyValues}
 use Rattle.clap.specs.declared.parser.matches.ValueSource.{ValueSource}
 use Rattle.clap.specs.declared.parser.matches.ValueSource.TheVariants.{CommandLine, DefaultValue}
 
--- two steps give no kind only where neither does
+-- two steps give no kind only if neither does
 pub neither : (a b : Kinds) → or_else a b ≡ [] → (a ≡ []) × (b ≡ [])
 neither [] b e = (refl, e)
 neither (k ∷ ks) b e = cc
@@ -386,7 +386,7 @@ module _ (Q : Text → Reading → Text → Type 0) (s : Shape) (by : Each (IsUs
       (walk_fault s names (walked s.rules names w word) rest) e in
       walk_starts names rest (walked s.rules names w word) p.1 (turn_starts names w word p.0 g)
 
-  -- where a level of the parse gives no kind, each of its rows starts
+  -- if a level of the parse gives no kind, each of its rows starts
   pub level_starts : (names : Names) (words : List Text) (has_subcommand : Bool) (below : Kinds)
       → level_fault s names nothing_held words has_subcommand below ≡ []
       → AllStart Q (finished s.rules (walk s.rules names nothing_held words).held)

@@ -71,7 +71,8 @@ cases_Option None = inl refl
 cases_Option (Some x) = inr (x, refl)
 
 -- if each index has an element with a property, there is a list of such elements
-pub list_of_choices : {X : Type 0} (P : ℕ → X → Type 0) (n : ℕ) → ((i : ℕ) → i < n → (x : X) × P i x)
+pub list_of_choices : {X : Type 0} (P : ℕ → X → Type 0) (n : ℕ)
+    → ((i : ℕ) → i < n → (x : X) × P i x)
     → (xs : List X) × (length xs ≡ n) × ((i : ℕ) (x : X) → slice_get xs i ≡ Some x → P i x)
 list_of_choices P zero h = ([], refl, λ i x e. absurd (none-some x e))
 list_of_choices {X} P (suc n) h =

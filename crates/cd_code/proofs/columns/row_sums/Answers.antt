@@ -14,17 +14,20 @@ in_three_parts : (f : ℕ → ℕ) (old one two new row : List ℕ) → length r
     → get_or new c 0 ≡ bit_xor (f (get_or two c 0)) (get_or row c 0))
     → ((c : ℕ) → c < 64 → get_or new c 0 ≡ get_or two c 0)
     → (c : ℕ) → c < 86 → get_or new c 0 ≡ bit_xor (f (get_or old c 0)) (get_or row c 0)
-in_three_parts f old one two new row long front front_above middle middle_below middle_above back back_below c h = elim (cases_lt c 64) [
-  | inl low ↦ elim (cases_lt c 32) [
-    | inl least ↦ back_below c low ∙ middle_below c least ∙ front c (omega arith) least
-    | inr mid ↦
-        back_below c low ∙ middle c mid low
-        ∙ ap (λ n. bit_xor (f n) (get_or row c 0)) (front_above c mid)
-  ]
-  | inr high ↦
-      back c high (omega (arith, long))
-      ∙ ap (λ n. bit_xor (f n) (get_or row c 0)) (middle_above c high ∙ front_above c (omega arith))
-]
+in_three_parts f old one two new row long front front_above middle middle_below middle_above back
+    back_below c h =
+    elim (cases_lt c 64) [
+      | inl low ↦ elim (cases_lt c 32) [
+        | inl least ↦ back_below c low ∙ middle_below c least ∙ front c (omega arith) least
+        | inr mid ↦
+            back_below c low ∙ middle c mid low
+            ∙ ap (λ n. bit_xor (f n) (get_or row c 0)) (front_above c mid)
+      ]
+      | inr high ↦
+          back c high (omega (arith, long))
+          ∙ ap (λ n. bit_xor (f n) (get_or row c 0))
+          (middle_above c high ∙ front_above c (omega arith))
+    ]
 
 pub returns-clause-plain : goal.returns-clause-plain
 returns-clause-plain c =

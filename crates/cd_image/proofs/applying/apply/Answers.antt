@@ -12,13 +12,20 @@ use Rattle.cd_image.proofs.applying.apply.Goals as goal
 -- what was done with the patches of the script
 done : (g : Over) (c : goal.After-apply_patches g)
     → Applies c.args.carry c.args.script.now c.args.base
-    (streams (g.I.Source.seen c.args.image.now) (g.O.Sink.seen c.args.out.now) (g.L.Sink.seen c.args.log.now))
-    (streams (g.I.Source.seen c.apply_patches.new.image) (g.O.Sink.seen c.apply_patches.new.out) (g.L.Sink.seen c.apply_patches.new.log))
+    (streams (g.I.Source.seen c.args.image.now) (g.O.Sink.seen c.args.out.now)
+    (g.L.Sink.seen c.args.log.now))
+    (streams (g.I.Source.seen c.apply_patches.new.image) (g.O.Sink.seen c.apply_patches.new.out)
+    (g.L.Sink.seen c.apply_patches.new.log))
     c.apply_patches.result
 done g c =
-    let before = streams (g.I.Source.seen c.args.image.now) (g.O.Sink.seen c.args.out.now) (g.L.Sink.seen c.args.log.now) in
-    let after = streams (g.I.Source.seen c.apply_patches.new.image) (g.O.Sink.seen c.apply_patches.new.out) (g.L.Sink.seen c.apply_patches.new.log) in
-    subst (λ ps. Applies c.args.carry ps c.args.base before after c.apply_patches.result) c.patches.ensures.patches c.apply_patches.ensures
+    let before =
+    streams (g.I.Source.seen c.args.image.now) (g.O.Sink.seen c.args.out.now)
+    (g.L.Sink.seen c.args.log.now) in
+    let after =
+    streams (g.I.Source.seen c.apply_patches.new.image) (g.O.Sink.seen c.apply_patches.new.out)
+    (g.L.Sink.seen c.apply_patches.new.log) in
+    subst (λ ps. Applies c.args.carry ps c.args.base before after c.apply_patches.result)
+    c.patches.ensures.patches c.apply_patches.ensures
 
 pub returns-clause-report : goal.returns-clause-report
 returns-clause-report g c = done g c
@@ -27,7 +34,9 @@ pub returns-clause-output : goal.returns-clause-output
 returns-clause-output g c = Applies-output _ (done g c)
 
 pub returns-clause-carried : goal.returns-clause-carried
-returns-clause-carried g c = Applies-carried _ (done g c) (subst (All IsPatch) c.patches.ensures.patches c.patches.ensures.each)
+returns-clause-carried g c =
+    Applies-carried _ (done g c)
+    (subst (All IsPatch) c.patches.ensures.patches c.patches.ensures.each)
 
 pub returns-clause-log : goal.returns-clause-log
 returns-clause-log g c = Applies-told _ (done g c)

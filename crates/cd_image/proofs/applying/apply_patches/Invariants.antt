@@ -5,10 +5,12 @@ use Rattle.cd_image.proofs.applying.apply_patches.Given as goal
 
 abbrev pub invariant-loop-more : goal.invariant-loop-more
 invariant-loop-more g l =
-    let start = streams (g.I.Source.seen l.fn.image) (g.O.Sink.seen l.fn.out) (g.L.Sink.seen l.fn.log) in
+    let start =
+    streams (g.I.Source.seen l.fn.image) (g.O.Sink.seen l.fn.out) (g.L.Sink.seen l.fn.log) in
     let now = streams (g.I.Source.seen l.image) (g.O.Sink.seen l.out) (g.L.Sink.seen l.log) in
     record {
-      goes : GoesOn l.carry (take l.pass.decided l.patches) (drop l.pass.decided l.patches) l.fn.base start now l.pass;
+      goes : GoesOn l.carry (take l.pass.decided l.patches)
+          (drop l.pass.decided l.patches) l.fn.base start now l.pass;
       known : l.pass.decided ≤ length l.patches;
       ended : l.more ≡ false → IsEnded l.pass;
     }

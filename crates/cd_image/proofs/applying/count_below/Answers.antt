@@ -11,15 +11,31 @@ pub returns-clause-below : goal.returns-clause-below
 returns-clause-below c = λ k d inside.
     let n = c.partition_point.result in
     let ps = c.args.patches.now in
-    let point = IsPartitionPoint-from_clause (λ (p : Patch). nat_lt p.block c.args.block) ps n c.partition_point.ensures.partitioned (IsPartitionedBy-ltb (λ p. p.block) ps c.args.block c.requires) (λ a r f' called. search rules) in
+    let point =
+    IsPartitionPoint-from_clause (λ (p : Patch). nat_lt p.block c.args.block) ps n
+    c.partition_point.ensures.partitioned
+    (IsPartitionedBy-ltb (λ p. p.block) ps c.args.block c.requires)
+    (λ a r f' called. search rules) in
     let size = length-take n ps in
     let below : k < n = omega arith in
-    omega (arith, ap (λ (p : Patch). p.block) (get_or-take n ps k d below), ltb-true _ _ (point.0 k d (omega arith) below))
+    omega (
+      arith,
+      ap (λ (p : Patch). p.block) (get_or-take n ps k d below),
+      ltb-true _ _ (point.0 k d (omega arith) below),
+    )
 
 pub returns-clause-others : goal.returns-clause-others
 returns-clause-others c = λ k d inside.
     let n = c.partition_point.result in
     let ps = c.args.patches.now in
-    let point = IsPartitionPoint-from_clause (λ (p : Patch). nat_lt p.block c.args.block) ps n c.partition_point.ensures.partitioned (IsPartitionedBy-ltb (λ p. p.block) ps c.args.block c.requires) (λ a r f' called. search rules) in
+    let point =
+    IsPartitionPoint-from_clause (λ (p : Patch). nat_lt p.block c.args.block) ps n
+    c.partition_point.ensures.partitioned
+    (IsPartitionedBy-ltb (λ p. p.block) ps c.args.block c.requires)
+    (λ a r f' called. search rules) in
     let size = length-drop n ps in
-    omega (arith, ap (λ (p : Patch). p.block) (get_or-drop n ps k d), ltb-false _ _ (point.1 (n + k) d (omega arith) (omega arith)))
+    omega (
+      arith,
+      ap (λ (p : Patch). p.block) (get_or-drop n ps k d),
+      ltb-false _ _ (point.1 (n + k) d (omega arith) (omega arith)),
+    )

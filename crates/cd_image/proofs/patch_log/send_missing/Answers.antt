@@ -13,21 +13,31 @@ returns-in_err-send_outcome g c =
     let failed = err_from_is_err_and c.from_residual.result c.from_residual.ensures.1 in
     let went = c.in_err-send_outcome.ensures.taken in
     rw failed.1
-    (missing_lines-cut c.args.patches.now c.loop-patch.patch-index c.patch-item.result c.loop-patch-test.true c.patch-item.is (g.L.Sink.seen c.args.log.now) (g.L.Sink.seen c.loop-patch.log) (g.L.Sink.seen c.send_outcome.new.log)
-    went.0 went.1 c.loop-patch.invariant.taken went.2 (c.in_err-send_outcome.ensures.flushes ∙ c.loop-patch.invariant.unflushed) c.loop-patch.invariant.kept c.in_err-send_outcome.ensures.count
-    (c.in_err-send_outcome.ensures.unfinished (log_line-some c.patch-item.result (NoBlock c.patch-item.result.block))) _)
+    (missing_lines-cut c.args.patches.now c.loop-patch.patch-index c.patch-item.result
+    c.loop-patch-test.true c.patch-item.is (g.L.Sink.seen c.args.log.now)
+    (g.L.Sink.seen c.loop-patch.log) (g.L.Sink.seen c.send_outcome.new.log)
+    went.0 went.1 c.loop-patch.invariant.taken went.2
+    (c.in_err-send_outcome.ensures.flushes ∙ c.loop-patch.invariant.unflushed)
+    c.loop-patch.invariant.kept c.in_err-send_outcome.ensures.count
+    (c.in_err-send_outcome.ensures.unfinished
+    (log_line-some c.patch-item.result (NoBlock c.patch-item.result.block))) _)
 
 pub loop-patch-preserved : goal.loop-patch-preserved
 loop-patch-preserved g c = record {
   told =
-      subst (Appends (g.L.Sink.seen c.args.log.now).written (g.L.Sink.seen c.send_outcome.new.log).written)
-      (sym (missing_lines-more c.args.patches.now c.loop-patch.patch-index c.patch-item.result c.loop-patch-test.true c.patch-item.is))
+      subst (Appends (g.L.Sink.seen c.args.log.now).written
+      (g.L.Sink.seen c.send_outcome.new.log).written)
+      (sym (missing_lines-more c.args.patches.now c.loop-patch.patch-index c.patch-item.result
+      c.loop-patch-test.true c.patch-item.is))
       (Appends-trans _ _ _ _ _ c.loop-patch.invariant.told c.in_ok-send_outcome.ensures.bytes);
   taken =
       subst (Takes (g.L.Sink.seen c.args.log.now) (g.L.Sink.seen c.send_outcome.new.log))
-      (sym (missing_lines-more c.args.patches.now c.loop-patch.patch-index c.patch-item.result c.loop-patch-test.true c.patch-item.is))
+      (sym (missing_lines-more c.args.patches.now c.loop-patch.patch-index c.patch-item.result
+      c.loop-patch-test.true c.patch-item.is))
       (Takes-trans _ _ _ _ _ c.loop-patch.invariant.taken c.in_ok-send_outcome.ensures.taken);
   unflushed = c.in_ok-send_outcome.ensures.flushes ∙ c.loop-patch.invariant.unflushed;
   kept = c.in_ok-send_outcome.ensures.count ∙ c.loop-patch.invariant.kept;
-  unfinished = λ some. c.in_ok-send_outcome.ensures.unfinished (log_line-some c.patch-item.result (NoBlock c.patch-item.result.block));
+  unfinished =
+      λ some. c.in_ok-send_outcome.ensures.unfinished
+      (log_line-some c.patch-item.result (NoBlock c.patch-item.result.block));
 }

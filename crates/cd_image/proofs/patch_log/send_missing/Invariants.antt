@@ -7,9 +7,14 @@ use Rattle.cd_image.proofs.patch_log.send_missing.Given as goal
 
 abbrev pub invariant-loop-patch : goal.invariant-loop-patch
 invariant-loop-patch g l = record {
-  told : Appends (g.L.Sink.seen l.fn.log).written (g.L.Sink.seen l.log).written (log_lines (take l.patch-index l.patches) (missing_outcomes (take l.patch-index l.patches)));
-  taken : Takes (g.L.Sink.seen l.fn.log) (g.L.Sink.seen l.log) (log_lines (take l.patch-index l.patches) (missing_outcomes (take l.patch-index l.patches)));
+  told : Appends (g.L.Sink.seen l.fn.log).written (g.L.Sink.seen l.log).written
+      (log_lines (take l.patch-index l.patches) (missing_outcomes (take l.patch-index l.patches)));
+  taken : Takes (g.L.Sink.seen l.fn.log) (g.L.Sink.seen l.log)
+      (log_lines (take l.patch-index l.patches) (missing_outcomes (take l.patch-index l.patches)));
   unflushed : (g.L.Sink.seen l.log).flushes ≡ (g.L.Sink.seen l.fn.log).flushes;
   kept : (g.L.Sink.seen l.log).failures ≡ (g.L.Sink.seen l.fn.log).failures;
-  unfinished : 0 < length (log_lines (take l.patch-index l.patches) (missing_outcomes (take l.patch-index l.patches))) → (g.L.Sink.seen l.log).finished ≡ false;
+  unfinished :
+      0 < length (log_lines (take l.patch-index l.patches)
+      (missing_outcomes (take l.patch-index l.patches)))
+      → (g.L.Sink.seen l.log).finished ≡ false;
 }

@@ -3,11 +3,13 @@ use Rattle.cd_jobs.proofs.jobs.do_check.Goals as goal
 
 pub returns-in-Err-image_at : goal.returns-in-Err-image_at
 returns-in-Err-image_at g c =
-    DoesCheck.without_image c.in-Ok.script c.script_at.new.host (g.L.Sink.seen c.script_at.new.log) c.in-Ok.ensures.takes
+    DoesCheck.without_image c.in-Ok.script c.script_at.new.host
+    (g.L.Sink.seen c.script_at.new.log) c.in-Ok.ensures.takes
     (c.in-Err-image_at.fault, c.in-Err-image_at.ensures.asked, c.fail_without.ensures)
 
 pub returns : goal.returns
 returns g c =
-    DoesCheck.checked c.in-Ok.script c.script_at.new.host (g.L.Sink.seen c.script_at.new.log) c.in-Ok.ensures.takes
+    DoesCheck.checked c.in-Ok.script c.script_at.new.host
+    (g.L.Sink.seen c.script_at.new.log) c.in-Ok.ensures.takes
     c.in-Ok-image_at.image c.in-Ok-image_at.ensures.asked
     (record { left = c.run_check.new.image; runs = c.run_check.ensures.report })

@@ -3,7 +3,14 @@ use Rattle.cd_jobs.proofs.StatusLemmas.{DoesJob-few, Tells-few}
 use Rattle.cd_jobs.proofs.jobs.do_words.Goals as goal
 
 pub returns-in-Ok-clause-does : goal.returns-in-Ok-clause-does
-returns-in-Ok-clause-does g c = inl (c.in-Ok.job, assumption c.in-Ok.ensures, c.in-Ok.ensures.taken, c.in-Ok.ensures.base, c.do_job.ensures)
+returns-in-Ok-clause-does g c =
+    inl (
+      c.in-Ok.job,
+      assumption c.in-Ok.ensures,
+      c.in-Ok.ensures.taken,
+      c.in-Ok.ensures.base,
+      c.do_job.ensures,
+    )
 
 pub returns-in-Err-clause-does : goal.returns-in-Err-clause-does
 returns-in-Err-clause-does g c = inr (record {

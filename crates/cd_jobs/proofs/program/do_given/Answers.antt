@@ -9,4 +9,5 @@ returns-in-Ok-clause-does g c = search rules
 
 pub returns-in-Err-clause-no_memory : goal.returns-in-Err-clause-no_memory
 returns-in-Err-clause-no_memory g c =
-    rw c.in-Err.is (λ memory. (rw (← c.as_bytes.ensures.value) c.fail.ensures.line, c.fail.ensures.status))
+    rw c.in-Err.is
+    (λ memory. (rw (← c.as_bytes.ensures.value) c.fail.ensures.line, c.fail.ensures.status))

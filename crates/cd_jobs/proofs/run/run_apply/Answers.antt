@@ -13,19 +13,32 @@ returns-in-Err-clause-failed g c = λ failed.
     fault-counts c.in-Err.fault
     (λ is. one-more (c.in-Err.ensures.read_failed.0 (ap Err is)))
     (λ is. one-more (c.in-Err.ensures.write_failed.0 (ap Err is)))
-    (λ is. one-more (ap (λ o. o.failures) (c.end_by.ensures.line.0 is) ∙ c.in-Err.ensures.log_failed.0 (ap Err is)))
+    (λ is. one-more
+    (ap (λ o. o.failures) (c.end_by.ensures.line.0 is) ∙ c.in-Err.ensures.log_failed.0 (ap Err is)))
     (λ is. record {
       unended = Applies-unended c.in-Err.ensures.report is;
-      beyond = λ bytes left coming stays. (c.in-Err.ensures.too_long bytes left coming stays).0 (ap Err is);
+      beyond =
+          λ bytes left coming stays.
+          (c.in-Err.ensures.too_long bytes left coming stays).0 (ap Err is);
     })
 
 pub returns-in-Ok-clause-report : goal.returns-in-Ok-clause-report
 returns-in-Ok-clause-report g c =
-    record { result = Ok c.in-Ok.tally; middle = _; does = c.in-Ok.ensures.report; ends = (refl, c.status_of.ensures) }
+    record {
+      result = Ok c.in-Ok.tally;
+      middle = _;
+      does = c.in-Ok.ensures.report;
+      ends = (refl, c.status_of.ensures);
+    }
 
 pub returns-in-Err-clause-report : goal.returns-in-Err-clause-report
 returns-in-Err-clause-report g c =
-    record { result = Err c.in-Err.fault; middle = _; does = c.in-Err.ensures.report; ends = (c.end_by.ensures.line, c.end_by.ensures.status) }
+    record {
+      result = Err c.in-Err.fault;
+      middle = _;
+      does = c.in-Err.ensures.report;
+      ends = (c.end_by.ensures.line, c.end_by.ensures.status);
+    }
 
 pub returns-in-Ok-clause-holds_few : goal.returns-in-Ok-clause-holds_few
 returns-in-Ok-clause-holds_few g c = c.in-Ok.ensures.holds_few

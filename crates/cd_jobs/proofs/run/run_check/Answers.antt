@@ -16,8 +16,11 @@ returns-in-Err-clause-failed g c = λ failed.
     fault-counts-read c.in-Err.fault
     (λ is. one-more (c.in-Err.ensures.read_failed.0 (ap Err is)))
     (λ is. c.in-Err.ensures.no_output (ap Err is))
-    (λ is. one-more (ap (λ o. o.failures) (c.end_by.ensures.line.0 is) ∙ c.in-Err.ensures.log_failed.0 (ap Err is)))
+    (λ is. one-more
+    (ap (λ o. o.failures) (c.end_by.ensures.line.0 is) ∙ c.in-Err.ensures.log_failed.0 (ap Err is)))
     (λ is. record {
       unended = Applies-unended c.in-Err.ensures.report.3 is;
-      beyond = λ bytes left coming stays. (c.in-Err.ensures.too_long bytes left coming stays).0 (ap Err is);
+      beyond =
+          λ bytes left coming stays.
+          (c.in-Err.ensures.too_long bytes left coming stays).0 (ap Err is);
     })

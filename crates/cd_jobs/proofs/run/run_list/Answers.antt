@@ -3,7 +3,12 @@ use Rattle.cd_jobs.proofs.run.run_list.Goals as goal
 
 pub returns-in-Ok-clause-report : goal.returns-in-Ok-clause-report
 returns-in-Ok-clause-report g c =
-    record { result = Ok c.in-Ok.field-0; middle = g.O.Sink.seen c.list.new.out; does = c.in-Ok.ensures.report; ends = (refl, refl) }
+    record {
+      result = Ok c.in-Ok.field-0;
+      middle = g.O.Sink.seen c.list.new.out;
+      does = c.in-Ok.ensures.report;
+      ends = (refl, refl);
+    }
 
 pub returns-in-Ok-clause-failed : goal.returns-in-Ok-clause-failed
 returns-in-Ok-clause-failed g c = λ failed. absurd (omega arith)

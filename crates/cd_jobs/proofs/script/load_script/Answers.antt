@@ -7,16 +7,27 @@ pub returns-in-Err-clause-loads : goal.returns-in-Err-clause-loads
 returns-in-Err-clause-loads g c = record {
   read = c.in-Err.ensures.read;
   gives = c.in-Err.ensures.gives;
-  answers = (assumption, (c.in-Err.fault, c.in-Err.ensures.answers, rw (← c.load_fault_line.ensures, ← c.as_bytes.ensures.value) assumption));
+  answers = (
+    assumption,
+    (
+      c.in-Err.fault,
+      c.in-Err.ensures.answers,
+      rw (← c.load_fault_line.ensures, ← c.as_bytes.ensures.value) assumption,
+    ),
+  );
 }
 
 pub returns-in-Ok-clause-given : goal.returns-in-Ok-clause-given
-returns-in-Ok-clause-given g c = subst (Gives _ _) (sym c.in-Ok.ensures.answers.0) c.in-Ok.ensures.gives
+returns-in-Ok-clause-given g c =
+    subst (Gives _ _) (sym c.in-Ok.ensures.answers.0) c.in-Ok.ensures.gives
 
 pub returns-in-Err-clause-whole : goal.returns-in-Err-clause-whole
 returns-in-Err-clause-whole g c = tt
 
 pub returns-in-Err-clause-failed_reads : goal.returns-in-Err-clause-failed_reads
 returns-in-Err-clause-failed_reads g c =
-    Stops-tells c.in-Err.fault c.in-Err.ensures.read (g.I.Source.seen c.args.file.now) (g.I.Source.seen c.read_all.new.file) (g.L.Sink.seen c.args.log.now) (g.L.Sink.seen c.fail.new.out) c.fail.result c.fail.ensures.status
-    c.in-Err.ensures.answers (rw (← c.load_fault_line.ensures, ← c.as_bytes.ensures.value) c.fail.ensures.line)
+    Stops-tells c.in-Err.fault c.in-Err.ensures.read (g.I.Source.seen c.args.file.now)
+    (g.I.Source.seen c.read_all.new.file) (g.L.Sink.seen c.args.log.now)
+    (g.L.Sink.seen c.fail.new.out) c.fail.result c.fail.ensures.status
+    c.in-Err.ensures.answers
+    (rw (← c.load_fault_line.ensures, ← c.as_bytes.ensures.value) c.fail.ensures.line)

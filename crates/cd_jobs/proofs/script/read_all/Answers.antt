@@ -18,7 +18,9 @@ returns-then-n-eq0 g c =
     (Gives-front middle after c.in_ok-n.n c.read.new.into came.0 came.1 c.in_ok-n.ensures.given) in
     record {
       read = c.loop-bytes.bytes.items;
-      gives = subst (Gives _ _) (append-nil _) (Gives-trans _ _ _ c.loop-bytes.bytes.items [] before.given last);
+      gives =
+          subst (Gives _ _) (append-nil _)
+          (Gives-trans _ _ _ c.loop-bytes.bytes.items [] before.given last);
       answers = (
         refl,
         record {
@@ -50,8 +52,10 @@ returns-in_err-extend_from_slice g c =
     let came = c.in_ok-n.ensures.bytes in
     let count = length-with_last c.loop-bytes.bytes.items c.read.new.into c.in_ok-n.n came.0 in
     Gathers-refused _ _ (g.I.Source.seen c.loop-bytes.file) _ _
-    c.loop-bytes.bytes.items (take c.in_ok-n.n c.read.new.into) c.from_residual-in_err-extend_from_slice.ensures.1
-    before.given (Gives-front _ _ c.in_ok-n.n c.read.new.into came.0 came.1 c.in_ok-n.ensures.given) (
+    c.loop-bytes.bytes.items (take c.in_ok-n.n c.read.new.into)
+    c.from_residual-in_err-extend_from_slice.ensures.1
+    before.given
+    (Gives-front _ _ c.in_ok-n.n c.read.new.into came.0 came.1 c.in_ok-n.ensures.given) (
       c.in_ok-n.ensures.count ∙ before.counted,
       c.in_ok-n.ensures.ended ∙ ne_eqb c.in_ok-n.n 0 c.if-n-eq0.false,
       omega (arith, count, came.0),

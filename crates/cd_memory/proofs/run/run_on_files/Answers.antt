@@ -12,7 +12,14 @@ over bytes = record { written = Some bytes; taken = 0; flushes = 0; failures = 0
 
 -- what a contract sees of a sink over a vector
 abbrev seen : ToWrite (Vec ℕ Global) → Outgoing
-seen s = record { written = Some s.writer.items; taken = s.taken; flushes = s.flushes; failures = s.failures; finished = s.finished }
+seen s =
+    record {
+      written = Some s.writer.items;
+      taken = s.taken;
+      flushes = s.flushes;
+      failures = s.failures;
+      finished = s.finished;
+    }
 
 pub returns : goal.returns
 returns c =
@@ -30,5 +37,6 @@ returns c =
     } in
     subst (λ b. RunsOn (map string_bytes c.args.words.items) b after)
     (ap₂ given c.new-host.ensures.files c.new-host.ensures.input)
-    (runs-on seen c.new-host.result c.do_words-status.new.host (seen c.do_words-status.new.out) after
+    (runs-on seen c.new-host.result c.do_words-status.new.host
+    (seen c.do_words-status.new.out) after
     c.new-host.ensures.made leaves c.into_made.ensures (map string_bytes c.args.words.items) does)

@@ -83,7 +83,8 @@ returns-in-None-clause-outcome c =
     (c.first_refusal.ensures.users cc)) c.first_difference.ensures.value in
     sym (told ∙ ap (by_difference p.block) c.in-None.is)
 
-pub returns-in-Some-first_difference-clause-outcome : goal.returns-in-Some-first_difference-clause-outcome
+pub returns-in-Some-first_difference-clause-outcome :
+    goal.returns-in-Some-first_difference-clause-outcome
 returns-in-Some-first_difference-clause-outcome c =
     let p = c.args.patch.now in
     let ss = c.args.sectors.now in

@@ -15,7 +15,12 @@ returns-then-length-lt-SECTOR_SIZE g c =
     record {
       short = omega arith;
       consumes = came.bytes.1;
-      counted = omega (arith, came.given.counted, length-take-le c.in_ok-length.length c.fill.new.into came.bytes.0);
+      counted =
+          omega (
+            arith,
+            came.given.counted,
+            length-take-le c.in_ok-length.length c.fill.new.into came.bytes.0,
+          );
       size = length-take-le c.in_ok-length.length c.fill.new.into came.bytes.0;
       kept = came.count;
       at_end = came.bytes.2 (omega arith);
@@ -32,7 +37,12 @@ returns g c =
       consumes =
           subst (λ bytes. Consumes (g.I.Source.seen c.args.image.now).rest
           (g.I.Source.seen c.fill.new.image).rest bytes) whole came.bytes.1;
-      counted = omega (arith, came.given.counted, length-take-le c.in_ok-length.length c.fill.new.into came.bytes.0);
+      counted =
+          omega (
+            arith,
+            came.given.counted,
+            length-take-le c.in_ok-length.length c.fill.new.into came.bytes.0,
+          );
       kept = came.count;
       unended = came.ended.1 (omega arith) (omega arith);
       few = omega arith;

@@ -14,7 +14,12 @@ returns-then-branch-gt0 g c =
       came = take c.in_ok-read.field-0 c.read.new.into;
       one = search rules;
       consumes = came.bytes.1;
-      counted = omega (arith, came.given, length-take-le c.in_ok-read.field-0 c.read.new.into came.bytes.0);
+      counted =
+          omega (
+            arith,
+            came.given,
+            length-take-le c.in_ok-read.field-0 c.read.new.into came.bytes.0,
+          );
       kept = came.count;
       unended = came.ended ∙ ap (λ n. nat_eq n 0) one;
       full = refl;

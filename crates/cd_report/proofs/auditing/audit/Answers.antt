@@ -9,13 +9,15 @@ use Rattle.cd_report.proofs.ScanLemmas.{Reports-same}
 use Rattle.cd_report.proofs.auditing.audit.Given.{Over}
 use Rattle.cd_report.proofs.auditing.audit.Goals as goal
 
--- what was done, told by the text of an audit
+-- what was done, by the text of an audit
 done : (g : Over) (c : goal.After-scan g)
-    → Reports (audit_report c.args.base) (g.I.Source.seen c.args.image.now) (g.I.Source.seen c.scan.new.image)
+    → Reports (audit_report c.args.base) (g.I.Source.seen c.args.image.now)
+    (g.I.Source.seen c.scan.new.image)
     (g.O.Sink.seen c.args.out.now) (g.O.Sink.seen c.scan.new.out) c.scan.result
 done g c =
     Reports-same (spec_of (audit_remaining c.args.base none_yet)) (audit_report c.args.base)
-    (Auditing-text c.args.base) (Auditing-due c.args.base) (Auditing-tally c.args.base) _ c.scan.ensures
+    (Auditing-text c.args.base) (Auditing-due c.args.base)
+    (Auditing-tally c.args.base) _ c.scan.ensures
 
 pub returns-clause-report : goal.returns-clause-report
 returns-clause-report g c = done g c

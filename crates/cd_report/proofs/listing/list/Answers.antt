@@ -9,13 +9,15 @@ use Rattle.cd_report.proofs.ScanLemmas.{Reports-same}
 use Rattle.cd_report.proofs.listing.list.Given.{Over}
 use Rattle.cd_report.proofs.listing.list.Goals as goal
 
--- what was done, told by the text of a listing
+-- what was done, by the text of a listing
 done : (g : Over) (c : goal.After-scan g)
-    → Reports (list_report c.args.base) (g.I.Source.seen c.args.image.now) (g.I.Source.seen c.scan.new.image)
+    → Reports (list_report c.args.base) (g.I.Source.seen c.args.image.now)
+    (g.I.Source.seen c.scan.new.image)
     (g.O.Sink.seen c.args.out.now) (g.O.Sink.seen c.scan.new.out) c.scan.result
 done g c =
     Reports-same (spec_of (list_remaining c.args.base None 0)) (list_report c.args.base)
-    (Listing-text c.args.base) (Listing-due c.args.base) (Listing-tally c.args.base) _ c.scan.ensures
+    (Listing-text c.args.base) (Listing-due c.args.base)
+    (Listing-tally c.args.base) _ c.scan.ensures
 
 pub returns-clause-report : goal.returns-clause-report
 returns-clause-report g c = done g c

@@ -4,22 +4,33 @@ use Rattle.cd_report.proofs.ScanLemmas.{Told-end, Told-end_failed, Told-next, To
 use Rattle.cd_report.proofs.scan.scan.Goals as goal
 
 pub loop-visitor-init : goal.loop-visitor-init
-loop-visitor-init g c = record { told = Told-start _ _ _ c.requires.nothing_due; at = c.requires.start; few = omega arith }
+loop-visitor-init g c =
+    record {
+      told = Told-start _ _ _ c.requires.nothing_due;
+      at = c.requires.start;
+      few = omega arith;
+    }
 
 pub returns-in_err-read_sector : goal.returns-in_err-read_sector
 returns-in_err-read_sector g c =
     let failed = err_from_is_err_and c.from_residual.result c.from_residual.ensures.1 in
     rw (failed.1, failed.2)
-    (Told-unread _ _ _ _ (g.I.Source.seen c.read_sector.new.image) _ _ _ c.loop-visitor.invariant.told c.read_sector.new.sector _ c.in_err-read_sector.ensures)
+    (Told-unread _ _ _ _ (g.I.Source.seen c.read_sector.new.image) _ _ _
+    c.loop-visitor.invariant.told c.read_sector.new.sector _ c.in_err-read_sector.ensures)
 
 pub returns-in_err-visit-in-None : goal.returns-in_err-visit-in-None
 returns-in_err-visit-in-None g c =
-    let failed = err_from_is_err_and c.from_residual-in_err-visit-in-None.result c.from_residual-in_err-visit-in-None.ensures.1 in
+    let failed =
+    err_from_is_err_and c.from_residual-in_err-visit-in-None.result
+    c.from_residual-in_err-visit-in-None.ensures.1 in
     let came = rw c.in-None.is at c.in_ok-read_sector.ensures in
     let takes = c.in_err-visit-in-None.ensures.takes in
     rw (failed.1, failed.2)
-    (Told-write _ _ _ _ (g.I.Source.seen c.read_sector.new.image) _ _ _ c.loop-visitor.invariant.told c.read_sector.new.sector (record { consumes = came.consumes; counted = omega (arith, came.counted, came.size) })
-    (g.O.Sink.seen c.visit.new.out) came.kept came.size takes c.in_err-visit-in-None.ensures.flushes (omega (arith, came.few)) c.in_err-visit-in-None.ensures.count)
+    (Told-write _ _ _ _ (g.I.Source.seen c.read_sector.new.image) _ _ _
+    c.loop-visitor.invariant.told c.read_sector.new.sector
+    (record { consumes = came.consumes; counted = omega (arith, came.counted, came.size) })
+    (g.O.Sink.seen c.visit.new.out) came.kept came.size takes c.in_err-visit-in-None.ensures.flushes
+    (omega (arith, came.few)) c.in_err-visit-in-None.ensures.count)
 
 pub loop-visitor-preserved : goal.loop-visitor-preserved
 loop-visitor-preserved g c =
@@ -27,24 +38,37 @@ loop-visitor-preserved g c =
     let takes = c.in_ok-visit-in-None.ensures.takes in
     record {
       told =
-          Told-next _ _ _ _ (g.I.Source.seen c.read_sector.new.image) _ _ _ c.loop-visitor.invariant.told c.read_sector.new.sector (record { consumes = came.consumes; counted = omega (arith, came.counted, came.size) })
-          (g.O.Sink.seen c.visit.new.out) came.kept came.size _ takes c.in_ok-visit-in-None.ensures.flushes c.in_ok-visit-in-None.ensures.count;
+          Told-next _ _ _ _ (g.I.Source.seen c.read_sector.new.image) _ _ _
+          c.loop-visitor.invariant.told c.read_sector.new.sector
+          (record { consumes = came.consumes; counted = omega (arith, came.counted, came.size) })
+          (g.O.Sink.seen c.visit.new.out) came.kept came.size _ takes
+          c.in_ok-visit-in-None.ensures.flushes c.in_ok-visit-in-None.ensures.count;
       at = c.in_ok-visit-in-None.ensures.at;
       few = omega (arith, came.few);
     }
 
 pub returns-in_err-close-in-Some : goal.returns-in_err-close-in-Some
 returns-in_err-close-in-Some g c =
-    let failed = err_from_is_err_and c.from_residual-in_err-close-in-Some.result c.from_residual-in_err-close-in-Some.ensures.1 in
+    let failed =
+    err_from_is_err_and c.from_residual-in_err-close-in-Some.result
+    c.from_residual-in_err-close-in-Some.ensures.1 in
     let ended = rw c.in-Some.is at c.in_ok-read_sector.ensures in
     rw (failed.1, failed.2)
-    (Told-end_failed _ _ _ _ (g.I.Source.seen c.read_sector.new.image) _ _ _ c.loop-visitor.invariant.told _ (record { consumes = ended.consumes; counted = omega (arith, ended.counted, ended.size) })
+    (Told-end_failed _ _ _ _ (g.I.Source.seen c.read_sector.new.image) _ _ _
+    c.loop-visitor.invariant.told _
+    (record { consumes = ended.consumes; counted = omega (arith, ended.counted, ended.size) })
     (g.O.Sink.seen c.close.new.out) ended.kept
-    (omega (arith, ended.size, ended.short)) (omega (arith, ended.size, ended.within)) ended.at_end ended.ended _ (omega (arith, ended.size)) _ c.in_err-close-in-Some.ensures.text c.in_err-close-in-Some.ensures.flushes c.in_err-close-in-Some.ensures.count)
+    (omega (arith, ended.size, ended.short)) (omega (arith, ended.size, ended.within)) ended.at_end
+    ended.ended _ (omega (arith, ended.size)) _ c.in_err-close-in-Some.ensures.text
+    c.in_err-close-in-Some.ensures.flushes c.in_err-close-in-Some.ensures.count)
 
 pub returns-in-Some : goal.returns-in-Some
 returns-in-Some g c =
     let ended = rw c.in-Some.is at c.in_ok-read_sector.ensures in
-    Told-end _ _ _ _ (g.I.Source.seen c.read_sector.new.image) _ _ _ c.loop-visitor.invariant.told _ (record { consumes = ended.consumes; counted = omega (arith, ended.counted, ended.size) })
+    Told-end _ _ _ _ (g.I.Source.seen c.read_sector.new.image) _ _ _ c.loop-visitor.invariant.told _
+    (record { consumes = ended.consumes; counted = omega (arith, ended.counted, ended.size) })
     (g.O.Sink.seen c.close.new.out) ended.kept
-    (omega (arith, ended.size, ended.short)) (omega (arith, ended.size, ended.within)) ended.at_end ended.ended _ (omega (arith, ended.size)) _ c.in_ok-close-in-Some.ensures.tally c.in_ok-close-in-Some.ensures.text c.in_ok-close-in-Some.ensures.flushes c.in_ok-close-in-Some.ensures.count
+    (omega (arith, ended.size, ended.short)) (omega (arith, ended.size, ended.within)) ended.at_end
+    ended.ended _ (omega (arith, ended.size)) _ c.in_ok-close-in-Some.ensures.tally
+    c.in_ok-close-in-Some.ensures.text c.in_ok-close-in-Some.ensures.flushes
+    c.in_ok-close-in-Some.ensures.count

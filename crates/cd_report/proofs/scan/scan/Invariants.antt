@@ -5,7 +5,9 @@ use Rattle.cd_read.specs.Image.{sector_limit}
 
 abbrev pub invariant-loop-visitor : goal.invariant-loop-visitor
 invariant-loop-visitor g l = record {
-  told : Told (g.T.Visitor.remaining l.fn.visitor 0) (g.T.Visitor.remaining l.visitor l.count) (g.I.Source.seen l.fn.image) (g.I.Source.seen l.image) (g.O.Sink.seen l.fn.out) (g.O.Sink.seen l.out) l.count;
+  told : Told (g.T.Visitor.remaining l.fn.visitor 0) (g.T.Visitor.remaining l.visitor l.count)
+      (g.I.Source.seen l.fn.image) (g.I.Source.seen l.image) (g.O.Sink.seen l.fn.out)
+      (g.O.Sink.seen l.out) l.count;
   at : g.T.Visitor.has_visited l.visitor l.count;
   few : l.count ≤ sector_limit;
 }

@@ -16,12 +16,18 @@ pub returns-in_err-send_outcome : goal.returns-in_err-send_outcome
 returns-in_err-send_outcome g c =
     let failed = err_from_is_err_and c.from_residual.result c.from_residual.ensures.1 in
     let pass = c.args.self.now in
-    let decided = c.apply_first-outcome.ensures.outcome ∙ ap (λ b. outcome c.args.carry pass.window.sectors b c.args.patch.now) c.requires.at in
+    let decided =
+    c.apply_first-outcome.ensures.outcome
+    ∙ ap (λ b. outcome c.args.carry pass.window.sectors b c.args.patch.now) c.requires.at in
     rw (failed.1, failed.2)
     record {
       goes = λ taken left base start image out going.
-          Applies-log c.args.carry taken c.args.patch.now left base start (streams image out (g.L.Sink.seen c.args.log.now)) pass.window.sectors pass.block pass.sectors pass.applied pass.window.tail going c.apply_first-outcome.result
-          decided c.requires.at c.requires.some (reaches pass.block (blocks_met c.args.patch.now) (length pass.window.sectors) pass.window.tail c.requires.reach)
+          Applies-log c.args.carry taken c.args.patch.now left base start
+          (streams image out (g.L.Sink.seen c.args.log.now)) pass.window.sectors pass.block
+          pass.sectors pass.applied pass.window.tail going c.apply_first-outcome.result
+          decided c.requires.at c.requires.some
+          (reaches pass.block (blocks_met c.args.patch.now)
+          (length pass.window.sectors) pass.window.tail c.requires.reach)
           (g.L.Sink.seen c.send_outcome.new.log) c.in_err-send_outcome.ensures;
       decided = tt;
       nearer = tt;
@@ -35,16 +41,40 @@ pub returns : goal.returns
 returns g c =
     let pass = c.args.self.now in
     let p = c.args.patch.now in
-    let decided = c.apply_first-outcome.ensures.outcome ∙ ap (λ b. outcome c.args.carry pass.window.sectors b p) c.requires.at in
-    let effect = subst (λ b. Effect c.args.carry b p pass.window.sectors c.apply_first-outcome.new.self.sectors) c.requires.at c.apply_first-outcome.ensures.effect in
+    let decided =
+    c.apply_first-outcome.ensures.outcome
+    ∙ ap (λ b. outcome c.args.carry pass.window.sectors b p) c.requires.at in
+    let effect =
+    subst (λ b. Effect c.args.carry b p pass.window.sectors c.apply_first-outcome.new.self.sectors)
+    c.requires.at c.apply_first-outcome.ensures.effect in
     record {
       goes = λ taken left base start image out going.
-          subst (λ t. Going c.args.carry (taken ++ p ∷ []) left base start (streams image out (g.L.Sink.seen c.send_outcome.new.log)) c.apply_first-outcome.new.self.sectors pass.block pass.sectors (pass.applied + c.from.result) t) (sym c.apply_first-outcome.ensures.tail)
-          (subst (λ (n : ℕ). Going c.args.carry (taken ++ p ∷ []) left base start (streams image out (g.L.Sink.seen c.send_outcome.new.log)) c.apply_first-outcome.new.self.sectors pass.block pass.sectors (pass.applied + n) pass.window.tail) (sym (c.from.ensures ∙ ap from_bool c.is_applied.ensures ∙ as_number (is_applied c.apply_first-outcome.result)))
-          (Going-take c.args.carry taken p left base start (streams image out (g.L.Sink.seen c.args.log.now)) pass.window.sectors c.apply_first-outcome.new.self.sectors pass.block pass.sectors pass.applied pass.window.tail going
-          (g.L.Sink.seen c.send_outcome.new.log) c.apply_first-outcome.result decided effect c.in_ok-send_outcome.ensures c.requires.at c.requires.some
-          (reaches pass.block (blocks_met p) (length pass.window.sectors) pass.window.tail c.requires.reach)));
+          subst (λ t. Going c.args.carry (taken ++ p ∷ []) left base start
+          (streams image out (g.L.Sink.seen c.send_outcome.new.log))
+          c.apply_first-outcome.new.self.sectors pass.block pass.sectors
+          (pass.applied + c.from.result) t) (sym c.apply_first-outcome.ensures.tail)
+          (subst (λ (n : ℕ). Going c.args.carry (taken ++ p ∷ []) left base start
+          (streams image out (g.L.Sink.seen c.send_outcome.new.log))
+          c.apply_first-outcome.new.self.sectors pass.block pass.sectors (pass.applied + n)
+          pass.window.tail)
+          (sym (c.from.ensures ∙ ap from_bool c.is_applied.ensures
+          ∙ as_number (is_applied c.apply_first-outcome.result)))
+          (Going-take c.args.carry taken p left base start
+          (streams image out (g.L.Sink.seen c.args.log.now)) pass.window.sectors
+          c.apply_first-outcome.new.self.sectors pass.block pass.sectors pass.applied
+          pass.window.tail going
+          (g.L.Sink.seen c.send_outcome.new.log) c.apply_first-outcome.result decided effect
+          c.in_ok-send_outcome.ensures c.requires.at c.requires.some
+          (reaches pass.block (blocks_met p)
+          (length pass.window.sectors) pass.window.tail c.requires.reach)));
       decided = refl;
       nearer = λ count more.
-          omega (arith, more, ap end_to_come c.apply_first-outcome.ensures.tail, Effect-length c.args.carry c.args.patch.now.block c.args.patch.now c.args.self.now.window.sectors c.apply_first-outcome.new.self.sectors c.apply_first-outcome.ensures.effect);
+          omega (
+            arith,
+            more,
+            ap end_to_come c.apply_first-outcome.ensures.tail,
+            Effect-length c.args.carry c.args.patch.now.block c.args.patch.now
+                c.args.self.now.window.sectors c.apply_first-outcome.new.self.sectors
+                c.apply_first-outcome.ensures.effect,
+          );
     }

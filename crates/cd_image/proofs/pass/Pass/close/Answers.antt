@@ -1,59 +1,42 @@
-use Rattle.std.proofs.Common.{◌-◌, length, arith}
-use Rattle.std.proofs.lemmas.Result.{err_from_is_err_and}
-use Rattle.cd_image.proofs.AdvanceLemmas.{Sends-rest}
-use Rattle.cd_image.proofs.CloseLemmas.{Closes-behind, Closes-counts, Closes-flush, Closes-log_flush, Closes-ok, Closes-tail}
+use Rattle.cd_image.proofs.CloseLemmas.{Closes-behind, Closes-counts, Closes-flush, Closes-log_flush, Closes-ok, Closes-tail, closing}
+use Rattle.cd_image.proofs.KnownLemmas.{Applies-fault}
 use Rattle.cd_image.proofs.pass.Pass.close.Goals as goal
 
 pub returns-in_err-write_all : goal.returns-in_err-write_all
 returns-in_err-write_all g c = λ carry base start image going.
-    let failed = err_from_is_err_and c.from_residual.result c.from_residual.ensures.1 in
-    rw (failed.1, failed.2)
-    (Closes-tail carry c.args.patches.now base start _ c.args.self _ c.requires.ended c.tail-tail.ensures.bytes going
-    (g.O.Sink.seen c.write_all.new.out) c.in_err-write_all.ensures)
+    let e = closing c.args.patches.now c.requires.ended c.tail-tail.ensures.bytes going in
+    Applies-fault c.from_residual.ensures.1 (Closes-tail e c.in_err-write_all.ensures)
 
 pub returns-in_err-send_missing : goal.returns-in_err-send_missing
 returns-in_err-send_missing g c = λ carry base start image going.
-    let failed = err_from_is_err_and c.from_residual-in_err-send_missing.result c.from_residual-in_err-send_missing.ensures.1 in
-    rw (failed.1, failed.2)
-    (Closes-behind carry c.args.patches.now base start _ c.args.self _ c.requires.ended c.tail-tail.ensures.bytes going
-    _ c.in_ok-write_all.ensures
-    (g.L.Sink.seen c.send_missing.new.log) (Sends-rest c.args.patches.now c.args.self.decided _ _ _ c.in_err-send_missing.ensures))
+    let e = closing c.args.patches.now c.requires.ended c.tail-tail.ensures.bytes going in
+    Applies-fault c.from_residual-in_err-send_missing.ensures.1
+    (Closes-behind e c.in_ok-write_all.ensures c.in_err-send_missing.ensures)
 
 pub returns-in_err-send_counts : goal.returns-in_err-send_counts
 returns-in_err-send_counts g c = λ carry base start image going.
-    let failed = err_from_is_err_and c.from_residual-in_err-send_counts.result c.from_residual-in_err-send_counts.ensures.1 in
-    rw (failed.1, failed.2)
-    (Closes-counts carry c.args.patches.now base start _ c.args.self _ c.requires.ended c.tail-tail.ensures.bytes going
-    _ c.in_ok-write_all.ensures
-    (g.L.Sink.seen c.send_missing.new.log) (Sends-rest c.args.patches.now c.args.self.decided _ _ _ c.in_ok-send_missing.ensures) (length c.args.patches.now - c.args.self.applied) (omega arith)
-    (g.L.Sink.seen c.send_counts.new.log) c.in_err-send_counts.ensures)
+    let e = closing c.args.patches.now c.requires.ended c.tail-tail.ensures.bytes going in
+    Applies-fault c.from_residual-in_err-send_counts.ensures.1
+    (Closes-counts e c.in_ok-write_all.ensures c.in_ok-send_missing.ensures
+    c.in_err-send_counts.ensures)
 
 pub returns-in_err-finish_output : goal.returns-in_err-finish_output
 returns-in_err-finish_output g c = λ carry base start image going.
-    let failed = err_from_is_err_and c.from_residual-in_err-finish_output.result c.from_residual-in_err-finish_output.ensures.1 in
-    rw (failed.1, failed.2)
-    (Closes-flush carry c.args.patches.now base start _ c.args.self _ c.requires.ended c.tail-tail.ensures.bytes going
-    (g.O.Sink.seen c.write_all.new.out) c.in_ok-write_all.ensures
-    (g.L.Sink.seen c.send_missing.new.log) (Sends-rest c.args.patches.now c.args.self.decided _ _ _ c.in_ok-send_missing.ensures) (length c.args.patches.now - c.args.self.applied) (omega arith)
-    _ c.in_ok-send_counts.ensures
-    (g.O.Sink.seen c.finish_output.new.out) (rw c.in_err-finish_output.was at c.finish_output.ensures))
+    let e = closing c.args.patches.now c.requires.ended c.tail-tail.ensures.bytes going in
+    Applies-fault c.from_residual-in_err-finish_output.ensures.1
+    (Closes-flush e c.in_ok-write_all.ensures c.in_ok-send_missing.ensures
+    c.in_ok-send_counts.ensures
+    (rw c.in_err-finish_output.was at c.finish_output.ensures))
 
 pub returns-in_err-finish_log : goal.returns-in_err-finish_log
 returns-in_err-finish_log g c = λ carry base start image going.
-    let failed = err_from_is_err_and c.from_residual-in_err-finish_log.result c.from_residual-in_err-finish_log.ensures.1 in
-    rw (failed.1, failed.2)
-    (Closes-log_flush carry c.args.patches.now base start _ c.args.self _ c.requires.ended c.tail-tail.ensures.bytes going
-    (g.O.Sink.seen c.write_all.new.out) c.in_ok-write_all.ensures
-    (g.L.Sink.seen c.send_missing.new.log) (Sends-rest c.args.patches.now c.args.self.decided _ _ _ c.in_ok-send_missing.ensures) (length c.args.patches.now - c.args.self.applied) (omega arith)
-    (g.L.Sink.seen c.send_counts.new.log) c.in_ok-send_counts.ensures
-    _ c.in_ok-finish_output.ensures
-    (g.L.Sink.seen c.finish_log.new.log) c.in_err-finish_log.ensures)
+    let e = closing c.args.patches.now c.requires.ended c.tail-tail.ensures.bytes going in
+    Applies-fault c.from_residual-in_err-finish_log.ensures.1
+    (Closes-log_flush e c.in_ok-write_all.ensures c.in_ok-send_missing.ensures
+    c.in_ok-send_counts.ensures c.in_ok-finish_output.ensures c.in_err-finish_log.ensures)
 
 pub returns : goal.returns
 returns g c = λ carry base start image going.
-    Closes-ok carry c.args.patches.now base start _ c.args.self _ c.requires.ended c.tail-tail.ensures.bytes going
-    (g.O.Sink.seen c.write_all.new.out) c.in_ok-write_all.ensures
-    (g.L.Sink.seen c.send_missing.new.log) (Sends-rest c.args.patches.now c.args.self.decided _ _ _ c.in_ok-send_missing.ensures) (length c.args.patches.now - c.args.self.applied) (omega arith)
-    (g.L.Sink.seen c.send_counts.new.log) c.in_ok-send_counts.ensures
-    _ c.in_ok-finish_output.ensures
-    (g.L.Sink.seen c.finish_log.new.log) c.in_ok-finish_log.ensures
+    let e = closing c.args.patches.now c.requires.ended c.tail-tail.ensures.bytes going in
+    Closes-ok e c.in_ok-write_all.ensures c.in_ok-send_missing.ensures c.in_ok-send_counts.ensures
+    c.in_ok-finish_output.ensures c.in_ok-finish_log.ensures

@@ -12,8 +12,12 @@ returns-in_err-write_all g c =
     rw (failed.1, failed.2)
     record {
       goes = λ carry taken left base start image log ahead going.
-          Steps-unsent carry taken left base start (streams image (g.O.Sink.seen c.args.out.now) log) pass.block pass.sectors pass.applied pass.window.tail ahead (g.O.Sink.seen c.write_all.new.out)
-          pass.window.sectors going c.bytes.result.now c.front.ensures.0 (first_is pass.window.sectors c.front.result.now c.bytes.result.now c.front.ensures.0 c.front.ensures.1 c.bytes.ensures.bytes) c.bytes.ensures.size c.in_err-write_all.ensures;
+          Steps-unsent carry taken left base start
+          (streams image (g.O.Sink.seen c.args.out.now) log) pass.block pass.sectors pass.applied
+          pass.window.tail ahead (g.O.Sink.seen c.write_all.new.out)
+          pass.window.sectors going c.bytes.result.now c.front.ensures.0
+          (first_is pass.window.sectors c.front.result.now c.bytes.result.now c.front.ensures.0
+          c.front.ensures.1 c.bytes.ensures.bytes) c.bytes.ensures.size c.in_err-write_all.ensures;
       decided = tt;
       nearer = tt;
     }
@@ -22,7 +26,12 @@ pub returns-clause-goes : goal.returns-clause-goes
 returns-clause-goes g c = λ carry taken left base start image log ahead going.
     let pass = c.args.self.now in
     let streams' = streams image (g.O.Sink.seen c.write_all.new.out) log in
-    subst (λ t. Going carry taken left base start streams' c.remove_first.new.self.sectors (pass.block + 1) pass.sectors pass.applied t) (sym c.remove_first.ensures.tail)
-    (subst (λ items. Going carry taken left base start streams' items (pass.block + 1) pass.sectors pass.applied pass.window.tail) (sym c.remove_first.ensures.sectors)
-    (Steps-sent carry taken left base start (streams image (g.O.Sink.seen c.args.out.now) log) pass.block pass.sectors pass.applied pass.window.tail ahead (g.O.Sink.seen c.write_all.new.out)
-    pass.window.sectors going c.bytes.result.now c.front.ensures.0 (first_is pass.window.sectors c.front.result.now c.bytes.result.now c.front.ensures.0 c.front.ensures.1 c.bytes.ensures.bytes) c.bytes.ensures.size c.in_ok-write_all.ensures))
+    subst (λ t. Going carry taken left base start streams' c.remove_first.new.self.sectors
+    (pass.block + 1) pass.sectors pass.applied t) (sym c.remove_first.ensures.tail)
+    (subst (λ items. Going carry taken left base start streams' items (pass.block + 1) pass.sectors
+    pass.applied pass.window.tail) (sym c.remove_first.ensures.sectors)
+    (Steps-sent carry taken left base start (streams image (g.O.Sink.seen c.args.out.now) log)
+    pass.block pass.sectors pass.applied pass.window.tail ahead (g.O.Sink.seen c.write_all.new.out)
+    pass.window.sectors going c.bytes.result.now c.front.ensures.0
+    (first_is pass.window.sectors c.front.result.now c.bytes.result.now c.front.ensures.0
+    c.front.ensures.1 c.bytes.ensures.bytes) c.bytes.ensures.size c.in_ok-write_all.ensures))
