@@ -1,0 +1,40 @@
+//! Calls that tell of an image.
+
+ghost use Rattle.cd_command.specs.Fault.{done_status};
+ghost use Rattle.cd_c_images.specs.Images.{ReportsOn, Tells};
+ghost use Rattle.cd_jobs.specs.Run.{audit_status};
+ghost use Rattle.cd_report.specs.AuditText.{audit_report};
+ghost use Rattle.cd_report.specs.ListText.{list_report};
+
+use crate::commands::{audit_image, list_image};
+use crate::room::Room;
+
+/// Lists an image to `text`, as the command `list`, and answers its status. `length` gets the number
+/// of bytes that were written.
+#[unsafe(no_mangle)]
+pub extern "C" fn cdpatch_list(image: &[u8], base: u32, text: &mut [u8], length: &mut usize) -> u32
+    ensures report { Tells
+        (λ out out'. ReportsOn (list_report base) (λ _. done_status) base image.now out out' result)
+        text.old text.new length.new }
+{
+    let mut room = Room::new(text);
+    let status = list_image(image, base, &mut room);
+    let Room { space: _space, used, .. } = room;
+    *length = used;
+    u32::from(status)
+}
+
+/// Audits an image to `text`, as the command `audit`, and answers its status. `length` gets the
+/// number of bytes that were written.
+#[unsafe(no_mangle)]
+pub extern "C" fn cdpatch_audit(image: &[u8], base: u32, text: &mut [u8], length: &mut usize) -> u32
+    ensures report { Tells
+        (λ out out'. ReportsOn (audit_report base) audit_status base image.now out out' result)
+        text.old text.new length.new }
+{
+    let mut room = Room::new(text);
+    let status = audit_image(image, base, &mut room);
+    let Room { space: _space, used, .. } = room;
+    *length = used;
+    u32::from(status)
+}
