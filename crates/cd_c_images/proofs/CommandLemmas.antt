@@ -1,35 +1,28 @@
--- The commands on an image in memory.
-use Rattle.std.proofs.Common.{◌≡◌, ℕ, ◌≤◌, Bool, List, length, Result, Ok, Err, IfOk, IfErr, OnOk, OnErr, refl, sym, ap, ◌∙◌, subst}
+-- The commands on an image in memory, and the script of a text.
+use Rattle.std.proofs.Common.{◌≡◌, ℕ, ◌≤◌, Bool, List, length, Result, Ok, Err, IfOk, IfErr, OnOk, OnErr, refl, subst}
 use Rattle.cd_command.specs.Fault.{failed_status}
-use Rattle.cd_image.specs.Applying.{Applies, Checks, streams}
 use Rattle.cd_jobs.specs.Messages.{script_fault_line}
-use Rattle.cd_jobs.specs.Run.{Runs, SaysLine, script_status}
+use Rattle.cd_jobs.specs.Run.{SaysLine}
 use Rattle.cd_jobs.specs.ScriptLines.{IsFaultOf}
 use Rattle.cd_memory.specs.Memory.{fresh_incoming}
 use Rattle.cd_read.specs.Image.{base_limit}
-use Rattle.cd_read.specs.declared.fault.Fault.TheVariants.{Log, Write}
-use Rattle.cd_report.specs.Report.{ReportSpec, Reports}
+use Rattle.cd_report.specs.Report.{ReportSpec}
 use Rattle.cd_script.specs.Limits.{text_limit}
 use Rattle.cd_script.specs.Order.{order}
 use Rattle.cd_script.specs.Script.{script}
 use Rattle.cd_script.specs.declared.fault.ScriptFault.{ScriptFault}
 use Rattle.cd_script.specs.declared.patch.Patch.{Patch}
-use Rattle.cd_stream.specs.Forms.{slice_incoming}
 use Rattle.cd_stream.specs.Stream.{Incoming, Outgoing}
-use Rattle.cd_stream.specs.declared.forms.slice_source.SliceSource.{SliceSource}
-use Rattle.cd_c_images.specs.Images.{AppliesOn, ChecksOn, NoPatches, ReportsOn, TakesText}
+use Rattle.cd_c_images.specs.Images.{AppliesFrom, AppliesOn, ChecksFrom, ChecksOn, NoPatches, ReportsFrom, ReportsOn, TakesText}
 
 pub reports-on : {T : Type 0} {spec : ReportSpec T} {status_of : T → ℕ} {base : ℕ} {image : List ℕ}
-    {out out' : Outgoing} {status : ℕ} → base ≤ base_limit → (source : SliceSource)
-    → slice_incoming source ≡ fresh_incoming image → (left : SliceSource)
-    → Runs (λ said answer. Reports spec (slice_incoming source) (slice_incoming left) out said answer)
-    Write status_of out' status → ReportsOn spec status_of base image out out' status
+    {out out' : Outgoing} {status : ℕ} → base ≤ base_limit → (source : Incoming)
+    → source ≡ fresh_incoming image → ReportsFrom spec status_of source out out' status
+    → ReportsOn spec status_of base image out out' status
 reports-on {spec = spec} {status_of = status_of} {out = out} {out' = out'} {status = status}
-    within source fresh left runs = ReportsOn.reported within (record {
-      left = left;
-      runs = subst (λ s. Runs (λ said answer. Reports spec s (slice_incoming left) out said answer)
-          Write status_of out' status) fresh runs;
-    })
+    within source fresh reports =
+    ReportsOn.reported within
+    (subst (λ s. ReportsFrom spec status_of s out out' status) fresh reports)
 
 pub takes-text : (text : List ℕ) (log log' : Outgoing) (result : Result (List Patch) ℕ)
     → length text ≤ text_limit
@@ -43,30 +36,19 @@ takes-text text log log' (Err failed) within reads silent status line =
     (script_fault_line line.0, NoPatches.faulty within line.0 line.1 refl, (line.2, status))
 
 module _ {carry : Bool} {base : ℕ} {image text : List ℕ} {log middle log' : Outgoing} {status : ℕ}
-    (within : base ≤ base_limit) where
-  module _ (patches : List Patch) (takes : TakesText text log middle (Ok patches))
-      (source : SliceSource) (fresh : slice_incoming source ≡ fresh_incoming image)
-      (left : SliceSource) where
-    pub checks-on : Runs (λ said answer. Checks carry patches base (slice_incoming source)
-        (slice_incoming left) middle said answer) Log script_status log' status
-        → ChecksOn carry base image text log log' status
-    checks-on runs = ChecksOn.checked within patches takes.0 (record {
-      left = left;
-      runs = subst (λ l. Runs (λ said answer. Checks carry patches base (fresh_incoming image)
-          (slice_incoming left) l said answer) Log script_status log' status) takes.1
-          (subst (λ s. Runs (λ said answer. Checks carry patches base s (slice_incoming left)
-          middle said answer) Log script_status log' status) fresh runs);
-    })
+    (within : base ≤ base_limit) (patches : List Patch)
+    (takes : TakesText text log middle (Ok patches)) (source : Incoming)
+    (fresh : source ≡ fresh_incoming image) where
+  pub checks-on : ChecksFrom carry patches base source middle log' status
+      → ChecksOn carry base image text log log' status
+  checks-on checks = ChecksOn.checked within patches takes.0
+      (subst (λ l. ChecksFrom carry patches base (fresh_incoming image) l log' status) takes.1
+      (subst (λ s. ChecksFrom carry patches base s middle log' status) fresh checks))
 
-    pub applies-on : {out out' : Outgoing}
-        → Runs (λ said answer. Applies carry patches base (streams (slice_incoming source) out middle)
-        (streams (slice_incoming left) out' said) answer) Log script_status log' status
-        → AppliesOn carry base image text out out' log log' status
-    applies-on {out = out} {out' = out'} runs = AppliesOn.applied within patches takes.0 (record {
-      left = left;
-      runs = subst (λ l. Runs (λ said answer. Applies carry patches base
-          (streams (fresh_incoming image) out l) (streams (slice_incoming left) out' said) answer)
-          Log script_status log' status) takes.1
-          (subst (λ s. Runs (λ said answer. Applies carry patches base (streams s out middle)
-          (streams (slice_incoming left) out' said) answer) Log script_status log' status) fresh runs);
-    })
+  pub applies-on : {out out' : Outgoing}
+      → AppliesFrom carry patches base source out out' middle log' status
+      → AppliesOn carry base image text out out' log log' status
+  applies-on {out = out} {out' = out'} applies = AppliesOn.applied within patches takes.0
+      (subst (λ l. AppliesFrom carry patches base (fresh_incoming image) out out' l log' status)
+      takes.1
+      (subst (λ s. AppliesFrom carry patches base s out out' middle log' status) fresh applies))

@@ -1,8 +1,7 @@
 -- What a command's sinks have got is what they had, and then some text.
 use Rattle.std.proofs.Common.{◌≡◌, ◌≢◌, ℕ, ◌⊎◌, Bool, List, [], ◌++◌, Option, Some, Result, Ok, Err, inl, inr, refl, sym, ap, ◌∙◌, append-nil, append_assoc}
 use Rattle.std.specs.Io.KnownBytes.{Appends}
-use Rattle.cd_image.specs.Applying.{Applies, Checks}
-use Rattle.cd_jobs.specs.Run.{Ends, Runs, SaysLine}
+use Rattle.cd_jobs.specs.Run.{Ends, SaysLine}
 use Rattle.cd_memory.proofs.KnownLemmas.{Appends-Some}
 use Rattle.cd_read.specs.declared.fault.Fault.{Fault}
 use Rattle.cd_read.specs.declared.fault.Fault.TheVariants.{Log, Read, TooLong, Write}
@@ -36,7 +35,7 @@ said front line before after grew says = (
 ended : {T : Type 0} (front : List ℕ) (own : Fault) (status_of : T → ℕ) (result : Result T Fault)
     (middle after : Outgoing) (status : ℕ) → Grew front middle
     → Ends own status_of result middle after status → Grew front after
-ended front own status_of (Ok told) middle after status grew ends =
+ended front own status_of (Ok tally) middle after status grew ends =
     (grew.0, ap (λ o. o.written) ends.0 ∙ grew.1)
 ended front own status_of (Err fault) middle after status grew ends = go (same-or-other fault own)
   where

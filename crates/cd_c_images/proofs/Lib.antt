@@ -1,3 +1,5 @@
 mod CommandLemmas
+mod FrontLemmas
 mod GrowLemmas
+mod PatchFrontLemmas
 mod RoomLemmas

@@ -3,7 +3,7 @@
 
 ghost use Rattle.std.specs.Prelude.{◌≡◌, ◌<◌};
 ghost use Rattle.cd_c_images.specs.Images.{AppliesOn, ChecksOn, ReportsOn, TakesText};
-ghost use Rattle.cd_c_images.specs.Rooms.{room_outgoing};
+ghost use Rattle.cd_c_images.specs.Rooms.{FillsRoom, lent_to, room_outgoing};
 ghost use Rattle.cd_command.specs.Fault.{done_status};
 ghost use Rattle.cd_jobs.specs.Run.{audit_status};
 ghost use Rattle.cd_report.specs.AuditText.{audit_report};
@@ -25,6 +25,7 @@ pub(crate) fn list_image(image: &[u8], base: u32, out: &mut Room<'_>) -> u8
     ensures report { ReportsOn (list_report base) (λ _. done_status) base image.now
         (room_outgoing out.old) (room_outgoing out.new) result }
     ensures same_slice { out.new.space.ghost_name ≡ out.old.space.ghost_name }
+    ensures same_bytes { (lent_to out.new).now ≡ (lent_to out.old).now }
 {
     if base > MAX_BASE {
         return FAILED;
@@ -38,6 +39,7 @@ pub(crate) fn audit_image(image: &[u8], base: u32, out: &mut Room<'_>) -> u8
     ensures report { ReportsOn (audit_report base) audit_status base image.now
         (room_outgoing out.old) (room_outgoing out.new) result }
     ensures same_slice { out.new.space.ghost_name ≡ out.old.space.ghost_name }
+    ensures same_bytes { (lent_to out.new).now ≡ (lent_to out.old).now }
 {
     if base > MAX_BASE {
         return FAILED;
@@ -70,6 +72,7 @@ pub(crate) fn check_image(
     ensures report { ChecksOn carry base image.now script.now (room_outgoing log.old)
         (room_outgoing log.new) result }
     ensures same_slice { log.new.space.ghost_name ≡ log.old.space.ghost_name }
+    ensures same_bytes { (lent_to log.new).now ≡ (lent_to log.old).now }
 {
     if base > MAX_BASE {
         return FAILED;
@@ -80,8 +83,8 @@ pub(crate) fn check_image(
     }
 }
 
-/// The command `apply`, as [`run_apply`], after its script.
-pub(crate) fn apply_image(
+/// The command `apply` over rooms, as [`run_apply`], after its script.
+fn apply_to_rooms(
     alloc: Global,
     image: &[u8],
     script: &[u8],
@@ -95,7 +98,9 @@ pub(crate) fn apply_image(
     ensures report { AppliesOn carry base image.now script.now (room_outgoing out.old)
         (room_outgoing out.new) (room_outgoing log.old) (room_outgoing log.new) result }
     ensures same_out { out.new.space.ghost_name ≡ out.old.space.ghost_name }
+    ensures same_out_bytes { (lent_to out.new).now ≡ (lent_to out.old).now }
     ensures same_log { log.new.space.ghost_name ≡ log.old.space.ghost_name }
+    ensures same_log_bytes { (lent_to log.new).now ≡ (lent_to log.old).now }
 {
     if base > MAX_BASE {
         return FAILED;
@@ -104,4 +109,26 @@ pub(crate) fn apply_image(
         Ok(script) => run_apply(&mut SliceSource::new(image), &script, base, carry, out, log),
         Err(status) => status,
     }
+}
+
+/// The command `apply`, which writes the image to the front of `out`.
+pub(crate) fn apply_image(
+    alloc: Global,
+    image: &[u8],
+    script: &[u8],
+    base: u32,
+    carry: bool,
+    out: &mut [u8],
+    log: &mut Room<'_>,
+) -> u8
+    requires { MayCount (room_outgoing log.old).failures }
+    ensures report { FillsRoom (λ made made'. AppliesOn carry base image.now script.now made made'
+        (room_outgoing log.old) (room_outgoing log.new) result) out.old out.new }
+    ensures same_slice { log.new.space.ghost_name ≡ log.old.space.ghost_name }
+    ensures same_bytes { (lent_to log.new).now ≡ (lent_to log.old).now }
+{
+    let mut room = Room::new(out);
+    let status = apply_to_rooms(alloc, image, script, base, carry, &mut room, log);
+    let Room { space: _out, .. } = room;
+    status
 }

@@ -1,6 +1,7 @@
 //! Calls that take a script to an image.
 
-ghost use Rattle.cd_c_images.specs.Images.{AppliesOn, ChecksOn, Makes, Tells};
+ghost use Rattle.cd_c_images.specs.Images.{AppliesOn, ChecksOn};
+ghost use Rattle.cd_c_images.specs.Rooms.{FillsCounted, FillsRoom};
 
 use crate::commands::{apply_image, check_image};
 use crate::room::Room;
@@ -18,8 +19,8 @@ pub extern "C" fn cdpatch_check(
     log: &mut [u8],
     length: &mut usize,
 ) -> u32
-    ensures report { Tells
-        (λ before after. ChecksOn carry base image.now script.now before after result)
+    ensures report { FillsCounted
+        (λ lines lines'. ChecksOn carry base image.now script.now lines lines' result)
         log.old log.new length.new }
 {
     let mut room = Room::new(log);
@@ -42,15 +43,13 @@ pub extern "C" fn cdpatch_apply(
     log: &mut [u8],
     length: &mut usize,
 ) -> u32
-    ensures report { Makes (λ made made' told told'.
-        AppliesOn carry base image.now script.now made made' told told' result)
-        out.old out.new log.old log.new length.new }
+    ensures report { FillsRoom (λ made made'. FillsCounted (λ lines lines'.
+        AppliesOn carry base image.now script.now made made' lines lines' result)
+        log.old log.new length.new) out.old out.new }
 {
-    let mut made = Room::new(out);
-    let mut told = Room::new(log);
-    let status = apply_image(alloc, image, script, base, carry, &mut made, &mut told);
-    let Room { space: _out, .. } = made;
-    let Room { space: _log, used, .. } = told;
+    let mut room = Room::new(log);
+    let status = apply_image(alloc, image, script, base, carry, out, &mut room);
+    let Room { space: _log, used, .. } = room;
     *length = used;
     u32::from(status)
 }

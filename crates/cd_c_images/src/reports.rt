@@ -1,7 +1,8 @@
-//! Calls that tell of an image.
+//! Calls that describe an image.
 
 ghost use Rattle.cd_command.specs.Fault.{done_status};
-ghost use Rattle.cd_c_images.specs.Images.{ReportsOn, Tells};
+ghost use Rattle.cd_c_images.specs.Images.{ReportsOn};
+ghost use Rattle.cd_c_images.specs.Rooms.{FillsCounted};
 ghost use Rattle.cd_jobs.specs.Run.{audit_status};
 ghost use Rattle.cd_report.specs.AuditText.{audit_report};
 ghost use Rattle.cd_report.specs.ListText.{list_report};
@@ -13,13 +14,13 @@ use crate::room::Room;
 /// of bytes that were written.
 #[unsafe(no_mangle)]
 pub extern "C" fn cdpatch_list(image: &[u8], base: u32, text: &mut [u8], length: &mut usize) -> u32
-    ensures report { Tells
+    ensures report { FillsCounted
         (λ out out'. ReportsOn (list_report base) (λ _. done_status) base image.now out out' result)
         text.old text.new length.new }
 {
     let mut room = Room::new(text);
     let status = list_image(image, base, &mut room);
-    let Room { space: _space, used, .. } = room;
+    let Room { space: _text, used, .. } = room;
     *length = used;
     u32::from(status)
 }
@@ -28,13 +29,13 @@ pub extern "C" fn cdpatch_list(image: &[u8], base: u32, text: &mut [u8], length:
 /// number of bytes that were written.
 #[unsafe(no_mangle)]
 pub extern "C" fn cdpatch_audit(image: &[u8], base: u32, text: &mut [u8], length: &mut usize) -> u32
-    ensures report { Tells
+    ensures report { FillsCounted
         (λ out out'. ReportsOn (audit_report base) audit_status base image.now out out' result)
         text.old text.new length.new }
 {
     let mut room = Room::new(text);
     let status = audit_image(image, base, &mut room);
-    let Room { space: _space, used, .. } = room;
+    let Room { space: _text, used, .. } = room;
     *length = used;
     u32::from(status)
 }

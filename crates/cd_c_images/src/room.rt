@@ -39,14 +39,14 @@ pub(crate) struct Room<'a> {
 }
 
 impl<'a> Room<'a> {
-    ghost use Rattle.std.specs.Prelude.{◌≡◌, Some};
+    ghost use Rattle.std.specs.Prelude.{◌≡◌};
     ghost use Rattle.cd_memory.specs.Memory.{fresh_outgoing};
-    ghost use Rattle.cd_c_images.specs.Rooms.{front_of, room_outgoing};
+    ghost use Rattle.cd_c_images.specs.Rooms.{lent_to, room_outgoing};
 
     /// Stands over `space`, from its front.
     pub(crate) fn new(space: &'a mut [u8]) -> Self
-        ensures seen { room_outgoing result
-            ≡ record fresh_outgoing { written = Some (front_of space.entry) } }
+        ensures seen { room_outgoing result ≡ fresh_outgoing }
+        ensures lent { (lent_to result).now ≡ space.entry.now }
         ensures same_slice { result.space.ghost_name ≡ space.entry.ghost_name }
     {
         let lent = Lent { slice: space };
@@ -64,9 +64,9 @@ impl<'a> Room<'a> {
 }
 
 impl Sink for Room<'_> {
-    ghost use Rattle.cd_c_images.specs.Rooms.{room_outgoing};
+    ghost use Rattle.cd_c_images.specs.Rooms.{named_outgoing};
 
-    ghost seen = { room_outgoing };
+    ghost seen = { named_outgoing };
 
     fn write(&mut self, bytes: &[u8]) -> Result<usize, SinkFailed> {
         self.finished = false;

@@ -1,28 +1,14 @@
-use Rattle.std.proofs.Common.{refl, rules}
-use Rattle.cd_c_images.specs.Images.{AppliesOn}
-use Rattle.cd_c_images.proofs.CommandLemmas.{applies-on}
-use Rattle.cd_c_images.proofs.GrowLemmas.{applies-grow}
-use Rattle.cd_c_images.proofs.RoomLemmas.{keeps-slice}
+use Rattle.std.proofs.Common.{◌∙◌, rules}
+use Rattle.cd_c_images.proofs.RoomLemmas.{fills-room}
 use Rattle.cd_c_images.proofs.commands.apply_image.Goals as goal
 
-pub returns-in-Ok : goal.returns-in-Ok
-returns-in-Ok c =
-    let report = applies-on (search rules) _ c.in-Ok.ensures c.new.result c.new.ensures c.run_apply.new.image
-    c.run_apply.ensures.report in
-    let grew = applies-grow _ _ _ _ _ _ refl refl report in
+pub returns : goal.returns
+returns c =
+    let did = c.apply_to_rooms-status.ensures in
+    let start = c.new-room.ensures in
     record {
-      report = report;
-      same_out = keeps-slice c.args.out.now c.run_apply.new.out grew.1;
-      same_log = keeps-slice c.args.log.now c.run_apply.new.log grew.0;
-    }
-
-pub returns-in-Err : goal.returns-in-Err
-returns-in-Err c =
-    let none = c.in-Err.ensures in
-    let report = AppliesOn.without_script (search rules) none.0 none.1 refl none.2 in
-    let grew = applies-grow _ _ _ _ _ _ refl refl report in
-    record {
-      report = report;
-      same_out = refl;
-      same_log = keeps-slice c.args.log.now c.script_of.new.log grew.0;
+      report = fills-room _ _ c.apply_to_rooms-status.new.out _ _ start.seen did.report
+          (did.same_out_bytes ∙ start.lent) (search rules);
+      same_slice = did.same_log;
+      same_bytes = did.same_log_bytes;
     }

@@ -1,15 +1,13 @@
-use Rattle.std.proofs.Common.{ap, refl, rules}
-use Rattle.cd_c_images.proofs.GrowLemmas.{reports-grow}
-use Rattle.cd_c_images.proofs.RoomLemmas.{tells}
+use Rattle.std.proofs.Common.{◌∙◌, refl, rules}
+use Rattle.cd_c_images.proofs.RoomLemmas.{fills-counted}
 use Rattle.cd_c_images.proofs.reports.cdpatch_list.Goals as goal
 
 pub returns : goal.returns
 returns c =
     let did = c.list_image-status.ensures in
-    let fresh = c.new-room.ensures.seen in
-    let grew = reports-grow _ _ _ (ap (λ o. o.written) fresh) did.report in
+    let start = c.new-room.ensures in
     rw c.from.ensures
     record {
-      report = tells _ _ c.list_image-status.new.out _ _ _ _ grew fresh refl (search rules)
-          refl did.report;
+      report = fills-counted _ _ c.list_image-status.new.out _ _ start.seen did.report
+          (did.same_bytes ∙ start.lent) (search rules) _ refl;
     }
