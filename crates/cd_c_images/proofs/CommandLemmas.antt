@@ -1,5 +1,6 @@
 -- The commands on an image in memory, and the script of a text.
-use Rattle.std.proofs.Common.{◌≡◌, ℕ, ◌≤◌, Bool, List, length, Result, Ok, Err, IfOk, IfErr, OnOk, OnErr, refl, subst}
+use Rattle.std.proofs.Common.{◌≡◌, ℕ, ◌≤◌, Bool, List, length, Result, Ok, Err, IfOk, IfErr, OnOk}
+use Rattle.std.proofs.Common.{OnErr, refl, subst}
 use Rattle.cd_command.specs.Fault.{failed_status}
 use Rattle.cd_jobs.specs.Messages.{script_fault_line}
 use Rattle.cd_jobs.specs.Run.{SaysLine}
@@ -13,7 +14,8 @@ use Rattle.cd_script.specs.Script.{script}
 use Rattle.cd_script.specs.declared.fault.ScriptFault.{ScriptFault}
 use Rattle.cd_script.specs.declared.patch.Patch.{Patch}
 use Rattle.cd_stream.specs.Stream.{Incoming, Outgoing}
-use Rattle.cd_c_images.specs.Images.{AppliesFrom, AppliesOn, ChecksFrom, ChecksOn, NoPatches, ReportsFrom, ReportsOn, TakesText}
+use Rattle.cd_c_images.specs.Images.{AppliesFrom, AppliesOn, ChecksFrom, ChecksOn, NoPatches}
+use Rattle.cd_c_images.specs.Images.{ReportsFrom, ReportsOn, TakesText}
 
 pub reports-on : {T : Type 0} {spec : ReportSpec T} {status_of : T → ℕ} {base : ℕ} {image : List ℕ}
     {out out' : Outgoing} {status : ℕ} → base ≤ base_limit → (source : Incoming)
@@ -28,7 +30,8 @@ pub takes-text : (text : List ℕ) (log log' : Outgoing) (result : Result (List 
     → length text ≤ text_limit
     → IfOk result (λ s. (ps : List Patch) × (script text ≡ Ok ps) × (s ≡ order ps))
     → OnOk result (log' ≡ log) → IfErr result (λ status. status ≡ failed_status)
-    → OnErr result ((fault : ScriptFault) × IsFaultOf text fault × SaysLine (script_fault_line fault) log log')
+    → OnErr result ((fault : ScriptFault) × IsFaultOf text fault
+    × SaysLine (script_fault_line fault) log log')
     → TakesText text log log' result
 takes-text text log log' (Ok patches) within reads silent status line =
     (record { within = within; reads = reads }, silent)

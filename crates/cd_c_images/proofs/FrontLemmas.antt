@@ -1,9 +1,10 @@
 -- A command, without the first bytes that its sinks had got before.
-use Rattle.std.proofs.Common.{◌≡◌, ℕ, ◌≤◌, List, ◌++◌, length, drop, Option, Some, Result, Ok, Err, refl, sym, ap, ◌∙◌, subst, arith, length-append}
+use Rattle.std.proofs.Common.{◌≡◌, ℕ, ◌≤◌, List, ◌++◌, length, drop, Some, Result, Ok, Err}
+use Rattle.std.proofs.Common.{sym, ap, ◌∙◌, subst, arith, length-append}
 use Rattle.std.specs.Prelude.{option_map}
 use Rattle.std.specs.Io.KnownBytes.{Appends}
 use Rattle.std.proofs.lemmas.List.{drop-append-le}
-use Rattle.cd_jobs.specs.Run.{Ends, Runs, SaysLine, TellsText}
+use Rattle.cd_jobs.specs.Run.{Ends, SaysLine, TellsText}
 use Rattle.cd_memory.proofs.KnownLemmas.{Appends-Some, Some-injective}
 use Rattle.cd_read.specs.Ends.{EndsWell}
 use Rattle.cd_read.specs.declared.fault.Fault.{Fault}
@@ -100,66 +101,66 @@ EndsWell-without n image image' out out' ends = record {
 -- ---- `list` and `audit`
 
 module _ {T : Type 0} (spec : ReportSpec T) (image image' : Incoming) (n : ℕ) (out out' : Outgoing)
-    where
-  Answers-without : (read sent : List ℕ) (result : Result T Fault)
-      → Answers spec read sent image image' out out' result
-      → Answers spec read sent image image' (without n out) (without n out') result
-  Answers-without read sent (Ok told) a = record {
-    reads = a.reads;
-    writes = a.writes;
-    finished = a.finished;
-    at_end = a.at_end;
-    ended = a.ended;
-    within = a.within;
-    whole_sent = a.whole_sent;
-    tally_right = a.tally_right;
-  }
-  Answers-without read sent (Err Read) a = record {
-    reads = a.reads;
-    writes = a.writes;
-    unflushed = a.unflushed;
-    unended = a.unended;
-    within = a.within;
-    due_sent = a.due_sent;
-    beginning = a.beginning;
-  }
-  Answers-without read sent (Err Write) a = record {
-    reads = a.reads;
-    writes = a.writes;
-    unflushed = a.unflushed;
-    within = a.within;
-    due_sent = a.due_sent;
-    beginning = a.beginning;
-  }
-  Answers-without read sent (Err Log) a = a
-  Answers-without read sent (Err TooLong) a = record {
-    reads = a.reads;
-    writes = a.writes;
-    unflushed = a.unflushed;
-    unended = a.unended;
-    beyond = a.beyond;
-    due_sent = a.due_sent;
-    beginning = a.beginning;
-  }
+  where
+    Answers-without : (read sent : List ℕ) (result : Result T Fault)
+        → Answers spec read sent image image' out out' result
+        → Answers spec read sent image image' (without n out) (without n out') result
+    Answers-without read sent (Ok told) a = record {
+      reads = a.reads;
+      writes = a.writes;
+      finished = a.finished;
+      at_end = a.at_end;
+      ended = a.ended;
+      within = a.within;
+      whole_sent = a.whole_sent;
+      tally_right = a.tally_right;
+    }
+    Answers-without read sent (Err Read) a = record {
+      reads = a.reads;
+      writes = a.writes;
+      unflushed = a.unflushed;
+      unended = a.unended;
+      within = a.within;
+      due_sent = a.due_sent;
+      beginning = a.beginning;
+    }
+    Answers-without read sent (Err Write) a = record {
+      reads = a.reads;
+      writes = a.writes;
+      unflushed = a.unflushed;
+      within = a.within;
+      due_sent = a.due_sent;
+      beginning = a.beginning;
+    }
+    Answers-without read sent (Err Log) a = a
+    Answers-without read sent (Err TooLong) a = record {
+      reads = a.reads;
+      writes = a.writes;
+      unflushed = a.unflushed;
+      unended = a.unended;
+      beyond = a.beyond;
+      due_sent = a.due_sent;
+      beginning = a.beginning;
+    }
 
-  Reports-without : (result : Result T Fault) → Has n out
-      → Reports spec image image' out out' result
-      → Reports spec image image' (without n out) (without n out') result
-  Reports-without result has r = record {
-    read = r.read;
-    sent = r.sent;
-    gives = r.gives;
-    takes = Takes-without n out out' r.sent has r.takes;
-    flushes = r.flushes;
-    answers = Answers-without r.read r.sent result r.answers;
-  }
+    Reports-without : (result : Result T Fault) → Has n out
+        → Reports spec image image' out out' result
+        → Reports spec image image' (without n out) (without n out') result
+    Reports-without result has r = record {
+      read = r.read;
+      sent = r.sent;
+      gives = r.gives;
+      takes = Takes-without n out out' r.sent has r.takes;
+      flushes = r.flushes;
+      answers = Answers-without r.read r.sent result r.answers;
+    }
 
-  TellsText-without : (status_of : T → ℕ) (status : ℕ) → Has n out
-      → TellsText spec status_of image image' out out' status
-      → TellsText spec status_of image image' (without n out) (without n out') status
-  TellsText-without status_of status has tells = λ bytes earlier known was.
-      let all = tells bytes has.bytes known has.known in
-      (all.0, grown-without n out out' has earlier _ was all.1, all.2)
+    TellsText-without : (status_of : T → ℕ) (status : ℕ) → Has n out
+        → TellsText spec status_of image image' out out' status
+        → TellsText spec status_of image image' (without n out) (without n out') status
+    TellsText-without status_of status has tells = λ bytes earlier known was.
+        let all = tells bytes has.bytes known has.known in
+        (all.0, grown-without n out out' has earlier _ was all.1, all.2)
 
 pub ReportsFrom-without : {T : Type 0} {spec : ReportSpec T} {status_of : T → ℕ} {image : Incoming}
     {status : ℕ} (n : ℕ) (out out' : Outgoing) → Has n out
@@ -177,7 +178,8 @@ ReportsFrom-without {spec = spec} {status_of = status_of} {image = image} {statu
         ends = Ends-without n Write status_of runs.result runs.middle out' status
             (Has-more n out runs.middle runs.does.sent has runs.does.takes.appends) runs.ends;
       };
-      text = λ done. TellsText-without spec image left n out out' status_of status has (r.text done);
+      text = λ done.
+          TellsText-without spec image left n out out' status_of status has (r.text done);
       ends_well = λ done. EndsWell-without n image left out out' (r.ends_well done);
       flushed = r.flushed;
       failed = r.failed;

@@ -1,5 +1,6 @@
 -- What a command's sinks have got is what they had, and then some text.
-use Rattle.std.proofs.Common.{◌≡◌, ◌≢◌, ℕ, ◌⊎◌, Bool, List, [], ◌++◌, Option, Some, Result, Ok, Err, inl, inr, refl, sym, ap, ◌∙◌, append-nil, append_assoc}
+use Rattle.std.proofs.Common.{◌≡◌, ◌≢◌, ℕ, ◌⊎◌, Bool, List, [], ◌++◌, Some, Result, Ok, Err}
+use Rattle.std.proofs.Common.{inl, inr, refl, sym, ap, ◌∙◌, append-nil, append_assoc}
 use Rattle.std.specs.Io.KnownBytes.{Appends}
 use Rattle.cd_jobs.specs.Run.{Ends, SaysLine}
 use Rattle.cd_memory.proofs.KnownLemmas.{Appends-Some}
@@ -48,12 +49,13 @@ appended : (front sent : List ℕ) (before after : Outgoing) → before.written 
 appended front sent before after had went =
     (sent, Appends-Some before.written after.written front sent had went)
 
-pub reports-grow : {T : Type 0} {spec : ReportSpec T} {status_of : T → ℕ} {base : ℕ} {image : List ℕ}
-    {status : ℕ} (front : List ℕ) (before after : Outgoing) → before.written ≡ Some front
+pub reports-grow : {T : Type 0} {spec : ReportSpec T} {status_of : T → ℕ} {base : ℕ}
+    {image : List ℕ} {status : ℕ} (front : List ℕ) (before after : Outgoing) → before.written ≡ Some front
     → ReportsOn spec status_of base image before after status → Grew front after
 reports-grow front before after had (ReportsOn.outside above failed same) =
     stayed front before after had same
-reports-grow {status_of = status_of} {status = status} front before after had (ReportsOn.reported within r) =
+reports-grow {status_of = status_of} {status = status} front before after had
+    (ReportsOn.reported within r) =
     let runs = r.runs in
     ended front Write status_of runs.result runs.middle after status
     (appended front runs.does.sent before runs.middle had runs.does.takes.appends) runs.ends
@@ -77,8 +79,11 @@ pub applies-grow : {carry : Bool} {base : ℕ} {image text : List ℕ} {status :
     → Grew front log' × Grew made out'
 applies-grow front made out out' log log' had held (AppliesOn.outside above failed same silent) =
     (stayed front log log' had silent, stayed made out out' held same)
-applies-grow front made out out' log log' had held (AppliesOn.without_script within line none same fails) =
-    (said front line log log' (stayed front log log had refl) fails.0, stayed made out out' held same)
+applies-grow front made out out' log log' had held
+    (AppliesOn.without_script within line none same fails) = (
+      said front line log log' (stayed front log log had refl) fails.0,
+      stayed made out out' held same,
+    )
 applies-grow front made out out' log log' had held (AppliesOn.applied within patches has r) =
     let runs = r.runs in (
       ended front Log _ runs.result runs.middle log' _

@@ -2,4 +2,5 @@ mod CommandLemmas
 mod FrontLemmas
 mod GrowLemmas
 mod PatchFrontLemmas
+mod PlainLemmas
 mod RoomLemmas

@@ -1,7 +1,9 @@
 -- `check` and `apply`, without the first bytes that their sinks had got before.
-use Rattle.std.proofs.Common.{◌≡◌, ℕ, Bool, false, List, length, drop, Some, Result, Ok, Err, sym, ap, ◌∙◌, arith, length-drop}
+use Rattle.std.proofs.Common.{◌≡◌, ℕ, Bool, false, List, length, drop, Result, Ok, Err, sym}
+use Rattle.std.proofs.Common.{ap, ◌∙◌, arith, length-drop}
 use Rattle.std.specs.Prelude.{option_map}
-use Rattle.cd_image.specs.Applying.{Applies, AppliesBy, Checks, Failed, Flushed, HoldsFew, Streams, WritesCarried, WritesPatched, null_outgoing, streams}
+use Rattle.cd_image.specs.Applying.{Applies, AppliesBy, Checks, Failed, Flushed, HoldsFew, Streams}
+use Rattle.cd_image.specs.Applying.{WritesCarried, WritesPatched, null_outgoing, streams}
 use Rattle.cd_image.specs.declared.patch_log.Tally.{Tally}
 use Rattle.cd_jobs.specs.Run.{TellsPatches, script_status}
 use Rattle.cd_memory.proofs.KnownLemmas.{Some-injective}
@@ -11,7 +13,8 @@ use Rattle.cd_script.specs.declared.patch.Patch.{Patch}
 use Rattle.cd_stream.specs.Forms.{slice_incoming}
 use Rattle.cd_stream.specs.Stream.{Incoming, Outgoing}
 use Rattle.cd_c_images.specs.Images.{AppliesFrom, AppliesOn, ChecksFrom, ChecksOn}
-use Rattle.cd_c_images.proofs.FrontLemmas.{Appends-without, Ends-without, EndsWell-without, Has, Has-more, SaysLine-without, grown-without, without}
+use Rattle.cd_c_images.proofs.FrontLemmas.{Appends-without, Ends-without, EndsWell-without, Has}
+use Rattle.cd_c_images.proofs.FrontLemmas.{Has-more, SaysLine-without, grown-without, without}
 
 -- ---- the whole contract
 
@@ -99,7 +102,8 @@ module _ {carry : Bool} {patches : List Patch} {base : ℕ} {result : Result Tal
     logs = Appends-without m old.log new.log a.told log_has a.logs;
     log_taken = a.log_taken;
     in_hand = a.in_hand;
-    answers = AppliesBy-without n m old new carry patches base a.read a.sent a.told result a.answers;
+    answers = AppliesBy-without n m old new carry patches base a.read a.sent a.told result
+        a.answers;
   }
 
   -- of a log
@@ -108,21 +112,25 @@ module _ {carry : Bool} {patches : List Patch} {base : ℕ} {result : Result Tal
       → Checks carry patches base image image' (without m log) (without m log') result
   Checks-without m image image' log log' has (taken, flushes, finished, a) =
       let old = streams image (null_outgoing 0 0 false) log in
-      let new = streams image' (null_outgoing taken flushes finished) log' in
-      (taken, flushes, finished, record {
-        read = a.read;
-        sent = a.sent;
-        told = a.told;
-        consumes = a.consumes;
-        given = a.given;
-        appends = a.appends;
-        out_taken = a.out_taken;
-        logs = Appends-without m log log' a.told has a.logs;
-        log_taken = a.log_taken;
-        in_hand = a.in_hand;
-        answers = AppliesBy-without 0 m old new carry patches base a.read a.sent a.told result
-            a.answers;
-      })
+      let new = streams image' (null_outgoing taken flushes finished) log' in (
+        taken,
+        flushes,
+        finished,
+        record {
+          read = a.read;
+          sent = a.sent;
+          told = a.told;
+          consumes = a.consumes;
+          given = a.given;
+          appends = a.appends;
+          out_taken = a.out_taken;
+          logs = Appends-without m log log' a.told has a.logs;
+          log_taken = a.log_taken;
+          in_hand = a.in_hand;
+          answers = AppliesBy-without 0 m old new carry patches base a.read a.sent a.told result
+              a.answers;
+        },
+      )
 
 -- ---- the plain clauses
 
@@ -138,9 +146,11 @@ module _ (carry : Bool) (patches : List Patch) (base : ℕ) (image : Incoming) (
       → WritesPatched carry patches base image image' out out'
       → WritesPatched carry patches base image image' (without n out) (without n out')
   WritesPatched-without image' writes = λ bytes earlier known was.
-      let all = writes bytes has.bytes known has.known in
-      (all.0, λ outcomes last patched.
-      grown-without n out out' has earlier last was (all.1 outcomes last patched))
+      let all = writes bytes has.bytes known has.known in (
+        all.0,
+        λ outcomes last patched.
+            grown-without n out out' has earlier last was (all.1 outcomes last patched),
+      )
 
   WritesCarried-without : WritesCarried patches base image out out'
       → WritesCarried patches base image (without n out) (without n out')
@@ -151,7 +161,8 @@ module _ (carry : Bool) (patches : List Patch) (base : ℕ) (image : Incoming) (
   -- as many bytes are taken away before and after
   HoldsFew-without : (image' : Incoming) (log log' log_bare log_bare' : Outgoing) → Has n out'
       → HoldsFew (streams image out log) (streams image' out' log')
-      → HoldsFew (streams image (without n out) log_bare) (streams image' (without n out') log_bare')
+      → HoldsFew (streams image (without n out) log_bare)
+      (streams image' (without n out') log_bare')
   HoldsFew-without image' log log' log_bare log_bare' has' holds =
       λ given left earlier now gave rest was is.
       let few = holds given left has.bytes has'.bytes gave rest has.known has'.known in
@@ -159,8 +170,16 @@ module _ (carry : Bool) (patches : List Patch) (base : ℕ) (image : Incoming) (
       Some-injective (sym (ap (option_map (drop n)) has.known) ∙ was) in
       let after : drop n has'.bytes ≡ now =
       Some-injective (sym (ap (option_map (drop n)) has'.known) ∙ is) in
-      omega (arith, few, has.enough, has'.enough, ap length before, ap length after,
-      length-drop n has.bytes, length-drop n has'.bytes)
+      omega (
+        arith,
+        few,
+        has.enough,
+        has'.enough,
+        ap length before,
+        ap length after,
+        length-drop n has.bytes,
+        length-drop n has'.bytes,
+      )
 
 -- ---- all that a command promises
 
@@ -235,12 +254,14 @@ module _ {carry : Bool} {base : ℕ} {image text : List ℕ} {status : ℕ} wher
       → AppliesOn carry base image text out out' log log' status
       → AppliesOn carry base image text (without n out) (without n out') (without m log)
       (without m log') status
-  AppliesOn-without n m out out' log log' out_has log_has (AppliesOn.outside above failed same silent) =
+  AppliesOn-without n m out out' log log' out_has log_has
+      (AppliesOn.outside above failed same silent) =
       AppliesOn.outside above failed (ap (without n) same) (ap (without m) silent)
   AppliesOn-without n m out out' log log' out_has log_has
       (AppliesOn.without_script within line none same fails) =
       AppliesOn.without_script within line none (ap (without n) same)
       (SaysLine-without m line log log' log_has fails.0, fails.1)
-  AppliesOn-without n m out out' log log' out_has log_has (AppliesOn.applied within patches reads r) =
+  AppliesOn-without n m out out' log log' out_has log_has
+      (AppliesOn.applied within patches reads r) =
       AppliesOn.applied within patches reads
       (AppliesFrom-without n m out out' log log' out_has log_has r)

@@ -1,5 +1,6 @@
 -- A room over a slice.
-use Rattle.std.proofs.Common.{◌≡◌, ◌≢◌, ℕ, ◌+◌, Bool, List, ◌∷◌, ◌++◌, length, drop, take, MutBor, Some, refl, sym, ap, ◌∙◌, subst, append_assoc, arith, length-append}
+use Rattle.std.proofs.Common.{◌≡◌, ℕ, ◌+◌, Bool, List, ◌∷◌, ◌++◌, length, drop, take}
+use Rattle.std.proofs.Common.{Some, refl, sym, ap, ◌∙◌, subst, append_assoc, arith, length-append}
 use Rattle.std.proofs.Math.Seq.{drop-append_seam, take-append_seam}
 use Rattle.std.proofs.lemmas.List.{drop-drop, length-take-le, take-append-drop}
 use Rattle.cd_memory.proofs.KnownLemmas.{Some-injective}
@@ -7,7 +8,8 @@ use Rattle.cd_memory.specs.Memory.{fresh_outgoing}
 use Rattle.cd_report.specs.Report.{ReportSpec}
 use Rattle.cd_stream.specs.Stream.{Outgoing}
 use Rattle.cd_c_images.specs.Images.{AppliesOn, ChecksOn, ReportsOn}
-use Rattle.cd_c_images.specs.Rooms.{Fills, FillsCounted, FillsRoom, front_of, lent_to, named_outgoing, room_outgoing, room_written}
+use Rattle.cd_c_images.specs.Rooms.{Fills, FillsCounted, FillsRoom, front_of, lent_to}
+use Rattle.cd_c_images.specs.Rooms.{named_outgoing, room_outgoing, room_written}
 use Rattle.cd_c_images.specs.declared.room.Room.{Room}
 use Rattle.cd_c_images.proofs.FrontLemmas.{Has, ReportsOn-without, without}
 use Rattle.cd_c_images.proofs.GrowLemmas.{Grew, applies-grow, checks-grow, reports-grow}
@@ -80,7 +82,8 @@ bare : (Does : Outgoing → Outgoing → Type 0) (was now : Room) → SameRoom w
 bare Does was now same does =
     let n = length (front_of (lent_to was)) in
     subst (λ o. Does o (room_outgoing now)) (without-front n was refl)
-    (subst (Does (without n (named_outgoing was))) (without-front n now (same-size was now same)) does)
+    (subst (Does (without n (named_outgoing was)))
+    (without-front n now (same-size was now same)) does)
 
 -- ---- commands over rooms
 
@@ -152,8 +155,9 @@ fills-of room held held' was now =
     }
 
 module _ (Does : Outgoing → Outgoing → Type 0) (before : Outgoing) (room : Room)
-    (held held' : List ℕ) (fresh : before ≡ fresh_outgoing) (does : Does before (room_outgoing room))
-    (was : (lent_to room).now ≡ held) (now : held' ≡ room.space.now) where
+    (held held' : List ℕ) (fresh : before ≡ fresh_outgoing)
+    (does : Does before (room_outgoing room)) (was : (lent_to room).now ≡ held)
+    (now : held' ≡ room.space.now) where
   pub fills-room : FillsRoom Does held held'
   fills-room = record {
     after = room_outgoing room;

@@ -1,7 +1,9 @@
 -- What the commands do on an image in memory.
-use Rattle.std.specs.Prelude.{◌≡◌, ◌≢◌, ℕ, ◌+◌, ◌<◌, ◌≤◌, ◌⊎◌, Bool, true, List, length, Result, Ok, Err}
+use Rattle.std.specs.Prelude.{◌≡◌, ◌≢◌, ℕ, ◌+◌, ◌<◌, ◌≤◌, ◌⊎◌, Bool, true, List, length, Result, Ok}
+use Rattle.std.specs.Prelude.{Err}
 use Rattle.cd_command.specs.Fault.{failed_status}
-use Rattle.cd_image.specs.Applying.{Applies, Checks, HoldsFew, WritesCarried, WritesPatched, streams}
+use Rattle.cd_image.specs.Applying.{Applies, Checks, HoldsFew, WritesCarried, WritesPatched}
+use Rattle.cd_image.specs.Applying.{streams}
 use Rattle.cd_jobs.specs.Messages.{load_fault_line, script_fault_line}
 use Rattle.cd_jobs.specs.Program.{Fails}
 use Rattle.cd_jobs.specs.Run.{IsTooLong, Runs, TellsPatches, TellsText, script_status}
