@@ -20,10 +20,12 @@ include install.mk
 cdpatch: FORCE
 ifeq ($(SIMPLE),1)
 	cd crates/cdpatch && rt run $(CPU:%=--cpu %) < /dev/null > /dev/null
-	cd crates/cd_c && rt lib --cpu x86-64-v3 > /dev/null && mv out/libcd_c.a out/libcd_c-x86-64-v3.a
-	cd crates/cd_c && rt lib $(CPU:%=--cpu %) > /dev/null
+	for crate in cd_c cd_c_images; do \
+	    (cd crates/$$crate && rt lib --cpu x86-64-v3 > /dev/null && mv out/lib$$crate.a out/lib$$crate-x86-64-v3.a && \
+	    rt lib $(CPU:%=--cpu %) > /dev/null) || exit; \
+	done
 else
-	@bash tools/prove.sh 'cdpatch cd_c' '$(AT_ONCE)' '$(CPU)'
+	@bash tools/prove.sh 'cdpatch cd_c cd_c_images' '$(AT_ONCE)' '$(CPU)'
 endif
 	cp crates/cdpatch/out/cdpatch cdpatch
 	bash tools/library.sh library

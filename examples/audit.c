@@ -1,47 +1,30 @@
-/* What is wrong with the Mode 1 sectors of an image: `audit IMAGE`, which maps it. `cc audit.c -lcdpatch`. */
+/* Prints what is wrong with the Mode 1 sectors of an image: `audit IMAGE`. The status is that of `cdpatch audit`.
+ * Compile with `cc audit.c -lcdpatch`. */
 #include <cdpatch.h>
 #include <fcntl.h>
 #include <stdio.h>
-#include <string.h>
+#include <stdlib.h>
 #include <sys/mman.h>
 #include <sys/stat.h>
 #include <unistd.h>
 
-/* Prints what is wrong with the sector of a block, and answers whether something is. */
-static bool tell(uint32_t block, const uint8_t *sector) {
-    struct cdpatch_defect found;
-    uint8_t address[3];
-    bool is_elsewhere = !cdpatch_address(block, address) || memcmp(sector + 12, address, 3);
-    if (cdpatch_is_consistent(sector) && !is_elsewhere)
-        return false;
-    cdpatch_find_defect(sector, &found);
-    printf("%u%s%s%s", (unsigned)block, is_elsewhere ? " address" : "", found.zeros ? " zeros" : "", found.edc ? " edc" : "");
-    if (found.p)
-        printf(" p=%u", (unsigned)found.p);
-    if (found.q)
-        printf(" q=%u", (unsigned)found.q);
-    putchar('\n');
-    return true;
-}
-
 int main(int count, char **arguments) {
     struct stat about;
     int file = count == 2 ? open(arguments[1], O_RDONLY) : -1;
-    if (file < 0 || fstat(file, &about) != 0 || about.st_size < CDPATCH_SECTOR_SIZE) {
-        fputs("usage: audit IMAGE, of a sector or more\n", stderr);
-        return 2;
+    if (file < 0 || fstat(file, &about) != 0 || about.st_size == 0) {
+        fputs("usage: audit IMAGE, a file that is not empty\n", stderr);
+        return CDPATCH_FAILED;
     }
-    const uint8_t *image = mmap(NULL, (size_t)about.st_size, PROT_READ, MAP_PRIVATE, file, 0);
-    if (image == MAP_FAILED) {
+    size_t size = (size_t)about.st_size, room = size / CDPATCH_SECTOR_SIZE * 40 + 100, length;
+    const uint8_t *image = mmap(NULL, size, PROT_READ, MAP_PRIVATE, file, 0);
+    uint8_t *text = malloc(room);
+    if (image == MAP_FAILED || !text) {
         perror("audit");
-        return 2;
+        return CDPATCH_FAILED;
     }
-    bool has_findings = false;
-    for (uint32_t block = 0; block < about.st_size / CDPATCH_SECTOR_SIZE; block++) {
-        const uint8_t *sector = image + (size_t)block * CDPATCH_SECTOR_SIZE;
-        if (cdpatch_kind(sector) == CDPATCH_MODE1)
-            has_findings |= tell(block, sector);
-    }
+    uint32_t status = cdpatch_audit(image, size, 0, text, room, &length);
+    fwrite(text, 1, length, stdout);
+    free(text);
     close(file);
-    return has_findings;
+    return (int)status;
 }

@@ -1,10 +1,12 @@
-"""CD-ROM sectors by libcdpatch, over ctypes. Sectors, user data and addresses are `bytes`; no call changes what it is passed."""
+"""CD-ROM sectors and images by libcdpatch, over ctypes. Images, scripts, sectors, user data and addresses are `bytes`, `bytearray`
+or `memoryview`; no call changes what it is passed."""
 
 import ctypes
 from typing import NamedTuple
 
 SECTOR_SIZE = 2352
 USER_SIZE = 2048
+LAST_BASE = 449849
 KINDS = ('nosync', 'mode0', 'mode1', 'mode2', 'other')
 
 _library = ctypes.CDLL('libcdpatch.so.1')
@@ -23,6 +25,23 @@ class Defect(NamedTuple):
     edc: bool
     p: int
     q: int
+
+
+class Report(NamedTuple):
+    """What a command prints, and whether `audit` has a finding, or a patch was refused."""
+    text: str
+    found: bool
+
+
+class Patched(NamedTuple):
+    """What `apply` makes: the new image, what it prints, and whether a patch was refused."""
+    image: bytes
+    text: str
+    found: bool
+
+
+class Failed(ValueError):
+    """The command's status is 2. The message is what it prints."""
 
 
 class NotMode1(ValueError):
@@ -104,3 +123,60 @@ def with_user(sector, offset, new, carry=False):
 def with_address(sector, address, carry=False):
     """The sector with another address in its header. A damaged one is refused, or with `carry` keeps its damage."""
     return _changed('cdpatch_carry_address' if carry else 'cdpatch_change_address', sector, _sized(address, 3))
+
+
+def _reported(command, room, *arguments):
+    """What a command prints, and whether its status is 1."""
+    text, length = ctypes.create_string_buffer(room), ctypes.c_size_t()
+    status = getattr(_library, command)(*arguments, text, ctypes.c_size_t(room), ctypes.byref(length))
+    printed = text.raw[:length.value].decode()
+    if status == 2:
+        raise Failed(printed)
+    return Report(printed, status == 1)
+
+
+def _base(base):
+    if not 0 <= base <= LAST_BASE:
+        raise Failed(f'base {base} is not 0 to {LAST_BASE}')
+    return ctypes.c_uint32(base)
+
+
+def _sized_bytes(data):
+    return ctypes.c_char_p(data), ctypes.c_size_t(len(data))
+
+
+def _room_for_sectors(image):
+    return 100 + 40 * (len(image) // SECTOR_SIZE)
+
+
+def _room_for_patches(script):
+    return 200 + 80 * (script.count(b'\n') + 1)
+
+
+def list(image, base=0):
+    """What `cdpatch list` prints: the runs of sectors of one kind, in an image whose first sector is block `base`."""
+    image = bytes(image)
+    return _reported('cdpatch_list', _room_for_sectors(image), *_sized_bytes(image), _base(base)).text
+
+
+def audit(image, base=0):
+    """What is wrong with Mode 1 sectors, in an image whose first sector is block `base`: a Report, as `cdpatch audit` prints it."""
+    image = bytes(image)
+    return _reported('cdpatch_audit', _room_for_sectors(image), *_sized_bytes(image), _base(base))
+
+
+def check(image, script, base=0, carry=False):
+    """What `apply` would do with each patch of a script: a Report, as `cdpatch check` prints it. Failed if the script is invalid."""
+    image, script = bytes(image), bytes(script)
+    return _reported('cdpatch_check', _room_for_patches(script), *_sized_bytes(image), *_sized_bytes(script), _base(base),
+                     ctypes.c_bool(carry))
+
+
+def apply(image, script, base=0, carry=False):
+    """The image with the patches of a script: a Patched, with what `cdpatch apply` prints. With `carry` patches on damaged sectors
+    are accepted, and the damage stays. Failed if the script is invalid."""
+    image, script = bytes(image), bytes(script)
+    out = ctypes.create_string_buffer(len(image))
+    report = _reported('cdpatch_apply', _room_for_patches(script), *_sized_bytes(image), *_sized_bytes(script), _base(base),
+                       ctypes.c_bool(carry), out, ctypes.c_size_t(len(image)))
+    return Patched(out.raw, *report)

@@ -1,18 +1,23 @@
-"""Writes a text into the user data of a block: `patch.py IMAGE BLOCK OFFSET TEXT`. The image is changed where it stands."""
+"""Patches an image by a script into a new file, as `cdpatch apply`: `patch.py IMAGE SCRIPT OUT`. Prints what was done with each
+patch."""
 
 import sys
+from pathlib import Path
 
 import cdpatch
 
 
-def main(image, block, offset, text):
-    with open(image, 'r+b') as file:
-        file.seek(int(block) * cdpatch.SECTOR_SIZE)
-        sector = cdpatch.with_user(file.read(cdpatch.SECTOR_SIZE), int(offset), text.encode())
-        file.seek(int(block) * cdpatch.SECTOR_SIZE)
-        file.write(sector)
-    print(f'block {block}: {cdpatch.kind(sector)}, {"sound" if cdpatch.is_consistent(sector) else "damaged"}')
+def main(image, script, out):
+    try:
+        made = cdpatch.apply(Path(image).read_bytes(), Path(script).read_bytes())
+    except cdpatch.Failed as fault:
+        print(fault, end='')
+        return 2
+    with open(out, 'xb') as file:
+        file.write(made.image)
+    print(made.text, end='')
+    return made.found
 
 
 if __name__ == '__main__':
-    main(*sys.argv[1:])
+    sys.exit(main(*sys.argv[1:]))

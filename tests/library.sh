@@ -1,13 +1,15 @@
 #!/usr/bin/env bash
-# libcdpatch from C and from Python, as tools/prove.sh has built it of cd_c: `bash tests/library.sh [PROGRAM]`. The last line is
-# 'N passed, M failed'.
+# libcdpatch from C and from Python, as tools/prove.sh has built it of cd_c and cd_c_images: `bash tests/library.sh [PROGRAM]`. The
+# last line is 'N passed, M failed'.
 set -u
 . "$(dirname "$0")/helpers.sh"
-sources=("$top"/crates/cd_c/src/*.rt)
+sources=("$top"/crates/cd_c/src/*.rt "$top"/crates/cd_c_images/src/*.rt)
+# These have the numbers of the commands' statuses.
+statuses=("$top/crates/cd_command/src/fault.rt" "$top/crates/cd_jobs/src/run.rt")
 header=$top/include/cdpatch.h
 strict=(-Wall -Wextra -Werror -pedantic -I "$top/include")
 if ! bash "$top/tools/library.sh" library 2> errors; then
-    judge "the library is built (bash tools/prove.sh cd_c): $(tail -n 1 errors)" false
+    judge "the library is built (bash tools/prove.sh 'cd_c cd_c_images'): $(tail -n 1 errors)" false
     finish
     exit
 fi
@@ -15,40 +17,60 @@ builds=(library/libcdpatch.so.1)
 if grep -qw avx2 /proc/cpuinfo && grep -qw bmi2 /proc/cpuinfo && grep -qw movbe /proc/cpuinfo; then
     builds+=(library/x86-64-v3/libcdpatch.so.1)
 else
-    skip 'the library for x86-64-v3, which wants such a processor'
+    skip 'the library for x86-64-v3, which needs such a processor'
 fi
 
-# What a command says is shown only where it fails against its purpose.
+# What a command prints is shown only if it fails and should not.
 holds() { { "$@" > log; } 2>> log || { tail -n 5 log; false; }; }
 refuses() { ! { "$@" > log; } 2> errors; }
 
-# ---- what the library shows and wants
+# ---- what the library shows and needs
 
 exported() { sed -n 's/^pub extern "C" fn \([a-z_]*\).*/\1/p' "${sources[@]}" | sort; }
 
 shows_the_calls() { nm -D --defined-only "$1" | sed 's/.* //' | sort | cmp -s - <(exported); }
 
-wants_libc_alone() {
+needs_only_libc() {
     readelf -d "$1" > dynamic &&
         [ "$(sed -n 's/.*(NEEDED).*\[\(.*\)\]/\1/p' dynamic)" = libc.so.6 ] &&
         [ "$(sed -n 's/.*(SONAME).*\[\(.*\)\]/\1/p' dynamic)" = libcdpatch.so.1 ] &&
-        [ -z "$(nm -D --undefined-only "$1" | sed -e 's/.* //' -e 's/@.*//' | grep -vxE 'mem(cpy|set|move|cmp)')" ]
+        [ -z "$(nm -D --undefined-only "$1" | sed -e 's/.* //' -e 's/@.*//' |
+            grep -vxE 'mem(cpy|set|move|cmp)|malloc|realloc|free')" ]
 }
+
+in_archive() { nm --extern-only --defined-only library/libcdpatch.a 2> /dev/null | sed -n 's/^[0-9a-f]* [^ ]* //p' | sort; }
 
 test_symbols() {
     local library
     for library in library/libcdpatch.so.1 library/x86-64-v3/libcdpatch.so.1; do
         judge "$library shows the calls and no more" shows_the_calls "$library"
-        judge "$library wants the C library alone" wants_libc_alone "$library"
+        judge "$library needs only the C library" needs_only_libc "$library"
     done
-    judge 'the archive shows the calls and no more' test \
-        "$(nm --extern-only --defined-only library/libcdpatch.a 2> /dev/null | sed -n 's/.* T //p' | sort)" = "$(exported)"
+    judge 'the archive shows the calls, and of its memory these three functions' test "$(in_archive | paste -sd ' ')" = \
+        "$({ exported; printf '%s\n' cdpatchalloc cdpatchdealloc cdpatchrealloc; } | sort | paste -sd ' ')"
     echo 'void another(void) {}' > another.c
     if compiler gcc gcc; then
+        gcc -I "$top/include" "$tests/library/ten_lines.c" library/libcdpatch.a -o static_lines 2> errors
+        judge 'a program that only calls for sectors has nothing for images' test -x static_lines -a \
+            -z "$(nm static_lines | grep -E 'cdpatch(alloc|_apply)')"
+        test_another_library
         gcc -shared -fPIC another.c -Wl,--whole-archive library/libcdpatch.a -Wl,--no-whole-archive -o another.so
         judge 'a library that shows more is refused' refuses shows_the_calls another.so
-        judge 'a library with no name is refused' refuses wants_libc_alone another.so
+        judge 'a library with no name is refused' refuses needs_only_libc another.so
     fi
+}
+
+# A library of the same toolchain has functions for memory by the toolchain's names, which are not those of libcdpatch.
+test_another_library() {
+    local build=(gcc -O2 -I "$top/include" "$tests/library/images.c" toolchain.c)
+    printf 'void rattle_%s(void) { __builtin_abort(); }\n' alloc realloc dealloc > toolchain.c
+    "${build[@]}" library/libcdpatch.a -o beside 2> errors
+    judge 'another library of the toolchain does not get its calls' holds ./beside "$vectors"
+    objcopy --redefine-sym cdpatchalloc=rattle_alloc --redefine-sym cdpatchrealloc=rattle_realloc \
+        --redefine-sym cdpatchdealloc=rattle_dealloc library/libcdpatch.a clash.a
+    "${build[@]}" clash.a -o clash 2> errors
+    judge 'a program with an archive that has those names' test -x clash
+    judge 'an archive that has those names is refused' refuses ./clash "$vectors"
 }
 
 compiler() { ! missing "$1" "$2" "what $1 compiles"; }
@@ -59,13 +81,13 @@ compiler() { ! missing "$1" "$2" "what $1 compiles"; }
 differs() {
     sed "$2" "$header" > wrong.h
     judge "a header with $1 is another" refuses cmp -s "$header" wrong.h
-    judge "a header with $1 is refused" refuses python3 -B "$tests/library/prototypes.py" wrong.h "${sources[@]}"
+    judge "a header with $1 is refused" refuses python3 -B "$tests/library/prototypes.py" wrong.h "${sources[@]}" "${statuses[@]}"
 }
 
 # man_prototypes PAGE: those of its synopsis, as the header writes them.
 man_prototypes() { sed -n '/^\.Ft/{s/^\.Ft //;N;s/\n\.Fn / /;s/ "/(/;s/" "/, /g;s/"$/);/;p}' "$1"; }
 
-has_the_prototypes() { man_prototypes "$1" | cmp -s - <(sed -n '/^[a-z].* cdpatch_[a-z_]*(.*);$/p' "$header"); }
+has_the_prototypes() { man_prototypes "$1" | cmp -s - <(sed -n '/^[a-z].* cdpatch_[a-z_]*(.*/{/;$/!{N;s/\n */ /};p}' "$header"); }
 
 test_header() {
     judge 'the man page has the prototypes of the header' has_the_prototypes "$top/man/libcdpatch.3"
@@ -74,7 +96,8 @@ test_header() {
     missing mandoc mandoc 'the form of libcdpatch(3)' ||
         judge 'the man page is well formed' test -z "$(mandoc -T lint -W warning "$top/man/libcdpatch.3")"
     missing python3 python3 'the header beside the source' && return
-    judge 'the header has the exports of the source' holds python3 -B "$tests/library/prototypes.py" "$header" "${sources[@]}"
+    judge 'the header has the exports of the source' holds python3 -B "$tests/library/prototypes.py" "$header" "${sources[@]}" \
+        "${statuses[@]}"
     differs 'a call less' '/^void cdpatch_fill_parity/d'
     differs 'a parameter less' 's/, size_t length);$/);/'
     differs 'parameters exchanged' 's/size_t offset, const uint8_t \*bytes/const uint8_t *bytes, size_t offset/'
@@ -85,38 +108,56 @@ test_header() {
     differs 'kinds in another order' 's/CDPATCH_NOSYNC, CDPATCH_MODE0/CDPATCH_MODE0, CDPATCH_NOSYNC/'
     differs 'p and q exchanged' 's/uint8_t p; uint8_t q;/uint8_t q; uint8_t p;/'
     differs 'a field less' 's/bool edc; //'
+    differs 'a length by value' 's/size_t \*length/size_t length/'
+    differs 'a room that is not written' 's/uint8_t \*text, size_t room/const uint8_t *text, size_t room/'
+    differs 'image and script exchanged' '/cdpatch_apply/{s/\*image/*it/;s/\*script/*image/;s/\*it/*script/}'
+    differs 'output and log exchanged' 's/\*out, size_t out_size, uint8_t \*log/*log, size_t out_size, uint8_t *out/'
+    differs 'no carry' '/cdpatch_check/s/, bool carry//'
+    differs 'statuses in another order' 's/CDPATCH_DONE, CDPATCH_FOUND/CDPATCH_FOUND, CDPATCH_DONE/'
 }
 
 # ---- the calls
 
-# compiled_check ARCHIVE PROGRAM: the test in C with this library.
-compiled_check() { gcc -std=c99 -O2 "${strict[@]}" "$tests/library/check.c" "$1" -o "$2" 2> errors; }
+# compiled_test TEST LIBRARY PROGRAM: a test in C with this library.
+compiled_test() { gcc -std=c99 -O2 "${strict[@]}" "$tests/library/$1.c" "$2" -o "$3" 2> errors; }
 
 # wrong NAME: the test in C refuses the library that tests/library/wrong.c makes by this name.
 wrong() {
-    local call
+    local call test=check
     call=$(sed -n "/defined $1\$/,/^#el/s/^[a-z0-9_]* cdpatch_\([a-z_]*\)(.*/\1/p" "$tests/library/wrong.c")
+    [[ $call != @(list|audit|check|apply) ]] || test=images
     objcopy --redefine-sym "cdpatch_$call=right_$call" library/libcdpatch.a "$1.a" &&
-        gcc -O2 "${strict[@]}" "-D$1" "$tests/library/check.c" "$tests/library/wrong.c" "$1.a" -o "$1" 2> errors
+        gcc -O2 "${strict[@]}" "-D$1" "$tests/library/$test.c" "$tests/library/wrong.c" "$1.a" -o "$1" 2> errors
     judge "$1 compiles" test -x "$1"
-    judge "a library is refused of which $1" refuses "./$1" "$vectors"
+    judge "a library is refused in which $1" refuses "./$1" "$vectors"
+}
+
+# in_c TEST ARGUMENT..: a test in C, by each build, and as C++.
+in_c() {
+    local test=$1 build
+    shift
+    judge "$test.c compiles without a warning" compiled_test "$test" library/libcdpatch.a "$test"
+    judge "$test.c" holds "./$test" "$@"
+    for build in "${builds[@]}"; do
+        compiled_test "$test" "$build" "dynamic_$test"
+        judge "$test.c by $build" holds env LD_LIBRARY_PATH="${build%/*}" "./dynamic_$test" "$@"
+    done
+    if compiler g++ g++; then
+        g++ -x c++ "${strict[@]}" "$tests/library/$test.c" -x none library/libcdpatch.a -o "plus_$test" 2> errors
+        judge "$test.c as C++" holds "./plus_$test" "$@"
+    fi
+    missing valgrind valgrind "$test.c under valgrind" || judge "valgrind has no complaint about $test.c" holds valgrind -q \
+        --leak-check=full --error-exitcode=9 --log-file=complaints "./$test" "$vectors"
 }
 
 test_in_c() {
-    local build name
+    local name
     compiler gcc 'gcc and libc6-dev' || return
-    judge "check.c compiles without a warning" compiled_check library/libcdpatch.a check
-    judge 'the calls in C' holds ./check "$vectors"
-    for build in "${builds[@]}"; do
-        compiled_check "$build" dynamic_check
-        judge "the calls in C by $build" holds env LD_LIBRARY_PATH="${build%/*}" ./dynamic_check "$vectors"
-    done
-    if compiler g++ g++; then
-        g++ -x c++ "${strict[@]}" "$tests/library/check.c" -x none library/libcdpatch.a -o plus_check 2> errors
-        judge 'the calls in C++' holds ./plus_check "$vectors"
-    fi
-    missing valgrind valgrind 'the calls in C under valgrind' ||
-        judge 'valgrind has no remark' holds valgrind -q --error-exitcode=9 --log-file=remarks ./check "$vectors"
+    in_c check "$vectors"
+    in_c images "$vectors" long
+    gcc -O2 "${strict[@]}" -DREFUSES -Wl,--wrap=malloc,--wrap=realloc,--wrap=free "$tests/library/images.c" library/libcdpatch.a \
+        -o refusing 2> errors
+    judge 'images.c with memory refused' holds ./refusing "$vectors"
     missing objcopy binutils 'wrong libraries' && return
     while read -r name; do
         wrong "$name"
@@ -128,8 +169,20 @@ test_in_python() {
     missing python3 python3 'the library beside the model' && return
     for build in "${builds[@]}"; do
         judge "$count sectors by $build and by the model" holds python3 -B "$tests/library/model.py" "./$build" $count
+        judge "300 cases of tests/model by $build and by the program" holds python3 -B "$tests/library/images.py" \
+            "./$build" "$program"
         count=400
     done
+    # test_in_c has made this archive.
+    if [ -e CHECK_EXCHANGES_STATUSES.a ]; then
+        gcc -shared -fPIC -I "$top/include" -DCHECK_EXCHANGES_STATUSES "$tests/library/wrong.c" CHECK_EXCHANGES_STATUSES.a \
+            -o wrong.so 2> errors
+        judge 'a wrong shared library' test -e wrong.so
+        judge 'cases of tests/model refuse a wrong library' refuses python3 -B "$tests/library/images.py" ./wrong.so "$program" 40
+        judge 'so do the worked cases' refuses bash "$tests/cases/run" model --without-model --library ./wrong.so \
+            "$tests/cases/carried.txt"
+    fi
+    judge 'the worked cases by the library' holds bash "$tests/cases/run" model --without-model --library "./${builds[0]}"
 }
 
 # ---- the examples, and an installed tree
@@ -138,19 +191,21 @@ test_examples() {
     cp "$vectors" image
     if compiler gcc 'gcc and libc6-dev'; then
         gcc -O2 "${strict[@]}" "$top/examples/audit.c" library/libcdpatch.a -o audit 2> errors
-        judge 'examples/audit.c has no finding in a sound image' test "$(./audit image; echo $?)" = 0
+        judge 'examples/audit.c has no finding in a sound image' holds ./audit image
         printf '\001' | dd of=image bs=1 seek=$((2352 + 2351)) conv=notrunc status=none
         printf '\001' | dd of=image bs=1 seek=$((3 * 2352 + 13)) conv=notrunc status=none
         ./audit image > log
-        judge 'it has the findings of `cdpatch audit`' cmp -s log <("$program" audit image | sed '$d')
+        judge 'it has findings in a damaged one' test $? = 1
+        judge 'it prints what `cdpatch audit` does' cmp -s log <("$program" audit image)
     fi
     missing python3 python3 'the examples in Python' && return
-    cp "$vectors" image
     ln -sf libcdpatch.so.1 library/libcdpatch.so
-    judge 'examples/patch.py' test "$(LD_LIBRARY_PATH=library python3 -B "$top/examples/patch.py" image 1 16 HELLO)" = 'block 1: mode1, sound'
-    printf 'cdpatch 1\nset 1 16 48454C4C4F\n' > script
-    "$program" apply "$vectors" script wanted > log
-    judge 'it leaves what `cdpatch apply` writes' cmp -s image wanted
+    printf 'cdpatch 1\nset 1 16 48454C4C4F\nset 8 0 41\n' > script
+    "$program" apply "$vectors" script wanted > wanted.log
+    LD_LIBRARY_PATH=library python3 -B "$top/examples/patch.py" "$vectors" script out > log
+    judge 'examples/patch.py, of whose patches one is refused' test $? = 1
+    judge 'it prints what `cdpatch apply` does' cmp -s log wanted.log
+    judge 'it makes what `cdpatch apply` makes' cmp -s out wanted
     LD_LIBRARY_PATH=library python3 -B "$tests/library/examples.py" "$top/examples" > log 2>&1
     judge "examples/cdpatch.py: $(tail -n 1 log)" test "$(tail -n 1 log)" = right
 }

@@ -7,7 +7,7 @@ top=$(cd "$(dirname "$0")/.." && pwd)
 cd "$scratch" || exit 1
 
 # A repository whose rt, tools/prove.sh, tools/library.sh and tests/run write into `called` what they are called for.
-mkdir -p crates/cdpatch crates/cd_c tools tests bin
+mkdir -p crates/cdpatch crates/cd_c crates/cd_c_images tools tests bin
 cp "$top/Makefile" "$top/install.mk" .
 cat > bin/rt << 'EOF_RT'
 #!/usr/bin/env bash
@@ -17,7 +17,7 @@ echo 'what the program prints'
 [ -z "${BROKEN-}" ] || exit 1
 mkdir -p out
 made=out/cdpatch
-[ "$1" != lib ] || made=out/libcd_c.a
+[ "$1" != lib ] || made=out/lib$(basename "$PWD").a
 [ ! -d ../cd_bench ] || made=out/cd_bench
 echo 'by rt' > "$made"
 [ ! -d src ] || ls src >> "$made"
@@ -44,20 +44,25 @@ makes() {
 # called LINE..: whether the last run called just this.
 called() { cmp -s called <(printf '%s\n' "$@"); }
 
+# The calls that build the library by runs of rt.
+libraries=('rt in cd_c: lib --cpu x86-64-v3' 'rt in cd_c: lib' 'rt in cd_c_images: lib --cpu x86-64-v3' 'rt in cd_c_images: lib'
+    'library.sh: library')
+
 if ! missing make make 'what the Makefile does'; then
     makes SIMPLE=1
     judge 'make SIMPLE=1' test "$status" = 0
-    judge 'proves by runs of rt, where the program and the library stand' called 'rt in cdpatch: run' \
-        'rt in cd_c: lib --cpu x86-64-v3' 'rt in cd_c: lib' 'library.sh: library'
+    judge 'proves by runs of rt, where the program and the library stand' called 'rt in cdpatch: run' "${libraries[@]}"
+    judge 'each part of the library is built for both processors' test \
+        "$(ls crates/cd_c/out crates/cd_c_images/out | grep -c '^libcd_c.*\.a$')" = 4
     judge 'the program gets nothing to list' test ! -s called.input
     judge 'and what it prints is not shown' eval '! grep -q "what the program prints" log'
     judge 'the program is what rt built' test "$(cat cdpatch)" = 'by rt'
     makes SIMPLE=1 CPU=x86-64-v3
     judge 'the processor is handed on' called 'rt in cdpatch: run --cpu x86-64-v3' \
-        'rt in cd_c: lib --cpu x86-64-v3' 'rt in cd_c: lib --cpu x86-64-v3' 'library.sh: library'
+        'rt in cd_c: lib --cpu x86-64-v3' 'rt in cd_c: lib --cpu x86-64-v3' \
+        'rt in cd_c_images: lib --cpu x86-64-v3' 'rt in cd_c_images: lib --cpu x86-64-v3' 'library.sh: library'
     makes SIMPLE=1 -j 4
-    judge 'with -j too they come one by one' called 'rt in cdpatch: run' 'rt in cd_c: lib --cpu x86-64-v3' \
-        'rt in cd_c: lib' 'library.sh: library'
+    judge 'with -j too they come one by one' called 'rt in cdpatch: run' "${libraries[@]}"
     rm cdpatch
     BROKEN=1 makes SIMPLE=1
     judge 'what rt refuses fails' test "$status" = 2
@@ -66,18 +71,18 @@ if ! missing make make 'what the Makefile does'; then
     judge 'no program is not tested' test "$status" = 2 -a ! -s called
     judge 'and that is said' grep -q 'There is no cdpatch to test: run make first' log
     makes
-    judge 'without SIMPLE tools/prove.sh proves' called 'prove.sh: cdpatch cd_c  ' 'library.sh: library'
+    judge 'without SIMPLE tools/prove.sh proves' called 'prove.sh: cdpatch cd_c cd_c_images  ' 'library.sh: library'
     judge 'the program is what it built' test "$(cat cdpatch)" = 'by prove.sh'
     makes SIMPLE=
-    judge 'an empty SIMPLE is none' called 'prove.sh: cdpatch cd_c  ' 'library.sh: library'
+    judge 'an empty SIMPLE is none' called 'prove.sh: cdpatch cd_c cd_c_images  ' 'library.sh: library'
     makes -j 3 CPU=x86-64-v3
-    judge 'it gets the number and the processor' called 'prove.sh: cdpatch cd_c 3 x86-64-v3' 'library.sh: library'
+    judge 'it gets the number and the processor' called 'prove.sh: cdpatch cd_c cd_c_images 3 x86-64-v3' 'library.sh: library'
     makes check
     judge 'make check tests what make left' called 'tests: cdpatch '
     makes check WHOLE=1
     judge 'WHOLE is handed on' called 'tests: cdpatch 1'
     makes quick
-    judge 'make quick proves and tests' called 'prove.sh: cdpatch cd_c  ' 'library.sh: library' 'tests: cdpatch '
+    judge 'make quick proves and tests' called 'prove.sh: cdpatch cd_c cd_c_images  ' 'library.sh: library' 'tests: cdpatch '
 
     mkdir -p bench/src
     cp "$top/bench/build" bench

@@ -1,7 +1,8 @@
-"""Who answers the questions of worked cases: the model, and a program."""
+"""Who answers the questions of worked cases: the model, a program, and a library."""
 
 import re
 import subprocess
+import sys
 import tempfile
 from pathlib import Path
 
@@ -9,6 +10,9 @@ from forms import COMMANDS, Answer, listed
 from image import answer
 from script import ordered, script
 from sector import COLUMNS, DIAGONALS, SIZE, address_of, edc_bytes, parity, power, syndromes, times
+
+sys.path.insert(0, str(Path(__file__).resolve().parent.parent / 'library'))
+import commands  # noqa: E402
 
 TIME = 300  # seconds, which no command takes
 
@@ -50,12 +54,8 @@ def parity_changes(place, amount):
     return [(i, made[i]) for i in range(2076, SIZE) if made[i]]
 
 
-class Program:
-    """A program with the arguments of cdpatch, which answers what a command can show. A library answers by one more class."""
-
-    def __init__(self, path):
-        self.path = str(Path(path).resolve())
-        self.name = 'the program'
+class Commands:
+    """Runs the commands by a method `run` of its class, and so answers what a command can show."""
 
     def answer(self, call, given):
         if call in COMMANDS:
@@ -65,6 +65,26 @@ class Program:
             told = self.run('check', *given).text
             return ' '.join(re.findall(r'^line (\d+): ', told, re.MULTILINE)) or '-'
         return None
+
+
+class Library(Commands):
+    """A shared library with the calls of cdpatch.h on images."""
+    name = 'the library'
+
+    def __init__(self, path):
+        self.path = str(Path(path).resolve())
+
+    def run(self, command, image, base, carry, text):
+        status, told, out = commands.run(self.path, command, image, base, carry, text)
+        return Answer(status, told.decode('utf-8', 'replace'), out)
+
+
+class Program(Commands):
+    """A program with the arguments of cdpatch."""
+
+    def __init__(self, path):
+        self.path = str(Path(path).resolve())
+        self.name = 'the program'
 
     def run(self, command, image, base, carry, text):
         with tempfile.TemporaryDirectory() as name:

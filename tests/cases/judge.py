@@ -1,11 +1,11 @@
-"""Judges each line of worked cases by the model and by a program: `run PROGRAM [FILE..]`, `run model [FILE..]`."""
+"""Judges each line of worked cases by the model, by a program and by a library: `run PROGRAM [FILE..]`, `run model [FILE..]`."""
 
 import argparse
 import sys
 from functools import partial
 from multiprocessing import Pool
 
-from answers import Model, Program
+from answers import Library, Model, Program
 from forms import SIZE, Answer, worked_lines
 
 SHOWN = 300  # so many characters of a text
@@ -71,15 +71,17 @@ def size(line):
 
 
 def judges_named():
-    """The judges, and the words of the call."""
-    words = argparse.ArgumentParser(prog='tests/cases/run', description='Judges worked cases by the model and by a program.')
-    words.add_argument('program', help="the program, or 'model' for the model alone")
-    words.add_argument('files', nargs='*', help='files of cases in place of all')
-    words.add_argument('--without-model', action='store_true', help='judges by the program only')
+    """The judges, and the arguments of the call."""
+    words = argparse.ArgumentParser(prog='tests/cases/run', description='Judges worked cases by model, program and library.')
+    words.add_argument('program', help="the program, or 'model' for only the model")
+    words.add_argument('files', nargs='*', help='files of cases; all if there are none')
+    words.add_argument('--without-model', action='store_true', help='does not ask the model')
+    words.add_argument('--library', help='a shared library to ask too')
     words.add_argument('--first', action='store_true', help='ends at the first failure, the shortest lines first')
     given = words.parse_args()
     judges = [] if given.without_model else [Model()]
-    return judges + ([] if given.program == 'model' else [Program(given.program)]), given
+    judges += [] if given.program == 'model' else [Program(given.program)]
+    return judges + ([] if given.library is None else [Library(given.library)]), given
 
 
 def main():

@@ -1,32 +1,7 @@
 /* The calls of libcdpatch from C: `check SAMPLES`, a file of consistent sectors of other encoders. Prints what fails, and answers
  * whether nothing does. Each call is made on memory that ends, and on memory that begins, where no byte may be touched. */
 #define _DEFAULT_SOURCE
-#include <cdpatch.h>
-#include <stdio.h>
-#include <stdlib.h>
-#include <string.h>
-#include <sys/mman.h>
-
-enum { PAGE = 4096 };
-
-static int failures;
-
-static void judge(bool holds, const char *what, unsigned number) {
-    if (!holds) {
-        printf("sample %u: %s\n", number, what);
-        failures++;
-    }
-}
-
-/* So many bytes between two pages that may not be touched: at the end of the pages between, or at their beginning. */
-static uint8_t *fenced(size_t size, bool at_end) {
-    uint8_t *pages = (uint8_t *)mmap(NULL, 3 * PAGE, PROT_READ | PROT_WRITE, MAP_PRIVATE | MAP_ANONYMOUS, -1, 0);
-    if (pages == MAP_FAILED || mprotect(pages, PAGE, PROT_NONE) || mprotect(pages + 2 * PAGE, PAGE, PROT_NONE)) {
-        perror("fenced");
-        exit(2);
-    }
-    return pages + (at_end ? 2 * PAGE - size : (size_t)PAGE);
-}
+#include "fenced.h"
 
 static bool has_defect(const uint8_t *sector, bool zeros, bool edc, unsigned p, unsigned q) {
     struct cdpatch_defect found;
@@ -35,7 +10,7 @@ static bool has_defect(const uint8_t *sector, bool zeros, bool edc, unsigned p, 
     return found.zeros == zeros && found.edc == edc && found.p == p && found.q == q;
 }
 
-/* A sound sector is told of as one, and made of its parts. */
+/* A sound sector is found to be one, and is made from its parts. */
 static void check_codes(const uint8_t *sample, uint8_t *sector, uint8_t *user, uint8_t *address, unsigned n) {
     uint32_t word = cdpatch_edc(sector, 2064);
     judge(cdpatch_is_consistent(sector), "is consistent", n);
@@ -69,7 +44,7 @@ static void check_changes(const uint8_t *sample, uint8_t *sector, uint8_t *user,
     judge(cdpatch_carry_address(sector, sample + 12) == CDPATCH_OK, "carry_address", n);
     sector[2351] ^= 1;
     sector[2070] ^= 1;
-    judge(!memcmp(sector, sample, CDPATCH_SECTOR_SIZE), "what is carried differs in the damage alone", n);
+    judge(!memcmp(sector, sample, CDPATCH_SECTOR_SIZE), "what is carried differs only in the damage", n);
     sector[2064] ^= 1;
     judge(!cdpatch_is_consistent(sector), "is damaged", n);
     judge(cdpatch_rebuild(sector) == CDPATCH_OK && !memcmp(sector, sample, CDPATCH_SECTOR_SIZE), "rebuild", n);
@@ -90,7 +65,7 @@ static void check_refusals(uint8_t *sector, uint8_t *user, uint8_t *address, uns
     judge(has_defect(sector, false, true, 1, 1), "defect of one byte", n);
     memcpy(kept, sector, sizeof kept);
     judge(cdpatch_change_user(sector, 0, user, 1) == CDPATCH_DAMAGED, "change_user of a damaged sector", n);
-    judge(cdpatch_change_user(sector, 2048, user, 1) == CDPATCH_DAMAGED, "damage is asked before the range", n);
+    judge(cdpatch_change_user(sector, 2048, user, 1) == CDPATCH_DAMAGED, "damage is tested before the range", n);
     judge(cdpatch_change_address(sector, address) == CDPATCH_DAMAGED, "change_address of a damaged sector", n);
     judge(!memcmp(sector, kept, sizeof kept), "a refusal for damage leaves the sector", n);
     for (uint8_t mode = 0; mode < 5; mode++) {

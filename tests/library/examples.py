@@ -1,4 +1,4 @@
-"""Each call of examples/cdpatch.py on one sector: `examples.py FOLDER`. Prints 'right' last."""
+"""Each call of examples/cdpatch.py: `examples.py DIRECTORY`. Prints 'right' last."""
 
 import sys
 
@@ -28,4 +28,17 @@ assert fails(cdpatch.Damaged, cdpatch.with_user, damaged, 0, b'\x41') and fails(
 assert fails(cdpatch.OutOfRange, cdpatch.with_user, sector, 2048, b'\x41')
 assert fails(cdpatch.OutOfRange, cdpatch.with_user, sector, -1, b'')
 assert fails(ValueError, cdpatch.is_consistent, sector[:-1])
+image = sector + damaged
+assert cdpatch.list(image, 16) == '16-17 mode1\nsectors 2 tail 0\n' and cdpatch.list(b'') == 'sectors 0 tail 0\n'
+assert cdpatch.audit(sector, 16) == ('sectors 1 mode1 1 damaged 0 tail 0\n', False)
+assert cdpatch.audit(image, 16) == ('17 address q=1\nsectors 2 mode1 2 damaged 1 tail 0\n', True)
+script = b'cdpatch 1\nset 16 0 41\nset 17 0 41\n'
+refused = 'line 2: applied\nline 3: refused: block 17 is damaged\napplied 1 refused 1\n'
+assert cdpatch.check(image, script, 16) == (refused, True)
+assert cdpatch.apply(image, script, 16) == (cdpatch.with_user(sector, 0, b'\x41') + damaged, refused, True)
+carried = cdpatch.apply(bytearray(image), script, 16, carry=True)
+assert carried.image[2352:] == cdpatch.with_user(damaged, 0, b'\x41', carry=True) and not carried.found
+assert fails(cdpatch.Failed, cdpatch.apply, image, b'cdpatch 3') and fails(cdpatch.Failed, cdpatch.check, image, b'')
+assert fails(cdpatch.Failed, cdpatch.list, image, 449850) and fails(cdpatch.Failed, cdpatch.audit, image, -1)
+assert cdpatch.apply(b'', b'cdpatch 1') == (b'', 'applied 0 refused 0\n', False)
 print('right')

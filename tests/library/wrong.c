@@ -1,5 +1,5 @@
-/* Wrong libraries, each by one name given to the compiler: the call of that name is this one, which goes to the right one as
- * right_NAME and spoils what it did. */
+/* Wrong libraries, each compiled with one name defined: here is its wrong call, which calls the right one as right_CALL and spoils
+ * what that did. */
 #include <cdpatch.h>
 #include <string.h>
 
@@ -10,13 +10,13 @@ void cdpatch_encode(const uint8_t *address, const uint8_t *user, uint8_t *sector
     right_encode(address, user, sector);
     sector[2351] = last;
 }
-#elif defined IS_CONSISTENT_READS_BEHIND
+#elif defined IS_CONSISTENT_READS_AFTER_THE_SECTOR
 bool right_is_consistent(const uint8_t *sector);
 bool cdpatch_is_consistent(const uint8_t *sector) {
     volatile uint8_t next = sector[2352];
     return (void)next, right_is_consistent(sector);
 }
-#elif defined KIND_READS_BEFORE
+#elif defined KIND_READS_BEFORE_THE_SECTOR
 uint32_t right_kind(const uint8_t *sector);
 uint32_t cdpatch_kind(const uint8_t *sector) {
     volatile uint8_t last = *(sector - 1);
@@ -79,5 +79,95 @@ uint32_t cdpatch_carry_address(uint8_t *sector, const uint8_t *address) {
     uint32_t result = right_carry_address(sector, address);
     memcpy(sector + 2064, word, 4);
     return result;
+}
+#elif defined LIST_WRITES_AFTER_THE_TEXT
+uint32_t right_list(const uint8_t *image, size_t size, uint32_t base, uint8_t *text, size_t room, size_t *length);
+uint32_t cdpatch_list(const uint8_t *image, size_t size, uint32_t base, uint8_t *text, size_t room, size_t *length) {
+    uint32_t status = right_list(image, size, base, text, room, length);
+    text[*length] = 0;
+    return status;
+}
+#elif defined LIST_READS_AFTER_THE_IMAGE
+uint32_t right_list(const uint8_t *image, size_t size, uint32_t base, uint8_t *text, size_t room, size_t *length);
+uint32_t cdpatch_list(const uint8_t *image, size_t size, uint32_t base, uint8_t *text, size_t room, size_t *length) {
+    volatile uint8_t next = image[size];
+    return (void)next, right_list(image, size, base, text, room, length);
+}
+#elif defined LIST_ENDS_WELL_IN_A_SMALL_ROOM
+uint32_t right_list(const uint8_t *image, size_t size, uint32_t base, uint8_t *text, size_t room, size_t *length);
+uint32_t cdpatch_list(const uint8_t *image, size_t size, uint32_t base, uint8_t *text, size_t room, size_t *length) {
+    uint32_t status = right_list(image, size, base, text, room, length);
+    return *length == room ? CDPATCH_DONE : status;
+}
+#elif defined AUDIT_FORGETS_THE_LENGTH
+uint32_t right_audit(const uint8_t *image, size_t size, uint32_t base, uint8_t *text, size_t room, size_t *length);
+uint32_t cdpatch_audit(const uint8_t *image, size_t size, uint32_t base, uint8_t *text, size_t room, size_t *length) {
+    size_t forgotten = 0;
+    (void)length;
+    return right_audit(image, size, base, text, room, &forgotten);
+}
+#elif defined AUDIT_TAKES_ANY_BASE
+uint32_t right_audit(const uint8_t *image, size_t size, uint32_t base, uint8_t *text, size_t room, size_t *length);
+uint32_t cdpatch_audit(const uint8_t *image, size_t size, uint32_t base, uint8_t *text, size_t room, size_t *length) {
+    return right_audit(image, size, base > 449849 ? 449849 : base, text, room, length);
+}
+#elif defined CHECK_EXCHANGES_STATUSES
+uint32_t right_check(const uint8_t *image, size_t size, const uint8_t *script, size_t script_size, uint32_t base, bool carry,
+                     uint8_t *log, size_t room, size_t *length);
+uint32_t cdpatch_check(const uint8_t *image, size_t size, const uint8_t *script, size_t script_size, uint32_t base, bool carry,
+                       uint8_t *log, size_t room, size_t *length) {
+    uint32_t status = right_check(image, size, script, script_size, base, carry, log, room, length);
+    return status == CDPATCH_FAILED ? status : 1 - status;
+}
+#elif defined CHECK_READS_BEFORE_THE_SCRIPT
+uint32_t right_check(const uint8_t *image, size_t size, const uint8_t *script, size_t script_size, uint32_t base, bool carry,
+                     uint8_t *log, size_t room, size_t *length);
+uint32_t cdpatch_check(const uint8_t *image, size_t size, const uint8_t *script, size_t script_size, uint32_t base, bool carry,
+                       uint8_t *log, size_t room, size_t *length) {
+    volatile uint8_t last = *(script - 1);
+    return (void)last, right_check(image, size, script, script_size, base, carry, log, room, length);
+}
+#elif defined CHECK_NEVER_CARRIES
+uint32_t right_check(const uint8_t *image, size_t size, const uint8_t *script, size_t script_size, uint32_t base, bool carry,
+                     uint8_t *log, size_t room, size_t *length);
+uint32_t cdpatch_check(const uint8_t *image, size_t size, const uint8_t *script, size_t script_size, uint32_t base, bool carry,
+                       uint8_t *log, size_t room, size_t *length) {
+    return (void)carry, right_check(image, size, script, script_size, base, false, log, room, length);
+}
+#elif defined APPLY_LEAVES_THE_LAST_BYTE
+uint32_t right_apply(const uint8_t *image, size_t size, const uint8_t *script, size_t script_size, uint32_t base, bool carry,
+                     uint8_t *out, size_t out_size, uint8_t *log, size_t room, size_t *length);
+uint32_t cdpatch_apply(const uint8_t *image, size_t size, const uint8_t *script, size_t script_size, uint32_t base, bool carry,
+                       uint8_t *out, size_t out_size, uint8_t *log, size_t room, size_t *length) {
+    uint8_t last = size && out_size >= size ? out[size - 1] : 0;
+    uint32_t status = right_apply(image, size, script, script_size, base, carry, out, out_size, log, room, length);
+    if (size && out_size >= size) out[size - 1] = last;
+    return status;
+}
+#elif defined APPLY_WRITES_AFTER_THE_IMAGE
+uint32_t right_apply(const uint8_t *image, size_t size, const uint8_t *script, size_t script_size, uint32_t base, bool carry,
+                     uint8_t *out, size_t out_size, uint8_t *log, size_t room, size_t *length);
+uint32_t cdpatch_apply(const uint8_t *image, size_t size, const uint8_t *script, size_t script_size, uint32_t base, bool carry,
+                       uint8_t *out, size_t out_size, uint8_t *log, size_t room, size_t *length) {
+    uint32_t status = right_apply(image, size, script, script_size, base, carry, out, out_size, log, room, length);
+    if (status != CDPATCH_FAILED && out_size > size) memset(out + size, 0, out_size - size);
+    return status;
+}
+#elif defined APPLY_TAKES_A_SMALL_OUTPUT
+uint32_t right_apply(const uint8_t *image, size_t size, const uint8_t *script, size_t script_size, uint32_t base, bool carry,
+                     uint8_t *out, size_t out_size, uint8_t *log, size_t room, size_t *length);
+uint32_t cdpatch_apply(const uint8_t *image, size_t size, const uint8_t *script, size_t script_size, uint32_t base, bool carry,
+                       uint8_t *out, size_t out_size, uint8_t *log, size_t room, size_t *length) {
+    size_t taken = size < out_size ? size : out_size;
+    return right_apply(image, taken, script, script_size, base, carry, out, out_size, log, room, length);
+}
+#elif defined APPLY_COPIES_AFTER_AN_INVALID_SCRIPT
+uint32_t right_apply(const uint8_t *image, size_t size, const uint8_t *script, size_t script_size, uint32_t base, bool carry,
+                     uint8_t *out, size_t out_size, uint8_t *log, size_t room, size_t *length);
+uint32_t cdpatch_apply(const uint8_t *image, size_t size, const uint8_t *script, size_t script_size, uint32_t base, bool carry,
+                       uint8_t *out, size_t out_size, uint8_t *log, size_t room, size_t *length) {
+    uint32_t status = right_apply(image, size, script, script_size, base, carry, out, out_size, log, room, length);
+    if (status == CDPATCH_FAILED && !script_size) memcpy(out, image, size < out_size ? size : out_size);
+    return status;
 }
 #endif

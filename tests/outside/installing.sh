@@ -6,7 +6,8 @@ files() { (cd "$1" && find . ! -type d | sort); }
 installed_for_a_package() {
     judge 'make install' built install DESTDIR="$PWD/root" PREFIX=/usr
     : > wanted
-    printf '%s\n' libdir=/usr/lib includedir=/usr/include '' 'Name: cdpatch' 'Description: EDC and P/Q parity of CD-ROM sectors' \
+    printf '%s\n' libdir=/usr/lib includedir=/usr/include '' 'Name: cdpatch' \
+        'Description: EDC and P/Q parity of CD-ROM sectors, and patches of CD images' \
         "Version: $(cdpatch --help | sed -n '$s/cdpatch //p')" 'Libs: -L${libdir} -lcdpatch' 'Cflags: -I${includedir}' > cdpatch.pc
     while read -r path source <&3; do
         judge "$path is $source" cmp -s "$source" "root/$path"

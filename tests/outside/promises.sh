@@ -4,8 +4,8 @@
 
 enter promises
 library_crates=(cd_code cd_sector cd_delta cd_script cd_patch cd_stream cd_read cd_report cd_image cd_command cd_jobs cd_memory)
-# Those, and what C calls: a static library, which no crate of tests can stand on.
-crates_with_contracts=("${library_crates[@]}" cd_c)
+# Those, and what C calls: static libraries, which no crate of tests can stand on.
+crates_with_contracts=("${library_crates[@]}" cd_c cd_c_images)
 contracts=$top/docs/CONTRACTS.md
 map=$top/docs/MAP.md
 

@@ -10,8 +10,9 @@ bash "$top/tests/reading_list.sh" > list
 judge 'the reading list is that of the sources (bash tests/reading_list.sh --write)' cmp -s wanted list
 
 # The promises of docs/TRUST.md on what is in the crates: no statement that is taken on trust, and nothing in another language.
-judge 'no unsafe code and no functions of C in the crates, but exports of cd_c' test -z "$(grep -rnwE --include='*.rt' --exclude-dir=out \
-    'unsafe|extern' "$top/crates" | grep -vE '^[^:]*/cd_c/src/[a-z]*\.rt:[0-9]*:(#\[unsafe\(no_mangle\)\]$|pub extern "C" fn cdpatch_[a-z_]*\()')"
+foreign=$(grep -rnwE --include='*.rt' --exclude-dir=out 'unsafe|extern' "$top/crates" |
+    grep -vE '^[^:]*/cd_c(_images)?/src/[a-z]*\.rt:[0-9]*:(#\[unsafe\(no_mangle\)\]$|pub extern "C" fn cdpatch_[a-z_]*\()')
+judge 'no unsafe code and no functions of C in the crates, but exports of cd_c and cd_c_images' test -z "$foreign"
 judge 'no axiom and no hole in the crates' \
     test -z "$(grep -rnE --include='*.antt' --exclude-dir=out '(^|[^-A-Za-z_])axiom([^-A-Za-z_]|$)|[=(] *\?' "$top/crates")"
 judge 'no file of C in the crates' test -z "$(find "$top/crates" -name out -prune -o -name '*.[chS]' -print)"
@@ -51,7 +52,8 @@ fi
 
 # docs/MAP.md says what the code of each crate uses of the others.
 tr '\n' ' ' < "$top/docs/MAP.md" > map
-for crate in cd_code cd_sector cd_delta cd_script cd_patch cd_stream cd_read cd_report cd_image cd_command cd_jobs cdpatch cd_c; do
+for crate in cd_code cd_sector cd_delta cd_script cd_patch cd_stream cd_read cd_report cd_image cd_command cd_jobs cdpatch cd_c \
+    cd_c_images; do
     mapfile -t used < <(find "$top/crates/$crate/src" -name '*.rt' ! -path '*/tests/*' ! -name tests.rt -exec \
         sed -nE 's/^ *(pub )?use (cd_[a-z]+)::.*/\2/p' {} + | sort -u)
     words=$(printf ', %s' "${used[@]}")

@@ -77,8 +77,12 @@ for page in README.md docs/SCRIPTS.md docs/TRANSLATE.md docs/REPAIR.md docs/INST
     found=$(plain_text "$top/$page" | phrases_in)
     judge "$page has phrases to rewrite: ${found:-none}" test -z "$found"
 done
-found=$(manual_text "$top/man/cdpatch.1" | phrases_in)
-judge "the man page has phrases to rewrite: ${found:-none}" test -z "$found"
+for page in cdpatch.1 libcdpatch.3; do
+    found=$(manual_text "$top/man/$page" | phrases_in)
+    judge "$page has phrases to rewrite: ${found:-none}" test -z "$found"
+done
+found=$(sed 's/^ \* //' "$top/include/cdpatch.h" | tr '\n' ' ' | phrases_in)
+judge "cdpatch.h has phrases to rewrite: ${found:-none}" test -z "$found"
 found=$(for command in '' list audit check apply; do cdpatch $command --help; done | tr '\n' ' ' | phrases_in)
 judge "help has phrases to rewrite: ${found:-none}" test -z "$found"
 # A sentence of each kind, as the pages had it once, is found.

@@ -33,7 +33,8 @@ mod system;
 
 pub use host::{Host, OpenFault};
 pub use jobs::{Settings, do_words};
+pub use messages::load_fault_line;
 pub use program::run_program;
-pub use run::{run_apply, run_audit, run_check, run_list};
+pub use run::{fail, run_apply, run_audit, run_check, run_list};
 pub use script::{LoadFault, load_script, read_script};
 pub use system::System;

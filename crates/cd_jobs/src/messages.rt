@@ -41,6 +41,8 @@ pub(crate) fn open_fault_line(refused: &'static str, fault: OpenFault) -> &'stat
 }
 
 /// The line of a fault of a script's file.
+///
+/// See the example of [`fail`].
 #[tactic(auto, unfolding(crate::specs::Messages::load_fault_line))]
 pub fn load_fault_line(fault: LoadFault) -> &'static str
     ensures { result.now ≡ load_fault_line fault }

@@ -40,6 +40,16 @@ pub(crate) fn say<O: Sink>(line: &[u8], out: &mut O) -> Result<(), SinkFailed>
 }
 
 /// Prints a line, and answers the status 2.
+///
+/// # Examples
+///
+/// ```
+/// let mut space = [0; 64];
+/// let mut out = SliceSink::new(&mut space);
+/// let line = load_fault_line(LoadFault::TooLong);
+/// assert_eq!(rt; fail(line.as_bytes(), &mut out), 2);
+/// assert!(rt; out.written().starts_with(b"cdpatch: the script is longer"));
+/// ```
 pub fn fail<O: Sink>(line: &[u8], out: &mut O) -> u8
     requires { MayCount (O.seen out.old).failures }
     ensures line { SaysLine line.now (O.seen out.old) (O.seen out.new) }

@@ -1,4 +1,4 @@
-mod KnownLemmas
+pub mod KnownLemmas
 mod MemoryLemmas
 mod PrintLemmas
 mod ReportLemmas

@@ -3,7 +3,8 @@
 use cd_command::{Job, LineFault, NO_MEMORY, job_of, refusal_line};
 use cd_image::{FailAfter, SliceSink, SliceSource, ToWrite, ZeroSource};
 use cd_jobs::{
-    Host, System, do_words, load_script, read_script, run_apply, run_audit, run_check, run_list,
+    Host, LoadFault, System, do_words, fail, load_fault_line, load_script, read_script, run_apply,
+    run_audit, run_check, run_list,
 };
 use cd_memory::{File, Memory, run_on_files};
 use cd_script::parse;
@@ -49,6 +50,12 @@ fn scripts_and_their_files(rt: HostRuntime) {
 
 #[test]
 fn statuses(rt: HostRuntime) -> Result<(), Fail> {
+    let mut space = [0; 64];
+    let mut out = SliceSink::new(&mut space);
+    let line = load_fault_line(LoadFault::TooLong);
+    assert_eq!(rt; fail(line.as_bytes(), &mut out), 2);
+    assert!(rt; out.written().starts_with(b"cdpatch: the script is longer"));
+
     let mut space = [0; 64];
     let mut out = SliceSink::new(&mut space);
     assert_eq!(rt; run_list(&mut ZeroSource::new(2352), 7, &mut out), 0);

@@ -1,0 +1,6 @@
+mod CommandLemmas
+mod FrontLemmas
+mod GrowLemmas
+mod PatchFrontLemmas
+mod PlainLemmas
+mod RoomLemmas

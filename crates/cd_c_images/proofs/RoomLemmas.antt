@@ -1,0 +1,177 @@
+-- A room over a slice.
+use Rattle.std.proofs.Common.{◌≡◌, ℕ, ◌+◌, Bool, List, ◌∷◌, ◌++◌, length, drop, take}
+use Rattle.std.proofs.Common.{Some, refl, sym, ap, ◌∙◌, subst, append_assoc, arith, length-append}
+use Rattle.std.proofs.Math.Seq.{drop-append_seam, take-append_seam}
+use Rattle.std.proofs.lemmas.List.{drop-drop, length-take-le, take-append-drop}
+use Rattle.cd_memory.proofs.KnownLemmas.{Some-injective}
+use Rattle.cd_memory.specs.Memory.{fresh_outgoing}
+use Rattle.cd_report.specs.Report.{ReportSpec}
+use Rattle.cd_stream.specs.Stream.{Outgoing}
+use Rattle.cd_c_images.specs.Images.{AppliesOn, ChecksOn, ReportsOn}
+use Rattle.cd_c_images.specs.Rooms.{Fills, FillsCounted, FillsRoom, front_of, lent_to}
+use Rattle.cd_c_images.specs.Rooms.{named_outgoing, room_outgoing, room_written}
+use Rattle.cd_c_images.specs.declared.room.Room.{Room}
+use Rattle.cd_c_images.proofs.FrontLemmas.{Has, ReportsOn-without, without}
+use Rattle.cd_c_images.proofs.GrowLemmas.{Grew, applies-grow, checks-grow, reports-grow}
+use Rattle.cd_c_images.proofs.PatchFrontLemmas.{AppliesOn-without, ChecksOn-without}
+
+-- ---- a write keeps what a room knows
+
+pub rest-written : (n used : ℕ) (old new lent : List ℕ) → drop (used + n) new ≡ drop (used + n) old
+    → drop used old ≡ drop used lent → drop (used + n) new ≡ drop (used + n) lent
+rest-written n used old new lent kept was =
+    kept ∙ sym (drop-drop n used old) ∙ ap (drop n) was ∙ drop-drop n used lent
+
+pub after-front : (front old new bytes : List ℕ) → new ≡ old ++ bytes
+    → front ++ new ≡ (front ++ old) ++ bytes
+after-front front old new bytes same =
+    ap (λ t. front ++ t) same ∙ sym (append_assoc front old bytes)
+
+-- ---- the room is found again
+
+-- a room stands over the slice that another one stood over
+pub record SameRoom (was now : Room) : Type 0 where
+  pub name : now.space.ghost_name ≡ was.space.ghost_name
+  pub bytes : (lent_to now).now ≡ (lent_to was).now
+
+-- it does if it has got more bytes
+found : (was now : Room)
+    → Grew (front_of (lent_to was) ++ room_written was) (named_outgoing now) → SameRoom was now
+unfolding front_of
+found was now grew =
+    let start = lent_to was in
+    let lent = lent_to now in
+    let sent = room_written was ++ grew.0 in
+    let same : front_of lent ++ room_written now ≡ front_of start ++ sent =
+    Some-injective (grew.1 ∙ ap Some (append_assoc (front_of start) (room_written was) grew.0)) in
+    let size : length lent.now ≡ length start.now = cc in
+    let both : lent.now ++ room_written now ≡ start.now ++ sent = cc in
+    let name : lent.ghost_name ≡ start.ghost_name = cc in
+    record {
+      name = now.same_slice ∙ name ∙ sym was.same_slice;
+      bytes = sym (take-append_seam lent.now (room_written now))
+          ∙ ap (take (length lent.now)) both ∙ ap (λ n. take n (start.now ++ sent)) size
+          ∙ take-append_seam start.now sent;
+    }
+
+-- ---- what it has got, without what was lent
+
+same-size : (was now : Room) → SameRoom was now
+    → length (front_of (lent_to now)) ≡ length (front_of (lent_to was))
+unfolding front_of
+same-size was now same = ap (λ b. length (0 ∷ 0 ∷ b)) same.bytes
+
+named-has : (r : Room) → Has (length (front_of (lent_to r))) (named_outgoing r)
+named-has r = record {
+  bytes = front_of (lent_to r) ++ room_written r;
+  known = refl;
+  enough = omega (arith, length-append (front_of (lent_to r)) (room_written r));
+}
+
+without-front : (n : ℕ) (r : Room) → length (front_of (lent_to r)) ≡ n
+    → without n (named_outgoing r) ≡ room_outgoing r
+without-front n r size =
+    ap (λ w. record (room_outgoing r) { written = Some w })
+    (ap (λ k. drop k (front_of (lent_to r) ++ room_written r)) (sym size)
+    ∙ drop-append_seam (front_of (lent_to r)) (room_written r))
+
+bare : (Does : Outgoing → Outgoing → Type 0) (was now : Room) → SameRoom was now
+    → Does (without (length (front_of (lent_to was))) (named_outgoing was))
+    (without (length (front_of (lent_to was))) (named_outgoing now))
+    → Does (room_outgoing was) (room_outgoing now)
+bare Does was now same does =
+    let n = length (front_of (lent_to was)) in
+    subst (λ o. Does o (room_outgoing now)) (without-front n was refl)
+    (subst (Does (without n (named_outgoing was)))
+    (without-front n now (same-size was now same)) does)
+
+-- ---- commands over rooms
+
+pub reports-room : {T : Type 0} {spec : ReportSpec T} {status_of : T → ℕ} {base : ℕ}
+    {image : List ℕ} {status : ℕ} (was now : Room)
+    → ReportsOn spec status_of base image (named_outgoing was) (named_outgoing now) status
+    → SameRoom was now
+    × ReportsOn spec status_of base image (room_outgoing was) (room_outgoing now) status
+reports-room {spec = spec} {status_of = status_of} {base = base} {image = image} {status = status}
+    was now does =
+    let same = found was now (reports-grow _ _ _ refl does) in (
+      same,
+      bare (λ o o'. ReportsOn spec status_of base image o o' status) was now same
+          (ReportsOn-without _ _ _ (named-has was) does),
+    )
+
+module _ {carry : Bool} {base : ℕ} {image text : List ℕ} {status : ℕ} where
+  pub checks-room : (was now : Room)
+      → ChecksOn carry base image text (named_outgoing was) (named_outgoing now) status
+      → SameRoom was now
+      × ChecksOn carry base image text (room_outgoing was) (room_outgoing now) status
+  checks-room was now does =
+      let same = found was now (checks-grow _ _ _ refl does) in (
+        same,
+        bare (λ o o'. ChecksOn carry base image text o o' status) was now same
+            (ChecksOn-without _ _ _ (named-has was) does),
+      )
+
+  pub applies-rooms : (out out' log log' : Room)
+      → AppliesOn carry base image text (named_outgoing out) (named_outgoing out')
+      (named_outgoing log) (named_outgoing log') status
+      → SameRoom out out' × SameRoom log log'
+      × AppliesOn carry base image text (room_outgoing out) (room_outgoing out')
+      (room_outgoing log) (room_outgoing log') status
+  applies-rooms out out' log log' does =
+      let grew = applies-grow _ _ _ _ _ _ refl refl does in
+      let same_out = found out out' grew.1 in
+      let same_log = found log log' grew.0 in
+      let n = length (front_of (lent_to log)) in (
+        same_out,
+        same_log,
+        bare (λ o o'. AppliesOn carry base image text o o' (room_outgoing log) (room_outgoing log')
+            status) out out' same_out
+            (bare (λ l l'. AppliesOn carry base image text
+            (without (length (front_of (lent_to out))) (named_outgoing out))
+            (without (length (front_of (lent_to out))) (named_outgoing out')) l l' status)
+            log log' same_log
+            (AppliesOn-without _ _ _ _ _ _ (named-has out) (named-has log) does)),
+      )
+
+-- ---- lent memory
+
+fills-of : (room : Room) (held held' : List ℕ) → (lent_to room).now ≡ held
+    → held' ≡ room.space.now → Fills (room_outgoing room) held held'
+fills-of room held held' was now =
+    let size : length room.space.now ≡ length held = room.size ∙ ap length was in
+    let long : length (room_written room) ≡ room.used =
+    length-take-le room.used room.space.now room.within in
+    record {
+      text = room_written room;
+      written = refl;
+      holds = record {
+        within = omega (arith, long, size, room.within);
+        bytes = now ∙ sym (take-append-drop room.used room.space.now)
+            ∙ ap (λ r. room_written room ++ r) (room.rest ∙ ap (drop room.used) was)
+            ∙ ap (λ n. room_written room ++ drop n held) (sym long);
+      };
+      full = λ failed. long ∙ room.full failed ∙ size;
+    }
+
+module _ (Does : Outgoing → Outgoing → Type 0) (before : Outgoing) (room : Room)
+    (held held' : List ℕ) (fresh : before ≡ fresh_outgoing)
+    (does : Does before (room_outgoing room)) (was : (lent_to room).now ≡ held)
+    (now : held' ≡ room.space.now) where
+  pub fills-room : FillsRoom Does held held'
+  fills-room = record {
+    after = room_outgoing room;
+    does = subst (λ o. Does o (room_outgoing room)) fresh does;
+    fills = fills-of room held held' was now;
+  }
+
+  pub fills-counted : (size : ℕ) → size ≡ room.used → FillsCounted Does held held' size
+  unfolding fills-of
+  fills-counted size count = record {
+    room_filled = record {
+      after = room_outgoing room;
+      does = subst (λ o. Does o (room_outgoing room)) fresh does;
+      fills = fills-of room held held' was now;
+    };
+    counted = count ∙ sym (length-take-le room.used room.space.now room.within);
+  }

@@ -1,0 +1,43 @@
+-- What the calls on an image in memory do, in plain words.
+use Rattle.std.specs.Prelude.{◌≡◌, ℕ, ◌<◌, ◌⊎◌, Bool, List, length}
+use Rattle.cd_image.specs.PatchLog.{log_text, patch_tally}
+use Rattle.cd_image.specs.Patched.{EachRun}
+use Rattle.cd_jobs.specs.Run.{script_status}
+use Rattle.cd_patch.specs.declared.outcome.Outcome.{Outcome}
+use Rattle.cd_read.specs.Image.{base_limit, image_limit}
+use Rattle.cd_report.specs.Report.{ReportSpec}
+use Rattle.cd_script.specs.declared.patch.Patch.{Patch}
+use Rattle.cd_c_images.specs.Images.{HasPatches, NoPatches}
+use Rattle.cd_c_images.specs.Rooms.{Holds}
+
+-- the whole text was written, and the status is that of its tally
+pub record WritesReport {T : Type 0} (spec : ReportSpec T) (status_of : T → ℕ) (image : List ℕ)
+    (room room' : List ℕ) (size status : ℕ) : Type 0 where
+  pub holds : Holds (spec.text image) room room'
+  pub counted : size ≡ length (spec.text image)
+  pub tally : status ≡ status_of (spec.tally image)
+
+-- why a call fails that takes no script: no image has its base, the image is too long, or the
+-- memory is full
+abbrev pub ReportFails : ℕ → List ℕ → List ℕ → ℕ → Type 0
+ReportFails base image room size =
+    (base_limit < base) ⊎ (image_limit < length image) ⊎ (size ≡ length room)
+
+-- the log of these outcomes was written, and the status is that of their counts
+pub record WritesLines (patches : List Patch) (image : List ℕ) (outcomes : List Outcome)
+    (log log' : List ℕ) (size status : ℕ) : Type 0 where
+  pub holds : Holds (log_text patches outcomes) log log'
+  pub counted : size ≡ length (log_text patches outcomes)
+  pub tally : status ≡ script_status (patch_tally image outcomes)
+
+-- the text is a script, and this holds of the way in which its patches are taken on the image
+pub record Patches (carry : Bool) (base : ℕ) (image text : List ℕ)
+    (Does : List Patch → List Outcome → List ℕ → Type 0) : Type 0 where
+  pub patches : List Patch
+  pub script : HasPatches text patches
+  pub each : EachRun carry patches base image (Does patches)
+
+-- why a check fails: as a report, or the text is no script
+abbrev pub CheckFails : ℕ → List ℕ → List ℕ → List ℕ → ℕ → Type 0
+CheckFails base image text log size =
+    ReportFails base image log size ⊎ ((line : List ℕ) × NoPatches text line)

@@ -1,0 +1,66 @@
+//! Calls that take a script to an image.
+
+ghost use Rattle.std.specs.Prelude.{◌≡◌, ◌≢◌};
+ghost use Rattle.cd_command.specs.Fault.{failed_status};
+ghost use Rattle.cd_c_images.specs.Images.{AppliesOn, ChecksOn};
+ghost use Rattle.cd_c_images.specs.Plain.{CheckFails, Patches, WritesLines};
+ghost use Rattle.cd_c_images.specs.Rooms.{FillsCounted, FillsRoom, Holds};
+
+use crate::commands::{apply_image, check_image};
+use crate::room::Room;
+use std::alloc::Global;
+
+/// Decides each patch of a script on an image, as the command `check`, and answers its status.
+/// `log` gets what the command prints, and `length` the number of bytes of it that were written.
+#[unsafe(no_mangle)]
+pub extern "C" fn cdpatch_check(
+    alloc: Global,
+    image: &[u8],
+    script: &[u8],
+    base: u32,
+    carry: bool,
+    log: &mut [u8],
+    length: &mut usize,
+) -> u32
+    ensures report { FillsCounted
+        (λ lines lines'. ChecksOn carry base image.now script.now lines lines' result)
+        log.old log.new length.new }
+    ensures text { result ≢ failed_status → Patches carry base image.now script.now
+        (λ patches outcomes last.
+        WritesLines patches image.now outcomes log.old log.new length.new result) }
+    ensures failed { result ≡ failed_status
+        → CheckFails base image.now script.now log.old length.new }
+{
+    let mut lines = Room::new(log);
+    let status = check_image(alloc, image, script, base, carry, &mut lines);
+    *length = lines.used;
+    let _log = lines.space;
+    u32::from(status)
+}
+
+/// Patches an image to `out`, as the command `apply`, and answers its status. `log` gets what the
+/// command prints, and `length` the number of bytes of it that were written.
+#[unsafe(no_mangle)]
+pub extern "C" fn cdpatch_apply(
+    alloc: Global,
+    image: &[u8],
+    script: &[u8],
+    base: u32,
+    carry: bool,
+    out: &mut [u8],
+    log: &mut [u8],
+    length: &mut usize,
+) -> u32
+    ensures report { FillsRoom (λ made made'. FillsCounted (λ lines lines'.
+        AppliesOn carry base image.now script.now made made' lines lines' result)
+        log.old log.new length.new) out.old out.new }
+    ensures image { result ≢ failed_status → Patches carry base image.now script.now
+        (λ patches outcomes last. Holds last out.old out.new
+        × WritesLines patches image.now outcomes log.old log.new length.new result) }
+{
+    let mut outcomes = Room::new(log);
+    let status = apply_image(alloc, image, script, base, carry, out, &mut outcomes);
+    *length = outcomes.used;
+    let _log = outcomes.space;
+    u32::from(status)
+}

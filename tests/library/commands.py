@@ -1,0 +1,48 @@
+"""The calls on images of a shared library of libcdpatch, as the commands of the program."""
+
+import ctypes
+from functools import lru_cache
+
+FAILED = 2
+KEPT = b'\xA5'
+MORE = 40  # bytes after what a call may write, which must stay
+
+
+@lru_cache
+def opened(path):
+    return ctypes.CDLL(path)
+
+
+def sized(data):
+    return ctypes.c_char_p(data), ctypes.c_size_t(len(data))
+
+
+def buffer(size):
+    return ctypes.create_string_buffer(KEPT * (size + MORE), size + MORE)
+
+
+def enough_room(command, image, script):
+    """As cdpatch.h says."""
+    if command in ('list', 'audit'):
+        return 100 + 40 * (len(image) // 2352)
+    return 200 + 80 * (script.count(b'\n') + 1)
+
+
+def run(path, command, image, base, carry, script):
+    """The status, the text, and the new image, or None if there is none. Raises if bytes after them have changed."""
+    room = enough_room(command, image, script)
+    text, out, length = buffer(room), buffer(len(image)), ctypes.c_size_t(room + 1)
+    arguments = [*sized(image)]
+    if command in ('check', 'apply'):
+        arguments += sized(script)
+    arguments.append(ctypes.c_uint32(base))
+    if command in ('check', 'apply'):
+        arguments.append(ctypes.c_bool(carry))
+    if command == 'apply':
+        arguments += [out, ctypes.c_size_t(len(image))]
+    status = getattr(opened(path), 'cdpatch_' + command)(*arguments, text, ctypes.c_size_t(room), ctypes.byref(length))
+    has_image = command == 'apply' and status != FAILED
+    written = len(image) if has_image else 0
+    if text.raw[length.value:].strip(KEPT) or out.raw[written:].strip(KEPT):
+        raise ValueError('bytes changed that should stay')
+    return status, text.raw[:length.value], out.raw[:written] if has_image else None

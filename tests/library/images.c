@@ -1,0 +1,284 @@
+/* The calls of libcdpatch on images, from C: `images SAMPLES [long]`, a file of consistent sectors of the blocks from 0; with
+ * `long` also on an image and a script that are too long. Prints what fails, and answers whether nothing does. What a call reads
+ * and writes lies in memory that ends, and in memory that begins, where no byte may be touched. Compiled with REFUSES, and linked
+ * so that the library's calls of malloc, realloc and free go to `__wrap_malloc` and so on, it refuses memory too. */
+#define _DEFAULT_SOURCE
+#include "fenced.h"
+
+enum { MOST = 512, KEPT = 0xA5, SECTOR = CDPATCH_SECTOR_SIZE, TAIL = 5 };
+enum { LIST, AUDIT, CHECK, APPLY };
+
+static const char *const names[] = {"list", "audit", "check", "apply"};
+
+/* A call, the image and the script that it is passed, and what it answers. */
+struct asked {
+    int call;
+    const uint8_t *image;
+    size_t size;
+    const char *script;
+    uint32_t base;
+    bool carry;
+    size_t out_size, room;
+    uint32_t status;
+    size_t length;
+    uint8_t *out, *log;
+};
+
+/* A copy of `count` bytes, which may only be read. */
+static uint8_t *copied(const void *bytes, size_t count, bool at_end) {
+    uint8_t *copy = fenced(count, at_end);
+    memcpy(copy, bytes, count);
+    mprotect((void *)((uintptr_t)copy / PAGE * PAGE), count + (uintptr_t)copy % PAGE, PROT_READ);
+    return copy;
+}
+
+static uint8_t *blank(size_t count, bool at_end) {
+    return (uint8_t *)memset(fenced(count, at_end), KEPT, count);
+}
+
+static bool all_kept(const uint8_t *bytes, size_t count) {
+    for (size_t i = 0; i < count; i++)
+        if (bytes[i] != KEPT)
+            return false;
+    return true;
+}
+
+/* Whether `out` begins with bytes of `wanted`, and the rest is as it was. */
+static bool is_beginning(const uint8_t *out, size_t count, const uint8_t *wanted) {
+    size_t sent = 0;
+    while (sent < count && out[sent] == wanted[sent])
+        sent++;
+    return all_kept(out + sent, count - sent);
+}
+
+static void release(const uint8_t *bytes, size_t count) {
+    uintptr_t first = (uintptr_t)bytes / PAGE * PAGE - PAGE;
+    munmap((void *)first, (count + PAGE - 1) / PAGE * PAGE + 2 * PAGE);
+}
+
+/* Makes the call on memory of its own. */
+static void ask(struct asked *it, bool at_end) {
+    const char *text = it->script ? it->script : "";
+    const uint8_t *image = copied(it->image, it->size, at_end), *script = copied(text, strlen(text), at_end);
+    it->out = blank(it->out_size, at_end);
+    it->log = blank(it->room, at_end);
+    it->length = 12345;
+    if (it->call == LIST)
+        it->status = cdpatch_list(image, it->size, it->base, it->log, it->room, &it->length);
+    else if (it->call == AUDIT)
+        it->status = cdpatch_audit(image, it->size, it->base, it->log, it->room, &it->length);
+    else if (it->call == CHECK)
+        it->status = cdpatch_check(image, it->size, script, strlen(text), it->base, it->carry, it->log, it->room, &it->length);
+    else
+        it->status = cdpatch_apply(image, it->size, script, strlen(text), it->base, it->carry, it->out, it->out_size, it->log,
+                                   it->room, &it->length);
+    release(image, it->size);
+    release(script, strlen(text));
+}
+
+static void forget(struct asked *it) {
+    release(it->out, it->out_size);
+    release(it->log, it->room);
+}
+
+/* Whether the text of a call is this one, with nothing after it. */
+static bool printed(const struct asked *it, const char *text) {
+    return it->length == strlen(text) && it->length <= it->room && !memcmp(it->log, text, it->length) &&
+           all_kept(it->log + it->length, it->room - it->length);
+}
+
+/* The call has this status and prints this text in each room that is large enough; in a smaller one it fails, and the beginning
+ * of the text fills the room. `out` becomes `wanted`, or a beginning of it, or stays if that is NULL. */
+static void expect(struct asked it, uint32_t status, const char *text, const uint8_t *wanted, unsigned number) {
+    size_t length = strlen(text);
+    for (size_t room = 0; room <= length + 1; room++)
+        for (int at_end = 0; at_end < 2; at_end++) {
+            bool fits = room >= length;
+            it.room = room;
+            ask(&it, at_end);
+            judge(it.status == (fits ? status : (uint32_t)CDPATCH_FAILED), names[it.call], number);
+            judge(it.length == (fits ? length : room), "its length", number);
+            judge(it.length <= room && !memcmp(it.log, text, it.length), "what it prints", number);
+            judge(!fits || all_kept(it.log + length, room - length), "the rest of the room stays", number);
+            if (!wanted)
+                judge(all_kept(it.out, it.out_size), "no image", number);
+            else if (fits)
+                judge(!memcmp(it.out, wanted, it.size), "the new image", number);
+            else
+                judge(is_beginning(it.out, it.size, wanted), "a beginning of the new image", number);
+            judge(!wanted || all_kept(it.out + it.size, it.out_size - it.size), "the rest of the output stays", number);
+            forget(&it);
+        }
+}
+
+static void check_reports(const uint8_t *image, size_t size, unsigned n) {
+    struct asked it = {LIST, image, size, NULL, 0, false, 0, 0, 0, 0, NULL, NULL};
+    expect(it, CDPATCH_DONE, "0-1 mode1\nsectors 2 tail 5\n", NULL, n);
+    it.base = 449849;
+    expect(it, CDPATCH_DONE, "449849-449850 mode1\nsectors 2 tail 5\n", NULL, n);
+    it.size = 0;
+    expect(it, CDPATCH_DONE, "sectors 0 tail 0\n", NULL, n);
+    it.call = AUDIT;
+    expect(it, CDPATCH_DONE, "sectors 0 mode1 0 damaged 0 tail 0\n", NULL, n);
+    it.size = size;
+    it.base = 0;
+    expect(it, CDPATCH_DONE, "sectors 2 mode1 2 damaged 0 tail 5\n", NULL, n);
+    it.base = 7;
+    expect(it, CDPATCH_FOUND, "7 address\n8 address\nsectors 2 mode1 2 damaged 0 tail 5\n", NULL, n);
+}
+
+/* Both calls that take a script. */
+static void expect_both(struct asked it, uint32_t status, const char *text, const uint8_t *wanted, unsigned n) {
+    it.call = APPLY;
+    expect(it, status, text, wanted, n);
+    it.call = CHECK;
+    expect(it, status, text, NULL, n);
+}
+
+static void check_patches(uint8_t *image, size_t size, unsigned n) {
+    struct asked it = {APPLY, image, size, "cdpatch 1\nset 0 7 41\n", 0, false, size + 3, 0, 0, 0, NULL, NULL};
+    uint8_t wanted[2 * SECTOR + TAIL];
+    memcpy(wanted, image, size);
+    cdpatch_change_user(wanted, 7, (const uint8_t *)"A", 1);
+    expect_both(it, CDPATCH_DONE, "line 2: applied\napplied 1 refused 0\n", wanted, n);
+    it.base = 449849;
+    expect_both(it, CDPATCH_FOUND, "line 2: refused: no block 0\napplied 0 refused 1\n", image, n);
+    it.base = 0;
+    it.script = "cdpatch 1\nset 2 0 41\nset 0 7 41";
+    expect_both(it, CDPATCH_FOUND, "line 3: applied\nline 2: refused: no block 2\napplied 1 refused 1\n", wanted, n);
+    it.script = "cdpatch 2\naddress 0 12:34:56\n";
+    memcpy(wanted, image, size);
+    cdpatch_change_address(wanted, (const uint8_t *)"\x12\x34\x56");
+    expect_both(it, CDPATCH_DONE, "line 2: applied\napplied 1 refused 0\n", wanted, n);
+    it.script = "";
+    expect_both(it, CDPATCH_FAILED, "script line 1: no cdpatch 1 line\n", NULL, n);
+    it.script = "cdpatch 1\nset 0 2048 41\n";
+    expect_both(it, CDPATCH_FAILED, "script line 2: offset over 2047\n", NULL, n);
+}
+
+static void check_damage(uint8_t *image, size_t size, unsigned n) {
+    struct asked it = {AUDIT, image, size, "cdpatch 1\nset 0 7 41\n", 0, false, size, 0, 0, 0, NULL, NULL};
+    uint8_t wanted[2 * SECTOR + TAIL];
+    image[2351] ^= 1;
+    memcpy(wanted, image, size);
+    cdpatch_carry_user(wanted, 7, (const uint8_t *)"A", 1);
+    expect(it, CDPATCH_FOUND, "0 q=1\nsectors 2 mode1 2 damaged 1 tail 5\n", NULL, n);
+    expect_both(it, CDPATCH_FOUND, "line 2: refused: block 0 is damaged\napplied 0 refused 1\n", image, n);
+    it.carry = true;
+    expect_both(it, CDPATCH_DONE, "line 2: applied\napplied 1 refused 0\n", wanted, n);
+    image[2351] ^= 1;
+}
+
+/* A base that no image has: nothing is written. */
+static void check_bases(const uint8_t *image, size_t size, unsigned n) {
+    static const uint32_t bases[] = {449850, UINT32_MAX};
+    for (int call = LIST; call <= APPLY; call++)
+        for (int i = 0; i < 4; i++) {
+            struct asked it = {call, image, size, "cdpatch 1\n", bases[i / 2], false, size, MOST, 0, 0, NULL, NULL};
+            ask(&it, i % 2);
+            judge(it.status == CDPATCH_FAILED && printed(&it, "") && all_kept(it.out, size), "a base that no image has", n);
+            forget(&it);
+        }
+}
+
+/* An output that is too small gets a beginning of the image. */
+static void check_outputs(const uint8_t *image, size_t size, unsigned n) {
+    static const size_t sizes[] = {0, 1, SECTOR - 1, SECTOR, 2 * SECTOR, 2 * SECTOR + TAIL - 1, 2 * SECTOR + TAIL};
+    uint8_t wanted[2 * SECTOR + TAIL];
+    memcpy(wanted, image, size);
+    cdpatch_change_user(wanted, 7, (const uint8_t *)"A", 1);
+    for (int i = 0; i < 14; i++) {
+        struct asked it = {APPLY, image, size, "cdpatch 1\nset 0 7 41\n", 0, false, sizes[i / 2], MOST, 0, 0, NULL, NULL};
+        const char *reason = "cdpatch: writing the output failed\n";
+        size_t length = strlen(reason);
+        ask(&it, i % 2);
+        judge(is_beginning(it.out, it.out_size, wanted), "a beginning of the new image", n);
+        if (it.out_size == size)
+            judge(it.status == CDPATCH_DONE && !memcmp(it.out, wanted, size), "an output of the size of the image", n);
+        else
+            judge(it.status == CDPATCH_FAILED && it.length >= length && it.length <= MOST &&
+                  !memcmp(it.log + it.length - length, reason, length), "an output that is too small", n);
+        forget(&it);
+    }
+}
+
+/* A script of more bytes than one may have, and an image of more sectors: 2.4 GB of addresses that are never written. */
+static void check_limits(const uint8_t *image, size_t size) {
+    const size_t script_size = 67108865, image_size = (size_t)1000001 * SECTOR;
+    const char *long_script = "cdpatch: the script is longer than 67108864 bytes\n";
+    uint8_t *zeros = (uint8_t *)mmap(NULL, image_size, PROT_READ, MAP_PRIVATE | MAP_ANONYMOUS | MAP_NORESERVE, -1, 0);
+    struct asked it = {CHECK, image, size, NULL, 0, false, size, MOST, 0, 0, blank(size, true), blank(MOST, true)};
+    it.status = cdpatch_check(image, size, zeros, script_size, 0, false, it.log, MOST, &it.length);
+    judge(it.status == CDPATCH_FAILED && printed(&it, long_script), "check of a long script", 0);
+    it.status = cdpatch_apply(image, size, zeros, script_size, 0, false, it.out, size, it.log, MOST, &it.length);
+    judge(it.status == CDPATCH_FAILED && printed(&it, long_script), "apply of a long script", 0);
+    judge(all_kept(it.out, size), "a long script makes no image", 0);
+    memset(it.log, KEPT, MOST);
+    it.status = cdpatch_list(zeros, image_size - SECTOR, 0, it.log, MOST, &it.length);
+    judge(it.status == CDPATCH_DONE && printed(&it, "0-999999 nosync\nsectors 1000000 tail 0\n"), "a list of the most sectors", 0);
+    memset(it.log, KEPT, MOST);
+    it.status = cdpatch_list(zeros, image_size, 0, it.log, MOST, &it.length);
+    judge(it.status == CDPATCH_FAILED && it.length >= 49 && it.length <= MOST &&
+          !memcmp(it.log + it.length - 49, "cdpatch: the image has more than 1000000 sectors\n", 49), "a long image", 0);
+    munmap(zeros, image_size);
+}
+
+#ifdef REFUSES
+void *__real_malloc(size_t size);
+void *__real_realloc(void *bytes, size_t size);
+void __real_free(void *bytes);
+static long left = 1000000000, taken;
+
+void *__wrap_malloc(size_t size) {
+    taken += left > 0;
+    return left-- > 0 ? __real_malloc(size) : NULL;
+}
+void *__wrap_realloc(void *bytes, size_t size) {
+    taken += left > 0 && !bytes;
+    return left-- > 0 ? __real_realloc(bytes, size) : NULL;
+}
+void __wrap_free(void *bytes) {
+    taken -= bytes != NULL;
+    __real_free(bytes);
+}
+
+/* Each growth of memory is refused once, and what was taken is given back. */
+static void check_memory(const uint8_t *image, size_t size) {
+    for (int call = LIST; call <= APPLY; call++) {
+        int refused = -1;
+        struct asked it = {call, image, size, "cdpatch 1\nset 0 7 41\nset 0 8 42\n", 0, false, size, MOST, 0, 0, NULL, NULL};
+        do {
+            taken = 0;
+            left = ++refused;
+            ask(&it, true);
+            judge(it.status == CDPATCH_DONE || (it.status == CDPATCH_FAILED && printed(&it, "script: no memory\n") &&
+                  all_kept(it.out, size)), "no memory", 0);
+            judge(taken == 0, "memory is given back", 0);
+            forget(&it);
+        } while (left < 0 && refused < 100);
+        judge((refused == 0) == (call <= AUDIT) && refused < 100, "which calls ask for memory", (unsigned)call);
+    }
+}
+#endif
+
+int main(int count, char **arguments) {
+    uint8_t image[2 * SECTOR + TAIL];
+    FILE *samples = count >= 2 ? fopen(arguments[1], "rb") : NULL;
+    if (!samples || fread(image, 1, sizeof image, samples) != sizeof image) {
+        fputs("images SAMPLES [long]\n", stderr);
+        return 2;
+    }
+    fclose(samples);
+    check_reports(image, sizeof image, 0);
+    check_patches(image, sizeof image, 0);
+    check_damage(image, sizeof image, 0);
+    check_bases(image, sizeof image, 0);
+    check_outputs(image, sizeof image, 0);
+    if (count == 3)
+        check_limits(image, sizeof image);
+#ifdef REFUSES
+    check_memory(image, sizeof image);
+#endif
+    printf("%d failures\n", failures);
+    return failures != 0;
+}
