@@ -26,7 +26,7 @@ use Rattle.cd_patch.specs.Outcome.{is_applied}
 use Rattle.cd_read.proofs.general.Counts.{count_by-append}
 use Rattle.cd_read.proofs.ImageLemmas.{cut_of_joined}
 use Rattle.cd_image.proofs.ApplyLemmas.{size_read}
-use Rattle.cd_image.proofs.KnownLemmas.{StopsAtLog-within, applies, told_lengths, unfinished_log}
+use Rattle.cd_image.proofs.KnownLemmas.{ahead_of_done, StopsAtLog-within, applies, told_lengths, unfinished_log}
 use Rattle.cd_read.proofs.EndLemmas.{FitsLeft-end}
 use Rattle.cd_image.proofs.PassingLemmas.{length-bytes_of}
 use Rattle.cd_image.proofs.PatchedLemmas.{IsPatched-determined}
@@ -147,7 +147,8 @@ pub record Closing (carry : Bool) (ps : List Patch) (base : ℕ) (start now : St
   -- what was logged is what belongs before the tail; before the rest belongs the whole image
   beside_tail : (n : ℕ) → n < length end
       → log_beside ps outcomes base (length read) (length (sent ++ take n end)) ≡ told
-  beside_log : (n : ℕ) → sent_beside ps outcomes base read (length told + n) ≡ length read
+  beside_log : (more : List ℕ)
+      → sent_beside ps outcomes base read (length (told ++ more)) ≡ length read
 
 -- a pass that has ended, by the patches that it has taken and those that are left
 ended_pass : {carry : Bool} {taken left : List Patch} {base : ℕ} {start now : Streams} {pass : Pass}
@@ -174,8 +175,8 @@ ended_pass {carry} {taken} {left} {base} {start} {now} {pass} ended g =
     let every = length-append taken left in
     let refused : length (taken ++ left) - pass.applied ≡ refused_count os =
     omega (arith, counts-all os, length-missing_outcomes left) in
-    let ahead : All (λ p. base + length g.seen ≤ p.block) left =
-    (λ k d here. let h = g.ahead k d here in omega (arith, h, g.front, as_many)) in
+    let ahead = ahead_of_done carry taken left base start now _ _ _ _ _ g in
+    let first = rw (ended.empty, append-nil g.seen, append-nil g.done) at (g.run [] (λ _. refl)) in
     record {
       read = bytes_of g.seen ++ end;
       sent = bytes_of g.done;
@@ -192,14 +193,10 @@ ended_pass {carry} {taken} {left} {base} {start} {now} {pass} ended g =
       short = g.short;
       patched = record {
         run =
-            let first =
-            rw (ended.empty, append-nil g.seen, append-nil g.done) at (g.run [] (λ some. refl)) in
             let others =
-            PatchRun-missing carry left g.done base
-            (λ k d here. inr (omega (arith, ahead k d here, as_many))) in
+            PatchRun-missing carry left g.done base (λ k d here. inr (ahead k d here)) in
             rw (← cut.0, ← cut_done.0)
-            (PatchRun-append carry taken left g.outcomes missing base g.seen g.done g.done
-            first others);
+            (PatchRun-append carry taken left g.outcomes missing base _ _ _ first others);
         same_tail = sym cut_done.1 ∙ cut.1;
       };
       whole_log =
@@ -215,11 +212,12 @@ ended_pass {carry} {taken} {left} {base} {start} {now} {pass} ended g =
           (omega (arith, g.count, g.short)) (omega (arith, g.count))
           ∙ lines_below-cut (base + pass.sectors) taken left g.outcomes missing lengths
           (λ k d here. (g.due k d here).1) (λ k d here. omega (arith, ahead k d here, g.count));
-      beside_log = λ n.
-          sent_beside-behind _ base taken left g.outcomes missing n lengths
-          ∙ sent_beside-after _ base left missing n
+      beside_log = λ more.
+          rw (length-append (log_lines taken g.outcomes) more)
+          (sent_beside-behind _ base taken left g.outcomes missing (length more) lengths
+          ∙ sent_beside-after _ base left missing (length more)
           (λ k d here. bytes_before-behind _ base _
-          (omega (arith, ahead k d here, ap length cut.0)));
+          (omega (arith, ahead k d here, ap length cut.0))));
     }
 
 -- the same of the patches of `close`, which logs a slice of them
@@ -245,101 +243,87 @@ module _ {carry : Bool} {ps : List Patch} {base : ℕ} {start now : Streams}
       → FitsLeft now.image.rest e.read whole → EachRun carry ps base whole (Holds whole)
   by_run Holds h whole fits os new patched =
       let is = FitsLeft-end now.image.rest e.read whole e.at_end.0 fits in
-      let here = subst (λ w. IsPatched carry ps os base w new) is patched in
+      let here = rw is at patched in
       let same = IsPatched-determined carry ps os e.outcomes base e.read new _ here e.patched in
       rw (is, same.0, same.1) h
-
-  -- all of the image goes out before the rest of the log
-  beside : (more : List ℕ)
-      → length (e.sent ++ end) ≡ sent_beside ps e.outcomes base e.read (length (e.told ++ more))
-  beside more =
-      let size = ap (sent_beside ps e.outcomes base e.read) (length-append e.told more) in
-      e.size ∙ sym (size ∙ e.beside_log (length more))
 
   -- the output fails in the tail
   pub Closes-tail : {X E : Type 0} {f : E} {out : Outgoing}
       → Sends {X = X} {E = E} now.out out end (Err f)
       → Applies carry ps base start (record now { out = out }) (Err Write)
-  Closes-tail {out = out} fails =
+  Closes-tail fails =
       let n = fails.taken.0 in
-      let part = length-append e.sent (take n end) in
-      applies e.read (e.sent ++ take n end) e.told (Err Write) e.gives
-      (Takes-trans start.out now.out out _ _ e.sends fails.taken.2) e.logs
-      (omega (arith, e.size, e.short, length-append e.sent end, part)) (record {
+      let whole : e.sent ++ end ≡ (e.sent ++ take n end) ++ drop n end =
+      rw (append_assoc, take-append-drop n end) in
+      applies _ _ _ _ e.gives (Takes-trans _ _ _ _ _ e.sends fails.taken.2) e.logs
+      (omega (arith, length-append e.sent end, length-append e.sent (take n end))) (record {
         failed = record { reads = omega arith; writes = omega arith; logs = omega arith };
         out_flushes = 0;
         flushes = record { outs = omega arith; logs = omega arith };
         once = omega arith;
         at_end = λ less. refl;
         within = e.within;
-        begins =
-            let sent : e.sent ++ end ≡ (e.sent ++ take n end) ++ drop n end =
-            rw (append_assoc, take-append-drop n end) in
-            by_run _ ((drop n end, sent), (lines ++ last_line, e.whole_log));
+        begins = by_run _ ((drop n end, whole), (lines ++ last_line, e.whole_log));
         beside = by_run _ (sym (e.beside_tail n fails.taken.1));
       })
 
   module _ {X E : Type 0} {x : X} {out : Outgoing}
       (sent : Sends {X = X} {E = E} now.out out end (Ok x)) where
     all_sent : Takes start.out out (e.sent ++ end)
-    all_sent = Takes-trans start.out now.out out _ _ e.sends sent.taken
+    all_sent = Takes-trans _ _ _ _ _ e.sends sent.taken
 
     -- the log fails after `n` bytes of the lines
     Closes-log : {log : Outgoing} (n : ℕ) → n < length (lines ++ last_line)
         → Takes now.log log (take n (lines ++ last_line)) → log.failures ≡ now.log.failures + 1
         → log.flushes ≡ now.log.flushes
         → Applies carry ps base start (record now { out = out; log = log }) (Err Log)
-    Closes-log {log} n inside logged failed unflushed =
+    Closes-log n inside logged failed unflushed =
         let rest = lines ++ last_line in
         let whole : log_text ps e.outcomes ≡ (e.told ++ take n rest) ++ drop n rest =
         e.whole_log ∙ rw (append_assoc, take-append-drop n rest) in
         let size = length-append (e.told ++ take n rest) (drop n rest) in
         let left = length-drop n rest in
-        applies e.read (e.sent ++ end) (e.told ++ take n rest) (Err Log) e.gives all_sent
-        (Takes-trans start.log now.log log _ _ e.logs logged) (omega arith)
+        applies _ _ _ _ e.gives all_sent (Takes-trans _ _ _ _ _ e.logs logged) (omega arith)
         (StopsAtLog-within
         (record { reads = omega arith; writes = omega arith; logs = omega arith })
         (record { outs = omega arith; logs = omega arith }) e.within
         (by_run _ (([], sym (append-nil _)), (drop n rest, whole)))
-        (by_run _ (beside (take n rest)))
+        (by_run _ (e.size ∙ sym (e.beside_log (take n rest))))
         (by_run _ (λ all. absurd (omega (arith, ap length (all ∙ whole))))))
 
     -- in those of the patches that are left
     pub Closes-behind : {Y F : Type 0} {f : F} {log : Outgoing}
         → Sends {X = Y} {E = F} now.log log lines (Err f)
         → Applies carry ps base start (record now { out = out; log = log }) (Err Log)
-    Closes-behind {log = log} fails =
+    Closes-behind fails =
         let n = fails.taken.0 in
-        let part = take-append-le n lines last_line (omega (arith, fails.taken.1)) in
         Closes-log n (omega (arith, fails.taken.1, length-append lines last_line))
-        (subst (Takes now.log log) (sym part) fails.taken.2) fails.count fails.flushes
+        (rw (take-append-le n lines last_line (omega (arith, fails.taken.1))) fails.taken.2)
+        fails.count fails.flushes
 
     -- in the last line
     pub Closes-counts : {Y F Z G : Type 0} {y : Y} {f : G} {middle log : Outgoing}
         → Sends {X = Y} {E = F} now.log middle lines (Ok y)
         → Sends {X = Z} {E = G} middle log last_line (Err f)
         → Applies carry ps base start (record now { out = out; log = log }) (Err Log)
-    Closes-counts {middle = middle} {log} told fails =
+    Closes-counts told fails =
         let n = fails.taken.0 in
-        let logged = Takes-trans now.log middle log _ _ told.taken fails.taken.2 in
+        let logged = Takes-trans _ _ _ _ _ told.taken fails.taken.2 in
         Closes-log (length lines + n) (omega (arith, fails.taken.1, length-append lines last_line))
-        (subst (Takes now.log log) (sym (take-append-add lines last_line n)) logged)
-        (omega arith) (omega arith)
+        (rw (take-append-add lines last_line n) logged) (omega arith) (omega arith)
 
     module _ {Y F Z G : Type 0} {y : Y} {z : Z} {middle log : Outgoing}
         (told : Sends {X = Y} {E = F} now.log middle lines (Ok y))
         (ended : Sends {X = Z} {E = G} middle log last_line (Ok z)) where
       all_told : Takes start.log log (e.told ++ (lines ++ last_line))
-      all_told =
-          Takes-trans start.log now.log log _ _ e.logs
-          (Takes-trans now.log middle log _ _ told.taken ended.taken)
+      all_told = Takes-trans _ _ _ _ _ e.logs (Takes-trans _ _ _ _ _ told.taken ended.taken)
 
       -- the output fails in its flush
       pub Closes-flush : {H : Type 0} {f : H} {late : Outgoing} → Flushes {E = H} out late (Err f)
           → Applies carry ps base start (record now { out = late; log = log }) (Err Write)
       Closes-flush {late = late} fails =
-          applies e.read (e.sent ++ end) _ (Err Write) e.gives
-          (Takes-flushed start.out out late _ _ all_sent fails) all_told (omega arith) (record {
+          applies _ _ _ _ e.gives (Takes-flushed _ _ _ _ _ all_sent fails) all_told
+          (omega arith) (record {
             failed = record { reads = omega arith; writes = omega arith; logs = omega arith };
             out_flushes = late.flushes - out.flushes;
             flushes = record { outs = omega arith; logs = omega arith };
@@ -354,16 +338,13 @@ module _ {carry : Bool} {ps : List Patch} {base : ℕ} {start now : Streams}
 
       module _ {H : Type 0} {u : Unit {0}} {late : Outgoing}
           (flushed : Flushes {E = H} out late (Ok u)) where
-        finished : Takes start.out late (e.sent ++ end)
-        finished = Takes-flushed start.out out late _ _ all_sent flushed
-
         -- the log fails in its flush
         pub Closes-log_flush : {K : Type 0} {f : K} {last : Outgoing}
             → Flushes {E = K} log last (Err f)
             → Applies carry ps base start (record now { out = late; log = last }) (Err Log)
         Closes-log_flush {last = last} fails =
-            applies e.read (e.sent ++ end) _ (Err Log) e.gives finished
-            (Takes-flushed start.log log last _ _ all_told fails) (omega arith) (record {
+            applies _ _ _ _ e.gives (Takes-flushed _ _ _ _ _ all_sent flushed)
+            (Takes-flushed _ _ _ _ _ all_told fails) (omega arith) (record {
               failed = record { reads = omega arith; writes = omega arith; logs = omega arith };
               out_flushes = 1;
               log_flushes = last.flushes - log.flushes;
@@ -371,7 +352,7 @@ module _ {carry : Bool} {ps : List Patch} {base : ℕ} {start now : Streams}
               once = (omega arith, omega arith);
               within = e.within;
               begins = by_run _ (([], sym (append-nil _)), ([], e.whole_log ∙ sym (append-nil _)));
-              beside = by_run _ (beside (lines ++ last_line));
+              beside = by_run _ (e.size ∙ sym (e.beside_log (lines ++ last_line)));
               flushed = λ whole fits os new patched all. flushed.finished;
               at_end = by_run _ (λ all. refl, λ once. sym e.whole_log);
             })
@@ -380,9 +361,9 @@ module _ {carry : Bool} {ps : List Patch} {base : ℕ} {start now : Streams}
         pub Closes-ok : {K : Type 0} {v : Unit {0}} {last : Outgoing}
             → Flushes {E = K} log last (Ok v)
             → Applies carry ps base start (record now { out = late; log = last }) (Ok tally)
-        Closes-ok {last = last} log_flushed =
-            applies e.read (e.sent ++ end) _ (Ok tally) e.gives finished
-            (Takes-flushed start.log log last _ _ all_told log_flushed) (omega arith) (record {
+        Closes-ok log_flushed =
+            applies _ _ _ _ e.gives (Takes-flushed _ _ _ _ _ all_sent flushed)
+            (Takes-flushed _ _ _ _ _ all_told log_flushed) (omega arith) (record {
               failed = record { reads = omega arith; writes = omega arith; logs = omega arith };
               flushes = record { outs = omega arith; logs = omega arith };
               out_finished = flushed.finished;
