@@ -167,7 +167,8 @@ module _ (before : Outgoing) (room : Room) (held held' : List ℕ) (fresh : befo
         report : FillsCounted (λ lines lines'. ChecksOn carry base image script lines lines' status)
             held held' room.used;
         text : status ≢ failed_status → TakesPatches carry base image script
-            (λ patches outcomes last. WritesLines patches image outcomes held held' room.used status);
+            (λ patches outcomes last.
+            WritesLines patches image outcomes held held' room.used status);
         failed : status ≡ failed_status → CheckFails base image script held room.used;
       }
   check-clauses {carry = carry} {base = base} {image = image} {script = script} {status = status}
@@ -184,7 +185,8 @@ module _ (before : Outgoing) (room : Room) (held held' : List ℕ) (fresh : befo
             AppliesOn carry base image script made made' lines lines' status) held held' room.used)
             out out';
         image : status ≢ failed_status → TakesPatches carry base image script
-            (λ patches outcomes last. Holds last out out' × WritesLines patches image outcomes held held' room.used status);
+            (λ patches outcomes last. Holds last out out'
+            × WritesLines patches image outcomes held held' room.used status);
       }
   apply-clauses {carry = carry} {base = base} {image = image} {script = script} {out = out}
       {out' = out'} {status = status} filled =
