@@ -50,7 +50,8 @@ appended front sent before after had went =
     (sent, Appends-Some before.written after.written front sent had went)
 
 pub reports-grow : {T : Type 0} {spec : ReportSpec T} {status_of : T → ℕ} {base : ℕ}
-    {image : List ℕ} {status : ℕ} (front : List ℕ) (before after : Outgoing) → before.written ≡ Some front
+    {image : List ℕ} {status : ℕ} (front : List ℕ) (before after : Outgoing)
+    → before.written ≡ Some front
     → ReportsOn spec status_of base image before after status → Grew front after
 reports-grow front before after had (ReportsOn.outside above failed same) =
     stayed front before after had same

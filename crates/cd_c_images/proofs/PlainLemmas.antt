@@ -11,7 +11,8 @@ use Rattle.cd_stream.specs.Forms.{slice_incoming}
 use Rattle.cd_stream.specs.Stream.{Outgoing}
 use Rattle.cd_stream.specs.declared.forms.slice_source.SliceSource.{SliceSource}
 use Rattle.cd_c_images.specs.Images.{AppliesOn, ChecksOn, ReportsOn}
-use Rattle.cd_c_images.specs.Plain.{CheckFails, Patches, ReportFails, WritesLines, WritesReport}
+use Rattle.cd_c_images.specs.Plain.{CheckFails, ReportFails, TakesPatches}
+use Rattle.cd_c_images.specs.Plain.{WritesLines, WritesReport}
 use Rattle.cd_c_images.specs.Rooms.{Fills, FillsCounted, FillsRoom, Holds, lent_to, room_outgoing}
 use Rattle.cd_c_images.specs.declared.room.Room.{Room}
 use Rattle.cd_c_images.proofs.RoomLemmas.{fills-counted}
@@ -70,12 +71,12 @@ module _ {T : Type 0} {spec : ReportSpec T} {status_of : T → ℕ} {base : ℕ}
 module _ {carry : Bool} {base : ℕ} {image text log log' : List ℕ} {size status : ℕ}
     (all : FillsCounted (λ lines lines'. ChecksOn carry base image text lines lines' status) log
     log' size) where
-  writes-lines : status ≢ failed_status → Patches carry base image text
+  writes-lines : status ≢ failed_status → TakesPatches carry base image text
       (λ patches outcomes last. WritesLines patches image outcomes log log' size status)
   writes-lines done = go all.room_filled.does
     where
       go : ChecksOn carry base image text fresh_outgoing all.room_filled.after status
-          → Patches carry base image text
+          → TakesPatches carry base image text
           (λ patches outcomes last. WritesLines patches image outcomes log log' size status)
       go (ChecksOn.outside above failed same) = absurd (done failed)
       go (ChecksOn.without_script within line none fails) = absurd (done fails.1)
@@ -112,7 +113,7 @@ writes-image : {carry : Bool} {base : ℕ} {image text out out' log log' : List 
     {size status : ℕ}
     → FillsRoom (λ made made'. FillsCounted (λ lines lines'.
     AppliesOn carry base image text made made' lines lines' status) log log' size) out out'
-    → status ≢ failed_status → Patches carry base image text (λ patches outcomes last.
+    → status ≢ failed_status → TakesPatches carry base image text (λ patches outcomes last.
     Holds last out out' × WritesLines patches image outcomes log log' size status)
 writes-image {carry = carry} {base = base} {image = image} {text = text} {out = out} {out' = out'}
     {log = log} {log' = log'} {size = size} {status = status} all done =
@@ -120,7 +121,7 @@ writes-image {carry = carry} {base = base} {image = image} {text = text} {out = 
   where
     go : AppliesOn carry base image text fresh_outgoing all.after fresh_outgoing
         all.does.room_filled.after status
-        → Patches carry base image text (λ patches outcomes last.
+        → TakesPatches carry base image text (λ patches outcomes last.
         Holds last out out' × WritesLines patches image outcomes log log' size status)
     go (AppliesOn.outside above failed same silent) = absurd (done failed)
     go (AppliesOn.without_script within line none same fails) = absurd (done fails.1)
@@ -165,7 +166,8 @@ module _ (before : Outgoing) (room : Room) (held held' : List ℕ) (fresh : befo
       → record {
         report : FillsCounted (λ lines lines'. ChecksOn carry base image script lines lines' status)
             held held' room.used;
-        text : status ≢ failed_status → Patches carry base image script (λ patches outcomes last.
+        text : status ≢ failed_status → TakesPatches carry base image script
+            (λ patches outcomes last.
             WritesLines patches image outcomes held held' room.used status);
         failed : status ≡ failed_status → CheckFails base image script held room.used;
       }
@@ -182,8 +184,9 @@ module _ (before : Outgoing) (room : Room) (held held' : List ℕ) (fresh : befo
         report : FillsRoom (λ made made'. FillsCounted (λ lines lines'.
             AppliesOn carry base image script made made' lines lines' status) held held' room.used)
             out out';
-        image : status ≢ failed_status → Patches carry base image script (λ patches outcomes last.
-            Holds last out out' × WritesLines patches image outcomes held held' room.used status);
+        image : status ≢ failed_status → TakesPatches carry base image script
+            (λ patches outcomes last. Holds last out out'
+            × WritesLines patches image outcomes held held' room.used status);
       }
   apply-clauses {carry = carry} {base = base} {image = image} {script = script} {out = out}
       {out' = out'} {status = status} filled =

@@ -31,7 +31,7 @@ pub record WritesLines (patches : List Patch) (image : List ℕ) (outcomes : Lis
   pub tally : status ≡ script_status (patch_tally image outcomes)
 
 -- the text is a script, and this holds of the way in which its patches are taken on the image
-pub record Patches (carry : Bool) (base : ℕ) (image text : List ℕ)
+pub record TakesPatches (carry : Bool) (base : ℕ) (image text : List ℕ)
     (Does : List Patch → List Outcome → List ℕ → Type 0) : Type 0 where
   pub patches : List Patch
   pub script : HasPatches text patches

@@ -129,6 +129,6 @@ pub(crate) fn apply_image(
 {
     let mut room = Room::new(out);
     let status = apply_to_rooms(alloc, image, script, base, carry, &mut room, log);
-    let _out = room.space;
+    let _out = room.space; // so that the contract can name what it holds
     status
 }

@@ -3,7 +3,7 @@
 ghost use Rattle.std.specs.Prelude.{◌≡◌, ◌≢◌};
 ghost use Rattle.cd_command.specs.Fault.{failed_status};
 ghost use Rattle.cd_c_images.specs.Images.{AppliesOn, ChecksOn};
-ghost use Rattle.cd_c_images.specs.Plain.{CheckFails, Patches, WritesLines};
+ghost use Rattle.cd_c_images.specs.Plain.{CheckFails, TakesPatches, WritesLines};
 ghost use Rattle.cd_c_images.specs.Rooms.{FillsCounted, FillsRoom, Holds};
 
 use crate::commands::{apply_image, check_image};
@@ -25,7 +25,7 @@ pub extern "C" fn cdpatch_check(
     ensures report { FillsCounted
         (λ lines lines'. ChecksOn carry base image.now script.now lines lines' result)
         log.old log.new length.new }
-    ensures text { result ≢ failed_status → Patches carry base image.now script.now
+    ensures text { result ≢ failed_status → TakesPatches carry base image.now script.now
         (λ patches outcomes last.
         WritesLines patches image.now outcomes log.old log.new length.new result) }
     ensures failed { result ≡ failed_status
@@ -34,7 +34,7 @@ pub extern "C" fn cdpatch_check(
     let mut lines = Room::new(log);
     let status = check_image(alloc, image, script, base, carry, &mut lines);
     *length = lines.used;
-    let _log = lines.space;
+    let _log = lines.space; // so that the contract can name what it holds
     u32::from(status)
 }
 
@@ -54,13 +54,13 @@ pub extern "C" fn cdpatch_apply(
     ensures report { FillsRoom (λ made made'. FillsCounted (λ lines lines'.
         AppliesOn carry base image.now script.now made made' lines lines' result)
         log.old log.new length.new) out.old out.new }
-    ensures image { result ≢ failed_status → Patches carry base image.now script.now
+    ensures image { result ≢ failed_status → TakesPatches carry base image.now script.now
         (λ patches outcomes last. Holds last out.old out.new
         × WritesLines patches image.now outcomes log.old log.new length.new result) }
 {
     let mut outcomes = Room::new(log);
     let status = apply_image(alloc, image, script, base, carry, out, &mut outcomes);
     *length = outcomes.used;
-    let _log = outcomes.space;
+    let _log = outcomes.space; // so that the contract can name what it holds
     u32::from(status)
 }

@@ -26,7 +26,7 @@ pub extern "C" fn cdpatch_list(image: &[u8], base: u32, text: &mut [u8], length:
     let mut listing = Room::new(text);
     let status = list_image(image, base, &mut listing);
     *length = listing.used;
-    let _text = listing.space;
+    let _text = listing.space; // so that the contract can name what it holds
     u32::from(status)
 }
 
@@ -44,6 +44,6 @@ pub extern "C" fn cdpatch_audit(image: &[u8], base: u32, text: &mut [u8], length
     let mut findings = Room::new(text);
     let status = audit_image(image, base, &mut findings);
     *length = findings.used;
-    let _text = findings.space;
+    let _text = findings.space; // so that the contract can name what it holds
     u32::from(status)
 }

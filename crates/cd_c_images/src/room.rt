@@ -19,8 +19,8 @@ struct Lent<'a> {
 /// A call that takes any sink promises only what [`Sink`] does, which names no slice. So what a
 /// contract sees as written begins with what was lent: the name of the slice, how long it is, and
 /// what it held. As a call only appends, a caller finds it there again, and with it his slice, once
-/// he has taken the room apart. For that the slice is a field of the room itself, and not of a sink
-/// in it.
+/// he has moved the slice out of the room. For that it is a field of the room itself, and not of a
+/// sink in it.
 #[derive(Drop)]
 pub(crate) struct Room<'a> {
     pub(crate) space: &'a mut [u8],
@@ -29,7 +29,7 @@ pub(crate) struct Room<'a> {
     flushes: Count,
     failures: u32,
     finished: bool,
-    // Nothing is to be dropped, so that the slice is the last to be let go.
+    // Nothing is to be dropped, so that the slice can be moved out.
     lent: ManuallyDrop<Snapshot<Lent<'a>>>,
     ghost within: { used ≤ length space.now },
     ghost same_slice: { space.ghost_name ≡ (manually_drop_value lent).value.slice.ghost_name },
