@@ -5,7 +5,7 @@ set -u
 . "$(dirname "$0")/helpers.sh"
 sources=("$top"/crates/cd_c/src/*.rt "$top"/crates/cd_c_images/src/*.rt)
 # These have the numbers of the commands' statuses.
-statuses=("$top/crates/cd_command/src/fault.rt" "$top/crates/cd_jobs/src/run.rt")
+statuses=("$top/crates/cd_args/src/fault.rt" "$top/crates/cd_program/src/commands.rt")
 header=$top/include/cdpatch.h
 strict=(-Wall -Wextra -Werror -pedantic -I "$top/include")
 if ! bash "$top/tools/library.sh" library 2> errors; then

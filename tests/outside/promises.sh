@@ -3,7 +3,7 @@
 # one, and a test runs it.
 
 enter promises
-library_crates=(cd_code cd_sector cd_delta cd_script cd_patch cd_stream cd_read cd_report cd_image cd_command cd_jobs cd_memory)
+library_crates=(cd_code cd_sector cd_delta cd_script cd_patch cd_stream cd_read cd_report cd_image cd_args cd_program cd_memory)
 # Those, and what C calls: static libraries, which no crate of tests can stand on.
 crates_with_contracts=("${library_crates[@]}" cd_c cd_c_images)
 contracts=$top/docs/CONTRACTS.md
@@ -91,7 +91,7 @@ while IFS= read -r path <&3; do
     judge "docs/MAP.md: the message is in $path" grep -q "${message:-no message}" "$top/$path"
 done 3< in_table
 line=$(sed -n 's/^    old: //p' "$map")
-judge 'the line of its wrong body stands there once' test "$(grep -cF -- "$line" "$top/crates/cd_jobs/src/messages.rt")" = 1
+judge 'the line of its wrong body stands there once' test "$(grep -cF -- "$line" "$top/crates/cd_program/src/messages.rt")" = 1
 
 # Each example of the rustdoc stands in a test, line by line.
 tested=$(for file in "$top"/crates/cd_*/src/tests/examples.rt; do sed 's/^ *//' "$file"; echo; done)

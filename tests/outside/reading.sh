@@ -52,7 +52,7 @@ fi
 
 # docs/MAP.md says what the code of each crate uses of the others.
 tr '\n' ' ' < "$top/docs/MAP.md" > map
-for crate in cd_code cd_sector cd_delta cd_script cd_patch cd_stream cd_read cd_report cd_image cd_command cd_jobs cdpatch cd_c \
+for crate in cd_code cd_sector cd_delta cd_script cd_patch cd_stream cd_read cd_report cd_image cd_args cd_program cdpatch cd_c \
     cd_c_images; do
     mapfile -t used < <(find "$top/crates/$crate/src" -name '*.rt' ! -path '*/tests/*' ! -name tests.rt -exec \
         sed -nE 's/^ *(pub )?use (cd_[a-z]+)::.*/\2/p' {} + | sort -u)

@@ -9,7 +9,7 @@ use Rattle.cd_c.specs.declared.results.TheConstants.{OK, NOT_MODE1, DAMAGED, OUT
 abbrev pub as_byte : Bool → ℕ
 as_byte b = if b then 1 else 0
 
--- whether so many bytes from an offset on lie in the user data
+-- whether a number of bytes from an offset on lie in the user data
 abbrev pub is_inside : ℕ → ℕ → Bool
 is_inside offset count = nat_lt (offset + count) (USER_SIZE + 1)
 

@@ -7,7 +7,7 @@ ghost use Rattle.cd_sector.specs.Carried.{IsCarried};
 ghost use Rattle.cd_sector.specs.CodeWords.{SameSyndromes};
 ghost use Rattle.cd_sector.specs.Consistent.{IsConsistent, header_of, user_of};
 ghost use Rattle.cd_sector.specs.Kind.{kind_of};
-ghost use Rattle.cd_delta.specs.Writing.{written};
+ghost use Rattle.cd_delta.specs.Writing.{with_range};
 ghost use Rattle.cd_c.specs.Results.{carry_result, change_result, is_inside};
 
 use crate::results::{OK, carry_result, change_result, is_inside};
@@ -19,7 +19,7 @@ use cd_sector::{Sector, rebuild};
 pub extern "C" fn cdpatch_change_user(sector: &mut Sector, offset: usize, bytes: &[u8]) -> u32
     ensures result { result ≡ change_result sector.old (is_inside offset (length bytes.now)) }
     ensures refused { result ≢ OK → sector.new ≡ sector.old }
-    ensures user { result ≡ OK → user_of sector.new ≡ written (user_of sector.old) offset bytes.now }
+    ensures user { result ≡ OK → user_of sector.new ≡ with_range (user_of sector.old) offset bytes.now }
     ensures edc { result ≡ OK
         → IsEdc (take 2064 sector.new) (from_le_bytes w32 (slice_range sector.new 2064 2068)) }
     ensures divides { result ≡ OK → remainder (bits (take 2068 sector.new)) ≡ 0 }
@@ -43,10 +43,10 @@ pub extern "C" fn cdpatch_carry_user(sector: &mut Sector, offset: usize, bytes: 
     ensures result { result ≡ carry_result sector.old (is_inside offset (length bytes.now)) }
     ensures refused { result ≢ OK → sector.new ≡ sector.old }
     ensures carried { result ≡ OK → IsCarried sector.old (header_of sector.old)
-        (written (user_of sector.old) offset bytes.now) sector.new }
-    ensures alone { result ≡ OK → (t : List ℕ)
+        (with_range (user_of sector.old) offset bytes.now) sector.new }
+    ensures unique { result ≡ OK → (t : List ℕ)
         → IsCarried sector.old (header_of sector.old)
-        (written (user_of sector.old) offset bytes.now) t
+        (with_range (user_of sector.old) offset bytes.now) t
         → t ≡ sector.new }
     ensures kind { kind_of sector.new ≡ kind_of sector.old }
     ensures edc { result ≡ OK → (before after : ℕ) → IsEdc (take 2064 sector.old) before
@@ -93,7 +93,7 @@ pub extern "C" fn cdpatch_carry_address(sector: &mut Sector, bcd: &[u8; 3]) -> u
     ensures carried { result ≡ OK
         → IsCarried sector.old (bcd.now ++ drop 3 (header_of sector.old)) (user_of sector.old)
         sector.new }
-    ensures alone { result ≡ OK → (t : List ℕ)
+    ensures unique { result ≡ OK → (t : List ℕ)
         → IsCarried sector.old (bcd.now ++ drop 3 (header_of sector.old)) (user_of sector.old) t
         → t ≡ sector.new }
     ensures kind { kind_of sector.new ≡ kind_of sector.old }
@@ -118,7 +118,7 @@ pub extern "C" fn cdpatch_rebuild(sector: &mut Sector) -> u32
     ensures consistent { result ≡ OK → IsConsistent sector.new }
     ensures header { header_of sector.new ≡ header_of sector.old }
     ensures user { user_of sector.new ≡ user_of sector.old }
-    ensures alone { result ≡ OK → (t : List ℕ) → IsConsistent t → header_of t ≡ header_of sector.old
+    ensures unique { result ≡ OK → (t : List ℕ) → IsConsistent t → header_of t ≡ header_of sector.old
         → user_of t ≡ user_of sector.old → t ≡ sector.new }
 {
     let result = carry_result(sector, true);

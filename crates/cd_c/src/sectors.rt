@@ -35,7 +35,7 @@ pub struct FoundDefect {
 #[unsafe(no_mangle)]
 pub extern "C" fn cdpatch_edc(bytes: &[u8]) -> u32
     ensures word { IsEdc bytes.now result }
-    ensures alone { (w : ℕ) → IsEdc bytes.now w → w ≡ result }
+    ensures unique { (w : ℕ) → IsEdc bytes.now w → w ≡ result }
 {
     edc_of(bytes)
 }
@@ -77,7 +77,7 @@ pub extern "C" fn cdpatch_encode(bcd: &[u8; 3], user: &[u8; USER_SIZE], sector: 
     ensures consistent { IsConsistent sector.new }
     ensures header { header_of sector.new ≡ bcd.now ++ 1 ∷ [] }
     ensures user { user_of sector.new ≡ user.now }
-    ensures alone { (s : List ℕ) → IsConsistent s → header_of s ≡ bcd.now ++ 1 ∷ []
+    ensures unique { (s : List ℕ) → IsConsistent s → header_of s ≡ bcd.now ++ 1 ∷ []
         → user_of s ≡ user.now → s ≡ sector.new }
 {
     encode_into(sector, *bcd, user);

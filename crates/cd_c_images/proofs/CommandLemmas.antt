@@ -1,10 +1,10 @@
 -- The commands on an image in memory, and the script of a text.
 use Rattle.std.proofs.Common.{◌≡◌, ℕ, ◌≤◌, Bool, List, length, Result, Ok, Err, IfOk, IfErr, OnOk}
 use Rattle.std.proofs.Common.{OnErr, refl, subst}
-use Rattle.cd_command.specs.Fault.{failed_status}
-use Rattle.cd_jobs.specs.Messages.{script_fault_line}
-use Rattle.cd_jobs.specs.Run.{SaysLine}
-use Rattle.cd_jobs.specs.ScriptLines.{IsFaultOf}
+use Rattle.cd_args.specs.Fault.{failed_status}
+use Rattle.cd_program.specs.Messages.{script_fault_line}
+use Rattle.cd_program.specs.Commands.{PrintsLine}
+use Rattle.cd_program.specs.ScriptLines.{IsFaultOf}
 use Rattle.cd_memory.specs.Memory.{fresh_incoming}
 use Rattle.cd_read.specs.Image.{base_limit}
 use Rattle.cd_report.specs.Report.{ReportSpec}
@@ -14,16 +14,16 @@ use Rattle.cd_script.specs.Script.{script}
 use Rattle.cd_script.specs.declared.fault.ScriptFault.{ScriptFault}
 use Rattle.cd_script.specs.declared.patch.Patch.{Patch}
 use Rattle.cd_stream.specs.Stream.{Incoming, Outgoing}
-use Rattle.cd_c_images.specs.Images.{AppliesFrom, AppliesOn, ChecksFrom, ChecksOn, NoPatches}
-use Rattle.cd_c_images.specs.Images.{ReportsFrom, ReportsOn, TakesText}
+use Rattle.cd_c_images.specs.Images.{AppliesFrom, AppliesInMemory, ChecksFrom, ChecksInMemory, HasNoScript}
+use Rattle.cd_c_images.specs.Images.{ReportsFrom, ReportsInMemory, TakesText}
 
 pub reports-on : {T : Type 0} {spec : ReportSpec T} {status_of : T → ℕ} {base : ℕ} {image : List ℕ}
     {out out' : Outgoing} {status : ℕ} → base ≤ base_limit → (source : Incoming)
     → source ≡ fresh_incoming image → ReportsFrom spec status_of source out out' status
-    → ReportsOn spec status_of base image out out' status
+    → ReportsInMemory spec status_of base image out out' status
 reports-on {spec = spec} {status_of = status_of} {out = out} {out' = out'} {status = status}
     within source fresh reports =
-    ReportsOn.reported within
+    ReportsInMemory.reported within
     (subst (λ s. ReportsFrom spec status_of s out out' status) fresh reports)
 
 pub takes-text : (text : List ℕ) (log log' : Outgoing) (result : Result (List Patch) ℕ)
@@ -31,27 +31,27 @@ pub takes-text : (text : List ℕ) (log log' : Outgoing) (result : Result (List 
     → IfOk result (λ s. (ps : List Patch) × (script text ≡ Ok ps) × (s ≡ order ps))
     → OnOk result (log' ≡ log) → IfErr result (λ status. status ≡ failed_status)
     → OnErr result ((fault : ScriptFault) × IsFaultOf text fault
-    × SaysLine (script_fault_line fault) log log')
+    × PrintsLine (script_fault_line fault) log log')
     → TakesText text log log' result
 takes-text text log log' (Ok patches) within reads silent status line =
     (record { within = within; reads = reads }, silent)
 takes-text text log log' (Err failed) within reads silent status line =
-    (script_fault_line line.0, NoPatches.faulty within line.0 line.1 refl, (line.2, status))
+    (script_fault_line line.0, HasNoScript.faulty within line.0 line.1 refl, (line.2, status))
 
 module _ {carry : Bool} {base : ℕ} {image text : List ℕ} {log middle log' : Outgoing} {status : ℕ}
     (within : base ≤ base_limit) (patches : List Patch)
     (takes : TakesText text log middle (Ok patches)) (source : Incoming)
     (fresh : source ≡ fresh_incoming image) where
   pub checks-on : ChecksFrom carry patches base source middle log' status
-      → ChecksOn carry base image text log log' status
-  checks-on checks = ChecksOn.checked within patches takes.0
+      → ChecksInMemory carry base image text log log' status
+  checks-on checks = ChecksInMemory.checked within patches takes.0
       (subst (λ l. ChecksFrom carry patches base (fresh_incoming image) l log' status) takes.1
       (subst (λ s. ChecksFrom carry patches base s middle log' status) fresh checks))
 
   pub applies-on : {out out' : Outgoing}
       → AppliesFrom carry patches base source out out' middle log' status
-      → AppliesOn carry base image text out out' log log' status
-  applies-on {out = out} {out' = out'} applies = AppliesOn.applied within patches takes.0
+      → AppliesInMemory carry base image text out out' log log' status
+  applies-on {out = out} {out' = out'} applies = AppliesInMemory.applied within patches takes.0
       (subst (λ l. AppliesFrom carry patches base (fresh_incoming image) out out' l log' status)
       takes.1
       (subst (λ s. AppliesFrom carry patches base s out out' middle log' status) fresh applies))

@@ -4,16 +4,16 @@ use Rattle.std.proofs.Common.{sym, ap, ◌∙◌, subst, arith, length-append}
 use Rattle.std.specs.Prelude.{option_map}
 use Rattle.std.specs.Io.KnownBytes.{Appends}
 use Rattle.std.proofs.lemmas.List.{drop-append-le}
-use Rattle.cd_jobs.specs.Run.{Ends, SaysLine, TellsText}
+use Rattle.cd_program.specs.Commands.{Ends, PrintsLine, PrintsText}
 use Rattle.cd_memory.proofs.KnownLemmas.{Appends-Some, Some-injective}
 use Rattle.cd_read.specs.Ends.{EndsWell}
 use Rattle.cd_read.specs.declared.fault.Fault.{Fault}
 use Rattle.cd_read.specs.declared.fault.Fault.TheVariants.{Log, Read, TooLong, Write}
-use Rattle.cd_report.specs.Report.{Answers, ReportSpec, Reports}
-use Rattle.cd_stream.specs.Forms.{slice_incoming}
+use Rattle.cd_report.specs.Report.{ReportAnswers, ReportSpec, Reports}
+use Rattle.cd_stream.specs.Adapters.{slice_incoming}
 use Rattle.cd_stream.specs.Stream.{Incoming, Outgoing}
 use Rattle.cd_stream.specs.Transfer.{Takes}
-use Rattle.cd_c_images.specs.Images.{ReportsFrom, ReportsOn}
+use Rattle.cd_c_images.specs.Images.{ReportsFrom, ReportsInMemory}
 
 -- a sink without its first n bytes
 abbrev pub without : ℕ → Outgoing → Outgoing
@@ -63,9 +63,9 @@ grown-without n old new has earlier sent was now =
 
 -- ---- lines and ends
 
-pub SaysLine-without : (n : ℕ) (line : List ℕ) (before after : Outgoing) → Has n before
-    → SaysLine line before after → SaysLine line (without n before) (without n after)
-SaysLine-without n line before after has says = record {
+pub PrintsLine-without : (n : ℕ) (line : List ℕ) (before after : Outgoing) → Has n before
+    → PrintsLine line before after → PrintsLine line (without n before) (without n after)
+PrintsLine-without n line before after has says = record {
   sent = says.sent;
   takes = Takes-without n before after says.sent has says.takes;
   begins = says.begins;
@@ -80,12 +80,12 @@ pub Ends-without : {T : Type 0} (n : ℕ) (own : Fault) (status_of : T → ℕ) 
     (middle after : Outgoing) (status : ℕ) → Has n middle
     → Ends own status_of result middle after status
     → Ends own status_of result (without n middle) (without n after) status
-Ends-without n own status_of (Ok told) middle after status has ends =
+Ends-without n own status_of (Ok tally) middle after status has ends =
     (ap (without n) ends.0, ends.1)
 Ends-without n own status_of (Err fault) middle after status has ends = (
   (
     λ same. ap (without n) (ends.0.0 same),
-    λ other. SaysLine-without n _ middle after has (ends.0.1 other),
+    λ other. PrintsLine-without n _ middle after has (ends.0.1 other),
   ),
   ends.1,
 )
@@ -103,9 +103,9 @@ EndsWell-without n image image' out out' ends = record {
 module _ {T : Type 0} (spec : ReportSpec T) (image image' : Incoming) (n : ℕ) (out out' : Outgoing)
   where
     Answers-without : (read sent : List ℕ) (result : Result T Fault)
-        → Answers spec read sent image image' out out' result
-        → Answers spec read sent image image' (without n out) (without n out') result
-    Answers-without read sent (Ok told) a = record {
+        → ReportAnswers spec read sent image image' out out' result
+        → ReportAnswers spec read sent image image' (without n out) (without n out') result
+    Answers-without read sent (Ok tally) a = record {
       reads = a.reads;
       writes = a.writes;
       finished = a.finished;
@@ -155,11 +155,11 @@ module _ {T : Type 0} (spec : ReportSpec T) (image image' : Incoming) (n : ℕ) 
       answers = Answers-without r.read r.sent result r.answers;
     }
 
-    TellsText-without : (status_of : T → ℕ) (status : ℕ) → Has n out
-        → TellsText spec status_of image image' out out' status
-        → TellsText spec status_of image image' (without n out) (without n out') status
-    TellsText-without status_of status has tells = λ bytes earlier known was.
-        let all = tells bytes has.bytes known has.known in
+    PrintsText-without : (status_of : T → ℕ) (status : ℕ) → Has n out
+        → PrintsText spec status_of image image' out out' status
+        → PrintsText spec status_of image image' (without n out) (without n out') status
+    PrintsText-without status_of status has done = λ bytes earlier known was.
+        let all = done bytes has.bytes known has.known in
         (all.0, grown-without n out out' has earlier _ was all.1, all.2)
 
 pub ReportsFrom-without : {T : Type 0} {spec : ReportSpec T} {status_of : T → ℕ} {image : Incoming}
@@ -179,7 +179,7 @@ ReportsFrom-without {spec = spec} {status_of = status_of} {image = image} {statu
             (Has-more n out runs.middle runs.does.sent has runs.does.takes.appends) runs.ends;
       };
       text = λ done.
-          TellsText-without spec image left n out out' status_of status has (r.text done);
+          PrintsText-without spec image left n out out' status_of status has (r.text done);
       ends_well = λ done. EndsWell-without n image left out out' (r.ends_well done);
       flushed = r.flushed;
       failed = r.failed;
@@ -187,9 +187,9 @@ ReportsFrom-without {spec = spec} {status_of = status_of} {image = image} {statu
 
 pub ReportsOn-without : {T : Type 0} {spec : ReportSpec T} {status_of : T → ℕ} {base : ℕ}
     {image : List ℕ} {status : ℕ} (n : ℕ) (out out' : Outgoing) → Has n out
-    → ReportsOn spec status_of base image out out' status
-    → ReportsOn spec status_of base image (without n out) (without n out') status
-ReportsOn-without n out out' has (ReportsOn.outside above failed same) =
-    ReportsOn.outside above failed (ap (without n) same)
-ReportsOn-without n out out' has (ReportsOn.reported within r) =
-    ReportsOn.reported within (ReportsFrom-without n out out' has r)
+    → ReportsInMemory spec status_of base image out out' status
+    → ReportsInMemory spec status_of base image (without n out) (without n out') status
+ReportsOn-without n out out' has (ReportsInMemory.outside above failed same) =
+    ReportsInMemory.outside above failed (ap (without n) same)
+ReportsOn-without n out out' has (ReportsInMemory.reported within r) =
+    ReportsInMemory.reported within (ReportsFrom-without n out out' has r)

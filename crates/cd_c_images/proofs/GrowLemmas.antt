@@ -2,13 +2,13 @@
 use Rattle.std.proofs.Common.{◌≡◌, ◌≢◌, ℕ, ◌⊎◌, Bool, List, [], ◌++◌, Some, Result, Ok, Err}
 use Rattle.std.proofs.Common.{inl, inr, refl, sym, ap, ◌∙◌, append-nil, append_assoc}
 use Rattle.std.specs.Io.KnownBytes.{Appends}
-use Rattle.cd_jobs.specs.Run.{Ends, SaysLine}
+use Rattle.cd_program.specs.Commands.{Ends, PrintsLine}
 use Rattle.cd_memory.proofs.KnownLemmas.{Appends-Some}
 use Rattle.cd_read.specs.declared.fault.Fault.{Fault}
 use Rattle.cd_read.specs.declared.fault.Fault.TheVariants.{Log, Read, TooLong, Write}
 use Rattle.cd_report.specs.Report.{ReportSpec}
 use Rattle.cd_stream.specs.Stream.{Outgoing}
-use Rattle.cd_c_images.specs.Images.{AppliesOn, ChecksOn, ReportsOn}
+use Rattle.cd_c_images.specs.Images.{AppliesInMemory, ChecksInMemory, ReportsInMemory}
 
 same-or-other : (a b : Fault) → (a ≡ b) ⊎ (a ≢ b)
 same-or-other Read Read = inl refl
@@ -25,9 +25,9 @@ stayed : (front : List ℕ) (before after : Outgoing) → before.written ≡ Som
 stayed front before after had same =
     ([], ap (λ o. o.written) same ∙ had ∙ ap Some (sym (append-nil front)))
 
-said : (front line : List ℕ) (before after : Outgoing) → Grew front before
-    → SaysLine line before after → Grew front after
-said front line before after grew says = (
+printed_log : (front line : List ℕ) (before after : Outgoing) → Grew front before
+    → PrintsLine line before after → Grew front after
+printed_log front line before after grew says = (
   grew.0 ++ says.sent,
   Appends-Some before.written after.written (front ++ grew.0) says.sent grew.1 says.takes.appends
       ∙ ap Some (append_assoc front grew.0 says.sent),
@@ -42,7 +42,7 @@ ended front own status_of (Err fault) middle after status grew ends = go (same-o
   where
     go : (fault ≡ own) ⊎ (fault ≢ own) → Grew front after
     go (inl same) = (grew.0, ap (λ o. o.written) (ends.0.0 same) ∙ grew.1)
-    go (inr other) = said front _ middle after grew (ends.0.1 other)
+    go (inr other) = printed_log front _ middle after grew (ends.0.1 other)
 
 appended : (front sent : List ℕ) (before after : Outgoing) → before.written ≡ Some front
     → Appends before.written after.written sent → Grew front after
@@ -52,42 +52,42 @@ appended front sent before after had went =
 pub reports-grow : {T : Type 0} {spec : ReportSpec T} {status_of : T → ℕ} {base : ℕ}
     {image : List ℕ} {status : ℕ} (front : List ℕ) (before after : Outgoing)
     → before.written ≡ Some front
-    → ReportsOn spec status_of base image before after status → Grew front after
-reports-grow front before after had (ReportsOn.outside above failed same) =
+    → ReportsInMemory spec status_of base image before after status → Grew front after
+reports-grow front before after had (ReportsInMemory.outside above failed same) =
     stayed front before after had same
 reports-grow {status_of = status_of} {status = status} front before after had
-    (ReportsOn.reported within r) =
+    (ReportsInMemory.reported within r) =
     let runs = r.runs in
     ended front Write status_of runs.result runs.middle after status
     (appended front runs.does.sent before runs.middle had runs.does.takes.appends) runs.ends
 
 pub checks-grow : {carry : Bool} {base : ℕ} {image text : List ℕ} {status : ℕ} (front : List ℕ)
     (before after : Outgoing) → before.written ≡ Some front
-    → ChecksOn carry base image text before after status → Grew front after
-checks-grow front before after had (ChecksOn.outside above failed same) =
+    → ChecksInMemory carry base image text before after status → Grew front after
+checks-grow front before after had (ChecksInMemory.outside above failed same) =
     stayed front before after had same
-checks-grow front before after had (ChecksOn.without_script within line none fails) =
-    said front line before after (stayed front before before had refl) fails.0
-checks-grow front before after had (ChecksOn.checked within patches has r) =
+checks-grow front before after had (ChecksInMemory.without_script within line none fails) =
+    printed_log front line before after (stayed front before before had refl) fails.0
+checks-grow front before after had (ChecksInMemory.checked within patches has r) =
     let runs = r.runs in
     let does = runs.does.3 in
     ended front Log _ runs.result runs.middle after _
-    (appended front does.told before runs.middle had does.logs) runs.ends
+    (appended front does.log_bytes before runs.middle had does.logs) runs.ends
 
 pub applies-grow : {carry : Bool} {base : ℕ} {image text : List ℕ} {status : ℕ}
     (front made : List ℕ) (out out' log log' : Outgoing) → log.written ≡ Some front
-    → out.written ≡ Some made → AppliesOn carry base image text out out' log log' status
+    → out.written ≡ Some made → AppliesInMemory carry base image text out out' log log' status
     → Grew front log' × Grew made out'
-applies-grow front made out out' log log' had held (AppliesOn.outside above failed same silent) =
+applies-grow front made out out' log log' had held (AppliesInMemory.outside above failed same silent) =
     (stayed front log log' had silent, stayed made out out' held same)
 applies-grow front made out out' log log' had held
-    (AppliesOn.without_script within line none same fails) = (
-      said front line log log' (stayed front log log had refl) fails.0,
+    (AppliesInMemory.without_script within line none same fails) = (
+      printed_log front line log log' (stayed front log log had refl) fails.0,
       stayed made out out' held same,
     )
-applies-grow front made out out' log log' had held (AppliesOn.applied within patches has r) =
+applies-grow front made out out' log log' had held (AppliesInMemory.applied within patches has r) =
     let runs = r.runs in (
       ended front Log _ runs.result runs.middle log' _
-          (appended front runs.does.told log runs.middle had runs.does.logs) runs.ends,
+          (appended front runs.does.log_bytes log runs.middle had runs.does.logs) runs.ends,
       appended made runs.does.sent out out' held runs.does.appends,
     )

@@ -5,16 +5,16 @@ use Rattle.std.specs.Prelude.{option_map}
 use Rattle.cd_image.specs.Applying.{Applies, AppliesBy, Checks, Failed, Flushed, HoldsFew, Streams}
 use Rattle.cd_image.specs.Applying.{WritesCarried, WritesPatched, null_outgoing, streams}
 use Rattle.cd_image.specs.declared.patch_log.Tally.{Tally}
-use Rattle.cd_jobs.specs.Run.{TellsPatches, script_status}
+use Rattle.cd_program.specs.Commands.{PrintsPatchLog, script_status}
 use Rattle.cd_memory.proofs.KnownLemmas.{Some-injective}
 use Rattle.cd_read.specs.declared.fault.Fault.{Fault}
 use Rattle.cd_read.specs.declared.fault.Fault.TheVariants.{Log, Read, TooLong, Write}
 use Rattle.cd_script.specs.declared.patch.Patch.{Patch}
-use Rattle.cd_stream.specs.Forms.{slice_incoming}
+use Rattle.cd_stream.specs.Adapters.{slice_incoming}
 use Rattle.cd_stream.specs.Stream.{Incoming, Outgoing}
-use Rattle.cd_c_images.specs.Images.{AppliesFrom, AppliesOn, ChecksFrom, ChecksOn}
+use Rattle.cd_c_images.specs.Images.{AppliesFrom, AppliesInMemory, ChecksFrom, ChecksInMemory}
 use Rattle.cd_c_images.proofs.FrontLemmas.{Appends-without, Ends-without, EndsWell-without, Has}
-use Rattle.cd_c_images.proofs.FrontLemmas.{Has-more, SaysLine-without, grown-without, without}
+use Rattle.cd_c_images.proofs.FrontLemmas.{Has-more, PrintsLine-without, grown-without, without}
 
 -- ---- the whole contract
 
@@ -31,10 +31,10 @@ module _ (n m : ℕ) (old new : Streams) where
       → Flushed (both-without n m old) (both-without n m new) o l
   Flushed-without o l f = record { outs = f.outs; logs = f.logs }
 
-  module _ (carry : Bool) (patches : List Patch) (base : ℕ) (read sent told : List ℕ) where
+  module _ (carry : Bool) (patches : List Patch) (base : ℕ) (read sent log_bytes : List ℕ) where
     AppliesBy-without : (result : Result Tally Fault)
-        → AppliesBy carry patches base read sent told old new result
-        → AppliesBy carry patches base read sent told (both-without n m old) (both-without n m new)
+        → AppliesBy carry patches base read sent log_bytes old new result
+        → AppliesBy carry patches base read sent log_bytes (both-without n m old) (both-without n m new)
         result
     AppliesBy-without (Ok tally) a = record {
       failed = Failed-without 0 0 0 a.failed;
@@ -46,7 +46,7 @@ module _ (n m : ℕ) (old new : Streams) where
       within = a.within;
       outcomes = a.outcomes;
       patched = a.patched;
-      log_told = a.log_told;
+      log_right = a.log_right;
       tally_right = a.tally_right;
     }
     AppliesBy-without (Err Read) a = record {
@@ -64,7 +64,7 @@ module _ (n m : ℕ) (old new : Streams) where
       at_end = a.at_end;
       within = a.within;
       begins = a.begins;
-      beside = a.beside;
+      between_sinks = a.between_sinks;
     }
     AppliesBy-without (Err Log) a = record {
       failed = Failed-without 0 0 1 a.failed;
@@ -74,7 +74,7 @@ module _ (n m : ℕ) (old new : Streams) where
       once = a.once;
       within = a.within;
       begins = a.begins;
-      beside = a.beside;
+      between_sinks = a.between_sinks;
       flushed = a.flushed;
       at_end = a.at_end;
     }
@@ -94,15 +94,15 @@ module _ {carry : Bool} {patches : List Patch} {base : ℕ} {result : Result Tal
   Applies-without n m old new out_has log_has a = record {
     read = a.read;
     sent = a.sent;
-    told = a.told;
+    log_bytes = a.log_bytes;
     consumes = a.consumes;
     given = a.given;
     appends = Appends-without n old.out new.out a.sent out_has a.appends;
     out_taken = a.out_taken;
-    logs = Appends-without m old.log new.log a.told log_has a.logs;
+    logs = Appends-without m old.log new.log a.log_bytes log_has a.logs;
     log_taken = a.log_taken;
     in_hand = a.in_hand;
-    answers = AppliesBy-without n m old new carry patches base a.read a.sent a.told result
+    answers = AppliesBy-without n m old new carry patches base a.read a.sent a.log_bytes result
         a.answers;
   }
 
@@ -119,15 +119,15 @@ module _ {carry : Bool} {patches : List Patch} {base : ℕ} {result : Result Tal
         record {
           read = a.read;
           sent = a.sent;
-          told = a.told;
+          log_bytes = a.log_bytes;
           consumes = a.consumes;
           given = a.given;
           appends = a.appends;
           out_taken = a.out_taken;
-          logs = Appends-without m log log' a.told has a.logs;
+          logs = Appends-without m log log' a.log_bytes has a.logs;
           log_taken = a.log_taken;
           in_hand = a.in_hand;
-          answers = AppliesBy-without 0 m old new carry patches base a.read a.sent a.told result
+          answers = AppliesBy-without 0 m old new carry patches base a.read a.sent a.log_bytes result
               a.answers;
         },
       )
@@ -136,10 +136,10 @@ module _ {carry : Bool} {patches : List Patch} {base : ℕ} {result : Result Tal
 
 module _ (carry : Bool) (patches : List Patch) (base : ℕ) (image : Incoming) (n : ℕ)
     (out out' : Outgoing) (has : Has n out) where
-  TellsPatches-without : (status : ℕ) → TellsPatches carry patches base image out out' status
-      → TellsPatches carry patches base image (without n out) (without n out') status
-  TellsPatches-without status tells = λ bytes earlier known was outcomes last patched.
-      let all = tells bytes has.bytes known has.known outcomes last patched in
+  PrintsPatchLog-without : (status : ℕ) → PrintsPatchLog carry patches base image out out' status
+      → PrintsPatchLog carry patches base image (without n out) (without n out') status
+  PrintsPatchLog-without status done = λ bytes earlier known was outcomes last patched.
+      let all = done bytes has.bytes known has.known outcomes last patched in
       (grown-without n out out' has earlier _ was all.0, all.1)
 
   WritesPatched-without : (image' : Incoming)
@@ -196,10 +196,10 @@ module _ {carry : Bool} {patches : List Patch} {base : ℕ} {image : Incoming} {
           middle = without m runs.middle;
           does = Checks-without m image left log runs.middle has runs.does;
           ends = Ends-without m Log script_status runs.result runs.middle log' status
-              (Has-more m log runs.middle runs.does.3.told has runs.does.3.logs) runs.ends;
+              (Has-more m log runs.middle runs.does.3.log_bytes has runs.does.3.logs) runs.ends;
         };
         text = λ done.
-            TellsPatches-without carry patches base image m log log' has status (r.text done);
+            PrintsPatchLog-without carry patches base image m log log' has status (r.text done);
         ends_well = λ done. EndsWell-without m image left log log' (r.ends_well done);
         flushed = r.flushed;
         failed = r.failed;
@@ -219,14 +219,14 @@ module _ {carry : Bool} {patches : List Patch} {base : ℕ} {image : Incoming} {
           does = Applies-without n m (streams image out log) (streams left out' runs.middle) out_has
               log_has runs.does;
           ends = Ends-without m Log script_status runs.result runs.middle log' status
-              (Has-more m log runs.middle runs.does.told log_has runs.does.logs) runs.ends;
+              (Has-more m log runs.middle runs.does.log_bytes log_has runs.does.logs) runs.ends;
         };
         output = λ done. WritesPatched-without carry patches base image n out out' out_has left
             (r.output done);
         carried = λ carries done. WritesCarried-without carry patches base image n out out' out_has
             (r.carried carries done);
         text = λ done.
-            TellsPatches-without carry patches base image m log log' log_has status (r.text done);
+            PrintsPatchLog-without carry patches base image m log log' log_has status (r.text done);
         output_ends_well = λ done.
             EndsWell-without n image left out out' (r.output_ends_well done);
         log_ends_well = λ done. EndsWell-without m image left log log' (r.log_ends_well done);
@@ -240,28 +240,28 @@ module _ {carry : Bool} {patches : List Patch} {base : ℕ} {image : Incoming} {
 
 module _ {carry : Bool} {base : ℕ} {image text : List ℕ} {status : ℕ} where
   pub ChecksOn-without : (m : ℕ) (log log' : Outgoing) → Has m log
-      → ChecksOn carry base image text log log' status
-      → ChecksOn carry base image text (without m log) (without m log') status
-  ChecksOn-without m log log' has (ChecksOn.outside above failed same) =
-      ChecksOn.outside above failed (ap (without m) same)
-  ChecksOn-without m log log' has (ChecksOn.without_script within line none fails) =
-      ChecksOn.without_script within line none
-      (SaysLine-without m line log log' has fails.0, fails.1)
-  ChecksOn-without m log log' has (ChecksOn.checked within patches reads r) =
-      ChecksOn.checked within patches reads (ChecksFrom-without m log log' has r)
+      → ChecksInMemory carry base image text log log' status
+      → ChecksInMemory carry base image text (without m log) (without m log') status
+  ChecksOn-without m log log' has (ChecksInMemory.outside above failed same) =
+      ChecksInMemory.outside above failed (ap (without m) same)
+  ChecksOn-without m log log' has (ChecksInMemory.without_script within line none fails) =
+      ChecksInMemory.without_script within line none
+      (PrintsLine-without m line log log' has fails.0, fails.1)
+  ChecksOn-without m log log' has (ChecksInMemory.checked within patches reads r) =
+      ChecksInMemory.checked within patches reads (ChecksFrom-without m log log' has r)
 
   pub AppliesOn-without : (n m : ℕ) (out out' log log' : Outgoing) → Has n out → Has m log
-      → AppliesOn carry base image text out out' log log' status
-      → AppliesOn carry base image text (without n out) (without n out') (without m log)
+      → AppliesInMemory carry base image text out out' log log' status
+      → AppliesInMemory carry base image text (without n out) (without n out') (without m log)
       (without m log') status
   AppliesOn-without n m out out' log log' out_has log_has
-      (AppliesOn.outside above failed same silent) =
-      AppliesOn.outside above failed (ap (without n) same) (ap (without m) silent)
+      (AppliesInMemory.outside above failed same silent) =
+      AppliesInMemory.outside above failed (ap (without n) same) (ap (without m) silent)
   AppliesOn-without n m out out' log log' out_has log_has
-      (AppliesOn.without_script within line none same fails) =
-      AppliesOn.without_script within line none (ap (without n) same)
-      (SaysLine-without m line log log' log_has fails.0, fails.1)
+      (AppliesInMemory.without_script within line none same fails) =
+      AppliesInMemory.without_script within line none (ap (without n) same)
+      (PrintsLine-without m line log log' log_has fails.0, fails.1)
   AppliesOn-without n m out out' log log' out_has log_has
-      (AppliesOn.applied within patches reads r) =
-      AppliesOn.applied within patches reads
+      (AppliesInMemory.applied within patches reads r) =
+      AppliesInMemory.applied within patches reads
       (AppliesFrom-without n m out out' log log' out_has log_has r)

@@ -1,29 +1,29 @@
 -- The clauses of the calls: the plain ones follow from the whole one.
 use Rattle.std.proofs.Common.{◌≡◌, ◌≢◌, ℕ, ◌<◌, ◌⊎◌, Bool, List, [], length, Some, inl, inr, refl}
 use Rattle.std.proofs.Common.{sym, ap, ◌∙◌, subst, arith}
-use Rattle.cd_command.specs.Fault.{failed_status}
-use Rattle.cd_jobs.specs.Run.{IsTooLong}
+use Rattle.cd_args.specs.Fault.{failed_status}
+use Rattle.cd_program.specs.Commands.{IsTooLong}
 use Rattle.cd_memory.proofs.KnownLemmas.{Some-injective}
 use Rattle.cd_memory.specs.Memory.{fresh_incoming, fresh_outgoing}
 use Rattle.cd_read.specs.Image.{image_limit}
 use Rattle.cd_report.specs.Report.{ReportSpec}
-use Rattle.cd_stream.specs.Forms.{slice_incoming}
+use Rattle.cd_stream.specs.Adapters.{slice_incoming}
 use Rattle.cd_stream.specs.Stream.{Outgoing}
-use Rattle.cd_stream.specs.declared.forms.slice_source.SliceSource.{SliceSource}
-use Rattle.cd_c_images.specs.Images.{AppliesOn, ChecksOn, ReportsOn}
+use Rattle.cd_stream.specs.declared.adapters.slice_source.SliceSource.{SliceSource}
+use Rattle.cd_c_images.specs.Images.{AppliesInMemory, ChecksInMemory, ReportsInMemory}
 use Rattle.cd_c_images.specs.Plain.{CheckFails, ReportFails, TakesPatches}
 use Rattle.cd_c_images.specs.Plain.{WritesLines, WritesReport}
-use Rattle.cd_c_images.specs.Rooms.{Fills, FillsCounted, FillsRoom, Holds, lent_to, room_outgoing}
+use Rattle.cd_c_images.specs.Rooms.{FillsCounted, FillsFront, FillsRoom, Holds, lent_to, room_outgoing}
 use Rattle.cd_c_images.specs.declared.room.Room.{Room}
 use Rattle.cd_c_images.proofs.RoomLemmas.{fills-counted}
 
 -- a text that is known to have gone out is the one in the memory
-same-text : (after : Outgoing) (room room' text : List ℕ) (fills : Fills after room room')
+same-text : (after : Outgoing) (room room' text : List ℕ) (fills : FillsFront after room room')
     → after.written ≡ Some text → fills.text ≡ text
 same-text after room room' text fills written =
     Some-injective (sym fills.written ∙ written)
 
-holds-text : (after : Outgoing) (room room' text : List ℕ) (fills : Fills after room room')
+holds-text : (after : Outgoing) (room room' text : List ℕ) (fills : FillsFront after room room')
     → after.written ≡ Some text → Holds text room room'
 holds-text after room room' text fills written =
     subst (λ t. Holds t room room') (same-text after room room' text fills written) fills.holds
@@ -35,16 +35,16 @@ too-long image left is = omega (arith, is.beyond image left.rest.now refl refl)
 
 module _ {T : Type 0} {spec : ReportSpec T} {status_of : T → ℕ} {base : ℕ}
     {image room room' : List ℕ} {size status : ℕ}
-    (all : FillsCounted (λ out out'. ReportsOn spec status_of base image out out' status) room room'
+    (all : FillsCounted (λ out out'. ReportsInMemory spec status_of base image out out' status) room room'
     size) where
   writes-report : status ≢ failed_status
       → WritesReport spec status_of image room room' size status
   writes-report done = go all.room_filled.does
     where
-      go : ReportsOn spec status_of base image fresh_outgoing all.room_filled.after status
+      go : ReportsInMemory spec status_of base image fresh_outgoing all.room_filled.after status
           → WritesReport spec status_of image room room' size status
-      go (ReportsOn.outside above failed same) = absurd (done failed)
-      go (ReportsOn.reported within r) =
+      go (ReportsInMemory.outside above failed same) = absurd (done failed)
+      go (ReportsInMemory.reported within r) =
           let fills = all.room_filled.fills in
           let text = r.text done image [] refl refl in record {
             holds = holds-text _ room room' _ fills text.1;
@@ -55,10 +55,10 @@ module _ {T : Type 0} {spec : ReportSpec T} {status_of : T → ℕ} {base : ℕ}
   report-fails : status ≡ failed_status → ReportFails base image room size
   report-fails failed = go all.room_filled.does
     where
-      go : ReportsOn spec status_of base image fresh_outgoing all.room_filled.after status
+      go : ReportsInMemory spec status_of base image fresh_outgoing all.room_filled.after status
           → ReportFails base image room size
-      go (ReportsOn.outside above is same) = inl above
-      go (ReportsOn.reported within r) = why (r.failed failed)
+      go (ReportsInMemory.outside above is same) = inl above
+      go (ReportsInMemory.reported within r) = why (r.failed failed)
         where
           why : ((slice_incoming r.left).failures ≢ 0)
               ⊎ (all.room_filled.after.failures ≢ 0)
@@ -69,18 +69,18 @@ module _ {T : Type 0} {spec : ReportSpec T} {status_of : T → ℕ} {base : ℕ}
           why (inr (inr long)) = inr (inl (too-long image r.left long))
 
 module _ {carry : Bool} {base : ℕ} {image text log log' : List ℕ} {size status : ℕ}
-    (all : FillsCounted (λ lines lines'. ChecksOn carry base image text lines lines' status) log
+    (all : FillsCounted (λ lines lines'. ChecksInMemory carry base image text lines lines' status) log
     log' size) where
   writes-lines : status ≢ failed_status → TakesPatches carry base image text
       (λ patches outcomes last. WritesLines patches image outcomes log log' size status)
   writes-lines done = go all.room_filled.does
     where
-      go : ChecksOn carry base image text fresh_outgoing all.room_filled.after status
+      go : ChecksInMemory carry base image text fresh_outgoing all.room_filled.after status
           → TakesPatches carry base image text
           (λ patches outcomes last. WritesLines patches image outcomes log log' size status)
-      go (ChecksOn.outside above failed same) = absurd (done failed)
-      go (ChecksOn.without_script within line none fails) = absurd (done fails.1)
-      go (ChecksOn.checked within patches reads r) = record {
+      go (ChecksInMemory.outside above failed same) = absurd (done failed)
+      go (ChecksInMemory.without_script within line none fails) = absurd (done fails.1)
+      go (ChecksInMemory.checked within patches reads r) = record {
         patches = patches;
         script = reads;
         each = λ outcomes last patched.
@@ -95,11 +95,11 @@ module _ {carry : Bool} {base : ℕ} {image text log log' : List ℕ} {size stat
   check-fails : status ≡ failed_status → CheckFails base image text log size
   check-fails failed = go all.room_filled.does
     where
-      go : ChecksOn carry base image text fresh_outgoing all.room_filled.after status
+      go : ChecksInMemory carry base image text fresh_outgoing all.room_filled.after status
           → CheckFails base image text log size
-      go (ChecksOn.outside above is same) = inl (inl above)
-      go (ChecksOn.without_script within line none fails) = inr (line, none)
-      go (ChecksOn.checked within patches reads r) = why (r.failed failed)
+      go (ChecksInMemory.outside above is same) = inl (inl above)
+      go (ChecksInMemory.without_script within line none fails) = inr (line, none)
+      go (ChecksInMemory.checked within patches reads r) = why (r.failed failed)
         where
           why : ((slice_incoming r.left).failures ≢ 0)
               ⊎ (all.room_filled.after.failures ≢ 0)
@@ -112,20 +112,20 @@ module _ {carry : Bool} {base : ℕ} {image text log log' : List ℕ} {size stat
 writes-image : {carry : Bool} {base : ℕ} {image text out out' log log' : List ℕ}
     {size status : ℕ}
     → FillsRoom (λ made made'. FillsCounted (λ lines lines'.
-    AppliesOn carry base image text made made' lines lines' status) log log' size) out out'
+    AppliesInMemory carry base image text made made' lines lines' status) log log' size) out out'
     → status ≢ failed_status → TakesPatches carry base image text (λ patches outcomes last.
     Holds last out out' × WritesLines patches image outcomes log log' size status)
 writes-image {carry = carry} {base = base} {image = image} {text = text} {out = out} {out' = out'}
     {log = log} {log' = log'} {size = size} {status = status} all done =
     go all.does.room_filled.does
   where
-    go : AppliesOn carry base image text fresh_outgoing all.after fresh_outgoing
+    go : AppliesInMemory carry base image text fresh_outgoing all.after fresh_outgoing
         all.does.room_filled.after status
         → TakesPatches carry base image text (λ patches outcomes last.
         Holds last out out' × WritesLines patches image outcomes log log' size status)
-    go (AppliesOn.outside above failed same silent) = absurd (done failed)
-    go (AppliesOn.without_script within line none same fails) = absurd (done fails.1)
-    go (AppliesOn.applied within patches reads r) = record {
+    go (AppliesInMemory.outside above failed same silent) = absurd (done failed)
+    go (AppliesInMemory.without_script within line none same fails) = absurd (done fails.1)
+    go (AppliesInMemory.applied within patches reads r) = record {
       patches = patches;
       script = reads;
       each = λ outcomes last patched.
@@ -147,9 +147,9 @@ module _ (before : Outgoing) (room : Room) (held held' : List ℕ) (fresh : befo
     (was : (lent_to room).now ≡ held) (now : held' ≡ room.space.now) where
   pub report-clauses : {T : Type 0} {spec : ReportSpec T} {status_of : T → ℕ} {base : ℕ}
       {image : List ℕ} {status : ℕ}
-      → ReportsOn spec status_of base image before (room_outgoing room) status
+      → ReportsInMemory spec status_of base image before (room_outgoing room) status
       → record {
-        report : FillsCounted (λ out out'. ReportsOn spec status_of base image out out' status)
+        report : FillsCounted (λ out out'. ReportsInMemory spec status_of base image out out' status)
             held held' room.used;
         text : status ≢ failed_status
             → WritesReport spec status_of image held held' room.used status;
@@ -157,14 +157,14 @@ module _ (before : Outgoing) (room : Room) (held held' : List ℕ) (fresh : befo
       }
   report-clauses {spec = spec} {status_of = status_of} {base = base} {image = image}
       {status = status} does =
-      let all = fills-counted (λ out out'. ReportsOn spec status_of base image out out' status)
+      let all = fills-counted (λ out out'. ReportsInMemory spec status_of base image out out' status)
       before room held held' fresh does was now room.used refl in
       record { report = all; text = writes-report all; failed = report-fails all }
 
   pub check-clauses : {carry : Bool} {base : ℕ} {image script : List ℕ} {status : ℕ}
-      → ChecksOn carry base image script before (room_outgoing room) status
+      → ChecksInMemory carry base image script before (room_outgoing room) status
       → record {
-        report : FillsCounted (λ lines lines'. ChecksOn carry base image script lines lines' status)
+        report : FillsCounted (λ lines lines'. ChecksInMemory carry base image script lines lines' status)
             held held' room.used;
         text : status ≢ failed_status → TakesPatches carry base image script
             (λ patches outcomes last.
@@ -173,16 +173,16 @@ module _ (before : Outgoing) (room : Room) (held held' : List ℕ) (fresh : befo
       }
   check-clauses {carry = carry} {base = base} {image = image} {script = script} {status = status}
       does =
-      let all = fills-counted (λ lines lines'. ChecksOn carry base image script lines lines' status)
+      let all = fills-counted (λ lines lines'. ChecksInMemory carry base image script lines lines' status)
       before room held held' fresh does was now room.used refl in
       record { report = all; text = writes-lines all; failed = check-fails all }
 
   pub apply-clauses : {carry : Bool} {base : ℕ} {image script out out' : List ℕ} {status : ℕ}
-      → FillsRoom (λ made made'. AppliesOn carry base image script made made' before
+      → FillsRoom (λ made made'. AppliesInMemory carry base image script made made' before
       (room_outgoing room) status) out out'
       → record {
         report : FillsRoom (λ made made'. FillsCounted (λ lines lines'.
-            AppliesOn carry base image script made made' lines lines' status) held held' room.used)
+            AppliesInMemory carry base image script made made' lines lines' status) held held' room.used)
             out out';
         image : status ≢ failed_status → TakesPatches carry base image script
             (λ patches outcomes last. Holds last out out'
@@ -191,11 +191,11 @@ module _ (before : Outgoing) (room : Room) (held held' : List ℕ) (fresh : befo
   apply-clauses {carry = carry} {base = base} {image = image} {script = script} {out = out}
       {out' = out'} {status = status} filled =
       let all : FillsRoom (λ made made'. FillsCounted (λ lines lines'.
-      AppliesOn carry base image script made made' lines lines' status) held held' room.used)
+      AppliesInMemory carry base image script made made' lines lines' status) held held' room.used)
       out out' = record {
         after = filled.after;
         does = fills-counted (λ lines lines'.
-            AppliesOn carry base image script fresh_outgoing filled.after lines lines' status)
+            AppliesInMemory carry base image script fresh_outgoing filled.after lines lines' status)
             before room held held' fresh filled.does was now room.used refl;
         fills = filled.fills;
       } in

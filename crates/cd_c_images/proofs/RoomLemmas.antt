@@ -7,8 +7,8 @@ use Rattle.cd_memory.proofs.KnownLemmas.{Some-injective}
 use Rattle.cd_memory.specs.Memory.{fresh_outgoing}
 use Rattle.cd_report.specs.Report.{ReportSpec}
 use Rattle.cd_stream.specs.Stream.{Outgoing}
-use Rattle.cd_c_images.specs.Images.{AppliesOn, ChecksOn, ReportsOn}
-use Rattle.cd_c_images.specs.Rooms.{Fills, FillsCounted, FillsRoom, front_of, lent_to}
+use Rattle.cd_c_images.specs.Images.{AppliesInMemory, ChecksInMemory, ReportsInMemory}
+use Rattle.cd_c_images.specs.Rooms.{FillsCounted, FillsFront, FillsRoom, front_of, lent_to}
 use Rattle.cd_c_images.specs.Rooms.{named_outgoing, room_outgoing, room_written}
 use Rattle.cd_c_images.specs.declared.room.Room.{Room}
 use Rattle.cd_c_images.proofs.FrontLemmas.{Has, ReportsOn-without, without}
@@ -89,34 +89,34 @@ bare Does was now same does =
 
 pub reports-room : {T : Type 0} {spec : ReportSpec T} {status_of : T → ℕ} {base : ℕ}
     {image : List ℕ} {status : ℕ} (was now : Room)
-    → ReportsOn spec status_of base image (named_outgoing was) (named_outgoing now) status
+    → ReportsInMemory spec status_of base image (named_outgoing was) (named_outgoing now) status
     → SameRoom was now
-    × ReportsOn spec status_of base image (room_outgoing was) (room_outgoing now) status
+    × ReportsInMemory spec status_of base image (room_outgoing was) (room_outgoing now) status
 reports-room {spec = spec} {status_of = status_of} {base = base} {image = image} {status = status}
     was now does =
     let same = found was now (reports-grow _ _ _ refl does) in (
       same,
-      bare (λ o o'. ReportsOn spec status_of base image o o' status) was now same
+      bare (λ o o'. ReportsInMemory spec status_of base image o o' status) was now same
           (ReportsOn-without _ _ _ (named-has was) does),
     )
 
 module _ {carry : Bool} {base : ℕ} {image text : List ℕ} {status : ℕ} where
   pub checks-room : (was now : Room)
-      → ChecksOn carry base image text (named_outgoing was) (named_outgoing now) status
+      → ChecksInMemory carry base image text (named_outgoing was) (named_outgoing now) status
       → SameRoom was now
-      × ChecksOn carry base image text (room_outgoing was) (room_outgoing now) status
+      × ChecksInMemory carry base image text (room_outgoing was) (room_outgoing now) status
   checks-room was now does =
       let same = found was now (checks-grow _ _ _ refl does) in (
         same,
-        bare (λ o o'. ChecksOn carry base image text o o' status) was now same
+        bare (λ o o'. ChecksInMemory carry base image text o o' status) was now same
             (ChecksOn-without _ _ _ (named-has was) does),
       )
 
   pub applies-rooms : (out out' log log' : Room)
-      → AppliesOn carry base image text (named_outgoing out) (named_outgoing out')
+      → AppliesInMemory carry base image text (named_outgoing out) (named_outgoing out')
       (named_outgoing log) (named_outgoing log') status
       → SameRoom out out' × SameRoom log log'
-      × AppliesOn carry base image text (room_outgoing out) (room_outgoing out')
+      × AppliesInMemory carry base image text (room_outgoing out) (room_outgoing out')
       (room_outgoing log) (room_outgoing log') status
   applies-rooms out out' log log' does =
       let grew = applies-grow _ _ _ _ _ _ refl refl does in
@@ -125,9 +125,9 @@ module _ {carry : Bool} {base : ℕ} {image text : List ℕ} {status : ℕ} wher
       let n = length (front_of (lent_to log)) in (
         same_out,
         same_log,
-        bare (λ o o'. AppliesOn carry base image text o o' (room_outgoing log) (room_outgoing log')
+        bare (λ o o'. AppliesInMemory carry base image text o o' (room_outgoing log) (room_outgoing log')
             status) out out' same_out
-            (bare (λ l l'. AppliesOn carry base image text
+            (bare (λ l l'. AppliesInMemory carry base image text
             (without (length (front_of (lent_to out))) (named_outgoing out))
             (without (length (front_of (lent_to out))) (named_outgoing out')) l l' status)
             log log' same_log
@@ -137,7 +137,7 @@ module _ {carry : Bool} {base : ℕ} {image text : List ℕ} {status : ℕ} wher
 -- ---- lent memory
 
 fills-of : (room : Room) (held held' : List ℕ) → (lent_to room).now ≡ held
-    → held' ≡ room.space.now → Fills (room_outgoing room) held held'
+    → held' ≡ room.space.now → FillsFront (room_outgoing room) held held'
 fills-of room held held' was now =
     let size : length room.space.now ≡ length held = room.size ∙ ap length was in
     let long : length (room_written room) ≡ room.used =

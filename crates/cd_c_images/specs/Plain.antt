@@ -1,13 +1,13 @@
 -- What the calls on an image in memory do, in plain words.
 use Rattle.std.specs.Prelude.{◌≡◌, ℕ, ◌<◌, ◌⊎◌, Bool, List, length}
 use Rattle.cd_image.specs.PatchLog.{log_text, patch_tally}
-use Rattle.cd_image.specs.Patched.{EachRun}
-use Rattle.cd_jobs.specs.Run.{script_status}
+use Rattle.cd_image.specs.Patched.{EachPatching}
+use Rattle.cd_program.specs.Commands.{script_status}
 use Rattle.cd_patch.specs.declared.outcome.Outcome.{Outcome}
 use Rattle.cd_read.specs.Image.{base_limit, image_limit}
 use Rattle.cd_report.specs.Report.{ReportSpec}
 use Rattle.cd_script.specs.declared.patch.Patch.{Patch}
-use Rattle.cd_c_images.specs.Images.{HasPatches, NoPatches}
+use Rattle.cd_c_images.specs.Images.{HasNoScript, HasScript}
 use Rattle.cd_c_images.specs.Rooms.{Holds}
 
 -- the whole text was written, and the status is that of its tally
@@ -34,10 +34,10 @@ pub record WritesLines (patches : List Patch) (image : List ℕ) (outcomes : Lis
 pub record TakesPatches (carry : Bool) (base : ℕ) (image text : List ℕ)
     (Does : List Patch → List Outcome → List ℕ → Type 0) : Type 0 where
   pub patches : List Patch
-  pub script : HasPatches text patches
-  pub each : EachRun carry patches base image (Does patches)
+  pub script : HasScript text patches
+  pub each : EachPatching carry patches base image (Does patches)
 
 -- why a check fails: as a report, or the text is no script
 abbrev pub CheckFails : ℕ → List ℕ → List ℕ → List ℕ → ℕ → Type 0
 CheckFails base image text log size =
-    ReportFails base image log size ⊎ ((line : List ℕ) × NoPatches text line)
+    ReportFails base image log size ⊎ ((line : List ℕ) × HasNoScript text line)

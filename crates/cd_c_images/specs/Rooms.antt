@@ -14,7 +14,7 @@ pub record Holds (text room room' : List ℕ) : Type 0 where
   pub bytes : room' ≡ text ++ drop (length text) room
 
 -- its front is what a sink has got. If a call of the sink has failed, it is full
-pub record Fills (after : Outgoing) (room room' : List ℕ) : Type 0 where
+pub record FillsFront (after : Outgoing) (room room' : List ℕ) : Type 0 where
   pub text : List ℕ
   pub written : after.written ≡ Some text
   pub holds : Holds text room room'
@@ -24,7 +24,7 @@ pub record Fills (after : Outgoing) (room room' : List ℕ) : Type 0 where
 pub record FillsRoom (Does : Outgoing → Outgoing → Type 0) (room room' : List ℕ) : Type 0 where
   pub after : Outgoing
   pub does : Does fresh_outgoing after
-  pub fills : Fills after room room'
+  pub fills : FillsFront after room room'
 
 -- the same, and `size` is the number of bytes that were written
 pub record FillsCounted (Does : Outgoing → Outgoing → Type 0) (room room' : List ℕ) (size : ℕ)

@@ -2,27 +2,28 @@
 //! failure, with nothing written.
 
 ghost use Rattle.std.specs.Prelude.{◌≡◌, ◌<◌};
-ghost use Rattle.cd_c_images.specs.Images.{AppliesOn, ChecksOn, ReportsOn, TakesText};
+ghost use Rattle.cd_c_images.specs.Images.{AppliesInMemory, ChecksInMemory, ReportsInMemory, TakesText};
 ghost use Rattle.cd_c_images.specs.Rooms.{FillsRoom, lent_to, room_outgoing};
-ghost use Rattle.cd_command.specs.Fault.{done_status};
-ghost use Rattle.cd_jobs.specs.Run.{audit_status};
+ghost use Rattle.cd_args.specs.Fault.{done_status};
+ghost use Rattle.cd_program.specs.Commands.{audit_status};
 ghost use Rattle.cd_report.specs.AuditText.{audit_report};
 ghost use Rattle.cd_report.specs.ListText.{list_report};
-ghost use Rattle.cd_stream.specs.Stream.{MayCount};
+ghost use Rattle.cd_stream.specs.Stream.{CanCountFailure};
 
 use crate::room::Room;
-use cd_command::FAILED;
+use cd_args::FAILED;
 use cd_image::{MAX_BASE, Sink, SliceSource};
-use cd_jobs::{
-    LoadFault, fail, load_fault_line, read_script, run_apply, run_audit, run_check, run_list,
+use cd_program::{
+    LoadFault, load_fault_line, print_and_fail, read_script, run_apply, run_audit, run_check,
+    run_list,
 };
 use cd_script::{MAX_TEXT, Script};
 use std::alloc::Global;
 
 /// The command `list`, as [`run_list`].
 pub(crate) fn list_image(image: &[u8], base: u32, out: &mut Room<'_>) -> u8
-    requires { MayCount (room_outgoing out.old).failures }
-    ensures report { ReportsOn (list_report base) (λ _. done_status) base image.now
+    requires { CanCountFailure (room_outgoing out.old).failures }
+    ensures report { ReportsInMemory (list_report base) (λ _. done_status) base image.now
         (room_outgoing out.old) (room_outgoing out.new) result }
     ensures same_slice { out.new.space.ghost_name ≡ out.old.space.ghost_name }
     ensures same_bytes { (lent_to out.new).now ≡ (lent_to out.old).now }
@@ -35,8 +36,8 @@ pub(crate) fn list_image(image: &[u8], base: u32, out: &mut Room<'_>) -> u8
 
 /// The command `audit`, as [`run_audit`].
 pub(crate) fn audit_image(image: &[u8], base: u32, out: &mut Room<'_>) -> u8
-    requires { MayCount (room_outgoing out.old).failures }
-    ensures report { ReportsOn (audit_report base) audit_status base image.now
+    requires { CanCountFailure (room_outgoing out.old).failures }
+    ensures report { ReportsInMemory (audit_report base) audit_status base image.now
         (room_outgoing out.old) (room_outgoing out.new) result }
     ensures same_slice { out.new.space.ghost_name ≡ out.old.space.ghost_name }
     ensures same_bytes { (lent_to out.new).now ≡ (lent_to out.old).now }
@@ -50,11 +51,11 @@ pub(crate) fn audit_image(image: &[u8], base: u32, out: &mut Room<'_>) -> u8
 /// The script of a text, as [`read_script`]. For one that is too long it prints the same line as
 /// for such a file.
 fn script_of<L: Sink>(alloc: Global, text: &[u8], log: &mut L) -> Result<Script, u8>
-    requires { MayCount (L.seen log.old).failures }
+    requires { CanCountFailure (L.seen log.old).failures }
     ensures { TakesText text.now (L.seen log.old) (L.seen log.new) result }
 {
     if text.len() > MAX_TEXT {
-        return Err(fail(load_fault_line(LoadFault::TooLong).as_bytes(), log));
+        return Err(print_and_fail(load_fault_line(LoadFault::TooLong).as_bytes(), log));
     }
     read_script(alloc, text, log)
 }
@@ -68,8 +69,8 @@ pub(crate) fn check_image(
     carry: bool,
     log: &mut Room<'_>,
 ) -> u8
-    requires { MayCount (room_outgoing log.old).failures }
-    ensures report { ChecksOn carry base image.now script.now (room_outgoing log.old)
+    requires { CanCountFailure (room_outgoing log.old).failures }
+    ensures report { ChecksInMemory carry base image.now script.now (room_outgoing log.old)
         (room_outgoing log.new) result }
     ensures same_slice { log.new.space.ghost_name ≡ log.old.space.ghost_name }
     ensures same_bytes { (lent_to log.new).now ≡ (lent_to log.old).now }
@@ -93,9 +94,9 @@ fn apply_to_rooms(
     out: &mut Room<'_>,
     log: &mut Room<'_>,
 ) -> u8
-    requires out_countable { MayCount (room_outgoing out.old).failures }
-    requires log_countable { MayCount (room_outgoing log.old).failures }
-    ensures report { AppliesOn carry base image.now script.now (room_outgoing out.old)
+    requires out_countable { CanCountFailure (room_outgoing out.old).failures }
+    requires log_countable { CanCountFailure (room_outgoing log.old).failures }
+    ensures report { AppliesInMemory carry base image.now script.now (room_outgoing out.old)
         (room_outgoing out.new) (room_outgoing log.old) (room_outgoing log.new) result }
     ensures same_out { out.new.space.ghost_name ≡ out.old.space.ghost_name }
     ensures same_out_bytes { (lent_to out.new).now ≡ (lent_to out.old).now }
@@ -121,8 +122,9 @@ pub(crate) fn apply_image(
     out: &mut [u8],
     log: &mut Room<'_>,
 ) -> u8
-    requires { MayCount (room_outgoing log.old).failures }
-    ensures report { FillsRoom (λ made made'. AppliesOn carry base image.now script.now made made'
+    requires { CanCountFailure (room_outgoing log.old).failures }
+    ensures report { FillsRoom
+        (λ made made'. AppliesInMemory carry base image.now script.now made made'
         (room_outgoing log.old) (room_outgoing log.new) result) out.old out.new }
     ensures same_slice { log.new.space.ghost_name ≡ log.old.space.ghost_name }
     ensures same_bytes { (lent_to log.new).now ≡ (lent_to log.old).now }

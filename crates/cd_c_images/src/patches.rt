@@ -1,8 +1,8 @@
 //! Calls that take a script to an image.
 
 ghost use Rattle.std.specs.Prelude.{◌≡◌, ◌≢◌};
-ghost use Rattle.cd_command.specs.Fault.{failed_status};
-ghost use Rattle.cd_c_images.specs.Images.{AppliesOn, ChecksOn};
+ghost use Rattle.cd_args.specs.Fault.{failed_status};
+ghost use Rattle.cd_c_images.specs.Images.{AppliesInMemory, ChecksInMemory};
 ghost use Rattle.cd_c_images.specs.Plain.{CheckFails, TakesPatches, WritesLines};
 ghost use Rattle.cd_c_images.specs.Rooms.{FillsCounted, FillsRoom, Holds};
 
@@ -23,7 +23,7 @@ pub extern "C" fn cdpatch_check(
     length: &mut usize,
 ) -> u32
     ensures report { FillsCounted
-        (λ lines lines'. ChecksOn carry base image.now script.now lines lines' result)
+        (λ lines lines'. ChecksInMemory carry base image.now script.now lines lines' result)
         log.old log.new length.new }
     ensures text { result ≢ failed_status → TakesPatches carry base image.now script.now
         (λ patches outcomes last.
@@ -52,7 +52,7 @@ pub extern "C" fn cdpatch_apply(
     length: &mut usize,
 ) -> u32
     ensures report { FillsRoom (λ made made'. FillsCounted (λ lines lines'.
-        AppliesOn carry base image.now script.now made made' lines lines' result)
+        AppliesInMemory carry base image.now script.now made made' lines lines' result)
         log.old log.new length.new) out.old out.new }
     ensures image { result ≢ failed_status → TakesPatches carry base image.now script.now
         (λ patches outcomes last. Holds last out.old out.new

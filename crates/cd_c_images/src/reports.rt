@@ -1,11 +1,11 @@
 //! Calls that describe an image.
 
 ghost use Rattle.std.specs.Prelude.{◌≡◌, ◌≢◌};
-ghost use Rattle.cd_command.specs.Fault.{done_status, failed_status};
-ghost use Rattle.cd_c_images.specs.Images.{ReportsOn};
+ghost use Rattle.cd_args.specs.Fault.{done_status, failed_status};
+ghost use Rattle.cd_c_images.specs.Images.{ReportsInMemory};
 ghost use Rattle.cd_c_images.specs.Plain.{ReportFails, WritesReport};
 ghost use Rattle.cd_c_images.specs.Rooms.{FillsCounted};
-ghost use Rattle.cd_jobs.specs.Run.{audit_status};
+ghost use Rattle.cd_program.specs.Commands.{audit_status};
 ghost use Rattle.cd_report.specs.AuditText.{audit_report};
 ghost use Rattle.cd_report.specs.ListText.{list_report};
 
@@ -17,7 +17,8 @@ use crate::room::Room;
 #[unsafe(no_mangle)]
 pub extern "C" fn cdpatch_list(image: &[u8], base: u32, text: &mut [u8], length: &mut usize) -> u32
     ensures report { FillsCounted
-        (λ out out'. ReportsOn (list_report base) (λ _. done_status) base image.now out out' result)
+        (λ out out'. ReportsInMemory (list_report base) (λ _. done_status) base image.now out out'
+        result)
         text.old text.new length.new }
     ensures text { result ≢ failed_status → WritesReport (list_report base) (λ _. done_status)
         image.now text.old text.new length.new result }
@@ -35,7 +36,8 @@ pub extern "C" fn cdpatch_list(image: &[u8], base: u32, text: &mut [u8], length:
 #[unsafe(no_mangle)]
 pub extern "C" fn cdpatch_audit(image: &[u8], base: u32, text: &mut [u8], length: &mut usize) -> u32
     ensures report { FillsCounted
-        (λ out out'. ReportsOn (audit_report base) audit_status base image.now out out' result)
+        (λ out out'. ReportsInMemory (audit_report base) audit_status base image.now out out'
+        result)
         text.old text.new length.new }
     ensures text { result ≢ failed_status → WritesReport (audit_report base) audit_status
         image.now text.old text.new length.new result }

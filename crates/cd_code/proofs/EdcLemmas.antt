@@ -426,7 +426,7 @@ edc_unique v w d same =
     same_from_after 0 v w (lit< tt) d (sym (remainder-after v) ∙ same ∙ remainder-after w)
 
 -- eight bytes after a list: the first four are added to the word, and each of the eight then
--- stands alone
+-- stands by itself
 pub IsEdc-eight : (v b ys : List ℕ) (w n t₇ t₆ t₅ t₄ t₃ t₂ t₁ t₀ : ℕ) → IsEdc v w → AreBytes b
     → length b ≡ 8
     → n ≡ from_le_bytes w32 (get_or b 0 0 ∷ get_or b 1 0 ∷ get_or b 2 0 ∷ get_or b 3 0 ∷ [])

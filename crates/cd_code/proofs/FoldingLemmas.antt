@@ -9,7 +9,7 @@ use Rattle.std.proofs.lemmas.Nat.Bits.{bit_at_xor, same_from_bits}
 use Rattle.std.proofs.lemmas.List.{take-append-drop, drop-append-le, take_all}
 use Rattle.std.proofs.lemmas.Simd.{length-zip2, get_or-zip2, pick_l-range_with_len}
 use Rattle.cd_code.specs.Edc.{bits, divide_step, remainder}
-use Rattle.cd_code.specs.Folding.{IsFolded, folded}
+use Rattle.cd_code.specs.Folding.{IsFolded, with_folded}
 use Rattle.cd_code.proofs.EdcLemmas.{step-xor, step-lt, after, after-lt, after-append, after-sum, after-xor_zeros, after_bits, after_bits-lt, after_bits-xor, after_bits-zero, remainder-after}
 use Rattle.cd_code.proofs.general.Xor.{xor_swap}
 
@@ -186,7 +186,7 @@ left-window m n a b ha hb h =
 
 -- what sixteen folded bytes leave
 left-folded : (a b c : List ℕ) → length a ≡ 16 → length b ≡ 16 → length c ≡ 16
-    → after 0 (folded a b c) ≡ bit_xor (bit_xor (bit_xor (after 0 c) (after 0 b))
+    → after 0 (with_folded a b c) ≡ bit_xor (bit_xor (bit_xor (after 0 c) (after 0 b))
     (bit_xor (zeros 4 (after 0 a)) (bit_xor (zeros 16 (after 0 (take 4 a))) (after 0 (take 4 b)))))
     (bit_xor (zeros 1 (after 0 a)) (bit_xor (zeros 16 (after 0 (take 1 a))) (after 0 (take 1 b))))
 left-folded a b c ha hb hc =
@@ -211,7 +211,7 @@ left-folded a b c ha hb hc =
     (left-window 1 16 a b ha hb (lit≤ tt))
 
 length-folded : (a b c : List ℕ) → length a ≡ 16 → length b ≡ 16 → length c ≡ 16
-    → length (folded a b c) ≡ 16
+    → length (with_folded a b c) ≡ 16
 length-folded a b c ha hb hc =
     let both : length (a ++ b) ≡ 32 = omega (arith, length-append a b) in
     let far = take 16 (drop 4 (a ++ b)) in
@@ -233,7 +233,7 @@ left_of a b =
     (bit_xor (bit_xor (bit_xor (after 0 b) (after 0 a)) (after 0 (take 4 a))) (after 0 (take 1 a)))
 
 left-registers : (a b : List ℕ) → length a ≡ 16 → length b ≡ 16
-    → after 0 (a ++ folded (replicate 16 0) a b) ≡ left_of a b
+    → after 0 (a ++ with_folded (replicate 16 0) a b) ≡ left_of a b
 left-registers a b ha hb =
     let zs = replicate 16 0 in
     let none : (k : ℕ) → after 0 (replicate k 0) ≡ 0 = λ k. after-zeros k 0 ∙ zeros-zero k in
@@ -247,8 +247,8 @@ left-registers a b ha hb =
     ∙ xor_zero_l (bit_xor (zeros 16 (after 0 (replicate n 0))) s)
     ∙ ap (λ z. bit_xor (zeros 16 z) s) (none n) ∙ ap (λ z. bit_xor z s) (zeros-zero 16)
     ∙ xor_zero_l s in
-    left-append a (folded zs a b)
-    ∙ ap (λ k. bit_xor (zeros k (after 0 a)) (after 0 (folded zs a b)))
+    left-append a (with_folded zs a b)
+    ∙ ap (λ k. bit_xor (zeros k (after 0 a)) (after 0 (with_folded zs a b)))
     (length-folded zs a b refl ha hb)
     ∙ ap (bit_xor (zeros 16 (after 0 a)))
     (left-folded zs a b refl ha hb
@@ -304,7 +304,7 @@ ten_terms za ya xa zb zp zq b c p q =
 
 -- sixteen more bytes
 pub IsFolded-step : (v a b c : List ℕ) → IsFolded v a b → length c ≡ 16
-    → IsFolded (v ++ c) b (folded a b c)
+    → IsFolded (v ++ c) b (with_folded a b c)
 IsFolded-step v a b c h hc =
     let ha = h.older_size in
     let hb = h.newer_size in
@@ -323,7 +323,7 @@ IsFolded-step v a b c h hc =
     let four : bit_xor (bit_xor (bit_xor rb ra) rp) rq < 2 ^ 32 =
     xor_lt 32 (bit_xor (bit_xor rb ra) rp) rq three lq in
     let left : after 0 v ≡ left_of a b =
-    sym (remainder-after v) ∙ h.same ∙ remainder-after (a ++ folded (replicate 16 0) a b)
+    sym (remainder-after v) ∙ h.same ∙ remainder-after (a ++ with_folded (replicate 16 0) a b)
     ∙ left-registers a b ha hb in
     let moved : zeros 16 (after 0 v)
     ≡ bit_xor (bit_xor (zeros 16 ra) (bit_xor (zeros 4 ra) (zeros 1 ra)))
@@ -337,7 +337,7 @@ IsFolded-step v a b c h hc =
     (x 16 (bit_xor (bit_xor rb ra) rp) rq three lq
     ∙ ap (λ z. bit_xor z (zeros 16 rq))
     (x 16 (bit_xor rb ra) rp two lp ∙ ap (λ z. bit_xor z (zeros 16 rp)) (x 16 rb ra lb la))) in
-    let n = folded a b c in
+    let n = with_folded a b c in
     let n_len = length-folded a b c ha hb hc in
     record {
       older_size = hb;
@@ -351,7 +351,7 @@ IsFolded-step v a b c h hc =
           ∙ ap (λ z. bit_xor (zeros 16 rb)
           (bit_xor (bit_xor (bit_xor z rb) (after 0 (take 4 b))) (after 0 (take 1 b))))
           (sym (left-folded a b c ha hb hc))
-          ∙ sym (remainder-after (b ++ folded (replicate 16 0) b n) ∙ left-registers b n hb n_len);
+          ∙ sym (remainder-after (b ++ with_folded (replicate 16 0) b n) ∙ left-registers b n hb n_len);
     }
 
 pub IsFolded-nil : IsFolded [] (replicate 16 0) (replicate 16 0)
@@ -362,7 +362,7 @@ IsFolded-nil = record { older_size = refl; newer_size = refl; same = refl }
 pub folded_by_position : (a b c : List ℕ) → length a ≡ 16 → length b ≡ 16
     → zip2 bit_xor (zip2 bit_xor (zip2 bit_xor c b) (pick_l 0 (a ++ b) (range_with_len 4 16)))
     (pick_l 0 (a ++ b) (range_with_len 1 16))
-    ≡ folded a b c
+    ≡ with_folded a b c
 folded_by_position a b c ha hb =
     let both : length (a ++ b) ≡ 32 = omega (arith, length-append a b) in
     ap (λ z. zip2 bit_xor (zip2 bit_xor (zip2 bit_xor c b) z)
@@ -373,8 +373,8 @@ folded_by_position a b c ha hb =
 
 -- 64 more bytes
 pub IsFolded-block : (v a b x y z w block : List ℕ) → IsFolded v a b → length block ≡ 64
-    → x ≡ folded a b (take 16 block) → y ≡ folded b x (take 16 (drop 16 block))
-    → z ≡ folded x y (take 16 (drop 32 block)) → w ≡ folded y z (take 16 (drop 48 block))
+    → x ≡ with_folded a b (take 16 block) → y ≡ with_folded b x (take 16 (drop 16 block))
+    → z ≡ with_folded x y (take 16 (drop 32 block)) → w ≡ with_folded y z (take 16 (drop 48 block))
     → IsFolded (v ++ block) z w
 IsFolded-block v a b x y z w block h long ex ey ez ew =
     let part : (k : ℕ) → k + 16 ≤ 64 → length (take 16 (drop k block)) ≡ 16 =

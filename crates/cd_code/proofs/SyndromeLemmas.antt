@@ -5,7 +5,7 @@ use Rattle.std.specs.Int.Bits.{xor_self, xor_zero_l, xor_zero_r, xor_assoc}
 use Rattle.std.proofs.lemmas.Nat.{xor_comm, xor_lt}
 use Rattle.std.proofs.lemmas.List.{length-set}
 use Rattle.cd_code.specs.Field.{AreBytes, double, power, product}
-use Rattle.cd_code.specs.Syndrome.{first_syndrome, second_syndrome, IsCodeWord, SameSums, added}
+use Rattle.cd_code.specs.Syndrome.{first_syndrome, second_syndrome, IsCodeWord, SameSums, with_added}
 use Rattle.cd_code.specs.Laws.{DifferAtMostInLast}
 use Rattle.cd_code.proofs.ListLemmas.{DifferAtMostInLast-tail}
 use Rattle.cd_code.proofs.general.Xor.{same_from_xor, xor_cancel, xor_cancel_right, xor_swap, xor_twice}
@@ -73,7 +73,7 @@ first_syndrome-lt (y ∷ v) h =
 
 -- a byte to which `d` is added
 pub first_syndrome-added : (v : List ℕ) (place d : ℕ) → place < length v
-    → first_syndrome (added v place d) ≡ bit_xor (first_syndrome v) d
+    → first_syndrome (with_added v place d) ≡ bit_xor (first_syndrome v) d
 unfolding first_syndrome
 first_syndrome-added [] place d h = absurd (omega arith)
 first_syndrome-added (y ∷ v) zero d h =
@@ -84,7 +84,7 @@ first_syndrome-added (y ∷ v) (suc place) d h =
     ∙ sym (xor_assoc y (first_syndrome v) d)
 
 pub second_syndrome-added : (v : List ℕ) (place d weight : ℕ) → weight + suc place ≡ length v
-    → second_syndrome (added v place d) ≡ bit_xor (second_syndrome v) (product (power weight) d)
+    → second_syndrome (with_added v place d) ≡ bit_xor (second_syndrome v) (product (power weight) d)
 unfolding second_syndrome
 second_syndrome-added [] place d weight h = absurd (omega arith)
 second_syndrome-added (y ∷ v) zero d weight h =
@@ -96,7 +96,7 @@ second_syndrome-added (y ∷ v) zero d weight h =
     ∙ xor_assoc a b s ∙ ap (bit_xor a) (xor_comm b s) ∙ sym (xor_assoc a s b)
     ∙ ap (λ n. bit_xor (bit_xor a s) (product (power n) d)) (sym w)
 second_syndrome-added (y ∷ v) (suc place) d weight h =
-    ap (λ n. bit_xor (product (power n) y) (second_syndrome (added v place d)))
+    ap (λ n. bit_xor (product (power n) y) (second_syndrome (with_added v place d)))
     (length-set v place (bit_xor (get_or v place 0) d))
     ∙ ap (bit_xor (product (power (length v)) y))
     (second_syndrome-added v place d weight (omega arith))
@@ -141,7 +141,7 @@ IsCodeWord-pair v plain weighted a below firsts seconds e =
           ∙ ap (λ z. bit_xor (double z) b) two ∙ three;
     }
 
-length-added : (v : List ℕ) (place d : ℕ) → length (added v place d) ≡ length v
+length-added : (v : List ℕ) (place d : ℕ) → length (with_added v place d) ≡ length v
 length-added v place d = length-set v place (bit_xor (get_or v place 0) d)
 
 -- with `d` added at a place, and the pair that `pair_change` gives at the last two, both syndromes
@@ -149,11 +149,11 @@ length-added v place d = length-set v place (bit_xor (get_or v place 0) d)
 pub SameSums-change : (v : List ℕ) (len place d moved p : ℕ)
     → length v ≡ len → place + 2 < len → d < 256
     → moved ≡ product (power (len - 1 - place)) d → p ≡ product 244 (bit_xor moved d)
-    → SameSums (added (added (added v place d) (len - 2) p) (len - 1) (bit_xor p d)) v
+    → SameSums (with_added (with_added (with_added v place d) (len - 2) p) (len - 1) (bit_xor p d)) v
 SameSums-change v len place d moved p long inside below moves e =
     let q = bit_xor p d in
-    let one = added v place d in
-    let two = added one (len - 2) p in
+    let one = with_added v place d in
+    let two = with_added one (len - 2) p in
     let one_len : length one ≡ length v = length-added v place d in
     let two_len : length two ≡ length one = length-added one (len - 2) p in
     let moved_lt : moved < 256 =

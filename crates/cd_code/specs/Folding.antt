@@ -5,8 +5,8 @@ use Rattle.std.specs.Simd.Lanes.{zip2}
 use Rattle.cd_code.specs.Edc.{bits, remainder}
 
 -- sixteen bytes, and what the bytes 16, 28 and 31 places before each add to it
-abbrev pub folded : List ℕ → List ℕ → List ℕ → List ℕ
-folded older newer bytes =
+abbrev pub with_folded : List ℕ → List ℕ → List ℕ → List ℕ
+with_folded older newer bytes =
     zip2 bit_xor
     (zip2 bit_xor (zip2 bit_xor bytes newer) (take 16 (drop 4 (older ++ newer))))
     (take 16 (drop 1 (older ++ newer)))
@@ -16,4 +16,5 @@ folded older newer bytes =
 pub record IsFolded (v older newer : List ℕ) : Type 0 where
   pub older_size : length older ≡ 16
   pub newer_size : length newer ≡ 16
-  pub same : remainder (bits v) ≡ remainder (bits (older ++ folded (replicate 16 0) older newer))
+  pub same : remainder (bits v) ≡ remainder
+      (bits (older ++ with_folded (replicate 16 0) older newer))

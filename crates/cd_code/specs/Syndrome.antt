@@ -30,14 +30,14 @@ pub record SameSums (v w : List ℕ) : Type 0 where
   pub second : second_syndrome v ≡ second_syndrome w
 
 -- the list with `d` added to the byte at a place
-abbrev pub added : List ℕ → ℕ → ℕ → List ℕ
-added v place d = slice_set v place (bit_xor (slice_index v place) d)
+abbrev pub with_added : List ℕ → ℕ → ℕ → List ℕ
+with_added v place d = slice_set v place (bit_xor (slice_index v place) d)
 
 -- in a word of `len` bytes: if `d` is added to the byte at `place`, `a` to the first parity byte
 -- and `b` to the second (the last two bytes of the word), both syndromes stay as they were
 pub record Balances (len place d a b : ℕ) : Type 0 where
   pub keeps : (v : List ℕ) → AreBytes v → length v ≡ len
-      → SameSums (added (added (added v place d) (len - 2) a) (len - 1) b) v
+      → SameSums (with_added (with_added (with_added v place d) (len - 2) a) (len - 1) b) v
 
 -- column c of 26 rows of 86 bytes
 abbrev pub column : List ℕ → ℕ → List ℕ

@@ -18,7 +18,7 @@ use crate::folding::Folded;
 #[inline(always)]
 pub fn edc_of(bytes: &[u8]) -> u32
     ensures word { IsEdc bytes.now result }
-    ensures alone { (w : ℕ) → IsEdc bytes.now w → w ≡ result }
+    ensures unique { (w : ℕ) → IsEdc bytes.now w → w ≡ result }
 {
     // Inlined, since the number of blocks is a constant if the caller's length is one.
     // Sixteen bytes at a time are added to those 16, 28 and 31 places after them: a multiple of the

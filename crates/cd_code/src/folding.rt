@@ -4,7 +4,7 @@
 
 ghost use Rattle.std.specs.Prelude.{◌≡◌, ℕ, ◌+◌, ◌≤◌, List, [], ◌++◌, drop, take};
 ghost use Rattle.cd_code.specs.Edc.{bits, remainder};
-ghost use Rattle.cd_code.specs.Folding.{IsFolded, folded};
+ghost use Rattle.cd_code.specs.Folding.{IsFolded, with_folded};
 
 use std::simd::prelude::*;
 
@@ -72,7 +72,7 @@ fn load16(block: &[u8; 64], at: usize) -> u8x16
 /// Sixteen bytes of a list, with what the 32 bytes before them add to them.
 #[inline(always)]
 fn fold_step(older: u8x16, newer: u8x16, bytes: u8x16) -> u8x16
-    ensures { result ≡ folded older newer bytes }
+    ensures { result ≡ with_folded older newer bytes }
 {
     bytes ^ newer ^ older.shuffle(newer, FROM_FIFTH) ^ older.shuffle(newer, FROM_SECOND)
 }

@@ -58,13 +58,13 @@ impl LaneSums {
     ///
     /// ```
     /// let words = LaneSums::zero().with_lanes(u8x32::splat(0x80)); // 32 words 80
-    /// let longer = words.with_lanes_where(u8x32::splat(0x01), u8x32::splat(0xFF)); // 32 words 80 01
+    /// let longer = words.with_masked_lanes(u8x32::splat(0x01), u8x32::splat(0xFF)); // 32 words 80 01
     /// assert_eq!(rt; (longer.plain[0], longer.weighted[0]), (0x81, 0x1C)); // 80 + 01, and 2 * 80 + 01
-    /// let same = words.with_lanes_where(u8x32::splat(0x01), u8x32::splat(0x00));
+    /// let same = words.with_masked_lanes(u8x32::splat(0x01), u8x32::splat(0x00));
     /// assert_eq!(rt; (same.plain[0], same.weighted[0]), (0x80, 0x80)); // still 80
     /// ```
     #[inline(always)]
-    pub fn with_lanes_where(self, lanes: u8x32, mask: u8x32) -> Self
+    pub fn with_masked_lanes(self, lanes: u8x32, mask: u8x32) -> Self
         ensures plain { (i : ℕ) → i < 32 → slice_index mask i ≡ 255
             → slice_index result.plain i
             ≡ bit_xor (slice_index self.plain i) (slice_index lanes i) }

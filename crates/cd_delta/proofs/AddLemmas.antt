@@ -6,11 +6,11 @@ use Rattle.std.proofs.lemmas.List.{get_or-map, get_or-set_same, get_or-set_other
 use Rattle.std.proofs.lemmas.List.{length-map, length-set, set_comm}
 use Rattle.std.proofs.lemmas.Nat.{xor_lt}
 use Rattle.cd_code.specs.Field.{AreBytes}
-use Rattle.cd_code.specs.Syndrome.{added}
+use Rattle.cd_code.specs.Syndrome.{with_added}
 use Rattle.cd_code.proofs.ByteLemmas.{AreBytes-set}
 use Rattle.cd_code.proofs.general.Xor.{xor_twice_left}
 use Rattle.cd_delta.specs.declared.changes.Change.{Change}
-use Rattle.cd_delta.specs.ParityChanges.{changed}
+use Rattle.cd_delta.specs.ParityChanges.{with_changes}
 
 abbrev pub places_of : List Change → List ℕ
 places_of changes = map (λ c. c.place) changes
@@ -18,18 +18,18 @@ places_of changes = map (λ c. c.place) changes
 -- a byte that no change is of
 pub changed-other : (changes : List Change) (s : List ℕ) (i : ℕ)
     → (Contains (places_of changes) i → ⊥)
-    → get_or (changed s changes) i 0 ≡ get_or s i 0
+    → get_or (with_changes s changes) i 0 ≡ get_or s i 0
 changed-other [] s i none = refl
 changed-other (c ∷ cs) s i none =
-    changed-other cs (added s c.place c.d) i (λ h. none (suc h.0, omega arith, h.2))
+    changed-other cs (with_added s c.place c.d) i (λ h. none (suc h.0, omega arith, h.2))
     ∙ get_or-set_other s c.place i (bit_xor (get_or s c.place 0) c.d) 0
     (λ e. none (zero, omega arith, sym e))
 
--- the places of changes of the parity are behind all others
-pub places_of-behind : (changes : List Change) (i : ℕ)
+-- the places of changes of the parity come after all others
+pub places_of-after : (changes : List Change) (i : ℕ)
     → All (λ c. (2076 ≤ c.place) × (c.place < 2352)) changes → i < 2076
     → Contains (places_of changes) i → ⊥
-places_of-behind changes i inside below found =
+places_of-after changes i inside below found =
     let none : Change = record { place = 0; d = 0 } in
     let within : found.0 < length changes =
     (let h = found.1 in omega (arith, length-map changes (λ c. c.place))) in
@@ -41,24 +41,24 @@ places_of-behind changes i inside below found =
 
 -- the byte that a change is of gets the value that it is to have
 pub added-value : (s : List ℕ) (place value : ℕ) → place < length s
-    → get_or (added s place (bit_xor (get_or s place 0) value)) place 0 ≡ value
+    → get_or (with_added s place (bit_xor (get_or s place 0) value)) place 0 ≡ value
 added-value s place value inside =
     get_or-set_same s place (bit_xor (get_or s place 0) (bit_xor (get_or s place 0) value)) 0 inside
     ∙ xor_twice_left (get_or s place 0) value
 
 -- a sector with a change is as long
-pub length-added : (s : List ℕ) (place d : ℕ) → length (added s place d) ≡ length s
+pub length-added : (s : List ℕ) (place d : ℕ) → length (with_added s place d) ≡ length s
 length-added s place d = length-set s place (bit_xor (get_or s place 0) d)
 
 -- and still of bytes
 pub AreBytes-added : (s : List ℕ) (place d : ℕ) → AreBytes s → d < 256
-    → AreBytes (added s place d)
+    → AreBytes (with_added s place d)
 AreBytes-added s place d bytes low =
     let x = get_or s place 0 in
     AreBytes-set s place (bit_xor x d) bytes (xor_lt 8 x d (bytes place) low)
 
 -- changes of two bytes can change places
-added-comm : (s : List ℕ) (p q d e : ℕ) → q ≢ p → added (added s p d) q e ≡ added (added s q e) p d
+added-comm : (s : List ℕ) (p q d e : ℕ) → q ≢ p → with_added (with_added s p d) q e ≡ with_added (with_added s q e) p d
 added-comm s p q d e apart =
     let x = bit_xor (get_or s p 0) d in
     let y = bit_xor (get_or s q 0) e in
@@ -70,8 +70,8 @@ added-comm s p q d e apart =
 -- a change can come after others that are of other bytes
 pub changed-past : (c : Change) (others cs : List Change) (s : List ℕ)
     → AllByRecursion (λ e. e.place ≢ c.place) others
-    → changed s (c ∷ (others ++ cs)) ≡ changed s (others ++ (c ∷ cs))
+    → with_changes s (c ∷ (others ++ cs)) ≡ with_changes s (others ++ (c ∷ cs))
 changed-past c [] cs s apart = refl
 changed-past c (e ∷ others) cs s apart =
-    ap (λ t. changed t (others ++ cs)) (added-comm s c.place e.place c.d e.d apart.0)
-    ∙ changed-past c others cs (added s e.place e.d) apart.1
+    ap (λ t. with_changes t (others ++ cs)) (added-comm s c.place e.place c.d e.d apart.0)
+    ∙ changed-past c others cs (with_added s e.place e.d) apart.1

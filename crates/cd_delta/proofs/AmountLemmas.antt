@@ -8,15 +8,15 @@ use Rattle.std.proofs.lemmas.List.{get_or-set_same, length-set}
 use Rattle.std.proofs.lemmas.Map.Keys.{IsDistinct-head, IsDistinct-tail}
 use Rattle.cd_code.specs.Edc.{bits, remainder}
 use Rattle.cd_code.specs.Field.{AreBytes}
-use Rattle.cd_code.specs.Syndrome.{SameSums, added}
+use Rattle.cd_code.specs.Syndrome.{SameSums, with_added}
 use Rattle.cd_code.proofs.general.Lists.{front-same}
 use Rattle.cd_code.proofs.general.Xor.{xor_cancel}
 use Rattle.cd_sector.specs.CodeWords.{SameSyndromes}
 use Rattle.cd_sector.proofs.SectorLemmas.{sector_same}
 use Rattle.cd_delta.specs.declared.changes.Change.{Change}
-use Rattle.cd_delta.specs.ParityChanges.{changed}
+use Rattle.cd_delta.specs.ParityChanges.{with_changes}
 use Rattle.cd_delta.proofs.AddLemmas.{AreBytes-added, length-added}
-use Rattle.cd_delta.proofs.AddLemmas.{changed-other, places_of, places_of-behind}
+use Rattle.cd_delta.proofs.AddLemmas.{changed-other, places_of, places_of-after}
 use Rattle.cd_delta.proofs.KeepLemmas.{AreCarried, Eight, listed}
 use Rattle.cd_delta.proofs.KeepLemmas.{IsDistinct-carried, SameSyndromes-carried}
 use Rattle.cd_delta.proofs.WritingLemmas.{SameSyndromes-trans}
@@ -36,7 +36,7 @@ All-eight P t p q r s (suc (suc (suc (suc (suc (suc zero)))))) c h = s.0
 All-eight P t p q r s (suc (suc (suc (suc (suc (suc (suc zero))))))) c h = s.1
 All-eight P t p q r s (suc (suc (suc (suc (suc (suc (suc (suc i)))))))) c h = absurd (omega arith)
 
--- where the byte changes, each of the eight does
+-- if the byte changes, each of the eight does
 pub nonzero-carried : {byte : Change} {t : Eight} → AreCarried byte t → byte.d ≢ 0
     → All (λ c. c.d ≢ 0) (listed t)
 nonzero-carried {byte} {t} c some =
@@ -62,17 +62,17 @@ bytes-carried {byte} {t} c =
 -- ---- no others
 
 -- a sector stays as long under any changes
-length-changed : (cs : List Change) (s : List ℕ) → length (changed s cs) ≡ length s
+length-changed : (cs : List Change) (s : List ℕ) → length (with_changes s cs) ≡ length s
 length-changed [] s = refl
-length-changed (c ∷ cs) s = length-changed cs (added s c.place c.d) ∙ length-added s c.place c.d
+length-changed (c ∷ cs) s = length-changed cs (with_added s c.place c.d) ∙ length-added s c.place c.d
 
 -- and stays one of bytes
 AreBytes-changed : (cs : List Change) (s : List ℕ) → AreBytes s → All (λ c. c.d < 256) cs
-    → AreBytes (changed s cs)
+    → AreBytes (with_changes s cs)
 AreBytes-changed [] s h low = h
 AreBytes-changed (c ∷ cs) s h low =
     let bytes = AreBytes-added s c.place c.d h (low 0 c (omega arith)) in
-    AreBytes-changed cs (added s c.place c.d) bytes
+    AreBytes-changed cs (with_added s c.place c.d) bytes
     (λ i e below. low (suc i) e (omega arith))
 
 -- a number that differs from all of a list is none of them
@@ -85,9 +85,9 @@ none_of p (q ∷ ps) all (suc i) h e = none_of p ps all.1 i (omega arith) e
 -- the amount of the first change can be read off
 first_amount : (c : Change) (cs : List Change) (s : List ℕ) → (Contains (places_of cs) c.place → ⊥)
     → c.place < length s
-    → get_or (changed (added s c.place c.d) cs) c.place 0 ≡ bit_xor (get_or s c.place 0) c.d
+    → get_or (with_changes (with_added s c.place c.d) cs) c.place 0 ≡ bit_xor (get_or s c.place 0) c.d
 first_amount c cs s apart inside =
-    changed-other cs (added s c.place c.d) c.place apart
+    changed-other cs (with_added s c.place c.d) c.place apart
     ∙ get_or-set_same s c.place (bit_xor (get_or s c.place 0) c.d) 0 inside
 
 same_change : (c e : Change) → c.place ≡ e.place → c.d ≡ e.d → c ≡ e
@@ -97,7 +97,7 @@ same_change c e p q =
 -- changes of the same places, each of another, that make the same sector have the same amounts
 same_changes : (cs es : List Change) (s : List ℕ) → places_of cs ≡ places_of es
     → IsDistinct nat_eq (places_of cs)
-    → All (λ c. c.place < length s) cs → changed s cs ≡ changed s es → cs ≡ es
+    → All (λ c. c.place < length s) cs → with_changes s cs ≡ with_changes s es → cs ≡ es
 same_changes [] [] s places distinct inside same = refl
 same_changes [] (e ∷ es) s places distinct inside same = absurd cc
 same_changes (c ∷ cs) [] s places distinct inside same = absurd cc
@@ -114,15 +114,15 @@ same_changes (c ∷ cs) (e ∷ es) s places distinct inside same =
     let amounts : c.d ≡ e.d =
     xor_cancel (get_or s c.place 0) c.d e.d
     (sym (first_amount c cs s apart within) ∙ ap (λ v. get_or v c.place 0) same
-    ∙ ap (λ n. get_or (changed (added s e.place e.d) es) n 0) here
+    ∙ ap (λ n. get_or (with_changes (with_added s e.place e.d) es) n 0) here
     ∙ first_amount e es s apart_e within_e ∙ ap (λ n. bit_xor (get_or s n 0) e.d) (sym here)) in
     let one : c ≡ e = same_change c e here amounts in
-    let after : changed (added s c.place c.d) cs ≡ changed (added s c.place c.d) es =
-    same ∙ ap (λ z. changed (added s z.place z.d) es) (sym one) in
+    let after : with_changes (with_added s c.place c.d) cs ≡ with_changes (with_added s c.place c.d) es =
+    same ∙ ap (λ z. with_changes (with_added s z.place z.d) es) (sym one) in
     let long = length-set s c.place (bit_xor (get_or s c.place 0) c.d) in
     ap (λ z. z ∷ cs) one
     ∙ ap (λ zs. e ∷ zs)
-    (same_changes cs es (added s c.place c.d) rest
+    (same_changes cs es (with_added s c.place c.d) rest
     (IsDistinct-tail nat_eq c.place (places_of cs) distinct)
     (λ i z below. (let h = inside (suc i) z (omega arith) in omega arith)) after)
 
@@ -136,22 +136,22 @@ SameSyndromes-sym h = record {
 }
 
 -- changes of the parity at the same places that keep the same syndromes are the same ones
-amounts_alone : (cs es : List Change) (s t : List ℕ) → places_of es ≡ places_of cs
+amounts_unique : (cs es : List Change) (s t : List ℕ) → places_of es ≡ places_of cs
     → IsDistinct nat_eq (places_of cs)
     → All (λ c. (2076 ≤ c.place) × (c.place < 2352)) cs → All (λ c. c.d < 256) cs
     → All (λ c. c.d < 256) es
-    → AreBytes t → length t ≡ 2352 → SameSyndromes (changed t cs) s
-    → SameSyndromes (changed t es) s → es ≡ cs
-amounts_alone cs es s t places distinct inside low_c low_e bytes size one two =
-    let u = changed t cs in
-    let v = changed t es in
+    → AreBytes t → length t ≡ 2352 → SameSyndromes (with_changes t cs) s
+    → SameSyndromes (with_changes t es) s → es ≡ cs
+amounts_unique cs es s t places distinct inside low_c low_e bytes size one two =
+    let u = with_changes t cs in
+    let v = with_changes t es in
     let u_size : length u ≡ 2352 = length-changed cs t ∙ size in
     let v_size : length v ≡ 2352 = length-changed es t ∙ size in
     let agree : (i : ℕ) → i < 2076 → get_or u i 0 ≡ get_or v i 0 =
     (λ i below.
-    changed-other cs t i (places_of-behind cs i inside below)
+    changed-other cs t i (places_of-after cs i inside below)
     ∙ sym (changed-other es t i
-    (λ found. places_of-behind cs i inside below (rw places at found)))) in
+    (λ found. places_of-after cs i inside below (rw places at found)))) in
     let front : take 2068 u ≡ take 2068 v =
     front-same u v 2068 (omega arith) (omega arith) (λ i below. agree i (omega arith)) in
     let same : u ≡ v =
@@ -164,12 +164,12 @@ amounts_alone cs es s t places distinct inside low_c low_e bytes size one two =
     (λ i c below. (let h = inside i c below in let e = h.1 in omega arith)) same)
 
 -- no other amounts at the eight places keep all syndromes
-pub alone-carried : {byte : Change} {t : Eight} → AreCarried byte t → (others : List Change)
+pub unique-carried : {byte : Change} {t : Eight} → AreCarried byte t → (others : List Change)
     → places_of others ≡ places_of (listed t) → All (λ c. c.d < 256) others
     → (s : List ℕ) → AreBytes s → length s ≡ 2352
-    → SameSyndromes (changed s (byte ∷ others)) s → others ≡ listed t
-alone-carried {byte} {t} c others places bytes s each size kept =
-    amounts_alone (listed t) others s (changed s (byte ∷ [])) places (IsDistinct-carried c)
+    → SameSyndromes (with_changes s (byte ∷ others)) s → others ≡ listed t
+unique-carried {byte} {t} c others places bytes s each size kept =
+    amounts_unique (listed t) others s (with_changes s (byte ∷ [])) places (IsDistinct-carried c)
     (inside-carried c) (bytes-carried c) bytes
     (AreBytes-added s byte.place byte.d each c.in_bytes) (length-added s byte.place byte.d ∙ size)
     (SameSyndromes-carried c s each size) kept

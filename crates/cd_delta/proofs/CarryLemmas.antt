@@ -102,7 +102,7 @@ carried-consistent h stored kind sound =
 
 -- ---- few bytes of the user data
 
--- what is added to the user data where the first `count` bytes are written from `offset` on
+-- what is added to the user data when the first `count` bytes are written from `offset` on
 pub record AreDifferences (s : List ℕ) (offset count : ℕ) (bytes sums : List ℕ) : Type 0 where
   pub size : length sums ≡ 2048
   pub inside : (i : ℕ) → i < count
@@ -151,8 +151,8 @@ after-none : (k : ℕ) → after 0 (replicate k 0) ≡ 0
 after-none zero = refl
 after-none (suc k) = ap (λ r. after r (replicate k 0)) (after_bits-zero 8) ∙ after-none k
 
-IsEdc-behind_zeros : (k : ℕ) (v : List ℕ) (w : ℕ) → IsEdc v w → IsEdc (replicate k 0 ++ v) w
-IsEdc-behind_zeros k v w h =
+IsEdc-after_zeros : (k : ℕ) (v : List ℕ) (w : ℕ) → IsEdc v w → IsEdc (replicate k 0 ++ v) w
+IsEdc-after_zeros k v w h =
     IsEdc-same v (replicate k 0 ++ v) w
     (sym (after-append 0 (replicate k 0) v ∙ ap (λ r. after r v) (after-none k))) h
 
@@ -179,7 +179,7 @@ front-byte old new sums offset bytes fits sum written i h =
           get_or-append_right (replicate 16 0) sums 16 i 0 none from in
           elim (cases_lt i (16 + offset)) [
             | inl low ↦ other (inl low) (at ∙ sum.outside (i - 16) (inl (omega arith)))
-            | inr behind ↦ elim (cases_lt i (16 + offset + length bytes)) [
+            | inr after ↦ elim (cases_lt i (16 + offset + length bytes)) [
               | inr past ↦ other (inr past) (at ∙ sum.outside (i - 16) (inr (omega arith)))
               | inl here ↦
                   let j = i - 16 - offset in
@@ -229,7 +229,7 @@ front-edc old new sums offset bytes w change size fits sum written one two =
             ∙ ap (bit_xor 0) (get_or_past (replicate 16 0 ++ sums) i 0 (omega (arith, sum_long))))
       ];
     })
-    w change one (IsEdc-behind_zeros 16 sums change two)
+    w change one (IsEdc-after_zeros 16 sums change two)
 
 -- with the word of the differences added to the stored one
 pub few-carried : (old t new sums four : List ℕ) (offset : ℕ) (bytes : List ℕ) (stored change : ℕ)

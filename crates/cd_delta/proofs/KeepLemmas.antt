@@ -9,7 +9,7 @@ use Rattle.cd_code.specs.Syndrome.{Balances}
 use Rattle.cd_sector.specs.CodeWords.{SameSyndromes, place_of, bytes_at, column_places}
 use Rattle.cd_sector.proofs.PlaceLemmas.{diagonal_place-first, diagonal_place-second}
 use Rattle.cd_delta.specs.declared.changes.Change.{Change}
-use Rattle.cd_delta.specs.ParityChanges.{changed, diagonal_at, parity_places}
+use Rattle.cd_delta.specs.ParityChanges.{diagonal_at, parity_places, with_changes}
 use Rattle.cd_delta.proofs.AddLemmas.{changed-past, places_of}
 use Rattle.cd_delta.proofs.PlaceFacts.{columns, columns_apart, in_column, misses_column}
 use Rattle.cd_delta.proofs.PlaceFacts.{diagonals, diagonals_apart, in_diagonal}
@@ -66,10 +66,10 @@ Balances-at {len} {index} {j} {d} {a} {b} e h = rw e at h
 
 -- the byte and the column's pair are in one column, and the other six in none
 columns_keep : {byte : Change} {t : Eight} → AreCarried byte t → (s : List ℕ) → IsSector s
-    → KeepsSums columns (changed s (byte ∷ listed t)) s
+    → KeepsSums columns (with_changes s (byte ∷ listed t)) s
 columns_keep {byte} {t} c s sector l n hl hn =
     let ps = column_places l n in
-    let three = changed s (byte ∷ t.column.0 ∷ t.column.1 ∷ []) in
+    let three = with_changes s (byte ∷ t.column.0 ∷ t.column.1 ∷ []) in
     let six = t.own.0 ∷ t.own.1 ∷ t.first.0 ∷ t.first.1 ∷ t.second.0 ∷ t.second.1 ∷ [] in
     let is_in = λ (row q : ℕ) (hr : row < 26) (e : q ≡ place_of c.plane (43 * row + c.column)).
     in_column c.plane row c.column q c.in_plane hr c.in_columns e in
@@ -81,8 +81,8 @@ columns_keep {byte} {t} c s sector l n hl hn =
       balances = c.of_column.balances;
       low = (c.in_bytes, c.of_column.bytes.0, c.of_column.bytes.1);
     } in
-    let miss = λ (q : ℕ) (behind : 2248 ≤ q). misses_column l n q hl hn behind in
-    let rest : bytes_at (changed three six) ps ≡ bytes_at three ps =
+    let miss = λ (q : ℕ) (after : 2248 ≤ q). misses_column l n q hl hn after in
+    let rest : bytes_at (with_changes three six) ps ≡ bytes_at three ps =
     misses_all six ps three (
       miss t.own.0.place (omega arith),
       (
@@ -118,7 +118,7 @@ diagonal_trio {plane} {row} {column} {x} {t} hp hr hc at low pair =
 
 -- in another order the nine changes are three times a byte and the pair of its diagonal
 diagonals_keep : {byte : Change} {t : Eight} → AreCarried byte t → (s : List ℕ) → IsSector s
-    → KeepsSums diagonals (changed s (byte ∷ listed t)) s
+    → KeepsSums diagonals (with_changes s (byte ∷ listed t)) s
 diagonals_keep {byte} {t} c s sector l n hl hn =
     let column = c.of_column in
     let own = diagonal_trio {x = byte} c.in_plane (omega arith) c.in_columns
@@ -127,15 +127,15 @@ diagonals_keep {byte} {t} c s sector l n hl hn =
     (omega arith) column.bytes.0 c.of_first in
     let second = diagonal_trio {row = 25} {x = t.column.1} c.in_plane (omega arith) c.in_columns
     (omega arith) column.bytes.1 c.of_second in
-    let one = changed s (byte ∷ t.own.0 ∷ t.own.1 ∷ []) in
-    let two = changed one (t.column.0 ∷ t.first.0 ∷ t.first.1 ∷ []) in
+    let one = with_changes s (byte ∷ t.own.0 ∷ t.own.1 ∷ []) in
+    let two = with_changes one (t.column.0 ∷ t.first.0 ∷ t.first.1 ∷ []) in
     let sector_one = trio_sector own s sector in
     let sector_two = trio_sector first one sector_one in
     let p_past = changed-past t.column.0 (t.own.0 ∷ t.own.1 ∷ [])
-    (t.first.0 ∷ t.first.1 ∷ t.column.1 ∷ t.second.0 ∷ t.second.1 ∷ []) (changed s (byte ∷ []))
+    (t.first.0 ∷ t.first.1 ∷ t.column.1 ∷ t.second.0 ∷ t.second.1 ∷ []) (with_changes s (byte ∷ []))
     (omega arith, (omega arith, tt)) in
     let q_past = changed-past t.column.1 (t.own.0 ∷ t.own.1 ∷ t.first.0 ∷ t.first.1 ∷ [])
-    (t.second.0 ∷ t.second.1 ∷ []) (changed s (byte ∷ t.column.0 ∷ []))
+    (t.second.0 ∷ t.second.1 ∷ []) (with_changes s (byte ∷ t.column.0 ∷ []))
     (omega arith, (omega arith, (omega arith, (omega arith, tt)))) in
     rw (q_past ∙ p_past)
     (SameSums-trans (trio_keeps diagonals_apart second two sector_two l n hl hn)
@@ -144,7 +144,7 @@ diagonals_keep {byte} {t} c s sector l n hl hn =
 
 -- the nine changes together keep all syndromes
 pub SameSyndromes-carried : {byte : Change} {t : Eight} → AreCarried byte t → (s : List ℕ)
-    → AreBytes s → length s ≡ 2352 → SameSyndromes (changed s (byte ∷ listed t)) s
+    → AreBytes s → length s ≡ 2352 → SameSyndromes (with_changes s (byte ∷ listed t)) s
 SameSyndromes-carried c s bytes size =
     let sector : IsSector s = record { bytes = bytes; size = size } in
     record { columns = columns_keep c s sector; diagonals = diagonals_keep c s sector }

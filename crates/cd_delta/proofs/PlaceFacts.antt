@@ -36,7 +36,7 @@ in_column plane row column q hp hr hc e =
 
 -- no place after the rows is in a column
 pub misses_column : (l n q : ℕ) → l < 2 → n < 43 → 2248 ≤ q → Misses (column_places l n) q
-misses_column l n q hl hn behind k h same =
+misses_column l n q hl hn after k h same =
     let long = length-column_places l n in
     let k_in : k < 26 = omega arith in
     let at = column_place l n k k_in in
@@ -92,11 +92,11 @@ in_diagonal plane row column q hp hr hc e =
     record { plane = hp; word = omega arith; index = omega arith; at = omega arith }
 
 -- the one diagonal of a row and a column
-pub one_diagonal-told : (plane row column l n k : ℕ) → plane < 2 → row < 26 → column < 43
+pub one_diagonal-known : (plane row column l n k : ℕ) → plane < 2 → row < 26 → column < 43
     → l < 2 → n < 26 → k < 45
     → (get_or (diagonal_places l n) k 0 ≡ place_of plane (43 * row + column))
     ↔ ((l ≡ plane) × (n ≡ diagonal_at row column) × (k ≡ column))
-one_diagonal-told plane row column l n k hp hr hc hl hn hk =
+one_diagonal-known plane row column l n k hp hr hc hl hn hk =
     let q = place_of plane (43 * row + column) in
     let here = in_diagonal plane row column q hp hr hc refl in (
       λ same.

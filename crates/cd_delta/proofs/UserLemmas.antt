@@ -14,7 +14,7 @@ use Rattle.cd_sector.specs.CodeWords.{SameSyndromes}
 use Rattle.cd_sector.specs.Consistent.{IsConsistent, header_of, user_of}
 use Rattle.cd_sector.specs.EdcField.{StoresEdc}
 use Rattle.cd_sector.specs.Kind.{kind_of}
-use Rattle.cd_delta.specs.Writing.{IsChanged, IsWritten, WithEdc, written}
+use Rattle.cd_delta.specs.Writing.{IsChanged, IsWritten, WithEdc, with_range}
 use Rattle.cd_sector.proofs.EdcPlaceLemmas.{StoresEdc-remainder}
 use Rattle.cd_sector.proofs.SectorLemmas.{header_of-same, kind_of-same}
 use Rattle.cd_sector.proofs.SumLemmas.{AllCodeWords-same}
@@ -24,8 +24,8 @@ use Rattle.cd_delta.proofs.WritingLemmas.{SameSyndromes-trans}
 
 pub length-written : (user : List ℕ) (offset : ℕ) (bytes : List ℕ)
     → offset + length bytes ≤ length user
-    → length (written user offset bytes) ≡ length user
-unfolding written
+    → length (with_range user offset bytes) ≡ length user
+unfolding with_range
 length-written user offset bytes h =
     let back = drop (offset + length bytes) user in
     let one = length-append (take offset user) (bytes ++ back) in
@@ -36,8 +36,8 @@ length-written user offset bytes h =
 
 pub written-range : (user : List ℕ) (offset : ℕ) (bytes : List ℕ) (k : ℕ)
     → offset + length bytes ≤ length user
-    → k < length bytes → get_or (written user offset bytes) (offset + k) 0 ≡ get_or bytes k 0
-unfolding written
+    → k < length bytes → get_or (with_range user offset bytes) (offset + k) 0 ≡ get_or bytes k 0
+unfolding with_range
 written-range user offset bytes k h below =
     let back = drop (offset + length bytes) user in
     let front = length-take-le offset user (omega arith) in
@@ -49,8 +49,8 @@ written-range user offset bytes k h below =
 pub written-other : (user : List ℕ) (offset : ℕ) (bytes : List ℕ) (k : ℕ)
     → offset + length bytes ≤ length user
     → (k < offset) ⊎ (offset + length bytes ≤ k)
-    → get_or (written user offset bytes) k 0 ≡ get_or user k 0
-unfolding written
+    → get_or (with_range user offset bytes) k 0 ≡ get_or user k 0
+unfolding with_range
 written-other user offset bytes k h out =
     let back = drop (offset + length bytes) user in
     let front = length-take-le offset user (omega arith) in
@@ -58,7 +58,7 @@ written-other user offset bytes k h out =
       | inl before ↦
           get_or_append_left (take offset user) (bytes ++ back) 0 k (omega arith)
           ∙ get_or-take offset user k 0 before
-      | inr behind ↦
+      | inr after ↦
           let index : offset + length bytes + (k - offset - length bytes) ≡ k = omega arith in
           get_or-append_right (take offset user) (bytes ++ back) offset k 0 front (omega arith)
           ∙ get_or-append_right bytes back (length bytes) (k - offset) 0 refl (omega arith)
@@ -72,7 +72,7 @@ pub user_of-written : (old new : List ℕ) (offset : ℕ) (bytes : List ℕ)
     → ((i : ℕ) → i < length bytes → get_or new (16 + offset + i) 0 ≡ get_or bytes i 0)
     → ((i : ℕ) → i < 2064 → (i < 16 + offset) ⊎ (16 + offset + length bytes ≤ i)
     → get_or new i 0 ≡ get_or old i 0)
-    → user_of new ≡ written (user_of old) offset bytes
+    → user_of new ≡ with_range (user_of old) offset bytes
 unfolding user_of
 user_of-written old new offset bytes inside size same_size range others =
     let user = take 2048 (drop 16 old) in
@@ -81,13 +81,13 @@ user_of-written old new offset bytes inside size same_size range others =
     let fits : offset + length bytes ≤ length user = omega arith in
     let whole = length-written user offset bytes fits in
     let other : (k : ℕ) → k < 2048 → (k < offset) ⊎ (offset + length bytes ≤ k)
-    → get_or (take 2048 (drop 16 new)) k 0 ≡ get_or (written user offset bytes) k 0 =
+    → get_or (take 2048 (drop 16 new)) k 0 ≡ get_or (with_range user offset bytes) k 0 =
     λ k below out.
     let there : (16 + k < 16 + offset) ⊎ (16 + offset + length bytes ≤ 16 + k) =
-    elim out [ inl before ↦ inl (omega arith) | inr behind ↦ inr (omega arith) ] in
+    elim out [ inl before ↦ inl (omega arith) | inr after ↦ inr (omega arith) ] in
     get_or-part new 16 2048 k below ∙ others (16 + k) (omega arith) there
     ∙ sym (get_or-part old 16 2048 k below) ∙ sym (written-other user offset bytes k fits out) in
-    ext_get_or 0 (take 2048 (drop 16 new)) (written user offset bytes) (omega arith)
+    ext_get_or 0 (take 2048 (drop 16 new)) (with_range user offset bytes) (omega arith)
     (λ k within.
     let below : k < 2048 = omega arith in
     elim (cases_lt k offset) [
@@ -100,14 +100,14 @@ user_of-written old new offset bytes inside size same_size range others =
             ∙ ap (λ n. get_or new n 0) at
             ∙ range (k - offset) (omega arith)
             ∙ sym (written-range user offset bytes (k - offset) fits (omega arith))
-            ∙ ap (λ n. get_or (written user offset bytes) n 0) (sym j)
-        | inr behind ↦ other k below (inr behind)
+            ∙ ap (λ n. get_or (with_range user offset bytes) n 0) (sym j)
+        | inr after ↦ other k below (inr after)
       ]
     ])
 
 -- ---- the EDC
 
--- the word of the first bytes, written behind them
+-- the word of the first bytes, written after them
 pub WithEdc-written : (old new four : List ℕ) (w error : ℕ) → length old ≡ 2352 → AreBytes old
     → error < 2 ^ 32
     → IsEdc (take 2064 old) w → four ≡ to_le_bytes w32 (bit_xor w error)
@@ -133,7 +133,7 @@ WithEdc-written old new four w error size each fits word at h =
       };
       front = λ i below out. elim out [
         | inl before ↦ h.front i below (inl before)
-        | inr behind ↦ h.front i below (inr (omega arith))
+        | inr after ↦ h.front i below (inr (omega arith))
       ];
       syndromes = h.syndromes;
     }
@@ -227,7 +227,7 @@ kind-of {old} {new} h from out =
     kind_of-same new old (omega arith) h.same_size
     (λ i below. h.front i (omega arith) (inl (omega arith)))
     (h.front 15 (omega arith)
-    (elim out [ inl behind ↦ inl (omega arith) | inr before ↦ inr before ]))
+    (elim out [ inl after ↦ inl (omega arith) | inr before ↦ inr before ]))
 
 pub IsConsistent-of : {old new : List ℕ} {place : ℕ} {bytes : List ℕ} {error : ℕ}
     → IsChanged old new place bytes error
@@ -249,12 +249,12 @@ pub user-stays : (offset : ℕ) {old new bytes : List ℕ} {error : ℕ}
     → (i : ℕ) → (i < 16) ⊎ ((2068 ≤ i) × (i < 2076)) → get_or new i 0 ≡ get_or old i 0
 user-stays offset h i out = elim out [
   | inl before ↦ h.front i (omega arith) (inl (omega arith))
-  | inr behind ↦ h.zeros i behind.0 behind.1
+  | inr after ↦ h.zeros i after.0 after.1
 ]
 
 pub user-of : (offset : ℕ) {old new bytes : List ℕ} {error : ℕ}
     → IsChanged old new (16 + offset) bytes error
-    → user_of new ≡ written (user_of old) offset bytes
+    → user_of new ≡ with_range (user_of old) offset bytes
 user-of offset {old} {new} {bytes} h =
     let fits = h.fits in
     user_of-written old new offset bytes (omega arith) (long-of h) h.same_size h.range
@@ -279,7 +279,7 @@ pub header-stays : {old new bytes : List ℕ} {error : ℕ} → IsChanged old ne
     → get_or new i 0 ≡ get_or old i 0
 header-stays h three i out = elim out [
   | inl before ↦ h.front i (omega arith) (inl before)
-  | inr behind ↦ elim behind [
+  | inr after ↦ elim after [
     | inl user ↦ h.front i user.1 (inr (omega (arith, user.0)))
     | inr zeros ↦ h.zeros i zeros.0 zeros.1
   ]

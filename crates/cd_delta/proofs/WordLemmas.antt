@@ -5,12 +5,12 @@ use Rattle.std.specs.List.{AllByRecursion}
 use Rattle.std.proofs.lemmas.Bool.{cases_eq}
 use Rattle.std.proofs.lemmas.List.{ext_get_or, get_or-set_same, get_or-set_other, length-set}
 use Rattle.cd_code.specs.Field.{AreBytes}
-use Rattle.cd_code.specs.Syndrome.{Balances, SameSums, added, first_syndrome, second_syndrome}
+use Rattle.cd_code.specs.Syndrome.{Balances, SameSums, first_syndrome, second_syndrome, with_added}
 use Rattle.cd_sector.specs.CodeWords.{bytes_at}
 use Rattle.cd_sector.proofs.PlaceLemmas.{AreBytes-bytes_at, length-bytes_at, bytes_at-byte}
 use Rattle.cd_sector.proofs.PlaceLemmas.{bytes_at-same}
 use Rattle.cd_delta.specs.declared.changes.Change.{Change}
-use Rattle.cd_delta.specs.ParityChanges.{changed}
+use Rattle.cd_delta.specs.ParityChanges.{with_changes}
 use Rattle.cd_delta.proofs.AddLemmas.{AreBytes-added, length-added}
 
 -- the places of each word: `count` words in a plane, of `len` places each
@@ -44,7 +44,7 @@ pub record IsSector (s : List ℕ) : Type 0 where
 
 -- a change at index i of a word changes the word's byte i
 hit : {w : Words} {l n i q : ℕ} (s : List ℕ) (d : ℕ) → AreApart w → IsIn w l n i q → length s ≡ 2352
-    → bytes_at (added s q d) (w.places l n) ≡ added (bytes_at s (w.places l n)) i d
+    → bytes_at (with_added s q d) (w.places l n) ≡ with_added (bytes_at s (w.places l n)) i d
 hit {w} {l} {n} {i} {q} s d apart is long =
     let ps = w.places l n in
     let v = bytes_at s ps in
@@ -53,12 +53,12 @@ hit {w} {l} {n} {i} {q} s d apart is long =
     let size = apart.size l n in
     let below = apart.below l n i q is in
     let short = length-bytes_at s ps in
-    let changed_short = length-bytes_at (added s q d) ps in
-    ext_get_or 0 (bytes_at (added s q d) ps) (added v i d)
+    let changed_short = length-bytes_at (with_added s q d) ps in
+    ext_get_or 0 (bytes_at (with_added s q d) ps) (with_added v i d)
     (changed_short ∙ sym (length-set v i y ∙ short))
     (λ k inside.
     let within : k < length ps = omega arith in
-    let new = bytes_at-byte (added s q d) ps k within in
+    let new = bytes_at-byte (with_added s q d) ps k within in
     let old = bytes_at-byte s ps k within in
     elim (cases_eq k i) [
       | inl same ↦
@@ -91,12 +91,12 @@ misses {w} {p} {m} {i} {q} apart l n hl hn is differ k inside at =
 
 -- changes of other bytes leave a word as it is
 pub misses_all : (cs : List Change) (ps s : List ℕ) → AllByRecursion (λ c. Misses ps c.place) cs
-    → bytes_at (changed s cs) ps ≡ bytes_at s ps
+    → bytes_at (with_changes s cs) ps ≡ bytes_at s ps
 misses_all [] ps s all = refl
 misses_all (c ∷ cs) ps s all =
     let x = bit_xor (get_or s c.place 0) c.d in
-    misses_all cs ps (added s c.place c.d) all.1
-    ∙ bytes_at-same (added s c.place c.d) s ps
+    misses_all cs ps (with_added s c.place c.d) all.1
+    ∙ bytes_at-same (with_added s c.place c.d) s ps
     (λ k inside. get_or-set_other s c.place (get_or ps k 0) x 0 (all.0 k inside))
 
 -- ---- three changes in one word
@@ -111,10 +111,10 @@ pub record IsTrio (w : Words) (p m i : ℕ) (a b c : Change) : Type 0 where
 
 -- a sector with the three changes is as long, and of bytes
 pub trio_sector : {w : Words} {p m i : ℕ} {a b c : Change} → IsTrio w p m i a b c → (s : List ℕ)
-    → IsSector s → IsSector (changed s (a ∷ b ∷ c ∷ []))
+    → IsSector s → IsSector (with_changes s (a ∷ b ∷ c ∷ []))
 trio_sector {w} {p} {m} {i} {a} {b} {c} trio s sector =
-    let one = added s a.place a.d in
-    let two = added one b.place b.d in
+    let one = with_added s a.place a.d in
+    let two = with_added one b.place b.d in
     let bytes_one = AreBytes-added s a.place a.d sector.bytes trio.low.0 in
     let bytes_two = AreBytes-added one b.place b.d bytes_one trio.low.1 in
     record {
@@ -132,26 +132,26 @@ KeepsSums w t s =
 -- the three changes keep the sums of their word
 trio_keeps-own : {w : Words} {p m i : ℕ} {a b c : Change} → AreApart w → IsTrio w p m i a b c
     → (s : List ℕ) → IsSector s
-    → SameSums (bytes_at (changed s (a ∷ b ∷ c ∷ [])) (w.places p m)) (bytes_at s (w.places p m))
+    → SameSums (bytes_at (with_changes s (a ∷ b ∷ c ∷ [])) (w.places p m)) (bytes_at s (w.places p m))
 trio_keeps-own {w} {p} {m} {i} {a} {b} {c} apart trio s sector =
     let ps = w.places p m in
     let v = bytes_at s ps in
-    let one = added s a.place a.d in
+    let one = with_added s a.place a.d in
     let long_one : length one ≡ 2352 = length-added s a.place a.d ∙ sector.size in
-    let two = added one b.place b.d in
+    let two = with_added one b.place b.d in
     let long_two : length two ≡ 2352 = length-added one b.place b.d ∙ long_one in
     let hit_a = hit s a.d apart trio.byte sector.size in
-    let hit_b = hit one b.d apart trio.first long_one ∙ ap (λ u. added u (w.len - 2) b.d) hit_a in
-    let hits = hit two c.d apart trio.second long_two ∙ ap (λ u. added u (w.len - 1) c.d) hit_b in
+    let hit_b = hit one b.d apart trio.first long_one ∙ ap (λ u. with_added u (w.len - 2) b.d) hit_a in
+    let hits = hit two c.d apart trio.second long_two ∙ ap (λ u. with_added u (w.len - 1) c.d) hit_b in
     let bytes = AreBytes-bytes_at s ps sector.bytes in
     rw hits (trio.balances.keeps v bytes (length-bytes_at s ps ∙ apart.size p m))
 
 -- and those of every other word
 pub trio_keeps : {w : Words} {p m i : ℕ} {a b c : Change} → AreApart w → IsTrio w p m i a b c
-    → (s : List ℕ) → IsSector s → KeepsSums w (changed s (a ∷ b ∷ c ∷ [])) s
+    → (s : List ℕ) → IsSector s → KeepsSums w (with_changes s (a ∷ b ∷ c ∷ [])) s
 trio_keeps {w} {p} {m} {i} {a} {b} {c} apart trio s sector l n hl hn =
     let ps = w.places l n in
-    let t = changed s (a ∷ b ∷ c ∷ []) in
+    let t = with_changes s (a ∷ b ∷ c ∷ []) in
     let other : (l ≢ p) ⊎ (n ≢ m) → SameSums (bytes_at t ps) (bytes_at s ps) =
     (λ differ.
     let miss_a = misses apart l n hl hn trio.byte differ in

@@ -1,13 +1,13 @@
 -- What a change of one byte changes in the parity of its sector (ECMA-130, Annex A). Place n of a
 -- plane is in row n / 43 and column n % 43; the P parity makes rows 24 and 25.
 use Rattle.std.specs.Prelude.{ℕ, ◌+◌, ◌-◌, ◌/◌, ◌%◌, List, [], ◌∷◌, ◌++◌, fold}
-use Rattle.cd_code.specs.Syndrome.{added}
+use Rattle.cd_code.specs.Syndrome.{with_added}
 use Rattle.cd_sector.specs.CodeWords.{diagonal_pair, place_of}
 use Rattle.cd_delta.specs.declared.changes.Change.{Change}
 
 -- the sector with each change's `d` added to the byte at its place
-abbrev pub changed : List ℕ → List Change → List ℕ
-changed s changes = fold (λ t c. added t c.place c.d) s changes
+abbrev pub with_changes : List ℕ → List Change → List ℕ
+with_changes s changes = fold (λ t c. with_added t c.place c.d) s changes
 
 -- the one diagonal through a row and a column
 abbrev pub diagonal_at : ℕ → ℕ → ℕ

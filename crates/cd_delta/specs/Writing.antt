@@ -1,13 +1,13 @@
 -- Bytes written into a sector before its parity, and carried into it (ECMA-130, Annex A). All but
--- `written` is plumbing.
+-- `with_range` is plumbing.
 use Rattle.std.specs.Prelude.{◌≡◌, ℕ, ◌+◌, ◌<◌, ◌≤◌, ◌⊎◌, List, ◌++◌, length, take, drop, slice_index}
 use Rattle.cd_code.specs.Field.{AreBytes}
 use Rattle.cd_sector.specs.CodeWords.{SameSyndromes}
 use Rattle.cd_sector.specs.EdcField.{StoresEdc}
 
 -- the user data, in which `bytes` stand from `offset` on instead of as many others
-unfoldable pub written : List ℕ → ℕ → List ℕ → List ℕ
-written user offset bytes = take offset user ++ (bytes ++ drop (offset + length bytes) user)
+unfoldable pub with_range : List ℕ → ℕ → List ℕ → List ℕ
+with_range user offset bytes = take offset user ++ (bytes ++ drop (offset + length bytes) user)
 
 -- plumbing of `write_few`: the first `count` bytes of a list stand in a sector from `place` on;
 -- before the parity nothing else has changed, and no syndrome has
@@ -28,8 +28,8 @@ pub record WithEdc (old new : List ℕ) (error : ℕ) : Type 0 where
   pub front : (i : ℕ) → i < 2076 → (i < 2064) ⊎ (2068 ≤ i) → slice_index new i ≡ slice_index old i
   pub syndromes : SameSyndromes new old
 
--- what `change` does: `bytes` stand in the sector from `place` on, then the EDC with `error` added
--- to it; before the parity nothing else has changed, and no syndrome has
+-- what `change_bytes` does: `bytes` stand in the sector from `place` on, then the EDC with `error`
+-- added to it; before the parity nothing else has changed, and no syndrome has
 pub record IsChanged (old new : List ℕ) (place : ℕ) (bytes : List ℕ) (error : ℕ) : Type 0 where
   pub fits : place + length bytes ≤ 2064
   pub size : length new ≡ 2352
@@ -42,7 +42,7 @@ pub record IsChanged (old new : List ℕ) (place : ℕ) (bytes : List ℕ) (erro
   pub edc : StoresEdc new error
   pub syndromes : SameSyndromes new old
 
--- what `carry` does: as `IsChanged`, and `error` is what the EDC was wrong by before
+-- what `carry_bytes` does: as `IsChanged`, and `error` is what the EDC was wrong by before
 pub record KeepsError (old new : List ℕ) (place : ℕ) (bytes : List ℕ) : Type 0 where
   pub error : ℕ
   pub before : StoresEdc old error

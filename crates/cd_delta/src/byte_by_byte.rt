@@ -3,7 +3,7 @@
 
 ghost use Rattle.std.specs.Prelude.{◌≡◌, ◌≢◌, ℕ, ◌+◌, ◌<◌, ◌≤◌, Contains, length, slice_index};
 ghost use Rattle.cd_code.specs.Field.{AreBytes};
-ghost use Rattle.cd_code.specs.Syndrome.{added};
+ghost use Rattle.cd_code.specs.Syndrome.{with_added};
 ghost use Rattle.cd_sector.specs.CodeWords.{SameSyndromes};
 ghost use Rattle.cd_delta.specs.ParityChanges.{parity_places};
 ghost use Rattle.cd_delta.specs.Writing.{IsWritten};
@@ -45,7 +45,7 @@ pub fn change_byte(s: &mut Sector, place: u16, value: u8)
 /// Adds a change's amount to its byte.
 fn add_at(s: &mut Sector, change: Change)
     requires { change.place < 2352 }
-    ensures sum { s.new ≡ added s.old change.place change.d }
+    ensures sum { s.new ≡ with_added s.old change.place change.d }
     ensures size { length s.new ≡ 2352 }
     ensures each { AreBytes s.new }
 {

@@ -9,10 +9,10 @@ ghost use Rattle.cd_sector.specs.Consistent.{IsConsistent, header_of, user_of};
 ghost use Rattle.cd_sector.specs.EdcField.{StoresEdc};
 ghost use Rattle.cd_sector.specs.Kind.{kind_of};
 ghost use Rattle.cd_sector.specs.declared.kinds.SectorKind.TheVariants.{Mode1};
-ghost use Rattle.cd_delta.specs.Writing.{KeepsError, written};
+ghost use Rattle.cd_delta.specs.Writing.{KeepsError, with_range};
 
 use crate::byte_by_byte::write_few;
-use crate::user_data::{MANY, change};
+use crate::user_data::{MANY, change_bytes};
 use cd_code::edc_of;
 use cd_sector::{EDC, HEADER, Sector, USER_DATA, USER_SIZE, edc_bytes, stored_edc};
 
@@ -33,9 +33,9 @@ pub fn carry_user(s: &mut Sector, offset: u16, bytes: &[u8])
     requires mode { kind_of s.old ≡ Mode1 }
     requires range { offset + length bytes.now ≤ 2048 }
     ensures carried { IsCarried s.old (header_of s.old)
-        (written (user_of s.old) offset bytes.now) s.new }
-    ensures alone { (t : List ℕ)
-        → IsCarried s.old (header_of s.old) (written (user_of s.old) offset bytes.now) t
+        (with_range (user_of s.old) offset bytes.now) s.new }
+    ensures unique { (t : List ℕ)
+        → IsCarried s.old (header_of s.old) (with_range (user_of s.old) offset bytes.now) t
         → t ≡ s.new }
     ensures kind { kind_of s.new ≡ kind_of s.old }
     ensures edc { (before after : ℕ) → IsEdc (take 2064 s.old) before
@@ -63,7 +63,7 @@ pub fn carry_user(s: &mut Sector, offset: u16, bytes: &[u8])
 pub fn carry_header(s: &mut Sector, bcd: [u8; 3])
     requires mode { kind_of s.old ≡ Mode1 }
     ensures carried { IsCarried s.old (bcd ++ drop 3 (header_of s.old)) (user_of s.old) s.new }
-    ensures alone { (t : List ℕ)
+    ensures unique { (t : List ℕ)
         → IsCarried s.old (bcd ++ drop 3 (header_of s.old)) (user_of s.old) t → t ≡ s.new }
     ensures kind { kind_of s.new ≡ kind_of s.old }
     ensures edc { (before after : ℕ) → IsEdc (take 2064 s.old) before
@@ -72,7 +72,7 @@ pub fn carry_header(s: &mut Sector, bcd: [u8; 3])
         ≡ bit_xor (from_le_bytes w32 (slice_range s.old 2064 2068)) (bit_xor before after) }
     ensures consistent { IsConsistent s.old → IsConsistent s.new }
 {
-    carry(s, HEADER, &bcd);
+    carry_bytes(s, HEADER, &bcd);
 }
 
 /// Writes bytes into the user data, from `offset` on, then the EDC with the error that it had, and
@@ -84,7 +84,7 @@ fn carry_in_user(s: &mut Sector, offset: usize, bytes: &[u8])
     if bytes.len() < MANY {
         carry_few(s, offset, bytes);
     } else {
-        carry(s, USER_DATA + offset, bytes);
+        carry_bytes(s, USER_DATA + offset, bytes);
     }
 }
 
@@ -118,13 +118,13 @@ fn differences(s: &Sector, offset: usize, bytes: &[u8]) -> [u8; USER_SIZE]
 /// Writes bytes between the sync field and the EDC, and leaves the EDC wrong by what it was wrong
 /// by. So the stored EDC changes by the sum of the right words before and after, and a carried
 /// change costs one EDC more.
-fn carry(s: &mut Sector, place: usize, bytes: &[u8])
+fn carry_bytes(s: &mut Sector, place: usize, bytes: &[u8])
     requires from { 12 ≤ place }
     requires below { place + length bytes.now ≤ 2064 }
     ensures { KeepsError s.old s.new place bytes.now }
 {
     let error = edc_error(s);
-    change(s, place, bytes, error);
+    change_bytes(s, place, bytes, error);
 }
 
 /// What the stored EDC differs by from the EDC of bytes 0 to 2063; 0 if it is right.

@@ -3,9 +3,9 @@
 ghost use Rattle.std.specs.Prelude.{◌≡◌, ◌≢◌, ℕ, ◌+◌, ◌*◌, ◌-◌, ◌/◌, ◌%◌, ◌<◌, ◌≤◌, All, List, length, map, nat_eq};
 ghost use Rattle.std.specs.List.{IsDistinct};
 ghost use Rattle.cd_code.specs.Field.{AreBytes};
-ghost use Rattle.cd_code.specs.Syndrome.{Balances, added};
+ghost use Rattle.cd_code.specs.Syndrome.{Balances, with_added};
 ghost use Rattle.cd_sector.specs.CodeWords.{SameSyndromes, place_of};
-ghost use Rattle.cd_delta.specs.ParityChanges.{changed, diagonal_at, parity_places};
+ghost use Rattle.cd_delta.specs.ParityChanges.{diagonal_at, parity_places, with_changes};
 
 use cd_code::pair_change;
 use cd_sector::{
@@ -53,13 +53,13 @@ pub fn parity_changes(place: u16, d: u8) -> [Change; 8]
     ensures inside { All (λ c. (2076 ≤ c.place) × (c.place < 2352)) result }
     ensures distinct { IsDistinct nat_eq (map (λ c. c.place) result) }
     ensures keeps { (s : List ℕ) → AreBytes s → length s ≡ 2352
-        → SameSyndromes (changed (added s place d) result) s }
+        → SameSyndromes (with_changes (with_added s place d) result) s }
     // No other amounts do it, and none is `00`. Both follow from `keeps`: there is no wrong body
     // that only they refuse.
-    ensures alone { (others : List Change) → map (λ c. c.place) others ≡ parity_places place
+    ensures unique { (others : List Change) → map (λ c. c.place) others ≡ parity_places place
         → All (λ c. c.d < 256) others
         → (s : List ℕ) → AreBytes s → length s ≡ 2352
-        → SameSyndromes (changed (added s place d) others) s → others ≡ result }
+        → SameSyndromes (with_changes (with_added s place d) others) s → others ≡ result }
     ensures nonzero { d ≢ 0 → All (λ c. c.d ≢ 0) result }
 {
     let cell = cell_of(place as usize);

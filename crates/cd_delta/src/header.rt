@@ -9,7 +9,7 @@ ghost use Rattle.cd_sector.specs.Kind.{kind_of};
 ghost use Rattle.cd_sector.specs.declared.kinds.SectorKind.TheVariants.{Mode1};
 ghost use Rattle.cd_delta.specs.Writing.{IsChanged};
 
-use crate::user_data::change;
+use crate::user_data::change_bytes;
 use cd_sector::{HEADER, Sector};
 
 /// Makes `bcd` bytes 12 to 14 of a Mode 1 sector, which are its address (three bytes, BCD or not),
@@ -43,5 +43,5 @@ pub fn change_header(s: &mut Sector, bcd: [u8; 3])
 fn put_address(s: &mut Sector, bcd: [u8; 3])
     ensures { IsChanged s.old s.new 12 bcd 0 }
 {
-    change(s, HEADER, &bcd, 0);
+    change_bytes(s, HEADER, &bcd, 0);
 }

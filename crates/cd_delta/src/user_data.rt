@@ -8,7 +8,7 @@ ghost use Rattle.cd_sector.specs.Consistent.{IsConsistent, header_of, user_of};
 ghost use Rattle.cd_sector.specs.EdcField.{StoresEdc};
 ghost use Rattle.cd_sector.specs.Kind.{kind_of};
 ghost use Rattle.cd_sector.specs.declared.kinds.SectorKind.TheVariants.{Mode1};
-ghost use Rattle.cd_delta.specs.Writing.{IsChanged, WithEdc, written};
+ghost use Rattle.cd_delta.specs.Writing.{IsChanged, WithEdc, with_range};
 
 use crate::byte_by_byte::write_few;
 use crate::difference::carry_front;
@@ -33,7 +33,7 @@ pub(crate) const MANY: usize = 40;
 pub fn change_user(s: &mut Sector, offset: u16, bytes: &[u8])
     requires mode { kind_of s.old ≡ Mode1 }
     requires range { offset + length bytes.now ≤ 2048 }
-    ensures user { user_of s.new ≡ written (user_of s.old) offset bytes.now }
+    ensures user { user_of s.new ≡ with_range (user_of s.old) offset bytes.now }
     ensures edc { IsEdc (take 2064 s.new) (from_le_bytes w32 (slice_range s.new 2064 2068)) }
     ensures divides { remainder (bits (take 2068 s.new)) ≡ 0 }
     ensures kind { kind_of s.new ≡ kind_of s.old }
@@ -43,13 +43,13 @@ pub fn change_user(s: &mut Sector, offset: u16, bytes: &[u8])
     ensures syndromes { SameSyndromes s.new s.old }
     ensures consistent { IsConsistent s.old → IsConsistent s.new }
 {
-    change(s, USER_DATA + offset as usize, bytes, 0);
+    change_bytes(s, USER_DATA + offset as usize, bytes, 0);
 }
 
 /// Writes bytes between the sync field and the EDC, then the EDC with `error` added to it, and
 /// carries both into the parity. The one body of all four calls: `error` is 0, or what the EDC was
 /// wrong by if damage is carried.
-pub(crate) fn change(s: &mut Sector, place: usize, bytes: &[u8], error: u32)
+pub(crate) fn change_bytes(s: &mut Sector, place: usize, bytes: &[u8], error: u32)
     requires from { 12 ≤ place }
     requires below { place + length bytes.now ≤ 2064 }
     ensures { IsChanged s.old s.new place bytes.now error }

@@ -13,8 +13,8 @@ use Rattle.cd_script.specs.Patch.{IsPatch}
 use Rattle.cd_script.specs.declared.patch.Patch.{Patch}
 use Rattle.cd_sector.specs.declared.sector.TheConstants.{SECTOR_SIZE}
 use Rattle.cd_image.specs.Applying.{Applies, Streams}
-use Rattle.cd_image.specs.InHand.{GainsSector, GainsTail, InHand}
-use Rattle.cd_image.specs.Passing.{GoesOn, Going}
+use Rattle.cd_image.specs.Window.{GainsSector, GainsTail, WindowView}
+use Rattle.cd_image.specs.Passing.{HoldsInvariant, PassInvariant}
 use Rattle.cd_read.specs.Reading.{ReadsSector}
 use Rattle.cd_read.specs.declared.fault.Fault.{Fault}
 use Rattle.cd_read.specs.declared.fault.Fault.TheVariants.{Log, Read, TooLong, Write}
@@ -24,7 +24,7 @@ use Rattle.cd_image.proofs.CloseLemmas.{Applies-below}
 use Rattle.std.proofs.lemmas.List.Sums.{count_by-le-length}
 use Rattle.cd_patch.specs.Blocks.{block_limit}
 use Rattle.cd_patch.specs.Outcome.{is_applied}
-use Rattle.cd_image.proofs.KnownLemmas.{told_lengths}
+use Rattle.cd_image.proofs.KnownLemmas.{outcomes_length}
 use Rattle.cd_image.proofs.PatchLogLemmas.{missing_lines}
 use Rattle.cd_image.proofs.PassingLemmas.{Going-end, Going-read, Going-send, Going-start}
 use Rattle.cd_read.specs.Image.{base_limit, sector_limit}
@@ -33,11 +33,11 @@ use Rattle.cd_read.specs.Image.{base_limit, sector_limit}
 module _ (carry : Bool) (taken left : List Patch) (base : ℕ) (start now : Streams) (pass : Pass)
     (image : Incoming) (unended : pass.window.tail ≡ None)
     (room : length pass.window.sectors < block_limit)
-    (g : GoesOn carry taken left base start now pass) where
-  begun : Going carry taken left base start now pass.window.sectors pass.block pass.sectors
+    (g : HoldsInvariant carry taken left base start now pass) where
+  begun : PassInvariant carry taken left base start now pass.window.sectors pass.block pass.sectors
       pass.applied None
   begun =
-      subst (λ t. Going carry taken left base start now pass.window.sectors pass.block pass.sectors
+      subst (λ t. PassInvariant carry taken left base start now pass.window.sectors pass.block pass.sectors
       pass.applied t) unended g
 
   pub Steps-unread : (bytes : List ℕ) (fault : Fault)
@@ -54,13 +54,13 @@ module _ (carry : Bool) (taken left : List Patch) (base : ℕ) (start now : Stre
   Steps-unread bytes Write r = elim r [ ]
   Steps-unread bytes Log r = elim r [ ]
 
-  pub Steps-read : (window : InHand) → GainsSector pass.sectors pass.window window now.image image
-      → Going carry taken left base start (record now { image = image }) window.sectors pass.block
+  pub Steps-read : (window : WindowView) → GainsSector pass.sectors pass.window window now.image image
+      → PassInvariant carry taken left base start (record now { image = image }) window.sectors pass.block
       (pass.sectors + 1) pass.applied window.tail
   Steps-read window gains =
-      subst (λ t. Going carry taken left base start (record now { image = image }) window.sectors
+      subst (λ t. PassInvariant carry taken left base start (record now { image = image }) window.sectors
       pass.block (pass.sectors + 1) pass.applied t) (sym gains.tail)
-      (subst (λ (ws : List (List ℕ)). Going carry taken left base start
+      (subst (λ (ws : List (List ℕ)). PassInvariant carry taken left base start
       (record now { image = image }) ws pass.block (pass.sectors + 1) pass.applied None)
       (sym gains.sectors)
       (Going-read carry taken left base start now pass.window.sectors pass.block pass.sectors
@@ -70,13 +70,13 @@ module _ (carry : Bool) (taken left : List Patch) (base : ℕ) (start now : Stre
         counted = omega (arith, gains.comes.counted, gains.comes.size);
       }) gains.comes.kept gains.comes.size gains.comes.few room))
 
-  pub Steps-ended : (window : InHand) → GainsTail pass.sectors pass.window window now.image image
-      → Going carry taken left base start (record now { image = image }) window.sectors pass.block
+  pub Steps-ended : (window : WindowView) → GainsTail pass.sectors pass.window window now.image image
+      → PassInvariant carry taken left base start (record now { image = image }) window.sectors pass.block
       pass.sectors pass.applied window.tail
   Steps-ended window gains =
-      subst (λ t. Going carry taken left base start (record now { image = image }) window.sectors
+      subst (λ t. PassInvariant carry taken left base start (record now { image = image }) window.sectors
       pass.block pass.sectors pass.applied t) (sym gains.tail)
-      (subst (λ (ws : List (List ℕ)). Going carry taken left base start
+      (subst (λ (ws : List (List ℕ)). PassInvariant carry taken left base start
       (record now { image = image }) ws pass.block pass.sectors pass.applied
       (Some (take gains.left gains.bytes))) (sym gains.sectors)
       (Going-end carry taken left base start now pass.window.sectors pass.block pass.sectors
@@ -99,28 +99,28 @@ module _ (carry : Bool) (taken left : List Patch) (base : ℕ) (start now : Stre
     (block count applied : ℕ) (end : Option (List ℕ)) (ahead : All (λ p. block < p.block) left)
     (out : Outgoing) where
   pub Steps-sent : {X E : Type 0} {x : X} (window : List (List ℕ))
-      → Going carry taken left base start now window block count applied end
+      → PassInvariant carry taken left base start now window block count applied end
       → (sector : List ℕ) (others : List (List ℕ)) → window ≡ sector ∷ others
       → length sector ≡ SECTOR_SIZE
       → Sends {X = X} {E = E} now.out out sector (Ok x)
-      → Going carry taken left base start (record now { out = out }) (drop 1 window)
+      → PassInvariant carry taken left base start (record now { out = out }) (drop 1 window)
       (block + 1) count applied end
   Steps-sent window g sector others is size sent =
-      subst (λ (ws : List (List ℕ)). Going carry taken left base start (record now { out = out })
+      subst (λ (ws : List (List ℕ)). PassInvariant carry taken left base start (record now { out = out })
       (drop 1 ws) (block + 1) count applied end) (sym is)
       (Going-send carry taken left base start now sector others block count applied end
-      (subst (λ (ws : List (List ℕ)). Going carry taken left base start now ws block count applied
+      (subst (λ (ws : List (List ℕ)). PassInvariant carry taken left base start now ws block count applied
       end) is g) out sent size ahead)
 
   pub Steps-unsent : {X E : Type 0} {e : E} (window : List (List ℕ))
-      → Going carry taken left base start now window block count applied end
+      → PassInvariant carry taken left base start now window block count applied end
       → (sector : List ℕ) (others : List (List ℕ)) → window ≡ sector ∷ others
       → length sector ≡ SECTOR_SIZE
       → Sends {X = X} {E = E} now.out out sector (Err e)
       → Applies carry (taken ++ left) base start (record now { out = out }) (Err Write)
   Steps-unsent window g sector others is size fails =
       Applies-write carry taken left base start now sector others block count applied end
-      (subst (λ (ws : List (List ℕ)). Going carry taken left base start now ws block count applied
+      (subst (λ (ws : List (List ℕ)). PassInvariant carry taken left base start now ws block count applied
       end) is g) out fails size ahead
 
 -- ---- steps among all patches
@@ -147,10 +147,10 @@ is_patch ps d p is each =
 module _ (carry : Bool) (ps : List Patch) (d : ℕ) (base : ℕ) (start : Streams) where
   -- nothing was decided
   pub goes_same : (now : Streams) (pass : Pass) → pass.decided ≡ d
-      → GoesOn carry (take d ps) (drop d ps) base start now pass
-      → GoesOn carry (take pass.decided ps) (drop pass.decided ps) base start now pass
+      → HoldsInvariant carry (take d ps) (drop d ps) base start now pass
+      → HoldsInvariant carry (take pass.decided ps) (drop pass.decided ps) base start now pass
   goes_same now pass same =
-      subst (λ n. GoesOn carry (take n ps) (drop n ps) base start now pass) (sym same)
+      subst (λ n. HoldsInvariant carry (take n ps) (drop n ps) base start now pass) (sym same)
 
   pub fault_same : (now : Streams) (fault : Fault)
       → Applies carry (take d ps ++ drop d ps) base start now (Err fault)
@@ -161,18 +161,18 @@ module _ (carry : Bool) (ps : List Patch) (d : ℕ) (base : ℕ) (start : Stream
   -- the next patch was
   module _ (p : Patch) (is : slice_get ps d ≡ Some p) where
     pub before_next : (now : Streams) (pass : Pass)
-        → GoesOn carry (take d ps) (drop d ps) base start now pass
-        → GoesOn carry (take d ps) (p ∷ drop (suc d) ps) base start now pass
+        → HoldsInvariant carry (take d ps) (drop d ps) base start now pass
+        → HoldsInvariant carry (take d ps) (p ∷ drop (suc d) ps) base start now pass
     before_next now pass =
-        subst (λ left. GoesOn carry (take d ps) left base start now pass) (next_first ps d p is)
+        subst (λ left. HoldsInvariant carry (take d ps) left base start now pass) (next_first ps d p is)
 
     pub goes_taken : (now : Streams) (pass : Pass) → pass.decided ≡ d + 1
-        → GoesOn carry (take d ps ++ p ∷ []) (drop (suc d) ps) base start now pass
-        → GoesOn carry (take pass.decided ps) (drop pass.decided ps) base start now pass
+        → HoldsInvariant carry (take d ps ++ p ∷ []) (drop (suc d) ps) base start now pass
+        → HoldsInvariant carry (take pass.decided ps) (drop pass.decided ps) base start now pass
     goes_taken now pass more goes =
-        subst (λ n. GoesOn carry (take n ps) (drop n ps) base start now pass)
+        subst (λ n. HoldsInvariant carry (take n ps) (drop n ps) base start now pass)
         (sym (more ∙ add-one d))
-        (subst (λ taken. GoesOn carry taken (drop (suc d) ps) base start now pass)
+        (subst (λ taken. HoldsInvariant carry taken (drop (suc d) ps) base start now pass)
         (sym (next_taken ps d p is)) goes)
 
     pub fault_taken : (now : Streams) (fault : Fault)
@@ -220,11 +220,11 @@ pub record Bounds (start now : Streams) (pass : Pass) : Type 0 where
 
 pub bounds : (carry : Bool) (ps : List Patch) (base : ℕ) (start now : Streams) (pass : Pass)
     → base ≤ base_limit
-    → GoesOn carry (take pass.decided ps) (drop pass.decided ps) base start now pass
+    → HoldsInvariant carry (take pass.decided ps) (drop pass.decided ps) base start now pass
     → Bounds start now pass
 bounds carry ps base start now pass low g =
-    let told =
-    told_lengths carry (take pass.decided ps) (drop pass.decided ps) base start now
+    let log_bytes =
+    outcomes_length carry (take pass.decided ps) (drop pass.decided ps) base start now
     pass.window.sectors pass.block pass.sectors pass.applied pass.window.tail g in
     let few = count_by-le-length is_applied g.outcomes in
     let taken = length-take pass.decided ps in
@@ -234,7 +234,7 @@ bounds carry ps base start now pass low g =
       logs = omega (arith, g.unfailed.logs);
       sectors = omega (arith, g.within);
       block = omega (arith, g.within, g.front, g.held, g.count);
-      applied = omega (arith, g.counted, few, told, taken);
+      applied = omega (arith, g.counted, few, log_bytes, taken);
     }
 
 -- a new pass, after the patches that begin below the image
@@ -244,24 +244,24 @@ pub begun_pass : {X E : Type 0} {x : X} (carry : Bool) (ps : List Patch) (base :
     → pass.window.tail ≡ None
     → All (λ p. p.block < base) (take below ps) → All (λ p. base ≤ p.block) (drop below ps)
     → Sends {X = X} {E = E} start.log log (missing_lines (take below ps)) (Ok x)
-    → GoesOn carry (take pass.decided ps) (drop pass.decided ps) base start
+    → HoldsInvariant carry (take pass.decided ps) (drop pass.decided ps) base start
     (record start { log = log }) pass
 begun_pass carry ps base start log below pass window block sectors decided applied tail
-    under ahead told =
-    subst (λ n. GoesOn carry (take n ps) (drop n ps) base start (record start { log = log }) pass)
+    under ahead log_bytes =
+    subst (λ n. HoldsInvariant carry (take n ps) (drop n ps) base start (record start { log = log }) pass)
     (sym decided)
-    (subst (λ (ws : List (List ℕ)). Going carry (take below ps) (drop below ps) base start
+    (subst (λ (ws : List (List ℕ)). PassInvariant carry (take below ps) (drop below ps) base start
     (record start { log = log }) ws pass.block pass.sectors pass.applied pass.window.tail)
     (sym window)
-    (subst (λ b. Going carry (take below ps) (drop below ps) base start
+    (subst (λ b. PassInvariant carry (take below ps) (drop below ps) base start
     (record start { log = log }) [] b pass.sectors pass.applied pass.window.tail) (sym block)
-    (subst (λ n. Going carry (take below ps) (drop below ps) base start
+    (subst (λ n. PassInvariant carry (take below ps) (drop below ps) base start
     (record start { log = log }) [] base n pass.applied pass.window.tail) (sym sectors)
-    (subst (λ n. Going carry (take below ps) (drop below ps) base start
+    (subst (λ n. PassInvariant carry (take below ps) (drop below ps) base start
     (record start { log = log }) [] base 0 n pass.window.tail) (sym applied)
-    (subst (λ t. Going carry (take below ps) (drop below ps) base start
+    (subst (λ t. PassInvariant carry (take below ps) (drop below ps) base start
     (record start { log = log }) [] base 0 0 t) (sym tail)
-    (Going-start carry (take below ps) (drop below ps) base start log under ahead told))))))
+    (Going-start carry (take below ps) (drop below ps) base start log under ahead log_bytes))))))
 
 -- the log fails before the first read
 pub Applies-first : {X E : Type 0} {e : E} (carry : Bool) (ps : List Patch) (base : ℕ)

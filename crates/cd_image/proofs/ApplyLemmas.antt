@@ -10,28 +10,28 @@ use Rattle.cd_script.specs.declared.patch.Patch.{Patch}
 use Rattle.cd_sector.specs.declared.sector.TheConstants.{SECTOR_SIZE}
 use Rattle.cd_patch.specs.Blocks.{block_limit, blocks_met}
 use Rattle.cd_patch.specs.Deciding.{outcome}
-use Rattle.cd_patch.specs.Run.{PatchRun}
+use Rattle.cd_patch.specs.Sequence.{PatchSequence}
 use Rattle.cd_patch.specs.declared.outcome.Outcome.{Outcome}
 use Rattle.cd_patch.proofs.FrameLemmas.{outcome-frame}
-use Rattle.cd_patch.proofs.RunLemmas.{PatchRun-determined, PatchRun-split}
+use Rattle.cd_patch.proofs.SequenceLemmas.{PatchSequence-determined, PatchSequence-split}
 use Rattle.cd_image.specs.Applying.{Applies, Streams, bytes_in_hand}
 use Rattle.cd_read.specs.Image.{image_limit, bytes_of, sectors}
-use Rattle.cd_image.specs.InHand.{tail_bytes}
-use Rattle.cd_image.specs.Passing.{Going}
+use Rattle.cd_image.specs.Window.{tail_bytes}
+use Rattle.cd_image.specs.Passing.{PassInvariant}
 use Rattle.cd_image.specs.Patched.{IsPatched}
-use Rattle.cd_image.specs.PatchLog.{lines_below, log_line, log_lines, log_text, sent_beside}
-use Rattle.cd_read.specs.Ends.{FitsLeft}
+use Rattle.cd_image.specs.PatchLog.{lines_below, log_line, log_lines, log_text, sent_when_log_fails}
+use Rattle.cd_read.specs.Ends.{MayBeImageAtEnd}
 use Rattle.cd_read.specs.declared.fault.Fault.TheVariants.{Log, Read, TooLong, Write}
-use Rattle.cd_image.proofs.KnownLemmas.{applies, Extends, Extends-begun, IsBeginning-front, Known, StopsAtLog-within, begins_now, extends_left, bytes_of-begins, known, lines-begin, lines-begin_within, told_lengths, unfinished_lines}
+use Rattle.cd_image.proofs.KnownLemmas.{applies, Extends, Extends-begun, IsBeginning-front, Known, StopsAtLog-within, begins_now, extends_left, bytes_of-begins, known, lines-begin, lines-begin_within, outcomes_length, unfinished_lines}
 use Rattle.cd_read.proofs.EndLemmas.{Fits-begins}
 use Rattle.cd_image.proofs.PassingLemmas.{bytes_of-more, length-bytes_of}
-use Rattle.cd_image.proofs.PatchLogLemmas.{bytes_before-within, lines_below-cut, log_beside-sector, sent_beside-behind, sent_beside-line}
+use Rattle.cd_image.proofs.PatchLogLemmas.{bytes_before-within, lines_below-cut, log_when_out_fails-sector, sent_when_log_fails-later, sent_when_log_fails-line}
 
 -- ---- the source fails, or gives too much
 
 module _ (carry : Bool) (taken left : List Patch) (base : ℕ) (start now : Streams)
     (window : List (List ℕ)) (block sectors_read applied : ℕ)
-    (g : Going carry taken left base start now window block sectors_read applied None)
+    (g : PassInvariant carry taken left base start now window block sectors_read applied None)
     (image : Incoming) (came : List ℕ) (gives : Gives now.image image came) where
   length_read : length (bytes_of g.seen ++ came) ≡ 2352 * sectors_read + length came
   length_read =
@@ -106,7 +106,7 @@ module _ (carry : Bool) (taken left : List Patch) (base : ℕ) (start now : Stre
 -- what was read, in any state of a pass
 module _ (carry : Bool) (taken left : List Patch) (base : ℕ) (start now : Streams)
     (window : List (List ℕ)) (block sectors_read applied : ℕ) (end : Option (List ℕ))
-    (g : Going carry taken left base start now window block sectors_read applied end) where
+    (g : PassInvariant carry taken left base start now window block sectors_read applied end) where
   pub size_read : length (bytes_of g.seen ++ tail_bytes end)
       ≡ 2352 * sectors_read + length (tail_bytes end)
   size_read =
@@ -114,7 +114,7 @@ module _ (carry : Bool) (taken left : List Patch) (base : ℕ) (start now : Stre
       ∙ ap (λ n. n + length (tail_bytes end))
       (length-bytes_of g.seen g.seen_sizes ∙ ap (λ n. 2352 * n) (sym g.count))
 
-  pub extends : (whole : List ℕ) → FitsLeft now.image.rest (bytes_of g.seen ++ tail_bytes end) whole
+  pub extends : (whole : List ℕ) → MayBeImageAtEnd now.image.rest (bytes_of g.seen ++ tail_bytes end) whole
       → Extends g.seen end whole
   extends whole fits =
       extends_left carry taken left base start now window block sectors_read applied end g whole
@@ -124,7 +124,7 @@ module _ (carry : Bool) (taken left : List Patch) (base : ℕ) (start now : Stre
 
 module _ (carry : Bool) (taken left : List Patch) (base : ℕ) (start now : Streams) (sector : List ℕ)
     (window : List (List ℕ)) (block sectors_read applied : ℕ) (end : Option (List ℕ))
-    (g : Going carry taken left base start now
+    (g : PassInvariant carry taken left base start now
     (sector ∷ window) block sectors_read applied end) where
   settled : List (List ℕ)
   settled = g.done ++ sector ∷ []
@@ -157,13 +157,13 @@ module _ (carry : Bool) (taken left : List Patch) (base : ℕ) (start now : Stre
               subst (λ u. IsBeginning (log_lines taken g.outcomes) (log_text (taken ++ left) u))
                   (sym k.all) (lines-begin taken left g.outcomes k.back lengths),
             );
-        beside = λ whole fits os last patched.
+        between_sinks = λ whole fits os last patched.
             let k = knows whole fits os last patched in
             let number : length sent / SECTOR_SIZE ≡ length g.done = omega (arith, length_sent) in
             let before : length sent
             < SECTOR_SIZE * (length (bytes_of g.seen ++ tail_bytes end) / SECTOR_SIZE) =
             omega (arith, length_sent, length_read, g.held, g.count, g.short) in
-            sym (log_beside-sector (taken ++ left) os base
+            sym (log_when_out_fails-sector (taken ++ left) os base
             (length (bytes_of g.seen ++ tail_bytes end)) (length sent) (length g.done) number before
             ∙ ap (lines_below (base + length g.done + 1) (taken ++ left)) k.all
             ∙ lines_below-cut (base + length g.done + 1) taken left g.outcomes k.back lengths
@@ -182,7 +182,7 @@ module _ (carry : Bool) (taken left : List Patch) (base : ℕ) (start now : Stre
 
       lengths : length g.outcomes ≡ length taken
       lengths =
-          told_lengths carry taken left base start now
+          outcomes_length carry taken left base start now
           (sector ∷ window) block sectors_read applied end g
 
       length_read : length (bytes_of g.seen ++ tail_bytes end)
@@ -205,7 +205,7 @@ module _ (carry : Bool) (taken left : List Patch) (base : ℕ) (start now : Stre
           ∙ ap (λ l. bytes_of g.done ++ l) (sym (take-append-drop n sector))
           ∙ sym (append_assoc (bytes_of g.done) (take n sector) (drop n sector))
 
-      knows : (whole : List ℕ) → FitsLeft now.image.rest (bytes_of g.seen ++ tail_bytes end) whole
+      knows : (whole : List ℕ) → MayBeImageAtEnd now.image.rest (bytes_of g.seen ++ tail_bytes end) whole
           → (os : List Outcome) (last : List ℕ) → IsPatched carry (taken ++ left) os base whole last
           → Known (g.done ++ sector ∷ []) g.outcomes os last
       knows whole fits os last patched =
@@ -222,7 +222,7 @@ module _ (carry : Bool) (taken left : List Patch) (base : ℕ) (start now : Stre
 module _ (carry : Bool) (taken : List Patch) (p : Patch) (left : List Patch) (base : ℕ)
     (start now : Streams) (window : List (List ℕ)) (block sectors_read applied : ℕ)
     (end : Option (List ℕ))
-    (g : Going carry taken (p ∷ left) base start now window block sectors_read applied end)
+    (g : PassInvariant carry taken (p ∷ left) base start now window block sectors_read applied end)
     (o : Outcome) (decided : o ≡ outcome carry window block p) (at : p.block ≡ block)
     (some : 0 < length window)
     (reach : (block + blocks_met p ≤ block + length window) ⊎ IsSome end) where
@@ -232,7 +232,7 @@ module _ (carry : Bool) (taken : List Patch) (p : Patch) (left : List Patch) (ba
     all : os ≡ g.outcomes ++ o ∷ back
 
   next_of : (middle last : List (List ℕ)) (back : List Outcome) → o ≡ outcome carry middle base p
-      → PatchRun carry (p ∷ left) back base middle last
+      → PatchSequence carry (p ∷ left) back base middle last
       → (others : List Outcome) × (back ≡ o ∷ others)
   next_of middle last [] is run = elim run [ ]
   next_of middle last (u ∷ others) is run = (others, ap (λ v. v ∷ others) (run.decided ∙ sym is))
@@ -241,12 +241,12 @@ module _ (carry : Bool) (taken : List Patch) (p : Patch) (left : List Patch) (ba
       → IsPatched carry (taken ++ p ∷ left) os base whole last → Next os
   next whole extended os last patched =
       let run =
-      subst (λ old. PatchRun carry (taken ++ p ∷ left) os base old (sectors last)) extended.cut
+      subst (λ old. PatchSequence carry (taken ++ p ∷ left) os base old (sectors last)) extended.cut
       patched.run in
       let split =
-      PatchRun-split carry taken (p ∷ left) os base (g.seen ++ extended.more) (sectors last) run in
+      PatchSequence-split carry taken (p ∷ left) os base (g.seen ++ extended.more) (sectors last) run in
       let same =
-      PatchRun-determined carry taken split.0 g.outcomes base (g.seen ++ extended.more) split.2
+      PatchSequence-determined carry taken split.0 g.outcomes base (g.seen ++ extended.more) split.2
       (g.done ++ (window ++ extended.more)) split.4 (g.run extended.more extended.unended) in
       let reaches : (p.block + blocks_met p ≤ block + length window) ⊎ (extended.more ≡ []) =
       elim reach [ inl within ↦ inl (omega arith) | inr ended ↦ inr (extended.unended ended) ] in
@@ -256,7 +256,7 @@ module _ (carry : Bool) (taken : List Patch) (p : Patch) (left : List Patch) (ba
       (omega arith) reaches) in
       let found =
       next_of (g.done ++ (window ++ extended.more)) (sectors last) split.1 is
-      (subst (λ m. PatchRun carry (p ∷ left) split.1 base m (sectors last)) same.1 split.5) in
+      (subst (λ m. PatchSequence carry (p ∷ left) split.1 base m (sectors last)) same.1 split.5) in
       record {
         back = found.0;
         all = split.3 ∙ ap (λ f. f ++ split.1) same.0 ∙ ap (λ b. g.outcomes ++ b) found.1;
@@ -266,7 +266,7 @@ module _ (carry : Bool) (taken : List Patch) (p : Patch) (left : List Patch) (ba
       → Sends {X = X} {E = E} now.log log (log_line p o) (Err e)
       → Applies carry (taken ++ p ∷ left) base start (record now { log = log }) (Err Log)
   Applies-log log fails =
-      applies (bytes_of g.seen ++ tail_bytes end) (bytes_of g.done) told (Err Log) g.gives g.sends
+      applies (bytes_of g.seen ++ tail_bytes end) (bytes_of g.done) log_bytes (Err Log) g.gives g.sends
       went
       (omega (
         arith,
@@ -295,8 +295,8 @@ module _ (carry : Bool) (taken : List Patch) (p : Patch) (left : List Patch) (ba
       let r = next whole extended os last patched in (
         (begins_now carry taken (p ∷ left) base start now window block sectors_read applied end g
             whole extended os last patched).0,
-        subst (λ u. IsBeginning told (log_text (taken ++ p ∷ left) u)) (sym r.all)
-            (told_begins r.back),
+        subst (λ u. IsBeginning log_bytes (log_text (taken ++ p ∷ left) u)) (sym r.all)
+            (logged_begins r.back),
       ))
       (λ whole fits os last patched.
       let extended =
@@ -305,35 +305,35 @@ module _ (carry : Bool) (taken : List Patch) (p : Patch) (left : List Patch) (ba
       let r = next whole extended os last patched in
       let cut = ap length extended.cut ∙ length-append g.seen extended.more in
       length_sent
-      ∙ sym (ap (λ u. sent_beside (taken ++ p ∷ left) u base whole (length told)) r.all
-      ∙ ap (sent_beside (taken ++ p ∷ left) (g.outcomes ++ o ∷ r.back) base whole) length_told
-      ∙ beside whole r.back (omega (arith, cut, g.held))))
+      ∙ sym (ap (λ u. sent_when_log_fails (taken ++ p ∷ left) u base whole (length log_bytes)) r.all
+      ∙ ap (sent_when_log_fails (taken ++ p ∷ left) (g.outcomes ++ o ∷ r.back) base whole) length_logged
+      ∙ between_sinks whole r.back (omega (arith, cut, g.held))))
       (λ whole fits os last patched all.
       let r =
       next whole (extends carry taken (p ∷ left) base start now window block sectors_read applied
       end g whole fits) os last patched in
-      unfinished_lines taken (p ∷ left) g.outcomes (o ∷ r.back) told n lengths length_told
+      unfinished_lines taken (p ∷ left) g.outcomes (o ∷ r.back) log_bytes n lengths length_logged
       (in_line r.back) (all ∙ ap (log_text (taken ++ p ∷ left)) r.all)))
     where
       n : ℕ
       n = fails.taken.0
 
-      told : List ℕ
-      told = log_lines taken g.outcomes ++ take n (log_line p o)
+      log_bytes : List ℕ
+      log_bytes = log_lines taken g.outcomes ++ take n (log_line p o)
 
       went : Takes start.log log (log_lines taken g.outcomes ++ take n (log_line p o))
       went = Takes-trans start.log now.log log _ _ g.logs fails.taken.2
 
       lengths : length g.outcomes ≡ length taken
       lengths =
-          told_lengths carry taken (p ∷ left) base start now window block sectors_read applied end g
+          outcomes_length carry taken (p ∷ left) base start now window block sectors_read applied end g
 
       length_sent : length (bytes_of g.done) ≡ 2352 * length g.done
       length_sent = length-bytes_of g.done g.done_sizes
 
-      length_told : length (log_lines taken g.outcomes ++ take n (log_line p o))
+      length_logged : length (log_lines taken g.outcomes ++ take n (log_line p o))
           ≡ length (log_lines taken g.outcomes) + n
-      length_told =
+      length_logged =
           length-append (log_lines taken g.outcomes) (take n (log_line p o))
           ∙ ap (λ m. length (log_lines taken g.outcomes) + m)
           (length-take-le n (log_line p o) (omega (arith, fails.taken.1)))
@@ -342,19 +342,19 @@ module _ (carry : Bool) (taken : List Patch) (p : Patch) (left : List Patch) (ba
       in_line back =
           omega (arith, fails.taken.1, length-append (log_line p o) (log_lines left back))
 
-      told_begins : (back : List Outcome)
+      logged_begins : (back : List Outcome)
           → IsBeginning (log_lines taken g.outcomes ++ take n (log_line p o))
           (log_text (taken ++ p ∷ left) (g.outcomes ++ o ∷ back))
-      told_begins back =
+      logged_begins back =
           subst (λ t. IsBeginning (log_lines taken g.outcomes ++ t)
           (log_text (taken ++ p ∷ left) (g.outcomes ++ o ∷ back)))
           (take-append-le n (log_line p o) (log_lines left back) (omega (arith, fails.taken.1)))
           (lines-begin_within taken (p ∷ left) g.outcomes (o ∷ back) lengths n)
 
-      beside : (whole : List ℕ) (back : List Outcome) → length g.done < length (sectors whole)
-          → sent_beside (taken ++ p ∷ left) (g.outcomes ++ o ∷ back) base whole
+      between_sinks : (whole : List ℕ) (back : List Outcome) → length g.done < length (sectors whole)
+          → sent_when_log_fails (taken ++ p ∷ left) (g.outcomes ++ o ∷ back) base whole
           (length (log_lines taken g.outcomes) + n) ≡ 2352 * length g.done
-      beside whole back has =
-          sent_beside-behind whole base taken (p ∷ left) g.outcomes (o ∷ back) n lengths
-          ∙ sent_beside-line whole base p left o back n fails.taken.1
+      between_sinks whole back has =
+          sent_when_log_fails-later whole base taken (p ∷ left) g.outcomes (o ∷ back) n lengths
+          ∙ sent_when_log_fails-line whole base p left o back n fails.taken.1
           ∙ bytes_before-within whole base p.block (length g.done) (at ∙ g.front) has

@@ -8,13 +8,13 @@ use Rattle.cd_script.specs.declared.patch.Patch.{Patch}
 use Rattle.cd_image.specs.Applying.{Applies, BeginsLog, HoldsFew, HoldsFewCounted, Streams, WritesCarried, WritesLog, WritesPatched}
 use Rattle.cd_image.specs.Patched.{IsPatched}
 use Rattle.cd_image.specs.PatchLog.{log_text, patch_tally}
-use Rattle.cd_read.specs.Ends.{AnswersByEnd, AnswersByLength, EndsWell, TellsTooLong}
+use Rattle.cd_read.specs.Ends.{AnswersByEnd, AnswersByLength, AnswersTooLong, EndsWell}
 use Rattle.cd_read.specs.declared.fault.Fault.{Fault}
 use Rattle.cd_read.specs.declared.fault.Fault.TheVariants.{Log, Read, TooLong, Write}
 use Rattle.cd_image.specs.declared.patch_log.Tally.{Tally}
 use Rattle.cd_image.proofs.PatchedLemmas.{IsPatched-carries, IsPatched-determined}
 use Rattle.cd_read.proofs.general.KnownBytes.{appended, consumed_all, consumed_length}
-use Rattle.cd_read.proofs.EndLemmas.{beyond_by_length, ended_by_length, not_beyond, told_beyond}
+use Rattle.cd_read.proofs.EndLemmas.{beyond_by_length, ended_by_length, not_beyond, is_beyond}
 
 -- a sink whose bytes are known has these after those that it had
 appended_length : (old new : Option (List ℕ)) (sent earlier now : List ℕ) → Appends old new sent
@@ -58,21 +58,21 @@ module _ {carry : Bool} {patches : List Patch} {base : ℕ} {old new : Streams} 
       )
   Applies-carried (Err fault) a each carries = tt
 
-  pub Applies-told : (result : Result Tally Fault) → Applies carry patches base old new result
+  pub Applies-log_bytes : (result : Result Tally Fault) → Applies carry patches base old new result
       → IfOk result (WritesLog carry patches base old.image old.log new.log)
-  Applies-told (Ok tally) a = λ bytes earlier gives holds os last patched.
+  Applies-log_bytes (Ok tally) a = λ bytes earlier gives holds os last patched.
       let all =
       consumed_all old.image.rest new.image.rest a.read bytes a.consumes a.answers.at_end gives in
       let same =
       IsPatched-determined carry patches a.answers.outcomes os base bytes a.sent last
       (subst (λ b. IsPatched carry patches a.answers.outcomes base b a.sent) all.1
       a.answers.patched) patched in (
-        appended old.log.written new.log.written a.told earlier a.logs holds
-            ∙ ap (λ l. Some (earlier ++ l)) (a.answers.log_told ∙ ap (log_text patches) same.0),
+        appended old.log.written new.log.written a.log_bytes earlier a.logs holds
+            ∙ ap (λ l. Some (earlier ++ l)) (a.answers.log_right ∙ ap (log_text patches) same.0),
         a.answers.tally_right ∙ ap (λ b. patch_tally b a.answers.outcomes) all.1
             ∙ ap (patch_tally bytes) same.0,
       )
-  Applies-told (Err fault) a = tt
+  Applies-log_bytes (Err fault) a = tt
 
   pub Applies-ends_out : (result : Result Tally Fault) → Applies carry patches base old new result
       → OnOk result (EndsWell old.image new.image old.out new.out)
@@ -125,7 +125,7 @@ module _ {carry : Bool} {patches : List Patch} {base : ℕ} {old new : Streams} 
   Applies-log_failed (Err TooLong) a = (λ e. cc, λ h. absurd (omega (arith, a.answers.failed.logs)))
 
   pub Applies-too_long : (result : Result Tally Fault) → Applies carry patches base old new result
-      → TellsTooLong old.image new.image result
+      → AnswersTooLong old.image new.image result
   Applies-too_long (Ok tally) a =
       not_beyond old.image new.image (Ok tally) a.read a.consumes a.answers.within (λ e. cc)
   Applies-too_long (Err Read) a =
@@ -135,7 +135,7 @@ module _ {carry : Bool} {patches : List Patch} {base : ℕ} {old new : Streams} 
   Applies-too_long (Err Log) a =
       not_beyond old.image new.image (Err Log) a.read a.consumes a.answers.within (λ e. cc)
   Applies-too_long (Err TooLong) a =
-      told_beyond old.image new.image a.read a.consumes (omega (arith, a.answers.beyond))
+      is_beyond old.image new.image a.read a.consumes (omega (arith, a.answers.beyond))
 
   pub Applies-by_length : (result : Result Tally Fault) → Applies carry patches base old new result
       → new.image.failures ≡ old.image.failures → new.out.failures ≡ old.out.failures
@@ -189,7 +189,7 @@ module _ {carry : Bool} {patches : List Patch} {base : ℕ} {old new : Streams} 
   Applies-begins (Err Read) a =
       record {
         read = a.read;
-        told = a.told;
+        log_bytes = a.log_bytes;
         consumes = a.consumes;
         logs = a.logs;
         begins = λ whole fits os last patched. (a.answers.begins whole fits os last patched).1;
@@ -197,7 +197,7 @@ module _ {carry : Bool} {patches : List Patch} {base : ℕ} {old new : Streams} 
   Applies-begins (Err Write) a =
       record {
         read = a.read;
-        told = a.told;
+        log_bytes = a.log_bytes;
         consumes = a.consumes;
         logs = a.logs;
         begins = λ whole fits os last patched. (a.answers.begins whole fits os last patched).1;
@@ -205,7 +205,7 @@ module _ {carry : Bool} {patches : List Patch} {base : ℕ} {old new : Streams} 
   Applies-begins (Err Log) a =
       record {
         read = a.read;
-        told = a.told;
+        log_bytes = a.log_bytes;
         consumes = a.consumes;
         logs = a.logs;
         begins = λ whole fits os last patched. (a.answers.begins whole fits os last patched).1;
@@ -213,7 +213,7 @@ module _ {carry : Bool} {patches : List Patch} {base : ℕ} {old new : Streams} 
   Applies-begins (Err TooLong) a =
       record {
         read = a.read;
-        told = a.told;
+        log_bytes = a.log_bytes;
         consumes = a.consumes;
         logs = a.logs;
         begins = λ whole fits os last patched. (a.answers.begins whole fits os last patched).1;

@@ -11,26 +11,26 @@ use Rattle.cd_stream.specs.Transfer.{Flushes, Gives, Sends, Takes}
 use Rattle.cd_stream.proofs.TransferLemmas.{Takes-flushed, Takes-nil, Takes-trans}
 use Rattle.cd_script.specs.declared.patch.Patch.{Patch}
 use Rattle.cd_patch.specs.declared.outcome.Outcome.{Outcome}
-use Rattle.cd_patch.proofs.RunLemmas.{PatchRun-append, PatchRun-determined, PatchRun-split}
+use Rattle.cd_patch.proofs.SequenceLemmas.{PatchSequence-append, PatchSequence-determined, PatchSequence-split}
 use Rattle.cd_image.specs.Applying.{Applies, Failed, Flushed, Streams}
 use Rattle.cd_read.specs.Image.{image_limit, bytes_of, sectors}
-use Rattle.cd_image.specs.Passing.{GoesOn, IsEnded, missing_outcomes}
-use Rattle.cd_image.specs.InHand.{tail_bytes}
+use Rattle.cd_image.specs.Passing.{HoldsInvariant, IsEnded, missing_outcomes}
+use Rattle.cd_image.specs.Window.{tail_bytes}
 use Rattle.cd_image.specs.declared.pass.Pass.{Pass}
-use Rattle.cd_image.specs.Patched.{EachRun, IsPatched}
-use Rattle.cd_image.specs.PatchLog.{applied_count, log_beside, log_end, log_lines, log_text, patch_tally, refused_count, sent_beside}
-use Rattle.cd_read.specs.Ends.{FitsLeft}
+use Rattle.cd_image.specs.Patched.{EachPatching, IsPatched}
+use Rattle.cd_image.specs.PatchLog.{applied_count, log_end, log_lines, log_text, log_when_out_fails, patch_tally, refused_count, sent_when_log_fails}
+use Rattle.cd_read.specs.Ends.{MayBeImageAtEnd}
 use Rattle.cd_read.specs.declared.fault.Fault.TheVariants.{Log, Write}
 use Rattle.cd_image.specs.declared.patch_log.Tally.{Tally}
 use Rattle.cd_patch.specs.Outcome.{is_applied}
 use Rattle.cd_read.proofs.general.Counts.{count_by-append}
 use Rattle.cd_read.proofs.ImageLemmas.{cut_of_joined}
 use Rattle.cd_image.proofs.ApplyLemmas.{size_read}
-use Rattle.cd_image.proofs.KnownLemmas.{ahead_of_done, StopsAtLog-within, applies, told_lengths, unfinished_log}
-use Rattle.cd_read.proofs.EndLemmas.{FitsLeft-end}
+use Rattle.cd_image.proofs.KnownLemmas.{ahead_of_done, StopsAtLog-within, applies, outcomes_length, unfinished_log}
+use Rattle.cd_read.proofs.EndLemmas.{MayBeImageAtEnd-end}
 use Rattle.cd_image.proofs.PassingLemmas.{length-bytes_of}
 use Rattle.cd_image.proofs.PatchedLemmas.{IsPatched-determined}
-use Rattle.cd_image.proofs.PatchLogLemmas.{PatchRun-missing, applied_count-missing_outcomes, bytes_before-behind, bytes_before-below, counts-all, length-missing_outcomes, log_beside-end, log_beside-tail, log_lines-append, missing_lines, sent_beside-after, sent_beside-alike, sent_beside-behind, lines_below-cut}
+use Rattle.cd_image.proofs.PatchLogLemmas.{PatchSequence-missing, applied_count-missing_outcomes, bytes_before-after, bytes_before-below, counts-all, length-missing_outcomes, log_when_out_fails-end, log_when_out_fails-tail, log_lines-append, missing_lines, sent_when_log_fails-after, sent_when_log_fails-alike, sent_when_log_fails-later, lines_below-cut}
 
 -- a tally by its four numbers
 abbrev pub tally : ℕ → ℕ → ℕ → ℕ → Tally
@@ -47,11 +47,11 @@ module _ (carry : Bool) (below left : List Patch) (base : ℕ) (start : Streams)
       → (back : List Outcome) × (os ≡ missing_outcomes below ++ back)
   refuses os whole last patched =
       let split =
-      PatchRun-split carry below left os base (sectors whole) (sectors last) patched.run in
+      PatchSequence-split carry below left os base (sectors whole) (sectors last) patched.run in
       let none =
-      PatchRun-missing carry below (sectors whole) base (λ k d inside. inl (under k d inside)) in
+      PatchSequence-missing carry below (sectors whole) base (λ k d inside. inl (under k d inside)) in
       let same =
-      PatchRun-determined carry below split.0 (missing_outcomes below) base (sectors whole) split.2
+      PatchSequence-determined carry below split.0 (missing_outcomes below) base (sectors whole) split.2
       (sectors whole) split.4 none in
       (split.1, split.3 ∙ ap (λ f. f ++ split.1) same.0)
 
@@ -69,15 +69,15 @@ module _ (carry : Bool) (below left : List Patch) (base : ℕ) (start : Streams)
       let r = refuses os whole last patched in (
         (last, refl),
         subst (λ u. IsBeginning (take n (log_lines below (missing_outcomes below)))
-            (log_text (below ++ left) u)) (sym r.1) (told_begins r.0),
+            (log_text (below ++ left) u)) (sym r.1) (logged_begins r.0),
       ))
       (λ whole fits os last patched.
       let r = refuses os whole last patched in
-      sym (ap (λ u. sent_beside (below ++ left) u base whole
+      sym (ap (λ u. sent_when_log_fails (below ++ left) u base whole
       (length (take n (log_lines below (missing_outcomes below))))) r.1
-      ∙ ap (sent_beside (below ++ left) (missing_outcomes below ++ r.0) base whole)
+      ∙ ap (sent_when_log_fails (below ++ left) (missing_outcomes below ++ r.0) base whole)
       (length-take-le n (log_lines below (missing_outcomes below)) (omega (arith, inside)))
-      ∙ sent_beside-alike whole base 0 below left (missing_outcomes below) r.0 n
+      ∙ sent_when_log_fails-alike whole base 0 below left (missing_outcomes below) r.0 n
       (length-missing_outcomes below)
       (λ k d here. bytes_before-below whole base _ (under k d here)) inside))
       (λ whole fits os last patched all.
@@ -105,10 +105,10 @@ module _ (carry : Bool) (below left : List Patch) (base : ℕ) (start : Streams)
           ∙ length-append (log_lines below (missing_outcomes below)) (log_lines left back) in
           omega (arith, lines, inside)
 
-      told_begins : (back : List Outcome)
+      logged_begins : (back : List Outcome)
           → IsBeginning (take n (log_lines below (missing_outcomes below)))
           (log_text (below ++ left) (missing_outcomes below ++ back))
-      told_begins back =
+      logged_begins back =
           let lines = log_lines below (missing_outcomes below) in
           let end =
           log_end (applied_count (missing_outcomes below ++ back))
@@ -130,11 +130,11 @@ pub record Closing (carry : Bool) (ps : List Patch) (base : ℕ) (start now : St
     (end lines last_line : List ℕ) (tally : Tally) : Type 0 where
   read : List ℕ
   sent : List ℕ
-  told : List ℕ
+  log_bytes : List ℕ
   outcomes : List Outcome
   gives : Gives start.image now.image read
   sends : Takes start.out now.out sent
-  logs : Takes start.log now.log told
+  logs : Takes start.log now.log log_bytes
   unfailed : Failed start now 0 0 0
   unflushed : Flushed start now 0 0
   at_end : IsAtEnd now.image.rest × (now.image.ended ≡ true)
@@ -142,17 +142,17 @@ pub record Closing (carry : Bool) (ps : List Patch) (base : ℕ) (start now : St
   size : length (sent ++ end) ≡ length read
   short : length end < SECTOR_SIZE
   patched : IsPatched carry ps outcomes base read (sent ++ end)
-  whole_log : log_text ps outcomes ≡ told ++ (lines ++ last_line)
+  whole_log : log_text ps outcomes ≡ log_bytes ++ (lines ++ last_line)
   tally_right : tally ≡ patch_tally read outcomes
   -- what was logged is what belongs before the tail; before the rest belongs the whole image
-  beside_tail : (n : ℕ) → n < length end
-      → log_beside ps outcomes base (length read) (length (sent ++ take n end)) ≡ told
-  beside_log : (more : List ℕ)
-      → sent_beside ps outcomes base read (length (told ++ more)) ≡ length read
+  log_at_tail : (n : ℕ) → n < length end
+      → log_when_out_fails ps outcomes base (length read) (length (sent ++ take n end)) ≡ log_bytes
+  sent_at_log : (more : List ℕ)
+      → sent_when_log_fails ps outcomes base read (length (log_bytes ++ more)) ≡ length read
 
 -- a pass that has ended, by the patches that it has taken and those that are left
 ended_pass : {carry : Bool} {taken left : List Patch} {base : ℕ} {start now : Streams} {pass : Pass}
-    → IsEnded pass → GoesOn carry taken left base start now pass
+    → IsEnded pass → HoldsInvariant carry taken left base start now pass
     → Closing carry (taken ++ left) base start now (tail_bytes pass.window.tail)
     (missing_lines left) (log_end pass.applied (length (taken ++ left) - pass.applied))
     (tally pass.applied (length (taken ++ left) - pass.applied) pass.sectors
@@ -162,7 +162,7 @@ ended_pass {carry} {taken} {left} {base} {start} {now} {pass} ended g =
     let end = tail_bytes pass.window.tail in
     let missing = missing_outcomes left in
     let os = g.outcomes ++ missing in
-    let lengths = told_lengths carry taken left base start now _ _ _ _ _ g in
+    let lengths = outcomes_length carry taken left base start now _ _ _ _ _ g in
     let as_many : length g.done ≡ length g.seen = omega (arith, g.held, ap length ended.empty) in
     let length_read = size_read carry taken left base start now _ _ _ _ _ g in
     let length_done = length-bytes_of g.done g.done_sizes in
@@ -171,7 +171,7 @@ ended_pass {carry} {taken} {left} {base} {start} {now} {pass} ended g =
     let both = count_by-append is_applied g.outcomes missing in
     let none = applied_count-missing_outcomes left in
     let applied : pass.applied ≡ applied_count os = omega (arith, g.counted) in
-    let all_told = length-append g.outcomes missing ∙ ap (λ n. n + length missing) lengths in
+    let all_logged = length-append g.outcomes missing ∙ ap (λ n. n + length missing) lengths in
     let every = length-append taken left in
     let refused : length (taken ++ left) - pass.applied ≡ refused_count os =
     omega (arith, counts-all os, length-missing_outcomes left) in
@@ -180,7 +180,7 @@ ended_pass {carry} {taken} {left} {base} {start} {now} {pass} ended g =
     record {
       read = bytes_of g.seen ++ end;
       sent = bytes_of g.done;
-      told = log_lines taken g.outcomes;
+      log_bytes = log_lines taken g.outcomes;
       outcomes = os;
       gives = g.gives;
       sends = g.sends;
@@ -194,9 +194,9 @@ ended_pass {carry} {taken} {left} {base} {start} {now} {pass} ended g =
       patched = record {
         run =
             let others =
-            PatchRun-missing carry left g.done base (λ k d here. inr (ahead k d here)) in
+            PatchSequence-missing carry left g.done base (λ k d here. inr (ahead k d here)) in
             rw (← cut.0, ← cut_done.0)
-            (PatchRun-append carry taken left g.outcomes missing base _ _ _ first others);
+            (PatchSequence-append carry taken left g.outcomes missing base _ _ _ first others);
         same_tail = sym cut_done.1 ∙ cut.1;
       };
       whole_log =
@@ -205,25 +205,25 @@ ended_pass {carry} {taken} {left} {base} {start} {now} {pass} ended g =
           let grouped = append_assoc (log_lines taken g.outcomes) (missing_lines left) last_line in
           cc (lines, grouped, applied, refused);
       tally_right = cc (applied, refused, g.count, cut.0, cut.1);
-      beside_tail = λ n inside.
+      log_at_tail = λ n inside.
           let size = length-append (bytes_of g.done) (take n end) in
           let part = length-take-le n end (omega arith) in
-          log_beside-tail (taken ++ left) os base _ _ pass.sectors (omega (arith, g.short))
+          log_when_out_fails-tail (taken ++ left) os base _ _ pass.sectors (omega (arith, g.short))
           (omega (arith, g.count, g.short)) (omega (arith, g.count))
           ∙ lines_below-cut (base + pass.sectors) taken left g.outcomes missing lengths
           (λ k d here. (g.due k d here).1) (λ k d here. omega (arith, ahead k d here, g.count));
-      beside_log = λ more.
+      sent_at_log = λ more.
           rw (length-append (log_lines taken g.outcomes) more)
-          (sent_beside-behind _ base taken left g.outcomes missing (length more) lengths
-          ∙ sent_beside-after _ base left missing (length more)
-          (λ k d here. bytes_before-behind _ base _
+          (sent_when_log_fails-later _ base taken left g.outcomes missing (length more) lengths
+          ∙ sent_when_log_fails-after _ base left missing (length more)
+          (λ k d here. bytes_before-after _ base _
           (omega (arith, ahead k d here, ap length cut.0))));
     }
 
 -- the same of the patches of `close`, which logs a slice of them
 pub closing : {carry : Bool} {base : ℕ} {start now : Streams} {pass : Pass} {end : List ℕ}
     (ps : List Patch) → IsEnded pass → end ≡ tail_bytes pass.window.tail
-    → GoesOn carry (take pass.decided ps) (drop pass.decided ps) base start now pass
+    → HoldsInvariant carry (take pass.decided ps) (drop pass.decided ps) base start now pass
     → Closing carry ps base start now end
     (missing_lines (take (length ps - pass.decided) (drop pass.decided ps)))
     (log_end pass.applied (length ps - pass.applied))
@@ -240,9 +240,9 @@ module _ {carry : Bool} {ps : List Patch} {base : ℕ} {start now : Streams}
   -- what holds of this run holds of each run on each image that fits
   by_run : (Holds : List ℕ → List Outcome → List ℕ → Type 0)
       → Holds e.read e.outcomes (e.sent ++ end) → (whole : List ℕ)
-      → FitsLeft now.image.rest e.read whole → EachRun carry ps base whole (Holds whole)
+      → MayBeImageAtEnd now.image.rest e.read whole → EachPatching carry ps base whole (Holds whole)
   by_run Holds h whole fits os new patched =
-      let is = FitsLeft-end now.image.rest e.read whole e.at_end.0 fits in
+      let is = MayBeImageAtEnd-end now.image.rest e.read whole e.at_end.0 fits in
       let here = rw is at patched in
       let same = IsPatched-determined carry ps os e.outcomes base e.read new _ here e.patched in
       rw (is, same.0, same.1) h
@@ -264,7 +264,7 @@ module _ {carry : Bool} {ps : List Patch} {base : ℕ} {start now : Streams}
         at_end = λ less. refl;
         within = e.within;
         begins = by_run _ ((drop n end, whole), (lines ++ last_line, e.whole_log));
-        beside = by_run _ (sym (e.beside_tail n fails.taken.1));
+        between_sinks = by_run _ (sym (e.log_at_tail n fails.taken.1));
       })
 
   module _ {X E : Type 0} {x : X} {out : Outgoing}
@@ -279,23 +279,23 @@ module _ {carry : Bool} {ps : List Patch} {base : ℕ} {start now : Streams}
         → Applies carry ps base start (record now { out = out; log = log }) (Err Log)
     Closes-log n inside logged failed unflushed =
         let rest = lines ++ last_line in
-        let whole : log_text ps e.outcomes ≡ (e.told ++ take n rest) ++ drop n rest =
+        let whole : log_text ps e.outcomes ≡ (e.log_bytes ++ take n rest) ++ drop n rest =
         e.whole_log ∙ rw (append_assoc, take-append-drop n rest) in
-        let size = length-append (e.told ++ take n rest) (drop n rest) in
+        let size = length-append (e.log_bytes ++ take n rest) (drop n rest) in
         let left = length-drop n rest in
         applies _ _ _ _ e.gives all_sent (Takes-trans _ _ _ _ _ e.logs logged) (omega arith)
         (StopsAtLog-within
         (record { reads = omega arith; writes = omega arith; logs = omega arith })
         (record { outs = omega arith; logs = omega arith }) e.within
         (by_run _ (([], sym (append-nil _)), (drop n rest, whole)))
-        (by_run _ (e.size ∙ sym (e.beside_log (take n rest))))
+        (by_run _ (e.size ∙ sym (e.sent_at_log (take n rest))))
         (by_run _ (λ all. absurd (omega (arith, ap length (all ∙ whole))))))
 
     -- in those of the patches that are left
-    pub Closes-behind : {Y F : Type 0} {f : F} {log : Outgoing}
+    pub Closes-after : {Y F : Type 0} {f : F} {log : Outgoing}
         → Sends {X = Y} {E = F} now.log log lines (Err f)
         → Applies carry ps base start (record now { out = out; log = log }) (Err Log)
-    Closes-behind fails =
+    Closes-after fails =
         let n = fails.taken.0 in
         Closes-log n (omega (arith, fails.taken.1, length-append lines last_line))
         (rw (take-append-le n lines last_line (omega (arith, fails.taken.1))) fails.taken.2)
@@ -306,23 +306,23 @@ module _ {carry : Bool} {ps : List Patch} {base : ℕ} {start now : Streams}
         → Sends {X = Y} {E = F} now.log middle lines (Ok y)
         → Sends {X = Z} {E = G} middle log last_line (Err f)
         → Applies carry ps base start (record now { out = out; log = log }) (Err Log)
-    Closes-counts told fails =
+    Closes-counts log_bytes fails =
         let n = fails.taken.0 in
-        let logged = Takes-trans _ _ _ _ _ told.taken fails.taken.2 in
+        let logged = Takes-trans _ _ _ _ _ log_bytes.taken fails.taken.2 in
         Closes-log (length lines + n) (omega (arith, fails.taken.1, length-append lines last_line))
         (rw (take-append-add lines last_line n) logged) (omega arith) (omega arith)
 
     module _ {Y F Z G : Type 0} {y : Y} {z : Z} {middle log : Outgoing}
-        (told : Sends {X = Y} {E = F} now.log middle lines (Ok y))
+        (log_bytes : Sends {X = Y} {E = F} now.log middle lines (Ok y))
         (ended : Sends {X = Z} {E = G} middle log last_line (Ok z)) where
-      all_told : Takes start.log log (e.told ++ (lines ++ last_line))
-      all_told = Takes-trans _ _ _ _ _ e.logs (Takes-trans _ _ _ _ _ told.taken ended.taken)
+      all_logged : Takes start.log log (e.log_bytes ++ (lines ++ last_line))
+      all_logged = Takes-trans _ _ _ _ _ e.logs (Takes-trans _ _ _ _ _ log_bytes.taken ended.taken)
 
       -- the output fails in its flush
       pub Closes-flush : {H : Type 0} {f : H} {late : Outgoing} → Flushes {E = H} out late (Err f)
           → Applies carry ps base start (record now { out = late; log = log }) (Err Write)
       Closes-flush {late = late} fails =
-          applies _ _ _ _ e.gives (Takes-flushed _ _ _ _ _ all_sent fails) all_told
+          applies _ _ _ _ e.gives (Takes-flushed _ _ _ _ _ all_sent fails) all_logged
           (omega arith) (record {
             failed = record { reads = omega arith; writes = omega arith; logs = omega arith };
             out_flushes = late.flushes - out.flushes;
@@ -331,8 +331,8 @@ module _ {carry : Bool} {ps : List Patch} {base : ℕ} {start now : Streams}
             at_end = λ less. absurd (omega arith);
             within = e.within;
             begins = by_run _ (([], sym (append-nil _)), ([], e.whole_log ∙ sym (append-nil _)));
-            beside =
-                let all = log_beside-end ps e.outcomes base (length e.read) _ in
+            between_sinks =
+                let all = log_when_out_fails-end ps e.outcomes base (length e.read) _ in
                 by_run _ (sym (all (omega arith) (omega arith) ∙ e.whole_log));
           })
 
@@ -344,7 +344,7 @@ module _ {carry : Bool} {ps : List Patch} {base : ℕ} {start now : Streams}
             → Applies carry ps base start (record now { out = late; log = last }) (Err Log)
         Closes-log_flush {last = last} fails =
             applies _ _ _ _ e.gives (Takes-flushed _ _ _ _ _ all_sent flushed)
-            (Takes-flushed _ _ _ _ _ all_told fails) (omega arith) (record {
+            (Takes-flushed _ _ _ _ _ all_logged fails) (omega arith) (record {
               failed = record { reads = omega arith; writes = omega arith; logs = omega arith };
               out_flushes = 1;
               log_flushes = last.flushes - log.flushes;
@@ -352,7 +352,7 @@ module _ {carry : Bool} {ps : List Patch} {base : ℕ} {start now : Streams}
               once = (omega arith, omega arith);
               within = e.within;
               begins = by_run _ (([], sym (append-nil _)), ([], e.whole_log ∙ sym (append-nil _)));
-              beside = by_run _ (e.size ∙ sym (e.beside_log (lines ++ last_line)));
+              between_sinks = by_run _ (e.size ∙ sym (e.sent_at_log (lines ++ last_line)));
               flushed = λ whole fits os new patched all. flushed.finished;
               at_end = by_run _ (λ all. refl, λ once. sym e.whole_log);
             })
@@ -363,7 +363,7 @@ module _ {carry : Bool} {ps : List Patch} {base : ℕ} {start now : Streams}
             → Applies carry ps base start (record now { out = late; log = last }) (Ok tally)
         Closes-ok log_flushed =
             applies _ _ _ _ e.gives (Takes-flushed _ _ _ _ _ all_sent flushed)
-            (Takes-flushed _ _ _ _ _ all_told log_flushed) (omega arith) (record {
+            (Takes-flushed _ _ _ _ _ all_logged log_flushed) (omega arith) (record {
               failed = record { reads = omega arith; writes = omega arith; logs = omega arith };
               flushes = record { outs = omega arith; logs = omega arith };
               out_finished = flushed.finished;
@@ -373,6 +373,6 @@ module _ {carry : Bool} {ps : List Patch} {base : ℕ} {start now : Streams}
               within = e.within;
               outcomes = e.outcomes;
               patched = e.patched;
-              log_told = sym e.whole_log;
+              log_right = sym e.whole_log;
               tally_right = e.tally_right;
             })

@@ -4,22 +4,22 @@ use Rattle.std.specs.Prelude.{All, IsSome}
 use Rattle.std.specs.Io.KnownBytes.{IsAtEnd}
 use Rattle.cd_script.specs.declared.patch.Patch.{Patch}
 use Rattle.cd_sector.specs.declared.sector.TheConstants.{SECTOR_SIZE}
-use Rattle.cd_patch.specs.Run.{PatchRun}
+use Rattle.cd_patch.specs.Sequence.{PatchSequence}
 use Rattle.cd_patch.specs.declared.outcome.Outcome.{Outcome}
-use Rattle.cd_patch.proofs.RunLemmas.{PatchRun-determined, PatchRun-front, PatchRun-lengths, PatchRun-split}
+use Rattle.cd_patch.proofs.SequenceLemmas.{PatchSequence-determined, PatchSequence-front, PatchSequence-lengths, PatchSequence-split}
 use Rattle.cd_image.specs.Applying.{Applies, AppliesBy, Begins, Failed, Flushed, StopsAtLog, Streams, bytes_in_hand}
 use Rattle.cd_read.specs.Image.{image_limit, bytes_of, sectors, tail}
-use Rattle.cd_image.specs.InHand.{tail_bytes}
-use Rattle.cd_image.specs.Passing.{Going}
-use Rattle.cd_image.specs.Patched.{EachRun, IsPatched}
-use Rattle.cd_image.specs.PatchLog.{applied_count, log_end, log_lines, log_text, refused_count, sent_beside}
+use Rattle.cd_image.specs.Window.{tail_bytes}
+use Rattle.cd_image.specs.Passing.{PassInvariant}
+use Rattle.cd_image.specs.Patched.{EachPatching, IsPatched}
+use Rattle.cd_image.specs.PatchLog.{applied_count, log_end, log_lines, log_text, refused_count, sent_when_log_fails}
 use Rattle.cd_stream.specs.Stream.{IsBeginning}
 use Rattle.cd_stream.specs.Transfer.{Gives, Takes}
 use Rattle.cd_read.specs.declared.fault.Fault.{Fault}
 use Rattle.cd_image.specs.declared.patch_log.Tally.{Tally}
-use Rattle.cd_read.specs.Ends.{FitsLeft}
+use Rattle.cd_read.specs.Ends.{MayBeImageAtEnd}
 use Rattle.cd_read.proofs.ImageLemmas.{IsCut-sectors, sectors-bytes_of, sectors-short}
-use Rattle.cd_read.proofs.EndLemmas.{FitsLeft-begins, FitsLeft-end}
+use Rattle.cd_read.proofs.EndLemmas.{MayBeImageAtEnd-begins, MayBeImageAtEnd-end}
 use Rattle.cd_image.proofs.PassingLemmas.{AreSized, bytes_of-append}
 use Rattle.cd_image.proofs.PatchLogLemmas.{log_lines-append}
 
@@ -70,39 +70,39 @@ lines-begin_within taken left front back same n =
     )
 
 -- less than the whole log
-pub unfinished_log : (patches : List Patch) (os : List Outcome) (told : List ℕ)
-    → length told
+pub unfinished_log : (patches : List Patch) (os : List Outcome) (log_bytes : List ℕ)
+    → length log_bytes
     < length (log_lines patches os) + length (log_end (applied_count os) (refused_count os))
-    → told ≢ log_text patches os
+    → log_bytes ≢ log_text patches os
 unfolding log_text
-unfinished_log patches os told less = λ all.
+unfinished_log patches os log_bytes less = λ all.
     let whole =
     ap length all
     ∙ length-append (log_lines patches os) (log_end (applied_count os) (refused_count os)) in
     absurd (omega (arith, whole, less))
 
 -- lines of the first patches, and a part of the other lines
-pub unfinished_lines : (taken left : List Patch) (front back : List Outcome) (told : List ℕ) (n : ℕ)
-    → length front ≡ length taken → length told ≡ length (log_lines taken front) + n
+pub unfinished_lines : (taken left : List Patch) (front back : List Outcome) (log_bytes : List ℕ) (n : ℕ)
+    → length front ≡ length taken → length log_bytes ≡ length (log_lines taken front) + n
     → n < length (log_lines left back)
-    → told ≢ log_text (taken ++ left) (front ++ back)
-unfinished_lines taken left front back told n same size part =
+    → log_bytes ≢ log_text (taken ++ left) (front ++ back)
+unfinished_lines taken left front back log_bytes n same size part =
     let lines =
     ap length (log_lines-append taken left front back same)
     ∙ length-append (log_lines taken front) (log_lines left back) in
-    unfinished_log (taken ++ left) (front ++ back) told (omega (arith, lines, size, part))
+    unfinished_log (taken ++ left) (front ++ back) log_bytes (omega (arith, lines, size, part))
 
 -- the contract, by what each stream gave or took
 pub applies : {carry : Bool} {patches : List Patch} {base : ℕ} {old new : Streams}
-    (read sent told : List ℕ) (result : Result Tally Fault) → Gives old.image new.image read
-    → Takes old.out new.out sent → Takes old.log new.log told
+    (read sent log_bytes : List ℕ) (result : Result Tally Fault) → Gives old.image new.image read
+    → Takes old.out new.out sent → Takes old.log new.log log_bytes
     → length read ≤ length sent + bytes_in_hand
-    → AppliesBy carry patches base read sent told old new result
+    → AppliesBy carry patches base read sent log_bytes old new result
     → Applies carry patches base old new result
-applies read sent told result came went logged in_hand answers = record {
+applies read sent log_bytes result came went logged in_hand answers = record {
   read = read;
   sent = sent;
-  told = told;
+  log_bytes = log_bytes;
   consumes = came.consumes;
   given = came.counted;
   appends = went.appends;
@@ -123,18 +123,18 @@ Applies-fault {carry} {patches} {base} {old} {new} {result = Err f} is applies =
     subst (λ f. Applies carry patches base old new (Err f)) (sym is) applies
 
 -- a log that fails before its end: no sink was flushed
-module _ {carry : Bool} {patches : List Patch} {base : ℕ} {read sent told : List ℕ}
+module _ {carry : Bool} {patches : List Patch} {base : ℕ} {read sent log_bytes : List ℕ}
     {old new : Streams} where
   pub StopsAtLog-within : Failed old new 0 0 1 → Flushed old new 0 0 → length read ≤ image_limit
-      → ((whole : List ℕ) → FitsLeft new.image.rest read whole
-      → EachRun carry patches base whole (Begins patches sent told))
-      → ((whole : List ℕ) → FitsLeft new.image.rest read whole
-      → EachRun carry patches base whole
-      (λ os last. length sent ≡ sent_beside patches os base whole (length told)))
-      → ((whole : List ℕ) → FitsLeft new.image.rest read whole
-      → EachRun carry patches base whole (λ os last. told ≢ log_text patches os))
-      → StopsAtLog carry patches base read sent told old new
-  StopsAtLog-within failed unflushed within begins beside unfinished = record {
+      → ((whole : List ℕ) → MayBeImageAtEnd new.image.rest read whole
+      → EachPatching carry patches base whole (Begins patches sent log_bytes))
+      → ((whole : List ℕ) → MayBeImageAtEnd new.image.rest read whole
+      → EachPatching carry patches base whole
+      (λ os last. length sent ≡ sent_when_log_fails patches os base whole (length log_bytes)))
+      → ((whole : List ℕ) → MayBeImageAtEnd new.image.rest read whole
+      → EachPatching carry patches base whole (λ os last. log_bytes ≢ log_text patches os))
+      → StopsAtLog carry patches base read sent log_bytes old new
+  StopsAtLog-within failed unflushed within begins between_sinks unfinished = record {
     failed = failed;
     out_flushes = 0;
     log_flushes = 0;
@@ -142,7 +142,7 @@ module _ {carry : Bool} {patches : List Patch} {base : ℕ} {read sent told : Li
     once = (omega arith, omega arith);
     within = within;
     begins = begins;
-    beside = beside;
+    between_sinks = between_sinks;
     flushed = λ whole fits os last patched all. absurd (unfinished whole fits os last patched all);
     at_end =
         λ whole fits os last patched. (
@@ -168,33 +168,33 @@ pub record Known (settled : List (List ℕ)) (outcomes os : List Outcome)
 
 module _ (carry : Bool) (taken left : List Patch) (base : ℕ) (start now : Streams)
     (window : List (List ℕ)) (block sectors_read applied : ℕ) (end : Option (List ℕ))
-    (g : Going carry taken left base start now window block sectors_read applied end) where
-  pub told_lengths : length g.outcomes ≡ length taken
-  told_lengths =
-      PatchRun-lengths carry taken g.outcomes base (g.seen ++ []) (g.done ++ (window ++ []))
+    (g : PassInvariant carry taken left base start now window block sectors_read applied end) where
+  pub outcomes_length : length g.outcomes ≡ length taken
+  outcomes_length =
+      PatchSequence-lengths carry taken g.outcomes base (g.seen ++ []) (g.done ++ (window ++ []))
       (g.run [] (λ some. refl))
 
   -- sectors at the front that no patch left begins in are settled
   pub known : (whole : List ℕ) → Extends g.seen end whole
-      → (settled : List (List ℕ)) (behind : List (List ℕ) → List (List ℕ))
-      → ((more : List (List ℕ)) → g.done ++ (window ++ more) ≡ settled ++ behind more)
+      → (settled : List (List ℕ)) (after : List (List ℕ) → List (List ℕ))
+      → ((more : List (List ℕ)) → g.done ++ (window ++ more) ≡ settled ++ after more)
       → All (λ p. base + length settled ≤ p.block) left
       → (os : List Outcome) (last : List ℕ) → IsPatched carry (taken ++ left) os base whole last
       → Known settled g.outcomes os last
-  known whole extends settled behind grouped ahead os last patched =
+  known whole extends settled after grouped ahead os last patched =
       let run =
-      subst (λ old. PatchRun carry (taken ++ left) os base old (sectors last)) extends.cut
+      subst (λ old. PatchSequence carry (taken ++ left) os base old (sectors last)) extends.cut
       patched.run in
       let split =
-      PatchRun-split carry taken left os base (g.seen ++ extends.more) (sectors last) run in
+      PatchSequence-split carry taken left os base (g.seen ++ extends.more) (sectors last) run in
       let same =
-      PatchRun-determined carry taken split.0 g.outcomes base (g.seen ++ extends.more) split.2
+      PatchSequence-determined carry taken split.0 g.outcomes base (g.seen ++ extends.more) split.2
       (g.done ++ (window ++ extends.more)) split.4 (g.run extends.more extends.unended) in
       let from =
-      subst (λ m. PatchRun carry left split.1 base m (sectors last))
+      subst (λ m. PatchSequence carry left split.1 base m (sectors last))
       (same.1 ∙ grouped extends.more) split.5 in
       let rest =
-      PatchRun-front carry left split.1 base settled (behind extends.more)
+      PatchSequence-front carry left split.1 base settled (after extends.more)
       (sectors last) ahead from in
       record {
         back = split.1;
@@ -216,21 +216,21 @@ module _ (carry : Bool) (taken left : List Patch) (base : ℕ) (start now : Stre
       (λ more. refl) ahead_of_done os last patched in (
         bytes_of-begins g.done k.others last k.cut,
         subst (λ u. IsBeginning (log_lines taken g.outcomes) (log_text (taken ++ left) u))
-            (sym k.all) (lines-begin taken left g.outcomes k.back told_lengths),
+            (sym k.all) (lines-begin taken left g.outcomes k.back outcomes_length),
       )
 
   -- an image that fits: if nothing is left, its end is known
   pub extends_left : (whole : List ℕ)
-      → FitsLeft now.image.rest (bytes_of g.seen ++ tail_bytes end) whole
+      → MayBeImageAtEnd now.image.rest (bytes_of g.seen ++ tail_bytes end) whole
       → length (bytes_of g.seen ++ tail_bytes end) ≤ image_limit → Extends g.seen end whole
   extends_left whole fits few = by_end end g.seen_sizes g.short (λ some. (g.ended some).0) fits few
     where
       by_end : (t : Option (List ℕ)) → AreSized g.seen → length (tail_bytes t) < SECTOR_SIZE
           → (IsSome t → IsAtEnd now.image.rest)
-          → FitsLeft now.image.rest (bytes_of g.seen ++ tail_bytes t) whole
+          → MayBeImageAtEnd now.image.rest (bytes_of g.seen ++ tail_bytes t) whole
           → length (bytes_of g.seen ++ tail_bytes t) ≤ image_limit → Extends g.seen t whole
       by_end None sized short ended fits few =
-          let begins = FitsLeft-begins now.image.rest (bytes_of g.seen ++ []) whole few fits in
+          let begins = MayBeImageAtEnd-begins now.image.rest (bytes_of g.seen ++ []) whole few fits in
           record {
             more = sectors begins.0;
             cut =
@@ -241,7 +241,7 @@ module _ (carry : Bool) (taken left : List Patch) (base : ℕ) (start now : Stre
       by_end (Some t) sized short ended fits few = record {
         more = [];
         cut =
-            ap sectors (FitsLeft-end now.image.rest (bytes_of g.seen ++ t) whole (ended refl) fits)
+            ap sectors (MayBeImageAtEnd-end now.image.rest (bytes_of g.seen ++ t) whole (ended refl) fits)
             ∙ sectors-bytes_of g.seen t sized ∙ ap (λ ss. g.seen ++ ss) (sectors-short t short);
         unended = λ some. refl;
       }

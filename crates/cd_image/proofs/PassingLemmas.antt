@@ -11,19 +11,19 @@ use Rattle.cd_patch.specs.Blocks.{block_limit, blocks_met}
 use Rattle.cd_patch.specs.Deciding.{outcome}
 use Rattle.cd_patch.specs.Effect.{Effect}
 use Rattle.cd_patch.specs.Outcome.{is_applied}
-use Rattle.cd_patch.specs.Run.{PatchRun}
+use Rattle.cd_patch.specs.Sequence.{PatchSequence}
 use Rattle.cd_patch.specs.declared.outcome.Outcome.{Outcome}
 use Rattle.cd_patch.proofs.FrameLemmas.{Effect-frame, Effect-length, outcome-frame}
-use Rattle.cd_patch.proofs.RunLemmas.{PatchRun-append, PatchRun-lengths}
+use Rattle.cd_patch.proofs.SequenceLemmas.{PatchSequence-append, PatchSequence-lengths}
 use Rattle.cd_image.specs.Applying.{Streams}
 use Rattle.cd_read.specs.Image.{image_limit, bytes_of, sector_limit}
-use Rattle.cd_image.specs.Passing.{Going, missing_outcomes}
+use Rattle.cd_image.specs.Passing.{PassInvariant, missing_outcomes}
 use Rattle.cd_image.specs.PatchLog.{log_line, log_lines}
 use Rattle.cd_stream.specs.Stream.{Incoming, Outgoing}
 use Rattle.cd_stream.specs.Transfer.{Gives, Sends, Takes}
 use Rattle.cd_stream.proofs.TransferLemmas.{Gives-trans, Takes-nil, Takes-trans}
 use Rattle.cd_read.proofs.general.Counts.{count_by_push}
-use Rattle.cd_image.proofs.PatchLogLemmas.{PatchRun-missing, applied_count-missing_outcomes, log_lines-append}
+use Rattle.cd_image.proofs.PatchLogLemmas.{PatchSequence-missing, applied_count-missing_outcomes, log_lines-append}
 
 pub bytes_of-append : (front back : List (List ℕ))
     → bytes_of (front ++ back) ≡ bytes_of front ++ bytes_of back
@@ -57,16 +57,16 @@ pub Going-start : {X E : Type 0} {x : X} (carry : Bool) (taken left : List Patch
     (start : Streams) (log : Outgoing) → All (λ p. p.block < base) taken
     → All (λ p. base ≤ p.block) left
     → Sends {X = X} {E = E} start.log log (log_lines taken (missing_outcomes taken)) (Ok x)
-    → Going carry taken left base start (record start { log = log }) [] base 0 0 None
-Going-start carry taken left base start log below ahead told = record {
+    → PassInvariant carry taken left base start (record start { log = log }) [] base 0 0 None
+Going-start carry taken left base start log below ahead log_bytes = record {
   seen = [];
   done = [];
   outcomes = missing_outcomes taken;
   gives = record { consumes = Consumes-nil start.image.rest; counted = omega arith };
   sends = Takes-nil start.out;
-  logs = told.taken;
-  unfailed = record { reads = omega arith; writes = omega arith; logs = omega (arith, told.count) };
-  unflushed = record { outs = omega arith; logs = omega (arith, told.flushes) };
+  logs = log_bytes.taken;
+  unfailed = record { reads = omega arith; writes = omega arith; logs = omega (arith, log_bytes.count) };
+  unflushed = record { outs = omega arith; logs = omega (arith, log_bytes.flushes) };
   seen_sizes = All-nil (λ t. length t ≡ SECTOR_SIZE);
   done_sizes = All-nil (λ t. length t ≡ SECTOR_SIZE);
   short = omega arith;
@@ -74,7 +74,7 @@ Going-start carry taken left base start log below ahead told = record {
   ended = λ never. cc;
   in_hand = omega arith;
   run =
-      λ more unended. PatchRun-missing carry taken more base (λ k d inside. inl (below k d inside));
+      λ more unended. PatchSequence-missing carry taken more base (λ k d inside. inl (below k d inside));
   front = omega arith;
   count = refl;
   held = refl;
@@ -86,11 +86,11 @@ Going-start carry taken left base start log below ahead told = record {
 module _ (carry : Bool) (taken left : List Patch) (base : ℕ) (start now : Streams)
     (window : List (List ℕ)) (block sectors applied : ℕ) where
   -- a sector has come
-  pub Going-read : Going carry taken left base start now window block sectors applied None
+  pub Going-read : PassInvariant carry taken left base start now window block sectors applied None
       → (image : Incoming) (came : List ℕ) → Gives now.image image came
       → image.failures ≡ now.image.failures
       → length came ≡ SECTOR_SIZE → sectors < sector_limit → length window < block_limit
-      → Going carry taken left base start (record now { image = image }) (window ++ came ∷ []) block
+      → PassInvariant carry taken left base start (record now { image = image }) (window ++ came ∷ []) block
       (sectors + 1) applied None
   Going-read g image came gives kept size few room = record {
     seen = g.seen ++ came ∷ [];
@@ -118,9 +118,9 @@ module _ (carry : Bool) (taken left : List Patch) (base : ℕ) (start now : Stre
     ended = λ never. cc;
     in_hand = let all = length-append window (came ∷ []) in omega arith;
     run = λ more unended.
-        subst (λ old. PatchRun carry taken g.outcomes base old
+        subst (λ old. PatchSequence carry taken g.outcomes base old
         (g.done ++ ((window ++ came ∷ []) ++ more))) (sym (append_assoc g.seen (came ∷ []) more))
-        (subst (λ new. PatchRun carry taken g.outcomes base (g.seen ++ (came ∷ more))
+        (subst (λ new. PatchSequence carry taken g.outcomes base (g.seen ++ (came ∷ more))
         (g.done ++ new)) (sym (append_assoc window (came ∷ []) more))
         (g.run (came ∷ more) (λ never. cc)));
     front = g.front;
@@ -135,14 +135,14 @@ module _ (carry : Bool) (taken left : List Patch) (base : ℕ) (start now : Stre
   }
 
   -- less than a sector has come, and nothing is left
-  pub Going-end : Going carry taken left base start now window block sectors applied None
+  pub Going-end : PassInvariant carry taken left base start now window block sectors applied None
       → (image : Incoming) (came : List ℕ) → Gives now.image image came
       → image.failures ≡ now.image.failures
       → length came < SECTOR_SIZE → SECTOR_SIZE * sectors + length came ≤ image_limit
       → length window < block_limit → IsAtEnd image.rest → image.ended ≡ true
-      → Going carry taken left base start (record now { image = image }) window block sectors
+      → PassInvariant carry taken left base start (record now { image = image }) window block sectors
       applied (Some came)
-  Going-end g image came gives kept short within room end told = record {
+  Going-end g image came gives kept short within room end log_bytes = record {
     seen = g.seen;
     done = g.done;
     outcomes = g.outcomes;
@@ -162,7 +162,7 @@ module _ (carry : Bool) (taken left : List Patch) (base : ℕ) (start now : Stre
     done_sizes = g.done_sizes;
     short = short;
     within = within;
-    ended = λ some. (end, told);
+    ended = λ some. (end, log_bytes);
     in_hand = omega arith;
     run = λ more unended. g.run more (λ never. cc);
     front = g.front;
@@ -177,10 +177,10 @@ module _ (carry : Bool) (taken left : List Patch) (base : ℕ) (start now : Stre
 pub Going-send : {X E : Type 0} {x : X} (carry : Bool) (taken left : List Patch) (base : ℕ)
     (start now : Streams) (sector : List ℕ) (window : List (List ℕ)) (block sectors applied : ℕ)
     (tail : Option (List ℕ))
-    → Going carry taken left base start now (sector ∷ window) block sectors applied tail
+    → PassInvariant carry taken left base start now (sector ∷ window) block sectors applied tail
     → (out : Outgoing) → Sends {X = X} {E = E} now.out out sector (Ok x)
     → length sector ≡ SECTOR_SIZE → All (λ p. block < p.block) left
-    → Going carry taken left base start (record now { out = out }) window
+    → PassInvariant carry taken left base start (record now { out = out }) window
     (block + 1) sectors applied tail
 Going-send carry taken left base start now sector window block sectors applied tail g out sent size
     ahead = record {
@@ -207,7 +207,7 @@ Going-send carry taken left base start now sector window block sectors applied t
       in_hand = omega (arith, g.in_hand);
       run =
           λ more unended.
-          subst (PatchRun carry taken g.outcomes base (g.seen ++ more))
+          subst (PatchSequence carry taken g.outcomes base (g.seen ++ more))
           (sym (append_assoc g.done (sector ∷ []) (window ++ more))) (g.run more unended);
       front = let all = length-append g.done (sector ∷ []) in omega (arith, g.front);
       count = g.count;
@@ -224,10 +224,10 @@ reaches block met count tail (inl within) = inl (omega arith)
 reaches block met count tail (inr ended) = inr ended
 
 -- only one patch
-PatchRun-one : (carry : Bool) (p : Patch) (o : Outcome) (base : ℕ) (old new : List (List ℕ))
+PatchSequence-one : (carry : Bool) (p : Patch) (o : Outcome) (base : ℕ) (old new : List (List ℕ))
     → o ≡ outcome carry old base p → Effect carry base p old new
-    → PatchRun carry (p ∷ []) (o ∷ []) base old new
-PatchRun-one carry p o base old new is effect =
+    → PatchSequence carry (p ∷ []) (o ∷ []) base old new
+PatchSequence-one carry p o base old new is effect =
     record { decided = is; next = new; effect = effect; others = refl }
 
 -- a patch that begins at the first sector of the window was taken: all that it meets is in the
@@ -236,15 +236,15 @@ module _ (carry : Bool) (taken : List Patch) (p : Patch) (left : List Patch) (ba
     (start now : Streams) (window window' : List (List ℕ)) (block sectors applied : ℕ)
     (tail : Option (List ℕ)) where
   pub Going-take : {X E : Type 0} {x : X}
-      → Going carry taken (p ∷ left) base start now window block sectors applied tail
+      → PassInvariant carry taken (p ∷ left) base start now window block sectors applied tail
       → (log : Outgoing) (o : Outcome) → o ≡ outcome carry window block p
       → Effect carry block p window window'
       → Sends {X = X} {E = E} now.log log (log_line p o) (Ok x) → p.block ≡ block
       → 0 < length window
       → (block + blocks_met p ≤ block + length window) ⊎ IsSome tail
-      → Going carry (taken ++ p ∷ []) left base start
+      → PassInvariant carry (taken ++ p ∷ []) left base start
       (record now { log = log }) window' block sectors (applied + cond (is_applied o) 1 0) tail
-  Going-take g log o decided effect told at some reach = record {
+  Going-take g log o decided effect log_bytes at some reach = record {
     seen = g.seen;
     done = g.done;
     outcomes = g.outcomes ++ o ∷ [];
@@ -256,14 +256,14 @@ module _ (carry : Bool) (taken : List Patch) (p : Patch) (left : List Patch) (ba
         log_lines-append taken (p ∷ []) g.outcomes (o ∷ []) lengths
         ∙ ap (λ l. log_lines taken g.outcomes ++ l) (append-nil (log_line p o)) in
         subst (Takes start.log log) (sym lines)
-        (Takes-trans start.log now.log log _ _ g.logs told.taken);
+        (Takes-trans start.log now.log log _ _ g.logs log_bytes.taken);
     unfailed =
         record {
           reads = g.unfailed.reads;
           writes = g.unfailed.writes;
-          logs = told.count ∙ g.unfailed.logs;
+          logs = log_bytes.count ∙ g.unfailed.logs;
         };
-    unflushed = record { outs = g.unflushed.outs; logs = told.flushes ∙ g.unflushed.logs };
+    unflushed = record { outs = g.unflushed.outs; logs = log_bytes.flushes ∙ g.unflushed.logs };
     seen_sizes = g.seen_sizes;
     done_sizes = g.done_sizes;
     short = g.short;
@@ -272,7 +272,7 @@ module _ (carry : Bool) (taken : List Patch) (p : Patch) (left : List Patch) (ba
     in_hand = omega (arith, g.in_hand, same_length);
     run =
         λ more unended.
-        PatchRun-append carry taken (p ∷ []) g.outcomes (o ∷ []) base _
+        PatchSequence-append carry taken (p ∷ []) g.outcomes (o ∷ []) base _
         (g.done ++ (window ++ more)) _ (g.run more unended) (last more unended);
     front = g.front;
     count = g.count;
@@ -293,7 +293,7 @@ module _ (carry : Bool) (taken : List Patch) (p : Patch) (left : List Patch) (ba
 
       lengths : length g.outcomes ≡ length taken
       lengths =
-          PatchRun-lengths carry taken g.outcomes base (g.seen ++ []) (g.done ++ (window ++ []))
+          PatchSequence-lengths carry taken g.outcomes base (g.seen ++ []) (g.done ++ (window ++ []))
           (g.run [] (λ some. refl))
 
       reaches : (more : List (List ℕ)) → (IsSome tail → more ≡ [])
@@ -304,10 +304,10 @@ module _ (carry : Bool) (taken : List Patch) (p : Patch) (left : List Patch) (ba
       ]
 
       last : (more : List (List ℕ)) → (IsSome tail → more ≡ [])
-          → PatchRun carry (p ∷ []) (o ∷ []) base (g.done ++ (window ++ more))
+          → PatchSequence carry (p ∷ []) (o ∷ []) base (g.done ++ (window ++ more))
           (g.done ++ (window' ++ more))
       last more unended =
-          PatchRun-one carry p o base _ _
+          PatchSequence-one carry p o base _ _
           (decided
           ∙ sym (outcome-frame carry g.done window more base block p g.front (omega arith)
           (reaches more unended)))

@@ -11,13 +11,13 @@ use Rattle.std.proofs.lemmas.List.Elements.{All-head, All-tail}
 use Rattle.cd_script.specs.declared.patch.Patch.{Patch}
 use Rattle.cd_sector.specs.declared.sector.TheConstants.{SECTOR_SIZE}
 use Rattle.cd_patch.specs.Outcome.{is_applied}
-use Rattle.cd_patch.specs.Run.{PatchRun}
+use Rattle.cd_patch.specs.Sequence.{PatchSequence}
 use Rattle.cd_patch.specs.declared.outcome.Outcome.{Outcome}
 use Rattle.cd_patch.specs.declared.outcome.Outcome.TheVariants.{NoBlock}
 use Rattle.cd_patch.proofs.FrameLemmas.{Effect-missing, outcome-missing}
 use Rattle.cd_read.specs.Image.{sectors}
 use Rattle.cd_image.specs.Passing.{missing_outcomes}
-use Rattle.cd_image.specs.PatchLog.{applied_count, bytes_before, lines_below, log_beside, log_line, log_lines, log_text, outcome_text, refused_count, sent_beside}
+use Rattle.cd_image.specs.PatchLog.{applied_count, bytes_before, lines_below, log_line, log_lines, log_text, log_when_out_fails, outcome_text, refused_count, sent_when_log_fails}
 use Rattle.cd_read.proofs.general.Counts.{count_by-cons}
 
 pub log_lines-append : (ps qs : List Patch) (os us : List Outcome) → length os ≡ length ps
@@ -29,7 +29,7 @@ log_lines-append (p ∷ ps) qs (o ∷ os) us same =
     ap (λ l. log_line p o ++ l) (log_lines-append ps qs os us (omega arith))
     ∙ sym (append_assoc (log_line p o) (log_lines ps os) (log_lines qs us))
 
--- ---- beside a failed output
+-- ---- when the output has failed
 
 lines_below-all : (block : ℕ) (ps : List Patch) (os : List Outcome) → All (λ p. p.block < block) ps
     → lines_below block ps os ≡ log_lines ps os
@@ -44,13 +44,13 @@ lines_below-all block (p ∷ ps) (o ∷ os) below =
 
 lines_below-none : (block : ℕ) (ps : List Patch) (os : List Outcome) → All (λ p. block ≤ p.block) ps
     → lines_below block ps os ≡ []
-lines_below-none block [] os behind = refl
-lines_below-none block (p ∷ ps) [] behind = refl
-lines_below-none block (p ∷ ps) (o ∷ os) behind =
+lines_below-none block [] os after = refl
+lines_below-none block (p ∷ ps) [] after = refl
+lines_below-none block (p ∷ ps) (o ∷ os) after =
     ap (λ l. l ++ lines_below block ps os)
     (cond-false _ (log_line p o) []
-    (le-ltb p.block block (All-head (λ q. block ≤ q.block) p ps behind)))
-    ∙ lines_below-none block ps os (All-tail (λ q. block ≤ q.block) p ps behind)
+    (le-ltb p.block block (All-head (λ q. block ≤ q.block) p ps after)))
+    ∙ lines_below-none block ps os (All-tail (λ q. block ≤ q.block) p ps after)
 
 lines_below-append : (block : ℕ) (ps qs : List Patch) (os us : List Outcome) → length os ≡ length ps
     → lines_below block (ps ++ qs) (os ++ us) ≡ lines_below block ps os ++ lines_below block qs us
@@ -67,40 +67,40 @@ lines_below-append block (p ∷ ps) qs (o ∷ os) us same =
 pub lines_below-cut : (block : ℕ) (ps qs : List Patch) (os us : List Outcome)
     → length os ≡ length ps → All (λ p. p.block < block) ps → All (λ p. block ≤ p.block) qs
     → lines_below block (ps ++ qs) (os ++ us) ≡ log_lines ps os
-lines_below-cut block ps qs os us same below behind =
+lines_below-cut block ps qs os us same below after =
     lines_below-append block ps qs os us same
     ∙ ap (λ l. l ++ lines_below block qs us) (lines_below-all block ps os below)
-    ∙ ap (λ l. log_lines ps os ++ l) (lines_below-none block qs us behind)
+    ∙ ap (λ l. log_lines ps os ++ l) (lines_below-none block qs us after)
     ∙ append-nil (log_lines ps os)
 
 module _ (ps : List Patch) (os : List Outcome) (base count sent : ℕ) where
   -- within a whole sector
-  pub log_beside-sector : (number : ℕ) → sent / SECTOR_SIZE ≡ number
+  pub log_when_out_fails-sector : (number : ℕ) → sent / SECTOR_SIZE ≡ number
       → sent < SECTOR_SIZE * (count / SECTOR_SIZE)
-      → log_beside ps os base count sent ≡ lines_below (base + number + 1) ps os
-  unfolding log_beside
-  log_beside-sector number at inside =
+      → log_when_out_fails ps os base count sent ≡ lines_below (base + number + 1) ps os
+  unfolding log_when_out_fails
+  log_when_out_fails-sector number at inside =
       cond-true _ _ _ (lt-ltb sent (SECTOR_SIZE * (count / SECTOR_SIZE)) inside)
       ∙ ap (λ n. lines_below (base + n + 1) ps os) at
 
   -- within the tail
-  pub log_beside-tail : (number : ℕ) → count / SECTOR_SIZE ≡ number
+  pub log_when_out_fails-tail : (number : ℕ) → count / SECTOR_SIZE ≡ number
       → SECTOR_SIZE * (count / SECTOR_SIZE) ≤ sent → sent < count
-      → log_beside ps os base count sent ≡ lines_below (base + number) ps os
-  unfolding log_beside
-  log_beside-tail number all behind inside =
-      cond-false _ _ _ (le-ltb sent (SECTOR_SIZE * (count / SECTOR_SIZE)) behind)
+      → log_when_out_fails ps os base count sent ≡ lines_below (base + number) ps os
+  unfolding log_when_out_fails
+  log_when_out_fails-tail number all after inside =
+      cond-false _ _ _ (le-ltb sent (SECTOR_SIZE * (count / SECTOR_SIZE)) after)
       ∙ cond-true _ _ _ (lt-ltb sent count inside) ∙ ap (λ n. lines_below (base + n) ps os) all
 
   -- after all
-  pub log_beside-end : SECTOR_SIZE * (count / SECTOR_SIZE) ≤ sent → count ≤ sent
-      → log_beside ps os base count sent ≡ log_text ps os
-  unfolding log_beside
-  log_beside-end behind all =
-      cond-false _ _ _ (le-ltb sent (SECTOR_SIZE * (count / SECTOR_SIZE)) behind)
+  pub log_when_out_fails-end : SECTOR_SIZE * (count / SECTOR_SIZE) ≤ sent → count ≤ sent
+      → log_when_out_fails ps os base count sent ≡ log_text ps os
+  unfolding log_when_out_fails
+  log_when_out_fails-end after all =
+      cond-false _ _ _ (le-ltb sent (SECTOR_SIZE * (count / SECTOR_SIZE)) after)
       ∙ cond-false _ _ _ (le-ltb sent count all)
 
--- ---- beside a failed log
+-- ---- when the log has failed
 
 module _ (image : List ℕ) (base : ℕ) where
   pub bytes_before-below : (block : ℕ) → block < base → bytes_before image base block ≡ 0
@@ -116,42 +116,42 @@ module _ (image : List ℕ) (base : ℕ) where
       ∙ cond-true _ _ _ (lt-ltb (block - base) (length (sectors image)) (omega arith))
       ∙ ap (λ n. SECTOR_SIZE * n) which
 
-  pub bytes_before-behind : (block : ℕ) → base + length (sectors image) ≤ block
+  pub bytes_before-after : (block : ℕ) → base + length (sectors image) ≤ block
       → bytes_before image base block ≡ length image
   unfolding bytes_before
-  bytes_before-behind block behind =
+  bytes_before-after block after =
       cond-false _ _ _ (le-ltb block base (omega arith))
       ∙ cond-false _ _ _ (le-ltb (block - base) (length (sectors image)) (omega arith))
 
-  pub sent_beside-line : (p : Patch) (qs : List Patch) (o : Outcome) (us : List Outcome) (n : ℕ)
+  pub sent_when_log_fails-line : (p : Patch) (qs : List Patch) (o : Outcome) (us : List Outcome) (n : ℕ)
       → n < length (log_line p o)
-      → sent_beside (p ∷ qs) (o ∷ us) base image n ≡ bytes_before image base p.block
-  sent_beside-line p qs o us n inside = cond-true _ _ _ (lt-ltb n (length (log_line p o)) inside)
+      → sent_when_log_fails (p ∷ qs) (o ∷ us) base image n ≡ bytes_before image base p.block
+  sent_when_log_fails-line p qs o us n inside = cond-true _ _ _ (lt-ltb n (length (log_line p o)) inside)
 
   -- after the lines of the first patches
-  pub sent_beside-behind : (ps qs : List Patch) (os us : List Outcome) (n : ℕ)
+  pub sent_when_log_fails-later : (ps qs : List Patch) (os us : List Outcome) (n : ℕ)
       → length os ≡ length ps
-      → sent_beside (ps ++ qs) (os ++ us) base image (length (log_lines ps os) + n)
-      ≡ sent_beside qs us base image n
-  sent_beside-behind [] qs [] us n same = ap (sent_beside qs us base image) (omega arith)
-  sent_beside-behind [] qs (o ∷ os) us n same = absurd (omega arith)
-  sent_beside-behind (p ∷ ps) qs [] us n same = absurd (omega arith)
-  sent_beside-behind (p ∷ ps) qs (o ∷ os) us n same =
+      → sent_when_log_fails (ps ++ qs) (os ++ us) base image (length (log_lines ps os) + n)
+      ≡ sent_when_log_fails qs us base image n
+  sent_when_log_fails-later [] qs [] us n same = ap (sent_when_log_fails qs us base image) (omega arith)
+  sent_when_log_fails-later [] qs (o ∷ os) us n same = absurd (omega arith)
+  sent_when_log_fails-later (p ∷ ps) qs [] us n same = absurd (omega arith)
+  sent_when_log_fails-later (p ∷ ps) qs (o ∷ os) us n same =
       let line = log_line p o in
       let all = length-append line (log_lines ps os) in
       let left : length (line ++ log_lines ps os) + n - length line ≡ length (log_lines ps os) + n =
       omega arith in
       cond-false _ _ _ (le-ltb (length (line ++ log_lines ps os) + n) (length line) (omega arith))
-      ∙ ap (sent_beside (ps ++ qs) (os ++ us) base image) left
-      ∙ sent_beside-behind ps qs os us n (omega arith)
+      ∙ ap (sent_when_log_fails (ps ++ qs) (os ++ us) base image) left
+      ∙ sent_when_log_fails-later ps qs os us n (omega arith)
 
   -- if all of the image belongs before each line
-  pub sent_beside-after : (ps : List Patch) (os : List Outcome) (n : ℕ)
+  pub sent_when_log_fails-after : (ps : List Patch) (os : List Outcome) (n : ℕ)
       → All (λ p. bytes_before image base p.block ≡ length image) ps
-      → sent_beside ps os base image n ≡ length image
-  sent_beside-after [] os n each = refl
-  sent_beside-after (p ∷ ps) [] n each = refl
-  sent_beside-after (p ∷ ps) (o ∷ os) n each =
+      → sent_when_log_fails ps os base image n ≡ length image
+  sent_when_log_fails-after [] os n each = refl
+  sent_when_log_fails-after (p ∷ ps) [] n each = refl
+  sent_when_log_fails-after (p ∷ ps) (o ∷ os) n each =
       let line = log_line p o in
       elim (cases_lt n (length line)) [
         | inl here ↦
@@ -159,19 +159,19 @@ module _ (image : List ℕ) (base : ℕ) where
             ∙ All-head (λ q. bytes_before image base q.block ≡ length image) p ps each
         | inr further ↦
             cond-false _ _ _ (le-ltb n (length line) further)
-            ∙ sent_beside-after ps os (n - length line)
+            ∙ sent_when_log_fails-after ps os (n - length line)
             (All-tail (λ q. bytes_before image base q.block ≡ length image) p ps each)
       ]
 
   -- within the lines of patches before which as many bytes belong
-  pub sent_beside-alike : (count : ℕ) (ps qs : List Patch) (os us : List Outcome) (n : ℕ)
+  pub sent_when_log_fails-alike : (count : ℕ) (ps qs : List Patch) (os us : List Outcome) (n : ℕ)
       → length os ≡ length ps → All (λ p. bytes_before image base p.block ≡ count) ps
       → n < length (log_lines ps os)
-      → sent_beside (ps ++ qs) (os ++ us) base image n ≡ count
-  sent_beside-alike count [] qs [] us n same each inside = absurd (omega arith)
-  sent_beside-alike count [] qs (o ∷ os) us n same each inside = absurd (omega arith)
-  sent_beside-alike count (p ∷ ps) qs [] us n same each inside = absurd (omega arith)
-  sent_beside-alike count (p ∷ ps) qs (o ∷ os) us n same each inside =
+      → sent_when_log_fails (ps ++ qs) (os ++ us) base image n ≡ count
+  sent_when_log_fails-alike count [] qs [] us n same each inside = absurd (omega arith)
+  sent_when_log_fails-alike count [] qs (o ∷ os) us n same each inside = absurd (omega arith)
+  sent_when_log_fails-alike count (p ∷ ps) qs [] us n same each inside = absurd (omega arith)
+  sent_when_log_fails-alike count (p ∷ ps) qs (o ∷ os) us n same each inside =
       let line = log_line p o in
       let all = length-append line (log_lines ps os) in
       elim (cases_lt n (length line)) [
@@ -180,7 +180,7 @@ module _ (image : List ℕ) (base : ℕ) where
             ∙ All-head (λ q. bytes_before image base q.block ≡ count) p ps each
         | inr further ↦
             cond-false _ _ _ (le-ltb n (length line) further)
-            ∙ sent_beside-alike count ps qs os us (n - length line) (omega arith)
+            ∙ sent_when_log_fails-alike count ps qs os us (n - length line) (omega arith)
             (All-tail (λ q. bytes_before image base q.block ≡ count) p ps each) (omega arith)
       ]
 
@@ -190,17 +190,17 @@ module _ (image : List ℕ) (base : ℕ) where
 abbrev pub AreMissing : List (List ℕ) → ℕ → List Patch → Type 0
 AreMissing whole base ps = All (λ p. (p.block < base) ⊎ (base + length whole ≤ p.block)) ps
 
-pub PatchRun-missing : (carry : Bool) (ps : List Patch) (whole : List (List ℕ)) (base : ℕ)
-    → AreMissing whole base ps → PatchRun carry ps (missing_outcomes ps) base whole whole
-PatchRun-missing carry [] whole base none = refl
-PatchRun-missing carry (p ∷ ps) whole base none =
+pub PatchSequence-missing : (carry : Bool) (ps : List Patch) (whole : List (List ℕ)) (base : ℕ)
+    → AreMissing whole base ps → PatchSequence carry ps (missing_outcomes ps) base whole whole
+PatchSequence-missing carry [] whole base none = refl
+PatchSequence-missing carry (p ∷ ps) whole base none =
     let here = All-head (λ q. (q.block < base) ⊎ (base + length whole ≤ q.block)) p ps none in
     let others = All-tail (λ q. (q.block < base) ⊎ (base + length whole ≤ q.block)) p ps none in
     record {
       decided = sym (outcome-missing carry whole base p here);
       next = whole;
       effect = Effect-missing carry whole base p here;
-      others = PatchRun-missing carry ps whole base others;
+      others = PatchSequence-missing carry ps whole base others;
     }
 
 pub length-missing_outcomes : (ps : List Patch) → length (missing_outcomes ps) ≡ length ps
@@ -274,18 +274,18 @@ module _ (ps : List Patch) (i : ℕ) (p : Patch) (inside : i < length ps)
       → before.failures ≡ old.failures → new.failures ≡ before.failures + 1 → new.finished ≡ false
       → (e : E)
       → Sends {X = X} {E = E} old new (missing_lines ps) (Err e)
-  missing_lines-cut {X} {E} old before new n short told went unflushed kept failed unfinished e =
+  missing_lines-cut {X} {E} old before new n short log_bytes went unflushed kept failed unfinished e =
       let front = missing_lines (take i ps) in
       let line = log_line p (NoBlock p.block) in
-      let behind = missing_lines (drop (suc i) ps) in
-      let size : length (missing_lines ps) ≡ length front + (length line + length behind) =
-      ap length all_lines ∙ length-append front (line ++ behind)
-      ∙ ap (λ m. length front + m) (length-append line behind) in
+      let after = missing_lines (drop (suc i) ps) in
+      let size : length (missing_lines ps) ≡ length front + (length line + length after) =
+      ap length all_lines ∙ length-append front (line ++ after)
+      ∙ ap (λ m. length front + m) (length-append line after) in
       let part : take (length front + n) (missing_lines ps) ≡ front ++ take n line =
-      ap (take (length front + n)) all_lines ∙ take-append-add front (line ++ behind) n
-      ∙ ap (λ l. front ++ l) (take-append-le n line behind (omega arith)) in
+      ap (take (length front + n)) all_lines ∙ take-append-add front (line ++ after) n
+      ∙ ap (λ l. front ++ l) (take-append-le n line after (omega arith)) in
       let all : Takes old new (take (length front + n) (missing_lines ps)) =
-      subst (Takes old new) (sym part) (Takes-trans old before new front (take n line) told went) in
+      subst (Takes old new) (sym part) (Takes-trans old before new front (take n line) log_bytes went) in
       record {
         bytes = (length front + n, omega (arith, size), all.appends);
         taken = (length front + n, omega (arith, size), all);

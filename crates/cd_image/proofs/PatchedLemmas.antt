@@ -6,16 +6,16 @@ use Rattle.std.proofs.lemmas.List.{length-drop, length-take-le}
 use Rattle.std.proofs.lemmas.List.Elements.{All-cons, All-nil}
 use Rattle.cd_code.specs.Field.{AreBytes}
 use Rattle.cd_script.specs.Patch.{IsPatch}
-use Rattle.cd_patch.specs.Leaves.{IsSector}
-use Rattle.cd_patch.specs.Run.{PatchRun}
+use Rattle.cd_patch.specs.BySector.{IsSector}
+use Rattle.cd_patch.specs.Sequence.{PatchSequence}
 use Rattle.cd_script.specs.declared.patch.Patch.{Patch}
 use Rattle.cd_patch.specs.declared.outcome.Outcome.{Outcome}
 use Rattle.cd_code.proofs.ByteLemmas.{AreBytes-drop, AreBytes-take}
 use Rattle.cd_patch.specs.declared.outcome.Outcome.TheVariants.{Damaged}
 use Rattle.cd_patch.proofs.CarryLemmas.{never-damaged}
 use Rattle.cd_patch.proofs.ExistenceLemmas.{run-exists}
-use Rattle.cd_patch.proofs.LeavesLemmas.{run-leaves_others}
-use Rattle.cd_patch.proofs.RunLemmas.{PatchRun-determined}
+use Rattle.cd_patch.proofs.BySectorLemmas.{run-leaves_others}
+use Rattle.cd_patch.proofs.SequenceLemmas.{PatchSequence-determined}
 use Rattle.cd_read.specs.Image.{bytes_of, sectors, tail}
 use Rattle.cd_image.specs.Patched.{CarriesDamage, IsPatched}
 use Rattle.cd_read.proofs.ImageLemmas.{IsCut-sectors, cut_of_joined}
@@ -26,7 +26,7 @@ pub IsPatched-determined : (carry : Bool) (patches : List Patch) (os os' : List 
     → (os ≡ os') × (last ≡ last')
 IsPatched-determined carry patches os os' base image last last' one other =
     let same =
-    PatchRun-determined carry patches os os' base (sectors image) (sectors last)
+    PatchSequence-determined carry patches os os' base (sectors image) (sectors last)
     (sectors last') one.run other.run in (
       same.0,
       sym (IsCut-sectors last).joined ∙ ap (λ ss. bytes_of ss ++ tail last) same.1
@@ -62,7 +62,7 @@ IsPatched-exists carry patches base image each bytes =
       run.0,
       bytes_of run.1 ++ tail image,
       record {
-        run = subst (PatchRun carry patches run.0 base (sectors image)) cut.0 run.2;
+        run = subst (PatchSequence carry patches run.0 base (sectors image)) cut.0 run.2;
         same_tail = sym cut.1;
       },
     )
@@ -71,7 +71,7 @@ IsPatched-exists carry patches base image each bytes =
 
 -- no outcome of a run that carries damage is a refusal for it
 never_refused : (ps : List Patch) (os : List Outcome) (base : ℕ) (old last : List (List ℕ))
-    → PatchRun true ps os base old last → All (λ o. (block : ℕ) → o ≢ Damaged block) os
+    → PatchSequence true ps os base old last → All (λ o. (block : ℕ) → o ≢ Damaged block) os
 never_refused [] [] base old last h = All-nil (λ o. (block : ℕ) → o ≢ Damaged block)
 never_refused [] (o ∷ os) base old last h = elim h [ ]
 never_refused (p ∷ ps) [] base old last h = elim h [ ]

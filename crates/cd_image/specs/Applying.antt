@@ -9,10 +9,10 @@ use Rattle.cd_sector.specs.declared.sector.TheConstants.{SECTOR_SIZE}
 use Rattle.cd_patch.specs.Blocks.{block_limit}
 use Rattle.cd_patch.specs.declared.outcome.Outcome.{Outcome}
 use Rattle.cd_read.specs.Image.{image_limit}
-use Rattle.cd_image.specs.PatchLog.{log_beside, log_text, patch_tally, sent_beside}
-use Rattle.cd_image.specs.Patched.{CarriesDamage, EachRun, IsPatched}
+use Rattle.cd_image.specs.PatchLog.{log_text, log_when_out_fails, patch_tally, sent_when_log_fails}
+use Rattle.cd_image.specs.Patched.{CarriesDamage, EachPatching, IsPatched}
 use Rattle.cd_stream.specs.Stream.{Incoming, IsBeginning, Outgoing}
-use Rattle.cd_read.specs.Ends.{Fits, FitsLeft}
+use Rattle.cd_read.specs.Ends.{MayBeImage, MayBeImageAtEnd}
 use Rattle.cd_read.specs.declared.fault.Fault.{Fault}
 use Rattle.cd_read.specs.declared.fault.Fault.TheVariants.{Log, Read, TooLong, Write}
 use Rattle.cd_image.specs.declared.patch_log.Tally.{Tally}
@@ -41,7 +41,7 @@ pub record Flushed (old new : Streams) (of_out of_log : ℕ) : Type 0 where
 -- the whole image was read; its patched image went out, and the log of the patches. Each sink was
 -- flushed just once
 pub record CompletesPatching (carry : Bool) (patches : List Patch) (base : ℕ)
-    (read sent told : List ℕ) (old new : Streams) (tally : Tally) : Type 0 where
+    (read sent log_bytes : List ℕ) (old new : Streams) (tally : Tally) : Type 0 where
   pub failed : Failed old new 0 0 0
   pub flushes : Flushed old new 1 1
   pub out_finished : new.out.finished ≡ true
@@ -51,28 +51,30 @@ pub record CompletesPatching (carry : Bool) (patches : List Patch) (base : ℕ)
   pub within : length read ≤ image_limit
   pub outcomes : List Outcome
   pub patched : IsPatched carry patches outcomes base read sent
-  pub log_told : told ≡ log_text patches outcomes
+  pub log_right : log_bytes ≡ log_text patches outcomes
   pub tally_right : tally ≡ patch_tally read outcomes
 
 -- what went out begins the patched image, and what was logged begins its log
 abbrev pub Begins : List Patch → List ℕ → List ℕ → List Outcome → List ℕ → Type 0
-Begins patches sent told outcomes last =
-    IsBeginning sent last × IsBeginning told (log_text patches outcomes)
+Begins patches sent log_bytes outcomes last =
+    IsBeginning sent last × IsBeginning log_bytes (log_text patches outcomes)
 
 -- a read failed: no sink was flushed
-pub record StopsAtRead (carry : Bool) (patches : List Patch) (base : ℕ) (read sent told : List ℕ)
+pub record StopsAtRead (carry : Bool) (patches : List Patch) (base : ℕ)
+    (read sent log_bytes : List ℕ)
     (old new : Streams) : Type 0 where
   pub failed : Failed old new 1 0 0
   pub flushes : Flushed old new 0 0
   pub unended : new.image.ended ≡ false
   pub within : length read ≤ image_limit
-  pub begins : (whole : List ℕ) → Fits read whole
-      → EachRun carry patches base whole (Begins patches sent told)
+  pub begins : (whole : List ℕ) → MayBeImage read whole
+      → EachPatching carry patches base whole (Begins patches sent log_bytes)
 
 -- a write to the output failed, or its flush: the log has got just the lines that belong before
 -- what went out. If the source has nothing left, or its bytes are not known, the image is taken to
 -- end with the bytes read. The output was flushed once at most, after all of these, the log never
-pub record StopsAtWrite (carry : Bool) (patches : List Patch) (base : ℕ) (read sent told : List ℕ)
+pub record StopsAtWrite (carry : Bool) (patches : List Patch) (base : ℕ)
+    (read sent log_bytes : List ℕ)
     (old new : Streams) : Type 0 where
   pub failed : Failed old new 0 1 0
   pub out_flushes : ℕ
@@ -80,16 +82,18 @@ pub record StopsAtWrite (carry : Bool) (patches : List Patch) (base : ℕ) (read
   pub once : out_flushes ≤ 1
   pub at_end : length sent < length read → out_flushes ≡ 0
   pub within : length read ≤ image_limit
-  pub begins : (whole : List ℕ) → FitsLeft new.image.rest read whole
-      → EachRun carry patches base whole (Begins patches sent told)
-  pub beside : (whole : List ℕ) → FitsLeft new.image.rest read whole
-      → EachRun carry patches base whole
-      (λ outcomes last. told ≡ log_beside patches outcomes base (length read) (length sent))
+  pub begins : (whole : List ℕ) → MayBeImageAtEnd new.image.rest read whole
+      → EachPatching carry patches base whole (Begins patches sent log_bytes)
+  pub between_sinks : (whole : List ℕ) → MayBeImageAtEnd new.image.rest read whole
+      → EachPatching carry patches base whole
+      (λ outcomes last. log_bytes ≡ log_when_out_fails patches outcomes base (length read)
+      (length sent))
 
 -- a write to the log failed, or its flush: just the bytes that belong before the line it failed in
 -- went out, and if the whole log was written, the output is finished. Only then was the output
 -- flushed, just once, and the log at most once
-pub record StopsAtLog (carry : Bool) (patches : List Patch) (base : ℕ) (read sent told : List ℕ)
+pub record StopsAtLog (carry : Bool) (patches : List Patch) (base : ℕ)
+    (read sent log_bytes : List ℕ)
     (old new : Streams) : Type 0 where
   pub failed : Failed old new 0 0 1
   pub out_flushes : ℕ
@@ -97,42 +101,44 @@ pub record StopsAtLog (carry : Bool) (patches : List Patch) (base : ℕ) (read s
   pub flushes : Flushed old new out_flushes log_flushes
   pub once : (out_flushes ≤ 1) × (log_flushes ≤ out_flushes)
   pub within : length read ≤ image_limit
-  pub begins : (whole : List ℕ) → FitsLeft new.image.rest read whole
-      → EachRun carry patches base whole (Begins patches sent told)
-  pub beside : (whole : List ℕ) → FitsLeft new.image.rest read whole
-      → EachRun carry patches base whole
-      (λ outcomes last. length sent ≡ sent_beside patches outcomes base whole (length told))
-  pub flushed : (whole : List ℕ) → FitsLeft new.image.rest read whole
-      → EachRun carry patches base whole
-      (λ outcomes last. told ≡ log_text patches outcomes → new.out.finished ≡ true)
-  pub at_end : (whole : List ℕ) → FitsLeft new.image.rest read whole
-      → EachRun carry patches base whole
-      (λ outcomes last. (told ≡ log_text patches outcomes) ↔ (out_flushes ≡ 1))
+  pub begins : (whole : List ℕ) → MayBeImageAtEnd new.image.rest read whole
+      → EachPatching carry patches base whole (Begins patches sent log_bytes)
+  pub between_sinks : (whole : List ℕ) → MayBeImageAtEnd new.image.rest read whole
+      → EachPatching carry patches base whole
+      (λ outcomes last. length sent ≡ sent_when_log_fails patches outcomes base whole
+      (length log_bytes))
+  pub flushed : (whole : List ℕ) → MayBeImageAtEnd new.image.rest read whole
+      → EachPatching carry patches base whole
+      (λ outcomes last. log_bytes ≡ log_text patches outcomes → new.out.finished ≡ true)
+  pub at_end : (whole : List ℕ) → MayBeImageAtEnd new.image.rest read whole
+      → EachPatching carry patches base whole
+      (λ outcomes last. (log_bytes ≡ log_text patches outcomes) ↔ (out_flushes ≡ 1))
 
 -- just one byte was read after the millionth sector. No clause names the patches that reach past
 -- the last sector: their lines wait for the end. No sink was flushed
-pub record StopsBeyond (carry : Bool) (patches : List Patch) (base : ℕ) (read sent told : List ℕ)
+pub record StopsBeyond (carry : Bool) (patches : List Patch) (base : ℕ)
+    (read sent log_bytes : List ℕ)
     (old new : Streams) : Type 0 where
   pub failed : Failed old new 0 0 0
   pub flushes : Flushed old new 0 0
   pub beyond : length read ≡ image_limit + 1
   pub unended : new.image.ended ≡ false
-  pub begins : (whole : List ℕ) → Fits read whole
-      → EachRun carry patches base whole (Begins patches sent told)
+  pub begins : (whole : List ℕ) → MayBeImage read whole
+      → EachPatching carry patches base whole (Begins patches sent log_bytes)
 
 -- what was read, sent and logged, by the answer: the whole patching, or what each fault leaves
 abbrev pub AppliesBy : Bool → List Patch → ℕ → List ℕ → List ℕ → List ℕ → Streams → Streams
     → Result Tally Fault → Type 0
-AppliesBy carry patches base read sent told old new (Ok tally) =
-    CompletesPatching carry patches base read sent told old new tally
-AppliesBy carry patches base read sent told old new (Err Read) =
-    StopsAtRead carry patches base read sent told old new
-AppliesBy carry patches base read sent told old new (Err Write) =
-    StopsAtWrite carry patches base read sent told old new
-AppliesBy carry patches base read sent told old new (Err Log) =
-    StopsAtLog carry patches base read sent told old new
-AppliesBy carry patches base read sent told old new (Err TooLong) =
-    StopsBeyond carry patches base read sent told old new
+AppliesBy carry patches base read sent log_bytes old new (Ok tally) =
+    CompletesPatching carry patches base read sent log_bytes old new tally
+AppliesBy carry patches base read sent log_bytes old new (Err Read) =
+    StopsAtRead carry patches base read sent log_bytes old new
+AppliesBy carry patches base read sent log_bytes old new (Err Write) =
+    StopsAtWrite carry patches base read sent log_bytes old new
+AppliesBy carry patches base read sent log_bytes old new (Err Log) =
+    StopsAtLog carry patches base read sent log_bytes old new
+AppliesBy carry patches base read sent log_bytes old new (Err TooLong) =
+    StopsBeyond carry patches base read sent log_bytes old new
 
 -- how many bytes may be read and not sent: those of as many sectors as a patch may meet
 abbrev pub bytes_in_hand : ℕ
@@ -144,15 +150,15 @@ pub record Applies (carry : Bool) (patches : List Patch) (base : ℕ) (old new :
     (result : Result Tally Fault) : Type 0 where
   pub read : List ℕ
   pub sent : List ℕ
-  pub told : List ℕ
+  pub log_bytes : List ℕ
   pub consumes : Consumes old.image.rest new.image.rest read
   pub given : new.image.given ≡ old.image.given + length read
   pub appends : Appends old.out.written new.out.written sent
   pub out_taken : new.out.taken ≡ old.out.taken + length sent
-  pub logs : Appends old.log.written new.log.written told
-  pub log_taken : new.log.taken ≡ old.log.taken + length told
+  pub logs : Appends old.log.written new.log.written log_bytes
+  pub log_taken : new.log.taken ≡ old.log.taken + length log_bytes
   pub in_hand : length read ≤ length sent + bytes_in_hand
-  pub answers : AppliesBy carry patches base read sent told old new result
+  pub answers : AppliesBy carry patches base read sent log_bytes old new result
 
 -- what a contract sees of an output that keeps nothing and never fails
 abbrev pub null_outgoing : ℕ → ℕ → Bool → Outgoing
@@ -181,35 +187,35 @@ abbrev pub WritesPatched : Bool → List Patch → ℕ → Incoming → Incoming
 WritesPatched carry patches base image image' out out' =
     (bytes earlier : List ℕ) → image.rest ≡ Some bytes → out.written ≡ Some earlier
     → (image'.rest ≡ Some [])
-    × EachRun carry patches base bytes (λ outcomes last. out'.written ≡ Some (earlier ++ last))
+    × EachPatching carry patches base bytes (λ outcomes last. out'.written ≡ Some (earlier ++ last))
 
 -- if the bytes of the image and the log are known: the log has got the log of the patches after
 -- what it had, and the tally has its counts
 abbrev pub WritesLog : Bool → List Patch → ℕ → Incoming → Outgoing → Outgoing → Tally → Type 0
 WritesLog carry patches base image log log' tally =
     (bytes earlier : List ℕ) → image.rest ≡ Some bytes → log.written ≡ Some earlier
-    → EachRun carry patches base bytes (λ outcomes last.
+    → EachPatching carry patches base bytes (λ outcomes last.
     (log'.written ≡ Some (earlier ++ log_text patches outcomes))
     × (tally ≡ patch_tally bytes outcomes))
 
 -- `image` could be what we were reading when this fault came
-abbrev pub FitsAt : Fault → Option (List ℕ) → List ℕ → List ℕ → Type 0
-FitsAt Read left read whole = Fits read whole
-FitsAt Write left read whole = FitsLeft left read whole
-FitsAt Log left read whole = FitsLeft left read whole
-FitsAt TooLong left read whole = Fits read whole
+abbrev pub MayBeImageAfter : Fault → Option (List ℕ) → List ℕ → List ℕ → Type 0
+MayBeImageAfter Read left read whole = MayBeImage read whole
+MayBeImageAfter Write left read whole = MayBeImageAtEnd left read whole
+MayBeImageAfter Log left read whole = MayBeImageAtEnd left read whole
+MayBeImageAfter TooLong left read whole = MayBeImage read whole
 
 -- after a fault: what the log has got begins the log of each run on each image that could be the
 -- one that was being read
 pub record BeginsLog (carry : Bool) (patches : List Patch) (base : ℕ) (image image' : Incoming)
     (log log' : Outgoing) (fault : Fault) : Type 0 where
   pub read : List ℕ
-  pub told : List ℕ
+  pub log_bytes : List ℕ
   pub consumes : Consumes image.rest image'.rest read
-  pub logs : Appends log.written log'.written told
-  pub begins : (whole : List ℕ) → FitsAt fault image'.rest read whole
-      → EachRun carry patches base whole
-      (λ outcomes last. IsBeginning told (log_text patches outcomes))
+  pub logs : Appends log.written log'.written log_bytes
+  pub begins : (whole : List ℕ) → MayBeImageAfter fault image'.rest read whole
+      → EachPatching carry patches base whole
+      (λ outcomes last. IsBeginning log_bytes (log_text patches outcomes))
 
 -- if the bytes of the image and the output are known: no more were read and have not gone out than
 -- may be in hand

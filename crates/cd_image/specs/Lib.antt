@@ -1,5 +1,5 @@
 pub mod Applying
-pub mod InHand
 pub mod Passing
 pub mod PatchLog
 pub mod Patched
+pub mod Window

@@ -5,11 +5,11 @@ use Rattle.std.specs.Prelude.{length, take, drop, map, Option, None, Some, IsSom
 use Rattle.std.specs.Io.KnownBytes.{IsAtEnd}
 use Rattle.cd_script.specs.declared.patch.Patch.{Patch}
 use Rattle.cd_sector.specs.declared.sector.TheConstants.{SECTOR_SIZE}
-use Rattle.cd_patch.specs.Run.{PatchRun}
+use Rattle.cd_patch.specs.Sequence.{PatchSequence}
 use Rattle.cd_patch.specs.declared.outcome.Outcome.{Outcome}
 use Rattle.cd_patch.specs.declared.outcome.Outcome.TheVariants.{NoBlock}
 use Rattle.cd_image.specs.Applying.{Applies, Failed, Flushed, Streams, bytes_in_hand}
-use Rattle.cd_image.specs.InHand.{tail_bytes}
+use Rattle.cd_image.specs.Window.{tail_bytes}
 use Rattle.cd_read.specs.Image.{image_limit, bytes_of, sector_limit}
 use Rattle.cd_image.specs.PatchLog.{applied_count, log_lines}
 use Rattle.cd_read.specs.declared.fault.Fault.{Fault}
@@ -23,7 +23,7 @@ missing_outcomes ps = map (λ p. NoBlock p.block) ps
 -- the pass since `start`: the patches `taken` were decided and logged, and the patches `left` were
 -- not; `window` and `tail` are in hand; `block` is the first block that has not gone out, `sectors`
 -- were read, and `applied` patches accepted
-pub record Going (carry : Bool) (taken left : List Patch) (base : ℕ) (start now : Streams)
+pub record PassInvariant (carry : Bool) (taken left : List Patch) (base : ℕ) (start now : Streams)
     (window : List (List ℕ)) (block sectors applied : ℕ) (tail : Option (List ℕ)) : Type 0 where
   -- bytes moved: the sectors `seen` were read, `done` have gone out, and the lines of the
   -- `outcomes` were written
@@ -46,7 +46,7 @@ pub record Going (carry : Bool) (taken left : List Patch) (base : ℕ) (start no
   -- position: the patches taken lead, whatever sectors may still come, from those read to those that
   -- went out and those in hand; and the block and the counts that the pass has reached
   pub run : (more : List (List ℕ)) → (IsSome tail → more ≡ [])
-      → PatchRun carry taken outcomes base (seen ++ more) (done ++ (window ++ more))
+      → PatchSequence carry taken outcomes base (seen ++ more) (done ++ (window ++ more))
   pub front : block ≡ base + length done
   pub count : sectors ≡ length seen
   pub held : length done + length window ≡ length seen
@@ -56,21 +56,22 @@ pub record Going (carry : Bool) (taken left : List Patch) (base : ℕ) (start no
   pub due : All (λ p. (p.block ≤ block) × (p.block < base + sectors)) taken
   pub ahead : All (λ p. block ≤ p.block) left
 
--- the pass as `Going` says, with the values of a `Pass`
-abbrev pub GoesOn : Bool → List Patch → List Patch → ℕ → Streams → Streams → Pass → Type 0
-GoesOn carry taken left base start now pass =
-    Going carry taken left base start now pass.window.sectors pass.block pass.sectors pass.applied
+-- the pass as `PassInvariant` says, with the values of a `Pass`
+abbrev pub HoldsInvariant : Bool → List Patch → List Patch → ℕ → Streams → Streams → Pass → Type 0
+HoldsInvariant carry taken left base start now pass =
+    PassInvariant carry taken left base start now pass.window.sectors pass.block pass.sectors
+    pass.applied
     pass.window.tail
 
 -- a step has gone well and the pass goes on, or the call ends by its fault
 abbrev pub Steps : {X : Type 0} → Bool → List Patch → List Patch → List Patch → List Patch → ℕ
     → Streams → Streams → Pass → Result X Fault → Type 0
 Steps carry taken left taken' left' base start now pass (Ok x) =
-    GoesOn carry taken' left' base start now pass
+    HoldsInvariant carry taken' left' base start now pass
 Steps carry taken left taken' left' base start now pass (Err fault) =
     Applies carry (taken ++ left) base start now (Err fault)
 
--- ---- how much is left to do, of so many patches: each step leaves less
+-- ---- how much is left to do, of a number of patches: each step leaves less
 
 -- 1 while the image has not ended
 abbrev pub end_to_come : Option (List ℕ) → ℕ
@@ -92,6 +93,6 @@ pub record IsEnded (pass : Pass) : Type 0 where
 abbrev pub Advances : {X : Type 0} → Bool → List Patch → ℕ → Streams → Streams → Pass
     → Result X Fault → Type 0
 Advances carry patches base start now pass (Ok x) =
-    GoesOn carry (take pass.decided patches) (drop pass.decided patches) base start now pass
+    HoldsInvariant carry (take pass.decided patches) (drop pass.decided patches) base start now pass
 Advances carry patches base start now pass (Err fault) =
     Applies carry patches base start now (Err fault)

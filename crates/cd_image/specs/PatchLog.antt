@@ -69,8 +69,8 @@ lines_below block (p ∷ ps) (o ∷ os) =
 -- the log when the output fails after `sent` bytes, and `count` bytes of the image were read:
 -- within a whole sector the lines of the patches up to its block; within the tail those of the
 -- patches before the tail; else all
-unfoldable pub log_beside : List Patch → List Outcome → ℕ → ℕ → ℕ → List ℕ
-log_beside ps os base count sent =
+unfoldable pub log_when_out_fails : List Patch → List Outcome → ℕ → ℕ → ℕ → List ℕ
+log_when_out_fails ps os base count sent =
     if nat_lt sent (SECTOR_SIZE * (count / SECTOR_SIZE))
     then lines_below (base + sent / SECTOR_SIZE + 1) ps os
     else if nat_lt sent count then lines_below (base + count / SECTOR_SIZE) ps os
@@ -87,9 +87,9 @@ bytes_before image base block =
 -- how many bytes have gone to the output when the log fails after `logged` bytes: those before the
 -- block of the patch in whose line it failed, or all. A log that stops at the end of a line failed
 -- in the next line, since a failed write has not sent its last byte
-abbrev pub sent_beside : List Patch → List Outcome → ℕ → List ℕ → ℕ → ℕ
-sent_beside [] os base image logged = length image
-sent_beside (p ∷ ps) [] base image logged = length image
-sent_beside (p ∷ ps) (o ∷ os) base image logged =
+abbrev pub sent_when_log_fails : List Patch → List Outcome → ℕ → List ℕ → ℕ → ℕ
+sent_when_log_fails [] os base image logged = length image
+sent_when_log_fails (p ∷ ps) [] base image logged = length image
+sent_when_log_fails (p ∷ ps) (o ∷ os) base image logged =
     if nat_lt logged (length (log_line p o)) then bytes_before image base p.block
-    else sent_beside ps os base image (logged - length (log_line p o))
+    else sent_when_log_fails ps os base image (logged - length (log_line p o))

@@ -3,8 +3,8 @@ use Rattle.std.specs.Prelude.{◌≡◌, ◌≢◌, ℕ, Bool, true, List, All}
 use Rattle.cd_code.specs.Field.{AreBytes}
 use Rattle.cd_script.specs.Patch.{IsPatch}
 use Rattle.cd_script.specs.declared.patch.Patch.{Patch}
-use Rattle.cd_patch.specs.Leaves.{LeavesOthers}
-use Rattle.cd_patch.specs.Run.{PatchRun}
+use Rattle.cd_patch.specs.BySector.{LeavesOthers}
+use Rattle.cd_patch.specs.Sequence.{PatchSequence}
 use Rattle.cd_patch.specs.declared.outcome.Outcome.{Outcome}
 use Rattle.cd_patch.specs.declared.outcome.Outcome.TheVariants.{Damaged}
 use Rattle.cd_read.specs.Image.{sectors, tail}
@@ -13,12 +13,12 @@ use Rattle.cd_read.specs.Image.{sectors, tail}
 -- have these outcomes and leave the image `last`
 pub record IsPatched (carry : Bool) (patches : List Patch) (outcomes : List Outcome) (base : ℕ)
     (image last : List ℕ) : Type 0 where
-  pub run : PatchRun carry patches outcomes base (sectors image) (sectors last)
+  pub run : PatchSequence carry patches outcomes base (sectors image) (sectors last)
   pub same_tail : tail last ≡ tail image
 
 -- this holds of each way to patch the image: of which there is just one
-abbrev pub EachRun : Bool → List Patch → ℕ → List ℕ → (List Outcome → List ℕ → Type 0) → Type 0
-EachRun carry patches base image Holds =
+abbrev pub EachPatching : Bool → List Patch → ℕ → List ℕ → (List Outcome → List ℕ → Type 0) → Type 0
+EachPatching carry patches base image Holds =
     (outcomes : List Outcome) (last : List ℕ) → IsPatched carry patches outcomes base image last
     → Holds outcomes last
 

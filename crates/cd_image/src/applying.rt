@@ -4,10 +4,10 @@ ghost use Rattle.std.specs.Prelude.{◌≡◌, ◌≢◌, ◌+◌, ◌<◌, ◌�
 ghost use Rattle.std.specs.Prelude.{drop, length, take, true};
 ghost use Rattle.std.specs.List.Sorted.{IsNonDecreasingBy};
 ghost use Rattle.cd_script.specs.Patch.{IsPatchList};
-ghost use Rattle.cd_read.specs.Ends.{AnswersByEnd, AnswersByLength, EndsWell, TellsTooLong};
+ghost use Rattle.cd_read.specs.Ends.{AnswersByEnd, AnswersByLength, AnswersTooLong, EndsWell};
 ghost use Rattle.cd_image.specs.Applying.{Applies, BeginsLog, Checks, HoldsFew, HoldsFewCounted};
 ghost use Rattle.cd_image.specs.Applying.{WritesCarried, WritesLog, WritesPatched, streams};
-ghost use Rattle.cd_stream.specs.Stream.{MayCount};
+ghost use Rattle.cd_stream.specs.Stream.{CanCountFailure};
 ghost use Rattle.cd_read.specs.Image.{base_limit};
 
 use crate::discard::NullSink;
@@ -50,9 +50,9 @@ pub fn apply<I: Source, O: Sink, L: Sink>(
     log: &mut L,
 ) -> Result<Tally, Fault>
     requires base { base ≤ base_limit }
-    requires image_countable { MayCount (I.seen image.old).failures }
-    requires out_countable { MayCount (O.seen out.old).failures }
-    requires log_countable { MayCount (L.seen log.old).failures }
+    requires image_countable { CanCountFailure (I.seen image.old).failures }
+    requires out_countable { CanCountFailure (O.seen out.old).failures }
+    requires log_countable { CanCountFailure (L.seen log.old).failures }
 
     // The whole of it, also what is left after a fault, and how far one sink has come when the other
     // fails.
@@ -77,7 +77,7 @@ pub fn apply<I: Source, O: Sink, L: Sink>(
         ↔ ((O.seen out.new).failures ≡ (O.seen out.old).failures + 1) }
     ensures log_failed { (result ≡ Err Fault.Log)
         ↔ ((L.seen log.new).failures ≡ (L.seen log.old).failures + 1) }
-    ensures too_long { TellsTooLong (I.seen image.old) (I.seen image.new) result }
+    ensures too_long { AnswersTooLong (I.seen image.old) (I.seen image.new) result }
     ensures by_length { (I.seen image.new).failures ≡ (I.seen image.old).failures
         → (O.seen out.new).failures ≡ (O.seen out.old).failures
         → (L.seen log.new).failures ≡ (L.seen log.old).failures
@@ -122,8 +122,8 @@ pub fn check<I: Source, L: Sink>(
     log: &mut L,
 ) -> Result<Tally, Fault>
     requires base { base ≤ base_limit }
-    requires image_countable { MayCount (I.seen image.old).failures }
-    requires log_countable { MayCount (L.seen log.old).failures }
+    requires image_countable { CanCountFailure (I.seen image.old).failures }
+    requires log_countable { CanCountFailure (L.seen log.old).failures }
 
     // The whole of it, also what is left after a fault: what `apply` does with an output that keeps
     // nothing.
@@ -141,7 +141,7 @@ pub fn check<I: Source, L: Sink>(
         ↔ ((I.seen image.new).failures ≡ (I.seen image.old).failures + 1) }
     ensures log_failed { (result ≡ Err Fault.Log)
         ↔ ((L.seen log.new).failures ≡ (L.seen log.old).failures + 1) }
-    ensures too_long { TellsTooLong (I.seen image.old) (I.seen image.new) result }
+    ensures too_long { AnswersTooLong (I.seen image.old) (I.seen image.new) result }
     ensures by_length { (I.seen image.new).failures ≡ (I.seen image.old).failures
         → (L.seen log.new).failures ≡ (L.seen log.old).failures
         → AnswersByLength (I.seen image.old) result }
@@ -167,9 +167,9 @@ fn apply_patches<I: Source, O: Sink, L: Sink>(
     log: &mut L,
 ) -> Result<Tally, Fault>
     requires base { base ≤ base_limit }
-    requires image_countable { MayCount (I.seen image.old).failures }
-    requires out_countable { MayCount (O.seen out.old).failures }
-    requires log_countable { MayCount (L.seen log.old).failures }
+    requires image_countable { CanCountFailure (I.seen image.old).failures }
+    requires out_countable { CanCountFailure (O.seen out.old).failures }
+    requires log_countable { CanCountFailure (L.seen log.old).failures }
     requires patches { IsPatchList patches.now }
     ensures { Applies carry patches.now base
         (streams (I.seen image.old) (O.seen out.old) (L.seen log.old))

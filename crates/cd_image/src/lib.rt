@@ -40,7 +40,7 @@ pub use cd_report::{
 };
 pub use cd_stream::{
     Buffered, Count, FailAfter, FromRead, LINE_SIZE, Line, Short, Sink, SinkFailed, SliceSink,
-    SliceSource, Source, SourceFailed, ToWrite, ZeroSource, fill, write_all,
+    SliceSource, Source, SourceFailed, ToWrite, ZeroSource, fill_buffer, write_all,
 };
 pub use laws::{patched_carries, patched_exists, patched_is_determined};
 pub use patch_log::Tally;

@@ -8,10 +8,10 @@ ghost use Rattle.cd_script.specs.Limits.{patch_limit};
 ghost use Rattle.cd_script.specs.Patch.{IsPatch, IsPatchList};
 ghost use Rattle.cd_script.specs.declared.patch.Patch.{Patch};
 ghost use Rattle.cd_patch.specs.Blocks.{block_limit, blocks_met};
-ghost use Rattle.cd_stream.specs.Stream.{Incoming, MayCount, Outgoing};
+ghost use Rattle.cd_stream.specs.Stream.{CanCountFailure, Incoming, Outgoing};
 ghost use Rattle.cd_stream.specs.Transfer.{Flushes};
 ghost use Rattle.cd_image.specs.Applying.{Applies, Streams, streams};
-ghost use Rattle.cd_image.specs.Passing.{GoesOn, IsEnded, Steps, Advances, left_to_do};
+ghost use Rattle.cd_image.specs.Passing.{HoldsInvariant, IsEnded, Steps, Advances, left_to_do};
 ghost use Rattle.cd_read.specs.Image.{sector_limit};
 
 use crate::patch_log::{Tally, finish_log, send_counts, send_missing, send_outcome};
@@ -59,13 +59,14 @@ impl Pass {
 
     /// Reads one more sector into the window, or the tail.
     fn read_next<I: Source>(&mut self, image: &mut I) -> Result<(), Fault>
-        requires countable { MayCount (I.seen image.old).failures }
+        requires countable { CanCountFailure (I.seen image.old).failures }
         requires few { self.old.sectors ≤ sector_limit }
         requires room { length self.old.window.sectors < block_limit }
         requires unended { self.old.window.tail ≡ None }
         ensures goes { (carry : Bool) (taken left : List Patch) (base : ℕ) (start : Streams)
             (out log : Outgoing)
-            → GoesOn carry taken left base start (streams (I.seen image.old) out log) self.old
+            → HoldsInvariant carry taken left base start (streams (I.seen image.old) out log)
+            self.old
             → Steps carry taken left taken left base start
             (streams (I.seen image.new) out log) self.new result }
         ensures decided { OnOk result (self.new.decided ≡ self.old.decided) }
@@ -80,13 +81,14 @@ impl Pass {
 
     /// Sends the first sector of the window.
     fn write_front<O: Sink>(&mut self, out: &mut O) -> Result<(), Fault>
-        requires countable { MayCount (O.seen out.old).failures }
+        requires countable { CanCountFailure (O.seen out.old).failures }
         requires small { self.old.block < 4294967295 }
         requires some { 0 < length self.old.window.sectors }
         ensures goes { (carry : Bool) (taken left : List Patch) (base : ℕ) (start : Streams)
             (image : Incoming) (log : Outgoing)
             → All (λ p. self.old.block < p.block) left
-            → GoesOn carry taken left base start (streams image (O.seen out.old) log) self.old
+            → HoldsInvariant carry taken left base start (streams image (O.seen out.old) log)
+            self.old
             → Steps carry taken left taken left base start
             (streams image (O.seen out.new) log) self.new result }
         ensures decided { OnOk result (self.new.decided ≡ self.old.decided) }
@@ -103,7 +105,7 @@ impl Pass {
     /// window, or the image has ended. Its line is written now, before the sectors that it meets go
     /// out.
     fn apply_front<L: Sink>(&mut self, patch: &Patch, carry: bool, log: &mut L) -> Result<(), Fault>
-        requires countable { MayCount (L.seen log.old).failures }
+        requires countable { CanCountFailure (L.seen log.old).failures }
         requires patch { IsPatch patch.now }
         requires at { patch.now.block ≡ self.old.block }
         requires some { 0 < length self.old.window.sectors }
@@ -113,7 +115,7 @@ impl Pass {
         requires small { self.old.applied ≤ self.old.decided }
         ensures goes { (taken left : List Patch) (base : ℕ) (start : Streams)
             (image : Incoming) (out : Outgoing)
-            → GoesOn carry taken (patch.now ∷ left) base start
+            → HoldsInvariant carry taken (patch.now ∷ left) base start
             (streams image out (L.seen log.old)) self.old
             → Steps carry taken (patch.now ∷ left) (taken ++ patch.now ∷ []) left base start
             (streams image out (L.seen log.new)) self.new result }
@@ -153,15 +155,16 @@ impl Pass {
         out: &mut O,
         log: &mut L,
     ) -> Result<bool, Fault>
-        requires image_countable { MayCount (I.seen image.old).failures }
-        requires out_countable { MayCount (O.seen out.old).failures }
-        requires log_countable { MayCount (L.seen log.old).failures }
+        requires image_countable { CanCountFailure (I.seen image.old).failures }
+        requires out_countable { CanCountFailure (O.seen out.old).failures }
+        requires log_countable { CanCountFailure (L.seen log.old).failures }
         requires patches { IsPatchList patches.now }
         requires few { self.old.sectors ≤ sector_limit }
         requires small { self.old.block < 4294967295 }
         requires applied { self.old.applied ≤ self.old.decided }
         ensures goes { (base : ℕ) (start : Streams)
-            → GoesOn carry (take self.old.decided patches.now) (drop self.old.decided patches.now)
+            → HoldsInvariant carry (take self.old.decided patches.now)
+            (drop self.old.decided patches.now)
             base start (streams (I.seen image.old) (O.seen out.old) (L.seen log.old)) self.old
             → Advances carry patches.now base start
             (streams (I.seen image.new) (O.seen out.new) (L.seen log.new)) self.new result }
@@ -193,14 +196,14 @@ impl Pass {
         out: &mut O,
         log: &mut L,
     ) -> Result<Tally, Fault>
-        requires out_countable { MayCount (O.seen out.old).failures }
-        requires log_countable { MayCount (L.seen log.old).failures }
+        requires out_countable { CanCountFailure (O.seen out.old).failures }
+        requires log_countable { CanCountFailure (L.seen log.old).failures }
         requires count { length patches.now ≤ patch_limit }
         requires ended { IsEnded self }
         requires decided { self.decided ≤ length patches.now }
         requires applied { self.applied ≤ self.decided }
         ensures { (carry : Bool) (base : ℕ) (start : Streams) (image : Incoming)
-            → GoesOn carry (take self.decided patches.now) (drop self.decided patches.now)
+            → HoldsInvariant carry (take self.decided patches.now) (drop self.decided patches.now)
             base start (streams image (O.seen out.old) (L.seen log.old)) self
             → Applies carry patches.now base start
             (streams image (O.seen out.new) (L.seen log.new)) result }
@@ -239,7 +242,7 @@ fn sectors_wanted(patch: Option<&Patch>) -> usize
 /// Proof step: the flush of the output, apart from `close`, so that a wrong flush is refused here
 /// and not by a long search.
 fn finish_output<O: Sink>(out: &mut O) -> Result<(), SinkFailed>
-    requires { MayCount (O.seen out.old).failures }
+    requires { CanCountFailure (O.seen out.old).failures }
     ensures { Flushes (O.seen out.old) (O.seen out.new) result }
 {
     out.finish()

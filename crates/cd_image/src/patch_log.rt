@@ -5,7 +5,7 @@ ghost use Rattle.cd_stream.specs.Transfer.{Flushes, Sends};
 ghost use Rattle.cd_read.specs.declared.fault.Fault.TheVariants.{Log};
 ghost use Rattle.cd_image.specs.Passing.{missing_outcomes};
 ghost use Rattle.cd_image.specs.PatchLog.{log_end, log_line, log_lines, outcome_text};
-ghost use Rattle.cd_stream.specs.Stream.{MayCount};
+ghost use Rattle.cd_stream.specs.Stream.{CanCountFailure};
 
 use cd_patch::Outcome;
 use cd_read::Fault;
@@ -83,7 +83,7 @@ pub(crate) fn send_outcome<L: Sink>(
     outcome: Outcome,
     log: &mut L,
 ) -> Result<(), LogFailed>
-    requires { MayCount (L.seen log.old).failures }
+    requires { CanCountFailure (L.seen log.old).failures }
     ensures { Sends (L.seen log.old) (L.seen log.new) (log_line patch.now outcome) result }
 {
     let mut line = Line::new();
@@ -97,7 +97,7 @@ pub(crate) fn send_outcome<L: Sink>(
 
 /// Writes the lines of patches whose first block the image does not have.
 pub(crate) fn send_missing<L: Sink>(patches: &[Patch], log: &mut L) -> Result<(), LogFailed>
-    requires { MayCount (L.seen log.old).failures }
+    requires { CanCountFailure (L.seen log.old).failures }
     ensures { Sends (L.seen log.old) (L.seen log.new)
         (log_lines patches.now (missing_outcomes patches.now)) result }
 {
@@ -110,7 +110,7 @@ pub(crate) fn send_missing<L: Sink>(patches: &[Patch], log: &mut L) -> Result<()
 /// Writes `applied A refused R`, the last line.
 #[tactic(auto, unfolding(crate::specs::PatchLog::log_end))]
 pub(crate) fn send_counts<L: Sink>(applied: u32, refused: u32, log: &mut L) -> Result<(), LogFailed>
-    requires { MayCount (L.seen log.old).failures }
+    requires { CanCountFailure (L.seen log.old).failures }
     ensures { Sends (L.seen log.old) (L.seen log.new) (log_end applied refused) result }
 {
     let mut last = Line::new();
@@ -124,7 +124,7 @@ pub(crate) fn send_counts<L: Sink>(applied: u32, refused: u32, log: &mut L) -> R
 
 /// Proof step: the flush of the log, whose failure is a `LogFailed`.
 pub(crate) fn finish_log<L: Sink>(log: &mut L) -> Result<(), LogFailed>
-    requires { MayCount (L.seen log.old).failures }
+    requires { CanCountFailure (L.seen log.old).failures }
     ensures { Flushes (L.seen log.old) (L.seen log.new) result }
 {
     Ok(log.finish()?)

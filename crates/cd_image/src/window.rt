@@ -8,8 +8,8 @@ ghost use Rattle.cd_patch.specs.Blocks.{block_limit};
 ghost use Rattle.cd_patch.specs.Deciding.{outcome};
 ghost use Rattle.cd_patch.specs.Effect.{Effect};
 ghost use Rattle.cd_read.specs.Reading.{ReadsSector};
-ghost use Rattle.cd_image.specs.InHand.{ReadsNext, tail_bytes};
-ghost use Rattle.cd_stream.specs.Stream.{MayCount};
+ghost use Rattle.cd_image.specs.Window.{ReadsNext, tail_bytes};
+ghost use Rattle.cd_stream.specs.Stream.{CanCountFailure};
 ghost use Rattle.cd_read.specs.Image.{sector_limit};
 
 use arrayvec::ArrayVec;
@@ -38,9 +38,9 @@ pub(crate) struct Window {
 impl Model for Window {
     ghost use Rattle.std.specs.Prelude.{◌<◌, ◌≤◌, [], IfSome, slice_index_or, length, take};
     ghost use Rattle.cd_sector.specs.declared.sector.TheConstants.{SECTOR_SIZE};
-    ghost use Rattle.cd_image.specs.InHand.{InHand, tail_read};
+    ghost use Rattle.cd_image.specs.Window.{WindowView, tail_read};
 
-    ghost Value = { InHand };
+    ghost Value = { WindowView };
 
     ghost view = { λ window. record {
       sectors = take window.held window.places.items;
@@ -108,7 +108,7 @@ impl Window {
     /// Reads the next sector of an image, after `count` others, or its tail, to its place. Answers
     /// whether it was a sector.
     pub(crate) fn read_next<I: Source>(&mut self, image: &mut I, count: u32) -> Result<bool, Fault>
-        requires countable { MayCount (I.seen image.old).failures }
+        requires countable { CanCountFailure (I.seen image.old).failures }
         requires few { count ≤ sector_limit }
         requires room { length self.old.sectors < block_limit }
         requires unended { self.old.tail ≡ None }
@@ -171,7 +171,7 @@ fn read_to<I: Source>(
     image: &mut I,
     count: u32,
 ) -> Result<Option<usize>, Fault>
-    requires countable { MayCount (I.seen image.old).failures }
+    requires countable { CanCountFailure (I.seen image.old).failures }
     requires few { count ≤ sector_limit }
     requires within { place < length places.old }
     ensures reads { ReadsSector count (slice_index_or places.new place [])

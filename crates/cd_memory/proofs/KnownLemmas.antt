@@ -4,7 +4,7 @@ use Rattle.std.proofs.lemmas.Bool.{ne_eqb}
 use Rattle.std.proofs.lemmas.List.{length-take, take-append-le, take_all}
 use Rattle.std.proofs.Math.Seq.{take-append-add}
 use Rattle.std.specs.Io.KnownBytes.{Appends, Consumes, Keeps}
-use Rattle.cd_read.specs.Ends.{Fits, FitsLeft}
+use Rattle.cd_read.specs.Ends.{MayBeImage, MayBeImageAtEnd}
 use Rattle.cd_read.specs.Image.{image_limit}
 
 pub Some-injective : {A : Type 0} {x y : A} → Some x ≡ Some y → x ≡ y
@@ -68,7 +68,7 @@ cut-at limit read rest within =
 
 -- it may be the one that was being read
 pub Fits-within : (read rest : List ℕ) → length read ≤ image_limit
-    → Fits read (take image_limit (read ++ rest))
+    → MayBeImage read (take image_limit (read ++ rest))
 Fits-within read rest within = record {
   within = omega (arith, length-take image_limit (read ++ rest));
   begins = (
@@ -80,18 +80,18 @@ Fits-within read rest within = record {
 }
 
 pub Fits-beyond : (read rest : List ℕ) → image_limit ≤ length read
-    → Fits read (take image_limit (read ++ rest))
+    → MayBeImage read (take image_limit (read ++ rest))
 Fits-beyond read rest beyond = record {
   within = omega (arith, length-take image_limit (read ++ rest));
   begins =
       ([], take-append-le image_limit read rest beyond ∙ sym (append-nil (take image_limit read)));
 }
 
-pub FitsLeft-within : (read rest : List ℕ) → length read ≤ image_limit
-    → FitsLeft (Some rest) read (take image_limit (read ++ rest))
-FitsLeft-within read [] within =
+pub MayBeImageAtEnd-within : (read rest : List ℕ) → length read ≤ image_limit
+    → MayBeImageAtEnd (Some rest) read (take image_limit (read ++ rest))
+MayBeImageAtEnd-within read [] within =
     ap (take image_limit) (append-nil read) ∙ take_all image_limit read within
-FitsLeft-within read (x ∷ xs) within = Fits-within read (x ∷ xs) within
+MayBeImageAtEnd-within read (x ∷ xs) within = Fits-within read (x ∷ xs) within
 
 -- all was read
 pub read-whole : (all read rest : List ℕ) → all ≡ read ++ rest → rest ≡ [] → all ≡ read

@@ -2,25 +2,25 @@
 use Rattle.std.proofs.Common.{◌≡◌, ◌≢◌, ℕ, ◌+◌, ◌<◌, ◌≤◌, ◌⊎◌, Bool, true, false, nat_eq, List, [], ◌∷◌, ◌++◌, length, take, Option, None, Some, Result, Ok, Err, inl, inr, refl, sym, ap, ◌∙◌, subst, arith, length-append}
 use Rattle.cd_image.specs.Applying.{Applies, AppliesBy, Begins, Streams, streams}
 use Rattle.cd_image.specs.PatchLog.{log_text, patch_tally}
-use Rattle.cd_image.specs.Patched.{EachRun, IsPatched}
+use Rattle.cd_image.specs.Patched.{EachPatching, IsPatched}
 use Rattle.cd_image.specs.declared.patch_log.Tally.{Tally}
-use Rattle.cd_command.specs.Fault.{failed_status}
-use Rattle.cd_read.specs.Ends.{Fits, FitsLeft}
+use Rattle.cd_args.specs.Fault.{failed_status}
+use Rattle.cd_read.specs.Ends.{MayBeImage, MayBeImageAtEnd}
 use Rattle.cd_read.specs.Image.{image_limit}
 use Rattle.cd_read.specs.declared.fault.Fault.{Fault}
 use Rattle.cd_read.specs.declared.fault.Fault.TheVariants.{Log, Read, TooLong, Write}
 use Rattle.cd_stream.specs.Stream.{Outgoing}
 use Rattle.std.specs.Io.KnownBytes.{Appends, Consumes, IsAtEnd}
-use Rattle.cd_jobs.specs.Messages.{fault_line}
-use Rattle.cd_jobs.specs.Run.{Ends, SaysLine, script_status}
-use Rattle.cd_jobs.specs.declared.jobs.Settings.{Settings}
+use Rattle.cd_program.specs.Messages.{fault_line}
+use Rattle.cd_program.specs.Commands.{Ends, PrintsLine, script_status}
+use Rattle.cd_program.specs.declared.jobs.Settings.{Settings}
 use Rattle.cd_memory.specs.Memory.{fresh_incoming, fresh_outgoing}
-use Rattle.cd_memory.specs.Whole.{Given, Left, Opened, Patches, Prints, Stops, StopsPatching}
-use Rattle.cd_memory.proofs.KnownLemmas.{Appends-Some, Appends-known, Consumes-known, Fits-beyond, Fits-within, FitsLeft-within, Some-injective, cut-by-failure, read-whole}
+use Rattle.cd_memory.specs.Whole.{Environment, Opened, Patches, Prints, ProgramResult, StopsPatching, WhyStopped}
+use Rattle.cd_memory.proofs.KnownLemmas.{Appends-Some, Appends-known, Consumes-known, Fits-beyond, Fits-within, MayBeImageAtEnd-within, Some-injective, cut-by-failure, read-whole}
 use Rattle.cd_memory.proofs.PrintLemmas.{Leaves, Prints-line}
 
 -- the call was done, or it was stopped, with these bytes sent
-pub data Took (settings : Settings) {before : Given} {image name : List ℕ} (after : Left)
+pub data Took (settings : Settings) {before : Environment} {image name : List ℕ} (after : ProgramResult)
     (files : Opened before image name) (sent : List ℕ) : Type 0 where
   done : (patches : Patches settings after files) → patches.last ≡ sent
       → Took settings after files sent
@@ -30,24 +30,24 @@ pub data Took (settings : Settings) {before : Given} {image name : List ℕ} (af
 -- the log had got nothing
 pub record InMemory (bytes rest : List ℕ) (old new : Streams) : Type 0 where
   pub before : old.image.rest ≡ Some bytes
-  pub behind : new.image.rest ≡ Some rest
+  pub after : new.image.rest ≡ Some rest
   pub reads : new.image.failures ≡ old.image.failures
   pub log : old.log ≡ fresh_outgoing
 
-module _ (settings : Settings) {before : Given} {image name : List ℕ} (after : Left)
+module _ (settings : Settings) {before : Environment} {image name : List ℕ} (after : ProgramResult)
     (files : Opened before image name) (rest : List ℕ) (old new : Streams) (log : Outgoing)
     (memory : InMemory files.bytes rest old new) (leaves : Leaves log after) where
   -- what was read and what is left
   parts : (read : List ℕ) → Consumes old.image.rest new.image.rest read → files.bytes ≡ read ++ rest
   parts read came =
       Consumes-known old.image.rest new.image.rest files.bytes rest read memory.before
-      memory.behind came
+      memory.after came
 
   -- what the log has got
-  logged : (told : List ℕ) → Appends old.log.written new.log.written told
-      → new.log.written ≡ Some told
-  logged told went =
-      Appends-Some old.log.written new.log.written [] told (ap (λ o. o.written) memory.log) went
+  logged : (printed_before : List ℕ) → Appends old.log.written new.log.written printed_before
+      → new.log.written ≡ Some printed_before
+  logged printed_before went =
+      Appends-Some old.log.written new.log.written [] printed_before (ap (λ o. o.written) memory.log) went
 
   -- how many calls of the log have failed
   failed-log : (n : ℕ) → new.log.failures ≡ old.log.failures + n → new.log.failures ≡ n
@@ -55,36 +55,36 @@ module _ (settings : Settings) {before : Given} {image name : List ℕ} (after :
       let none : old.log.failures ≡ 0 = ap (λ o. o.failures) memory.log in omega (arith, rose, none)
 
   -- the text that is left, if nothing followed
-  text-of : (told : List ℕ) → Appends old.log.written new.log.written told → log ≡ new.log
-      → after.text ≡ told
-  text-of told went same =
-      Some-injective (sym leaves.text ∙ ap (λ o. o.written) same ∙ logged told went)
+  text-of : (printed_before : List ℕ) → Appends old.log.written new.log.written printed_before → log ≡ new.log
+      → after.text ≡ printed_before
+  text-of printed_before went same =
+      Some-injective (sym leaves.text ∙ ap (λ o. o.written) same ∙ logged printed_before went)
 
   fits-left : (read : List ℕ) → files.bytes ≡ read ++ rest → length read ≤ image_limit
-      → FitsLeft new.image.rest read (take image_limit files.bytes)
+      → MayBeImageAtEnd new.image.rest read (take image_limit files.bytes)
   fits-left read is within =
-      subst (λ o. FitsLeft o read (take image_limit files.bytes)) (sym memory.behind)
-      (subst (λ b. FitsLeft (Some rest) read (take image_limit b)) (sym is)
-      (FitsLeft-within read rest within))
+      subst (λ o. MayBeImageAtEnd o read (take image_limit files.bytes)) (sym memory.after)
+      (subst (λ b. MayBeImageAtEnd (Some rest) read (take image_limit b)) (sym is)
+      (MayBeImageAtEnd-within read rest within))
 
   fits-beyond : (read : List ℕ) → files.bytes ≡ read ++ rest → image_limit ≤ length read
-      → Fits read (take image_limit files.bytes)
+      → MayBeImage read (take image_limit files.bytes)
   fits-beyond read is beyond =
-      subst (λ b. Fits read (take image_limit b)) (sym is) (Fits-beyond read rest beyond)
+      subst (λ b. MayBeImage read (take image_limit b)) (sym is) (Fits-beyond read rest beyond)
 
   -- a line was said after what was logged
-  line-after : (line told : List ℕ) → Appends old.log.written new.log.written told
-      → new.log.failures ≡ old.log.failures + 0 → SaysLine line new.log log
-      → Prints after told line
-  line-after line told went kept says =
-      Prints-line line told new.log log after (logged told went) (failed-log 0 kept) leaves says
+  line-after : (line printed_before : List ℕ) → Appends old.log.written new.log.written printed_before
+      → new.log.failures ≡ old.log.failures + 0 → PrintsLine line new.log log
+      → Prints after printed_before line
+  line-after line printed_before went kept says =
+      Prints-line line printed_before new.log log after (logged printed_before went) (failed-log 0 kept) leaves says
 
   pub takes : (result : Result Tally Fault)
       → (a : Applies settings.carry files.patches settings.base old new result)
       → Ends Log script_status result new.log log after.status → Took settings after files a.sent
   takes (Ok tally) a ends =
       let c = a.answers in
-      let none : rest ≡ [] = subst IsAtEnd memory.behind c.at_end in
+      let none : rest ≡ [] = subst IsAtEnd memory.after c.at_end in
       let whole : files.bytes ≡ a.read =
       read-whole files.bytes a.read rest (parts a.read a.consumes) none in
       Took.done
@@ -95,7 +95,7 @@ module _ (settings : Settings) {before : Given} {image name : List ℕ} (after :
         patched =
             subst (λ b. IsPatched settings.carry files.patches c.outcomes settings.base b a.sent)
             (sym whole) c.patched;
-        text = text-of a.told a.logs ends.0 ∙ c.log_told;
+        text = text-of a.log_bytes a.logs ends.0 ∙ c.log_right;
         status = ends.1 ∙ ap script_status c.tally_right
             ∙ ap (λ b. script_status (patch_tally b c.outcomes)) (sym whole);
       })
@@ -104,11 +104,11 @@ module _ (settings : Settings) {before : Given} {image name : List ℕ} (after :
   takes (Err Write) a ends =
       let read = parts a.read a.consumes in
       Took.stopped (record {
-        told = a.told;
+        printed_before = a.log_bytes;
         begins =
             a.answers.begins (take image_limit files.bytes)
             (fits-left a.read read a.answers.within);
-        why = Stops.no_room (line-after (fault_line Write) a.told a.logs a.answers.failed.logs
+        why = WhyStopped.no_room (line-after (fault_line Write) a.log_bytes a.logs a.answers.failed.logs
             (ends.0.1 (λ is. cc)));
         status = ends.1;
       })
@@ -116,14 +116,14 @@ module _ (settings : Settings) {before : Given} {image name : List ℕ} (after :
       let read = parts a.read a.consumes in
       let same : log ≡ new.log = ends.0.0 refl in
       Took.stopped (record {
-        told = a.told;
+        printed_before = a.log_bytes;
         begins =
             a.answers.begins (take image_limit files.bytes)
             (fits-left a.read read a.answers.within);
-        why = Stops.no_text
+        why = WhyStopped.no_text
             (cut-by-failure after.complete log.failures leaves.complete
             (ap (λ o. o.failures) same ∙ failed-log 1 a.answers.failed.logs))
-            (text-of a.told a.logs same);
+            (text-of a.log_bytes a.logs same);
         status = ends.1;
       })
   takes (Err TooLong) a ends =
@@ -131,11 +131,11 @@ module _ (settings : Settings) {before : Given} {image name : List ℕ} (after :
       let beyond = a.answers.beyond in
       let size : length files.bytes ≡ length (a.read ++ rest) = ap length read in
       Took.stopped (record {
-        told = a.told;
+        printed_before = a.log_bytes;
         begins = a.answers.begins (take image_limit files.bytes)
             (fits-beyond a.read read (omega (arith, beyond)));
-        why = Stops.too_long (omega (arith, size, beyond, length-append a.read rest))
-            (line-after (fault_line TooLong) a.told a.logs a.answers.failed.logs
+        why = WhyStopped.too_long (omega (arith, size, beyond, length-append a.read rest))
+            (line-after (fault_line TooLong) a.log_bytes a.logs a.answers.failed.logs
             (ends.0.1 (λ is. cc)));
         status = ends.1;
       })

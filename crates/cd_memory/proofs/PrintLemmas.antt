@@ -3,21 +3,21 @@ use Rattle.std.proofs.Common.{◌≡◌, ℕ, ◌+◌, true, false, nat_eq, List
 use Rattle.cd_stream.specs.Stream.{Outgoing}
 use Rattle.cd_stream.specs.Transfer.{Counts}
 use Rattle.cd_stream.specs.declared.sink.SinkFailed.{SinkFailed}
-use Rattle.cd_jobs.specs.Run.{SaysLine}
-use Rattle.cd_memory.specs.Whole.{Left, Prints}
+use Rattle.cd_program.specs.Commands.{PrintsLine}
+use Rattle.cd_memory.specs.Whole.{Prints, ProgramResult}
 use Rattle.cd_memory.proofs.KnownLemmas.{Appends-known, cut-by-failure}
 
 -- what is left has the text that this sink has got, and all of it if none of its calls failed
-pub record Leaves (after : Outgoing) (left : Left) : Type 0 where
+pub record Leaves (after : Outgoing) (left : ProgramResult) : Type 0 where
   pub text : after.written ≡ Some left.text
   pub complete : left.complete ≡ nat_eq after.failures 0
 
--- a line was said after a text
-pub Prints-line : (line front : List ℕ) (before after : Outgoing) (left : Left)
+-- a line was printed after a text
+pub Prints-line : (line front : List ℕ) (before after : Outgoing) (left : ProgramResult)
     → before.written ≡ Some front → before.failures ≡ 0 → Leaves after left
-    → SaysLine line before after → Prints left front line
+    → PrintsLine line before after → Prints left front line
 Prints-line line front before after left had none leaves says = record {
-  said = says.sent;
+  printed_log = says.sent;
   text =
       Appends-known before.written after.written front left.text says.sent had leaves.text
       says.takes.appends;

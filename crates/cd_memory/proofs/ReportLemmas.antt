@@ -1,20 +1,20 @@
 -- `list` and `audit` on an image that is there.
 use Rattle.std.proofs.Common.{◌≡◌, ℕ, ◌+◌, ◌≤◌, List, [], ◌++◌, length, take, Some, Result, Ok, Err, refl, sym, ap, ◌∙◌, subst, arith, length-append}
 use Rattle.std.specs.Io.KnownBytes.{Appends, IsAtEnd}
-use Rattle.cd_read.specs.Ends.{Fits, FitsLeft}
+use Rattle.cd_read.specs.Ends.{MayBeImage, MayBeImageAtEnd}
 use Rattle.cd_read.specs.Image.{image_limit}
 use Rattle.cd_read.specs.declared.fault.Fault.{Fault}
 use Rattle.cd_read.specs.declared.fault.Fault.TheVariants.{Log, Read, TooLong, Write}
 use Rattle.cd_report.specs.Report.{Reports, ReportSpec}
 use Rattle.cd_stream.specs.Stream.{Incoming, Outgoing}
-use Rattle.cd_jobs.specs.Messages.{fault_line}
-use Rattle.cd_jobs.specs.Run.{Ends}
+use Rattle.cd_program.specs.Messages.{fault_line}
+use Rattle.cd_program.specs.Commands.{Ends}
 use Rattle.cd_memory.specs.Memory.{fresh_outgoing}
-use Rattle.cd_memory.specs.Whole.{Given, Left, ReportsOn, Stops, image_at}
-use Rattle.cd_memory.proofs.KnownLemmas.{Appends-Some, Consumes-known, Fits-beyond, FitsLeft-within, Some-injective, cut-by-failure, read-whole}
+use Rattle.cd_memory.specs.Whole.{Environment, ProgramResult, ReportsOn, WhyStopped, image_at}
+use Rattle.cd_memory.proofs.KnownLemmas.{Appends-Some, Consumes-known, Fits-beyond, MayBeImageAtEnd-within, Some-injective, cut-by-failure, read-whole}
 use Rattle.cd_memory.proofs.PrintLemmas.{Leaves, Prints-line}
 
-module _ {T : Type 0} (spec : ReportSpec T) (status_of : T → ℕ) (before : Given) (after : Left)
+module _ {T : Type 0} (spec : ReportSpec T) (status_of : T → ℕ) (before : Environment) (after : ProgramResult)
     (name bytes rest : List ℕ) (there : image_at before name ≡ Some bytes)
     (image image' : Incoming) (out out' log : Outgoing)
     (known : image.rest ≡ Some bytes) (left : image'.rest ≡ Some rest)
@@ -52,10 +52,10 @@ module _ {T : Type 0} (spec : ReportSpec T) (status_of : T → ℕ) (before : Gi
       let none : out.failures ≡ 0 = ap (λ o. o.failures) fresh in
       ReportsOn.stopped bytes r.sent there
       (c.beginning (take image_limit bytes)
-      (subst (λ o. FitsLeft o r.read (take image_limit bytes)) (sym left)
-      (subst (λ b. FitsLeft (Some rest) r.read (take image_limit b)) (sym read)
-      (FitsLeft-within r.read rest c.within))))
-      (Stops.no_text
+      (subst (λ o. MayBeImageAtEnd o r.read (take image_limit bytes)) (sym left)
+      (subst (λ b. MayBeImageAtEnd (Some rest) r.read (take image_limit b)) (sym read)
+      (MayBeImageAtEnd-within r.read rest c.within))))
+      (WhyStopped.no_text
       (cut-by-failure after.complete log.failures leaves.complete
       (ap (λ o. o.failures) same ∙ c.writes ∙ ap (λ n. n + 1) none))
       (text-of r.sent r.takes.appends same))
@@ -67,9 +67,9 @@ module _ {T : Type 0} (spec : ReportSpec T) (status_of : T → ℕ) (before : Gi
       let size : length bytes ≡ length (r.read ++ rest) = ap length read in
       ReportsOn.stopped bytes r.sent there
       (c.beginning (take image_limit bytes)
-      (subst (λ b. Fits r.read (take image_limit b)) (sym read)
+      (subst (λ b. MayBeImage r.read (take image_limit b)) (sym read)
       (Fits-beyond r.read rest (omega (arith, c.beyond)))))
-      (Stops.too_long (omega (arith, size, c.beyond, length-append r.read rest))
+      (WhyStopped.too_long (omega (arith, size, c.beyond, length-append r.read rest))
       (Prints-line (fault_line TooLong) r.sent out' log after (got r.sent r.takes.appends)
       (c.writes ∙ ap (λ o. o.failures) fresh) leaves (ends.0.1 (λ is. cc))))
       ends.1 none_made

@@ -6,20 +6,20 @@ use Rattle.cd_script.specs.Script.{script}
 use Rattle.cd_script.specs.declared.fault.ScriptFault.{ScriptFault}
 use Rattle.cd_script.specs.declared.fault.ScriptFault.TheVariants as script_fault
 use Rattle.cd_script.specs.declared.patch.Patch.{Patch}
-use Rattle.cd_stream.specs.Forms.{slice_incoming}
+use Rattle.cd_stream.specs.Adapters.{slice_incoming}
 use Rattle.cd_stream.specs.Stream.{Outgoing}
 use Rattle.cd_stream.specs.Transfer.{Gives}
-use Rattle.cd_stream.specs.declared.forms.slice_source.SliceSource.{SliceSource}
-use Rattle.cd_jobs.specs.Messages.{load_fault_line, no_script, open_fault_line, script_fault_line}
-use Rattle.cd_jobs.specs.Program.{ComesOfFile, Fails, ReadsScript}
-use Rattle.cd_jobs.specs.Run.{SaysLine}
-use Rattle.cd_jobs.specs.ScriptLines.{Stops}
-use Rattle.cd_jobs.specs.declared.host.OpenFault.{OpenFault}
-use Rattle.cd_jobs.specs.declared.script.LoadFault.{LoadFault}
-use Rattle.cd_jobs.specs.declared.script.LoadFault.TheVariants.{NoMemory, Read, TooLong}
-use Rattle.cd_memory.specs.Files.{bytes_at}
+use Rattle.cd_stream.specs.declared.adapters.slice_source.SliceSource.{SliceSource}
+use Rattle.cd_program.specs.Messages.{load_fault_line, no_script, open_fault_line, script_fault_line}
+use Rattle.cd_program.specs.Program.{ComesOfFile, PrintsAndFails, ReadsScript}
+use Rattle.cd_program.specs.Commands.{PrintsLine}
+use Rattle.cd_program.specs.ScriptLines.{StopsLoading}
+use Rattle.cd_program.specs.declared.host.OpenFault.{OpenFault}
+use Rattle.cd_program.specs.declared.script.LoadFault.{LoadFault}
+use Rattle.cd_program.specs.declared.script.LoadFault.TheVariants.{NoMemory, Read, TooLong}
+use Rattle.cd_memory.specs.Files.{file_bytes}
 use Rattle.cd_memory.specs.Memory.{Opens, fresh_incoming, memory_hosting}
-use Rattle.cd_memory.specs.Whole.{Given, HasPatches, NoPatches}
+use Rattle.cd_memory.specs.Whole.{Environment, HasPatches, NoPatches}
 use Rattle.cd_memory.proofs.KnownLemmas.{Consumes-known, read-whole}
 
 memory-or-other : (fault : ScriptFault)
@@ -38,18 +38,18 @@ text-whole bytes text file left opens came at_end =
     (ap (λ i. i.rest) opens) refl came.consumes)
     at_end
 
--- there are no patches: the line that was said, and why
-abbrev pub Lacks : Given → List ℕ → Outgoing → Outgoing → ℕ → Type 0
+-- there are no patches: the line that was printed, and why
+abbrev pub Lacks : Environment → List ℕ → Outgoing → Outgoing → ℕ → Type 0
 Lacks before name log log' status =
-    (line : List ℕ) × NoPatches before name line × Fails line log log' status
+    (line : List ℕ) × NoPatches before name line × PrintsAndFails line log log' status
 
-module _ (before : Given) (name : List ℕ) {log log' : Outgoing} where
+module _ (before : Environment) (name : List ℕ) {log log' : Outgoing} where
   -- reading the file was stopped
   lacks-stopped : {status : ℕ} (bytes read : List ℕ) (file left : SliceSource) (fault : LoadFault)
-      → bytes_at before.files name ≡ Some bytes → slice_incoming file ≡ fresh_incoming bytes
+      → file_bytes before.files name ≡ Some bytes → slice_incoming file ≡ fresh_incoming bytes
       → Gives (slice_incoming file) (slice_incoming left) read
-      → Stops fault read (slice_incoming file) (slice_incoming left)
-      → Fails (load_fault_line fault) log log' status → Lacks before name log log' status
+      → StopsLoading fault read (slice_incoming file) (slice_incoming left)
+      → PrintsAndFails (load_fault_line fault) log log' status → Lacks before name log log' status
   unfolding load_fault_line
   lacks-stopped bytes read file left Read is opens came stops fails =
       absurd (omega (arith, stops.0))
@@ -68,9 +68,9 @@ module _ (before : Given) (name : List ℕ) {log log' : Outgoing} where
 
   -- the text has a fault, or memory was refused
   lacks-faulty : {status : ℕ} (bytes : List ℕ) (fault : ScriptFault)
-      → bytes_at before.files name ≡ Some bytes
+      → file_bytes before.files name ≡ Some bytes
       → (fault ≢ script_fault.NoMemory → script bytes ≡ Err fault)
-      → Fails (script_fault_line fault) log log' status → Lacks before name log log' status
+      → PrintsAndFails (script_fault_line fault) log log' status → Lacks before name log log' status
   lacks-faulty {status = status} bytes fault is other fails = go (memory-or-other fault)
     where
       go : ((fault ≡ script_fault.NoMemory) ⊎ (fault ≢ script_fault.NoMemory))
@@ -84,7 +84,7 @@ module _ (before : Given) (name : List ℕ) {log log' : Outgoing} where
           (script_fault_line fault, NoPatches.faulty bytes fault is (other another) refl, fails)
 
   lacks-read : {status : ℕ} (bytes : List ℕ) (file left : SliceSource)
-      → bytes_at before.files name ≡ Some bytes → slice_incoming file ≡ fresh_incoming bytes
+      → file_bytes before.files name ≡ Some bytes → slice_incoming file ≡ fresh_incoming bytes
       → ReadsScript (slice_incoming file) (slice_incoming left) log log' (Err status)
       → Lacks before name log log' status
   lacks-read bytes file left is opens (inl h) =
@@ -95,7 +95,7 @@ module _ (before : Given) (name : List ℕ) {log log' : Outgoing} where
       (λ other. ap script all ∙ h.3.1.other other) h.3.2
 
   module _ {O : Type 0} (gone : O → Outgoing) where
-    pub lacks-patches : {status : ℕ} (found : Option (List ℕ)) → bytes_at before.files name ≡ found
+    pub lacks-patches : {status : ℕ} (found : Option (List ℕ)) → file_bytes before.files name ≡ found
         → (answer : Result SliceSource OpenFault) → Opens found answer
         → ComesOfFile slice_incoming (memory_hosting gone) log log' (Err status) answer
         → Lacks before name log log' status
@@ -104,15 +104,15 @@ module _ (before : Given) (name : List ℕ) {log log' : Outgoing} where
     lacks-patches None is (Err fault) opens comes = (
       no_script,
       NoPatches.absent is refl,
-      (subst (λ f. SaysLine (open_fault_line no_script f) log log') opens comes.1, cc),
+      (subst (λ f. PrintsLine (open_fault_line no_script f) log log') opens comes.1, cc),
     )
     lacks-patches (Some bytes) is (Err fault) opens comes = absurd opens
     lacks-patches (Some bytes) is (Ok file) opens comes =
         lacks-read bytes file comes.0 is opens comes.1
 
-    -- the patches, and nothing was said
+    -- the patches, and nothing was printed
     pub has-patches : (patches : List Patch) (found : Option (List ℕ))
-        → bytes_at before.files name ≡ found
+        → file_bytes before.files name ≡ found
         → (answer : Result SliceSource OpenFault) → Opens found answer
         → ComesOfFile slice_incoming (memory_hosting gone) log log' (Ok patches) answer
         → HasPatches before name patches × (log' ≡ log)

@@ -1,8 +1,8 @@
 -- From what the program does with a host to what it does with files in memory.
 use Rattle.std.proofs.Common.{◌≡◌, ℕ, suc, zero, Bool, true, false, List, [], ◌∷◌, ◌++◌, Option, None, Some, Result, Ok, Err, is_some, string_bytes, refl, sym, ap, ◌∙◌, subst, inl, inr}
-use Rattle.cd_command.specs.Fault.{done_status, failed_status, no_memory, printed}
-use Rattle.cd_command.specs.declared.job.Job.{Job}
-use Rattle.cd_command.specs.declared.job.Job.TheVariants as job
+use Rattle.cd_args.specs.Fault.{done_status, failed_status, no_memory, printed}
+use Rattle.cd_args.specs.declared.job.Job.{Job}
+use Rattle.cd_args.specs.declared.job.Job.TheVariants as job
 use Rattle.cd_image.specs.Applying.{Applies, Streams, null_outgoing, streams}
 use Rattle.cd_image.specs.declared.patch_log.Tally.{Tally}
 use Rattle.cd_read.specs.declared.fault.Fault.{Fault}
@@ -11,22 +11,22 @@ use Rattle.cd_report.specs.AuditText.{audit_report}
 use Rattle.cd_report.specs.ListText.{list_report}
 use Rattle.cd_report.specs.Report.{ReportSpec}
 use Rattle.cd_script.specs.declared.patch.Patch.{Patch}
-use Rattle.cd_stream.specs.Forms.{slice_incoming}
+use Rattle.cd_stream.specs.Adapters.{slice_incoming}
 use Rattle.cd_stream.specs.Stream.{Outgoing}
 use Rattle.cd_stream.specs.Transfer.{Flushes}
-use Rattle.cd_stream.specs.declared.forms.slice_source.SliceSource.{SliceSource}
-use Rattle.cd_jobs.specs.Messages.{no_image, no_output, open_fault_line}
-use Rattle.cd_jobs.specs.Program.{AppliesImage, DoesApply, DoesCheck, DoesJob, DoesReport, NoImage, NoOutput, NoScript, TakesImage, TakesScript}
+use Rattle.cd_stream.specs.declared.adapters.slice_source.SliceSource.{SliceSource}
+use Rattle.cd_program.specs.Messages.{no_image, no_output, open_fault_line}
+use Rattle.cd_program.specs.Program.{AppliesImage, DoesApply, DoesCheck, DoesReport, NoImage, NoOutput, NoScript, RunsJob, TakesImage, TakesScript}
 use Rattle.std.specs.Io.KnownBytes.{Appends}
-use Rattle.cd_jobs.specs.Program.{DoesWords, PassesOnRest, Refuses}
-use Rattle.cd_jobs.specs.Run.{Ends, Runs, SaysLine, audit_status, script_status}
-use Rattle.cd_jobs.specs.declared.host.OpenFault.{OpenFault}
-use Rattle.cd_jobs.specs.declared.host.OpenFault.TheVariants.{NoMemory, Refused}
-use Rattle.cd_jobs.specs.declared.jobs.Settings.{Settings}
-use Rattle.cd_memory.specs.Files.{Named, bytes_at, named, with_bytes}
+use Rattle.cd_program.specs.Program.{FlushesRest, RefusesArgs, RunsArgs}
+use Rattle.cd_program.specs.Commands.{CallThenLine, Ends, PrintsLine, audit_status, script_status}
+use Rattle.cd_program.specs.declared.host.OpenFault.{OpenFault}
+use Rattle.cd_program.specs.declared.host.OpenFault.TheVariants.{NoMemory, Refused}
+use Rattle.cd_program.specs.declared.jobs.Settings.{Settings}
+use Rattle.cd_memory.specs.Files.{NamedFile, file_bytes, named_file, with_bytes}
 use Rattle.cd_memory.specs.declared.memory.Memory.{Memory}
 use Rattle.cd_memory.specs.Memory.{Makes, Opens, TakesBack, files_of, fresh_incoming, fresh_outgoing, input_of, is_there, made_of, memory_hosting}
-use Rattle.cd_memory.specs.Whole.{AppliesOn, ChecksOn, DoesOn, Explains, Fails, Given, HasPatches, Left, NoPatches, Opened, ReportsOn, RunsOn, given, image_at}
+use Rattle.cd_memory.specs.Whole.{AppliesOn, ChecksOn, DoesOn, Environment, Explains, FailsWith, HasPatches, NoPatches, Opened, ProgramResult, ReportsOn, RunsOn, environment, image_at}
 use Rattle.cd_memory.proofs.KnownLemmas.{Appends-Some, Keeps-Some, Some-injective, none-failed, some-failed}
 use Rattle.cd_memory.proofs.MemoryLemmas.{TakesImage-opens, absent-of, there-of, with_bytes-one}
 use Rattle.cd_memory.proofs.PatchLemmas.{Took, takes}
@@ -35,7 +35,7 @@ use Rattle.cd_memory.proofs.ReportLemmas.{reports}
 use Rattle.cd_memory.proofs.ScriptLemmas.{has-patches, lacks-patches}
 
 -- passing on what a sink still held moved none of its bytes
-rest-kept : (old new : Outgoing) (bytes : List ℕ) → PassesOnRest old new → old.written ≡ Some bytes
+rest-kept : (old new : Outgoing) (bytes : List ℕ) → FlushesRest old new → old.written ≡ Some bytes
     → new.written ≡ Some bytes
 rest-kept old new bytes rest got = go old.finished refl old.failures refl
   where
@@ -50,18 +50,18 @@ rest-kept old new bytes rest got = go old.finished refl old.failures refl
     go false unfinished (suc n) count =
         unmoved (rest.idle (inr (λ none. let no : suc n ≡ 0 = sym count ∙ none in cc)))
 
-module _ {O : Type 0} (gone : O → Outgoing) (host host' : Memory) (log : Outgoing) (after : Left)
+module _ {O : Type 0} (gone : O → Outgoing) (host host' : Memory) (log : Outgoing) (after : ProgramResult)
     (fresh_host : made_of host ≡ []) (leaves : Leaves log after)
     (as_made : after.made ≡ made_of host') where
-  abbrev before : Given
-  before = given (files_of host) (input_of host)
+  abbrev before : Environment
+  before = environment (files_of host) (input_of host)
 
   none-made : host' ≡ host → after.made ≡ []
   none-made same = as_made ∙ ap made_of same ∙ fresh_host
 
   -- a line and nothing else
-  fails-with : (line : List ℕ) → after.made ≡ [] → SaysLine line fresh_outgoing log
-      → after.status ≡ failed_status → Fails after line
+  fails-with : (line : List ℕ) → after.made ≡ [] → PrintsLine line fresh_outgoing log
+      → after.status ≡ failed_status → FailsWith after line
   fails-with line none says status = record {
     status = status;
     prints = Prints-line line [] fresh_outgoing log after refl refl leaves says;
@@ -72,7 +72,7 @@ module _ {O : Type 0} (gone : O → Outgoing) (host host' : Memory) (log : Outgo
   no-image : (name : List ℕ)
       → NoImage slice_incoming gone (memory_hosting gone) host' log after.status name host
       fresh_outgoing
-      → (image_at before name ≡ None) × Fails after no_image
+      → (image_at before name ≡ None) × FailsWith after no_image
   unfolding open_fault_line
   no-image name missing =
       go (image_at before name) refl
@@ -80,12 +80,12 @@ module _ {O : Type 0} (gone : O → Outgoing) (host host' : Memory) (log : Outgo
     where
       go : (found : Option (List ℕ)) → image_at before name ≡ found
           → (host' ≡ host) × Opens found (Err missing.0)
-          → (image_at before name ≡ None) × Fails after no_image
+          → (image_at before name ≡ None) × FailsWith after no_image
       go (Some bytes) is opens = absurd opens.1
       go None is opens = (
         is,
         fails-with no_image (none-made opens.0)
-            (subst (λ f. SaysLine (open_fault_line no_image f) fresh_outgoing log)
+            (subst (λ f. PrintsLine (open_fault_line no_image f) fresh_outgoing log)
             opens.1 missing.2.0)
             missing.2.1,
       )
@@ -98,42 +98,42 @@ module _ {O : Type 0} (gone : O → Outgoing) (host host' : Memory) (log : Outgo
       → ReportsOn spec status_of name before after
   reports-on spec status_of name (DoesReport.without_image missing) =
       let none = no-image name missing in ReportsOn.without_image none.0 none.1
-  reports-on spec status_of name (DoesReport.told image asked tells) =
+  reports-on spec status_of name (DoesReport.reported image asked done) =
       go (image_at before name) refl (TakesImage-opens gone name host host' (Ok image) asked)
     where
       go : (found : Option (List ℕ)) → image_at before name ≡ found
           → (host' ≡ host) × Opens found (Ok image) → ReportsOn spec status_of name before after
       go None is opens = absurd opens.1
       go (Some bytes) is opens =
-          reports spec status_of before after name bytes tells.left.rest.now is
-          (slice_incoming image) (slice_incoming tells.left) fresh_outgoing tells.runs.middle log
+          reports spec status_of before after name bytes done.left.rest.now is
+          (slice_incoming image) (slice_incoming done.left) fresh_outgoing done.runs.middle log
           (ap (λ i. i.rest) opens.1) refl refl refl leaves (none-made opens.0)
-          tells.runs.result tells.runs.does tells.runs.ends
+          done.runs.result done.runs.does done.runs.ends
 
   -- ---- scripts
 
   no-script : (name : List ℕ)
       → NoScript slice_incoming gone (memory_hosting gone) host' log after.status name host
       fresh_outgoing
-      → (line : List ℕ) × NoPatches before name line × Fails after line
+      → (line : List ℕ) × NoPatches before name line × FailsWith after line
   no-script name missing =
-      let lacks = lacks-patches before name gone (bytes_at (files_of host) name) refl
+      let lacks = lacks-patches before name gone (file_bytes (files_of host) name) refl
       missing.answer missing.asked.1 missing.comes in
       (lacks.0, lacks.1, fails-with lacks.0 (none-made missing.asked.0) lacks.2.0 lacks.2.1)
 
-  -- the script was read, nothing was said, and the host is as it was
+  -- the script was read, nothing was printed, and the host is as it was
   record ReadScript (name : List ℕ) (patches : List Patch) (second : Memory)
-      (said : Outgoing) : Type 0 where
+      (printed_log : Outgoing) : Type 0 where
     pub has : HasPatches before name patches
-    pub silent : said ≡ fresh_outgoing
+    pub silent : printed_log ≡ fresh_outgoing
     pub same : second ≡ host
 
-  read-script : (name : List ℕ) (patches : List Patch) (second : Memory) (said : Outgoing)
-      → TakesScript slice_incoming (memory_hosting gone) name host second fresh_outgoing said
+  read-script : (name : List ℕ) (patches : List Patch) (second : Memory) (printed_log : Outgoing)
+      → TakesScript slice_incoming (memory_hosting gone) name host second fresh_outgoing printed_log
       (Ok patches)
-      → ReadScript name patches second said
-  read-script name patches second said script =
-      let read = has-patches before name gone patches (bytes_at (files_of host) name) refl
+      → ReadScript name patches second printed_log
+  read-script name patches second printed_log script =
+      let read = has-patches before name gone patches (file_bytes (files_of host) name) refl
       script.answer script.asked.1 script.comes in
       record { has = read.0; silent = read.1; same = script.asked.0 }
 
@@ -145,11 +145,11 @@ module _ {O : Type 0} (gone : O → Outgoing) (host host' : Memory) (log : Outgo
     pub fresh : slice_incoming image ≡ fresh_incoming files.bytes
     pub same : third ≡ host
 
-  opened-both : (name script : List ℕ) (patches : List Patch) (second : Memory) (said : Outgoing)
-      → ReadScript script patches second said → (image : SliceSource) (third : Memory)
+  opened-both : (name script : List ℕ) (patches : List Patch) (second : Memory) (printed_log : Outgoing)
+      → ReadScript script patches second printed_log → (image : SliceSource) (third : Memory)
       → TakesImage (memory_hosting gone) name second (Ok image) third
       → OpenedBoth name script patches image third
-  opened-both name script patches second said read image third asked =
+  opened-both name script patches second printed_log read image third asked =
       go (image_at before name) refl
       (TakesImage-opens gone name host third (Ok image)
       (subst (λ h. TakesImage (memory_hosting gone) name h (Ok image) third) read.same asked))
@@ -164,11 +164,11 @@ module _ {O : Type 0} (gone : O → Outgoing) (host host' : Memory) (log : Outgo
         same = opens.0;
       }
 
-  no-image-after : (name : List ℕ) (second : Memory) (said : Outgoing) → said ≡ fresh_outgoing
+  no-image-after : (name : List ℕ) (second : Memory) (printed_log : Outgoing) → printed_log ≡ fresh_outgoing
       → second ≡ host
-      → NoImage slice_incoming gone (memory_hosting gone) host' log after.status name second said
-      → (image_at before name ≡ None) × Fails after no_image
-  no-image-after name second said silent same missing =
+      → NoImage slice_incoming gone (memory_hosting gone) host' log after.status name second printed_log
+      → (image_at before name ≡ None) × FailsWith after no_image
+  no-image-after name second printed_log silent same missing =
       no-image name
       (subst (λ h. NoImage slice_incoming gone
       (memory_hosting gone) host' log after.status name h fresh_outgoing) same
@@ -180,21 +180,21 @@ module _ {O : Type 0} (gone : O → Outgoing) (host host' : Memory) (log : Outgo
   took : (settings : Settings) (name script : List ℕ) (patches : List Patch)
       (image left : SliceSource)
       (third : Memory) (both : OpenedBoth name script patches image third)
-      (out out' said middle : Outgoing) → said ≡ fresh_outgoing → (result : Result Tally Fault)
-      → (a : Applies settings.carry patches settings.base (streams (slice_incoming image) out said)
+      (out out' printed_log middle : Outgoing) → printed_log ≡ fresh_outgoing → (result : Result Tally Fault)
+      → (a : Applies settings.carry patches settings.base (streams (slice_incoming image) out printed_log)
       (streams (slice_incoming left) out' middle) result)
       → Ends Log script_status result middle log after.status
       → Took settings after both.files a.sent
-  took settings name script patches image left third both out out' said middle silent result =
+  took settings name script patches image left third both out out' printed_log middle silent result =
       subst
-      (λ ps. (a : Applies settings.carry ps settings.base (streams (slice_incoming image) out said)
+      (λ ps. (a : Applies settings.carry ps settings.base (streams (slice_incoming image) out printed_log)
       (streams (slice_incoming left) out' middle) result)
       → Ends Log script_status result middle log after.status
       → Took settings after both.files a.sent)
       both.same_patches
-      (takes settings after both.files left.rest.now (streams (slice_incoming image) out said)
+      (takes settings after both.files left.rest.now (streams (slice_incoming image) out printed_log)
       (streams (slice_incoming left) out' middle) log
-      (record { before = ap (λ i. i.rest) both.fresh; behind = refl; reads = refl; log = silent })
+      (record { before = ap (λ i. i.rest) both.fresh; after = refl; reads = refl; log = silent })
       leaves result)
 
   pub checks-on : (settings : Settings) (name script : List ℕ)
@@ -204,17 +204,17 @@ module _ {O : Type 0} (gone : O → Outgoing) (host host' : Memory) (log : Outgo
   checks-on settings name script (DoesCheck.without_script missing) =
       let none = no-script script missing in ChecksOn.without_script none.0 none.1 none.2
   checks-on settings name script
-      (DoesCheck.without_image patches second said takes_script missing) =
-      let read = read-script script patches second said takes_script in
-      let none = no-image-after name second said read.silent read.same missing in
+      (DoesCheck.without_image patches second printed_log takes_script missing) =
+      let read = read-script script patches second printed_log takes_script in
+      let none = no-image-after name second printed_log read.silent read.same missing in
       ChecksOn.without_image patches read.has none.0 none.1
   checks-on settings name script
-      (DoesCheck.checked patches second said takes_script image asked checks) =
-      let read = read-script script patches second said takes_script in
-      let both = opened-both name script patches second said read image host' asked in
+      (DoesCheck.checked patches second printed_log takes_script image asked checks) =
+      let read = read-script script patches second printed_log takes_script in
+      let both = opened-both name script patches second printed_log read image host' asked in
       go both (took settings name script patches image checks.left host' both
       (null_outgoing 0 0 false)
-      (null_outgoing checks.runs.does.0 checks.runs.does.1 checks.runs.does.2) said
+      (null_outgoing checks.runs.does.0 checks.runs.does.1 checks.runs.does.2) printed_log
       checks.runs.middle read.silent
       checks.runs.result checks.runs.does.3 checks.runs.ends)
     where
@@ -227,25 +227,25 @@ module _ {O : Type 0} (gone : O → Outgoing) (host host' : Memory) (log : Outgo
 
   -- it is not there, and then it is, with no bytes
   record MadeFile (path : List ℕ) (out : O) (fourth : Memory) : Type 0 where
-    pub absent : bytes_at before.files path ≡ None
-    pub made : made_of fourth ≡ named path [] ∷ []
+    pub absent : file_bytes before.files path ≡ None
+    pub made : made_of fourth ≡ named_file path [] ∷ []
     pub fresh : gone out ≡ fresh_outgoing
 
   made-file : (path : List ℕ) (out : O) (third fourth : Memory) → third ≡ host
       → Makes gone third path (Ok out) fourth → MadeFile path out fourth
   made-file path out third fourth same makes = record {
-    absent = absent-of (bytes_at (files_of host) path) (bytes_at (made_of host) path)
+    absent = absent-of (file_bytes (files_of host) path) (file_bytes (made_of host) path)
         (subst (λ h. is_there h path ≡ false) same makes.0);
-    made = makes.1 ∙ ap (λ h. made_of h ++ named path [] ∷ []) same
-        ∙ ap (λ m. m ++ named path [] ∷ []) fresh_host;
+    made = makes.1 ∙ ap (λ h. made_of h ++ named_file path [] ∷ []) same
+        ∙ ap (λ m. m ++ named_file path [] ∷ []) fresh_host;
     fresh = makes.2;
   }
 
   -- it came back with what was sent
   came-back : (path sent : List ℕ) (out made_out last : O) (fourth : Memory)
       → MadeFile path out fourth → Appends (gone out).written (gone made_out).written sent
-      → PassesOnRest (gone made_out) (gone last) → TakesBack gone fourth path last host'
-      → after.made ≡ named path sent ∷ []
+      → FlushesRest (gone made_out) (gone last) → TakesBack gone fourth path last host'
+      → after.made ≡ named_file path sent ∷ []
   came-back path sent out made_out last fourth file went rest back =
       let got : (gone made_out).written ≡ Some sent =
       Appends-Some (gone out).written (gone made_out).written [] sent
@@ -253,31 +253,31 @@ module _ {O : Type 0} (gone : O → Outgoing) (host host' : Memory) (log : Outgo
       let same : back.bytes ≡ sent =
       Some-injective (sym back.written ∙ rest-kept (gone made_out) (gone last) sent rest got) in
       as_made ∙ back.made ∙ ap (λ m. with_bytes m path back.bytes) file.made
-      ∙ ap (λ b. with_bytes (named path [] ∷ []) path b) same ∙ with_bytes-one path [] sent
+      ∙ ap (λ b. with_bytes (named_file path [] ∷ []) path b) same ∙ with_bytes-one path [] sent
 
   -- there is one already, or memory was refused
   no-output : (name script path : List ℕ) (patches : List Patch) (image : SliceSource)
       (third : Memory)
-      (both : OpenedBoth name script patches image third) (said : Outgoing) → said ≡ fresh_outgoing
+      (both : OpenedBoth name script patches image third) (printed_log : Outgoing) → printed_log ≡ fresh_outgoing
       → (settings : Settings) (fault : OpenFault) → Makes gone third path (Err fault) host'
-      → SaysLine (open_fault_line no_output fault) said log → after.status ≡ failed_status
+      → PrintsLine (open_fault_line no_output fault) printed_log log → after.status ≡ failed_status
       → AppliesOn settings name script path before after
   unfolding open_fault_line
-  no-output name script path patches image third both said silent settings Refused
+  no-output name script path patches image third both printed_log silent settings Refused
       makes says status =
-      let some = there-of (bytes_at (files_of host) path) (bytes_at (made_of host) path)
+      let some = there-of (file_bytes (files_of host) path) (file_bytes (made_of host) path)
       (subst (λ h. is_there h path ≡ true) both.same makes.0)
-      (subst (λ m. is_some (bytes_at m path) ≡ false) (sym fresh_host) refl) in
+      (subst (λ m. is_some (file_bytes m path) ≡ false) (sym fresh_host) refl) in
       AppliesOn.without_output both.files some.0 some.1
       (fails-with no_output (as_made ∙ makes.1 ∙ ap made_of both.same ∙ fresh_host)
-      (subst (λ o. SaysLine no_output o log) silent says) status)
-  no-output name script path patches image third both said silent settings NoMemory
+      (subst (λ o. PrintsLine no_output o log) silent says) status)
+  no-output name script path patches image third both printed_log silent settings NoMemory
       makes says status =
       AppliesOn.without_memory both.files
-      (absent-of (bytes_at (files_of host) path) (bytes_at (made_of host) path)
+      (absent-of (file_bytes (files_of host) path) (file_bytes (made_of host) path)
       (subst (λ h. is_there h path ≡ false) both.same makes.0))
       (fails-with no_memory (as_made ∙ makes.1 ∙ ap made_of both.same ∙ fresh_host)
-      (subst (λ o. SaysLine no_memory o log) silent says) status)
+      (subst (λ o. PrintsLine no_memory o log) silent says) status)
 
   pub applies-on : (settings : Settings) (name script path : List ℕ)
       → DoesApply slice_incoming gone (memory_hosting gone) host' log after.status settings name
@@ -286,21 +286,21 @@ module _ {O : Type 0} (gone : O → Outgoing) (host host' : Memory) (log : Outgo
   applies-on settings name script path (DoesApply.without_script missing) =
       let none = no-script script missing in AppliesOn.without_script none.0 none.1 none.2
   applies-on settings name script path
-      (DoesApply.without_image patches second said takes_script missing) =
-      let read = read-script script patches second said takes_script in
-      let none = no-image-after name second said read.silent read.same missing in
+      (DoesApply.without_image patches second printed_log takes_script missing) =
+      let read = read-script script patches second printed_log takes_script in
+      let none = no-image-after name second printed_log read.silent read.same missing in
       AppliesOn.without_image patches read.has none.0 none.1
   applies-on settings name script path
-      (DoesApply.without_output patches second said takes_script image third asked missing) =
-      let read = read-script script patches second said takes_script in
+      (DoesApply.without_output patches second printed_log takes_script image third asked missing) =
+      let read = read-script script patches second printed_log takes_script in
       no-output name script path patches image third
-      (opened-both name script patches second said read image third asked) said read.silent settings
+      (opened-both name script patches second printed_log read image third asked) printed_log read.silent settings
       missing.0 missing.1.1 missing.2.0 missing.2.1
   applies-on settings name script path
-      (DoesApply.applied patches second said takes_script image third asked out fourth
+      (DoesApply.applied patches second printed_log takes_script image third asked out fourth
       gives applies) =
-      let read = read-script script patches second said takes_script in
-      let both = opened-both name script patches second said read image third asked in
+      let read = read-script script patches second printed_log takes_script in
+      let both = opened-both name script patches second printed_log read image third asked in
       let file = made-file path out third fourth both.same gives.1 in
       let a = applies.runs.does in
       go both file
@@ -308,21 +308,21 @@ module _ {O : Type 0} (gone : O → Outgoing) (host host' : Memory) (log : Outgo
       applies.rest applies.back)
       (took settings name script patches image applies.left third both (gone out)
       (gone applies.made)
-      said applies.runs.middle read.silent applies.runs.result a applies.runs.ends)
+      printed_log applies.runs.middle read.silent applies.runs.result a applies.runs.ends)
     where
       go : (both : OpenedBoth name script patches image third) → MadeFile path out fourth
-          → {sent : List ℕ} → after.made ≡ named path sent ∷ []
+          → {sent : List ℕ} → after.made ≡ named_file path sent ∷ []
           → Took settings after both.files sent
           → AppliesOn settings name script path before after
       go both file back (Took.done p last) =
-          AppliesOn.applied both.files file.absent p (back ∙ ap (λ b. named path b ∷ []) (sym last))
+          AppliesOn.applied both.files file.absent p (back ∙ ap (λ b. named_file path b ∷ []) (sym last))
       go both file back (Took.stopped stops) =
           AppliesOn.stopped both.files file.absent _ stops back
 
   -- ---- jobs and arguments
 
   pub does-on : (j : Job)
-      → DoesJob slice_incoming gone (memory_hosting gone) j host host' fresh_outgoing
+      → RunsJob slice_incoming gone (memory_hosting gone) j host host' fresh_outgoing
       log after.status
       → DoesOn j before after
   does-on (job.List image base) does =
@@ -336,25 +336,25 @@ module _ {O : Type 0} (gone : O → Outgoing) (host host' : Memory) (log : Outgo
       applies-on (record { base = base; carry = carry }) (string_bytes image) (string_bytes script)
       (string_bytes out) does
 
-  explains : (words : List (List ℕ)) → Refuses words host host' fresh_outgoing log after.status
+  explains : (words : List (List ℕ)) → RefusesArgs words host host' fresh_outgoing log after.status
       → Explains words after
   explains words refuses =
-      let tells = refuses.tells in
+      let done = refuses.done in
       record {
         fault = refuses.fault;
         kind = refuses.kind;
         memory = refuses.memory;
-        text = tells.text;
+        text = done.text;
         prints =
-            Prints-line (printed tells.text) [] fresh_outgoing log after refl refl
-            leaves tells.says;
-        status = λ all. tells.whole (none-failed after.complete log.failures leaves.complete all);
-        cut = λ part. tells.cut (some-failed after.complete log.failures leaves.complete part);
+            Prints-line (printed done.text) [] fresh_outgoing log after refl refl
+            leaves done.says;
+        status = λ all. done.whole (none-failed after.complete log.failures leaves.complete all);
+        cut = λ part. done.cut (some-failed after.complete log.failures leaves.complete part);
         none_made = none-made refuses.unchanged;
       }
 
   pub runs-on : (words : List (List ℕ))
-      → DoesWords slice_incoming gone (memory_hosting gone) words host host' fresh_outgoing
+      → RunsArgs slice_incoming gone (memory_hosting gone) words host host' fresh_outgoing
       log after.status
       → RunsOn words before after
   runs-on words (inl does) = inl (does.0, does.1, does.2, does-on does.0 does.4)

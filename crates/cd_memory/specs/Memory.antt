@@ -3,16 +3,16 @@
 use Rattle.std.specs.Prelude.{◌≡◌, ℕ, Bool, false, true, ◌||◌, List, [], ◌∷◌, ◌++◌, length, is_some}
 use Rattle.std.specs.Prelude.{Option, None, Some, Result, Ok, Err}
 use Rattle.cd_stream.specs.Stream.{Incoming, Outgoing}
-use Rattle.cd_stream.specs.Forms.{slice_incoming}
-use Rattle.cd_stream.specs.declared.forms.slice_source.SliceSource.{SliceSource}
-use Rattle.cd_jobs.specs.Hosting.{Hosting}
-use Rattle.cd_jobs.specs.declared.host.OpenFault.{OpenFault}
-use Rattle.cd_jobs.specs.declared.host.OpenFault.TheVariants.{NoMemory, Refused}
-use Rattle.cd_memory.specs.Files.{Named, bytes_at, named, with_bytes}
+use Rattle.cd_stream.specs.Adapters.{slice_incoming}
+use Rattle.cd_stream.specs.declared.adapters.slice_source.SliceSource.{SliceSource}
+use Rattle.cd_program.specs.Hosting.{Hosting}
+use Rattle.cd_program.specs.declared.host.OpenFault.{OpenFault}
+use Rattle.cd_program.specs.declared.host.OpenFault.TheVariants.{NoMemory, Refused}
+use Rattle.cd_memory.specs.Files.{NamedFile, file_bytes, named_file, with_bytes}
 use Rattle.cd_memory.specs.declared.memory.Memory.{Memory}
 
 -- the files that were there
-abbrev pub files_of : Memory → List Named
+abbrev pub files_of : Memory → List NamedFile
 files_of h = h.files.now
 
 -- the standard input
@@ -20,12 +20,12 @@ abbrev pub input_of : Memory → List ℕ
 input_of h = h.input.now
 
 -- the files that were made
-abbrev pub made_of : Memory → List Named
+abbrev pub made_of : Memory → List NamedFile
 made_of h = h.made.items
 
 -- whether there is a file of this name
 abbrev pub is_there : Memory → List ℕ → Bool
-is_there h name = is_some (bytes_at (files_of h) name) || is_some (bytes_at (made_of h) name)
+is_there h name = is_some (file_bytes (files_of h) name) || is_some (file_bytes (made_of h) name)
 
 -- the files that were there and the standard input stay
 pub record Stays (h h' : Memory) : Type 0 where
@@ -57,7 +57,7 @@ module _ {O : Type 0} (gone : O → Outgoing) where
   -- an empty file is made if none has this name, if memory is there for it
   abbrev pub Makes : Memory → List ℕ → Result O OpenFault → Memory → Type 0
   Makes h name (Ok file) h' =
-      (is_there h name ≡ false) × (made_of h' ≡ made_of h ++ named name [] ∷ [])
+      (is_there h name ≡ false) × (made_of h' ≡ made_of h ++ named_file name [] ∷ [])
       × (gone file ≡ fresh_outgoing)
   Makes h name (Err Refused) h' = (is_there h name ≡ true) × (made_of h' ≡ made_of h)
   Makes h name (Err NoMemory) h' = (is_there h name ≡ false) × (made_of h' ≡ made_of h)
@@ -72,7 +72,7 @@ module _ {O : Type 0} (gone : O → Outgoing) where
   -- what a contract knows of this host: just which bytes each answer has
   abbrev pub memory_hosting : Hosting Memory SliceSource O
   memory_hosting = record {
-    gives_input = λ h name answer h'. (h' ≡ h) × Opens (bytes_at (files_of h) name) answer;
+    gives_input = λ h name answer h'. (h' ≡ h) × Opens (file_bytes (files_of h) name) answer;
     gives_standard_input = λ h answer h'. (h' ≡ h) × Opens (Some (input_of h)) answer;
     gives_output = λ h name answer h'. Stays h h' × Makes h name answer h';
     takes_back = TakesBack;

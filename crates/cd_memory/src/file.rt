@@ -3,7 +3,7 @@
 ghost use Rattle.std.specs.Prelude.{◌≡◌, option_map, string_bytes};
 ghost use Rattle.std.specs.List.{position};
 ghost use Rattle.std.specs.Str.{bytes_eq};
-ghost use Rattle.cd_memory.specs.Files.{bytes_at, named, with_bytes};
+ghost use Rattle.cd_memory.specs.Files.{file_bytes, named_file, with_bytes};
 
 use std::marker::Model;
 
@@ -16,9 +16,9 @@ pub struct File {
 
 impl Model for File {
     ghost use Rattle.std.specs.Prelude.{string_bytes};
-    ghost use Rattle.cd_memory.specs.Files.{Named};
+    ghost use Rattle.cd_memory.specs.Files.{NamedFile};
 
-    ghost Value = { Named };
+    ghost Value = { NamedFile };
 
     ghost view = { λ f. record { name = string_bytes f.path; bytes = f.octets.items } };
 }
@@ -34,7 +34,7 @@ impl File {
     /// assert_eq!(rt; (file.name(), file.bytes().len()), ("disc.bin", 2352));
     /// ```
     pub fn new(name: String, bytes: Vec<u8>) -> Self
-        ensures { result ≡ named (string_bytes name) bytes.items }
+        ensures { result ≡ named_file (string_bytes name) bytes.items }
     {
         File {
             path: name,
@@ -62,7 +62,7 @@ impl File {
 
     /// Replaces its bytes.
     pub(crate) fn set_bytes(&mut self, bytes: Vec<u8>)
-        ensures { self.new ≡ named self.old.name bytes.items }
+        ensures { self.new ≡ named_file self.old.name bytes.items }
     {
         self.octets = bytes;
     }
@@ -70,7 +70,7 @@ impl File {
 
 /// The bytes of the first file of a name.
 pub(crate) fn bytes_at<'a>(files: &'a [File], name: &str) -> Option<&'a [u8]>
-    ensures { option_map (λ bytes. bytes.now) result ≡ bytes_at files.now name.now }
+    ensures { option_map (λ bytes. bytes.now) result ≡ file_bytes files.now name.now }
 {
     files
         .iter()

@@ -3,13 +3,13 @@
 //!
 //! ```
 //! let alloc = rt.alloc();
-//! let mut words = Vec::new(alloc);
+//! let mut args = Vec::new(alloc);
 //! for word in ["list", "disc.bin"] {
-//!     words.push(String::from_str(alloc, word)?)?;
+//!     args.push(String::from_str(alloc, word)?)?;
 //! }
 //! let name = String::from_str(alloc, "disc.bin")?;
 //! let files = Vec::from_array(alloc, [File::new(name, vec![in alloc; 0; 2353]?)])?;
-//! let ended = run_on_files(alloc, words, &files, &[]);
+//! let ended = run_on_files(alloc, args, &files, &[]);
 //! assert_eq!(rt; ended.status, 0);
 //! let text = b"0-0 nosync\nsectors 1 tail 1\n";
 //! assert_eq!(rt; ended.text.as_slice(), text.as_slice());

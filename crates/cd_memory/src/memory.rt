@@ -3,7 +3,7 @@
 ghost use Rattle.std.specs.Prelude.{◌≡◌};
 
 use crate::file::{File, bytes_at, set_bytes_at};
-use cd_jobs::{Host, OpenFault};
+use cd_program::{Host, OpenFault};
 use cd_stream::{Sink, SliceSource, ToWrite};
 use std::alloc::Global;
 

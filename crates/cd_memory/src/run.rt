@@ -1,11 +1,11 @@
 //! The program over files in memory.
 
 ghost use Rattle.std.specs.Prelude.{◌≡◌, map, string_bytes};
-ghost use Rattle.cd_memory.specs.Whole.{RunsOn, given, left_of};
+ghost use Rattle.cd_memory.specs.Whole.{RunsOn, environment, result_of};
 
 use crate::file::File;
 use crate::memory::Memory;
-use cd_jobs::do_words;
+use cd_program::run_args;
 use cd_stream::{Sink, ToWrite};
 use std::alloc::Global;
 
@@ -29,23 +29,24 @@ pub struct Ended {
 ///
 /// ```
 /// let alloc = rt.alloc();
-/// let mut words = Vec::new(alloc);
+/// let mut args = Vec::new(alloc);
 /// for word in ["list", "disc.bin"] {
-///     words.push(String::from_str(alloc, word)?)?;
+///     args.push(String::from_str(alloc, word)?)?;
 /// }
 /// let name = String::from_str(alloc, "disc.bin")?;
 /// let files = Vec::from_array(alloc, [File::new(name, vec![in alloc; 0; 2353]?)])?;
-/// let ended = run_on_files(alloc, words, &files, &[]);
+/// let ended = run_on_files(alloc, args, &files, &[]);
 /// assert_eq!(rt; ended.status, 0);
 /// let text = b"0-0 nosync\nsectors 1 tail 1\n";
 /// assert_eq!(rt; ended.text.as_slice(), text.as_slice());
 /// ```
-pub fn run_on_files(alloc: Global, words: Vec<String>, files: &[File], input: &[u8]) -> Ended
-    ensures { RunsOn (map string_bytes words.items) (given files.now input.now) (left_of result) }
+pub fn run_on_files(alloc: Global, args: Vec<String>, files: &[File], input: &[u8]) -> Ended
+    ensures { RunsOn (map string_bytes args.items) (environment files.now input.now)
+        (result_of result) }
 {
     let mut host = Memory::new(alloc, files, input);
     let mut out = ToWrite::new(Vec::new(alloc));
-    let status = do_words(alloc, &mut host, words, &mut out);
+    let status = run_args(alloc, &mut host, args, &mut out);
     let complete = out.failures() == 0;
     Ended {
         status,

@@ -1,4 +1,4 @@
--- Where the first sectors are equal, the patches that begin there have equal outcomes, and leave
+-- If the first sectors are equal, the patches that begin there have equal outcomes, and leave
 -- equal sectors.
 use Rattle.std.proofs.Common.{◌≡◌, ℕ, zero, suc, ◌+◌, ◌<◌, ◌≤◌, inl, inr, Bool, List, [], ◌∷◌, get_or, take, Some, refl, sym, ap, ◌∙◌, arith}
 use Rattle.std.specs.List.{All, slice_get}
@@ -9,12 +9,12 @@ use Rattle.std.proofs.lemmas.Option.{get_or_from_slice_get, slice_get_within}
 use Rattle.cd_script.specs.Patch.{IsPatch}
 use Rattle.cd_script.specs.declared.patch.Patch.{Patch}
 use Rattle.cd_patch.specs.Blocks.{block_limit, sector_at}
-use Rattle.cd_patch.specs.Run.{PatchRun}
+use Rattle.cd_patch.specs.Sequence.{PatchSequence}
 use Rattle.cd_patch.specs.declared.outcome.Outcome.{Outcome}
 use Rattle.cd_patch.proofs.FrameLemmas.{outcome-same}
 use Rattle.cd_patch.proofs.RangeLemmas.{blocks_met-most}
 use Rattle.cd_patch.proofs.RisingLemmas.{rising-from, rising-tail}
-use Rattle.cd_patch.proofs.RunLemmas.{Effects-agree, PatchRun-keeps}
+use Rattle.cd_patch.proofs.SequenceLemmas.{Effects-agree, PatchSequence-keeps}
 use Rattle.cd_patch.proofs.SectorAtLemmas.{same_front, same_front-at}
 
 -- the sectors below a block are equal
@@ -28,26 +28,26 @@ SameUpTo ps os os' block =
     (k : ℕ) (p : Patch) → slice_get ps k ≡ Some p → p.block ≤ block
     → slice_get os k ≡ slice_get os' k
 
-agree_behind : (carry : Bool) (ps : List Patch) (os os' : List Outcome) (base block : ℕ)
+agree_after : (carry : Bool) (ps : List Patch) (os os' : List Outcome) (base block : ℕ)
     (old old' last last' : List (List ℕ)) → All (λ q. block + 1 ≤ q.block) ps
-    → SameBelow old old' base (block + 1) → PatchRun carry ps os base old last
-    → PatchRun carry ps os' base old' last'
+    → SameBelow old old' base (block + 1) → PatchSequence carry ps os base old last
+    → PatchSequence carry ps os' base old' last'
     → SameUpTo ps os os' block × SameBelow last last' base (block + 1)
-agree_behind carry ps os os' base block old old' last last' from same h h' = (
+agree_after carry ps os os' base block old old' last last' from same h h' = (
   λ k p is up_to.
       let here : get_or ps k p ≡ p = get_or_from_slice_get ps k p p is in
       let low : block + 1 ≤ (get_or ps k p).block = from k p (slice_get_within ps k p is) in
       absurd (omega (arith, ap (λ (q : Patch). q.block) here)),
   λ b below.
-      PatchRun-keeps carry ps os base (block + 1) old last from h b below
+      PatchSequence-keeps carry ps os base (block + 1) old last from h b below
       ∙ same b below
-      ∙ sym (PatchRun-keeps carry ps os' base (block + 1) old' last' from h' b below),
+      ∙ sym (PatchSequence-keeps carry ps os' base (block + 1) old' last' from h' b below),
 )
 
 agree : (carry : Bool) (i base : ℕ) (ps : List Patch) (os os' : List Outcome)
     (old old' last last' : List (List ℕ)) → All IsPatch ps → IsNonDecreasingBy (λ p. p.block) ps
-    → SameBelow old old' base (base + (i + block_limit)) → PatchRun carry ps os base old last
-    → PatchRun carry ps os' base old' last'
+    → SameBelow old old' base (base + (i + block_limit)) → PatchSequence carry ps os base old last
+    → PatchSequence carry ps os' base old' last'
     → SameUpTo ps os os' (base + i) × SameBelow last last' base (base + i + 1)
 agree carry i base [] [] [] old old' last last' each rises same h h' = (
   λ k p is up_to. refl,
@@ -60,8 +60,8 @@ agree carry i base (p ∷ ps) [] os' old old' last last' each rises same h h' = 
 agree carry i base (p ∷ ps) (o ∷ os) [] old old' last last' each rises same h h' = elim h' [ ]
 agree carry i base (p ∷ ps) (o ∷ os) (o' ∷ os') old old' last last' each rises same h h' =
     elim (cases_lt (base + i) p.block) [
-      | inl behind ↦
-          agree_behind carry (p ∷ ps) (o ∷ os) (o' ∷ os') base (base + i) old old' last last'
+      | inl after ↦
+          agree_after carry (p ∷ ps) (o ∷ os) (o' ∷ os') base (base + i) old old' last last'
           (rising-from p ps (base + i + 1) rises (omega arith))
           (λ b below. same b (omega arith)) h h'
       | inr here ↦
@@ -85,8 +85,8 @@ agree carry i base (p ∷ ps) (o ∷ os) (o' ∷ os') old old' last last' each r
 
 pub runs-agree : (carry : Bool) (i base : ℕ) (ps : List Patch) (os os' : List Outcome)
     (old old' last last' : List (List ℕ)) → All IsPatch ps → IsNonDecreasingBy (λ p. p.block) ps
-    → take (i + block_limit) old ≡ take (i + block_limit) old' → PatchRun carry ps os base old last
-    → PatchRun carry ps os' base old' last'
+    → take (i + block_limit) old ≡ take (i + block_limit) old' → PatchSequence carry ps os base old last
+    → PatchSequence carry ps os' base old' last'
     → ((k : ℕ) (p : Patch) → slice_get ps k ≡ Some p → p.block ≤ base + i
     → slice_get os k ≡ slice_get os' k) × (take (i + 1) last ≡ take (i + 1) last')
 runs-agree carry i base ps os os' old old' last last' each rises same h h' =

@@ -7,13 +7,13 @@ use Rattle.std.proofs.lemmas.List.{get_or_append_left, get_or-append_right, get_
 use Rattle.std.proofs.lemmas.Option.{slice_get-get_or, slice_get_past}
 use Rattle.cd_script.specs.Patch.{IsPatch}
 use Rattle.cd_script.specs.declared.patch.Patch.{Patch}
-use Rattle.cd_sector.proofs.DefectLemmas.{consistent-told, mode1_told}
+use Rattle.cd_sector.proofs.DefectLemmas.{consistent-decided, mode1_decided}
 use Rattle.cd_sector.specs.Consistent.{IsConsistent, consistent, is_mode1, user_of}
 use Rattle.cd_sector.specs.Kind.{kind_of}
 use Rattle.cd_sector.specs.declared.kinds.SectorKind.TheVariants.{Mode1}
 use Rattle.cd_patch.specs.Blocks.{blocks_met, sector_at}
-use Rattle.cd_patch.specs.EditMeaning.{needs_consistent, builds_on, old_bytes}
-use Rattle.cd_patch.specs.Deciding.{by_difference, first_difference, first_of, first_refusal, joined_user, outcome, refusal_at, user_at, user_met}
+use Rattle.cd_patch.specs.EditMeaning.{needs_consistent, keeps_old, old_bytes}
+use Rattle.cd_patch.specs.Deciding.{by_difference, either_refusal, first_difference, first_refusal, joined_user, outcome, refusal_at, user_at, user_met}
 use Rattle.cd_patch.specs.Parts.{HaveUsers}
 use Rattle.cd_patch.proofs.RangeLemmas.{old-fits}
 use Rattle.cd_patch.proofs.SectorAtLemmas.{sector_at-add}
@@ -24,86 +24,86 @@ use Rattle.cd_patch.specs.declared.outcome.Outcome.TheVariants.{Damaged, Differs
 
 -- a block that does not refuse has a sector of Mode 1, which is consistent if that is asked
 abbrev pub IsMet : Bool → Option (List ℕ) → Type 0
-IsMet asks None = ⊥
-IsMet asks (Some sector) = (kind_of sector ≡ Mode1) × (asks ≡ true → consistent sector ≡ true)
+IsMet must_be_consistent None = ⊥
+IsMet must_be_consistent (Some sector) = (kind_of sector ≡ Mode1) × (must_be_consistent ≡ true → consistent sector ≡ true)
 
-no_refusal : (mode asks sound : Bool) (block : ℕ)
-    → (if not mode then Some (NotMode1 block) else if asks && not sound then Some (Damaged block)
+no_refusal : (mode must_be_consistent sound : Bool) (block : ℕ)
+    → (if not mode then Some (NotMode1 block) else if must_be_consistent && not sound then Some (Damaged block)
     else None) ≡ None
-    → (mode ≡ true) × (asks ≡ true → sound ≡ true)
+    → (mode ≡ true) × (must_be_consistent ≡ true → sound ≡ true)
 no_refusal true true true block h = (refl, λ _. refl)
 no_refusal true true false block h = cc
 no_refusal true false sound block h = (refl, λ e. cc)
-no_refusal false asks sound block h = cc
+no_refusal false must_be_consistent sound block h = cc
 
-pub refusal_at-none : (asks : Bool) (block : ℕ) (sector : Option (List ℕ))
-    → refusal_at asks block sector ≡ None → IsMet asks sector
-refusal_at-none asks block None h = cc
-refusal_at-none asks block (Some sector) h =
-    let both = no_refusal (is_mode1 (kind_of sector)) asks (consistent sector) block h in
-    ((mode1_told (kind_of sector)).0 both.0, both.1)
+pub refusal_at-none : (must_be_consistent : Bool) (block : ℕ) (sector : Option (List ℕ))
+    → refusal_at must_be_consistent block sector ≡ None → IsMet must_be_consistent sector
+refusal_at-none must_be_consistent block None h = cc
+refusal_at-none must_be_consistent block (Some sector) h =
+    let both = no_refusal (is_mode1 (kind_of sector)) must_be_consistent (consistent sector) block h in
+    ((mode1_decided (kind_of sector)).0 both.0, both.1)
 
-pub first_of-none : (a b : Option Outcome) → first_of a b ≡ None → (a ≡ None) × (b ≡ None)
+pub first_of-none : (a b : Option Outcome) → either_refusal a b ≡ None → (a ≡ None) × (b ≡ None)
 first_of-none None b h = (refl, h)
 first_of-none (Some x) b h = cc
 
 -- no block has refused
-pub first_refusal-none : (ss : List (List ℕ)) (base : ℕ) (asks : Bool) (block count : ℕ)
-    → first_refusal ss base asks block count ≡ None
-    → (k : ℕ) → k < count → IsMet asks (sector_at ss base (block + k))
-first_refusal-none ss base asks block zero h k below = absurd (omega arith)
-first_refusal-none ss base asks block (suc count) h zero below =
+pub first_refusal-none : (ss : List (List ℕ)) (base : ℕ) (must_be_consistent : Bool) (block count : ℕ)
+    → first_refusal ss base must_be_consistent block count ≡ None
+    → (k : ℕ) → k < count → IsMet must_be_consistent (sector_at ss base (block + k))
+first_refusal-none ss base must_be_consistent block zero h k below = absurd (omega arith)
+first_refusal-none ss base must_be_consistent block (suc count) h zero below =
     let both =
-    first_of-none (refusal_at asks block (sector_at ss base block))
-    (first_refusal ss base asks (block + 1) count) h in
+    first_of-none (refusal_at must_be_consistent block (sector_at ss base block))
+    (first_refusal ss base must_be_consistent (block + 1) count) h in
     let here : block ≡ block + 0 = omega arith in
-    subst (λ b. IsMet asks (sector_at ss base b)) here
-    (refusal_at-none asks block (sector_at ss base block) both.0)
-first_refusal-none ss base asks block (suc count) h (suc k) below =
+    subst (λ b. IsMet must_be_consistent (sector_at ss base b)) here
+    (refusal_at-none must_be_consistent block (sector_at ss base block) both.0)
+first_refusal-none ss base must_be_consistent block (suc count) h (suc k) below =
     let both =
-    first_of-none (refusal_at asks block (sector_at ss base block))
-    (first_refusal ss base asks (block + 1) count) h in
+    first_of-none (refusal_at must_be_consistent block (sector_at ss base block))
+    (first_refusal ss base must_be_consistent (block + 1) count) h in
     let there : block + 1 + k ≡ block + suc k = omega arith in
-    subst (λ b. IsMet asks (sector_at ss base b)) there
-    (first_refusal-none ss base asks (block + 1) count both.1 k (omega arith))
+    subst (λ b. IsMet must_be_consistent (sector_at ss base b)) there
+    (first_refusal-none ss base must_be_consistent (block + 1) count both.1 k (omega arith))
 
 -- the next block is asked if one does not refuse
-pub first_refusal-next : (ss : List (List ℕ)) (base : ℕ) (asks : Bool) (block count : ℕ)
-    → refusal_at asks block (sector_at ss base block) ≡ None
-    → first_refusal ss base asks block (suc count) ≡ first_refusal ss base asks (block + 1) count
-first_refusal-next ss base asks block count h =
-    ap (λ r. first_of r (first_refusal ss base asks (block + 1) count)) h
+pub first_refusal-next : (ss : List (List ℕ)) (base : ℕ) (must_be_consistent : Bool) (block count : ℕ)
+    → refusal_at must_be_consistent block (sector_at ss base block) ≡ None
+    → first_refusal ss base must_be_consistent block (suc count) ≡ first_refusal ss base must_be_consistent (block + 1) count
+first_refusal-next ss base must_be_consistent block count h =
+    ap (λ r. either_refusal r (first_refusal ss base must_be_consistent (block + 1) count)) h
 
 -- the first that refuses decides
-pub first_refusal-here : (ss : List (List ℕ)) (base : ℕ) (asks : Bool) (block count : ℕ)
+pub first_refusal-here : (ss : List (List ℕ)) (base : ℕ) (must_be_consistent : Bool) (block count : ℕ)
     (refusal : Outcome)
-    → refusal_at asks block (sector_at ss base block) ≡ Some refusal
-    → first_refusal ss base asks block (suc count) ≡ Some refusal
-first_refusal-here ss base asks block count refusal h =
-    ap (λ r. first_of r (first_refusal ss base asks (block + 1) count)) h
+    → refusal_at must_be_consistent block (sector_at ss base block) ≡ Some refusal
+    → first_refusal ss base must_be_consistent block (suc count) ≡ Some refusal
+first_refusal-here ss base must_be_consistent block count refusal h =
+    ap (λ r. either_refusal r (first_refusal ss base must_be_consistent (block + 1) count)) h
 
 -- what was searched is what the patch asks for
-pub refusal-asked : (carry builds asks : Bool) (ss : List (List ℕ)) (p : Patch) (count : ℕ)
+pub refusal-asked : (carry builds must_be_consistent : Bool) (ss : List (List ℕ)) (p : Patch) (count : ℕ)
     (found : Option Outcome)
-    → found ≡ first_refusal ss p.block asks p.block count → asks ≡ (builds && not carry)
-    → builds ≡ builds_on p.edit → count ≡ blocks_met p
+    → found ≡ first_refusal ss p.block must_be_consistent p.block count → must_be_consistent ≡ (builds && not carry)
+    → builds ≡ keeps_old p.edit → count ≡ blocks_met p
     → found ≡ first_refusal ss p.block (needs_consistent carry p.edit) p.block (blocks_met p)
-refusal-asked carry builds asks ss p count found told asked row met =
-    told
+refusal-asked carry builds must_be_consistent ss p count found known asked row met =
+    known
     ∙ ap (λ a. first_refusal ss p.block a p.block count) (asked ∙ ap (λ b. b && not carry) row)
     ∙ ap (first_refusal ss p.block (needs_consistent carry p.edit) p.block) met
 
 -- ---- joined user data
 
--- each of `count` blocks from one on has so many bytes of user data
+-- each of `count` blocks from one on has its bytes of user data
 abbrev pub BlocksHaveUsers : ℕ → List (List ℕ) → ℕ → ℕ → ℕ → Type 0
 BlocksHaveUsers size ss base block count =
     (k : ℕ) → k < count → length (user_at (sector_at ss base (block + k))) ≡ size
 
-users-behind : (size : ℕ) (ss : List (List ℕ)) (base block count : ℕ)
+users-after : (size : ℕ) (ss : List (List ℕ)) (base block count : ℕ)
     → BlocksHaveUsers size ss base block (suc count)
     → BlocksHaveUsers size ss base (block + 1) count
-users-behind size ss base block count h k below =
+users-after size ss base block count h k below =
     let same : block + 1 + k ≡ block + suc k = omega arith in
     ap (λ b. length (user_at (sector_at ss base b))) same ∙ h (suc k) (omega arith)
 
@@ -123,7 +123,7 @@ length-joined size ss base block (suc count) h =
     let others = joined_user ss base (block + 1) count in
     let one = first-user size ss base block count h in
     let two =
-    length-joined size ss base (block + 1) count (users-behind size ss base block count h) in
+    length-joined size ss base (block + 1) count (users-after size ss base block count h) in
     let three = length-append first others in
     omega arith
 
@@ -151,7 +151,7 @@ joined-byte size ss base block (suc count) h (suc k) j below inside =
     let there : block + 1 + k ≡ block + suc k = omega arith in
     get_or-append_right first others size (size * suc k + j) 0 one (omega arith)
     ∙ ap (λ n. get_or others n 0) place
-    ∙ joined-byte size ss base (block + 1) count (users-behind size ss base block count h) k j
+    ∙ joined-byte size ss base (block + 1) count (users-after size ss base block count h) k j
     (omega arith) inside
     ∙ ap (λ b. get_or (user_at (sector_at ss base b)) j 0) there
 
@@ -262,73 +262,73 @@ read-byte ss place sector inside read =
 -- ---- the search for a refusal
 
 -- what was asked of the sector at `i` in the name of a block is what is asked of block base + k
-pub asked_at : (ss : List (List ℕ)) (base : ℕ) (asks : Bool) (k i block : ℕ)
+pub asked_at : (ss : List (List ℕ)) (base : ℕ) (must_be_consistent : Bool) (k i block : ℕ)
     (refusal : Option Outcome)
-    → refusal ≡ refusal_at asks block (slice_get ss i) → i ≡ k → block ≡ base + k
-    → refusal_at asks (base + k) (sector_at ss base (base + k)) ≡ refusal
-asked_at ss base asks k i block refusal told here named =
-    ap (refusal_at asks (base + k)) (sector_at-add ss base k)
-    ∙ ap (λ n. refusal_at asks (base + k) (slice_get ss n)) (sym here)
-    ∙ ap (λ b. refusal_at asks b (slice_get ss i)) (sym named)
-    ∙ sym told
+    → refusal ≡ refusal_at must_be_consistent block (slice_get ss i) → i ≡ k → block ≡ base + k
+    → refusal_at must_be_consistent (base + k) (sector_at ss base (base + k)) ≡ refusal
+asked_at ss base must_be_consistent k i block refusal known here named =
+    ap (refusal_at must_be_consistent (base + k)) (sector_at-add ss base k)
+    ∙ ap (λ n. refusal_at must_be_consistent (base + k) (slice_get ss n)) (sym here)
+    ∙ ap (λ b. refusal_at must_be_consistent b (slice_get ss i)) (sym named)
+    ∙ sym known
 
-pub first_refusal-more : (ss : List (List ℕ)) (base : ℕ) (asks : Bool) (k count : ℕ)
+pub first_refusal-more : (ss : List (List ℕ)) (base : ℕ) (must_be_consistent : Bool) (k count : ℕ)
     (refusal : Option Outcome)
-    → refusal_at asks (base + k) (sector_at ss base (base + k)) ≡ refusal → is_some refusal ≡ false
-    → first_refusal ss base asks (base + k) (suc count)
-    ≡ first_refusal ss base asks (base + (k + 1)) count
-first_refusal-more ss base asks k count None told none =
+    → refusal_at must_be_consistent (base + k) (sector_at ss base (base + k)) ≡ refusal → is_some refusal ≡ false
+    → first_refusal ss base must_be_consistent (base + k) (suc count)
+    ≡ first_refusal ss base must_be_consistent (base + (k + 1)) count
+first_refusal-more ss base must_be_consistent k count None known none =
     let next : base + k + 1 ≡ base + (k + 1) = omega arith in
-    first_refusal-next ss base asks (base + k) count told
-    ∙ ap (λ b. first_refusal ss base asks b count) next
-first_refusal-more ss base asks k count (Some refusal) told none = cc
+    first_refusal-next ss base must_be_consistent (base + k) count known
+    ∙ ap (λ b. first_refusal ss base must_be_consistent b count) next
+first_refusal-more ss base must_be_consistent k count (Some refusal) known none = cc
 
-pub first_refusal-stop : (ss : List (List ℕ)) (base : ℕ) (asks : Bool) (k count : ℕ)
+pub first_refusal-stop : (ss : List (List ℕ)) (base : ℕ) (must_be_consistent : Bool) (k count : ℕ)
     (refusal : Option Outcome)
-    → refusal_at asks (base + k) (sector_at ss base (base + k)) ≡ refusal → is_some refusal ≡ true
-    → first_refusal ss base asks (base + k) (suc count) ≡ refusal
-first_refusal-stop ss base asks k count None told some = cc
-first_refusal-stop ss base asks k count (Some refusal) told some =
-    first_refusal-here ss base asks (base + k) count refusal told
+    → refusal_at must_be_consistent (base + k) (sector_at ss base (base + k)) ≡ refusal → is_some refusal ≡ true
+    → first_refusal ss base must_be_consistent (base + k) (suc count) ≡ refusal
+first_refusal-stop ss base must_be_consistent k count None known some = cc
+first_refusal-stop ss base must_be_consistent k count (Some refusal) known some =
+    first_refusal-here ss base must_be_consistent (base + k) count refusal known
 
 -- ---- what an accepted patch has found
 
 -- `count` sectors of Mode 1, each consistent if that is asked
-pub record AreMet (asks : Bool) (ss : List (List ℕ)) (count : ℕ) : Type 0 where
+pub record AreMet (must_be_consistent : Bool) (ss : List (List ℕ)) (count : ℕ) : Type 0 where
   pub enough : count ≤ length ss
   pub mode : (k : ℕ) → k < count → kind_of (get_or ss k []) ≡ Mode1
-  pub sound : asks ≡ true → (k : ℕ) → k < count → IsConsistent (get_or ss k [])
+  pub sound : must_be_consistent ≡ true → (k : ℕ) → k < count → IsConsistent (get_or ss k [])
 
-IsMet-sector : (ss : List (List ℕ)) (base : ℕ) (asks : Bool) (k : ℕ)
-    → IsMet asks (sector_at ss base (base + k)) → IsMet asks (slice_get ss k)
-IsMet-sector ss base asks k h = subst (IsMet asks) (sector_at-add ss base k) h
+IsMet-sector : (ss : List (List ℕ)) (base : ℕ) (must_be_consistent : Bool) (k : ℕ)
+    → IsMet must_be_consistent (sector_at ss base (base + k)) → IsMet must_be_consistent (slice_get ss k)
+IsMet-sector ss base must_be_consistent k h = subst (IsMet must_be_consistent) (sector_at-add ss base k) h
 
-met_inside : (ss : List (List ℕ)) (asks : Bool) (k : ℕ) → IsMet asks (slice_get ss k)
+met_inside : (ss : List (List ℕ)) (must_be_consistent : Bool) (k : ℕ) → IsMet must_be_consistent (slice_get ss k)
     → k < length ss
-met_inside ss asks k h = elim (cases_lt k (length ss)) [
+met_inside ss must_be_consistent k h = elim (cases_lt k (length ss)) [
   | inl inside ↦ inside
-  | inr past ↦ absurd (subst (IsMet asks) (slice_get_past ss k past) h)
+  | inr past ↦ absurd (subst (IsMet must_be_consistent) (slice_get_past ss k past) h)
 ]
 
-met_sector : (ss : List (List ℕ)) (asks : Bool) (k : ℕ) → IsMet asks (slice_get ss k)
-    → k < length ss → IsMet asks (Some (get_or ss k []))
-met_sector ss asks k h inside = subst (IsMet asks) (slice_get-get_or ss k [] inside) h
+met_sector : (ss : List (List ℕ)) (must_be_consistent : Bool) (k : ℕ) → IsMet must_be_consistent (slice_get ss k)
+    → k < length ss → IsMet must_be_consistent (Some (get_or ss k []))
+met_sector ss must_be_consistent k h inside = subst (IsMet must_be_consistent) (slice_get-get_or ss k [] inside) h
 
-pub AreMet-from : (ss : List (List ℕ)) (base : ℕ) (asks : Bool) (count : ℕ)
-    → first_refusal ss base asks base count ≡ None → AreMet asks ss count
-AreMet-from ss base asks count none =
-    let each : (k : ℕ) → k < count → IsMet asks (slice_get ss k) = λ k below.
-    IsMet-sector ss base asks k (first_refusal-none ss base asks base count none k below) in
-    let one : (k : ℕ) → k < count → IsMet asks (Some (get_or ss k [])) = λ k below.
-    met_sector ss asks k (each k below) (met_inside ss asks k (each k below)) in
+pub AreMet-from : (ss : List (List ℕ)) (base : ℕ) (must_be_consistent : Bool) (count : ℕ)
+    → first_refusal ss base must_be_consistent base count ≡ None → AreMet must_be_consistent ss count
+AreMet-from ss base must_be_consistent count none =
+    let each : (k : ℕ) → k < count → IsMet must_be_consistent (slice_get ss k) = λ k below.
+    IsMet-sector ss base must_be_consistent k (first_refusal-none ss base must_be_consistent base count none k below) in
+    let one : (k : ℕ) → k < count → IsMet must_be_consistent (Some (get_or ss k [])) = λ k below.
+    met_sector ss must_be_consistent k (each k below) (met_inside ss must_be_consistent k (each k below)) in
     let enough : count ≤ length ss = elim (cases_lt (length ss) count) [
-      | inl short ↦ absurd (omega (arith, met_inside ss asks (length ss) (each (length ss) short)))
+      | inl short ↦ absurd (omega (arith, met_inside ss must_be_consistent (length ss) (each (length ss) short)))
       | inr long ↦ long
     ] in
     record {
       enough = enough;
       mode = λ k below. (one k below).0;
-      sound = λ asked k below. (consistent-told (get_or ss k [])).0 ((one k below).1 asked);
+      sound = λ asked k below. (consistent-decided (get_or ss k [])).0 ((one k below).1 asked);
     }
 
 -- ---- the outcome
@@ -347,14 +347,14 @@ outcome-decided : (carry : Bool) (ss : List (List ℕ)) (base : ℕ) (p : Patch)
     → place ≡ first_difference p.offset (drop p.offset (user_met ss base p)) (old_bytes p.edit)
     → outcome carry ss base p ≡ by_difference p.block place
 unfolding outcome
-outcome-decided carry ss base p place none told =
+outcome-decided carry ss base p place none known =
     ap (λ r. unwrap_or r
     (by_difference p.block
     (first_difference p.offset (drop p.offset (user_met ss base p)) (old_bytes p.edit)))) none
-    ∙ ap (by_difference p.block) (sym told)
+    ∙ ap (by_difference p.block) (sym known)
 
 -- what was found in the sectors is what the patch's blocks have
-difference-told : (ss : List (List ℕ)) (p : Patch) (old : List ℕ) (place : Option ℕ) → IsPatch p
+difference-found : (ss : List (List ℕ)) (p : Patch) (old : List ℕ) (place : Option ℕ) → IsPatch p
     → old ≡ old_bytes p.edit
     → HaveUsers ss (blocks_met p) → blocks_met p ≤ length ss
     → ((base count : ℕ) → HaveUsers ss count → count ≤ length ss
@@ -362,7 +362,7 @@ difference-told : (ss : List (List ℕ)) (p : Patch) (old : List ℕ) (place : O
     → place ≡ first_difference p.offset (drop p.offset (joined_user ss base base count)) old)
     → place ≡ first_difference p.offset (drop p.offset (user_met ss p.block p)) (old_bytes p.edit)
 unfolding user_met
-difference-told ss p old place patch is users enough value =
+difference-found ss p old place patch is users enough value =
     let fits = old-fits p patch in
     let size = ap length is in
     value p.block (blocks_met p) users enough (omega (arith, fits.0))
@@ -370,7 +370,7 @@ difference-told ss p old place patch is users enough value =
     (drop p.offset (joined_user ss p.block p.block (blocks_met p)))) is
 
 -- if no block refuses, the difference that was found decides
-pub outcome-told : (carry : Bool) (ss : List (List ℕ)) (p : Patch) (old : List ℕ) (place : Option ℕ)
+pub outcome-found : (carry : Bool) (ss : List (List ℕ)) (p : Patch) (old : List ℕ) (place : Option ℕ)
     → IsPatch p
     → first_refusal ss p.block (needs_consistent carry p.edit) p.block (blocks_met p) ≡ None
     → old ≡ old_bytes p.edit → HaveUsers ss (blocks_met p)
@@ -378,10 +378,10 @@ pub outcome-told : (carry : Bool) (ss : List (List ℕ)) (p : Patch) (old : List
     → p.offset + length old ≤ 2048 * count
     → place ≡ first_difference p.offset (drop p.offset (joined_user ss base base count)) old)
     → outcome carry ss p.block p ≡ by_difference p.block place
-outcome-told carry ss p old place patch accepted is users value =
+outcome-found carry ss p old place patch accepted is users value =
     let met = AreMet-from ss p.block (needs_consistent carry p.edit) (blocks_met p) accepted in
     outcome-decided carry ss p.block p place accepted
-    (difference-told ss p old place patch is users met.enough value)
+    (difference-found ss p old place patch is users met.enough value)
 
 pub Differs-same : (block offset block' offset' : ℕ) → block ≡ block' → offset ≡ offset'
     → Differs block offset ≡ Differs block' offset'
@@ -391,6 +391,6 @@ Differs-same block offset block' offset' one two =
 pub Some-same : (i j : ℕ) → i ≡ j → Some i ≡ Some j
 Some-same i j same = ap (λ n. Some n) same
 
-pub none-told : (refusal : Option Outcome) → is_some refusal ≡ false → refusal ≡ None
-none-told None none = refl
-none-told (Some r) none = cc
+pub none-not_some : (refusal : Option Outcome) → is_some refusal ≡ false → refusal ≡ None
+none-not_some None none = refl
+none-not_some (Some r) none = cc

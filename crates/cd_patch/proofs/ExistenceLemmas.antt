@@ -22,14 +22,14 @@ use Rattle.cd_sector.proofs.SectorLemmas.{mode1-parts}
 use Rattle.cd_patch.specs.Blocks.{blocks_met, sector_at}
 use Rattle.cd_patch.specs.EditMeaning.{EditMeaning, keeps_defect, meaning, new_header, with_address}
 use Rattle.cd_patch.specs.Deciding.{outcome}
-use Rattle.cd_patch.specs.Effect.{Effect, EffectOf, IsApplied, IsMade, IsRemade, MadeBy, patched_user, user_part}
-use Rattle.cd_patch.specs.Leaves.{IsSector}
-use Rattle.cd_patch.specs.Run.{PatchRun}
+use Rattle.cd_patch.specs.Effect.{Becomes, EditResult, Effect, EffectOf, IsApplied, IsRemade, patched_user, user_part}
+use Rattle.cd_patch.specs.BySector.{IsSector}
+use Rattle.cd_patch.specs.Sequence.{PatchSequence}
 use Rattle.cd_patch.specs.declared.outcome.Outcome.{Outcome}
 use Rattle.cd_patch.specs.declared.outcome.Outcome.TheVariants.{Applied, Damaged, Differs, NoBlock, NotMode1}
 use Rattle.cd_patch.proofs.AcceptedLemmas.{AreThere, accepted-there}
 use Rattle.cd_patch.proofs.general.Elements.{cases_Option, list_of_choices}
-use Rattle.cd_patch.proofs.LeavesLemmas.{Effect-sectors, meets-cases}
+use Rattle.cd_patch.proofs.BySectorLemmas.{Effect-sectors, meets-cases}
 use Rattle.cd_patch.proofs.MeaningLemmas.{AreBytes-address, AreBytes-all, IsAddressAlone}
 use Rattle.cd_patch.proofs.MeaningLemmas.{patch-fits}
 use Rattle.cd_patch.proofs.SectorAtLemmas.{sector_at-add, sector_at-from, sector_at-none, sector_at-within}
@@ -63,8 +63,8 @@ IsHeader-of sector h mode = record {
   whole = header-mode1 sector h mode;
 }
 
-mode-behind : (header : List ℕ) → IsHeader header → drop 3 header ≡ 1 ∷ []
-mode-behind header h =
+mode-after : (header : List ℕ) → IsHeader header → drop 3 header ≡ 1 ∷ []
+mode-after header h =
     ap (drop 3) (sym h.whole) ∙ ap (λ n. drop n (h.address ++ 1 ∷ [])) (sym h.size)
     ∙ drop-append_seam h.address (1 ∷ [])
 
@@ -76,7 +76,7 @@ IsHeader-new m (Some bcd) header only h = record {
   address = bcd;
   bytes = AreBytes-address bcd only.is_address;
   size = ap length only.is_address.are;
-  whole = ap (λ rest. bcd ++ rest) (sym (mode-behind header h));
+  whole = ap (λ rest. bcd ++ rest) (sym (mode-after header h));
 }
 
 sector_remade : (header user : List ℕ) → IsHeader header → AreBytes user → length user ≡ USER_SIZE
@@ -94,7 +94,7 @@ sector_remade header user h bytes size =
 -- by either rule
 sector_made : (carried : Bool) (old header user : List ℕ) → IsSector old → IsHeader header
     → AreBytes user → length user ≡ USER_SIZE
-    → (after : List ℕ) × MadeBy carried old header user after
+    → (after : List ℕ) × Becomes carried old header user after
 sector_made false old header user h k bytes size = sector_remade header user k bytes size
 sector_made true old header user h k bytes size =
     let four = length-append k.address (1 ∷ []) in
@@ -111,7 +111,7 @@ record Follows (carry : Bool) (base : ℕ) (p : Patch) (old : List (List ℕ)) (
     (after : List ℕ) : Type 0 where
   met : (before : List ℕ) → p.block ≤ block → block < p.block + blocks_met p
       → sector_at old base block ≡ Some before
-      → IsMade carry p.edit before (user_part (patched_user old base p) (block - p.block)) after
+      → EditResult carry p.edit before (user_part (patched_user old base p) (block - p.block)) after
   others : (block < p.block) ⊎ (p.block + blocks_met p ≤ block)
       → sector_at old base block ≡ Some after
 
@@ -138,12 +138,12 @@ followed carry base p old kept each there block before is = elim (meets-cases p 
           met = λ b from to was.
               let e = same_Some before b (sym is ∙ was) in
               subst
-              (λ s. IsMade carry p.edit s
+              (λ s. EditResult carry p.edit s
               (user_part (patched_user old base p) (block - p.block)) made.0) e made.1;
           others = λ side.
               elim side [
                 | inl below ↦ absurd (omega (arith, met.0))
-                | inr behind ↦ absurd (omega (arith, met.1))
+                | inr after ↦ absurd (omega (arith, met.1))
               ];
         },
       )
@@ -151,7 +151,7 @@ followed carry base p old kept each there block before is = elim (meets-cases p 
     before,
     record {
       met = λ b from to was.
-          elim other [ inl below ↦ absurd (omega arith) | inr behind ↦ absurd (omega arith) ];
+          elim other [ inl below ↦ absurd (omega arith) | inr after ↦ absurd (omega arith) ];
       others = λ side. is;
     },
   )
@@ -181,7 +181,7 @@ applied_to carry base p old kept each there =
           count = count;
           met = λ k before after inside is was.
               let e : p.block + k - p.block ≡ k = omega arith in
-              subst (λ n. IsMade carry p.edit before
+              subst (λ n. EditResult carry p.edit before
               (user_part (patched_user old base p) n) after) e
               ((at (p.block + k) after was).met before (omega arith) (omega arith) is);
           others = λ block side. elim (cases_Option (sector_at new base block)) [
@@ -204,7 +204,7 @@ Effect-exists carry base p old kept each = by_outcome (outcome carry old base p)
 
 pub run-exists : (carry : Bool) (ps : List Patch) (base : ℕ) (old : List (List ℕ)) → All IsPatch ps
     → All IsSector old
-    → (os : List Outcome) × (last : List (List ℕ)) × PatchRun carry ps os base old last
+    → (os : List Outcome) × (last : List (List ℕ)) × PatchSequence carry ps os base old last
     × All IsSector last
 run-exists carry [] base old kept each = ([], old, refl, each)
 run-exists carry (p ∷ ps) base old kept each =

@@ -6,11 +6,11 @@ use Rattle.std.proofs.lemmas.Bool.{cases_lt}
 use Rattle.std.proofs.lemmas.List.{length-append}
 use Rattle.cd_script.specs.declared.patch.Patch.{Patch}
 use Rattle.cd_sector.specs.declared.sector.TheConstants.{USER_SIZE}
-use Rattle.cd_delta.specs.Writing.{written}
+use Rattle.cd_delta.specs.Writing.{with_range}
 use Rattle.cd_patch.specs.Blocks.{blocks_met, sector_at}
 use Rattle.cd_patch.specs.EditMeaning.{needs_consistent, new_bytes, old_bytes}
-use Rattle.cd_patch.specs.Deciding.{by_difference, first_difference, first_of, first_refusal, joined_user, outcome, refusal_at, user_at, user_met}
-use Rattle.cd_patch.specs.Effect.{Effect, EffectOf, IsApplied, IsMade, patched_user, user_part}
+use Rattle.cd_patch.specs.Deciding.{by_difference, either_refusal, first_difference, first_refusal, joined_user, outcome, refusal_at, user_at, user_met}
+use Rattle.cd_patch.specs.Effect.{EditResult, Effect, EffectOf, IsApplied, patched_user, user_part}
 use Rattle.cd_patch.specs.declared.outcome.Outcome.{Outcome}
 use Rattle.cd_patch.specs.declared.outcome.Outcome.TheVariants.{Applied, Damaged, Differs, NoBlock, NotMode1}
 use Rattle.cd_patch.proofs.SectorAtLemmas.{sector_at-back, sector_at-frame, sector_at-front, sector_at-missing}
@@ -21,15 +21,15 @@ HaveSame sectors base others middle first count =
     (block : ℕ) → first ≤ block → block < first + count
     → sector_at sectors base block ≡ sector_at others middle block
 
-first_refusal-same : (sectors others : List (List ℕ)) (base middle : ℕ) (asks : Bool)
+first_refusal-same : (sectors others : List (List ℕ)) (base middle : ℕ) (must_be_consistent : Bool)
     (first count : ℕ) → HaveSame sectors base others middle first count
-    → first_refusal sectors base asks first count ≡ first_refusal others middle asks first count
-first_refusal-same sectors others base middle asks first zero h = refl
-first_refusal-same sectors others base middle asks first (suc count) h =
-    ap (λ s. first_of (refusal_at asks first s) (first_refusal sectors base asks (first + 1) count))
+    → first_refusal sectors base must_be_consistent first count ≡ first_refusal others middle must_be_consistent first count
+first_refusal-same sectors others base middle must_be_consistent first zero h = refl
+first_refusal-same sectors others base middle must_be_consistent first (suc count) h =
+    ap (λ s. either_refusal (refusal_at must_be_consistent first s) (first_refusal sectors base must_be_consistent (first + 1) count))
     (h first (omega arith) (omega arith))
-    ∙ ap (first_of (refusal_at asks first (sector_at others middle first)))
-    (first_refusal-same sectors others base middle asks (first + 1) count
+    ∙ ap (either_refusal (refusal_at must_be_consistent first (sector_at others middle first)))
+    (first_refusal-same sectors others base middle must_be_consistent (first + 1) count
     (λ block low high. h block (omega arith) (omega arith)))
 
 joined_user-same : (sectors others : List (List ℕ)) (base middle first count : ℕ)
@@ -55,7 +55,7 @@ pub patched_user-same : (sectors others : List (List ℕ)) (base middle : ℕ) (
     → patched_user sectors base p ≡ patched_user others middle p
 unfolding patched_user
 patched_user-same sectors others base middle p h =
-    ap (λ user. written user p.offset (new_bytes p.edit))
+    ap (λ user. with_range user p.offset (new_bytes p.edit))
     (user_met-same sectors others base middle p h)
 
 pub outcome-same : (carry : Bool) (sectors others : List (List ℕ)) (base middle : ℕ) (p : Patch)
@@ -91,7 +91,7 @@ outcome-missing carry sectors base p missing =
     ap (λ n. unwrap_or
     (first_refusal sectors base (needs_consistent carry p.edit) p.block n) otherwise) met.1
     ∙ ap (λ s. unwrap_or
-    (first_of (refusal_at (needs_consistent carry p.edit) p.block s)
+    (either_refusal (refusal_at (needs_consistent carry p.edit) p.block s)
     (first_refusal sectors base (needs_consistent carry p.edit) (p.block + 1) met.0)) otherwise)
     (sector_at-missing sectors base p.block missing)
 
@@ -152,7 +152,7 @@ IsApplied-frame carry front window window' more base block p e from room h =
             length-append window more,
           );
       met = λ k before after inside is was.
-          subst (λ user. IsMade carry p.edit before (user_part user k) after)
+          subst (λ user. EditResult carry p.edit before (user_part user k) after)
           (sym (patched_user-same (front ++ (window ++ more)) window base block p same))
           (h.met k before after inside (sym (same (p.block + k) (omega arith) (omega arith)) ∙ is)
           (sym (same' (p.block + k) (omega arith) (omega arith)) ∙ was));
@@ -160,18 +160,18 @@ IsApplied-frame carry front window window' more base block p e from room h =
         | inl below ↦
             sector_at-front front (window' ++ more) base b (omega arith)
             ∙ sym (sector_at-front front (window ++ more) base b (omega arith))
-        | inr behind ↦ elim (cases_lt b (block + length window)) [
+        | inr after ↦ elim (cases_lt b (block + length window)) [
           | inl inside ↦
-              sector_at-frame front window' more base block b e behind
+              sector_at-frame front window' more base block b e after
               (inl (omega (arith, h.count)))
               ∙ h.others b side
-              ∙ sym (sector_at-frame front window more base block b e behind (inl inside))
+              ∙ sym (sector_at-frame front window more base block b e after (inl inside))
           | inr past ↦
-              sector_at-back front (window' ++ more) base block b e behind
+              sector_at-back front (window' ++ more) base block b e after
               ∙ sector_at-back window' more block (block + length window) b
               (ap (λ n. block + n) (sym h.count)) past
               ∙ sym (sector_at-back window more block (block + length window) b refl past)
-              ∙ sym (sector_at-back front (window ++ more) base block b e behind)
+              ∙ sym (sector_at-back front (window ++ more) base block b e after)
         ]
       ];
     }

@@ -4,13 +4,13 @@ pub mod CarryLemmas
 mod DecidingLemmas
 pub mod ExistenceLemmas
 pub mod FrameLemmas
-pub mod LeavesLemmas
-pub mod MadeLemmas
+pub mod BySectorLemmas
+pub mod BecomesLemmas
 mod MeaningLemmas
 mod PartLemmas
 pub mod RangeLemmas
 pub mod RisingLemmas
-pub mod RunLemmas
+pub mod SequenceLemmas
 pub mod SectorAtLemmas
 mod TakingLemmas
 pub mod UserLemmas

@@ -1,4 +1,4 @@
--- What the meaning of an edit keeps to, with a row for each edit; no other proof tells edits apart.
+-- What the meaning of an edit keeps to, with a row for each edit; no other proof has a case for each.
 use Rattle.std.proofs.Common.{◌≡◌, ℕ, ◌+◌, ◌*◌, ◌<◌, ◌≤◌, inl, inr, true, false, List, [], ◌∷◌}
 use Rattle.std.proofs.Common.{length, get_or, replicate, Option, Some, None, refl, sym, subst}
 use Rattle.std.proofs.Common.{arith, lit<}
@@ -9,7 +9,7 @@ use Rattle.std.proofs.lemmas.Bool.{cases_lt}
 use Rattle.std.proofs.lemmas.List.{get_or_past, length-replicate}
 use Rattle.std.proofs.lemmas.List.Elements.{All-cons, All-nil, All-replicate}
 use Rattle.cd_code.specs.Field.{AreBytes}
-use Rattle.cd_script.specs.Address.{IsAddress, bcd}
+use Rattle.cd_script.specs.Address.{IsAddress, packed_bcd}
 use Rattle.cd_script.specs.Limits.{offset_limit}
 use Rattle.cd_script.specs.Patch.{IsBytes, IsEditAt, IsPatch}
 use Rattle.cd_script.specs.declared.patch.Edit.{Edit}
@@ -23,19 +23,19 @@ use Rattle.cd_patch.specs.EditMeaning.{EditMeaning, meaning}
 pub record IsAddressAlone (m : EditMeaning) (address : List ℕ) : Type 0 where
   pub is_address : IsAddress address
   pub no_bytes : m.bytes ≡ []
-  pub builds_on : m.builds_on ≡ true
+  pub keeps_old : m.keeps_old ≡ true
 
 pub record FitsMeaning (offset : ℕ) (m : EditMeaning) : Type 0 where
   -- the bytes lie in as many blocks as a patch may meet
   pub room : offset + length m.bytes ≤ USER_SIZE * block_limit
   pub each : AreBytes m.bytes
   -- no more are asked for than are written
-  pub asks : length m.old ≤ length m.bytes
+  pub must_be_consistent : length m.old ≤ length m.bytes
   -- an edit that builds on the sector and writes no address writes bytes
-  pub some : m.builds_on ≡ true → m.address ≡ None → 1 ≤ length m.bytes
+  pub some : m.keeps_old ≡ true → m.address ≡ None → 1 ≤ length m.bytes
   pub address : IfSome m.address (IsAddressAlone m)
-  -- one that makes the sector anew writes neither
-  pub anew : m.builds_on ≡ false → (m.bytes ≡ []) × (m.address ≡ None)
+  -- one that encodes the sector again writes neither
+  pub encoded : m.keeps_old ≡ false → (m.bytes ≡ []) × (m.address ≡ None)
 
 -- ---- bytes
 
@@ -46,7 +46,7 @@ AreBytes-all v h = λ i. elim (cases_lt i (length v)) [
 ]
 
 -- the three bytes of an address
-bcd-byte : (n : ℕ) → n < 100 → bcd n < 256
+bcd-byte : (n : ℕ) → n < 100 → packed_bcd n < 256
 bcd-byte n lt = omega arith
 
 pub AreBytes-address : (bytes : List ℕ) → IsAddress bytes → AreBytes bytes
@@ -56,10 +56,10 @@ AreBytes-address bytes h =
     let second = bcd-byte h.second (omega (arith, h.is_second)) in
     let fraction = bcd-byte h.fraction (omega (arith, h.is_fraction)) in
     subst AreBytes (sym h.are)
-    (AreBytes-all (bcd h.minute ∷ bcd h.second ∷ bcd h.fraction ∷ [])
-    (All-cons P (bcd h.minute) (bcd h.second ∷ bcd h.fraction ∷ []) minute
-    (All-cons P (bcd h.second) (bcd h.fraction ∷ []) second
-    (All-cons P (bcd h.fraction) [] fraction (All-nil P)))))
+    (AreBytes-all (packed_bcd h.minute ∷ packed_bcd h.second ∷ packed_bcd h.fraction ∷ [])
+    (All-cons P (packed_bcd h.minute) (packed_bcd h.second ∷ packed_bcd h.fraction ∷ []) minute
+    (All-cons P (packed_bcd h.second) (packed_bcd h.fraction ∷ []) second
+    (All-cons P (packed_bcd h.fraction) [] fraction (All-nil P)))))
 
 -- as many old bytes are asked for as new ones are written, or none
 length-asked : (bytes : List ℕ) (was : Option (List ℕ))
@@ -75,34 +75,34 @@ fits_meaning : (offset : ℕ) (edit : Edit) → offset ≤ offset_limit → IsEd
 fits_meaning offset (Put bytes was) low h = record {
   room = omega (arith, h.0.most);
   each = AreBytes-all bytes h.0.each;
-  asks = length-asked bytes was h.1;
+  must_be_consistent = length-asked bytes was h.1;
   some = λ builds none. h.0.some;
   address = tt;
-  anew = λ anew. cc;
+  encoded = λ encoded. cc;
 }
 fits_meaning offset (Fill count value) low h = record {
   room = omega (arith, h.1, length-replicate {A = ℕ} count value);
   each = AreBytes-all (replicate count value) (All-replicate (λ b. b < 256) count value h.2);
-  asks = omega arith;
+  must_be_consistent = omega arith;
   some = λ builds none. omega (arith, length-replicate {A = ℕ} count value, h.0);
   address = tt;
-  anew = λ anew. cc;
+  encoded = λ encoded. cc;
 }
 fits_meaning offset Rebuild low h = record {
   room = omega arith;
   each = λ i. lit< tt;
-  asks = omega arith;
+  must_be_consistent = omega arith;
   some = λ builds none. cc;
   address = tt;
-  anew = λ anew. (refl, refl);
+  encoded = λ encoded. (refl, refl);
 }
 fits_meaning offset (Address address) low h = record {
   room = omega arith;
   each = λ i. lit< tt;
-  asks = omega arith;
+  must_be_consistent = omega arith;
   some = λ builds none. cc;
-  address = record { is_address = h.1; no_bytes = refl; builds_on = refl };
-  anew = λ anew. cc;
+  address = record { is_address = h.1; no_bytes = refl; keeps_old = refl };
+  encoded = λ encoded. cc;
 }
 
 -- a patch's edit fits at its offset
@@ -110,7 +110,7 @@ pub patch-fits : (p : Patch) → IsPatch p → FitsMeaning p.offset (meaning p.e
 patch-fits p h = fits_meaning p.offset p.edit h.offset h.edit
 
 -- the address of an edit that has one
-pub address-alone : {offset : ℕ} {m : EditMeaning} {address : List ℕ} → FitsMeaning offset m
+pub address-only : {offset : ℕ} {m : EditMeaning} {address : List ℕ} → FitsMeaning offset m
     → m.address ≡ Some address → IsAddressAlone m address
-address-alone {offset} {m} {address} fits is =
+address-only {offset} {m} {address} fits is =
     subst (λ a. IfSome a (IsAddressAlone m)) is fits.address

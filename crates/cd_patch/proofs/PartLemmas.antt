@@ -4,12 +4,12 @@ use Rattle.std.specs.Prelude.{slice_range}
 use Rattle.std.proofs.lemmas.Bool.{cases_lt}
 use Rattle.std.proofs.lemmas.List.{ext_get_or, get_or_default, get_or-drop, get_or-replicate, get_or-set_other, get_or-set_same, get_or-take, length-drop, length-replicate, length-set, length-take-le}
 use Rattle.cd_delta.proofs.UserLemmas.{length-written, written-range, written-other}
-use Rattle.cd_delta.specs.Writing.{written}
+use Rattle.cd_delta.specs.Writing.{with_range}
 use Rattle.cd_sector.proofs.DefectLemmas.{length-range, range-byte}
 use Rattle.cd_sector.specs.Consistent.{user_of}
-use Rattle.cd_patch.specs.Effect.{MadeBy, user_part}
+use Rattle.cd_patch.specs.Effect.{Becomes, user_part}
 use Rattle.cd_patch.specs.Parts.{HasPart, IsPart}
-use Rattle.cd_patch.proofs.MadeLemmas.{MadeBy-user}
+use Rattle.cd_patch.proofs.BecomesLemmas.{Becomes-user}
 
 -- ---- one sector
 
@@ -18,7 +18,7 @@ pub HasPart-written : (carried : Bool) (k offset place first end : ℕ)
     (bytes part header before after : List ℕ) → IsPart k offset (length bytes) place first end
     → length (user_of before) ≡ 2048 → first + length part ≡ end
     → ((i : ℕ) → i < length part → get_or part i 0 ≡ get_or bytes (first + i) 0)
-    → MadeBy carried before header (written (user_of before) place part) after
+    → Becomes carried before header (with_range (user_of before) place part) after
     → HasPart carried k offset bytes header before after
 HasPart-written carried k offset place first end bytes part header before after at size long
     same is_made =
@@ -28,9 +28,9 @@ HasPart-written carried k offset place first end bytes part header before after 
     let lies = at.lies in
     let room : place + length part ≤ length (user_of before) = omega arith in
     let user =
-    MadeBy-user carried before header (written (user_of before) place part) after is_made in
+    Becomes-user carried before header (with_range (user_of before) place part) after is_made in
     record {
-      made = subst (λ u. MadeBy carried before header u after) (sym user) is_made;
+      made = subst (λ u. Becomes carried before header u after) (sym user) is_made;
       inside = λ i j below inside there.
           let from : first ≤ i = elim at.from_start [ inl e ↦ omega arith | inr e ↦ omega arith ] in
           let to : i < end = elim at.to_end [ inl e ↦ omega arith | inr e ↦ omega arith ] in
@@ -38,24 +38,24 @@ HasPart-written carried k offset place first end bytes part header before after 
           let at_place : j ≡ place + n = omega arith in
           let at_byte : first + n ≡ i = omega arith in
           ap (λ u. get_or u j 0) user
-          ∙ ap (λ m. get_or (written (user_of before) place part) m 0) at_place
+          ∙ ap (λ m. get_or (with_range (user_of before) place part) m 0) at_place
           ∙ written-range (user_of before) place part n room (omega arith)
           ∙ same n (omega arith)
           ∙ ap (λ m. get_or bytes m 0) at_byte;
       outside = λ j below out.
           let there : (j < place) ⊎ (place + length part ≤ j) =
-          elim out [ inl before_it ↦ inl (omega arith) | inr behind_it ↦ inr (omega arith) ] in
+          elim out [ inl before_it ↦ inl (omega arith) | inr after_it ↦ inr (omega arith) ] in
           ap (λ u. get_or u j 0) user ∙ written-other (user_of before) place part j room there;
     }
 
 -- a sector in which nothing is written
 pub HasPart-nothing : (carried : Bool) (k offset : ℕ) (bytes header before after : List ℕ)
-    → length bytes ≡ 0 → MadeBy carried before header (user_of before) after
+    → length bytes ≡ 0 → Becomes carried before header (user_of before) after
     → HasPart carried k offset bytes header before after
 HasPart-nothing carried k offset bytes header before after none is_made =
-    let user = MadeBy-user carried before header (user_of before) after is_made in
+    let user = Becomes-user carried before header (user_of before) after is_made in
     record {
-      made = subst (λ u. MadeBy carried before header u after) (sym user) is_made;
+      made = subst (λ u. Becomes carried before header u after) (sym user) is_made;
       inside = λ i j below inside there. absurd (omega arith);
       outside = λ j below out. ap (λ u. get_or u j 0) user;
     }
@@ -66,11 +66,11 @@ pub user_part-of : (carried : Bool) (k count offset : ℕ) (bytes joined header 
     → offset + length bytes ≤ 2048 * count → length (user_of after) ≡ 2048
     → ((j : ℕ) → j < 2048 → get_or joined (2048 * k + j) 0 ≡ get_or (user_of before) j 0)
     → HasPart carried k offset bytes header before after
-    → user_of after ≡ user_part (written joined offset bytes) k
+    → user_of after ≡ user_part (with_range joined offset bytes) k
 unfolding user_part
 user_part-of carried k count offset bytes joined header before after inside size fits
     after_size same part =
-    let whole = written joined offset bytes in
+    let whole = with_range joined offset bytes in
     let room : offset + length bytes ≤ length joined = omega arith in
     let long = length-written joined offset bytes room in
     let from = 2048 * k in
@@ -89,7 +89,7 @@ user_part-of carried k count offset bytes joined header before after inside size
     let below : j < 2048 = omega arith in
     elim (cases_lt (from + j) offset) [
       | inl before_it ↦ other j below (inl before_it)
-      | inr behind ↦ elim (cases_lt (from + j) (offset + length bytes)) [
+      | inr after ↦ elim (cases_lt (from + j) (offset + length bytes)) [
         | inl here ↦
             let n = from + j - offset in
             let at : offset + n ≡ from + j = omega arith in
@@ -144,8 +144,8 @@ read_old Rule k old new d below inside =
 pub HasPart-copied : (carried : Bool) (k offset place first end : ℕ)
     (bytes header before after : List ℕ) → IsPart k offset (length bytes) place first end
     → length (user_of before) ≡ 2048
-    → MadeBy carried before header
-    (written (user_of before) place (take (end - first) (drop first bytes))) after
+    → Becomes carried before header
+    (with_range (user_of before) place (take (end - first) (drop first bytes))) after
     → HasPart carried k offset bytes header before after
 HasPart-copied carried k offset place first end bytes header before after at size is_made =
     let count = end - first in
@@ -164,8 +164,8 @@ pub HasPart-filled : (carried : Bool) (k offset place first end count value : �
     (header before after : List ℕ)
     → IsPart k offset (length (replicate count value)) place first end
     → length (user_of before) ≡ 2048
-    → MadeBy carried before header
-    (written (user_of before) place (take (end - first) (replicate 2048 value))) after
+    → Becomes carried before header
+    (with_range (user_of before) place (take (end - first) (replicate 2048 value))) after
     → HasPart carried k offset (replicate count value) header before after
 HasPart-filled carried k offset place first end count value header before after at size is_made =
     let n = end - first in

@@ -1,4 +1,4 @@
--- How far a patch reaches: into so many blocks at most, and its range lies in the blocks that it
+-- How far a patch reaches: into three blocks at most, and its range lies in the blocks that it
 -- meets.
 use Rattle.std.proofs.Common.{ℕ, ◌+◌, ◌*◌, ◌<◌, ◌≤◌, length, arith}
 use Rattle.cd_script.specs.Patch.{IsPatch}
@@ -24,10 +24,10 @@ pub old-fits : (p : Patch) → IsPatch p
     → (p.offset + length (old_bytes p.edit) ≤ USER_SIZE * blocks_met p)
     × (p.offset + length (old_bytes p.edit) ≤ USER_SIZE * block_limit)
 old-fits p h =
-    let within = (patch-fits p h).asks in
+    let within = (patch-fits p h).must_be_consistent in
     (omega (arith, range-inside p), omega (arith, range-room p h))
 
--- a range of so many bytes lies in each of so many blocks, of which no patch meets more
+-- a range lies in each of its blocks, and no patch meets more of them than three
 pub record Spans (offset count blocks : ℕ) : Type 0 where
   pub few : blocks ≤ block_limit
   pub some : USER_SIZE * blocks < offset + count + USER_SIZE

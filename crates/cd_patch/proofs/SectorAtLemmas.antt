@@ -22,16 +22,16 @@ sector_at-add sectors base k =
     let e : base + k - base ≡ k = omega arith in
     sector_at-from sectors base (base + k) (omega arith) ∙ ap (slice_get sectors) e
 
-pub sector_at-behind : (sectors : List (List ℕ)) (base block : ℕ) → base + length sectors ≤ block
+pub sector_at-after : (sectors : List (List ℕ)) (base block : ℕ) → base + length sectors ≤ block
     → sector_at sectors base block ≡ None
-sector_at-behind sectors base block h =
+sector_at-after sectors base block h =
     sector_at-from sectors base block (omega arith)
     ∙ slice_get_past sectors (block - base) (omega arith)
 
 pub sector_at-missing : (sectors : List (List ℕ)) (base block : ℕ)
     → (block < base) ⊎ (base + length sectors ≤ block) → sector_at sectors base block ≡ None
 sector_at-missing sectors base block (inl below) = sector_at-below sectors base block below
-sector_at-missing sectors base block (inr behind) = sector_at-behind sectors base block behind
+sector_at-missing sectors base block (inr after) = sector_at-after sectors base block after
 
 -- if there is a sector
 pub sector_at-within : (sectors : List (List ℕ)) (base block : ℕ) (sector : List ℕ)
@@ -40,7 +40,7 @@ sector_at-within sectors base block sector e = elim (cases_lt block base) [
   | inl below ↦ absurd (none-some sector (sym (sector_at-below sectors base block below) ∙ e))
   | inr from ↦ elim (cases_lt block (base + length sectors)) [
     | inl inside ↦ (from, inside)
-    | inr behind ↦ absurd (none-some sector (sym (sector_at-behind sectors base block behind) ∙ e))
+    | inr after ↦ absurd (none-some sector (sym (sector_at-after sectors base block after) ∙ e))
   ]
 ]
 
@@ -51,7 +51,7 @@ sector_at-some sectors base block from inside =
     sector_at-from sectors base block from
     ∙ slice_get-get_or sectors (block - base) [] (omega arith)
 
--- a list as long has a sector where the other has one
+-- a list as long has a sector if the other has one
 pub sector_at-other : (sectors others : List (List ℕ)) (base block : ℕ) (sector : List ℕ)
     → length others ≡ length sectors → sector_at sectors base block ≡ Some sector
     → (other : List ℕ) × (sector_at others base block ≡ Some other)
@@ -59,7 +59,7 @@ sector_at-other sectors others base block sector same e =
     let within = sector_at-within sectors base block sector e in
     (get_or others (block - base) [], sector_at-some others base block within.0 (omega arith))
 
--- and none where the other has none
+-- and none if the other has none
 pub sector_at-none : (sectors others : List (List ℕ)) (base block : ℕ)
     → length others ≡ length sectors → sector_at sectors base block ≡ None
     → sector_at others base block ≡ None

@@ -7,22 +7,22 @@ use Rattle.cd_script.specs.Patch.{IsPatch}
 use Rattle.cd_script.specs.declared.patch.Patch.{Patch}
 use Rattle.cd_sector.specs.Consistent.{IsConsistent, consistent, header_of, is_mode1, user_of}
 use Rattle.cd_sector.specs.Kind.{kind_of}
-use Rattle.cd_delta.specs.Writing.{written}
+use Rattle.cd_delta.specs.Writing.{with_range}
 use Rattle.cd_sector.specs.declared.kinds.SectorKind.TheVariants.{Mode1}
 use Rattle.cd_patch.specs.Blocks.{blocks_met, sector_at}
-use Rattle.cd_patch.specs.EditMeaning.{EditMeaning, builds_on, keeps_defect, meaning}
+use Rattle.cd_patch.specs.EditMeaning.{EditMeaning, keeps_defect, keeps_old, meaning}
 use Rattle.cd_patch.specs.EditMeaning.{needs_consistent, new_bytes, new_header, old_bytes}
 use Rattle.cd_patch.specs.EditMeaning.{with_address}
-use Rattle.cd_patch.specs.Deciding.{by_difference, first_difference, first_of, first_refusal, joined_user, outcome, refusal_at, user_met}
-use Rattle.cd_patch.specs.Effect.{Effect, EffectOf, IsApplied, MadeBy, patched_user, user_part}
+use Rattle.cd_patch.specs.Deciding.{by_difference, either_refusal, first_difference, first_refusal, joined_user, outcome, refusal_at, user_met}
+use Rattle.cd_patch.specs.Effect.{Becomes, Effect, EffectOf, IsApplied, patched_user, user_part}
 use Rattle.cd_patch.specs.Outcome.{is_applied}
-use Rattle.cd_patch.specs.Parts.{EachMade, HasPart, HaveUsers}
+use Rattle.cd_patch.specs.Parts.{EachBecomes, HasPart, HaveUsers}
 use Rattle.cd_patch.specs.declared.outcome.Outcome.{Outcome}
 use Rattle.cd_patch.specs.declared.outcome.Outcome.TheVariants.{Applied, Damaged, Differs, NoBlock, NotMode1}
 use Rattle.cd_patch.proofs.general.Elements.{get_or-take_default, slice_get-append_drop}
 use Rattle.cd_patch.proofs.DecidingLemmas.{AreMet, AreMet-from, BlocksHaveUsers-from, joined-byte, length-joined, user_at-sector}
-use Rattle.cd_patch.proofs.MadeLemmas.{MadeBy-sector}
-use Rattle.cd_patch.proofs.MeaningLemmas.{FitsMeaning, address-alone, patch-fits}
+use Rattle.cd_patch.proofs.BecomesLemmas.{Becomes-sector}
+use Rattle.cd_patch.proofs.MeaningLemmas.{FitsMeaning, address-only, patch-fits}
 use Rattle.cd_patch.proofs.SectorAtLemmas.{sector_at-add, sector_at-below}
 use Rattle.cd_patch.proofs.RangeLemmas.{Spans, range-inside, range-spans}
 use Rattle.cd_patch.proofs.PartLemmas.{HasPart-nothing, length-user, user_part-of}
@@ -37,68 +37,68 @@ part_by carry p k before after =
 -- ---- the ways of an edit
 
 -- one that builds on the sector and writes no address writes bytes
-pub part-spans : (p : Patch) → IsPatch p → builds_on p.edit ≡ true → (meaning p.edit).address ≡ None
+pub part-spans : (p : Patch) → IsPatch p → keeps_old p.edit ≡ true → (meaning p.edit).address ≡ None
     → Spans p.offset (length (new_bytes p.edit)) (blocks_met p)
 part-spans p patch builds none = range-spans p patch ((patch-fits p patch).some builds none)
 
 -- one that writes an address writes no bytes
 pub part-address : {m : EditMeaning} (carry : Bool) (k offset : ℕ) (address before after : List ℕ)
     → FitsMeaning offset m → m.address ≡ Some address
-    → MadeBy carry before (address ++ drop 3 (header_of before)) (user_of before) after
-    → HasPart (m.builds_on && carry) k offset m.bytes (with_address m.address (header_of before))
+    → Becomes carry before (address ++ drop 3 (header_of before)) (user_of before) after
+    → HasPart (m.keeps_old && carry) k offset m.bytes (with_address m.address (header_of before))
     before after
 part-address {m} carry k offset address before after fits is made =
-    let only = address-alone fits is in
+    let only = address-only fits is in
     let header = address ++ drop 3 (header_of before) in
-    rw (is, only.builds_on)
+    rw (is, only.keeps_old)
     (HasPart-nothing carry k offset m.bytes header before after (ap length only.no_bytes) made)
 
--- one that makes the sector anew writes neither
-pub part-anew : {m : EditMeaning} (carry : Bool) (k offset : ℕ) (before after : List ℕ)
-    → FitsMeaning offset m → m.builds_on ≡ false
-    → MadeBy false before (header_of before) (user_of before) after
-    → HasPart (m.builds_on && carry) k offset m.bytes (with_address m.address (header_of before))
+-- one that encodes the sector again writes neither
+pub part-encoded : {m : EditMeaning} (carry : Bool) (k offset : ℕ) (before after : List ℕ)
+    → FitsMeaning offset m → m.keeps_old ≡ false
+    → Becomes false before (header_of before) (user_of before) after
+    → HasPart (m.keeps_old && carry) k offset m.bytes (with_address m.address (header_of before))
     before after
-part-anew {m} carry k offset before after fits is made =
-    let neither = fits.anew is in
+part-encoded {m} carry k offset before after fits is made =
+    let neither = fits.encoded is in
     let header = header_of before in
     rw (is, neither.1)
     (HasPart-nothing false k offset m.bytes header before after (ap length neither.0) made)
 
 -- ---- no refusal is an acceptance
 
-refusal-told : (mode asks sound : Bool) (block : ℕ)
-    → (if not mode then Some (NotMode1 block) else if asks && not sound then Some (Damaged block)
+refusal-not_applied : (mode must_be_consistent sound : Bool) (block : ℕ)
+    → (if not mode then Some (NotMode1 block) else if must_be_consistent && not sound then Some (Damaged block)
     else None) ≡ Some Applied → ⊥
-refusal-told true true true block h = cc
-refusal-told true true false block h = cc
-refusal-told true false sound block h = cc
-refusal-told false asks sound block h = cc
+refusal-not_applied true true true block h = cc
+refusal-not_applied true true false block h = cc
+refusal-not_applied true false sound block h = cc
+refusal-not_applied false must_be_consistent sound block h = cc
 
-refusal_at-told : (asks : Bool) (block : ℕ) (sector : Option (List ℕ))
-    → refusal_at asks block sector ≡ Some Applied → ⊥
-refusal_at-told asks block None h = cc
-refusal_at-told asks block (Some sector) h =
-    refusal-told (is_mode1 (kind_of sector)) asks (consistent sector) block h
+refusal_at-not_applied : (must_be_consistent : Bool) (block : ℕ) (sector : Option (List ℕ))
+    → refusal_at must_be_consistent block sector ≡ Some Applied → ⊥
+refusal_at-not_applied must_be_consistent block None h = cc
+refusal_at-not_applied must_be_consistent block (Some sector) h =
+    refusal-not_applied (is_mode1 (kind_of sector)) must_be_consistent (consistent sector) block h
 
-first_of-told : (a b : Option Outcome) → (a ≡ Some Applied → ⊥) → (b ≡ Some Applied → ⊥)
-    → first_of a b ≡ Some Applied → ⊥
-first_of-told None b one two h = two h
-first_of-told (Some x) b one two h = one h
+either_refusal-not_applied : (a b : Option Outcome) → (a ≡ Some Applied → ⊥) → (b ≡ Some Applied → ⊥)
+    → either_refusal a b ≡ Some Applied → ⊥
+either_refusal-not_applied None b one two h = two h
+either_refusal-not_applied (Some x) b one two h = one h
 
-pub first_refusal-told : (ss : List (List ℕ)) (base : ℕ) (asks : Bool) (block count : ℕ)
-    → first_refusal ss base asks block count ≡ Some Applied → ⊥
-first_refusal-told ss base asks block zero h = cc
-first_refusal-told ss base asks block (suc count) h =
-    first_of-told (refusal_at asks block (sector_at ss base block))
-    (first_refusal ss base asks (block + 1) count)
-    (refusal_at-told asks block (sector_at ss base block))
-    (first_refusal-told ss base asks (block + 1) count) h
+pub first_refusal-not_applied : (ss : List (List ℕ)) (base : ℕ) (must_be_consistent : Bool) (block count : ℕ)
+    → first_refusal ss base must_be_consistent block count ≡ Some Applied → ⊥
+first_refusal-not_applied ss base must_be_consistent block zero h = cc
+first_refusal-not_applied ss base must_be_consistent block (suc count) h =
+    either_refusal-not_applied (refusal_at must_be_consistent block (sector_at ss base block))
+    (first_refusal ss base must_be_consistent (block + 1) count)
+    (refusal_at-not_applied must_be_consistent block (sector_at ss base block))
+    (first_refusal-not_applied ss base must_be_consistent (block + 1) count) h
 
-pub applied-told : (refusal : Option Outcome) (other : Outcome) → (refusal ≡ Some Applied → ⊥)
+pub applied-accepted : (refusal : Option Outcome) (other : Outcome) → (refusal ≡ Some Applied → ⊥)
     → unwrap_or refusal other ≡ Applied → refusal ≡ None
-applied-told None other real h = refl
-applied-told (Some r) other real h = absurd (real (ap (λ o. Some o) h))
+applied-accepted None other real h = refl
+applied-accepted (Some r) other real h = absurd (real (ap (λ o. Some o) h))
 
 pub met-where-applied : (carry : Bool) (ss : List (List ℕ)) (p : Patch)
     → outcome carry ss p.block p ≡ Applied
@@ -107,23 +107,23 @@ unfolding outcome
 met-where-applied carry ss p h =
     let found = first_refusal ss p.block (needs_consistent carry p.edit) p.block (blocks_met p) in
     AreMet-from ss p.block (needs_consistent carry p.edit) (blocks_met p)
-    (applied-told found
+    (applied-accepted found
     (by_difference p.block
     (first_difference p.offset (drop p.offset (user_met ss p.block p)) (old_bytes p.edit)))
-    (first_refusal-told ss p.block (needs_consistent carry p.edit) p.block (blocks_met p)) h)
+    (first_refusal-not_applied ss p.block (needs_consistent carry p.edit) p.block (blocks_met p)) h)
 
 -- ---- the sectors before and those after them
 
-pub mode-front : (asks : Bool) (ss : List (List ℕ)) (n : ℕ) → AreMet asks ss n
+pub mode-front : (must_be_consistent : Bool) (ss : List (List ℕ)) (n : ℕ) → AreMet must_be_consistent ss n
     → All (λ s. kind_of s ≡ Mode1) (take n ss)
-mode-front asks ss n met k d inside =
+mode-front must_be_consistent ss n met k d inside =
     let size = length-take-le n ss met.enough in
     subst (λ s. kind_of s ≡ Mode1) (sym (get_or-take_default ss n k d [] met.enough inside))
     (met.mode k (omega arith))
 
-pub sound-front : (asks : Bool) (ss : List (List ℕ)) (n : ℕ) → AreMet asks ss n → asks ≡ true
+pub sound-front : (must_be_consistent : Bool) (ss : List (List ℕ)) (n : ℕ) → AreMet must_be_consistent ss n → must_be_consistent ≡ true
     → All IsConsistent (take n ss)
-sound-front asks ss n met asked k d inside =
+sound-front must_be_consistent ss n met asked k d inside =
     let size = length-take-le n ss met.enough in
     subst IsConsistent (sym (get_or-take_default ss n k d [] met.enough inside))
     (met.sound asked k (omega arith))
@@ -133,7 +133,7 @@ sound-front asks ss n met asked k d inside =
 pub IsApplied-from : (carry : Bool) (p : Patch) (ss front : List (List ℕ))
     → blocks_met p ≤ length ss
     → HaveUsers ss (blocks_met p)
-    → EachMade (part_by carry p) (take (blocks_met p) ss) front
+    → EachBecomes (part_by carry p) (take (blocks_met p) ss) front
     → IsApplied carry p.block p ss (front ++ drop (blocks_met p) ss)
 unfolding patched_user user_met
 IsApplied-from carry p ss front room users each =
@@ -163,8 +163,8 @@ IsApplied-from carry p ss front room users each =
           let header = new_header p.edit (header_of before) in
           let part : HasPart carried k p.offset bytes header before after =
           subst (HasPart carried k p.offset bytes header before) is old_part in
-          let sector = MadeBy-sector carried before header (user_of after) after part.made in
-          let user : user_of after ≡ user_part (written joined p.offset bytes) k =
+          let sector = Becomes-sector carried before header (user_of after) after part.made in
+          let user : user_of after ≡ user_part (with_range joined p.offset bytes) k =
           user_part-of carried k n p.offset bytes joined header before after below
           (length-joined 2048 ss p.block p.block n all) (range-inside p)
           (length-user after sector.size)
@@ -172,13 +172,13 @@ IsApplied-from carry p ss front room users each =
           joined-byte 2048 ss p.block p.block n all k j below in_block
           ∙ ap (λ u. get_or u j 0) (user_at-sector ss p.block k (omega arith) ∙ ap user_of was))
           part in
-          subst (λ u. MadeBy carried before header u after) user part.made;
+          subst (λ u. Becomes carried before header u after) user part.made;
       others = λ block out.
           elim out [
             | inl below ↦
                 sector_at-below new p.block block below
                 ∙ sym (sector_at-below ss p.block block below)
-            | inr behind ↦
+            | inr after ↦
                 let k = block - p.block in
                 let at : p.block + k ≡ block = omega arith in
                 subst (λ b. sector_at new p.block b ≡ sector_at ss p.block b) at

@@ -11,13 +11,13 @@ use Rattle.cd_sector.specs.Consistent.{user_of}
 use Rattle.cd_sector.specs.declared.sector.TheConstants.{USER_SIZE}
 use Rattle.cd_sector.proofs.DefectLemmas.{length-range, range-byte}
 use Rattle.cd_code.proofs.ByteLemmas.{AreBytes-append, AreBytes-drop, AreBytes-take}
-use Rattle.cd_delta.specs.Writing.{written}
+use Rattle.cd_delta.specs.Writing.{with_range}
 use Rattle.cd_delta.proofs.UserLemmas.{length-written, written-other, written-range}
 use Rattle.cd_patch.specs.Blocks.{blocks_met, sector_at}
 use Rattle.cd_patch.specs.EditMeaning.{new_bytes}
 use Rattle.cd_patch.specs.Deciding.{joined_user, user_at, user_met}
 use Rattle.cd_patch.specs.Effect.{patched_user, user_part}
-use Rattle.cd_patch.specs.Leaves.{IsSector, byte_by}
+use Rattle.cd_patch.specs.BySector.{IsSector, byte_by}
 use Rattle.cd_patch.proofs.AcceptedLemmas.{AreThere}
 use Rattle.cd_patch.proofs.DecidingLemmas.{BlocksHaveUsers, joined-byte, length-joined}
 use Rattle.cd_patch.proofs.general.Elements.{cases_Option}
@@ -59,7 +59,7 @@ AreBytes-joined sectors base first (suc count) h =
 -- each byte is the patch's in its range, and else the one before
 written-byte : (user : List ℕ) (offset : ℕ) (bytes : List ℕ) (place : ℕ)
     → offset + length bytes ≤ length user
-    → get_or (written user offset bytes) place 0
+    → get_or (with_range user offset bytes) place 0
     ≡ (if nat_le offset place && nat_lt place (offset + length bytes)
     then get_or bytes (place - offset) 0 else get_or user place 0)
 written-byte user offset bytes place room = elim (cases_lt place offset) [
@@ -69,7 +69,7 @@ written-byte user offset bytes place room = elim (cases_lt place offset) [
   | inr from ↦ elim (cases_lt place (offset + length bytes)) [
     | inl inside ↦
         let at : offset + (place - offset) ≡ place = omega arith in
-        ap (λ n. get_or (written user offset bytes) n 0) (sym at)
+        ap (λ n. get_or (with_range user offset bytes) n 0) (sym at)
         ∙ written-range user offset bytes (place - offset) room (omega arith)
         ∙ sym (cond-true _ _ _
         (and_from _ _ (le-leb offset place from) (lt-ltb place (offset + length bytes) inside)))
@@ -80,8 +80,8 @@ written-byte user offset bytes place room = elim (cases_lt place offset) [
 ]
 
 AreBytes-written : (user : List ℕ) (offset : ℕ) (bytes : List ℕ) → AreBytes user → AreBytes bytes
-    → AreBytes (written user offset bytes)
-unfolding written
+    → AreBytes (with_range user offset bytes)
+unfolding with_range
 AreBytes-written user offset bytes h k =
     AreBytes-append (take offset user) (bytes ++ drop (offset + length bytes) user)
     (AreBytes-take user offset h)
@@ -143,7 +143,7 @@ module _ (sectors : List (List ℕ)) (base : ℕ) (p : Patch) (each : All IsSect
     pub AreBytes-user_part : (k : ℕ) → AreBytes (user_part (patched_user sectors base p) k)
     unfolding user_part patched_user
     AreBytes-user_part k =
-        AreBytes-range (written (user_met sectors base p) p.offset (new_bytes p.edit))
+        AreBytes-range (with_range (user_met sectors base p) p.offset (new_bytes p.edit))
         (USER_SIZE * k) (USER_SIZE * (k + 1))
         (AreBytes-written (user_met sectors base p) p.offset (new_bytes p.edit)
         AreBytes-user_met (patch-fits p kept).each)
@@ -171,7 +171,7 @@ pub byte_by-other : (p : Patch) (block offset before : ℕ) → IsPatch p
     → (block < p.block) ⊎ (p.block + blocks_met p ≤ block) → byte_by p block offset before ≡ before
 byte_by-other p block offset before kept (inl below) =
     cond-false _ _ _ (and_left _ _ (lt-leb p.block block below))
-byte_by-other p block offset before kept (inr behind) =
+byte_by-other p block offset before kept (inr after) =
     let place = USER_SIZE * (block - p.block) + offset in
     let past : p.offset + length (new_bytes p.edit) ≤ place = omega (arith, range-inside p) in
     cond-false _ _ _

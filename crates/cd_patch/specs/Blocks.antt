@@ -9,7 +9,7 @@ use Rattle.cd_patch.specs.EditMeaning.{new_bytes}
 abbrev pub block_limit : ℕ
 block_limit = 3
 
--- the number of blocks that so many bytes from an offset on lie in; no bytes are of one block
+-- the number of blocks in which bytes from an offset on lie; no bytes are of one block
 abbrev pub blocks_spanned : ℕ → ℕ → ℕ
 blocks_spanned offset count = (offset + count - 1) / USER_SIZE + 1
 

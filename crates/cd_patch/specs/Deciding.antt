@@ -9,26 +9,26 @@ use Rattle.cd_patch.specs.EditMeaning.{needs_consistent, old_bytes}
 use Rattle.cd_patch.specs.declared.outcome.Outcome.{Outcome}
 use Rattle.cd_patch.specs.declared.outcome.Outcome.TheVariants.{Applied, Damaged, Differs, NoBlock, NotMode1}
 
--- why a block, by its sector, refuses a patch; `asks` says that the patch needs a consistent sector
--- (`needs_consistent`). None if the block does not refuse
+-- why a block, by its sector, refuses a patch; `must_be_consistent` says that the patch needs a
+-- consistent sector (`needs_consistent`). None if the block does not refuse
 abbrev pub refusal_at : Bool → ℕ → Option (List ℕ) → Option Outcome
-refusal_at asks block None = Some (NoBlock block)
-refusal_at asks block (Some sector) =
+refusal_at must_be_consistent block None = Some (NoBlock block)
+refusal_at must_be_consistent block (Some sector) =
     if not (is_mode1 (kind_of sector)) then Some (NotMode1 block)
-    else if asks && not (consistent sector) then Some (Damaged block)
+    else if must_be_consistent && not (consistent sector) then Some (Damaged block)
     else None
 
 -- the first of two refusals
-abbrev pub first_of : Option Outcome → Option Outcome → Option Outcome
-first_of None other = other
-first_of (Some refusal) other = Some refusal
+abbrev pub either_refusal : Option Outcome → Option Outcome → Option Outcome
+either_refusal None other = other
+either_refusal (Some refusal) other = Some refusal
 
 -- the first refusal of `count` blocks, tested upwards from `block` on
 abbrev pub first_refusal : List (List ℕ) → ℕ → Bool → ℕ → ℕ → Option Outcome
-first_refusal sectors base asks block zero = None
-first_refusal sectors base asks block (suc count) =
-    first_of (refusal_at asks block (sector_at sectors base block))
-    (first_refusal sectors base asks (block + 1) count)
+first_refusal sectors base must_be_consistent block zero = None
+first_refusal sectors base must_be_consistent block (suc count) =
+    either_refusal (refusal_at must_be_consistent block (sector_at sectors base block))
+    (first_refusal sectors base must_be_consistent (block + 1) count)
 
 -- the user data of a block
 abbrev pub user_at : Option (List ℕ) → List ℕ

@@ -11,18 +11,18 @@ pub record EditMeaning : Type 0 where
   pub old : List ℕ
   -- the address that it writes into the header
   pub address : Option (List ℕ)
-  -- whether it changes the sector as it is; false if it makes the sector anew
-  pub builds_on : Bool
+  -- whether it changes the sector as it stands; false if it encodes the sector again
+  pub keeps_old : Bool
 
 -- what each row begins with: nothing is written, no old byte is named, and the sector stays
 abbrev pub nothing : EditMeaning
-nothing = record { bytes = []; old = []; address = None; builds_on = true }
+nothing = record { bytes = []; old = []; address = None; keeps_old = true }
 
 -- a row for each edit
 abbrev pub meaning : Edit → EditMeaning
 meaning (Put bytes was) = record nothing { bytes = bytes; old = unwrap_or was [] }
 meaning (Fill count value) = record nothing { bytes = replicate count value }
-meaning Rebuild = record nothing { builds_on = false }
+meaning Rebuild = record nothing { keeps_old = false }
 meaning (Address bcd) = record nothing { address = Some bcd }
 
 -- the bytes that an edit writes
@@ -42,14 +42,14 @@ with_address (Some bcd) header = bcd ++ drop 3 header
 abbrev pub new_header : Edit → List ℕ → List ℕ
 new_header edit header = with_address (meaning edit).address header
 
--- whether an edit changes the sector as it is, and does not make it anew
-abbrev pub builds_on : Edit → Bool
-builds_on edit = (meaning edit).builds_on
+-- whether an edit changes the sector as it stands, and does not encode it again
+abbrev pub keeps_old : Edit → Bool
+keeps_old edit = (meaning edit).keeps_old
 
 -- whether a damaged sector refuses an edit: not if damage is carried
 abbrev pub needs_consistent : Bool → Edit → Bool
-needs_consistent carry edit = builds_on edit && not carry
+needs_consistent carry edit = keeps_old edit && not carry
 
 -- whether an edit leaves a sector's damage as it was
 abbrev pub keeps_defect : Bool → Edit → Bool
-keeps_defect carry edit = builds_on edit && carry
+keeps_defect carry edit = keeps_old edit && carry

@@ -6,7 +6,7 @@ use Rattle.cd_script.specs.declared.patch.Patch.{Patch}
 use Rattle.cd_sector.specs.Carried.{IsCarried}
 use Rattle.cd_sector.specs.Consistent.{IsConsistent, header_of, user_of}
 use Rattle.cd_sector.specs.declared.sector.TheConstants.{USER_SIZE}
-use Rattle.cd_delta.specs.Writing.{written}
+use Rattle.cd_delta.specs.Writing.{with_range}
 use Rattle.cd_patch.specs.Blocks.{blocks_met, sector_at}
 use Rattle.cd_patch.specs.EditMeaning.{keeps_defect, new_bytes, new_header}
 use Rattle.cd_patch.specs.Deciding.{outcome, user_met}
@@ -21,19 +21,19 @@ pub record IsRemade (header user sector : List ℕ) : Type 0 where
 
 -- what a sector becomes, with this header and user data: if damage is carried it keeps its old sync
 -- field and defect (`IsCarried`), else it is consistent (`IsRemade`)
-abbrev pub MadeBy : Bool → List ℕ → List ℕ → List ℕ → List ℕ → Type 0
-MadeBy false old header user new = IsRemade header user new
-MadeBy true old header user new = IsCarried old header user new
+abbrev pub Becomes : Bool → List ℕ → List ℕ → List ℕ → List ℕ → Type 0
+Becomes false old header user new = IsRemade header user new
+Becomes true old header user new = IsCarried old header user new
 
 -- what an edit makes of a sector to which it gives this user data: if damage is carried, each edit
 -- but `rebuild` keeps the old defect; else the result is the consistent sector
-abbrev pub IsMade : Bool → Edit → List ℕ → List ℕ → List ℕ → Type 0
-IsMade carry edit old user new =
-    MadeBy (keeps_defect carry edit) old (new_header edit (header_of old)) user new
+abbrev pub EditResult : Bool → Edit → List ℕ → List ℕ → List ℕ → Type 0
+EditResult carry edit old user new =
+    Becomes (keeps_defect carry edit) old (new_header edit (header_of old)) user new
 
 -- the user data of the blocks that a patch meets, joined, with the new bytes in the patch's range
 unfoldable pub patched_user : List (List ℕ) → ℕ → Patch → List ℕ
-patched_user sectors base p = written (user_met sectors base p) p.offset (new_bytes p.edit)
+patched_user sectors base p = with_range (user_met sectors base p) p.offset (new_bytes p.edit)
 
 -- the part of joined user data that lies in the block at number k among them
 unfoldable pub user_part : List ℕ → ℕ → List ℕ
@@ -47,7 +47,7 @@ pub record IsApplied (carry : Bool) (base : ℕ) (p : Patch) (old new : List (Li
   pub met : (k : ℕ) (before after : List ℕ) → k < blocks_met p
       → sector_at old base (p.block + k) ≡ Some before
       → sector_at new base (p.block + k) ≡ Some after
-      → IsMade carry p.edit before (user_part (patched_user old base p) k) after
+      → EditResult carry p.edit before (user_part (patched_user old base p) k) after
   pub others : (block : ℕ) → (block < p.block) ⊎ (p.block + blocks_met p ≤ block)
       → sector_at new base block ≡ sector_at old base block
 

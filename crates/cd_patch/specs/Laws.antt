@@ -6,46 +6,46 @@ use Rattle.cd_script.specs.declared.patch.Patch.{Patch}
 use Rattle.cd_patch.specs.Blocks.{block_limit}
 use Rattle.cd_patch.specs.Deciding.{outcome}
 use Rattle.cd_patch.specs.Effect.{Effect}
-use Rattle.cd_patch.specs.Leaves.{IsSector, LeavesOthers}
-use Rattle.cd_patch.specs.Run.{PatchRun}
+use Rattle.cd_patch.specs.BySector.{IsSector, LeavesOthers}
+use Rattle.cd_patch.specs.Sequence.{PatchSequence}
 use Rattle.cd_patch.specs.declared.outcome.Outcome.{Outcome}
 use Rattle.cd_patch.specs.declared.outcome.Outcome.TheVariants.{Applied, Damaged}
 
 -- a run's outcomes and last sectors follow from the patches and the sectors
-abbrev pub RunIsDetermined : Type 0
-RunIsDetermined =
+abbrev pub SequenceIsDetermined : Type 0
+SequenceIsDetermined =
     (carry : Bool) (ps : List Patch) (os os' : List Outcome) (base : ℕ)
     (old last last' : List (List ℕ))
-    → PatchRun carry ps os base old last → PatchRun carry ps os' base old last'
+    → PatchSequence carry ps os base old last → PatchSequence carry ps os' base old last'
     → (os ≡ os') × (last ≡ last')
 
 -- each list of patches has a run on each list of sectors
-abbrev pub RunExists : Type 0
-RunExists =
+abbrev pub SequenceExists : Type 0
+SequenceExists =
     (carry : Bool) (ps : List Patch) (base : ℕ) (old : List (List ℕ)) → All IsPatch ps
     → All IsSector old
-    → (os : List Outcome) × (last : List (List ℕ)) × PatchRun carry ps os base old last
+    → (os : List Outcome) × (last : List (List ℕ)) × PatchSequence carry ps os base old last
     × All IsSector last
 
 -- if the first i + block_limit sectors are equal, the patches up to block base + i have equal
 -- outcomes, and leave equal sectors 0 to i
-abbrev pub RunsAgree : Type 0
-RunsAgree =
+abbrev pub SequencesAgree : Type 0
+SequencesAgree =
     (carry : Bool) (i base : ℕ) (ps : List Patch) (os os' : List Outcome)
     (old old' last last' : List (List ℕ))
     → All IsPatch ps → IsNonDecreasingBy (λ p. p.block) ps
     → take (i + block_limit) old ≡ take (i + block_limit) old'
-    → PatchRun carry ps os base old last → PatchRun carry ps os' base old' last'
+    → PatchSequence carry ps os base old last → PatchSequence carry ps os' base old' last'
     → ((k : ℕ) (p : Patch) → slice_get ps k ≡ Some p → p.block ≤ base + i
     → slice_get os k ≡ slice_get os' k)
     × (take (i + 1) last ≡ take (i + 1) last')
 
 -- what a run leaves is as `LeavesOthers` says
-abbrev pub RunLeavesOthers : Type 0
-RunLeavesOthers =
+abbrev pub SequenceLeavesOthers : Type 0
+SequenceLeavesOthers =
     (carry : Bool) (ps : List Patch) (os : List Outcome) (base : ℕ) (old last : List (List ℕ))
     → All IsPatch ps → All IsSector old
-    → PatchRun carry ps os base old last → LeavesOthers carry ps os base old last
+    → PatchSequence carry ps os base old last → LeavesOthers carry ps os base old last
 
 -- what `LeavesOthers` says has only one result
 abbrev pub LeavesOne : Type 0

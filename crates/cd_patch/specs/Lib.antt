@@ -2,8 +2,8 @@ pub mod EditMeaning
 pub mod Blocks
 pub mod Deciding
 pub mod Effect
-pub mod Run
+pub mod Sequence
 pub mod Outcome
-pub mod Leaves
+pub mod BySector
 pub mod Laws
 pub mod Parts

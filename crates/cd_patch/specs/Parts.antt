@@ -3,14 +3,14 @@
 use Rattle.std.specs.Prelude.{◌≡◌, ℕ, ◌+◌, ◌*◌, ◌<◌, ◌≤◌, ◌⊎◌, Bool, List, [], length, replicate, slice_index, slice_index_or}
 use Rattle.cd_sector.specs.Consistent.{user_of}
 use Rattle.cd_sector.specs.declared.sector.TheConstants.{USER_SIZE}
-use Rattle.cd_patch.specs.Effect.{MadeBy}
+use Rattle.cd_patch.specs.Effect.{Becomes}
 use Rattle.cd_patch.specs.declared.edits.NewBytes.{NewBytes}
 use Rattle.cd_patch.specs.declared.edits.NewBytes.TheVariants.{Borrowed, Repeated}
 
 -- the new bytes that the code has in hand
-abbrev pub bytes_of : NewBytes → List ℕ
-bytes_of (Borrowed bytes) = bytes.now
-bytes_of (Repeated count value) = replicate count value
+abbrev pub bytes_to_write : NewBytes → List ℕ
+bytes_to_write (Borrowed bytes) = bytes.now
+bytes_to_write (Repeated count value) = replicate count value
 
 -- each of the first `count` sectors has its 2048 bytes of user data
 abbrev pub HaveUsers : List (List ℕ) → ℕ → Type 0
@@ -32,7 +32,7 @@ pub record IsPart (k offset count place first end : ℕ) : Type 0 where
 -- bytes stay, and it is consistent, or keeps its defect if that is carried
 pub record HasPart (carried : Bool) (k offset : ℕ)
     (bytes header before after : List ℕ) : Type 0 where
-  pub made : MadeBy carried before header (user_of after) after
+  pub made : Becomes carried before header (user_of after) after
   pub inside : (i j : ℕ) → i < length bytes → j < USER_SIZE → USER_SIZE * k + j ≡ offset + i
       → slice_index (user_of after) j ≡ slice_index bytes i
   pub outside : (j : ℕ) → j < USER_SIZE
@@ -40,6 +40,7 @@ pub record HasPart (carried : Bool) (k offset : ℕ)
       → slice_index (user_of after) j ≡ slice_index (user_of before) j
 
 -- as many sectors, each what the rule for its number makes of the one before
-pub record EachMade (Rule : ℕ → List ℕ → List ℕ → Type 0) (old new : List (List ℕ)) : Type 0 where
-  pub size : length new ≡ length old
-  pub each : (k : ℕ) → k < length old → Rule k (slice_index_or old k []) (slice_index_or new k [])
+pub record EachBecomes (Rule : ℕ → List ℕ → List ℕ → Type 0) (old new : List (List ℕ)) : Type 0
+  where
+    pub size : length new ≡ length old
+    pub each : (k : ℕ) → k < length old → Rule k (slice_index_or old k []) (slice_index_or new k [])

@@ -24,8 +24,8 @@ pub(crate) fn decide(sectors: &[Sector], patch: &Patch, count: usize, carry: boo
     ensures users { result ≡ Applied → HaveUsers sectors.now count }
 {
     let edit = meaning(&patch.edit);
-    let asks = edit.needs_consistent(carry);
-    if let Some(refusal) = first_refusal(sectors, patch.block, count, asks) {
+    let must_be_consistent = edit.needs_consistent(carry);
+    if let Some(refusal) = first_refusal(sectors, patch.block, count, must_be_consistent) {
         return refusal;
     }
     match first_difference(sectors, patch.offset, edit.old) {
@@ -37,16 +37,21 @@ pub(crate) fn decide(sectors: &[Sector], patch: &Patch, count: usize, carry: boo
     }
 }
 
-/// The first refusal of `count` blocks from `block` on, whose sectors these are; `asks` if they
-/// have to be consistent.
-fn first_refusal(sectors: &[Sector], block: u32, count: usize, asks: bool) -> Option<Outcome>
+/// The first refusal of `count` blocks from `block` on, whose sectors these are;
+/// `must_be_consistent` if they have to be consistent.
+fn first_refusal(
+    sectors: &[Sector],
+    block: u32,
+    count: usize,
+    must_be_consistent: bool,
+) -> Option<Outcome>
     requires block { block ≤ number_limit }
     requires count { count ≤ block_limit }
-    ensures refusal { result ≡ first_refusal sectors.now block asks block count }
+    ensures refusal { result ≡ first_refusal sectors.now block must_be_consistent block count }
     ensures users { result ≡ None → HaveUsers sectors.now count }
 {
     for k in 0..count {
-        let refusal = refusal_at(sectors, k, block + k as u32, asks);
+        let refusal = refusal_at(sectors, k, block + k as u32, must_be_consistent);
         if refusal.is_some() {
             return refusal;
         }
@@ -54,19 +59,19 @@ fn first_refusal(sectors: &[Sector], block: u32, count: usize, asks: bool) -> Op
     None
 }
 
-/// Why a block, whose sector is that at `k`, refuses a patch; `asks` if it has to be consistent.
-/// None if it does not refuse.
-fn refusal_at(sectors: &[Sector], k: usize, block: u32, asks: bool) -> Option<Outcome>
-    ensures refusal { result ≡ refusal_at asks block (slice_get sectors.now k) }
+/// Why a block, whose sector is that at `k`, refuses a patch; `must_be_consistent` if it has to be
+/// consistent. None if it does not refuse.
+fn refusal_at(sectors: &[Sector], k: usize, block: u32, must_be_consistent: bool) -> Option<Outcome>
+    ensures refusal { result ≡ refusal_at must_be_consistent block (slice_get sectors.now k) }
     ensures user { result ≡ None → length (user_of (slice_index_or sectors.now k [])) ≡ USER_SIZE }
 {
     let Some(sector) = sectors.get(k) else {
         return Some(Outcome::NoBlock(block));
     };
-    know_user_size(sector);
+    lemma_user_size(sector);
     match kind(sector) {
         SectorKind::Mode1 => {
-            if asks && !is_consistent(sector) {
+            if must_be_consistent && !is_consistent(sector) {
                 Some(Outcome::Damaged(block))
             } else {
                 None
@@ -79,7 +84,7 @@ fn refusal_at(sectors: &[Sector], k: usize, block: u32, asks: bool) -> Option<Ou
 }
 
 /// Proof step: does nothing. Its contract says that the user data of a sector are 2048 bytes.
-pub(crate) fn know_user_size(sector: &Sector)
+pub(crate) fn lemma_user_size(sector: &Sector)
     ensures { length (user_of sector.now) ≡ USER_SIZE }
 {
     sector.user();

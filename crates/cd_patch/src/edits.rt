@@ -4,7 +4,7 @@ ghost use Rattle.std.specs.Prelude.{◌≡◌, ◌+◌, ◌*◌, ◌≤◌, ◌&
 ghost use Rattle.cd_script.specs.Patch.{IsPatch};
 ghost use Rattle.cd_patch.specs.Blocks.{block_limit, blocks_met, blocks_spanned};
 ghost use Rattle.cd_patch.specs.EditMeaning.{meaning};
-ghost use Rattle.cd_patch.specs.Parts.{bytes_of};
+ghost use Rattle.cd_patch.specs.Parts.{bytes_to_write};
 
 use cd_script::{Edit, Patch};
 use cd_sector::USER_SIZE;
@@ -24,7 +24,7 @@ pub(crate) enum NewBytes<'a> {
 impl NewBytes<'_> {
     /// How many bytes they are.
     pub(crate) fn len(&self) -> usize
-        ensures { result ≡ length (bytes_of self.now) }
+        ensures { result ≡ length (bytes_to_write self.now) }
     {
         match self {
             NewBytes::Borrowed(bytes) => bytes.len(),
@@ -42,16 +42,16 @@ pub(crate) struct EditMeaning<'a> {
     pub(crate) old: &'a [u8],
     /// The address that it writes into the header: minute, second and fraction, each in BCD.
     pub(crate) address: Option<[u8; 3]>,
-    /// Whether it changes the sector as it is; false if it makes the sector anew.
-    pub(crate) builds_on: bool,
+    /// Whether it changes the sector as it stands; false if it encodes the sector again.
+    pub(crate) keeps_old: bool,
 }
 
 impl EditMeaning<'_> {
     /// Whether a damaged sector refuses the edit: not if damage is carried.
     pub(crate) fn needs_consistent(&self, carry: bool) -> bool
-        ensures { result ≡ (self.now.builds_on && not carry) }
+        ensures { result ≡ (self.now.keeps_old && not carry) }
     {
-        self.builds_on && !carry
+        self.keeps_old && !carry
     }
 }
 
@@ -60,15 +60,15 @@ const NOTHING: EditMeaning<'static> = EditMeaning {
     bytes: NewBytes::Borrowed(&[]),
     old: &[],
     address: None,
-    builds_on: true,
+    keeps_old: true,
 };
 
 /// The meaning of an edit: a row for each.
 pub(crate) fn meaning(edit: &Edit) -> EditMeaning<'_>
-    ensures bytes { bytes_of result.bytes ≡ (meaning edit.now).bytes }
+    ensures bytes { bytes_to_write result.bytes ≡ (meaning edit.now).bytes }
     ensures old { result.old.now ≡ (meaning edit.now).old }
     ensures address { result.address ≡ (meaning edit.now).address }
-    ensures builds_on { result.builds_on ≡ (meaning edit.now).builds_on }
+    ensures keeps_old { result.keeps_old ≡ (meaning edit.now).keeps_old }
 {
     match edit {
         Edit::Put { bytes, was } => EditMeaning {
@@ -84,7 +84,7 @@ pub(crate) fn meaning(edit: &Edit) -> EditMeaning<'_>
             ..NOTHING
         },
         Edit::Rebuild => EditMeaning {
-            builds_on: false,
+            keeps_old: false,
             ..NOTHING
         },
         Edit::Address { bcd } => EditMeaning {
@@ -114,7 +114,7 @@ pub fn blocks_met(patch: &Patch) -> usize
     blocks_spanned(patch.offset, meaning(&patch.edit).bytes.len())
 }
 
-/// The number of blocks that so many user bytes from an offset on lie in; no bytes are of one
+/// The number of blocks in which user bytes from an offset on lie; no bytes are of one
 /// block.
 fn blocks_spanned(offset: u16, count: usize) -> usize
     requires room { offset + count ≤ USER_SIZE * block_limit }

@@ -20,14 +20,14 @@
 
 mod deciding;
 mod edits;
+mod effect;
 mod laws;
 mod outcome;
-mod remaking;
 
 pub use edits::{MAX_BLOCKS_MET, blocks_met};
+pub use effect::apply_patch;
 pub use laws::{
-    leaves_one, never_damaged, nothing_to_carry, run_exists, run_is_determined, run_leaves_others,
-    runs_agree,
+    leaves_one, never_damaged, nothing_to_carry, sequence_exists, sequence_is_determined,
+    sequence_leaves_others, sequences_agree,
 };
 pub use outcome::Outcome;
-pub use remaking::apply_patch;

@@ -9,21 +9,21 @@ use Rattle.cd_stream.specs.Stream.{Incoming, IsBeginning, Outgoing}
 
 -- `image` could be what we are reading: it has at most 2,352,000,000 bytes, and begins with what
 -- was read
-pub record Fits (read image : List ℕ) : Type 0 where
+pub record MayBeImage (read image : List ℕ) : Type 0 where
   pub within : length image ≤ image_limit
   pub begins : IsBeginning (take image_limit read) image
 
--- after a failed write: `Fits`, if the source is known to have more; else the image is just what
--- was read
-abbrev pub FitsLeft : Option (List ℕ) → List ℕ → List ℕ → Type 0
-FitsLeft None read image = image ≡ read
-FitsLeft (Some []) read image = image ≡ read
-FitsLeft (Some (x ∷ xs)) read image = Fits read image
+-- after a failed write: `MayBeImage`, if the source is known to have more; else the image is just
+-- what was read
+abbrev pub MayBeImageAtEnd : Option (List ℕ) → List ℕ → List ℕ → Type 0
+MayBeImageAtEnd None read image = image ≡ read
+MayBeImageAtEnd (Some []) read image = image ≡ read
+MayBeImageAtEnd (Some (x ∷ xs)) read image = MayBeImage read image
 
 -- if the source's bytes are known: the answer is `TooLong` exactly if a byte was read after the
 -- millionth sector
-abbrev pub TellsTooLong : {T : Type 0} → Incoming → Incoming → Result T Fault → Type 0
-TellsTooLong image image' result =
+abbrev pub AnswersTooLong : {T : Type 0} → Incoming → Incoming → Result T Fault → Type 0
+AnswersTooLong image image' result =
     (bytes left : List ℕ) → image.rest ≡ Some bytes → image'.rest ≡ Some left
     → (result ≡ Err TooLong) ↔ (image_limit + length left < length bytes)
 

@@ -2,13 +2,13 @@
 
 ghost use Rattle.std.specs.Prelude.{◌≡◌, ◌<◌, ◌≤◌};
 ghost use Rattle.cd_read.specs.Reading.{ReadsSector};
-ghost use Rattle.cd_stream.specs.Stream.{MayCount};
+ghost use Rattle.cd_stream.specs.Stream.{CanCountFailure};
 ghost use Rattle.cd_read.specs.Image.{sector_limit};
 
 use crate::MAX_SECTORS;
 use crate::fault::Fault;
 use cd_sector::{SECTOR_SIZE, Sector};
-use cd_stream::{Source, fill};
+use cd_stream::{Source, fill_buffer};
 
 /// Reads the next sector of an image, after `count` others, to `sector`, in the place of its bytes.
 /// At the end of the image the answer is the number of bytes of its tail, which is then at the
@@ -33,7 +33,7 @@ pub fn read_sector<I: Source>(
     count: u32,
     sector: &mut Sector,
 ) -> Result<Option<usize>, Fault>
-    requires countable { MayCount (I.seen image.old).failures }
+    requires countable { CanCountFailure (I.seen image.old).failures }
     requires few { count ≤ sector_limit }
     ensures { ReadsSector count sector.new (I.seen image.old) (I.seen image.new) result }
 {
@@ -48,14 +48,14 @@ fn read_bytes<I: Source>(
     count: u32,
     bytes: &mut [u8; SECTOR_SIZE],
 ) -> Result<Option<usize>, Fault>
-    requires countable { MayCount (I.seen image.old).failures }
+    requires countable { CanCountFailure (I.seen image.old).failures }
     requires few { count ≤ sector_limit }
     ensures { ReadsSector count bytes.new (I.seen image.old) (I.seen image.new) result }
 {
     if count == MAX_SECTORS {
         return read_end(image, bytes);
     }
-    let length = fill(image, bytes)?;
+    let length = fill_buffer(image, bytes)?;
     if length < SECTOR_SIZE {
         return Ok(Some(length));
     }
@@ -66,7 +66,7 @@ fn read_bytes<I: Source>(
 /// must not come. So an image of exactly 2,352,000,000 bytes is whole, and of a longer one just one
 /// byte more is read.
 fn read_end<I: Source>(image: &mut I, bytes: &mut [u8; SECTOR_SIZE]) -> Result<Option<usize>, Fault>
-    requires { MayCount (I.seen image.old).failures }
+    requires { CanCountFailure (I.seen image.old).failures }
     ensures { ReadsSector sector_limit bytes.new (I.seen image.old) (I.seen image.new) result }
 {
     if image.read(&mut bytes[..1])? > 0 {

@@ -176,7 +176,7 @@ module _ (base : ℕ) (tally : AuditTally) (sector : List ℕ) (out out' : Outgo
       record {
         line = one.0;
         count = went.0;
-        behind = λ others. audit_lines (block + 1) others;
+        after = λ others. audit_lines (block + 1) others;
         takes =
             subst (λ t. Takes out out' (take went.0 t))
             (ap text_of one.1 ∙ append-nil one.0) went.2;

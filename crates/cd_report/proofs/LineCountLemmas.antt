@@ -18,16 +18,16 @@ use Rattle.cd_read.proofs.general.Counts.{count_by-cons}
 use Rattle.cd_read.proofs.ImageLemmas.{length-sectors-le, length-tail-le}
 use Rattle.cd_report.proofs.ScanLemmas.{text_of-append}
 
-line_count-append : (front behind : List ℕ)
-    → line_count (front ++ behind) ≡ line_count front + line_count behind
-line_count-append front behind = sum_by-append (λ b. cond (b == 10) 1 0) front behind
+line_count-append : (front after : List ℕ)
+    → line_count (front ++ after) ≡ line_count front + line_count after
+line_count-append front after = sum_by-append (λ b. cond (b == 10) 1 0) front after
 
 -- no line ends in a front
-line_count-behind : (front behind : List ℕ) → line_count front ≡ 0
-    → line_count (front ++ behind) ≡ line_count behind
-line_count-behind front behind none =
-    line_count-append front behind ∙ ap (λ n. n + line_count behind) none
-    ∙ zero-add (line_count behind)
+line_count-after : (front after : List ℕ) → line_count front ≡ 0
+    → line_count (front ++ after) ≡ line_count after
+line_count-after front after none =
+    line_count-append front after ∙ ap (λ n. n + line_count after) none
+    ∙ zero-add (line_count after)
 
 -- ---- numbers and names
 
@@ -39,7 +39,7 @@ digit-no_end d =
 line_count-decimal : (n : ℕ) → n < 2 ^ 64 → line_count (decimal n) ≡ 0
 line_count-decimal =
     decimal_by_steps (λ m ds. line_count ds ≡ 0) (λ m l. digit-no_end m)
-    (λ m ds l h. line_count-behind ds ((48 + m % 10) ∷ []) h ∙ digit-no_end (m % 10))
+    (λ m ds l h. line_count-after ds ((48 + m % 10) ∷ []) h ∙ digit-no_end (m % 10))
 
 line_count-name : (found : Bool) (name : List ℕ) → line_count name ≡ 0
     → line_count (name_if found name) ≡ 0
@@ -50,7 +50,7 @@ line_count-count : (name : List ℕ) (n : ℕ) → line_count name ≡ 0 → n <
     → line_count (count_if name n) ≡ 0
 line_count-count name n none small =
     elim (is_nonzero n) as (λ t. line_count (cond t (name ++ decimal n) []) ≡ 0) [
-      | true ↦ line_count-behind name (decimal n) none ∙ line_count-decimal n small
+      | true ↦ line_count-after name (decimal n) none ∙ line_count-decimal n small
       | false ↦ refl
     ]
 
@@ -58,7 +58,7 @@ line_count-count name n none small =
 
 -- nor in two
 none_in_both : (x y : List ℕ) → line_count x ≡ 0 → line_count y ≡ 0 → line_count (x ++ y) ≡ 0
-none_in_both x y in_x in_y = line_count-behind x y in_x ∙ in_y
+none_in_both x y in_x in_y = line_count-after x y in_x ∙ in_y
 
 module _ (a b c d e f : List ℕ) (in_a : line_count a ≡ 0) (in_b : line_count b ≡ 0)
     (in_c : line_count c ≡ 0) (in_d : line_count d ≡ 0) (in_e : line_count e ≡ 0)
@@ -80,7 +80,7 @@ line_count-finding block found low few_p few_q =
     let d = name_if found.defect.edc (codes " edc") in
     let e = count_if (codes " p=") found.defect.p in
     let f = count_if (codes " q=") found.defect.q in
-    line_count-behind (a ++ b ++ c ++ d ++ e ++ f) (codes "\n")
+    line_count-after (a ++ b ++ c ++ d ++ e ++ f) (codes "\n")
     (none_in_six a b c d e f (line_count-decimal block low)
     (line_count-name found.address (codes " address") refl)
     (line_count-name found.defect.zeros (codes " zeros") refl)
@@ -95,7 +95,7 @@ line_count-end tally s m d t =
     let six =
     codes "sectors " ++ decimal tally.sectors ++ codes " mode1 " ++ decimal tally.mode1
     ++ codes " damaged " ++ decimal tally.damaged in
-    line_count-behind (six ++ codes " tail " ++ decimal tally.tail) (codes "\n")
+    line_count-after (six ++ codes " tail " ++ decimal tally.tail) (codes "\n")
     (none_in_both (six ++ codes " tail ") (decimal tally.tail) (none_in_both six (codes " tail ")
     (none_in_six (codes "sectors ") (decimal tally.sectors) (codes " mode1 ") (decimal tally.mode1)
     (codes " damaged ") (decimal tally.damaged)

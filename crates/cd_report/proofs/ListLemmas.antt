@@ -41,7 +41,7 @@ module _ (base : ℕ) (run : Option OpenRun) (count : ℕ) (sector : List ℕ) (
   List-failed failed = record {
     line = failed.line;
     count = failed.count;
-    behind = λ others. ended_lines (base + count) (kind_of sector ∷ map kind_of others);
+    after = λ others. ended_lines (base + count) (kind_of sector ∷ map kind_of others);
     takes = failed.takes;
     lines = λ others. failed.lines (map kind_of others);
     last = refl;

@@ -12,10 +12,10 @@ use Rattle.cd_report.specs.Scanning.{FailsToExtend, HasExtended, ended_lines, la
 use Rattle.cd_report.specs.declared.listing.OpenRun.{OpenRun}
 use Rattle.cd_report.proofs.RunLemmas.{IsOther, put_before-begins, runs-run}
 
-replicate-behind : (n : ℕ) (kind : SectorKind) (others : List SectorKind)
+replicate-after : (n : ℕ) (kind : SectorKind) (others : List SectorKind)
     → replicate n kind ++ kind ∷ others ≡ replicate (suc n) kind ++ others
-replicate-behind zero kind others = refl
-replicate-behind (suc n) kind others = ap (λ l. kind ∷ l) (replicate-behind n kind others)
+replicate-after zero kind others = refl
+replicate-after (suc n) kind others = ap (λ l. kind ∷ l) (replicate-after n kind others)
 
 -- a run of one sector
 kinds-new : (block : ℕ) (kind : SectorKind) (others : List SectorKind)
@@ -84,7 +84,7 @@ module _ (run : OpenRun) (block : ℕ) (kind : SectorKind) (ends : EndsBefore (S
       longer others =
           let more : suc (run.last + 1 - run.first) ≡ block + 1 - run.first = omega arith in
           ap (λ k. kinds_of run ++ k ∷ others) (sym same)
-          ∙ replicate-behind (run.last + 1 - run.first) run.kind others
+          ∙ replicate-after (run.last + 1 - run.first) run.kind others
           ∙ ap (λ n. replicate n run.kind ++ others) more
 
   module _ (other : run.kind ≡ kind → ⊥) (others : List SectorKind) where

@@ -52,7 +52,7 @@ Finishes-at_flush X rest last out middle late out' e line end flush = (
 )
 
 -- a beginning of what comes after
-pub IsBeginning-behind : (front part whole : List ℕ) → IsBeginning part whole
+pub IsBeginning-after : (front part whole : List ℕ) → IsBeginning part whole
     → IsBeginning (front ++ part) (front ++ whole)
-IsBeginning-behind front part whole begins =
+IsBeginning-after front part whole begins =
     (begins.0, ap (λ w. front ++ w) begins.1 ∙ sym (append_assoc front part begins.0))

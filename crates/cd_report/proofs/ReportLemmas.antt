@@ -2,9 +2,9 @@
 use Rattle.std.proofs.Common.{◌≡◌, ◌↔◌, ℕ, ◌+◌, true, List, [], ◌++◌, Option, None, Some, Result, Ok, Err, IfOk, OnOk, refl, sym, ap, ◌∙◌, arith, append-nil, length, ◌<◌, ◌≤◌, length-append}
 use Rattle.std.specs.Io.KnownBytes.{Appends, Consumes, IsAtEnd}
 use Rattle.std.proofs.lemmas.Bool.{true≢false}
-use Rattle.cd_read.specs.Ends.{AnswersByEnd, AnswersByLength, EndsWell, TellsTooLong}
+use Rattle.cd_read.specs.Ends.{AnswersByEnd, AnswersByLength, AnswersTooLong, EndsWell}
 use Rattle.cd_read.proofs.general.KnownBytes.{appended, consumed_all}
-use Rattle.cd_read.proofs.EndLemmas.{beyond_by_length, ended_by_length, not_beyond, told_beyond}
+use Rattle.cd_read.proofs.EndLemmas.{beyond_by_length, ended_by_length, not_beyond, is_beyond}
 use Rattle.cd_report.specs.Report.{Reports, ReportSpec, WritesText}
 use Rattle.cd_stream.specs.Stream.{Incoming, Outgoing}
 use Rattle.cd_read.specs.Image.{image_limit}
@@ -14,7 +14,7 @@ use Rattle.cd_read.specs.declared.fault.Fault.TheVariants.{Log, Read, TooLong, W
 module _ {T : Type 0} {spec : ReportSpec T} {image image' : Incoming} {out out' : Outgoing} where
   pub Reports-text : (result : Result T Fault) → Reports spec image image' out out' result
       → IfOk result (WritesText spec image image' out out')
-  Reports-text (Ok told) report = λ bytes earlier gives holds.
+  Reports-text (Ok reported) report = λ bytes earlier gives holds.
       let all =
       consumed_all image.rest image'.rest report.read bytes report.gives.consumes
       report.answers.at_end gives in (
@@ -27,7 +27,7 @@ module _ {T : Type 0} {spec : ReportSpec T} {image image' : Incoming} {out out' 
 
   pub Reports-ends_well : (result : Result T Fault) → Reports spec image image' out out' result
       → OnOk result (EndsWell image image' out out')
-  Reports-ends_well (Ok told) report =
+  Reports-ends_well (Ok reported) report =
       record {
         reads = report.answers.reads;
         writes = report.answers.writes;
@@ -37,7 +37,7 @@ module _ {T : Type 0} {spec : ReportSpec T} {image image' : Incoming} {out out' 
 
   pub Reports-read_failed : (result : Result T Fault) → Reports spec image image' out out' result
       → (result ≡ Err Read) ↔ (image'.failures ≡ image.failures + 1)
-  Reports-read_failed (Ok told) report =
+  Reports-read_failed (Ok reported) report =
       (λ e. cc, λ h. absurd (omega (arith, report.answers.reads)))
   Reports-read_failed (Err Read) report = (λ e. report.answers.reads, λ h. refl)
   Reports-read_failed (Err Log) report = absurd report.answers
@@ -48,7 +48,7 @@ module _ {T : Type 0} {spec : ReportSpec T} {image image' : Incoming} {out out' 
 
   pub Reports-write_failed : (result : Result T Fault) → Reports spec image image' out out' result
       → (result ≡ Err Write) ↔ (out'.failures ≡ out.failures + 1)
-  Reports-write_failed (Ok told) report =
+  Reports-write_failed (Ok reported) report =
       (λ e. cc, λ h. absurd (omega (arith, report.answers.writes)))
   Reports-write_failed (Err Read) report =
       (λ e. cc, λ h. absurd (omega (arith, report.answers.writes)))
@@ -57,27 +57,27 @@ module _ {T : Type 0} {spec : ReportSpec T} {image image' : Incoming} {out out' 
   Reports-write_failed (Err TooLong) report =
       (λ e. cc, λ h. absurd (omega (arith, report.answers.writes)))
 
-  pub Reports-too_long_told : (result : Result T Fault) → Reports spec image image' out out' result
-      → TellsTooLong image image' result
-  Reports-too_long_told (Ok told) report =
-      not_beyond image image' (Ok told) report.read report.gives.consumes report.answers.within
+  pub Reports-answers_too_long : (result : Result T Fault) → Reports spec image image' out out' result
+      → AnswersTooLong image image' result
+  Reports-answers_too_long (Ok reported) report =
+      not_beyond image image' (Ok reported) report.read report.gives.consumes report.answers.within
       (λ e. cc)
-  Reports-too_long_told (Err Read) report =
+  Reports-answers_too_long (Err Read) report =
       not_beyond image image' (Err Read) report.read report.gives.consumes report.answers.within
       (λ e. cc)
-  Reports-too_long_told (Err Write) report =
+  Reports-answers_too_long (Err Write) report =
       not_beyond image image' (Err Write) report.read report.gives.consumes report.answers.within
       (λ e. cc)
-  Reports-too_long_told (Err Log) report = absurd report.answers
-  Reports-too_long_told (Err TooLong) report =
-      told_beyond image image' report.read report.gives.consumes
+  Reports-answers_too_long (Err Log) report = absurd report.answers
+  Reports-answers_too_long (Err TooLong) report =
+      is_beyond image image' report.read report.gives.consumes
       (omega (arith, report.answers.beyond))
 
   pub Reports-by_length : (result : Result T Fault) → Reports spec image image' out out' result
       → image'.failures ≡ image.failures → out'.failures ≡ out.failures
       → AnswersByLength image result
-  Reports-by_length (Ok told) report no_read no_write =
-      ended_by_length image image' told report.read report.gives.consumes report.answers.at_end
+  Reports-by_length (Ok reported) report no_read no_write =
+      ended_by_length image image' reported report.read report.gives.consumes report.answers.at_end
       report.answers.within
   Reports-by_length (Err Read) report no_read no_write =
       absurd (omega (arith, report.answers.reads, no_read))
@@ -90,12 +90,12 @@ module _ {T : Type 0} {spec : ReportSpec T} {image image' : Incoming} {out out' 
 
   pub Reports-ended : (result : Result T Fault) → Reports spec image image' out out' result
       → OnOk result (image'.ended ≡ true)
-  Reports-ended (Ok told) report = report.answers.ended
+  Reports-ended (Ok reported) report = report.answers.ended
   Reports-ended (Err fault) report = tt
 
   pub Reports-by_end : (result : Result T Fault) → Reports spec image image' out out' result
       → image'.failures ≡ image.failures → out'.failures ≡ out.failures → AnswersByEnd image' result
-  Reports-by_end (Ok told) report no_read no_write =
+  Reports-by_end (Ok reported) report no_read no_write =
       (λ e. refl, λ e. absurd (true≢false (sym report.answers.ended ∙ e)))
   Reports-by_end (Err Read) report no_read no_write =
       absurd (omega (arith, report.answers.reads, no_read))

@@ -4,7 +4,7 @@ use Rattle.std.proofs.lemmas.Bool.Decides.{nat_tests}
 use Rattle.cd_sector.specs.Kind.{kind_number}
 use Rattle.cd_sector.specs.declared.kinds.SectorKind.{SectorKind}
 use Rattle.cd_sector.specs.declared.kinds.SectorKind.TheVariants.{NoSync, Mode0, Mode1, Mode2, Other}
-use Rattle.cd_report.specs.Runs.{Run, AreMaximal, put_before, runs, same_kind, kinds_of}
+use Rattle.cd_report.specs.Runs.{Run, AreMaximal, prepend_kind, runs, same_kind, kinds_of}
 
 -- the kind of a number
 kind_at : ℕ → SectorKind
@@ -44,7 +44,7 @@ same_kind-false a b differ =
 -- runs with one more kind before them begin with a run of that kind
 pub put_before-begins : (kind : SectorKind) (rs : List Run)
     → (count : ℕ) × (others : List Run)
-    × (put_before kind rs ≡ record { kind = kind; count = count } ∷ others)
+    × (prepend_kind kind rs ≡ record { kind = kind; count = count } ∷ others)
 put_before-begins kind [] = (1, [], refl)
 put_before-begins kind (run ∷ others) =
     elim (same_kind kind run.kind) as
@@ -62,12 +62,12 @@ IsOther kind [] = Unit {0}
 IsOther kind (next ∷ others) = kind ≢ next
 
 put_before-other : (kind : SectorKind) (others : List SectorKind) → IsOther kind others
-    → put_before kind (runs others) ≡ record { kind = kind; count = 1 } ∷ runs others
+    → prepend_kind kind (runs others) ≡ record { kind = kind; count = 1 } ∷ runs others
 put_before-other kind [] other = refl
 put_before-other kind (next ∷ others) other =
     let begins = put_before-begins next (runs others) in
     let joined : same_kind kind next ≡ false = same_kind-false kind next other in
-    subst (λ rs. put_before kind rs ≡ record { kind = kind; count = 1 } ∷ rs) (sym begins.2)
+    subst (λ rs. prepend_kind kind rs ≡ record { kind = kind; count = 1 } ∷ rs) (sym begins.2)
     (ap (λ t. cond t (record { kind = kind; count = begins.0 + 1 } ∷ begins.1)
     (record { kind = kind; count = 1 } ∷ record { kind = next; count = begins.0 } ∷ begins.1))
     joined)
@@ -78,14 +78,14 @@ pub runs-run : (count : ℕ) (kind : SectorKind) (others : List SectorKind) → 
     ≡ record { kind = kind; count = suc count } ∷ runs others
 runs-run zero kind others other = put_before-other kind others other
 runs-run (suc count) kind others other =
-    ap (put_before kind) (runs-run count kind others other)
+    ap (prepend_kind kind) (runs-run count kind others other)
     ∙ ap (λ t. cond t (record { kind = kind; count = suc count + 1 } ∷ runs others)
     (record { kind = kind; count = 1 } ∷ record { kind = kind; count = suc count } ∷ runs others))
     (same_kind-refl kind)
     ∙ ap (λ n. record { kind = kind; count = n } ∷ runs others) (add-one (suc count))
 
 kinds_of-put_before : (kind : SectorKind) (rs : List Run)
-    → kinds_of (put_before kind rs) ≡ kind ∷ kinds_of rs
+    → kinds_of (prepend_kind kind rs) ≡ kind ∷ kinds_of rs
 kinds_of-put_before kind [] = refl
 kinds_of-put_before kind (run ∷ others) =
     elim (same_kind kind run.kind) as (λ t. same_kind kind run.kind ≡ t
@@ -99,7 +99,7 @@ kinds_of-put_before kind (run ∷ others) =
     ] refl
 
 AreMaximal-put_before : (kind : SectorKind) (rs : List Run) → AreMaximal rs
-    → AreMaximal (put_before kind rs)
+    → AreMaximal (prepend_kind kind rs)
 AreMaximal-put_before kind [] maximal = omega arith
 AreMaximal-put_before kind (run ∷ others) maximal =
     elim (same_kind kind run.kind) as (λ t. same_kind kind run.kind ≡ t

@@ -6,7 +6,7 @@ use Rattle.std.proofs.lemmas.Grind.{flat_map-append}
 use Rattle.cd_read.specs.Image.{image_limit, sectors, tail}
 use Rattle.cd_report.specs.Lines.{all_but_last, text_of}
 use Rattle.cd_read.specs.Reading.{ReadsSector}
-use Rattle.cd_report.specs.Report.{Answers, Reports, ReportSpec}
+use Rattle.cd_report.specs.Report.{ReportAnswers, Reports, ReportSpec}
 use Rattle.cd_report.specs.Scanning.{Finishes, HasFailed, HasVisited, Remaining, spec_of}
 use Rattle.cd_read.specs.declared.fault.Fault.{Fault}
 use Rattle.cd_read.specs.declared.fault.Fault.TheVariants.{Log, Read, TooLong, Write}
@@ -15,14 +15,14 @@ use Rattle.cd_stream.specs.Transfer.{CountsFlush, Gives, Takes}
 use Rattle.cd_stream.proofs.TransferLemmas.{Gives-trans, Takes-nil, Takes-trans}
 use Rattle.cd_stream.specs.declared.sink.SinkFailed.{SinkFailed}
 use Rattle.cd_read.proofs.ImageLemmas.{length-tail, sectors-sector, sectors-short}
-use Rattle.cd_read.proofs.EndLemmas.{Fits-begins, FitsLeft-begins, FitsLeft-end}
-use Rattle.cd_report.proofs.PassLemmas.{IsBeginning-behind, IsBeginning-take}
+use Rattle.cd_read.proofs.EndLemmas.{Fits-begins, MayBeImageAtEnd-begins, MayBeImageAtEnd-end}
+use Rattle.cd_report.proofs.PassLemmas.{IsBeginning-after, IsBeginning-take}
 
 -- ---- lines
 
-pub text_of-append : (front behind : List (List ℕ))
-    → text_of (front ++ behind) ≡ text_of front ++ text_of behind
-text_of-append front behind = flat_map-append (λ line. line) front behind
+pub text_of-append : (front after : List (List ℕ))
+    → text_of (front ++ after) ≡ text_of front ++ text_of after
+text_of-append front after = flat_map-append (λ line. line) front after
 
 all_but_last-append : (front : List (List ℕ)) (line : List ℕ)
     → all_but_last (front ++ line ∷ []) ≡ front
@@ -35,7 +35,7 @@ all_but_last-begins : (lines : List (List ℕ))
 all_but_last-begins [] = ([], refl)
 all_but_last-begins (x ∷ []) = (text_of (x ∷ []), refl)
 all_but_last-begins (x ∷ y ∷ ys) =
-    IsBeginning-behind x (text_of (all_but_last (y ∷ ys))) (text_of (y ∷ ys))
+    IsBeginning-after x (text_of (all_but_last (y ∷ ys))) (text_of (y ∷ ys))
     (all_but_last-begins (y ∷ ys))
 
 -- ---- the pass
@@ -46,7 +46,7 @@ at_most_one same = (omega (arith, same), omega (arith, same))
 
 -- after `count` sectors: whatever sectors may still come, the report of all is what has gone out
 -- and what is still to be written
-pub record Told {T : Type 0} (first now : Remaining T) (image image' : Incoming)
+pub record ScanInvariant {T : Type 0} (first now : Remaining T) (image image' : Incoming)
     (out out' : Outgoing) (count : ℕ) : Type 0 where
   pub read : List ℕ
   pub sent : List (List ℕ)
@@ -66,9 +66,9 @@ pub record Told {T : Type 0} (first now : Remaining T) (image image' : Incoming)
       → first.tally (done ++ others) left ≡ now.tally others left
   pub nothing_due : now.lines [] ≡ []
 
-pub Told-start : {T : Type 0} (first : Remaining T) (image : Incoming) (out : Outgoing)
-    → first.lines [] ≡ [] → Told first first image image out out 0
-Told-start first image out none = record {
+pub ScanInvariant-start : {T : Type 0} (first : Remaining T) (image : Incoming) (out : Outgoing)
+    → first.lines [] ≡ [] → ScanInvariant first first image image out out 0
+ScanInvariant-start first image out none = record {
   read = [];
   sent = [];
   done = [];
@@ -87,92 +87,92 @@ Told-start first image out none = record {
 }
 
 module _ {T : Type 0} (first now : Remaining T) (image before after : Incoming)
-    (out sunk : Outgoing) (count : ℕ) (told : Told first now image before out sunk count) where
+    (out sunk : Outgoing) (count : ℕ) (reported : ScanInvariant first now image before out sunk count) where
   -- the text of an image that begins with what was read
   known : (more : List ℕ)
-      → (spec_of first).text (told.read ++ more)
-      ≡ text_of told.sent
+      → (spec_of first).text (reported.read ++ more)
+      ≡ text_of reported.sent
       ++ (text_of (now.lines (sectors more))
-      ++ now.end (sectors more) (length (tail (told.read ++ more))))
+      ++ now.end (sectors more) (length (tail (reported.read ++ more))))
   known more =
-      let left = length (tail (told.read ++ more)) in
+      let left = length (tail (reported.read ++ more)) in
       let ss = sectors more in
-      ap (λ all. text_of (first.lines all) ++ first.end all left) (told.cut more)
-      ∙ ap (λ ls. text_of ls ++ first.end (told.done ++ ss) left) (told.lines ss)
-      ∙ ap (λ e. text_of (told.sent ++ now.lines ss) ++ e) (told.end ss left)
-      ∙ ap (λ t. t ++ now.end ss left) (text_of-append told.sent (now.lines ss))
-      ∙ append_assoc (text_of told.sent) (text_of (now.lines ss)) (now.end ss left)
+      ap (λ all. text_of (first.lines all) ++ first.end all left) (reported.cut more)
+      ∙ ap (λ ls. text_of ls ++ first.end (reported.done ++ ss) left) (reported.lines ss)
+      ∙ ap (λ e. text_of (reported.sent ++ now.lines ss) ++ e) (reported.end ss left)
+      ∙ ap (λ t. t ++ now.end ss left) (text_of-append reported.sent (now.lines ss))
+      ∙ append_assoc (text_of reported.sent) (text_of (now.lines ss)) (now.end ss left)
 
   sent_begins : (more : List ℕ)
-      → IsBeginning (text_of told.sent) ((spec_of first).text (told.read ++ more))
+      → IsBeginning (text_of reported.sent) ((spec_of first).text (reported.read ++ more))
   sent_begins more = (_, known more)
 
   module _ (came : List ℕ) (gives : Gives before after came) where
-    gives_all : Gives image after (told.read ++ came)
-    gives_all = Gives-trans image before after told.read came told.gives gives
+    gives_all : Gives image after (reported.read ++ came)
+    gives_all = Gives-trans image before after reported.read came reported.gives gives
 
-    length_read : length (told.read ++ came) ≡ 2352 * count + length came
-    length_read = length-append told.read came ∙ ap (λ n. n + length came) told.size
+    length_read : length (reported.read ++ came) ≡ 2352 * count + length came
+    length_read = length-append reported.read came ∙ ap (λ n. n + length came) reported.size
 
-    begins_further : (whole : List ℕ) → IsBeginning (told.read ++ came) whole
-        → IsBeginning (text_of told.sent) ((spec_of first).text whole)
+    begins_further : (whole : List ℕ) → IsBeginning (reported.read ++ came) whole
+        → IsBeginning (text_of reported.sent) ((spec_of first).text whole)
     begins_further whole begins =
-        subst (λ w. IsBeginning (text_of told.sent) ((spec_of first).text w))
-        (sym (begins.1 ∙ append_assoc told.read came begins.0)) (sent_begins (came ++ begins.0))
+        subst (λ w. IsBeginning (text_of reported.sent) ((spec_of first).text w))
+        (sym (begins.1 ∙ append_assoc reported.read came begins.0)) (sent_begins (came ++ begins.0))
 
     module _ (short : length came < 2352) where
-      done_is : sectors (told.read ++ came) ≡ told.done ++ []
-      done_is = told.cut came ∙ ap (λ ss. told.done ++ ss) (sectors-short came short)
+      done_is : sectors (reported.read ++ came) ≡ reported.done ++ []
+      done_is = reported.cut came ∙ ap (λ ss. reported.done ++ ss) (sectors-short came short)
 
       -- the lines that are due are those that went out
-      due_is : (spec_of first).due (told.read ++ came) ≡ told.sent
+      due_is : (spec_of first).due (reported.read ++ came) ≡ reported.sent
       due_is =
-          ap first.lines done_is ∙ told.lines [] ∙ ap (λ ls. told.sent ++ ls) told.nothing_due
-          ∙ append-nil told.sent
+          ap first.lines done_is ∙ reported.lines [] ∙ ap (λ ls. reported.sent ++ ls) reported.nothing_due
+          ∙ append-nil reported.sent
 
-      pub Told-read : 2352 * count + length came ≤ image_limit
+      pub ScanInvariant-read : 2352 * count + length came ≤ image_limit
           → after.failures ≡ before.failures + 1 → after.ended ≡ false
           → Reports (spec_of first) image after out sunk (Err Read)
-      Told-read few failed unended = record {
-        read = told.read ++ came;
-        sent = text_of told.sent;
+      ScanInvariant-read few failed unended = record {
+        read = reported.read ++ came;
+        sent = text_of reported.sent;
         gives = gives_all;
-        takes = told.takes;
-        flushes = at_most_one told.unflushed;
+        takes = reported.takes;
+        flushes = at_most_one reported.unflushed;
         answers = record {
-          reads = failed ∙ ap (λ n. n + 1) told.reads;
-          writes = told.writes;
-          unflushed = told.unflushed;
+          reads = failed ∙ ap (λ n. n + 1) reported.reads;
+          writes = reported.writes;
+          unflushed = reported.unflushed;
           unended = unended;
           within = omega (arith, length_read);
           due_sent = ap text_of (sym due_is);
           beginning =
               λ whole fits.
               begins_further whole
-              (Fits-begins (told.read ++ came) whole (omega (arith, length_read)) fits);
+              (Fits-begins (reported.read ++ came) whole (omega (arith, length_read)) fits);
         };
       }
 
-      pub Told-too_long : 2352 * count ≡ image_limit → length came ≡ 1
+      pub ScanInvariant-too_long : 2352 * count ≡ image_limit → length came ≡ 1
           → after.failures ≡ before.failures → after.ended ≡ false
           → Reports (spec_of first) image after out sunk (Err TooLong)
-      Told-too_long full one kept unended = record {
-        read = told.read ++ came;
-        sent = text_of told.sent;
+      ScanInvariant-too_long full one kept unended = record {
+        read = reported.read ++ came;
+        sent = text_of reported.sent;
         gives = gives_all;
-        takes = told.takes;
-        flushes = at_most_one told.unflushed;
+        takes = reported.takes;
+        flushes = at_most_one reported.unflushed;
         answers = record {
-          reads = kept ∙ told.reads;
-          writes = told.writes;
-          unflushed = told.unflushed;
+          reads = kept ∙ reported.reads;
+          writes = reported.writes;
+          unflushed = reported.unflushed;
           unended = unended;
           beyond = omega (arith, length_read);
           due_sent = ap text_of (sym due_is);
           beginning = λ whole fits.
-              let limited : take image_limit (told.read ++ came) ≡ told.read =
-              take_at told.read came image_limit (told.size ∙ full) in
-              subst (λ w. IsBeginning (text_of told.sent) ((spec_of first).text w))
+              let limited : take image_limit (reported.read ++ came) ≡ reported.read =
+              take_at reported.read came image_limit (reported.size ∙ full) in
+              subst (λ w. IsBeginning (text_of reported.sent) ((spec_of first).text w))
               (sym (fits.begins.1 ∙ ap (λ l. l ++ fits.begins.0) limited))
               (sent_begins fits.begins.0);
         };
@@ -180,67 +180,67 @@ module _ {T : Type 0} (first now : Remaining T) (image before after : Incoming)
 
     module _ (sunk' : Outgoing) (kept : after.failures ≡ before.failures) where
       module _ (size : length came ≡ 2352) where
-        pub Told-next : (next : Remaining T) → HasVisited now next came sunk sunk'
+        pub ScanInvariant-next : (next : Remaining T) → HasVisited now next came sunk sunk'
             → sunk'.flushes ≡ sunk.flushes → sunk'.failures ≡ sunk.failures
-            → Told first next image after out sunk' (count + 1)
-        Told-next next taken unflushed wrote = record {
-          read = told.read ++ came;
-          sent = told.sent ++ taken.sent;
-          done = told.done ++ came ∷ [];
+            → ScanInvariant first next image after out sunk' (count + 1)
+        ScanInvariant-next next taken unflushed wrote = record {
+          read = reported.read ++ came;
+          sent = reported.sent ++ taken.sent;
+          done = reported.done ++ came ∷ [];
           gives = gives_all;
           takes =
-              subst (λ t. Takes out sunk' t) (sym (text_of-append told.sent taken.sent))
-              (Takes-trans out sunk sunk' (text_of told.sent)
-              (text_of taken.sent) told.takes taken.takes);
-          unflushed = unflushed ∙ told.unflushed;
-          reads = kept ∙ told.reads;
-          writes = wrote ∙ told.writes;
-          counted = length-append told.done (came ∷ []) ∙ ap (λ n. n + 1) told.counted;
+              subst (λ t. Takes out sunk' t) (sym (text_of-append reported.sent taken.sent))
+              (Takes-trans out sunk sunk' (text_of reported.sent)
+              (text_of taken.sent) reported.takes taken.takes);
+          unflushed = unflushed ∙ reported.unflushed;
+          reads = kept ∙ reported.reads;
+          writes = wrote ∙ reported.writes;
+          counted = length-append reported.done (came ∷ []) ∙ ap (λ n. n + 1) reported.counted;
           size = length_read ∙ omega arith;
           cut = λ more.
-              ap sectors (append_assoc told.read came more) ∙ told.cut (came ++ more)
-              ∙ ap (λ ss. told.done ++ ss) (sectors-sector came more size)
-              ∙ sym (append_assoc told.done (came ∷ []) (sectors more));
+              ap sectors (append_assoc reported.read came more) ∙ reported.cut (came ++ more)
+              ∙ ap (λ ss. reported.done ++ ss) (sectors-sector came more size)
+              ∙ sym (append_assoc reported.done (came ∷ []) (sectors more));
           lines = λ others.
-              ap first.lines (append_assoc told.done (came ∷ []) others)
-              ∙ told.lines (came ∷ others) ∙ ap (λ ls. told.sent ++ ls) (taken.lines others)
-              ∙ sym (append_assoc told.sent taken.sent (next.lines others));
+              ap first.lines (append_assoc reported.done (came ∷ []) others)
+              ∙ reported.lines (came ∷ others) ∙ ap (λ ls. reported.sent ++ ls) (taken.lines others)
+              ∙ sym (append_assoc reported.sent taken.sent (next.lines others));
           end =
               λ others left.
-              ap (λ ss. first.end ss left) (append_assoc told.done (came ∷ []) others)
-              ∙ told.end (came ∷ others) left ∙ taken.end others left;
+              ap (λ ss. first.end ss left) (append_assoc reported.done (came ∷ []) others)
+              ∙ reported.end (came ∷ others) left ∙ taken.end others left;
           tally =
               λ others left.
-              ap (λ ss. first.tally ss left) (append_assoc told.done (came ∷ []) others)
-              ∙ told.tally (came ∷ others) left ∙ taken.tally others left;
+              ap (λ ss. first.tally ss left) (append_assoc reported.done (came ∷ []) others)
+              ∙ reported.tally (came ∷ others) left ∙ taken.tally others left;
           nothing_due = taken.nothing_due;
         }
 
-        pub Told-write : HasFailed now came sunk sunk' → sunk'.flushes ≡ sunk.flushes
+        pub ScanInvariant-write : HasFailed now came sunk sunk' → sunk'.flushes ≡ sunk.flushes
             → 2352 * count + 2352 ≤ image_limit → sunk'.failures ≡ sunk.failures + 1
             → Reports (spec_of first) image after out sunk' (Err Write)
-        Told-write failed unflushed few rose = record {
-          read = told.read ++ came;
-          sent = text_of told.sent ++ part;
+        ScanInvariant-write failed unflushed few rose = record {
+          read = reported.read ++ came;
+          sent = text_of reported.sent ++ part;
           gives = gives_all;
-          takes = Takes-trans out sunk sunk' (text_of told.sent) part told.takes failed.takes;
-          flushes = at_most_one (unflushed ∙ told.unflushed);
+          takes = Takes-trans out sunk sunk' (text_of reported.sent) part reported.takes failed.takes;
+          flushes = at_most_one (unflushed ∙ reported.unflushed);
           answers = record {
-            reads = kept ∙ told.reads;
-            writes = rose ∙ ap (λ n. n + 1) told.writes;
-            unflushed = λ short. unflushed ∙ told.unflushed;
+            reads = kept ∙ reported.reads;
+            writes = rose ∙ ap (λ n. n + 1) reported.writes;
+            unflushed = λ short. unflushed ∙ reported.unflushed;
             within = omega (arith, length_read);
             due_sent = (
               part,
               ap (λ ls. text_of ls ++ part)
-                  (sym (ap all_but_last due_is ∙ all_but_last-append told.sent failed.line)),
+                  (sym (ap all_but_last due_is ∙ all_but_last-append reported.sent failed.line)),
             );
             beginning = λ whole fits.
                 let begins =
-                FitsLeft-begins after.rest (told.read ++ came) whole
+                MayBeImageAtEnd-begins after.rest (reported.read ++ came) whole
                 (omega (arith, length_read)) fits in
-                subst (λ w. IsBeginning (text_of told.sent ++ part) ((spec_of first).text w))
-                (sym (begins.1 ∙ append_assoc told.read came begins.0)) (part_begins begins.0);
+                subst (λ w. IsBeginning (text_of reported.sent ++ part) ((spec_of first).text w))
+                (sym (begins.1 ∙ append_assoc reported.read came begins.0)) (part_begins begins.0);
           };
         }
           where
@@ -250,130 +250,130 @@ module _ {T : Type 0} (first now : Remaining T) (image before after : Incoming)
             with_came : (more : List ℕ) → sectors (came ++ more) ≡ came ∷ sectors more
             with_came more = sectors-sector came more size
 
-            due_is : (spec_of first).due (told.read ++ came) ≡ told.sent ++ failed.line ∷ []
+            due_is : (spec_of first).due (reported.read ++ came) ≡ reported.sent ++ failed.line ∷ []
             due_is =
                 let only : sectors came ≡ came ∷ [] =
                 ap sectors (sym (append-nil came)) ∙ with_came []
                 ∙ ap (λ ss. came ∷ ss) (sectors-short [] (omega arith)) in
-                ap first.lines (told.cut came ∙ ap (λ ss. told.done ++ ss) only)
-                ∙ told.lines (came ∷ [])
-                ∙ ap (λ ls. told.sent ++ ls)
+                ap first.lines (reported.cut came ∙ ap (λ ss. reported.done ++ ss) only)
+                ∙ reported.lines (came ∷ [])
+                ∙ ap (λ ls. reported.sent ++ ls)
                 (failed.lines [] ∙ ap (λ ls. failed.line ∷ ls) failed.last)
 
             part_begins : (more : List ℕ)
-                → IsBeginning (text_of told.sent ++ part)
-                ((spec_of first).text (told.read ++ (came ++ more)))
+                → IsBeginning (text_of reported.sent ++ part)
+                ((spec_of first).text (reported.read ++ (came ++ more)))
             part_begins more =
                 let ss = sectors more in
-                let left = length (tail (told.read ++ (came ++ more))) in
-                let behind = text_of (failed.behind ss) in
+                let left = length (tail (reported.read ++ (came ++ more))) in
+                let after = text_of (failed.after ss) in
                 let rest = now.end (came ∷ ss) left in
                 let is =
                 known (came ++ more)
-                ∙ ap (λ all. text_of told.sent ++ (text_of (now.lines all) ++ now.end all left))
+                ∙ ap (λ all. text_of reported.sent ++ (text_of (now.lines all) ++ now.end all left))
                 (with_came more)
-                ∙ ap (λ ls. text_of told.sent ++ (text_of ls ++ rest)) (failed.lines ss)
-                ∙ ap (λ t. text_of told.sent ++ t) (append_assoc failed.line behind rest) in
-                subst (IsBeginning (text_of told.sent ++ part)) (sym is)
-                (IsBeginning-behind (text_of told.sent) part (failed.line ++ (behind ++ rest))
-                (IsBeginning-take failed.count failed.line (behind ++ rest)))
+                ∙ ap (λ ls. text_of reported.sent ++ (text_of ls ++ rest)) (failed.lines ss)
+                ∙ ap (λ t. text_of reported.sent ++ t) (append_assoc failed.line after rest) in
+                subst (IsBeginning (text_of reported.sent ++ part)) (sym is)
+                (IsBeginning-after (text_of reported.sent) part (failed.line ++ (after ++ rest))
+                (IsBeginning-take failed.count failed.line (after ++ rest)))
 
       module _ (short : length came < 2352) (few : 2352 * count + length came ≤ image_limit)
           (end : IsAtEnd after.rest) (ended : after.ended ≡ true) (left : ℕ)
           (left_is : left ≡ length came) where
-        tail_is : length (tail (told.read ++ came)) ≡ left
-        tail_is = length-tail told.read came count told.size short ∙ sym left_is
+        tail_is : length (tail (reported.read ++ came)) ≡ left
+        tail_is = length-tail reported.read came count reported.size short ∙ sym left_is
 
-        text_is : (spec_of first).text (told.read ++ came) ≡ text_of told.sent ++ now.end [] left
+        text_is : (spec_of first).text (reported.read ++ came) ≡ text_of reported.sent ++ now.end [] left
         text_is =
             known came
-            ∙ ap (λ ss. text_of told.sent
-            ++ (text_of (now.lines ss) ++ now.end ss (length (tail (told.read ++ came)))))
+            ∙ ap (λ ss. text_of reported.sent
+            ++ (text_of (now.lines ss) ++ now.end ss (length (tail (reported.read ++ came)))))
             (sectors-short came short)
-            ∙ ap (λ ls. text_of told.sent
-            ++ (text_of ls ++ now.end [] (length (tail (told.read ++ came))))) told.nothing_due
-            ∙ ap (λ n. text_of told.sent ++ now.end [] n) tail_is
+            ∙ ap (λ ls. text_of reported.sent
+            ++ (text_of ls ++ now.end [] (length (tail (reported.read ++ came))))) reported.nothing_due
+            ∙ ap (λ n. text_of reported.sent ++ now.end [] n) tail_is
 
-        pub Told-end : (answer : T) → answer ≡ now.tally [] left
+        pub ScanInvariant-end : (answer : T) → answer ≡ now.tally [] left
             → Finishes {X = T} {E = SinkFailed} (now.end [] left) sunk sunk' (Ok answer)
             → sunk'.flushes ≡ sunk.flushes + 1
             → sunk'.failures ≡ sunk.failures
             → Reports (spec_of first) image after out sunk' (Ok answer)
-        Told-end answer is finished flushed wrote = record {
-          read = told.read ++ came;
-          sent = text_of told.sent ++ now.end [] left;
+        ScanInvariant-end answer is finished flushed wrote = record {
+          read = reported.read ++ came;
+          sent = text_of reported.sent ++ now.end [] left;
           gives = gives_all;
           takes =
-              Takes-trans out sunk sunk' (text_of told.sent)
-              (now.end [] left) told.takes finished.1;
-          flushes = flushed ∙ ap (λ n. n + 1) told.unflushed;
+              Takes-trans out sunk sunk' (text_of reported.sent)
+              (now.end [] left) reported.takes finished.1;
+          flushes = flushed ∙ ap (λ n. n + 1) reported.unflushed;
           answers = record {
-            reads = kept ∙ told.reads;
-            writes = wrote ∙ told.writes;
+            reads = kept ∙ reported.reads;
+            writes = wrote ∙ reported.writes;
             finished = finished.0;
             at_end = end;
             ended = ended;
             within = omega (arith, length_read);
             whole_sent = sym text_is;
             tally_right =
-                is ∙ sym (told.tally [] left) ∙ ap (λ ss. first.tally ss left) (sym (done_is short))
-                ∙ ap (λ n. first.tally (sectors (told.read ++ came)) n) (sym tail_is);
+                is ∙ sym (reported.tally [] left) ∙ ap (λ ss. first.tally ss left) (sym (done_is short))
+                ∙ ap (λ n. first.tally (sectors (reported.read ++ came)) n) (sym tail_is);
           };
         }
 
-        pub Told-end_failed : (e : SinkFailed)
+        pub ScanInvariant-end_failed : (e : SinkFailed)
             → Finishes {X = T} (now.end [] left) sunk sunk' (Err e)
             → CountsFlush {X = T} sunk.flushes sunk'.flushes (Err e)
             → sunk'.failures ≡ sunk.failures + 1
             → Reports (spec_of first) image after out sunk' (Err Write)
-        Told-end_failed e finished flushed failed = record {
-          read = told.read ++ came;
-          sent = text_of told.sent ++ finished.0;
+        ScanInvariant-end_failed e finished flushed failed = record {
+          read = reported.read ++ came;
+          sent = text_of reported.sent ++ finished.0;
           gives = gives_all;
-          takes = Takes-trans out sunk sunk' (text_of told.sent) finished.0 told.takes finished.1;
+          takes = Takes-trans out sunk sunk' (text_of reported.sent) finished.0 reported.takes finished.1;
           flushes =
-              (omega (arith, flushed.0, told.unflushed), omega (arith, flushed.1, told.unflushed));
+              (omega (arith, flushed.0, reported.unflushed), omega (arith, flushed.1, reported.unflushed));
           answers = record {
-            reads = kept ∙ told.reads;
-            writes = failed ∙ ap (λ n. n + 1) told.writes;
+            reads = kept ∙ reported.reads;
+            writes = failed ∙ ap (λ n. n + 1) reported.writes;
             unflushed = λ short.
                 let size =
-                ap length text_is ∙ length-append (text_of told.sent) (now.end [] left) in
+                ap length text_is ∙ length-append (text_of reported.sent) (now.end [] left) in
                 finished.3
-                (omega (arith, short, size, length-append (text_of told.sent) finished.0))
-                ∙ told.unflushed;
+                (omega (arith, short, size, length-append (text_of reported.sent) finished.0))
+                ∙ reported.unflushed;
             within = omega (arith, length_read);
             due_sent =
-                let begins = all_but_last-begins told.sent in
+                let begins = all_but_last-begins reported.sent in
                 subst (λ ls. IsBeginning (text_of (all_but_last ls))
-                (text_of told.sent ++ finished.0)) (sym (due_is short)) (
+                (text_of reported.sent ++ finished.0)) (sym (due_is short)) (
                   begins.0 ++ finished.0,
                   ap (λ t. t ++ finished.0) begins.1
-                      ∙ append_assoc (text_of (all_but_last told.sent)) begins.0 finished.0,
+                      ∙ append_assoc (text_of (all_but_last reported.sent)) begins.0 finished.0,
                 );
             beginning = λ whole fits.
-                subst (λ w. IsBeginning (text_of told.sent ++ finished.0) ((spec_of first).text w))
-                (sym (FitsLeft-end after.rest (told.read ++ came) whole end fits))
-                (subst (IsBeginning (text_of told.sent ++ finished.0)) (sym text_is)
-                (IsBeginning-behind (text_of told.sent) finished.0 (now.end [] left) finished.2));
+                subst (λ w. IsBeginning (text_of reported.sent ++ finished.0) ((spec_of first).text w))
+                (sym (MayBeImageAtEnd-end after.rest (reported.read ++ came) whole end fits))
+                (subst (IsBeginning (text_of reported.sent ++ finished.0)) (sym text_is)
+                (IsBeginning-after (text_of reported.sent) finished.0 (now.end [] left) finished.2));
           };
         }
 
 -- the next sector was not read
-pub Told-unread : {T : Type 0} (first now : Remaining T) (image before after : Incoming)
-    (out sunk : Outgoing) (count : ℕ) → Told first now image before out sunk count
+pub ScanInvariant-unread : {T : Type 0} (first now : Remaining T) (image before after : Incoming)
+    (out sunk : Outgoing) (count : ℕ) → ScanInvariant first now image before out sunk count
     → (bytes : List ℕ) (fault : Fault)
     → ReadsSector count bytes before after (Err fault)
     → Reports (spec_of first) image after out sunk (Err fault)
-Told-unread first now image before after out sunk count told bytes Read r =
-    Told-read first now image before after out sunk count told r.came
+ScanInvariant-unread first now image before after out sunk count reported bytes Read r =
+    ScanInvariant-read first now image before after out sunk count reported r.came
     (record { consumes = r.consumes; counted = r.counted }) r.short r.within r.rose r.unended
-Told-unread first now image before after out sunk count told bytes TooLong r =
-    Told-too_long first now image before after out sunk count told r.came
+ScanInvariant-unread first now image before after out sunk count reported bytes TooLong r =
+    ScanInvariant-too_long first now image before after out sunk count reported r.came
     (record { consumes = r.consumes; counted = r.counted })
     (omega (arith, r.one)) r.full r.one r.kept r.unended
-Told-unread first now image before after out sunk count told bytes Write r = elim r [ ]
-Told-unread first now image before after out sunk count told bytes Log r = elim r [ ]
+ScanInvariant-unread first now image before after out sunk count reported bytes Write r = elim r [ ]
+ScanInvariant-unread first now image before after out sunk count reported bytes Log r = elim r [ ]
 
 -- ---- the same in other words
 
@@ -387,9 +387,9 @@ module _ {T : Type 0} (a b : ReportSpec T) (text : (image : List ℕ) → a.text
 
   answers_same : (read sent : List ℕ) (image image' : Incoming) (out out' : Outgoing)
       (result : Result T Fault)
-      → Answers a read sent image image' out out' result
-      → Answers b read sent image image' out out' result
-  answers_same read sent image image' out out' (Ok told) r = record {
+      → ReportAnswers a read sent image image' out out' result
+      → ReportAnswers b read sent image image' out out' result
+  answers_same read sent image image' out out' (Ok reported) r = record {
     reads = r.reads;
     writes = r.writes;
     finished = r.finished;

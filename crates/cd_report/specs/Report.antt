@@ -3,7 +3,7 @@
 use Rattle.std.specs.Prelude.{◌≡◌, ◌↔◌, ℕ, ◌+◌, ◌<◌, ◌≤◌, IsOk, false, true, List, [], ◌∷◌, ◌++◌}
 use Rattle.std.specs.Prelude.{length, take, Option, None, Some, Result, Ok, Err}
 use Rattle.std.specs.Io.KnownBytes.{IsAtEnd}
-use Rattle.cd_read.specs.Ends.{Fits, FitsLeft}
+use Rattle.cd_read.specs.Ends.{MayBeImage, MayBeImageAtEnd}
 use Rattle.cd_read.specs.Image.{image_limit}
 use Rattle.cd_report.specs.Lines.{all_but_last, text_of}
 use Rattle.cd_read.specs.declared.fault.Fault.{Fault}
@@ -19,8 +19,8 @@ pub record ReportSpec (T : Type 0) : Type 0 where
   pub tally : List ℕ → T
 
 -- the whole image was read until the source ended, and its whole text went out
-pub record Completes {T : Type 0} (spec : ReportSpec T) (read sent : List ℕ)
-    (image image' : Incoming) (out out' : Outgoing) (told : T) : Type 0 where
+pub record CompletesReport {T : Type 0} (spec : ReportSpec T) (read sent : List ℕ)
+    (image image' : Incoming) (out out' : Outgoing) (reported : T) : Type 0 where
   pub reads : image'.failures ≡ image.failures
   pub writes : out'.failures ≡ out.failures
   pub finished : out'.finished ≡ true
@@ -28,7 +28,7 @@ pub record Completes {T : Type 0} (spec : ReportSpec T) (read sent : List ℕ)
   pub ended : image'.ended ≡ true
   pub within : length read ≤ image_limit
   pub whole_sent : sent ≡ spec.text read
-  pub tally_right : told ≡ spec.tally read
+  pub tally_right : reported ≡ spec.tally read
 
 -- a read failed: just the lines that were due went out, which begin the text of each image that
 -- begins with what was read, and no flush was made
@@ -40,7 +40,7 @@ pub record StopsReading {T : Type 0} (spec : ReportSpec T) (read sent : List ℕ
   pub unended : image'.ended ≡ false
   pub within : length read ≤ image_limit
   pub due_sent : sent ≡ text_of (spec.due read)
-  pub beginning : (whole : List ℕ) → Fits read whole → IsBeginning sent (spec.text whole)
+  pub beginning : (whole : List ℕ) → MayBeImage read whole → IsBeginning sent (spec.text whole)
 
 -- a write failed, or the flush: the lines that were due went out, but for the last one. No flush
 -- was made before the whole text went out
@@ -51,7 +51,7 @@ pub record StopsWriting {T : Type 0} (spec : ReportSpec T) (read sent : List ℕ
   pub unflushed : length sent < length (spec.text read) → out'.flushes ≡ out.flushes
   pub within : length read ≤ image_limit
   pub due_sent : IsBeginning (text_of (all_but_last (spec.due read))) sent
-  pub beginning : (whole : List ℕ) → FitsLeft image'.rest read whole
+  pub beginning : (whole : List ℕ) → MayBeImageAtEnd image'.rest read whole
       → IsBeginning sent (spec.text whole)
 
 -- just one byte was read after the millionth sector; no flush was made
@@ -63,19 +63,20 @@ pub record StopsTooLong {T : Type 0} (spec : ReportSpec T) (read sent : List ℕ
   pub unended : image'.ended ≡ false
   pub beyond : length read ≡ image_limit + 1
   pub due_sent : sent ≡ text_of (spec.due read)
-  pub beginning : (whole : List ℕ) → Fits read whole → IsBeginning sent (spec.text whole)
+  pub beginning : (whole : List ℕ) → MayBeImage read whole → IsBeginning sent (spec.text whole)
 
 -- what was read and sent, by the answer: the whole report, or what each fault leaves
-abbrev pub Answers : {T : Type 0} → ReportSpec T → List ℕ → List ℕ → Incoming → Incoming → Outgoing
+abbrev pub ReportAnswers : {T : Type 0} → ReportSpec T → List ℕ → List ℕ → Incoming → Incoming
+    → Outgoing
     → Outgoing → Result T Fault → Type 0
-Answers spec read sent image image' out out' (Ok told) =
-    Completes spec read sent image image' out out' told
-Answers spec read sent image image' out out' (Err Read) =
+ReportAnswers spec read sent image image' out out' (Ok reported) =
+    CompletesReport spec read sent image image' out out' reported
+ReportAnswers spec read sent image image' out out' (Err Read) =
     StopsReading spec read sent image image' out out'
-Answers spec read sent image image' out out' (Err Write) =
+ReportAnswers spec read sent image image' out out' (Err Write) =
     StopsWriting spec read sent image image' out out'
-Answers spec read sent image image' out out' (Err Log) = ⊥
-Answers spec read sent image image' out out' (Err TooLong) =
+ReportAnswers spec read sent image image' out out' (Err Log) = ⊥
+ReportAnswers spec read sent image image' out out' (Err TooLong) =
     StopsTooLong spec read sent image image' out out'
 
 -- a call's whole contract: it read some bytes, sent some, made one flush at the end, and answered
@@ -87,13 +88,13 @@ pub record Reports {T : Type 0} (spec : ReportSpec T) (image image' : Incoming)
   pub gives : Gives image image' read
   pub takes : Takes out out' sent
   pub flushes : CountsFlush out.flushes out'.flushes result
-  pub answers : Answers spec read sent image image' out out' result
+  pub answers : ReportAnswers spec read sent image image' out out' result
 
 -- if the bytes of source and sink are known: all of the image was read, and the sink got its text
 -- after what it had
 abbrev pub WritesText : {T : Type 0} → ReportSpec T → Incoming → Incoming → Outgoing → Outgoing → T
     → Type 0
-WritesText spec image image' out out' told =
+WritesText spec image image' out out' reported =
     (bytes earlier : List ℕ) → image.rest ≡ Some bytes → out.written ≡ Some earlier
     → (image'.rest ≡ Some []) × (out'.written ≡ Some (earlier ++ spec.text bytes))
-    × (told ≡ spec.tally bytes)
+    × (reported ≡ spec.tally bytes)

@@ -15,16 +15,16 @@ abbrev pub same_kind : SectorKind → SectorKind → Bool
 same_kind a b = kind_number a == kind_number b
 
 -- one more sector before runs: it joins the first if that is of its kind
-abbrev pub put_before : SectorKind → List Run → List Run
-put_before kind [] = record { kind = kind; count = 1 } ∷ []
-put_before kind (run ∷ others) =
+abbrev pub prepend_kind : SectorKind → List Run → List Run
+prepend_kind kind [] = record { kind = kind; count = 1 } ∷ []
+prepend_kind kind (run ∷ others) =
     if same_kind kind run.kind then record { kind = kind; count = run.count + 1 } ∷ others
     else record { kind = kind; count = 1 } ∷ run ∷ others
 
 -- the runs of a list of kinds
 abbrev pub runs : List SectorKind → List Run
 runs [] = []
-runs (kind ∷ others) = put_before kind (runs others)
+runs (kind ∷ others) = prepend_kind kind (runs others)
 
 -- the kinds that runs stand for
 abbrev pub kinds_of : List Run → List SectorKind

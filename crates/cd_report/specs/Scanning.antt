@@ -53,10 +53,10 @@ pub record HasFailed {T : Type 0} (old : Remaining T) (sector : List ℕ)
     (out out' : Outgoing) : Type 0 where
   pub line : List ℕ
   pub count : ℕ
-  pub behind : List (List ℕ) → List (List ℕ)
+  pub after : List (List ℕ) → List (List ℕ)
   pub takes : Takes out out' (take count line)
-  pub lines : (others : List (List ℕ)) → old.lines (sector ∷ others) ≡ line ∷ behind others
-  pub last : behind [] ≡ []
+  pub lines : (others : List (List ℕ)) → old.lines (sector ∷ others) ≡ line ∷ after others
+  pub last : after [] ≡ []
 
 -- one sector was visited, or the write of its line failed
 abbrev pub Visits : {T X E : Type 0} → Remaining T → Remaining T → List ℕ → Outgoing → Outgoing

@@ -2,11 +2,11 @@
 
 ghost use Rattle.std.specs.Prelude.{◌≡◌, ◌+◌, ◌<◌, ◌≤◌, ◌↔◌, [], true, IfOk, OnOk};
 ghost use Rattle.cd_report.specs.AuditText.{audit_end, audit_report};
-ghost use Rattle.cd_read.specs.Ends.{AnswersByEnd, AnswersByLength, EndsWell, TellsTooLong};
+ghost use Rattle.cd_read.specs.Ends.{AnswersByEnd, AnswersByLength, AnswersTooLong, EndsWell};
 ghost use Rattle.cd_report.specs.Report.{Reports, WritesText};
 ghost use Rattle.cd_report.specs.Scanning.{tally_with};
 ghost use Rattle.cd_stream.specs.Transfer.{CountsFlush, Sends};
-ghost use Rattle.cd_stream.specs.Stream.{MayCount};
+ghost use Rattle.cd_stream.specs.Stream.{CanCountFailure};
 ghost use Rattle.cd_read.specs.Image.{base_limit, sector_limit};
 
 use crate::MAX_BASE;
@@ -57,7 +57,7 @@ fn with_sector(tally: AuditTally, found: Option<Findings>) -> AuditTally
 /// Writes the last line of an audit.
 #[tactic(auto, unfolding(crate::specs::AuditText::audit_end))]
 fn send_end<O: Sink>(tally: AuditTally, out: &mut O) -> Result<(), SinkFailed>
-    requires { MayCount (O.seen out.old).failures }
+    requires { CanCountFailure (O.seen out.old).failures }
     ensures { Sends (O.seen out.old) (O.seen out.new) (audit_end tally) result }
 {
     let mut line = Line::new();
@@ -138,8 +138,8 @@ impl Visitor for Auditor {
 /// ```
 pub fn audit<I: Source, O: Sink>(image: &mut I, base: u32, out: &mut O) -> Result<AuditTally, Fault>
     requires base { base ≤ base_limit }
-    requires image_countable { MayCount (I.seen image.old).failures }
-    requires out_countable { MayCount (O.seen out.old).failures }
+    requires image_countable { CanCountFailure (I.seen image.old).failures }
+    requires out_countable { CanCountFailure (O.seen out.old).failures }
 
     // The whole of it, also what is left after a fault.
     ensures report { Reports (audit_report base)
@@ -155,7 +155,7 @@ pub fn audit<I: Source, O: Sink>(image: &mut I, base: u32, out: &mut O) -> Resul
         ↔ ((I.seen image.new).failures ≡ (I.seen image.old).failures + 1) }
     ensures write_failed { (result ≡ Err Fault.Write)
         ↔ ((O.seen out.new).failures ≡ (O.seen out.old).failures + 1) }
-    ensures too_long { TellsTooLong (I.seen image.old) (I.seen image.new) result }
+    ensures too_long { AnswersTooLong (I.seen image.old) (I.seen image.new) result }
     ensures by_length { (I.seen image.new).failures ≡ (I.seen image.old).failures
         → (O.seen out.new).failures ≡ (O.seen out.old).failures
         → AnswersByLength (I.seen image.old) result }

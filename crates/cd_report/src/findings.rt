@@ -7,7 +7,7 @@ ghost use Rattle.cd_report.specs.AuditText.{count_if, finding_line, findings_of,
 ghost use Rattle.cd_report.specs.AuditText.{is_other_address, line_of, name_if, report_of};
 ghost use Rattle.cd_report.specs.Lines.{text_of};
 ghost use Rattle.cd_stream.specs.Transfer.{Counts, Sends};
-ghost use Rattle.cd_stream.specs.Stream.{MayCount};
+ghost use Rattle.cd_stream.specs.Stream.{CanCountFailure};
 
 use cd_sector::{DefectReport, Sector, SectorKind, address_of, defect, kind};
 use cd_stream::{LINE_SIZE, Line, Sink, SinkFailed, write_all};
@@ -113,7 +113,7 @@ pub(crate) fn send_findings<O: Sink>(
     found: Option<Findings>,
     out: &mut O,
 ) -> Result<(), SinkFailed>
-    requires { MayCount (O.seen out.old).failures }
+    requires { CanCountFailure (O.seen out.old).failures }
     ensures { Sends (O.seen out.old) (O.seen out.new) (text_of (line_of block found)) result }
 {
     match found {

@@ -4,12 +4,12 @@ ghost use Rattle.std.specs.Prelude.{◌≡◌, ◌+◌, ◌-◌, ◌<◌, ◌≤
 ghost use Rattle.std.specs.Prelude.{length};
 ghost use Rattle.cd_report.specs.ListText.{kind_name, list_end, list_report, run_line};
 ghost use Rattle.cd_report.specs.OpenRun.{EndsBefore, open_first, open_kinds};
-ghost use Rattle.cd_read.specs.Ends.{AnswersByEnd, AnswersByLength, EndsWell, TellsTooLong};
+ghost use Rattle.cd_read.specs.Ends.{AnswersByEnd, AnswersByLength, AnswersTooLong, EndsWell};
 ghost use Rattle.cd_report.specs.Report.{Reports, WritesText};
 ghost use Rattle.cd_report.specs.Runs.{runs};
 ghost use Rattle.cd_report.specs.Scanning.{ExtendsRun, last_line};
 ghost use Rattle.cd_stream.specs.Transfer.{Counts, CountsFlush, Sends};
-ghost use Rattle.cd_stream.specs.Stream.{MayCount};
+ghost use Rattle.cd_stream.specs.Stream.{CanCountFailure};
 ghost use Rattle.cd_read.specs.Image.{base_limit};
 
 use crate::MAX_BASE;
@@ -52,7 +52,7 @@ fn name_of(kind: SectorKind) -> &'static [u8]
 /// at most 449,849 and a million sectors.
 #[tactic(auto, unfolding(crate::specs::ListText::run_line))]
 fn send_run<O: Sink>(run: OpenRun, out: &mut O) -> Result<(), SinkFailed>
-    requires countable { MayCount (O.seen out.old).failures }
+    requires countable { CanCountFailure (O.seen out.old).failures }
     requires ordered { run.first ≤ run.last }
     ensures { Sends (O.seen out.old) (O.seen out.new)
         (run_line run.first (record { kind = run.kind; count = run.last + 1 - run.first })) result }
@@ -76,7 +76,7 @@ fn extend_run<O: Sink>(
     kind: SectorKind,
     out: &mut O,
 ) -> Result<(), SinkFailed>
-    requires countable { MayCount (O.seen out.old).failures }
+    requires countable { CanCountFailure (O.seen out.old).failures }
     requires follows { EndsBefore run.old block }
     ensures text { ExtendsRun run.old run.new block kind (O.seen out.old) (O.seen out.new) result }
     ensures flushes { (O.seen out.new).flushes ≡ (O.seen out.old).flushes }
@@ -100,7 +100,7 @@ fn extend_run<O: Sink>(
 /// Writes `sectors S tail T`, the last line of a listing.
 #[tactic(auto, unfolding(crate::specs::ListText::list_end))]
 fn send_end<O: Sink>(tally: ListTally, out: &mut O) -> Result<(), SinkFailed>
-    requires { MayCount (O.seen out.old).failures }
+    requires { CanCountFailure (O.seen out.old).failures }
     ensures { Sends (O.seen out.old) (O.seen out.new) (list_end tally) result }
 {
     let mut line = Line::new();
@@ -114,7 +114,7 @@ fn send_end<O: Sink>(tally: ListTally, out: &mut O) -> Result<(), SinkFailed>
 
 /// Writes the line of the last run, if there is one.
 fn send_last<O: Sink>(run: Option<OpenRun>, out: &mut O) -> Result<(), SinkFailed>
-    requires countable { MayCount (O.seen out.old).failures }
+    requires countable { CanCountFailure (O.seen out.old).failures }
     requires ordered { IfSome run (λ run. run.first ≤ run.last) }
     ensures { Sends (O.seen out.old) (O.seen out.new)
         (last_line (open_first run 0) (runs (open_kinds run))) result }
@@ -191,8 +191,8 @@ impl Visitor for Lister {
 /// ```
 pub fn list<I: Source, O: Sink>(image: &mut I, base: u32, out: &mut O) -> Result<ListTally, Fault>
     requires base { base ≤ base_limit }
-    requires image_countable { MayCount (I.seen image.old).failures }
-    requires out_countable { MayCount (O.seen out.old).failures }
+    requires image_countable { CanCountFailure (I.seen image.old).failures }
+    requires out_countable { CanCountFailure (O.seen out.old).failures }
 
     // The whole of it, also what is left after a fault.
     ensures report { Reports (list_report base)
@@ -208,7 +208,7 @@ pub fn list<I: Source, O: Sink>(image: &mut I, base: u32, out: &mut O) -> Result
         ↔ ((I.seen image.new).failures ≡ (I.seen image.old).failures + 1) }
     ensures write_failed { (result ≡ Err Fault.Write)
         ↔ ((O.seen out.new).failures ≡ (O.seen out.old).failures + 1) }
-    ensures too_long { TellsTooLong (I.seen image.old) (I.seen image.new) result }
+    ensures too_long { AnswersTooLong (I.seen image.old) (I.seen image.new) result }
     ensures by_length { (I.seen image.new).failures ≡ (I.seen image.old).failures
         → (O.seen out.new).failures ≡ (O.seen out.old).failures
         → AnswersByLength (I.seen image.old) result }

@@ -4,7 +4,7 @@ ghost use Rattle.std.specs.Prelude.{◌≡◌, ◌+◌, ◌<◌, [], IfOk, OnOk}
 ghost use Rattle.cd_report.specs.Report.{Reports};
 ghost use Rattle.cd_report.specs.Scanning.{Finishes, Visits, spec_of};
 ghost use Rattle.cd_stream.specs.Transfer.{Counts, CountsFlush};
-ghost use Rattle.cd_stream.specs.Stream.{MayCount};
+ghost use Rattle.cd_stream.specs.Stream.{CanCountFailure};
 ghost use Rattle.cd_read.specs.Image.{sector_limit};
 
 use cd_read::{Fault, read_sector};
@@ -27,7 +27,7 @@ pub(crate) trait Visitor {
     /// Visits one more sector, after `count` others, and writes the line that is due with it, if
     /// any.
     fn visit<O: Sink>(&mut self, count: u32, sector: &Sector, out: &mut O) -> Result<(), SinkFailed>
-        requires countable { MayCount (O.seen out.old).failures }
+        requires countable { CanCountFailure (O.seen out.old).failures }
         requires at { has_visited self.old count }
         requires room { count < sector_limit }
         ensures takes { Visits (remaining self.old count) (remaining self.new (count + 1))
@@ -43,11 +43,12 @@ pub(crate) trait Visitor {
         tail: u16,
         out: &mut O,
     ) -> Result<Self::Tally, SinkFailed>
-        requires countable { MayCount (O.seen out.old).failures }
+        requires countable { CanCountFailure (O.seen out.old).failures }
         requires at { has_visited self.old count }
         ensures text { Finishes ((remaining self.old count).end [] tail)
             (O.seen out.old) (O.seen out.new) result }
-        ensures tally { IfOk result (λ told. told ≡ (remaining self.old count).tally [] tail) }
+        ensures tally { IfOk result
+            (λ reported. reported ≡ (remaining self.old count).tally [] tail) }
         ensures flushes { CountsFlush (O.seen out.old).flushes (O.seen out.new).flushes result }
         ensures count { Counts (O.seen out.old).failures (O.seen out.new).failures result };
 }
@@ -58,8 +59,8 @@ pub(crate) fn scan<I: Source, T: Visitor, O: Sink>(
     visitor: &mut T,
     out: &mut O,
 ) -> Result<T::Tally, Fault>
-    requires image_countable { MayCount (I.seen image.old).failures }
-    requires out_countable { MayCount (O.seen out.old).failures }
+    requires image_countable { CanCountFailure (I.seen image.old).failures }
+    requires out_countable { CanCountFailure (O.seen out.old).failures }
     requires start { T.has_visited visitor.old 0 }
     requires nothing_due { (T.remaining visitor.old 0).lines [] ≡ [] }
     ensures { Reports (spec_of (T.remaining visitor.old 0))

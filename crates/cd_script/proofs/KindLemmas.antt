@@ -17,13 +17,13 @@ use Rattle.hex.specs.Hex.{decode_of, encode_lower, is_hex_digit}
 use Rattle.hex.proofs.HexLemmas.{decode_of-encode_lower, decode_of-ok}
 use Rattle.cd_script.specs.declared.fault.ScriptFault.{ScriptFault}
 use Rattle.cd_script.specs.declared.fault.ScriptFault.TheVariants.{Address, Number, Hex}
-use Rattle.cd_script.specs.Address.{IsAddress, address, bcd, bcd_below, header_bytes}
+use Rattle.cd_script.specs.Address.{IsAddress, address_bytes, bcd_below, header_bytes, packed_bcd}
 use Rattle.cd_script.specs.Hex.{hex_bytes}
 use Rattle.cd_script.specs.Limits.{bytes_limit, digit_limit, fraction_limit, minute_limit, number_limit, offset_limit, second_limit}
 use Rattle.cd_script.specs.Value.{address_at, number_at, hex_at, offset_at, count_at, new_at, old_at, byte_at, only_byte}
 use Rattle.cd_script.specs.Number.{number, digits_value}
 use Rattle.cd_script.specs.Patch.{IsBytes}
-use Rattle.cd_script.specs.Reading.{◌>>=◌}
+use Rattle.cd_script.specs.FirstFault.{◌>>=◌}
 use Rattle.cd_script.specs.Spelling.{address_word, high_digit, low_digit}
 use Rattle.cd_script.proofs.HexLemmas.{decoded, result_ok-decode_of}
 
@@ -235,7 +235,7 @@ byte-kind line = record {
 -- ---- addresses
 
 bcd_below-keeps : (limit high low : ℕ)
-    → IfSome (bcd_below limit high low) (λ b. (n : ℕ) × (n < limit) × (bcd n ≡ b))
+    → IfSome (bcd_below limit high low) (λ b. (n : ℕ) × (n < limit) × (packed_bcd n ≡ b))
 unfolding bcd_below
 bcd_below-keeps limit high low =
     let n = digits_value (high ∷ low ∷ []) in
@@ -260,20 +260,20 @@ header_bytes-keeps m n s t f g =
       are = rw (a.2, b.2, c.2) refl;
     })))
 
-address-keeps : (word : List ℕ) → IfSome (address word) IsAddress
-unfolding address
+address-keeps : (word : List ℕ) → IfSome (address_bytes word) IsAddress
+unfolding address_bytes
 address-keeps word = grind (arith, header_bytes-keeps)
 
 is_digit : (b : ℕ) → 48 ≤ b → b ≤ 57 → is_ascii_digit b ≡ true
 is_digit b low high = grind (arith, nat_tests)
 
 bcd_below-digits : (limit n : ℕ) → n < limit → limit ≤ minute_limit
-    → bcd_below limit (high_digit (bcd n)) (low_digit (bcd n)) ≡ Some (bcd n)
+    → bcd_below limit (high_digit (packed_bcd n)) (low_digit (packed_bcd n)) ≡ Some (packed_bcd n)
 unfolding bcd_below
 bcd_below-digits limit n lt most = grind (arith, nat_tests)
 
-address-reads : (bytes : List ℕ) → IsAddress bytes → address (address_word bytes) ≡ Some bytes
-unfolding address address_word header_bytes
+address-reads : (bytes : List ℕ) → IsAddress bytes → address_bytes (address_word bytes) ≡ Some bytes
+unfolding address_bytes address_word header_bytes
 address-reads bytes h =
     rw (
       h.are,
@@ -292,11 +292,11 @@ plain_bytes m s f = plain_word (address_word (m ∷ s ∷ f ∷ [])) (simp digit
 pub address-kind : (line : ℕ) → IsKind (address_at line) IsAddress address_word
 unfolding address_at
 address-kind line = record {
-  keeps = λ w. given_keeps _ (address w) (Address line) (address-keeps w);
+  keeps = λ w. given_keeps _ (address_bytes w) (Address line) (address-keeps w);
   spells = λ bytes fits. record {
     plain =
         subst (λ (bs : List ℕ). IsPlainWord (address_word bs)) (sym fits.are)
-        (plain_bytes (bcd fits.minute) (bcd fits.second) (bcd fits.fraction));
+        (plain_bytes (packed_bcd fits.minute) (packed_bcd fits.second) (packed_bcd fits.fraction));
     reads = rw (address-reads bytes fits) refl;
   };
 }

@@ -11,20 +11,20 @@ use Rattle.cd_script.specs.declared.fault.ScriptFault.TheVariants.{Head}
 use Rattle.cd_script.specs.declared.patch.Patch.{Patch}
 use Rattle.cd_script.specs.declared.version.Version.{Version}
 use Rattle.cd_script.specs.Line.{patch_by}
-use Rattle.cd_script.specs.Reading.{◌>>=◌, Reads}
-use Rattle.cd_script.specs.Script.{at_limit, is_passed_over, head_version, line_at, patches_behind, patches_from, script_from}
+use Rattle.cd_script.specs.FirstFault.{◌>>=◌, AnswersAs}
+use Rattle.cd_script.specs.Script.{at_limit, is_passed_over, head_version, line_at, patches_after, patches_from, script_from}
 use Rattle.cd_script.specs.Words.{words}
 use Rattle.cd_script.proofs.WordLemmas.{is_passed_over-take, head_version-take, patch_by-take}
 
 -- what was answered for a reading is what was answered for the same
 pub Reads-same : {X Y : Type 0} (view : X → Y) (r : Result X ScriptFault)
-    (read same : Result Y ScriptFault) → same ≡ read → Reads view r read → Reads view r same
+    (read same : Result Y ScriptFault) → same ≡ read → AnswersAs view r read → AnswersAs view r same
 Reads-same view (Ok x) read same e h = e ∙ h
 Reads-same view (Err f) read same e h = e ∙ h
 
 -- if a reading has no fault, neither has what was answered for it
 pub reads_ok : {X Y : Type 0} (view : X → Y) (r : Result X ScriptFault)
-    (read : Result Y ScriptFault) → Reads view r read
+    (read : Result Y ScriptFault) → AnswersAs view r read
     → ((e : ScriptFault) → read ≡ Err e → ⊥) → IsOk r
 reads_ok view (Ok x) read h sound = refl
 reads_ok view (Err e) read h sound = absurd (sound e h)
@@ -167,7 +167,7 @@ head_passed line text rest found is passed =
 -- the lines after a head line, or its fault
 pub head_read : (line : ℕ) (text : List ℕ) (rest found : List (List ℕ)) (named : Option Version)
     → found ≡ take 7 (words text) → is_passed_over found ≡ false → head_version found ≡ named
-    → script_from line (text ∷ rest) ≡ patches_behind line named rest
+    → script_from line (text ∷ rest) ≡ patches_after line named rest
 unfolding script_from
 head_read line text rest found named is patch head =
     let passes : is_passed_over (words text) ≡ false =

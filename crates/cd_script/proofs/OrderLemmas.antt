@@ -6,18 +6,18 @@ use Rattle.std.proofs.lemmas.Bool.{cases_lt, cond-true, cond-false, eq-eqb, eqb-
 use Rattle.std.proofs.lemmas.Bool.Decides.{nat_tests}
 use Rattle.std.proofs.lemmas.List.Sorted.{IsPermutation-refl, IsPermutation-cons, IsPermutation-middle, IsPermutation-sym, IsPermutation-trans}
 use Rattle.cd_script.specs.declared.patch.Patch.{Patch}
-use Rattle.cd_script.specs.Order.{put_before, order, stands_in}
+use Rattle.cd_script.specs.Order.{insert_patch, order, stands_in}
 
 put_before-le : (p q : Patch) (qs : List Patch) → p.block ≤ q.block
-    → put_before p (q ∷ qs) ≡ p ∷ q ∷ qs
-unfolding put_before
+    → insert_patch p (q ∷ qs) ≡ p ∷ q ∷ qs
+unfolding insert_patch
 put_before-le p q qs le =
     let test : nat_le p.block q.block ≡ true = grind (arith, nat_tests) in
     cond-true _ _ _ test
 
 put_before-gt : (p q : Patch) (qs : List Patch) → q.block < p.block
-    → put_before p (q ∷ qs) ≡ q ∷ put_before p qs
-unfolding put_before
+    → insert_patch p (q ∷ qs) ≡ q ∷ insert_patch p qs
+unfolding insert_patch
 put_before-gt p q qs lt =
     let test : nat_le p.block q.block ≡ false = grind (arith, nat_tests) in
     cond-false _ _ _ test
@@ -38,8 +38,8 @@ NotBelow-lower a b [] le h = tt
 NotBelow-lower a b (p ∷ ps) le h = (omega (arith, h.0), NotBelow-lower a b ps le h.1)
 
 NotBelow-put_before : (b : ℕ) (p : Patch) (ps : List Patch) → b ≤ p.block → NotBelow b ps
-    → NotBelow b (put_before p ps)
-unfolding put_before
+    → NotBelow b (insert_patch p ps)
+unfolding insert_patch
 NotBelow-put_before b p [] le h = (le, tt)
 NotBelow-put_before b p (q ∷ qs) le h =
     elim (cases_lt q.block p.block) [
@@ -49,8 +49,8 @@ NotBelow-put_before b p (q ∷ qs) le h =
       | inr ge ↦ subst (NotBelow b) (sym (put_before-le p q qs ge)) (le, h)
     ]
 
-Rises-put_before : (p : Patch) (ps : List Patch) → Rises ps → Rises (put_before p ps)
-unfolding put_before
+Rises-put_before : (p : Patch) (ps : List Patch) → Rises ps → Rises (insert_patch p ps)
+unfolding insert_patch
 Rises-put_before p [] h = (tt, tt)
 Rises-put_before p (q ∷ qs) h =
     elim (cases_lt q.block p.block) [
@@ -94,8 +94,8 @@ exchanged false true p q rest other = refl
 exchanged false false p q rest other = refl
 
 filter-put_before : (k : ℕ) (p : Patch) (ps : List Patch)
-    → filter (stands_in k) (put_before p ps) ≡ filter (stands_in k) (p ∷ ps)
-unfolding put_before
+    → filter (stands_in k) (insert_patch p ps) ≡ filter (stands_in k) (p ∷ ps)
+unfolding insert_patch
 filter-put_before k p [] = refl
 filter-put_before k p (q ∷ qs) =
     elim (cases_lt q.block p.block) [
@@ -117,16 +117,16 @@ filter-order (p ∷ ps) k =
 
 -- ---- it permutes
 
-IsPermutation-put_before : (p : Patch) (ps : List Patch) → IsPermutation (p ∷ ps) (put_before p ps)
-unfolding put_before
+IsPermutation-put_before : (p : Patch) (ps : List Patch) → IsPermutation (p ∷ ps) (insert_patch p ps)
+unfolding insert_patch
 IsPermutation-put_before p [] = IsPermutation-refl (p ∷ [])
 IsPermutation-put_before p (q ∷ qs) =
     elim (cases_lt q.block p.block) [
       | inl lt ↦
           subst (IsPermutation (p ∷ q ∷ qs)) (sym (put_before-gt p q qs lt))
-          (IsPermutation-trans (p ∷ q ∷ qs) (q ∷ p ∷ qs) (q ∷ put_before p qs)
+          (IsPermutation-trans (p ∷ q ∷ qs) (q ∷ p ∷ qs) (q ∷ insert_patch p qs)
           (IsPermutation-sym (q ∷ p ∷ qs) (p ∷ q ∷ qs) (IsPermutation-middle (q ∷ []) p qs))
-          (IsPermutation-cons q (p ∷ qs) (put_before p qs) (IsPermutation-put_before p qs)))
+          (IsPermutation-cons q (p ∷ qs) (insert_patch p qs) (IsPermutation-put_before p qs)))
       | inr ge ↦
           subst (IsPermutation (p ∷ q ∷ qs)) (sym (put_before-le p q qs ge))
           (IsPermutation-refl (p ∷ q ∷ qs))
@@ -136,7 +136,7 @@ pub order-permutes : (ps : List Patch) → IsPermutation ps (order ps)
 unfolding order
 order-permutes [] = IsPermutation-refl []
 order-permutes (p ∷ ps) =
-    IsPermutation-trans (p ∷ ps) (p ∷ order ps) (put_before p (order ps))
+    IsPermutation-trans (p ∷ ps) (p ∷ order ps) (insert_patch p (order ps))
     (IsPermutation-cons p ps (order ps) (order-permutes ps)) (IsPermutation-put_before p (order ps))
 
 -- ---- and nothing else does

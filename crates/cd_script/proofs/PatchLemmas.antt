@@ -9,52 +9,52 @@ use Rattle.std.proofs.lemmas.Result.{IfOk-at_ok}
 use Rattle.cd_script.specs.declared.patch.Patch.{Patch}
 use Rattle.cd_script.specs.declared.version.Version.{Version}
 use Rattle.cd_script.specs.Limits.{patch_limit}
-use Rattle.cd_script.specs.Line.{put_at, put_where_at, fill_at, rebuild_at, readdress_at, patch_at, patch_by}
+use Rattle.cd_script.specs.Line.{set_patch, set_if_patch, fill_patch, rebuild_patch, address_patch, patch_at, patch_by}
 use Rattle.cd_script.specs.Patch.{IsPatch}
-use Rattle.cd_script.specs.Script.{is_passed_over, head_version, line_at, patches_behind, patches_from, script_from}
+use Rattle.cd_script.specs.Script.{is_passed_over, head_version, line_at, patches_after, patches_from, script_from}
 use Rattle.cd_script.specs.Words.{words}
 use Rattle.cd_script.proofs.KindLemmas.{address-kind, byte-kind, cond_keeps, count-kind, new-kind, number-kind, offset-kind, old-kind, then_keeps, word_keeps}
 
 -- ---- the forms, word by word
 
-put_at-patch : (line : ℕ) (block offset new : List ℕ) → IfOk (put_at line block offset new) IsPatch
-unfolding put_at
-put_at-patch line block offset new =
+set_patch-patch : (line : ℕ) (block offset new : List ℕ) → IfOk (set_patch line block offset new) IsPatch
+unfolding set_patch
+set_patch-patch line block offset new =
     word_keeps IsPatch (number-kind line) block _ (λ b at.
     word_keeps IsPatch (offset-kind line) offset _ (λ o from.
     word_keeps IsPatch (new-kind line) new _ (λ bytes fit.
     record { block = at; offset = from; edit = (fit, tt) })))
 
-put_where_at-patch : (line : ℕ) (block offset new old : List ℕ)
-    → IfOk (put_where_at line block offset new old) IsPatch
-unfolding put_where_at
-put_where_at-patch line block offset new old =
+set_if_patch-patch : (line : ℕ) (block offset new old : List ℕ)
+    → IfOk (set_if_patch line block offset new old) IsPatch
+unfolding set_if_patch
+set_if_patch-patch line block offset new old =
     word_keeps IsPatch (number-kind line) block _ (λ b at.
     word_keeps IsPatch (offset-kind line) offset _ (λ o from.
     word_keeps IsPatch (new-kind line) new _ (λ bytes fit.
     word_keeps IsPatch (old-kind line bytes fit) old _ (λ were fits.
     record { block = at; offset = from; edit = (fit, fits) }))))
 
-fill_at-patch : (line : ℕ) (block offset count byte : List ℕ)
-    → IfOk (fill_at line block offset count byte) IsPatch
-unfolding fill_at
-fill_at-patch line block offset count byte =
+fill_patch-patch : (line : ℕ) (block offset count byte : List ℕ)
+    → IfOk (fill_patch line block offset count byte) IsPatch
+unfolding fill_patch
+fill_patch-patch line block offset count byte =
     word_keeps IsPatch (number-kind line) block _ (λ b at.
     word_keeps IsPatch (offset-kind line) offset _ (λ o from.
     word_keeps IsPatch (count-kind line) count _ (λ n many.
     word_keeps IsPatch (byte-kind line) byte _ (λ v value.
     record { block = at; offset = from; edit = (many.0, many.1, value) }))))
 
-rebuild_at-patch : (line : ℕ) (block : List ℕ) → IfOk (rebuild_at line block) IsPatch
-unfolding rebuild_at
-rebuild_at-patch line block =
+rebuild_patch-patch : (line : ℕ) (block : List ℕ) → IfOk (rebuild_patch line block) IsPatch
+unfolding rebuild_patch
+rebuild_patch-patch line block =
     word_keeps IsPatch (number-kind line) block _ (λ b at.
     record { block = at; offset = omega arith; edit = refl })
 
-readdress_at-patch : (line : ℕ) (block address : List ℕ)
-    → IfOk (readdress_at line block address) IsPatch
-unfolding readdress_at
-readdress_at-patch line block address =
+address_patch-patch : (line : ℕ) (block address : List ℕ)
+    → IfOk (address_patch line block address) IsPatch
+unfolding address_patch
+address_patch-patch line block address =
     word_keeps IsPatch (number-kind line) block _ (λ b at.
     word_keeps IsPatch (address-kind line) address _ (λ bcd fit.
     record { block = at; offset = omega arith; edit = (refl, fit) }))
@@ -63,7 +63,7 @@ patch_by-patch : (version : Version) (line : ℕ) (ws : List (List ℕ))
     → IfOk (patch_by version line ws) IsPatch
 unfolding patch_at patch_by
 patch_by-patch version line ws = grind
-    (arith, put_at-patch, put_where_at-patch, fill_at-patch, rebuild_at-patch, readdress_at-patch)
+    (arith, set_patch-patch, set_if_patch-patch, fill_patch-patch, rebuild_patch-patch, address_patch-patch)
 
 -- ---- the lines
 
@@ -105,12 +105,12 @@ patches_from-patches version line earlier (text ∷ rest) le =
     let later = earlier + length (option_to_list found) in
     then_keeps _ _ (patches_from version (line + 1) later rest) _
     (patches_from-patches version (line + 1) later rest (room earlier found le one))
-    (λ others behind. put_on earlier found others one behind))
+    (λ others after. put_on earlier found others one after))
 
-patches_behind-patches : (line : ℕ) (named : Option Version) (rest : List (List ℕ))
-    → IfOk (patches_behind line named rest) (AreBehind 0)
-patches_behind-patches line None rest = tt
-patches_behind-patches line (Some version) rest =
+patches_after-patches : (line : ℕ) (named : Option Version) (rest : List (List ℕ))
+    → IfOk (patches_after line named rest) (AreBehind 0)
+patches_after-patches line None rest = tt
+patches_after-patches line (Some version) rest =
     patches_from-patches version (line + 1) 0 rest (omega arith)
 
 script_from-patches : (line : ℕ) (ls : List (List ℕ)) → IfOk (script_from line ls) (AreBehind 0)
@@ -118,7 +118,7 @@ unfolding script_from
 script_from-patches line [] = tt
 script_from-patches line (text ∷ rest) =
     cond_keeps _ (is_passed_over (words text)) _ _ (λ _. script_from-patches (line + 1) rest)
-    (λ _. patches_behind-patches line (head_version (words text)) rest)
+    (λ _. patches_after-patches line (head_version (words text)) rest)
 
 pub script-each : (line : ℕ) (ls : List (List ℕ)) (ps : List Patch) → script_from line ls ≡ Ok ps
     → All IsPatch ps

@@ -67,18 +67,18 @@ cut_at part x rest none space =
     ∙ filter-append is_word (part ∷ []) (slice_split is_space rest)
 
 -- the first space, and what stands before and after it
-pub words-cut : (line part behind rest : List ℕ) (end : ℕ)
+pub words-cut : (line part after rest : List ℕ) (end : ℕ)
     → NoneBefore (Passes is_space line) 0 (length line) end × Passes is_space line end
-    → part ≡ take end line → behind ≡ drop end line
-    → rest ≡ take (length behind - 1) (drop 1 behind)
+    → part ≡ take end line → after ≡ drop end line
+    → rest ≡ take (length after - 1) (drop 1 after)
     → words line ≡ filter is_word (part ∷ []) ++ words rest
-words-cut line part behind rest end found is_part is_behind is_rest =
+words-cut line part after rest end found is_part is_after is_rest =
     let lt : end < length line = found.0.high in
     let x = slice_index line end in
     let later = drop (suc end) line in
     let tail : drop end line ≡ x ∷ later = drop-cons line end 0 lt in
     let rest_is : rest ≡ later =
-    is_rest ∙ ap (λ (b : List ℕ). take (length b - 1) (drop 1 b)) (is_behind ∙ tail)
+    is_rest ∙ ap (λ (b : List ℕ). take (length b - 1) (drop 1 b)) (is_after ∙ tail)
     ∙ take_all (length (x ∷ later) - 1) later (omega arith) in
     let none : All (λ b. is_space b ≡ false) (take end line) = λ k d small.
     let below : k < end = omega (arith, length-take end line) in

@@ -1,4 +1,4 @@
--- The first version says what it said before there was a second, and the second extends it.
+-- The first version means what it meant before there was a second, and the second extends it.
 use Rattle.std.proofs.Common.{◌≡◌, ◌≢◌, ℕ, ◌+◌, Bool, true, false, cond, List, [], ◌∷◌, length, Option, Some, None, Result, Ok, Err, refl, ap, arith}
 use Rattle.std.specs.Prelude.{All}
 use Rattle.std.specs.List.{cons_option}
@@ -11,8 +11,8 @@ use Rattle.cd_script.specs.declared.patch.Patch.{Patch}
 use Rattle.cd_script.specs.declared.version.Version.{Version}
 use Rattle.cd_script.specs.declared.version.Version.TheVariants.{One, Two}
 use Rattle.cd_script.specs.Line.{patch_at, patch_by}
-use Rattle.cd_script.specs.Reading.{◌>>=◌}
-use Rattle.cd_script.specs.Script.{at_limit, head_version, is_passed_over, line_at, patches_behind, patches_from, script, script_from}
+use Rattle.cd_script.specs.FirstFault.{◌>>=◌}
+use Rattle.cd_script.specs.Script.{at_limit, head_version, is_passed_over, line_at, patches_after, patches_from, script, script_from}
 use Rattle.cd_script.specs.Versions.{is_first_head, first_line_at, first_patches_from, first_script_from, first_script, version_of, has_new_verb}
 use Rattle.cd_script.specs.Words.{words}
 
@@ -46,24 +46,24 @@ first-patches line earlier (text ∷ rest) =
     (λ n. first-patches (line + 1) n rest))
 
 first-head : (ws : List (List ℕ)) (line : ℕ) (rest : List (List ℕ)) → head_version ws ≢ Some Two
-    → patches_behind line (head_version ws) rest
+    → patches_after line (head_version ws) rest
     ≡ cond (is_first_head ws) (first_patches_from (line + 1) 0 rest) (Err (Head line))
 first-head ws line rest other = grind (arith, first-patches)
 
 -- after a line that may be passed over
-first-behind : (passed : Bool) (below named : Option Version)
+first-after : (passed : Bool) (below named : Option Version)
     (on on' here here' : Result (List Patch) ScriptFault) → cond passed below named ≢ Some Two
     → (below ≢ Some Two → on ≡ on') → (named ≢ Some Two → here ≡ here')
     → cond passed on here ≡ cond passed on' here'
-first-behind true below named on on' here here' other same_on same_here = same_on other
-first-behind false below named on on' here here' other same_on same_here = same_here other
+first-after true below named on on' here here' other same_on same_here = same_on other
+first-after false below named on on' here here' other same_on same_here = same_here other
 
 first-script_from : (line : ℕ) (texts : List (List ℕ)) → version_of texts ≢ Some Two
     → script_from line texts ≡ first_script_from line texts
 unfolding script_from first_script_from version_of
 first-script_from line [] other = refl
 first-script_from line (text ∷ rest) other =
-    first-behind (is_passed_over (words text)) (version_of rest)
+    first-after (is_passed_over (words text)) (version_of rest)
     (head_version (words text)) _ _ _ _ other (first-script_from (line + 1) rest)
     (first-head (words text) line rest)
 

@@ -6,14 +6,14 @@ use Rattle.cd_script.specs.Limits.{minute_limit, second_limit, fraction_limit}
 use Rattle.cd_script.specs.Number.{digits_value}
 
 -- two decimal digits in one byte
-abbrev pub bcd : ℕ → ℕ
-bcd n = 16 * (n / 10) + n % 10
+abbrev pub packed_bcd : ℕ → ℕ
+packed_bcd n = 16 * (n / 10) + n % 10
 
 -- the number below a limit that two decimal digits spell, in BCD
 unfoldable pub bcd_below : ℕ → ℕ → ℕ → Option ℕ
 bcd_below limit high low =
     if is_ascii_digit high && is_ascii_digit low && nat_lt (digits_value (high ∷ low ∷ [])) limit
-    then Some (bcd (digits_value (high ∷ low ∷ []))) else None
+    then Some (packed_bcd (digits_value (high ∷ low ∷ []))) else None
 
 -- the minute 0 to 99, the second 0 to 59 and the fraction 0 to 74, two digits each
 unfoldable pub header_bytes : ℕ → ℕ → ℕ → ℕ → ℕ → ℕ → Option (List ℕ)
@@ -24,10 +24,10 @@ header_bytes m n s t f g = do
   Some (minute ∷ second ∷ fraction ∷ [])
 
 -- MM:SS:FF, as the three bytes of a header
-unfoldable pub address : List ℕ → Option (List ℕ)
-address (m ∷ n ∷ c ∷ s ∷ t ∷ d ∷ f ∷ g ∷ []) =
+unfoldable pub address_bytes : List ℕ → Option (List ℕ)
+address_bytes (m ∷ n ∷ c ∷ s ∷ t ∷ d ∷ f ∷ g ∷ []) =
     if c == 58 && d == 58 then header_bytes m n s t f g else None
-address other = None
+address_bytes other = None
 
 -- the three bytes of a minute, a second and a fraction
 pub record IsAddress (bytes : List ℕ) : Type 0 where
@@ -37,4 +37,4 @@ pub record IsAddress (bytes : List ℕ) : Type 0 where
   pub is_minute : minute < minute_limit
   pub is_second : second < second_limit
   pub is_fraction : fraction < fraction_limit
-  pub are : bytes ≡ bcd minute ∷ bcd second ∷ bcd fraction ∷ []
+  pub are : bytes ≡ packed_bcd minute ∷ packed_bcd second ∷ packed_bcd fraction ∷ []

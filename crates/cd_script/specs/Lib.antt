@@ -4,10 +4,10 @@ pub mod Number
 pub mod Hex
 pub mod Words
 pub mod Address
-pub mod Reading
+pub mod FirstFault
 pub mod Value
 pub mod Line
-pub mod Spelled
+pub mod HexPatch
 pub mod Order
 pub mod Script
 pub mod Spelling

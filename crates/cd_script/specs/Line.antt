@@ -7,20 +7,20 @@ use Rattle.cd_script.specs.declared.patch.Patch.{Patch}
 use Rattle.cd_script.specs.declared.patch.Edit.TheVariants.{Put, Fill, Rebuild, Address}
 use Rattle.cd_script.specs.declared.version.Version.{Version}
 use Rattle.cd_script.specs.declared.version.Version.TheVariants.{One, Two}
-use Rattle.cd_script.specs.Reading.{◌>>=◌}
+use Rattle.cd_script.specs.FirstFault.{◌>>=◌}
 use Rattle.cd_script.specs.Value.{number_at, offset_at, count_at, new_at, old_at, byte_at, address_at}
 
 -- `set BLOCK OFFSET NEW`: the words are read from the left, and the first fault decides
-unfoldable pub put_at : ℕ → List ℕ → List ℕ → List ℕ → Result Patch ScriptFault
-put_at line block offset new = do
+unfoldable pub set_patch : ℕ → List ℕ → List ℕ → List ℕ → Result Patch ScriptFault
+set_patch line block offset new = do
   b ← number_at line block
   o ← offset_at line offset
   bytes ← new_at line new
   Ok (record { line = line; block = b; offset = o; edit = Put bytes None })
 
 -- `set BLOCK OFFSET NEW was OLD`
-unfoldable pub put_where_at : ℕ → List ℕ → List ℕ → List ℕ → List ℕ → Result Patch ScriptFault
-put_where_at line block offset new old = do
+unfoldable pub set_if_patch : ℕ → List ℕ → List ℕ → List ℕ → List ℕ → Result Patch ScriptFault
+set_if_patch line block offset new old = do
   b ← number_at line block
   o ← offset_at line offset
   bytes ← new_at line new
@@ -28,8 +28,8 @@ put_where_at line block offset new old = do
   Ok (record { line = line; block = b; offset = o; edit = Put bytes (Some was) })
 
 -- `fill BLOCK OFFSET COUNT BYTE`
-unfoldable pub fill_at : ℕ → List ℕ → List ℕ → List ℕ → List ℕ → Result Patch ScriptFault
-fill_at line block offset count byte = do
+unfoldable pub fill_patch : ℕ → List ℕ → List ℕ → List ℕ → List ℕ → Result Patch ScriptFault
+fill_patch line block offset count byte = do
   b ← number_at line block
   o ← offset_at line offset
   n ← count_at line count
@@ -37,14 +37,14 @@ fill_at line block offset count byte = do
   Ok (record { line = line; block = b; offset = o; edit = Fill n value })
 
 -- `rebuild BLOCK`
-unfoldable pub rebuild_at : ℕ → List ℕ → Result Patch ScriptFault
-rebuild_at line block = do
+unfoldable pub rebuild_patch : ℕ → List ℕ → Result Patch ScriptFault
+rebuild_patch line block = do
   b ← number_at line block
   Ok (record { line = line; block = b; offset = 0; edit = Rebuild })
 
 -- `address BLOCK MM:SS:FF`
-unfoldable pub readdress_at : ℕ → List ℕ → List ℕ → Result Patch ScriptFault
-readdress_at line block address = do
+unfoldable pub address_patch : ℕ → List ℕ → List ℕ → Result Patch ScriptFault
+address_patch line block address = do
   b ← number_at line block
   bcd ← address_at line address
   Ok (record { line = line; block = b; offset = 0; edit = Address bcd })
@@ -53,24 +53,24 @@ readdress_at line block address = do
 
 -- `set`, by the number of words after it
 abbrev pub set_line : ℕ → List (List ℕ) → Result Patch ScriptFault
-set_line line (block ∷ offset ∷ new ∷ []) = put_at line block offset new
+set_line line (block ∷ offset ∷ new ∷ []) = set_patch line block offset new
 set_line line (block ∷ offset ∷ new ∷ was ∷ old ∷ []) =
-    if bytes_eq was (codes "was") then put_where_at line block offset new old else Err (Words line)
+    if bytes_eq was (codes "was") then set_if_patch line block offset new old else Err (Words line)
 set_line line other = Err (Words line)
 
 -- `fill`, by the number of words after it
 abbrev pub fill_line : ℕ → List (List ℕ) → Result Patch ScriptFault
-fill_line line (block ∷ offset ∷ count ∷ byte ∷ []) = fill_at line block offset count byte
+fill_line line (block ∷ offset ∷ count ∷ byte ∷ []) = fill_patch line block offset count byte
 fill_line line other = Err (Words line)
 
 -- `rebuild`, by the number of words after it
 abbrev pub rebuild_line : ℕ → List (List ℕ) → Result Patch ScriptFault
-rebuild_line line (block ∷ []) = rebuild_at line block
+rebuild_line line (block ∷ []) = rebuild_patch line block
 rebuild_line line other = Err (Words line)
 
 -- `address`, by the number of words after it
 abbrev pub address_line : ℕ → List (List ℕ) → Result Patch ScriptFault
-address_line line (block ∷ address ∷ []) = readdress_at line block address
+address_line line (block ∷ address ∷ []) = address_patch line block address
 address_line line other = Err (Words line)
 
 -- the patch that the words of a line spell in version 1 of the language. It stands as before there

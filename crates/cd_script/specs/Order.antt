@@ -4,14 +4,14 @@ use Rattle.std.specs.List.Sorted.{IsNonDecreasingBy, IsPermutation}
 use Rattle.cd_script.specs.declared.patch.Patch.{Patch}
 
 -- p before the first patch whose block is not below its own, at the end if there is none
-unfoldable pub put_before : Patch → List Patch → List Patch
-put_before p [] = p ∷ []
-put_before p (q ∷ qs) = if nat_le p.block q.block then p ∷ q ∷ qs else q ∷ put_before p qs
+unfoldable pub insert_patch : Patch → List Patch → List Patch
+insert_patch p [] = p ∷ []
+insert_patch p (q ∷ qs) = if nat_le p.block q.block then p ∷ q ∷ qs else q ∷ insert_patch p qs
 
 -- the lowest block first, patches of one block as in the script
 unfoldable pub order : List Patch → List Patch
 order [] = []
-order (p ∷ ps) = put_before p (order ps)
+order (p ∷ ps) = insert_patch p (order ps)
 
 -- whether a patch begins in this block
 abbrev pub stands_in : ℕ → Patch → Bool

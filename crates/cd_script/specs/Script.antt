@@ -11,7 +11,7 @@ use Rattle.cd_script.specs.declared.version.Version.{Version}
 use Rattle.cd_script.specs.declared.version.Version.TheVariants.{One, Two}
 use Rattle.cd_script.specs.Limits.{patch_limit}
 use Rattle.cd_script.specs.Line.{patch_by}
-use Rattle.cd_script.specs.Reading.{◌>>=◌}
+use Rattle.cd_script.specs.FirstFault.{◌>>=◌}
 use Rattle.cd_script.specs.Words.{words}
 
 -- the word begins with `#`
@@ -58,16 +58,16 @@ patches_from version line earlier (text ∷ rest) = do
   Ok (cons_option found others)
 
 -- the patches of the lines after one that may be the head line
-abbrev pub patches_behind : ℕ → Option Version → List (List ℕ) → Result (List Patch) ScriptFault
-patches_behind line None rest = Err (Head line)
-patches_behind line (Some version) rest = patches_from version (line + 1) 0 rest
+abbrev pub patches_after : ℕ → Option Version → List (List ℕ) → Result (List Patch) ScriptFault
+patches_after line None rest = Err (Head line)
+patches_after line (Some version) rest = patches_from version (line + 1) 0 rest
 
 -- the patches of lines, of which the first has the number `line`: those after the head line
 unfoldable pub script_from : ℕ → List (List ℕ) → Result (List Patch) ScriptFault
 script_from line [] = Err (Head line)
 script_from line (text ∷ rest) =
     if is_passed_over (words text) then script_from (line + 1) rest
-    else patches_behind line (head_version (words text)) rest
+    else patches_after line (head_version (words text)) rest
 
 -- the patches of a text, in the order of its lines
 abbrev pub script : List ℕ → Result (List Patch) ScriptFault

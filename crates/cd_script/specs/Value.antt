@@ -2,11 +2,11 @@
 use Rattle.std.specs.Prelude.{ℕ, ◌==◌, ◌&&◌, nat_le, List, [], ◌∷◌, length, ok_or, Result, Ok, Err, if◌then◌else◌}
 use Rattle.cd_script.specs.declared.fault.ScriptFault.{ScriptFault}
 use Rattle.cd_script.specs.declared.fault.ScriptFault.TheVariants.{Address, Number, Hex, Length, Offset}
-use Rattle.cd_script.specs.Address.{address}
+use Rattle.cd_script.specs.Address.{address_bytes}
 use Rattle.cd_script.specs.Limits.{bytes_limit, offset_limit}
 use Rattle.cd_script.specs.Number.{number}
 use Rattle.cd_script.specs.Hex.{hex_bytes}
-use Rattle.cd_script.specs.Reading.{◌>>=◌}
+use Rattle.cd_script.specs.FirstFault.{◌>>=◌}
 
 -- a number, or `bad number`
 unfoldable pub number_at : ℕ → List ℕ → Result ℕ ScriptFault
@@ -53,4 +53,4 @@ byte_at line word = hex_at line word >>= only_byte line
 
 -- the three bytes of `MM:SS:FF`, or `bad address`
 unfoldable pub address_at : ℕ → List ℕ → Result (List ℕ) ScriptFault
-address_at line word = ok_or (address word) (Address line)
+address_at line word = ok_or (address_bytes word) (Address line)

@@ -10,7 +10,7 @@ use Rattle.cd_script.specs.declared.patch.Patch.{Patch}
 use Rattle.cd_script.specs.declared.version.Version.{Version}
 use Rattle.cd_script.specs.declared.version.Version.TheVariants.{One, Two}
 use Rattle.cd_script.specs.Line.{patch_at}
-use Rattle.cd_script.specs.Reading.{◌>>=◌}
+use Rattle.cd_script.specs.FirstFault.{◌>>=◌}
 use Rattle.cd_script.specs.Script.{at_limit, head_version, is_passed_over, patches_from, script}
 use Rattle.cd_script.specs.Words.{words}
 
@@ -57,7 +57,7 @@ version_of [] = None
 version_of (text ∷ rest) =
     if is_passed_over (words text) then version_of rest else head_version (words text)
 
--- a text whose head line does not name the second version says what it said before
+-- a text whose head line does not name the second version means what it meant before
 abbrev pub FirstStays : Type 0
 FirstStays = (text : List ℕ) → version_of (lines text) ≢ Some Two → script text ≡ first_script text
 

@@ -1,7 +1,7 @@
 //! Addresses of headers, as words spell them.
 
 ghost use Rattle.std.specs.Prelude.{◌≡◌};
-ghost use Rattle.cd_script.specs.Address.{address, bcd_below, header_bytes};
+ghost use Rattle.cd_script.specs.Address.{address_bytes, bcd_below, header_bytes};
 
 use crate::limits::{FRACTIONS, MINUTES, SECONDS};
 
@@ -33,9 +33,9 @@ fn header_bytes(minute: (u8, u8), second: (u8, u8), fraction: (u8, u8)) -> Optio
 }
 
 /// The three header bytes of an address `MM:SS:FF`.
-#[tactic(auto, unfolding(crate::specs::Address::address))]
+#[tactic(auto, unfolding(crate::specs::Address::address_bytes))]
 pub(crate) fn address(word: &[u8]) -> Option<[u8; 3]>
-    ensures { result ≡ address word.now }
+    ensures { result ≡ address_bytes word.now }
 {
     match word {
         [m, n, b':', s, t, b':', f, g] => header_bytes((*m, *n), (*s, *t), (*f, *g)),

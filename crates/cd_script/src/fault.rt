@@ -27,7 +27,7 @@ pub enum ScriptFault {
     /// A hex word has an odd number of digits, or a byte that is not a hex digit.
     #[error("bad hex")]
     Hex(u32),
-    /// A count of 0 or over [`MAX_BYTES`](crate::MAX_BYTES), no new bytes or more than so many, old
+    /// A count of 0 or over [`MAX_BYTES`](crate::MAX_BYTES), no new bytes or more than that, old
     /// bytes that are not as many as the new ones, or a fill byte that is not one byte.
     #[error("bad length")]
     Length(u32),

@@ -37,7 +37,7 @@ pub fn spelling_reads()
     ensures { SpellingReads }
 {}
 
-/// A text whose head line is not `cdpatch 2` says what it said when there was no version but the first.
+/// A text whose head line is not `cdpatch 2` means what it meant when there was no version but the first.
 pub fn first_stays()
     ensures { FirstStays }
 {}

@@ -9,7 +9,7 @@
 //! - `set BLOCK OFFSET NEW`: user bytes from that offset of that block become NEW;
 //! - `set BLOCK OFFSET NEW was OLD`: they become NEW, if they are OLD before;
 //! - `fill BLOCK OFFSET COUNT BYTE`: COUNT user bytes become BYTE;
-//! - `rebuild BLOCK`: EDC, Intermediate and parity of the block are made anew;
+//! - `rebuild BLOCK`: EDC, Intermediate and parity of the block are computed again;
 //! - `address BLOCK MM:SS:FF`, only in version 2: the address in the header of the block becomes this one.
 //!
 //! BLOCK, OFFSET (0 to [`MAX_OFFSET`]) and COUNT (1 to [`MAX_BYTES`]) are 1 to [`MAX_DIGITS`] decimal digits.
@@ -34,13 +34,13 @@
 mod address;
 mod bytes;
 mod fault;
+mod hex_patch;
 mod hex_word;
 mod laws;
 mod limits;
 mod line;
 mod patch;
 mod script;
-mod spelled;
 mod value;
 mod version;
 mod words;

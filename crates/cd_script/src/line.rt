@@ -2,30 +2,30 @@
 #![tactic(auto, using(crate::proofs::FormLemmas::forms))]
 
 ghost use Rattle.std.specs.Prelude.{map};
-ghost use Rattle.cd_script.specs.Reading.{Reads};
-ghost use Rattle.cd_script.specs.Spelled.{as_patch};
-ghost use Rattle.cd_script.specs.Line.{put_at, put_where_at, fill_at, rebuild_at, readdress_at, set_line, fill_line, rebuild_line, address_line, patch_at, patch_by};
+ghost use Rattle.cd_script.specs.FirstFault.{AnswersAs};
+ghost use Rattle.cd_script.specs.HexPatch.{as_patch};
+ghost use Rattle.cd_script.specs.Line.{set_patch, set_if_patch, fill_patch, rebuild_patch, address_patch, set_line, fill_line, rebuild_line, address_line, patch_at, patch_by};
 
 use crate::fault::ScriptFault;
-use crate::spelled::{SpelledEdit, SpelledPatch};
+use crate::hex_patch::{HexEdit, HexPatch};
 use crate::value::{address_of, byte_of, count_of, new_of, number_of, offset_of, old_of};
 use crate::version::Version;
 
 /// `set BLOCK OFFSET NEW`, from the words after the verb.
-#[tactic(auto, unfolding(crate::specs::Line::put_at))]
-fn put<'a>(
+#[tactic(auto, unfolding(crate::specs::Line::set_patch))]
+fn set_patch<'a>(
     line: u32,
     block: &[u8],
     offset: &[u8],
     new: &'a [u8],
-) -> Result<SpelledPatch<'a>, ScriptFault>
-    ensures { Reads as_patch result (put_at line block.now offset.now new.now) }
+) -> Result<HexPatch<'a>, ScriptFault>
+    ensures { AnswersAs as_patch result (set_patch line block.now offset.now new.now) }
 {
     let block = number_of(line, block)?;
     let offset = offset_of(line, offset)?;
     let bytes = new_of(line, new)?;
-    let edit = SpelledEdit::Put { bytes, was: None };
-    Ok(SpelledPatch {
+    let edit = HexEdit::Put { bytes, was: None };
+    Ok(HexPatch {
         line,
         block,
         offset,
@@ -34,22 +34,22 @@ fn put<'a>(
 }
 
 /// `set BLOCK OFFSET NEW was OLD`, from the words after the verb but `was`.
-#[tactic(auto, unfolding(crate::specs::Line::put_where_at))]
-fn put_where<'a>(
+#[tactic(auto, unfolding(crate::specs::Line::set_if_patch))]
+fn set_if_patch<'a>(
     line: u32,
     block: &[u8],
     offset: &[u8],
     new: &'a [u8],
     old: &'a [u8],
-) -> Result<SpelledPatch<'a>, ScriptFault>
-    ensures { Reads as_patch result (put_where_at line block.now offset.now new.now old.now) }
+) -> Result<HexPatch<'a>, ScriptFault>
+    ensures { AnswersAs as_patch result (set_if_patch line block.now offset.now new.now old.now) }
 {
     let block = number_of(line, block)?;
     let offset = offset_of(line, offset)?;
     let bytes = new_of(line, new)?;
     let was = Some(old_of(line, &bytes, old)?);
-    let edit = SpelledEdit::Put { bytes, was };
-    Ok(SpelledPatch {
+    let edit = HexEdit::Put { bytes, was };
+    Ok(HexPatch {
         line,
         block,
         offset,
@@ -58,22 +58,22 @@ fn put_where<'a>(
 }
 
 /// `fill BLOCK OFFSET COUNT BYTE`, from the words after the verb.
-#[tactic(auto, unfolding(crate::specs::Line::fill_at))]
-fn fill<'a>(
+#[tactic(auto, unfolding(crate::specs::Line::fill_patch))]
+fn fill_patch<'a>(
     line: u32,
     block: &[u8],
     offset: &[u8],
     count: &[u8],
     byte: &[u8],
-) -> Result<SpelledPatch<'a>, ScriptFault>
-    ensures { Reads as_patch result (fill_at line block.now offset.now count.now byte.now) }
+) -> Result<HexPatch<'a>, ScriptFault>
+    ensures { AnswersAs as_patch result (fill_patch line block.now offset.now count.now byte.now) }
 {
     let block = number_of(line, block)?;
     let offset = offset_of(line, offset)?;
     let count = count_of(line, count)?;
     let value = byte_of(line, byte)?;
-    let edit = SpelledEdit::Fill { count, value };
-    Ok(SpelledPatch {
+    let edit = HexEdit::Fill { count, value };
+    Ok(HexPatch {
         line,
         block,
         offset,
@@ -82,90 +82,90 @@ fn fill<'a>(
 }
 
 /// `rebuild BLOCK`, from the word after the verb.
-#[tactic(auto, unfolding(crate::specs::Line::rebuild_at))]
-fn rebuild<'a>(line: u32, block: &[u8]) -> Result<SpelledPatch<'a>, ScriptFault>
-    ensures { Reads as_patch result (rebuild_at line block.now) }
+#[tactic(auto, unfolding(crate::specs::Line::rebuild_patch))]
+fn rebuild_patch<'a>(line: u32, block: &[u8]) -> Result<HexPatch<'a>, ScriptFault>
+    ensures { AnswersAs as_patch result (rebuild_patch line block.now) }
 {
     let block = number_of(line, block)?;
-    Ok(SpelledPatch {
+    Ok(HexPatch {
         line,
         block,
         offset: 0,
-        edit: SpelledEdit::Rebuild,
+        edit: HexEdit::Rebuild,
     })
 }
 
 /// `address BLOCK MM:SS:FF`, from the words after the verb.
-#[tactic(auto, unfolding(crate::specs::Line::readdress_at))]
-fn readdress<'a>(line: u32, block: &[u8], address: &[u8]) -> Result<SpelledPatch<'a>, ScriptFault>
-    ensures { Reads as_patch result (readdress_at line block.now address.now) }
+#[tactic(auto, unfolding(crate::specs::Line::address_patch))]
+fn address_patch<'a>(line: u32, block: &[u8], address: &[u8]) -> Result<HexPatch<'a>, ScriptFault>
+    ensures { AnswersAs as_patch result (address_patch line block.now address.now) }
 {
     let block = number_of(line, block)?;
     let bcd = address_of(line, address)?;
-    Ok(SpelledPatch {
+    Ok(HexPatch {
         line,
         block,
         offset: 0,
-        edit: SpelledEdit::Address { bcd },
+        edit: HexEdit::Address { bcd },
     })
 }
 
 /// `set ..`: the form that has this number of words after the verb.
-fn set_of<'a>(line: u32, words: &[&'a [u8]]) -> Result<SpelledPatch<'a>, ScriptFault>
-    ensures { Reads as_patch result (set_line line (map (λ w. w.now) words.now)) }
+fn set_line<'a>(line: u32, words: &[&'a [u8]]) -> Result<HexPatch<'a>, ScriptFault>
+    ensures { AnswersAs as_patch result (set_line line (map (λ w. w.now) words.now)) }
 {
     match words {
-        [block, offset, new] => put(line, block, offset, new),
+        [block, offset, new] => set_patch(line, block, offset, new),
         [block, offset, new, was, old] if *was == b"was".as_slice() => {
-            put_where(line, block, offset, new, old)
+            set_if_patch(line, block, offset, new, old)
         }
         _ => Err(ScriptFault::Words(line)),
     }
 }
 
 /// `fill ..`: four words after the verb.
-fn fill_of<'a>(line: u32, words: &[&'a [u8]]) -> Result<SpelledPatch<'a>, ScriptFault>
-    ensures { Reads as_patch result (fill_line line (map (λ w. w.now) words.now)) }
+fn fill_line<'a>(line: u32, words: &[&'a [u8]]) -> Result<HexPatch<'a>, ScriptFault>
+    ensures { AnswersAs as_patch result (fill_line line (map (λ w. w.now) words.now)) }
 {
     match words {
-        [block, offset, count, byte] => fill(line, block, offset, count, byte),
+        [block, offset, count, byte] => fill_patch(line, block, offset, count, byte),
         _ => Err(ScriptFault::Words(line)),
     }
 }
 
 /// `rebuild ..`: one word after the verb.
-fn rebuild_of<'a>(line: u32, words: &[&'a [u8]]) -> Result<SpelledPatch<'a>, ScriptFault>
-    ensures { Reads as_patch result (rebuild_line line (map (λ w. w.now) words.now)) }
+fn rebuild_line<'a>(line: u32, words: &[&'a [u8]]) -> Result<HexPatch<'a>, ScriptFault>
+    ensures { AnswersAs as_patch result (rebuild_line line (map (λ w. w.now) words.now)) }
 {
     match words {
-        [block] => rebuild(line, block),
+        [block] => rebuild_patch(line, block),
         _ => Err(ScriptFault::Words(line)),
     }
 }
 
 /// `address ..`: two words after the verb. Their number is tested first, then the block, then the
 /// address, and last whether the patch is one too many.
-fn readdress_of<'a>(line: u32, words: &[&'a [u8]]) -> Result<SpelledPatch<'a>, ScriptFault>
-    ensures { Reads as_patch result (address_line line (map (λ w. w.now) words.now)) }
+fn address_line<'a>(line: u32, words: &[&'a [u8]]) -> Result<HexPatch<'a>, ScriptFault>
+    ensures { AnswersAs as_patch result (address_line line (map (λ w. w.now) words.now)) }
 {
     match words {
-        [block, address] => readdress(line, block, address),
+        [block, address] => address_patch(line, block, address),
         _ => Err(ScriptFault::Words(line)),
     }
 }
 
 /// The patch that the words of this line spell in version 1.
 #[tactic(auto, using(crate::proofs::FormLemmas::forms), unfolding(crate::specs::Line::patch_at))]
-fn first_patch_of<'a>(line: u32, words: &[&'a [u8]]) -> Result<SpelledPatch<'a>, ScriptFault>
-    ensures { Reads as_patch result (patch_at line (map (λ w. w.now) words.now)) }
+fn first_patch_of<'a>(line: u32, words: &[&'a [u8]]) -> Result<HexPatch<'a>, ScriptFault>
+    ensures { AnswersAs as_patch result (patch_at line (map (λ w. w.now) words.now)) }
 {
     let Some((verb, rest)) = words.split_first() else {
         return Err(ScriptFault::Verb(line));
     };
     match *verb {
-        b"set" => set_of(line, rest),
-        b"fill" => fill_of(line, rest),
-        b"rebuild" => rebuild_of(line, rest),
+        b"set" => set_line(line, rest),
+        b"fill" => fill_line(line, rest),
+        b"rebuild" => rebuild_line(line, rest),
         _ => Err(ScriptFault::Verb(line)),
     }
 }
@@ -177,13 +177,13 @@ pub(crate) fn patch_of<'a>(
     version: Version,
     line: u32,
     words: &[&'a [u8]],
-) -> Result<SpelledPatch<'a>, ScriptFault>
-    ensures { Reads as_patch result (patch_by version line (map (λ w. w.now) words.now)) }
+) -> Result<HexPatch<'a>, ScriptFault>
+    ensures { AnswersAs as_patch result (patch_by version line (map (λ w. w.now) words.now)) }
 {
     match version {
         Version::One => first_patch_of(line, words),
         Version::Two => match words {
-            [verb, rest @ ..] if *verb == b"address".as_slice() => readdress_of(line, rest),
+            [verb, rest @ ..] if *verb == b"address".as_slice() => address_line(line, rest),
             _ => first_patch_of(line, words),
         },
     }

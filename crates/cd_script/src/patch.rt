@@ -33,7 +33,7 @@ pub enum Edit {
         /// What each becomes.
         value: u8,
     },
-    /// EDC, Intermediate and parity of the block are made anew from its header and user data.
+    /// EDC, Intermediate and parity of the block are computed again from its header and user data.
     Rebuild,
     /// The address in the header of the block becomes another.
     Address {

@@ -12,15 +12,15 @@ ghost use Rattle.cd_script.specs.declared.patch.Patch.{Patch};
 ghost use Rattle.cd_script.specs.Limits.{patch_limit, text_limit};
 ghost use Rattle.cd_script.specs.Order.{order};
 ghost use Rattle.cd_script.specs.Patch.{IsPatch};
-ghost use Rattle.cd_script.specs.Reading.{Reads};
+ghost use Rattle.cd_script.specs.FirstFault.{AnswersAs};
 ghost use Rattle.cd_script.specs.Script.{at_limit, head_version, is_passed_over, line_at, named_version, patches_from, script, script_from};
-ghost use Rattle.cd_script.specs.Spelled.{as_patch};
+ghost use Rattle.cd_script.specs.HexPatch.{as_patch};
 
 use crate::fault::ScriptFault;
+use crate::hex_patch::HexPatch;
 use crate::limits::MAX_PATCHES;
 use crate::line::patch_of;
 use crate::patch::Patch;
-use crate::spelled::SpelledPatch;
 use crate::version::Version;
 use crate::words::words;
 use bstr::{ByteSlice, Lines};
@@ -136,9 +136,9 @@ fn head_of(lines: &mut Lines) -> Result<Head, ScriptFault>
 fn within_limit<'a>(
     line: u32,
     earlier: usize,
-    patch: SpelledPatch<'a>,
-) -> Result<Option<SpelledPatch<'a>>, ScriptFault>
-    ensures { Reads (option_map as_patch) result (at_limit line earlier (as_patch patch.entry)) }
+    patch: HexPatch<'a>,
+) -> Result<Option<HexPatch<'a>>, ScriptFault>
+    ensures { AnswersAs (option_map as_patch) result (at_limit line earlier (as_patch patch.entry)) }
 {
     if earlier >= MAX_PATCHES {
         Err(ScriptFault::TooMany(line))
@@ -154,8 +154,8 @@ fn patch_on_line<'a>(
     line: u32,
     earlier: usize,
     text: &'a [u8],
-) -> Result<Option<SpelledPatch<'a>>, ScriptFault>
-    ensures { Reads (option_map as_patch) result (line_at version line earlier text.now) }
+) -> Result<Option<HexPatch<'a>>, ScriptFault>
+    ensures { AnswersAs (option_map as_patch) result (line_at version line earlier text.now) }
 {
     let words = words(text);
     let words = words.as_slice();
@@ -183,10 +183,10 @@ fn check_lines(head: Head, mut lines: Lines<'_>) -> Result<(), ScriptFault>
 }
 
 /// Appends the patch of a line, if it has one, to the others.
-fn put_behind(
+fn push_patch(
     alloc: Global,
     patches: &mut Vec<Patch>,
-    found: Option<SpelledPatch<'_>>,
+    found: Option<HexPatch<'_>>,
 ) -> Result<(), AllocError>
     ensures ok { OnOk result (patches.new.items
         ≡ patches.old.items ++ option_to_list (option_map as_patch found.entry)) }
@@ -212,7 +212,7 @@ fn patches_of(alloc: Global, head: Head, mut lines: Lines<'_>) -> Result<Vec<Pat
     while let Some(text) = lines.next() {
         line += 1;
         let found = patch_on_line(head.version, line, patches.len(), text).unwrap();
-        put_behind(alloc, &mut patches, found)?;
+        push_patch(alloc, &mut patches, found)?;
     }
     Ok(patches)
 }
@@ -239,7 +239,7 @@ fn read_patches(alloc: Global, head: Head, rest: &[u8]) -> Result<Vec<Patch>, Sc
 }
 
 /// Proof step: sorts patches by the block that `key` answers, those of one block as they stand.
-/// Another key is refused where it is passed, and `put_in_order` is proved from contracts.
+/// Another key is refused at the call that passes it, and `put_in_order` is proved from contracts.
 fn sort_by<F: FnMut(&Patch) -> u32>(patches: &mut Vec<Patch>, key: F) -> Result<(), AllocError>
     requires callable { F.IsAlwaysCallable key }
     requires block { (before : F) (patch : _) (answer : _) (after : F) →

@@ -43,7 +43,7 @@ impl<'a> FirstWords<'a> {
     }
 
     /// Appends a part of a line to the words, if it is a word.
-    fn put(&mut self, part: &'a [u8])
+    fn push(&mut self, part: &'a [u8])
         requires { length self.old < MOST_WORDS }
         ensures { self.new ≡ self.old ++ filter is_word (part.now ∷ []) }
     {
@@ -76,13 +76,13 @@ pub(crate) fn words<'a>(line: &'a [u8]) -> FirstWords<'a>
     let mut words = FirstWords::new();
     let mut rest = line;
     while let Some(end) = find_space(rest) {
-        let (part, behind) = rest.split_at(end);
-        words.put(part);
+        let (part, after) = rest.split_at(end);
+        words.push(part);
         if words.is_full() {
             return words;
         }
-        rest = &behind[1..];
+        rest = &after[1..];
     }
-    words.put(rest);
+    words.push(rest);
     words
 }

@@ -75,8 +75,8 @@ replaced-sync old header user size i h =
     (omega (arith, length-take-le 12 old (omega (arith, size))))
     ∙ get_or-take 12 old i 0 h
 
-behind : (v w : List ℕ) (n k : ℕ) → length v ≡ n → get_or (v ++ w) (n + k) 0 ≡ get_or w k 0
-behind v w n k size =
+after : (v w : List ℕ) (n k : ℕ) → length v ≡ n → get_or (v ++ w) (n + k) 0 ≡ get_or w k 0
+after v w n k size =
     let e : n + k - n ≡ k = omega arith in
     get_or-append_right v w n (n + k) 0 size (omega arith) ∙ ap (λ i. get_or w i 0) e
 
@@ -84,20 +84,20 @@ replaced-header : (old header user : List ℕ) → length old ≡ 2352 → lengt
     → (i : ℕ) → i < 4 → get_or (replaced old header user) (12 + i) 0 ≡ get_or header i 0
 unfolding replaced
 replaced-header old header user size four i h =
-    behind (take 12 old) (header ++ (user ++ drop 2064 old)) 12 i
+    after (take 12 old) (header ++ (user ++ drop 2064 old)) 12 i
     (length-take-le 12 old (omega (arith, size)))
     ∙ get_or_append_left header (user ++ drop 2064 old) 0 i (omega (arith, four))
 
--- behind the header
+-- after the header
 replaced-past : (old header user : List ℕ) → length old ≡ 2352 → length header ≡ 4
     → (i : ℕ) → get_or (replaced old header user) (16 + i) 0 ≡ get_or (user ++ drop 2064 old) i 0
 unfolding replaced
 replaced-past old header user size four i =
     let e : 16 + i ≡ 12 + (4 + i) = omega arith in
     ap (λ n. get_or (take 12 old ++ (header ++ (user ++ drop 2064 old))) n 0) e
-    ∙ behind (take 12 old) (header ++ (user ++ drop 2064 old)) 12 (4 + i)
+    ∙ after (take 12 old) (header ++ (user ++ drop 2064 old)) 12 (4 + i)
     (length-take-le 12 old (omega (arith, size)))
-    ∙ behind header (user ++ drop 2064 old) 4 i four
+    ∙ after header (user ++ drop 2064 old) 4 i four
 
 replaced-user : (old header user : List ℕ) → length old ≡ 2352 → length header ≡ 4
     → length user ≡ 2048
@@ -113,7 +113,7 @@ replaced-back old header user size four long i =
     let e : 2064 + i ≡ 16 + (2048 + i) = omega arith in
     ap (λ n. get_or (replaced old header user) n 0) e
     ∙ replaced-past old header user size four (2048 + i)
-    ∙ behind user (drop 2064 old) 2048 i long ∙ get_or-drop 2064 old i 0
+    ∙ after user (drop 2064 old) 2048 i long ∙ get_or-drop 2064 old i 0
 
 -- ---- the sum of the old sector and the difference of the contents
 

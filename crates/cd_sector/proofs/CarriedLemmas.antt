@@ -15,7 +15,7 @@ use Rattle.cd_sector.specs.CodeWords.{SameSyndromes, column_of, diagonal_of}
 use Rattle.cd_sector.specs.Consistent.{IsConsistent, header_of, user_of}
 use Rattle.cd_sector.specs.Defect.{Defect, all_syndromes, defect_of, is_sound}
 use Rattle.cd_sector.specs.Kind.{sync_field}
-use Rattle.cd_sector.proofs.DefectLemmas.{IsWhole, sound_told, defect-columns, defect-diagonals, defect-rest, defect-zeros, length-range, range-byte}
+use Rattle.cd_sector.proofs.DefectLemmas.{IsWhole, sound_decided, defect-columns, defect-diagonals, defect-rest, defect-zeros, length-range, range-byte}
 use Rattle.cd_sector.proofs.ParityLemmas.{AllCodeWords-by_number}
 use Rattle.cd_sector.proofs.SectorLemmas.{Agree, SameSyndromes-code_words, mode1-from, mode1-parts, range-agree, sector_same}
 use Rattle.cd_sector.proofs.SumLemmas.{AllCodeWords-same, AllCodeWords-sum, SameSyndromes-none, remainder_of_sum}
@@ -191,12 +191,12 @@ consistent_carried old s h k =
 -- ---- the test of two defects
 
 -- the sum of two sectors is whole exactly where their defects are equal
-pub same_defect-told : (a b sum : List ℕ) (r : Bool) → length a ≡ 2352 → length b ≡ 2352
+pub same_defect-decided : (a b sum : List ℕ) (r : Bool) → length a ≡ 2352 → length b ≡ 2352
     → length sum ≡ 2352 → IsSum sum a b
     → r ≡ is_sound (defect_of sum) → Decides r (defect_of a ≡ defect_of b)
-same_defect-told a b sum r la lb ls h e =
-    let told : Decides r (IsWhole sum) =
-    Decides-at r (is_sound (defect_of sum)) e (sound_told sum ls) in
+same_defect-decided a b sum r la lb ls h e =
+    let known : Decides r (IsWhole sum) =
+    Decides-at r (is_sound (defect_of sum)) e (sound_decided sum ls) in
     let long_a = length-range a 2068 2076 (lit≤ tt) (omega (arith, la)) in
     let long_b = length-range b 2068 2076 (lit≤ tt) (omega (arith, lb)) in
     Decides-like r
@@ -227,12 +227,12 @@ same_defect-told a b sum r la lb ls h e =
       ),
       λ i k. words.diagonals (i % 2) (i / 2) (omega arith) (omega arith),
     ))
-    told
+    known
 
 -- equal bytes in front of the EDC, and equal defects
-pub same_defect-alone : (a b : List ℕ) → length a ≡ 2352 → AreBytes a → length b ≡ 2352 → AreBytes b
+pub same_defect-unique : (a b : List ℕ) → length a ≡ 2352 → AreBytes a → length b ≡ 2352 → AreBytes b
     → take 2064 a ≡ take 2064 b → defect_of a ≡ defect_of b → a ≡ b
-same_defect-alone a b la ha lb hb front same =
+same_defect-unique a b la ha lb hb front same =
     sector_by_front a b la ha lb hb
     (λ i h. sym (get_or-take 2064 a i 0 h) ∙ ap (λ v. get_or v i 0) front
     ∙ get_or-take 2064 b i 0 h) same

@@ -63,7 +63,7 @@ content-user header user size i =
     ∙ get_or-append_right header (1 ∷ user) 3 (4 + i) 0 size (omega arith)
     ∙ ap (λ n. get_or (1 ∷ user) n 0) f
 
--- a sector with such a front, and what stands behind it
+-- a sector with such a front, and what stands after it
 pub encoded : (header user s : List ℕ) → length header ≡ 3 → length user ≡ 2048
     → length s ≡ 2352 → AreBytes s
     → ((k : ℕ) → k < 2064 → get_or s k 0 ≡ get_or (content_of header user) k 0)
@@ -101,9 +101,9 @@ encoded header user s size long s_size bytes front zeros divides words =
     }
 
 -- the only one
-pub encoded-alone : (header user s t : List ℕ) → IsEncoded header user t
+pub encoded-unique : (header user s t : List ℕ) → IsEncoded header user t
     → IsConsistent s → header_of s ≡ header ++ 1 ∷ [] → user_of s ≡ user → s ≡ t
-encoded-alone header user s t made h e f =
+encoded-unique header user s t made h e f =
     sector_unique s t h made.is_consistent (e ∙ sym made.has_header) (f ∙ sym made.has_user)
 
 -- ---- parts in their places
@@ -171,7 +171,7 @@ header_bytes bytes s same size =
 
 -- ---- a sector that is rebuilt
 
--- the same front in another sector of Mode 1, and what stands behind it
+-- the same front in another sector of Mode 1, and what stands after it
 pub rebuilt : (old new : List ℕ) → length old ≡ 2352 → length new ≡ 2352 → AreBytes new
     → kind_of old ≡ Mode1
     → ((k : ℕ) → k < 2064 → get_or new k 0 ≡ get_or old k 0)

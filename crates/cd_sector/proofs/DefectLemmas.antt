@@ -1,4 +1,4 @@
--- Counting words that are no code words, and the test of a whole sector.
+-- Counting words that are not code words, and the test of a whole sector.
 use Rattle.std.proofs.Common.{◌≡◌, ℕ, ◌+◌, ◌-◌, ◌/◌, ◌%◌, ◌<◌, ◌≤◌, inl, inr, Bool, true, false, not, ◌&&◌, ◌||◌, cond, Decides, List, [], ◌∷◌, length, map, get_or, take, drop, refl, sym, ap, subst, ◌∙◌, arith, lit<, lit≤}
 use Rattle.std.specs.Bool.{◌==◌, nat_lt}
 use Rattle.std.specs.List.{count_by, list_all, list_any, range_with_len, slice_range}
@@ -147,12 +147,12 @@ all_bytes s =
     (Decides-by_and (λ b. nat_lt b 256) (λ b. b < 256) (list_all (λ b. nat_lt b 256))
     (λ b. Decides-ltb b 256) refl (λ x xs. refl) s)
 
-pub mode1_told : (k : SectorKind) → Decides (is_mode1 k) (k ≡ Mode1)
-mode1_told NoSync = (λ e. absurd cc, λ e. absurd cc)
-mode1_told Mode0 = (λ e. absurd cc, λ e. absurd cc)
-mode1_told Mode1 = (λ e. refl, λ e. refl)
-mode1_told Mode2 = (λ e. absurd cc, λ e. absurd cc)
-mode1_told Other = (λ e. absurd cc, λ e. absurd cc)
+pub mode1_decided : (k : SectorKind) → Decides (is_mode1 k) (k ≡ Mode1)
+mode1_decided NoSync = (λ e. absurd cc, λ e. absurd cc)
+mode1_decided Mode0 = (λ e. absurd cc, λ e. absurd cc)
+mode1_decided Mode1 = (λ e. refl, λ e. refl)
+mode1_decided Mode2 = (λ e. absurd cc, λ e. absurd cc)
+mode1_decided Other = (λ e. absurd cc, λ e. absurd cc)
 
 pub range-byte : (s : List ℕ) (a b i : ℕ) → a + i < b
     → get_or (slice_range s a b) i 0 ≡ get_or s (a + i) 0
@@ -207,8 +207,8 @@ IsWhole s =
     × ((i : ℕ) → i < 86 → IsCodeWord (column_of s i)))
     × ((i : ℕ) → i < 52 → IsCodeWord (diagonal_of s i)))
 
-parts_told : (s : List ℕ) → length s ≡ 2352 → Decides (parts_of s) (IsWhole s)
-parts_told s size =
+parts_decided : (s : List ℕ) → length s ≡ 2352 → Decides (parts_of s) (IsWhole s)
+parts_decided s size =
     let a = list_all (λ b. b == 0) (slice_range s 2068 2076) in
     let b = remainder (bits (take 2068 s)) == 0 in
     let c = list_all (λ w. not (is_broken w)) (all_syndromes (column_of s) 86) in
@@ -226,8 +226,8 @@ by_plane s h = (
 )
 
 -- the test of a sector is the record of its parts
-pub consistent-told : (s : List ℕ) → Decides (consistent s) (IsConsistent s)
-consistent-told s =
+pub consistent-decided : (s : List ℕ) → Decides (consistent s) (IsConsistent s)
+consistent-decided s =
     let size = length s == 2352 in
     let bytes = list_all (λ b. nat_lt b 256) s in
     let mode = is_mode1 (kind_of s) in (
@@ -237,11 +237,11 @@ consistent-told s =
           let inner = and_parts (size && bytes) mode outer.0 in
           let first = and_parts size bytes inner.0 in
           let long : length s ≡ 2352 = (Decides-eqb (length s) 2352).0 first.0 in
-          let whole = (parts_told s long).0 outer.1 in
+          let whole = (parts_decided s long).0 outer.1 in
           record {
             size = long;
             bytes = (all_bytes s).0 first.1;
-            mode = (mode1_told (kind_of s)).0 inner.1;
+            mode = (mode1_decided (kind_of s)).0 inner.1;
             zeros = whole.0.0.0;
             edc = whole.0.0.1;
             words = AllCodeWords-by_number s whole.0.1 whole.1;
@@ -249,8 +249,8 @@ consistent-told s =
       λ h.
           let one : size ≡ true = (Decides-eqb (length s) 2352).1 h.size in
           let two : bytes ≡ true = (all_bytes s).1 h.bytes in
-          let three : mode ≡ true = (mode1_told (kind_of s)).1 h.mode in
-          let four : parts_of s ≡ true = (parts_told s h.size).1 (by_plane s h) in
+          let three : mode ≡ true = (mode1_decided (kind_of s)).1 h.mode in
+          let four : parts_of s ≡ true = (parts_decided s h.size).1 (by_plane s h) in
           consistent-parts s
           ∙ ap (λ b. ((b && bytes) && mode) && parts_of s) one
           ∙ ap (λ b. ((true && b) && mode) && parts_of s) two
@@ -331,11 +331,11 @@ consistent-sector s long bytes =
     ∙ ap (λ t. ((true && t) && mode) && sound) ((all_bytes s).1 bytes)
 
 -- the test of a defect's members
-pub sound_told : (s : List ℕ) → length s ≡ 2352 → Decides (is_sound (defect_of s)) (IsWhole s)
-sound_told s size =
-    Decides-at (is_sound (defect_of s)) (parts_of s) (sound-parts s) (parts_told s size)
+pub sound_decided : (s : List ℕ) → length s ≡ 2352 → Decides (is_sound (defect_of s)) (IsWhole s)
+sound_decided s size =
+    Decides-at (is_sound (defect_of s)) (parts_of s) (sound-parts s) (parts_decided s size)
 
--- the way of the code, where the kind is right, and where it is not
+-- the way of the code, if the kind is right, and if it is not
 pub consistent-true : (s bytes : List ℕ) (mode whole : Bool) → length s ≡ 2352
     → AreBytes s → bytes ≡ s
     → mode ≡ is_mode1 (kind_of s) → mode ≡ true → whole ≡ is_sound (defect_of bytes)

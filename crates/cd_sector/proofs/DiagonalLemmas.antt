@@ -13,7 +13,7 @@ use Rattle.cd_code.specs.Syndrome.{first_syndrome, second_syndrome}
 use Rattle.cd_code.proofs.FieldLemmas.{double-zero}
 use Rattle.cd_code.proofs.SyndromeLemmas.{first_syndrome-nil, second_syndrome-nil, first_syndrome-push, second_syndrome-push}
 use Rattle.cd_sector.specs.CodeWords.{SumsOf, place_of, bytes_at, diagonal_input, diagonal_of}
-use Rattle.cd_sector.specs.DiagonalSteps.{HasTaken, bytes_taken, lane_place}
+use Rattle.cd_sector.specs.DiagonalSteps.{SumsUpTo, bytes_up_to, lane_place}
 use Rattle.cd_sector.specs.declared.diagonals.TheConstants.{RISING, LANE_MASKS}
 use Rattle.cd_sector.proofs.ParityLemmas.{SumsOf-more, take-row}
 use mir.Syntax.{w8}
@@ -28,8 +28,8 @@ length-word s plane n = length-bytes_at s (diagonal_input plane n) ∙ length-di
 -- a lane that takes a byte
 taken-more : (s : List ℕ) (top step i : ℕ) → i / 2 ≤ top → top ≤ step + i / 2
     → step + i / 2 < top + 43
-    → bytes_taken s top (step + 1) i
-    ≡ bytes_taken s top step i ++ get_or s (lane_place top step i) 0 ∷ []
+    → bytes_up_to s top (step + 1) i
+    ≡ bytes_up_to s top step i ++ get_or s (lane_place top step i) 0 ∷ []
 taken-more s top step i within begun running =
     let n = top - i / 2 in
     let m = step - n in
@@ -55,7 +55,7 @@ taken-more s top step i within begun running =
 -- a lane that has not begun, or has ended
 taken-same : (s : List ℕ) (top step i : ℕ) → i / 2 ≤ top
     → (step + i / 2 < top) ⊎ (top + 43 ≤ step + i / 2)
-    → bytes_taken s top (step + 1) i ≡ bytes_taken s top step i
+    → bytes_up_to s top (step + 1) i ≡ bytes_up_to s top step i
 taken-same s top step i within (inl before) =
     let word = bytes_at s (diagonal_input (i % 2) (top - i / 2)) in
     let a : step + 1 - (top - i / 2) ≡ 0 = omega arith in
@@ -68,10 +68,10 @@ taken-same s top step i within (inr past) =
     ∙ sym (take_all (step - (top - i / 2)) word (omega arith))
 
 -- no lane has begun
-pub HasTaken-none : (s : List ℕ) (top step : ℕ) → step + 15 ≤ top
-    → HasTaken s top step (replicate 32 0) (replicate 32 0)
-HasTaken-none s top step h =
-    let none : (i : ℕ) → i < 32 → bytes_taken s top step i ≡ [] =
+pub SumsUpTo-none : (s : List ℕ) (top step : ℕ) → step + 15 ≤ top
+    → SumsUpTo s top step (replicate 32 0) (replicate 32 0)
+SumsUpTo-none s top step h =
+    let none : (i : ℕ) → i < 32 → bytes_up_to s top step i ≡ [] =
     λ i k. (let e : step - (top - i / 2) ≡ 0 = omega arith in
     ap (λ n. take n (bytes_at s (diagonal_input (i % 2) (top - i / 2)))) e) in
     record {
@@ -83,7 +83,7 @@ HasTaken-none s top step h =
 
 -- the weighted sum of a lane that has not begun
 pub weighted-unbegun : (s : List ℕ) (top step : ℕ) (plain weighted : List ℕ)
-    → HasTaken s top step plain weighted
+    → SumsUpTo s top step plain weighted
     → (i : ℕ) → i < 32 → step + i / 2 < top → get_or weighted i 0 ≡ 0
 weighted-unbegun s top step plain weighted sums i h before =
     let none : step - (top - i / 2) ≡ 0 = omega arith in
@@ -92,25 +92,25 @@ weighted-unbegun s top step plain weighted sums i h before =
     ∙ second_syndrome-nil
 
 -- one step: a lane takes its byte, or stays
-pub HasTaken-step : (s : List ℕ) (top step : ℕ) (plain weighted next next_weighted : List ℕ)
+pub SumsUpTo-step : (s : List ℕ) (top step : ℕ) (plain weighted next next_weighted : List ℕ)
     → AreBytes s → 15 ≤ top
-    → HasTaken s top step plain weighted
+    → SumsUpTo s top step plain weighted
     → ((i : ℕ) → i < 32 → top ≤ step + i / 2 → step + i / 2 < top + 43
     → (get_or next i 0 ≡ bit_xor (get_or plain i 0) (get_or s (lane_place top step i) 0))
     × (get_or next_weighted i 0
     ≡ bit_xor (double (get_or weighted i 0)) (get_or s (lane_place top step i) 0)))
     → ((i : ℕ) → i < 32 → (step + i / 2 < top) ⊎ (top + 43 ≤ step + i / 2)
     → (get_or next i 0 ≡ get_or plain i 0) × (get_or next_weighted i 0 ≡ get_or weighted i 0))
-    → HasTaken s top (step + 1) next next_weighted
-HasTaken-step s top step plain weighted next next_weighted bytes least sums takes stays =
+    → SumsUpTo s top (step + 1) next next_weighted
+SumsUpTo-step s top step plain weighted next next_weighted bytes least sums takes stays =
     let lane : (i : ℕ) → i < 32
-    → (get_or next i 0 ≡ first_syndrome (bytes_taken s top (step + 1) i))
-    × (get_or next_weighted i 0 ≡ second_syndrome (bytes_taken s top (step + 1) i)) =
+    → (get_or next i 0 ≡ first_syndrome (bytes_up_to s top (step + 1) i))
+    × (get_or next_weighted i 0 ≡ second_syndrome (bytes_up_to s top (step + 1) i)) =
     λ i h.
     let within : i / 2 ≤ top = omega arith in
     let rests : (step + i / 2 < top) ⊎ (top + 43 ≤ step + i / 2)
-    → (get_or next i 0 ≡ first_syndrome (bytes_taken s top (step + 1) i))
-    × (get_or next_weighted i 0 ≡ second_syndrome (bytes_taken s top (step + 1) i)) =
+    → (get_or next i 0 ≡ first_syndrome (bytes_up_to s top (step + 1) i))
+    × (get_or next_weighted i 0 ≡ second_syndrome (bytes_up_to s top (step + 1) i)) =
     λ outside.
     let same = taken-same s top step i within outside in
     let stay = stays i h outside in (
@@ -124,7 +124,7 @@ HasTaken-step s top step plain weighted next next_weighted bytes least sums take
             let more = taken-more s top step i within begun running in
             let took = takes i h begun running in
             let byte = get_or s (lane_place top step i) 0 in
-            let so_far = bytes_taken s top step i in (
+            let so_far = bytes_up_to s top step i in (
               took.0 ∙ ap (λ z. bit_xor z byte) (sums.first i h)
                   ∙ sym (ap first_syndrome more ∙ first_syndrome-push so_far byte),
               took.1 ∙ ap (λ z. bit_xor (double z) byte) (sums.second i h)
@@ -136,16 +136,16 @@ HasTaken-step s top step plain weighted next next_weighted bytes least sums take
     ] in
     record { first = λ i h. (lane i h).0; second = λ i h. (lane i h).1 }
 
--- the first step of diagonals 15 to 0, at which the last one alone takes a byte
-pub HasTaken-first : (s zeros zeros_weighted lanes next next_weighted : List ℕ) → AreBytes s
+-- the first step of diagonals 15 to 0, at which only the last one takes a byte
+pub SumsUpTo-first : (s zeros zeros_weighted lanes next next_weighted : List ℕ) → AreBytes s
     → zeros ≡ replicate 32 0 → zeros_weighted ≡ replicate 32 0
     → ((i : ℕ) → i < 30 → get_or lanes i 0 ≡ 0)
     → get_or lanes 30 0 ≡ get_or s 12 0 → get_or lanes 31 0 ≡ get_or s 13 0
     → ((i : ℕ) → i < 32 → get_or next i 0 ≡ bit_xor (get_or zeros i 0) (get_or lanes i 0))
     → ((i : ℕ) → i < 32
     → get_or next_weighted i 0 ≡ bit_xor (double (get_or zeros_weighted i 0)) (get_or lanes i 0))
-    → HasTaken s 15 1 next next_weighted
-HasTaken-first s zeros zeros_weighted lanes next next_weighted bytes e f none low high plain
+    → SumsUpTo s 15 1 next next_weighted
+SumsUpTo-first s zeros zeros_weighted lanes next next_weighted bytes e f none low high plain
     weighted =
     let lane_is : (i : ℕ) → i < 32 → 15 ≤ i / 2
     → get_or lanes i 0 ≡ get_or s (lane_place 15 0 i) 0 =
@@ -163,8 +163,8 @@ HasTaken-first s zeros zeros_weighted lanes next next_weighted bytes e f none lo
     ] in
     let zero_is : (i : ℕ) → i < 32 → get_or zeros_weighted i 0 ≡ 0 =
     λ i h. ap (λ v. get_or v i 0) f ∙ get_or-replicate 32 i 0 0 h in
-    HasTaken-step s 15 0 zeros zeros_weighted next next_weighted bytes (lit≤ tt)
-    (rw e (rw f (HasTaken-none s 15 0 (lit≤ tt))))
+    SumsUpTo-step s 15 0 zeros zeros_weighted next next_weighted bytes (lit≤ tt)
+    (rw e (rw f (SumsUpTo-none s 15 0 (lit≤ tt))))
     (λ i h begun running.
     let lane = lane_is i h (omega arith) in (
       plain i h ∙ ap (bit_xor (get_or zeros i 0)) lane,
@@ -196,14 +196,14 @@ pub SumsOf-rising : (s : List ℕ) (top step count : ℕ) (number : ℕ → ℕ)
     (plain weighted next next_weighted : List ℕ) → count ≤ 32
     → ((i : ℕ) → i < count
     → (number i / 2 + 15 ≡ top + i / 2) × ((number i % 2 ≡ i % 2) × (number i / 2 + 43 ≤ step)))
-    → HasTaken s top step plain weighted
+    → SumsUpTo s top step plain weighted
     → ((i : ℕ) → i < 32 → get_or next i 0 ≡ get_or plain (2 * (15 - i / 2) + i % 2) 0)
     → ((i : ℕ) → i < 32 → get_or next_weighted i 0 ≡ get_or weighted (2 * (15 - i / 2) + i % 2) 0)
     → SumsOf (λ i. bytes_at s (diagonal_input (number i % 2) (number i / 2))) count
     next next_weighted
 SumsOf-rising s top step count number plain weighted next next_weighted few is sums firsts seconds =
     let word : (i : ℕ) → i < count
-    → bytes_taken s top step (2 * (15 - i / 2) + i % 2)
+    → bytes_up_to s top step (2 * (15 - i / 2) + i % 2)
     ≡ bytes_at s (diagonal_input (number i % 2) (number i / 2)) =
     λ i h.
     let numbered = is i h in
@@ -217,7 +217,7 @@ SumsOf-rising s top step count number plain weighted next next_weighted few is s
   where
     whole : (s : List ℕ) (top step i n : ℕ) → i < 32 → n / 2 + 15 ≡ top + i / 2 → n % 2 ≡ i % 2
         → n / 2 + 43 ≤ step
-        → bytes_taken s top step (2 * (15 - i / 2) + i % 2)
+        → bytes_up_to s top step (2 * (15 - i / 2) + i % 2)
         ≡ bytes_at s (diagonal_input (n % 2) (n / 2))
     whole s top step i n h e f past =
         let j = 2 * (15 - i / 2) + i % 2 in
@@ -228,7 +228,7 @@ SumsOf-rising s top step count number plain weighted next next_weighted few is s
         ∙ take_all (step - n / 2) (bytes_at s (diagonal_input (n % 2) (n / 2)))
         (omega (arith, length-word s (n % 2) (n / 2)))
 
--- the sums of the first 20 words, and of the 32 behind them
+-- the sums of the first 20 words, and of the 32 after them
 pub SumsOf-joined : (word : ℕ → List ℕ)
     (low low_weighted high high_weighted plain weighted : List ℕ)
     → SumsOf word 20 low low_weighted → SumsOf (λ i. word (20 + i)) 32 high high_weighted

@@ -43,12 +43,12 @@ edc_written old new four size long e =
       ],
     )
 
--- the bytes up to the EDC's end, where its four bytes stand in their place
+-- the bytes up to the EDC's end, if its four bytes stand in their place
 edc_front : (new four : List ℕ) → slice_range new 2064 2068 ≡ four
     → take 2068 new ≡ take 2064 new ++ four
 edc_front new four e = take-add 2064 4 new ∙ ap (λ v. take 2064 new ++ v) e
 
--- the word of the first bytes, put behind them
+-- the word of the first bytes, put after them
 pub StoresEdc-put : (old new : List ℕ) (w error : ℕ) → length old ≡ 2352 → length new ≡ 2352
     → error < 2 ^ 32
     → IsEdc (take 2064 old) w → slice_range new 2064 2068 ≡ to_le_bytes w32 (bit_xor w error)
@@ -77,11 +77,11 @@ StoresEdc-remainder {s} {error} h =
     ∙ xor_zero_l (after_bits 32 0 error)
 
 -- the test of the word that stands in the EDC's place
-pub edc_told : (s : List ℕ) (w stored : ℕ) (r : Bool) → length s ≡ 2352 → AreBytes s
+pub edc_decided : (s : List ℕ) (w stored : ℕ) (r : Bool) → length s ≡ 2352 → AreBytes s
     → IsEdc (take 2064 s) w
     → stored ≡ from_le_bytes w32 (slice_range s 2064 2068) → Decides r (w ≡ stored)
     → r ≡ (remainder (bits (take 2068 s)) == 0)
-edc_told s w stored r size bytes edc read told =
+edc_decided s w stored r size bytes edc read known =
     let front = take 2064 s in
     let four = slice_range s 2064 2068 in
     let split : take 2068 s ≡ front ++ four = edc_front s four refl in
@@ -113,4 +113,4 @@ edc_told s w stored r size bytes edc read told =
     sym (read ∙ ap (from_le_bytes w32) found ∙ from_le_bytes-to_le_bytes_4 w edc.fits))
     (λ same. ap (λ v. remainder (bits v)) (split ∙ ap (λ v. front ++ v) (right same)) ∙ edc.divides)
     (Decides-eqb (remainder (bits (take 2068 s))) 0) in
-    one_answer r (remainder (bits (take 2068 s)) == 0) told goal
+    one_answer r (remainder (bits (take 2068 s)) == 0) known goal

@@ -40,7 +40,7 @@ edc_of_front v h (suc n) k =
 
 -- ---- pairs
 
--- what stands behind the other words, with n pairs filled in
+-- what stands after the other words, with n pairs filled in
 record Made (word : ℕ → List ℕ) (start count n : ℕ) (old : List ℕ) : Type 0 where
   sector : List ℕ
   size : length sector ≡ length old
@@ -108,7 +108,7 @@ AreBytes-sync = λ i. elim (cases_lt i 12) [
     sync_byte i h = ltb-true (get_or sync_field i 0) 256
         (agree_below_at (λ k. nat_lt (get_or sync_field k 0) 256) (λ _. true) 12 i refl h)
 
--- the content, and 00 behind it
+-- the content, and 00 after it
 abbrev blank : List ℕ → List ℕ → List ℕ
 blank header user = content_of header user ++ replicate 288 0
 
@@ -138,7 +138,7 @@ length-blank header user h k =
     ∙ ap (λ n. n + length (replicate {A = ℕ} 288 0)) (length-content header user h k)
     ∙ ap (λ n. 2064 + n) (length-replicate {A = ℕ} 288 0)
 
--- the same front with an EDC behind it
+-- the same front with an EDC after it
 pub record Checked (old : List ℕ) : Type 0 where
   pub sector : List ℕ
   pub size : length sector ≡ 2352
@@ -167,7 +167,7 @@ checked old size h =
       stays = parts.1;
     }
 
--- the same front with code words behind it: the columns, then all
+-- the same front with code words after it: the columns, then all
 pub record WithColumns (old : List ℕ) : Type 0 where
   pub sector : List ℕ
   pub size : length sector ≡ 2352

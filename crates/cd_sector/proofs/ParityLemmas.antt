@@ -43,7 +43,7 @@ pub take-row : (v : List ℕ) (n byte : ℕ) → n < length v → get_or v n 0 �
     → take (n + 1) v ≡ take n v ++ byte ∷ []
 take-row v n byte inside e = take_more v n 0 inside ∙ ap (λ b. take n v ++ b ∷ []) e
 
--- a column of the 26 rows behind byte 12
+-- a column of the 26 rows from byte 12 on
 pub column-rows : (s rows : List ℕ) (i : ℕ) → i < 86
     → ((k : ℕ) → k < 2236 → get_or rows k 0 ≡ get_or s (12 + k) 0)
     → column rows i ≡ column_of s i
@@ -61,7 +61,7 @@ column-rows s rows i h same =
     ∙ sym (bytes_at-byte s ps m (omega (arith, length-column_places (i % 2) (i / 2)))
     ∙ ap (λ n. get_or s n 0) (column_place (i % 2) (i / 2) m below ∙ p)))
 
--- row i of the 24 rows behind byte 12
+-- row i of the 24 rows from byte 12 on
 pub row_of_columns : (s : List ℕ) (chunks : List (List ℕ)) (n i k : ℕ) (d : List ℕ)
     → chunks ≡ first_chunks 86 n (take 2064 (drop 12 s)) → i < n → n ≤ 24 → k < 86
     → get_or (get_or chunks i d) k 0 ≡ get_or s (12 + (86 * i + k)) 0
@@ -124,7 +124,7 @@ rows_of_columns s long =
     length-take-le 2064 (drop 12 s) (omega (arith, length-drop 12 s)) in
     ap (λ n. n / 86) e
 
--- the sums of the columns, from the 26 rows behind byte 12
+-- the sums of the columns, from the 26 rows from byte 12 on
 pub SumsOf-columns : (s rows plain weighted : List ℕ) → rows ≡ take 2236 (take 2236 (drop 12 s))
     → ((i : ℕ) → i < 86 → get_or plain i 0 ≡ first_syndrome (column rows i))
     → ((i : ℕ) → i < 86 → get_or weighted i 0 ≡ second_syndrome (column rows i))
@@ -194,7 +194,7 @@ same_pair p q a b p' q' a' b' ep eq ea eb h = λ v bytes firsts seconds.
     let S : ℕ → Type 0 = λ y. IsCodeWord (v ++ a ∷ y ∷ []) in
     subst F ea (subst S eb (h v bytes (firsts ∙ sym ep) (seconds ∙ sym eq)))
 
--- pair k of 32 that were put `from` places further on is pair i of all, where later writes have
+-- pair k of 32 that were put `from` places further on is pair i of all, if later writes have
 -- left it
 pair_at : (word : ℕ → List ℕ) (plain weighted now new : List ℕ) (start count from k i : ℕ)
     → from + k ≡ i
@@ -256,7 +256,7 @@ columns_put word lanes old one two three are front middle back = record {
     | inl below ↦
         back.before k (omega arith) ∙ middle.before k (omega arith) ∙ front.before k (omega arith)
     | inr past ↦
-        back.behind k (omega arith) ∙ middle.behind k (omega arith) ∙ front.behind k (omega arith)
+        back.after k (omega arith) ∙ middle.after k (omega arith) ∙ front.after k (omega arith)
   ];
 }
 
@@ -283,13 +283,13 @@ diagonals_put word low high old one two below above first second = record {
   ];
   stays = λ k h. elim h [
     | inl under ↦ second.before k (omega arith) ∙ first.before k (omega arith)
-    | inr past ↦ second.behind k (omega arith) ∙ first.behind k (omega arith)
+    | inr past ↦ second.after k (omega arith) ∙ first.after k (omega arith)
   ];
 }
 
 -- ---- what the pairs make
 
--- the pairs behind the columns' input
+-- the pairs after the columns' input
 pub columns_made : (old new : List ℕ) → AreBytes old
     → Filled (λ i. IsPair (first_syndrome (bytes_at old (column_input (i % 2) (i / 2))))
     (second_syndrome (bytes_at old (column_input (i % 2) (i / 2))))) 2076 86 86 old new
@@ -312,7 +312,7 @@ columns_made old new bytes filled i h =
     ∙ sym (column_bytes-parts new (i % 2) (i / 2)) in
     rw word at (filled.pairs i h (bytes_at old ps) (AreBytes-bytes_at old ps bytes) refl refl)
 
--- the pairs behind the diagonals' input
+-- the pairs after the diagonals' input
 pub diagonals_made : (old new : List ℕ) → AreBytes old
     → Filled (λ i. IsPair (first_syndrome (bytes_at old (diagonal_input (i % 2) (i / 2))))
     (second_syndrome (bytes_at old (diagonal_input (i % 2) (i / 2))))) 2248 52 52 old new

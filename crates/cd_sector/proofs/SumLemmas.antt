@@ -13,7 +13,7 @@ use Rattle.cd_code.proofs.general.Xor.{same_from_xor}
 use Rattle.cd_sector.specs.CodeWords.{AllCodeWords, SameSyndromes, bytes_at, column_places, diagonal_places}
 use Rattle.cd_sector.proofs.PlaceLemmas.{bytes_at-byte, length-bytes_at}
 
--- where all syndromes of one are 0, so are those of the other
+-- if all syndromes of one are 0, so are those of the other
 pub AllCodeWords-same : {s t : List ℕ} → SameSyndromes s t → AllCodeWords t → AllCodeWords s
 AllCodeWords-same h k = record {
   columns = λ plane n hp hn.
@@ -64,7 +64,7 @@ SameSyndromes-sum u s t h words = record {
       (words.diagonals plane n hp hn);
 }
 
--- the syndromes of two sectors are equal where those of the sum are 0
+-- the syndromes of two sectors are equal if those of the sum are 0
 SameSums-none : (u s t ps : List ℕ) → IsSum u s t → IsCodeWord (bytes_at u ps)
     → SameSums (bytes_at s ps) (bytes_at t ps)
 SameSums-none u s t ps h word =
@@ -107,7 +107,7 @@ IsCodeWord-sum u s t ps h same =
           ∙ ap (λ n. bit_xor n second) same.second ∙ xor_self second;
     }
 
--- and the sum's syndromes are 0 where they are equal
+-- and the sum's syndromes are 0 if they are equal
 pub AllCodeWords-sum : (u s t : List ℕ) → IsSum u s t → SameSyndromes s t → AllCodeWords u
 AllCodeWords-sum u s t h same = record {
   columns = λ plane n hp hn. IsCodeWord-sum u s t (column_places plane n) h

@@ -7,9 +7,9 @@ abbrev pub bcd : ℕ → ℕ
 bcd n = 16 * (n / 10) + n % 10
 
 -- the address at t fractions, of which 75 are a second
-abbrev pub address_at : ℕ → List ℕ
-address_at t = bcd (t / 4500) ∷ bcd (t / 75 % 60) ∷ bcd (t % 75) ∷ []
+abbrev pub bcd_address : ℕ → List ℕ
+bcd_address t = bcd (t / 4500) ∷ bcd (t / 75 % 60) ∷ bcd (t % 75) ∷ []
 
 -- the address of a block; past minute 99 there is none
 unfoldable pub address : ℕ → Option (List ℕ)
-address block = if nat_lt block 449850 then Some (address_at (block + 150)) else None
+address block = if nat_lt block 449850 then Some (bcd_address (block + 150)) else None

@@ -67,4 +67,4 @@ pub record PairsPut (at count : ℕ) (sums : LaneSums) (old new : List ℕ) : Ty
       (slice_index new (at + i)) (slice_index new (at + count + i))
   pub before : (k : ℕ) → k < at → slice_index new k ≡ slice_index old k
   pub between : (k : ℕ) → at + 32 ≤ k → k < at + count → slice_index new k ≡ slice_index old k
-  pub behind : (k : ℕ) → at + count + 32 ≤ k → slice_index new k ≡ slice_index old k
+  pub after : (k : ℕ) → at + count + 32 ≤ k → slice_index new k ≡ slice_index old k

@@ -10,12 +10,12 @@ abbrev pub lane_place : ℕ → ℕ → ℕ → ℕ
 lane_place top step i = 12 + 86 * (step % 26) + 2 * step + i - 2 * top
 
 -- the bytes that lane i takes at the steps below `step`
-abbrev pub bytes_taken : List ℕ → ℕ → ℕ → ℕ → List ℕ
-bytes_taken s top step i =
+abbrev pub bytes_up_to : List ℕ → ℕ → ℕ → ℕ → List ℕ
+bytes_up_to s top step i =
     take (step - (top - i / 2)) (bytes_at s (diagonal_input (i % 2) (top - i / 2)))
 
 -- the sums are those of the bytes that each lane takes at the steps below `step`
-pub record HasTaken (s : List ℕ) (top step : ℕ) (plain weighted : List ℕ) : Type 0 where
-  pub first : (i : ℕ) → i < 32 → slice_index plain i ≡ first_syndrome (bytes_taken s top step i)
+pub record SumsUpTo (s : List ℕ) (top step : ℕ) (plain weighted : List ℕ) : Type 0 where
+  pub first : (i : ℕ) → i < 32 → slice_index plain i ≡ first_syndrome (bytes_up_to s top step i)
   pub second : (i : ℕ) → i < 32
-      → slice_index weighted i ≡ second_syndrome (bytes_taken s top step i)
+      → slice_index weighted i ≡ second_syndrome (bytes_up_to s top step i)

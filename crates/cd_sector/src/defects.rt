@@ -66,7 +66,7 @@ pub fn defect(s: &Sector) -> DefectReport
 pub fn is_consistent(s: &Sector) -> bool
     ensures { result ≡ consistent s.now }
 {
-    has_mode1(s) && is_whole(s.bytes())
+    has_mode1(s) && is_sound(s.bytes())
 }
 
 /// Whether two sectors of any kind, taken as ones of Mode 1, have the same defect: equal bytes in
@@ -83,11 +83,11 @@ pub fn is_consistent(s: &Sector) -> bool
 /// ```
 pub fn same_defect(a: &Sector, b: &Sector) -> bool
     ensures same { IsTrue result ↔ (defect_of a.now ≡ defect_of b.now) }
-    ensures alone { result ≡ true → take 2064 a.now ≡ take 2064 b.now → a.now ≡ b.now }
+    ensures unique { result ≡ true → take 2064 a.now ≡ take 2064 b.now → a.now ≡ b.now }
 {
     // Each part of the sum's defect is the sum of both parts, so it is 0 if they are equal. One
     // test serves this call and `is_consistent`.
-    is_whole(&sum_of_bytes(a.bytes(), b.bytes()))
+    is_sound(&sum_of_bytes(a.bytes(), b.bytes()))
 }
 
 /// Whether a sector has the sync field, and mode byte 01.
@@ -101,7 +101,7 @@ fn has_mode1(s: &Sector) -> bool
 }
 
 /// Whether every part of a sector's defect is 0.
-fn is_whole(bytes: &[u8; SECTOR_SIZE]) -> bool
+fn is_sound(bytes: &[u8; SECTOR_SIZE]) -> bool
     ensures { result ≡ is_sound (defect_of bytes.now) }
 {
     has_zeros(bytes)

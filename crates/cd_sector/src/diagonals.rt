@@ -5,7 +5,7 @@
 
 ghost use Rattle.std.specs.Prelude.{◌≡◌, ℕ, ◌+◌, ◌-◌, ◌*◌, ◌/◌, ◌%◌, ◌<◌, ◌≤◌, ◌⊎◌, length, slice_index};
 ghost use Rattle.cd_sector.specs.CodeWords.{SumsOf, bytes_at, diagonal_input, diagonal_of};
-ghost use Rattle.cd_sector.specs.DiagonalSteps.{HasTaken, lane_place};
+ghost use Rattle.cd_sector.specs.DiagonalSteps.{SumsUpTo, lane_place};
 
 use crate::product_code::{COLUMNS, DIAGONALS, PLANE_COLUMNS, ROWS};
 use crate::sector::{HEADER, Q_PARITY, SECTOR_SIZE};
@@ -53,7 +53,7 @@ impl Diagonals {
     fn high(bytes: &[u8; SECTOR_SIZE]) -> Self
         ensures top { result.top ≡ 25 }
         ensures step { result.step ≡ 10 }
-        ensures taken { HasTaken bytes.now 25 10 result.sums.plain result.sums.weighted }
+        ensures taken { SumsUpTo bytes.now 25 10 result.sums.plain result.sums.weighted }
     {
         Diagonals {
             top: 25,
@@ -66,7 +66,7 @@ impl Diagonals {
     fn low(bytes: &[u8; SECTOR_SIZE]) -> Self
         ensures top { result.top ≡ 15 }
         ensures step { result.step ≡ 1 }
-        ensures taken { HasTaken bytes.now 15 1 result.sums.plain result.sums.weighted }
+        ensures taken { SumsUpTo bytes.now 15 1 result.sums.plain result.sums.weighted }
     {
         let mut lanes = [0; 32];
         lanes[30] = bytes[HEADER];
@@ -83,19 +83,19 @@ impl Diagonals {
     /// begun and none has ended. The sums of those that have not begun are `00`, and a byte `00`
     /// leaves them so.
     #[inline(always)]
-    fn at_the_beginning(self, bytes: &[u8; SECTOR_SIZE], end: usize) -> Self
+    fn prologue(self, bytes: &[u8; SECTOR_SIZE], end: usize) -> Self
         requires forward { self.step ≤ end }
         requires turn { end ≤ 26 * (self.step / 26) + 26 }
         requires running { end ≤ self.top + 28 }
-        requires taken { HasTaken bytes.now self.top self.step self.sums.plain self.sums.weighted }
+        requires taken { SumsUpTo bytes.now self.top self.step self.sums.plain self.sums.weighted }
         ensures top { result.top ≡ self.top }
         ensures step { result.step ≡ end }
-        ensures taken { HasTaken bytes.now result.top end result.sums.plain result.sums.weighted }
+        ensures taken { SumsUpTo bytes.now result.top end result.sums.plain result.sums.weighted }
     {
         let turn = self.step / ROWS;
         let mut sums = self.sums;
         for step in self.step..end {
-            let lanes = window(bytes, self.top, step, step - ROWS * turn);
+            let lanes = lane_window(bytes, self.top, step, step - ROWS * turn);
             sums = sums.with_lanes(mask_lanes(lanes, lane_mask(step + BELOW_TOP - self.top)));
         }
         Diagonals {
@@ -107,20 +107,20 @@ impl Diagonals {
 
     /// Takes the steps below `end`, within one turn of 26 rows, at which all diagonals take a byte.
     #[inline(always)]
-    fn in_the_middle(self, bytes: &[u8; SECTOR_SIZE], end: usize) -> Self
+    fn steady(self, bytes: &[u8; SECTOR_SIZE], end: usize) -> Self
         requires forward { self.step ≤ end }
         requires turn { end ≤ 26 * (self.step / 26) + 26 }
         requires begun { self.top ≤ self.step }
         requires running { end ≤ self.top + 28 }
-        requires taken { HasTaken bytes.now self.top self.step self.sums.plain self.sums.weighted }
+        requires taken { SumsUpTo bytes.now self.top self.step self.sums.plain self.sums.weighted }
         ensures top { result.top ≡ self.top }
         ensures step { result.step ≡ end }
-        ensures taken { HasTaken bytes.now result.top end result.sums.plain result.sums.weighted }
+        ensures taken { SumsUpTo bytes.now result.top end result.sums.plain result.sums.weighted }
     {
         let turn = self.step / ROWS;
         let mut sums = self.sums;
         for step in self.step..end {
-            sums = sums.with_lanes(window(bytes, self.top, step, step - ROWS * turn));
+            sums = sums.with_lanes(lane_window(bytes, self.top, step, step - ROWS * turn));
         }
         Diagonals {
             top: self.top,
@@ -132,20 +132,20 @@ impl Diagonals {
     /// Takes the steps below `end`, within one turn of 26 rows, at which some diagonals have ended.
     /// The mask keeps the sums of those as they are.
     #[inline(always)]
-    fn at_the_end(self, bytes: &[u8; SECTOR_SIZE], end: usize) -> Self
+    fn epilogue(self, bytes: &[u8; SECTOR_SIZE], end: usize) -> Self
         requires forward { self.step ≤ end }
         requires turn { end ≤ 26 * (self.step / 26) + 26 }
         requires most { end ≤ self.top + 43 }
-        requires taken { HasTaken bytes.now self.top self.step self.sums.plain self.sums.weighted }
+        requires taken { SumsUpTo bytes.now self.top self.step self.sums.plain self.sums.weighted }
         ensures top { result.top ≡ self.top }
         ensures step { result.step ≡ end }
-        ensures taken { HasTaken bytes.now result.top end result.sums.plain result.sums.weighted }
+        ensures taken { SumsUpTo bytes.now result.top end result.sums.plain result.sums.weighted }
     {
         let turn = self.step / ROWS;
         let mut sums = self.sums;
         for step in self.step..end {
-            let lanes = window(bytes, self.top, step, step - ROWS * turn);
-            sums = sums.with_lanes_where(lanes, lane_mask(step + BELOW_TOP - self.top));
+            let lanes = lane_window(bytes, self.top, step, step - ROWS * turn);
+            sums = sums.with_masked_lanes(lanes, lane_mask(step + BELOW_TOP - self.top));
         }
         Diagonals {
             top: self.top,
@@ -171,7 +171,7 @@ impl Diagonals {
 
 /// The bytes that the diagonals from `top` down take at a step, all of them in one row.
 #[inline(always)]
-fn window(bytes: &[u8; SECTOR_SIZE], top: usize, step: usize, row: usize) -> u8x32
+fn lane_window(bytes: &[u8; SECTOR_SIZE], top: usize, step: usize, row: usize) -> u8x32
     requires row { row ≡ step % 26 }
     requires inside { 2 * top ≤ 12 + 86 * row + 2 * step }
     requires last { step ≤ top + 43 }
@@ -215,7 +215,7 @@ fn reverse_pairs(v: u8x32) -> u8x32
 /// The syndromes of the first 43 bytes of diagonals 0 to 15. Those of diagonals 10 to 15 are left
 /// unfinished.
 ///
-/// Where few diagonals take a byte the steps are parted in two, here and below: a loop so short is
+/// If few diagonals take a byte, the steps are divided into two loops, here and below: a loop so short is
 /// written out, with its masks as constants, and a register of which no lane takes a byte is left
 /// out.
 pub(crate) fn low_input_sums(bytes: &[u8; SECTOR_SIZE]) -> LaneSums
@@ -223,11 +223,11 @@ pub(crate) fn low_input_sums(bytes: &[u8; SECTOR_SIZE]) -> LaneSums
         result.plain result.weighted }
 {
     Diagonals::low(bytes)
-        .at_the_beginning(bytes, 8)
-        .at_the_beginning(bytes, 15)
-        .in_the_middle(bytes, ROWS)
-        .in_the_middle(bytes, PLANE_COLUMNS)
-        .at_the_end(bytes, 2 * ROWS)
+        .prologue(bytes, 8)
+        .prologue(bytes, 15)
+        .steady(bytes, ROWS)
+        .steady(bytes, PLANE_COLUMNS)
+        .epilogue(bytes, 2 * ROWS)
         .rising()
 }
 
@@ -237,13 +237,13 @@ pub(crate) fn high_input_sums(bytes: &[u8; SECTOR_SIZE]) -> LaneSums
         result.plain result.weighted }
 {
     Diagonals::high(bytes)
-        .at_the_beginning(bytes, 18)
-        .at_the_beginning(bytes, 25)
-        .in_the_middle(bytes, ROWS)
-        .in_the_middle(bytes, 2 * ROWS)
-        .in_the_middle(bytes, 53)
-        .at_the_end(bytes, 61)
-        .at_the_end(bytes, 68)
+        .prologue(bytes, 18)
+        .prologue(bytes, 25)
+        .steady(bytes, ROWS)
+        .steady(bytes, 2 * ROWS)
+        .steady(bytes, 53)
+        .epilogue(bytes, 61)
+        .epilogue(bytes, 68)
         .rising()
 }
 

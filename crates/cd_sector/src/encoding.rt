@@ -11,9 +11,10 @@ ghost use Rattle.cd_sector.specs.declared.kinds.SectorKind.TheVariants.{Mode1};
 
 use crate::edc_field::fill_edc;
 use crate::kinds::SYNC;
-use crate::parity::fill_words;
+use crate::parity::fill_code_words;
 use crate::sector::{
-    HEADER, INTERMEDIATE, MODE, SECTOR_SIZE, Sector, USER_DATA, USER_SIZE, are_bytes, put_part,
+    HEADER, INTERMEDIATE, MODE, SECTOR_SIZE, Sector, USER_DATA, USER_SIZE, lemma_are_bytes,
+    put_part,
 };
 
 /// The one consistent sector with these three header bytes, which may be any, the mode byte 01 and
@@ -30,7 +31,7 @@ pub fn encode(header: [u8; 3], user: &[u8; USER_SIZE]) -> Sector
     ensures consistent { IsConsistent result }
     ensures header { header_of result ≡ header ++ 1 ∷ [] }
     ensures user { user_of result ≡ user.now }
-    ensures alone { (s : List ℕ) → IsConsistent s → header_of s ≡ header ++ 1 ∷ []
+    ensures unique { (s : List ℕ) → IsConsistent s → header_of s ≡ header ++ 1 ∷ []
         → user_of s ≡ user.now → s ≡ result }
 {
     let mut bytes = [0; SECTOR_SIZE];
@@ -52,7 +53,7 @@ pub fn encode_into(s: &mut Sector, header: [u8; 3], user: &[u8; USER_SIZE])
     ensures consistent { IsConsistent s.new }
     ensures header { header_of s.new ≡ header ++ 1 ∷ [] }
     ensures user { user_of s.new ≡ user.now }
-    ensures alone { (t : List ℕ) → IsConsistent t → header_of t ≡ header ++ 1 ∷ []
+    ensures unique { (t : List ℕ) → IsConsistent t → header_of t ≡ header ++ 1 ∷ []
         → user_of t ≡ user.now → t ≡ s.new }
 {
     s.with_bytes_mut(&mut (), |_, bytes| fill_sector(bytes, header, user));
@@ -76,7 +77,7 @@ pub fn rebuild(s: &mut Sector)
     ensures consistent { IsConsistent s.new }
     ensures header { header_of s.new ≡ header_of s.old }
     ensures user { user_of s.new ≡ user_of s.old }
-    ensures alone { (t : List ℕ) → IsConsistent t → header_of t ≡ header_of s.old
+    ensures unique { (t : List ℕ) → IsConsistent t → header_of t ≡ header_of s.old
         → user_of t ≡ user_of s.old → t ≡ s.new }
 {
     s.with_bytes_mut(&mut (), |_, bytes| fill_codes(bytes));
@@ -114,6 +115,6 @@ fn fill_codes(bytes: &mut [u8; SECTOR_SIZE])
 {
     put_part(bytes, INTERMEDIATE, &[0; 8]);
     fill_edc(bytes, 0);
-    fill_words(bytes);
-    are_bytes(bytes);
+    fill_code_words(bytes);
+    lemma_are_bytes(bytes);
 }

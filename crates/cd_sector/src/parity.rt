@@ -27,11 +27,11 @@ pub fn fill_parity(s: &mut Sector)
     ensures words { AllCodeWords s.new }
     ensures stays { (i : ℕ) → i < 2076 → slice_index s.new i ≡ slice_index s.old i }
 {
-    s.with_bytes_mut(&mut (), |_, bytes| fill_words(bytes));
+    s.with_bytes_mut(&mut (), |_, bytes| fill_code_words(bytes));
 }
 
 /// Makes the P parity, and then the Q parity, whose diagonals run through the P parity.
-pub(crate) fn fill_words(bytes: &mut [u8; SECTOR_SIZE])
+pub(crate) fn fill_code_words(bytes: &mut [u8; SECTOR_SIZE])
     ensures words { AllCodeWords bytes.new }
     ensures stays { (k : ℕ) → k < 2076 → slice_index bytes.new k ≡ slice_index bytes.old k }
 {

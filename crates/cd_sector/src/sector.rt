@@ -137,7 +137,7 @@ impl Sector {
     {
         let result = f(context, &mut self.bytes);
         // So the list of bytes that contracts see is one of numbers below 256 again.
-        are_bytes(&self.bytes);
+        lemma_are_bytes(&self.bytes);
         result
     }
 
@@ -209,7 +209,7 @@ pub fn put_part(bytes: &mut [u8; SECTOR_SIZE], at: usize, part: &[u8])
 /// Proof step: does nothing. Its contract says that each byte of an array is below 256, whoever has
 /// written it.
 #[inline(always)]
-pub(crate) fn are_bytes(bytes: &[u8; SECTOR_SIZE])
+pub(crate) fn lemma_are_bytes(bytes: &[u8; SECTOR_SIZE])
     ensures { AreBytes bytes.now }
 {
     let _first = bytes[0];

@@ -9,7 +9,7 @@ use Rattle.std.proofs.KnownBytes.{append_known-kept, append_known-moved, append_
 use Rattle.std.proofs.lemmas.Bool.{lt-leb}
 use Rattle.std.specs.Prelude.{◌<◌, if◌then◌else◌, nat_le, IfOk}
 use Rattle.cd_stream.specs.Stream.{Outgoing}
-use Rattle.cd_stream.specs.Transfer.{Goes}
+use Rattle.cd_stream.specs.Transfer.{PutSome}
 
 -- what is held from a place to another
 abbrev pub between : ℕ → ℕ → List ℕ → List ℕ
@@ -78,12 +78,12 @@ between-none start end space s e =
     ap (λ k. take k (drop start space)) none
 
 -- a write past a buffer that holds nothing is the write of the sink below
-pub Goes-past : {E : Type 0} (before after old new : Outgoing) (held given : List ℕ)
+pub PutSome-past : {E : Type 0} (before after old new : Outgoing) (held given : List ℕ)
     (result : Result ℕ E) → held ≡ []
     → after.written ≡ append_known new.written held
-    → Keeps before.written (append_known old.written held) → Goes old new given result
-    → Goes before after given result
-Goes-past before after old new held given (Ok n) none same kept went =
+    → Keeps before.written (append_known old.written held) → PutSome old new given result
+    → PutSome before after given result
+PutSome-past before after old new held given (Ok n) none same kept went =
     let passed = append_known-passed before.written old.written new.written held held (take n given)
     [] kept none went.2 (sym (append-nil held)) in (
       went.0,
@@ -92,14 +92,14 @@ Goes-past before after old new held given (Ok n) none same kept went =
           (subst (Appends before.written (append_known new.written held))
           (append-nil (take n given)) passed),
     )
-Goes-past before after old new held given (Err e) none same kept went =
+PutSome-past before after old new held given (Err e) none same kept went =
     subst (Keeps before.written) (sym same)
     (Keeps-trans before.written _ _ kept (append_known-kept old.written new.written held went))
 
 -- bytes that are more than the space are not held
-pub alone-past : (space : ℕ) (bytes : List ℕ) → space < length bytes
+pub held_only-past : (space : ℕ) (bytes : List ℕ) → space < length bytes
     → (if nat_le (length bytes) space then bytes else []) ≡ []
-alone-past space bytes more = rw (lt-leb (length bytes) space more) refl
+held_only-past space bytes more = rw (lt-leb (length bytes) space more) refl
 
 -- what holds in any case holds at Ok
 pub IfOk-any : {X E : Type 0} (r : Result X E) (P : Type 0) → P → IfOk r (λ _. P)

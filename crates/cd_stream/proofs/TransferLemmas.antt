@@ -56,7 +56,7 @@ Takes-flushed a b c bs result went flush = record {
   counted = flush.taken ∙ went.counted;
 }
 
--- the front of a buffer, after n bytes more were read into what lies behind it
+-- the front of a buffer, after n bytes more were read into what follows it
 take-refilled : (have n : ℕ) (xs ys post : List ℕ) → have ≤ length xs → n ≤ length ys
     → take (have + n) (take have xs ++ (ys ++ post)) ≡ take have xs ++ take n ys
 take-refilled have n xs ys post h m =
@@ -73,7 +73,7 @@ Consumes-filled a b c have n xs ys post h m p q =
     subst (λ l. Consumes a c l) (sym (take-refilled have n xs ys post h m))
     (Consumes-trans a b c _ _ p q)
 
--- the same where nothing more was read
+-- the same if nothing more was read
 pub Consumes-ended : (a b c : Option (List ℕ)) (have n : ℕ) (xs ys post : List ℕ)
     → have ≤ length xs → n ≡ 0
     → Consumes a b (take have xs) → Consumes b c (take n ys)
@@ -83,10 +83,10 @@ Consumes-ended a b c have n xs ys post h e p q =
     subst (λ k. Consumes a c (take k (take have xs ++ (ys ++ post)))) none
     (Consumes-filled a b c have n xs ys post h (omega (arith, e)) p q)
 
--- what lies behind a place is as long as a slice from there to the end
-pub length-behind : (at : ℕ) (bytes : List ℕ)
+-- what follows a place is as long as a slice from there to the end
+pub length-after : (at : ℕ) (bytes : List ℕ)
     → length (take (length bytes - at) (drop at bytes)) ≤ length bytes - at
-length-behind at bytes = omega (arith, length-take (length bytes - at) (drop at bytes))
+length-after at bytes = omega (arith, length-take (length bytes - at) (drop at bytes))
 
 pub Appends-sent : (a b c : Option (List ℕ)) (sent n : ℕ) (bytes : List ℕ) → n ≤ length bytes - sent
     → Appends a b (take sent bytes)

@@ -1,14 +1,14 @@
--- What a sink that holds bytes back shows beside what every sink does.
+-- What a sink that holds bytes back shows besides what every sink does.
 use Rattle.std.specs.Prelude.{◌≡◌, ℕ, ◌+◌, ◌-◌, Bool, ◌&&◌, true, List, [], ◌++◌, drop, if◌then◌else◌}
 use Rattle.std.specs.Prelude.{length, nat_eq, nat_le, take, Result, Ok, IsOk}
 use Rattle.std.specs.Io.KnownBytes.{Keeps, append_known}
 use Rattle.cd_stream.specs.Stream.{Outgoing}
 use Rattle.cd_stream.specs.Transfer.{Counts}
-use Rattle.cd_stream.specs.declared.forms.buffered.Buffered.{Buffered}
+use Rattle.cd_stream.specs.declared.adapters.buffered.Buffered.{Buffered}
 
 -- the sink that it stands over
-abbrev pub buffers : {S : Type 0} → Buffered S → S
-buffers b = b.inner
+abbrev pub buffered_inner : {S : Type 0} → Buffered S → S
+buffered_inner b = b.inner
 
 -- the bytes that it holds: taken, and not yet passed on
 abbrev pub held_bytes : {S : Type 0} → Buffered S → List ℕ
@@ -23,14 +23,14 @@ abbrev pub space_of : {S : Type 0} → Buffered S → ℕ
 space_of b = length b.space.items
 
 -- the number of bytes for which there is room after those that it holds
-abbrev pub room_behind : {S : Type 0} → Buffered S → ℕ
-room_behind b = length b.space.items - b.end
+abbrev pub room_after : {S : Type 0} → Buffered S → ℕ
+room_after b = length b.space.items - b.end
 
 -- whether the last call of its own `write` and `finish` was a `finish` that succeeded
 abbrev pub is_finished : {S : Type 0} → Buffered S → Bool
 is_finished b = b.finished
 
--- what the sink below has got, and then what it holds, and so many bytes; the flushes and failures
+-- what the sink below has got, and then what it holds, and a number of bytes; the flushes and failures
 -- are those below; it is finished only if the sink below is finished too, and nothing is held
 abbrev pub buffered_outgoing : {S : Type 0} → (S → Outgoing) → Buffered S → Outgoing
 buffered_outgoing seen b = record {
@@ -42,31 +42,31 @@ buffered_outgoing seen b = record {
 }
 
 -- all that it has got has reached the sink below, and that one is finished
-pub record HasPassedAll {S : Type 0} (seen : S → Outgoing) (b : Buffered S) : Type 0 where
+pub record HasDrained {S : Type 0} (seen : S → Outgoing) (b : Buffered S) : Type 0 where
   pub empty : held_bytes b ≡ []
   pub reached : (seen b.inner).written ≡ (buffered_outgoing seen b).written
   pub below : (seen b.inner).finished ≡ true
 
 -- what it holds after a write that found no room: those bytes, or none if they are more than its
 -- space
-abbrev pub held_alone : {S : Type 0} → Buffered S → List ℕ → List ℕ
-held_alone b bytes = if nat_le (length bytes) (space_of b) then bytes else []
+abbrev pub held_only : {S : Type 0} → Buffered S → List ℕ → List ℕ
+held_only b bytes = if nat_le (length bytes) (space_of b) then bytes else []
 
 -- what it holds after a write that succeeds
 abbrev pub held_after : {S : Type 0} → Buffered S → List ℕ → List ℕ
 held_after b bytes =
-    if nat_le (length bytes) (room_behind b) then held_bytes b ++ bytes else held_alone b bytes
+    if nat_le (length bytes) (room_after b) then held_bytes b ++ bytes else held_only b bytes
 
 -- a write that fits: all of it is held, and nothing reaches the sink below
 pub record HoldsBack {S E : Type 0} (old new : Buffered S) (given : List ℕ)
     (result : Result ℕ E) : Type 0 where
   pub takes_all : result ≡ Ok (length given)
-  pub below : buffers new ≡ buffers old
+  pub below : buffered_inner new ≡ buffered_inner old
   pub held : held_bytes new ≡ held_bytes old ++ given
 
 -- passing on all that it holds, without a flush; at Err a front of it has gone out, and the rest is
 -- still held
-pub record PassesOn {S E : Type 0} (seen : S → Outgoing) (old new : Buffered S)
+pub record Drains {S E : Type 0} (seen : S → Outgoing) (old new : Buffered S)
     (result : Result (Unit {0}) E) : Type 0 where
   pub bytes : Keeps (buffered_outgoing seen old).written (buffered_outgoing seen new).written
   pub taken : (buffered_outgoing seen new).taken ≡ (buffered_outgoing seen old).taken

@@ -1,4 +1,4 @@
+pub mod Adapters
 pub mod Buffering
-pub mod Forms
 pub mod Stream
 pub mod Transfer

@@ -25,8 +25,8 @@ abbrev pub failure_limit : ℕ
 failure_limit = 4294967295
 
 -- one failure more can be counted
-abbrev pub MayCount : ℕ → Type 0
-MayCount failures = failures < failure_limit
+abbrev pub CanCountFailure : ℕ → Type 0
+CanCountFailure failures = failures < failure_limit
 
 -- the list begins with this front
 abbrev pub IsBeginning : List ℕ → List ℕ → Type 0

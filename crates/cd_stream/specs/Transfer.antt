@@ -30,34 +30,34 @@ pub record Takes (old new : Outgoing) (bytes : List ℕ) : Type 0 where
   pub counted : new.taken ≡ old.taken + length bytes
 
 -- at Ok(n) the first n bytes of the buffer have come, none only at the end; at Err none has come
-abbrev pub Comes : {E : Type 0} → Incoming → Incoming → List ℕ → Result ℕ E → Type 0
-Comes old new buffer (Ok n) =
+abbrev pub GotSome : {E : Type 0} → Incoming → Incoming → List ℕ → Result ℕ E → Type 0
+GotSome old new buffer (Ok n) =
     (n ≤ length buffer) × Consumes old.rest new.rest (take n buffer) × (n ≡ 0 → IsAtEnd new.rest)
-Comes old new buffer (Err e) = Keeps old.rest new.rest
+GotSome old new buffer (Err e) = Keeps old.rest new.rest
 
 -- whether a read answers that no byte came
-abbrev pub tells_end : {E : Type 0} → Result ℕ E → Bool
-tells_end (Ok n) = nat_eq n 0
-tells_end (Err e) = false
+abbrev pub is_end : {E : Type 0} → Result ℕ E → Bool
+is_end (Ok n) = nat_eq n 0
+is_end (Err e) = false
 
 -- at Ok(n) the first n bytes, one at least, have gone out; at Err none has
-abbrev pub Goes : {E : Type 0} → Outgoing → Outgoing → List ℕ → Result ℕ E → Type 0
-Goes old new bytes (Ok n) =
+abbrev pub PutSome : {E : Type 0} → Outgoing → Outgoing → List ℕ → Result ℕ E → Type 0
+PutSome old new bytes (Ok n) =
     (0 < n) × (n ≤ length bytes) × Appends old.written new.written (take n bytes)
-Goes old new bytes (Err e) = Keeps old.written new.written
+PutSome old new bytes (Err e) = Keeps old.written new.written
 
 -- one read
 pub record Reads {E : Type 0} (old new : Incoming) (buffer : List ℕ)
     (result : Result ℕ E) : Type 0 where
-  pub bytes : Comes old new buffer result
+  pub bytes : GotSome old new buffer result
   pub given : new.given ≡ old.given + moved result
   pub count : Counts old.failures new.failures result
-  pub ended : new.ended ≡ tells_end result
+  pub ended : new.ended ≡ is_end result
 
 -- one write
 pub record Writes {E : Type 0} (old new : Outgoing) (given : List ℕ)
     (result : Result ℕ E) : Type 0 where
-  pub bytes : Goes old new given result
+  pub bytes : PutSome old new given result
   pub taken : new.taken ≡ old.taken + moved result
   pub flushes : new.flushes ≡ old.flushes
   pub count : Counts old.failures new.failures result
@@ -74,49 +74,49 @@ pub record Flushes {E : Type 0} (old new : Outgoing) (result : Result (Unit {0})
 
 -- at Ok(n) the first n bytes of the buffer have come, fewer than it holds only at the end; at Err
 -- the bytes of some front
-abbrev pub ComesWhole : {E : Type 0} → Incoming → Incoming → List ℕ → Result ℕ E → Type 0
-ComesWhole old new buffer (Ok n) =
+abbrev pub GotAll : {E : Type 0} → Incoming → Incoming → List ℕ → Result ℕ E → Type 0
+GotAll old new buffer (Ok n) =
     (n ≤ length buffer) × Consumes old.rest new.rest (take n buffer)
     × (n < length buffer → IsAtEnd new.rest)
-ComesWhole old new buffer (Err e) =
+GotAll old new buffer (Err e) =
     (n : ℕ) × (n < length buffer) × Consumes old.rest new.rest (take n buffer)
 
 -- the bytes that have come are counted
-abbrev pub GivesWhole : {E : Type 0} → Incoming → Incoming → List ℕ → Result ℕ E → Type 0
-GivesWhole old new buffer (Ok n) = Gives old new (take n buffer)
-GivesWhole old new buffer (Err e) = (n : ℕ) × (n < length buffer) × Gives old new (take n buffer)
+abbrev pub CountsGiven : {E : Type 0} → Incoming → Incoming → List ℕ → Result ℕ E → Type 0
+CountsGiven old new buffer (Ok n) = Gives old new (take n buffer)
+CountsGiven old new buffer (Err e) = (n : ℕ) × (n < length buffer) × Gives old new (take n buffer)
 
 -- if a buffer is left with room, the last read answered that no byte came; if it is full, or a read
 -- failed, the last one did not
-abbrev pub TellsEnd : {E : Type 0} → Incoming → List ℕ → Result ℕ E → Type 0
-TellsEnd new buffer (Ok n) =
+abbrev pub EndFlag : {E : Type 0} → Incoming → List ℕ → Result ℕ E → Type 0
+EndFlag new buffer (Ok n) =
     (n < length buffer → new.ended ≡ true) × (0 < n → n ≡ length buffer → new.ended ≡ false)
-TellsEnd new buffer (Err e) = new.ended ≡ false
+EndFlag new buffer (Err e) = new.ended ≡ false
 
 -- at Ok all the bytes have gone out; at Err a front of them, without the last
-abbrev pub GoesWhole : {X E : Type 0} → Outgoing → Outgoing → List ℕ → Result X E → Type 0
-GoesWhole old new bytes (Ok x) = Appends old.written new.written bytes
-GoesWhole old new bytes (Err e) =
+abbrev pub PutAll : {X E : Type 0} → Outgoing → Outgoing → List ℕ → Result X E → Type 0
+PutAll old new bytes (Ok x) = Appends old.written new.written bytes
+PutAll old new bytes (Err e) =
     (n : ℕ) × (n < length bytes) × Appends old.written new.written (take n bytes)
 
 -- the bytes that have gone out are counted
-abbrev pub TakesWhole : {X E : Type 0} → Outgoing → Outgoing → List ℕ → Result X E → Type 0
-TakesWhole old new bytes (Ok x) = Takes old new bytes
-TakesWhole old new bytes (Err e) = (n : ℕ) × (n < length bytes) × Takes old new (take n bytes)
+abbrev pub CountsTaken : {X E : Type 0} → Outgoing → Outgoing → List ℕ → Result X E → Type 0
+CountsTaken old new bytes (Ok x) = Takes old new bytes
+CountsTaken old new bytes (Err e) = (n : ℕ) × (n < length bytes) × Takes old new (take n bytes)
 
 -- reads until the buffer is full or the end comes
 pub record Fills {E : Type 0} (old new : Incoming) (buffer : List ℕ)
     (result : Result ℕ E) : Type 0 where
-  pub bytes : ComesWhole old new buffer result
-  pub given : GivesWhole old new buffer result
+  pub bytes : GotAll old new buffer result
+  pub given : CountsGiven old new buffer result
   pub count : Counts old.failures new.failures result
-  pub ended : TellsEnd new buffer result
+  pub ended : EndFlag new buffer result
 
 -- writes all the bytes, without a flush
 pub record Sends {X E : Type 0} (old new : Outgoing) (given : List ℕ)
     (result : Result X E) : Type 0 where
-  pub bytes : GoesWhole old new given result
-  pub taken : TakesWhole old new given result
+  pub bytes : PutAll old new given result
+  pub taken : CountsTaken old new given result
   pub flushes : new.flushes ≡ old.flushes
   pub count : Counts old.failures new.failures result
   pub unfinished : 0 < length given → new.finished ≡ false

@@ -4,7 +4,7 @@
 //! ```
 //! let mut source = SliceSource::new(b"abc");
 //! let mut into = [0; 4];
-//! assert_eq!(rt; fill(&mut source, &mut into), Ok(3)); // then it has ended
+//! assert_eq!(rt; fill_buffer(&mut source, &mut into), Ok(3)); // then it has ended
 //! assert_eq!(rt; into, *b"abc\0");
 //! ```
 //!
@@ -22,23 +22,23 @@
 //! Tests: `crates/cd_image_tests/src/tests/streams`.
 #![tactic(auto)]
 
+mod adapters;
 mod count;
-mod forms;
 mod line;
 mod sink;
 mod source;
 mod transfer;
 
+pub use adapters::buffered::Buffered;
+pub use adapters::fail_after::FailAfter;
+pub use adapters::from_read::FromRead;
+pub use adapters::short::Short;
+pub use adapters::slice_sink::SliceSink;
+pub use adapters::slice_source::SliceSource;
+pub use adapters::to_write::ToWrite;
+pub use adapters::zero_source::ZeroSource;
 pub use count::Count;
-pub use forms::buffered::Buffered;
-pub use forms::fail_after::FailAfter;
-pub use forms::from_read::FromRead;
-pub use forms::short::Short;
-pub use forms::slice_sink::SliceSink;
-pub use forms::slice_source::SliceSource;
-pub use forms::to_write::ToWrite;
-pub use forms::zero_source::ZeroSource;
 pub use line::{LINE_SIZE, Line};
 pub use sink::{Sink, SinkFailed};
 pub use source::{Source, SourceFailed};
-pub use transfer::{fill, write_all};
+pub use transfer::{fill_buffer, write_all};

@@ -1,7 +1,7 @@
 //! Where bytes go.
 
 ghost use Rattle.std.specs.Prelude.{◌≡◌, ◌<◌, length};
-ghost use Rattle.cd_stream.specs.Stream.{MayCount, Outgoing};
+ghost use Rattle.cd_stream.specs.Stream.{CanCountFailure, Outgoing};
 ghost use Rattle.cd_stream.specs.Transfer.{Flushes, Writes};
 
 use thiserror::Error;
@@ -25,7 +25,7 @@ pub trait Sink {
     /// counted.
     fn write(&mut self, bytes: &[u8]) -> Result<usize, SinkFailed>
         requires some { 0 < length bytes.now }
-        requires countable { MayCount (seen self.old).failures }
+        requires countable { CanCountFailure (seen self.old).failures }
         ensures { Writes (seen self.old) (seen self.new) bytes.now result };
 
     /// Passes on all that it still holds back. It may be called again, or between writes: a flush
@@ -35,7 +35,7 @@ pub trait Sink {
     ///
     /// [`SinkFailed`] if a write or the flush failed; one failure more is counted.
     fn finish(&mut self) -> Result<(), SinkFailed>
-        requires { MayCount (seen self.old).failures }
+        requires { CanCountFailure (seen self.old).failures }
         ensures { Flushes (seen self.old) (seen self.new) result };
 
     /// Whether the last call of `write` and `finish` was a `finish` that succeeded.

@@ -1,7 +1,7 @@
 //! Where bytes come from.
 
 ghost use Rattle.std.specs.Prelude.{◌≡◌, ◌<◌, length};
-ghost use Rattle.cd_stream.specs.Stream.{Incoming, MayCount};
+ghost use Rattle.cd_stream.specs.Stream.{CanCountFailure, Incoming};
 ghost use Rattle.cd_stream.specs.Transfer.{Reads};
 
 use thiserror::Error;
@@ -27,7 +27,7 @@ pub trait Source {
     /// [`SourceFailed`] if the read failed: no byte has come, and one failure more is counted.
     fn read(&mut self, into: &mut [u8]) -> Result<usize, SourceFailed>
         requires room { 0 < length into.old }
-        requires countable { MayCount (seen self.old).failures }
+        requires countable { CanCountFailure (seen self.old).failures }
         ensures { Reads (seen self.old) (seen self.new) into.new result };
 
     /// How many reads have failed.

@@ -3,7 +3,7 @@
 
 ghost use Rattle.std.specs.Prelude.{◌<◌};
 ghost use Rattle.cd_stream.specs.Transfer.{Fills, Sends};
-ghost use Rattle.cd_stream.specs.Stream.{MayCount};
+ghost use Rattle.cd_stream.specs.Stream.{CanCountFailure};
 
 use crate::sink::{Sink, SinkFailed};
 use crate::source::{Source, SourceFailed};
@@ -20,11 +20,11 @@ use crate::source::{Source, SourceFailed};
 /// ```
 /// let mut source = SliceSource::new(b"abc");
 /// let mut into = [0; 4];
-/// assert_eq!(rt; fill(&mut source, &mut into), Ok(3)); // then it has ended
+/// assert_eq!(rt; fill_buffer(&mut source, &mut into), Ok(3)); // then it has ended
 /// assert_eq!(rt; into, *b"abc\0");
 /// ```
-pub fn fill<I: Source>(image: &mut I, into: &mut [u8]) -> Result<usize, SourceFailed>
-    requires { MayCount (I.seen image.old).failures }
+pub fn fill_buffer<I: Source>(image: &mut I, into: &mut [u8]) -> Result<usize, SourceFailed>
+    requires { CanCountFailure (I.seen image.old).failures }
     ensures { Fills (I.seen image.old) (I.seen image.new) into.new result }
 {
     let mut have = 0;
@@ -53,7 +53,7 @@ pub fn fill<I: Source>(image: &mut I, into: &mut [u8]) -> Result<usize, SourceFa
 /// assert_eq!(rt; sink.written(), b"abc".as_slice());
 /// ```
 pub fn write_all<O: Sink>(out: &mut O, bytes: &[u8]) -> Result<(), SinkFailed>
-    requires { MayCount (O.seen out.old).failures }
+    requires { CanCountFailure (O.seen out.old).failures }
     ensures { Sends (O.seen out.old) (O.seen out.new) bytes.now result }
 {
     let mut sent = 0;

@@ -1,11 +1,13 @@
-//! Scripts on images in memory: so many bytes pass, and a call is told by what it answers and what it wrote.
+//! Scripts on images in memory: a number of bytes pass, and a call is described by what it answers and what it wrote.
 
 ghost use Rattle.std.specs.Prelude.{◌≤◌};
-ghost use Rattle.cd_stream.specs.Stream.{MayCount};
+ghost use Rattle.cd_stream.specs.Stream.{CanCountFailure};
 
 use crate::answers::Answer;
 use crate::written::{UNTOUCHED, Written, written_in};
-use cd_image::{FailAfter, MAX_BASE, Short, Sink, SliceSink, SliceSource, Source, Tally, fill};
+use cd_image::{
+    FailAfter, MAX_BASE, Short, Sink, SliceSink, SliceSource, Source, Tally, fill_buffer,
+};
 use cd_script::Script;
 use std::alloc::{AllocError, Global};
 
@@ -33,7 +35,7 @@ pub const NO_LIMIT: Limit = Limit {
     a_call: usize::MAX,
 };
 
-/// How many bytes pass in a call where they are few, and where they are as many as there are.
+/// How many bytes pass in a call if they are few, and if they are as many as there are.
 pub const PARTS: &[usize] = &[1, 2, 2351, 2353, 10_000_000];
 
 /// So many bytes pass in all from the image, to the output and to the log.
@@ -46,7 +48,7 @@ pub fn passing(image: u64, out: u64, log: u64) -> Limits {
     }
 }
 
-/// At most so many bytes pass in a call from the image, to the output and to the log.
+/// The most bytes that pass in a call from the image, to the output and to the log.
 pub fn by_parts(image: usize, out: usize, log: usize) -> Limits {
     Limits {
         image: Limit {
@@ -77,7 +79,7 @@ pub struct Call<'a> {
 
 /// The two calls that take a script, of a crate that has them.
 pub trait Patching {
-    /// What both answer where nothing fails.
+    /// What both answer if nothing fails.
     fn answer(tally: Tally) -> Answer;
 
     fn apply<I: Source, O: Sink, L: Sink>(
@@ -87,14 +89,14 @@ pub trait Patching {
         log: &mut L,
     ) -> Answer
         requires base { call.now.base ≤ MAX_BASE }
-        requires image_countable { MayCount (I.seen image.old).failures }
-        requires out_countable { MayCount (O.seen out.old).failures }
-        requires log_countable { MayCount (L.seen log.old).failures };
+        requires image_countable { CanCountFailure (I.seen image.old).failures }
+        requires out_countable { CanCountFailure (O.seen out.old).failures }
+        requires log_countable { CanCountFailure (L.seen log.old).failures };
 
     fn check<I: Source, L: Sink>(image: &mut I, call: &Call, log: &mut L) -> Answer
         requires base { call.now.base ≤ MAX_BASE }
-        requires image_countable { MayCount (I.seen image.old).failures }
-        requires log_countable { MayCount (L.seen log.old).failures };
+        requires image_countable { CanCountFailure (I.seen image.old).failures }
+        requires log_countable { CanCountFailure (L.seen log.old).failures };
 }
 
 /// How often the image, the output and the log have failed.
@@ -128,7 +130,7 @@ fn read_on<I: Source>(
         return Ok(None);
     }
     let mut rest = vec![in alloc; UNTOUCHED; whole.len()]?;
-    Ok(match fill(image, &mut rest) {
+    Ok(match fill_buffer(image, &mut rest) {
         Ok(count) => {
             let first = whole.len().saturating_sub(count);
             Some(written_in(&rest, count, whole.get(first..).unwrap_or(&[])))
@@ -151,12 +153,12 @@ pub fn apply_within<C: Patching>(
     requires { call.now.base ≤ MAX_BASE }
 {
     let mut sent = vec![in alloc; UNTOUCHED; call.out.len()]?;
-    let mut told = vec![in alloc; UNTOUCHED; call.log.len()]?;
+    let mut lines = vec![in alloc; UNTOUCHED; call.log.len()]?;
     let image = FailAfter::new(SliceSource::new(call.image), limits.image.all);
     let mut image = Short::new(image, limits.image.a_call);
     let out = FailAfter::new(SliceSink::new(&mut sent), limits.out.all);
     let mut out = Short::new(out, limits.out.a_call);
-    let log = FailAfter::new(SliceSink::new(&mut told), limits.log.all);
+    let log = FailAfter::new(SliceSink::new(&mut lines), limits.log.all);
     let mut log = Short::new(log, limits.log.a_call);
     let answer = C::apply(&mut image, call, &mut out, &mut log);
     let failures = Failures {
@@ -172,7 +174,7 @@ pub fn apply_within<C: Patching>(
         out_finished,
         log_finished,
         out: written_in(&sent, out_count, call.out),
-        log: written_in(&told, log_count, call.log),
+        log: written_in(&lines, log_count, call.log),
         left: read_on(alloc, &mut image, call.image)?,
     })
 }
@@ -185,10 +187,10 @@ pub fn check_within<C: Patching>(
 ) -> Result<Ending, AllocError>
     requires { call.now.base ≤ MAX_BASE }
 {
-    let mut told = vec![in alloc; UNTOUCHED; call.log.len()]?;
+    let mut lines = vec![in alloc; UNTOUCHED; call.log.len()]?;
     let image = FailAfter::new(SliceSource::new(call.image), limits.image.all);
     let mut image = Short::new(image, limits.image.a_call);
-    let log = FailAfter::new(SliceSink::new(&mut told), limits.log.all);
+    let log = FailAfter::new(SliceSink::new(&mut lines), limits.log.all);
     let mut log = Short::new(log, limits.log.a_call);
     let answer = C::check(&mut image, call, &mut log);
     let failures = Failures {
@@ -204,7 +206,7 @@ pub fn check_within<C: Patching>(
         out_finished: is_finished,
         log_finished: is_finished,
         out: Written::right(0),
-        log: written_in(&told, count, call.log),
+        log: written_in(&lines, count, call.log),
         left: read_on(alloc, &mut image, call.image)?,
     })
 }

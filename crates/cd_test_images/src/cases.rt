@@ -24,7 +24,7 @@ pub struct Case<'a> {
     pub out: &'a [u8],
 }
 
-/// A script and an image that is told in short, and the log and the output that they must give.
+/// A script and an image in short form, and the log and the output that they must give.
 #[derive(Clone, Copy)]
 pub struct Row<'a> {
     pub script: &'a str,
@@ -60,7 +60,7 @@ fn small(count: usize) -> u32 {
     u32::try_from(count).unwrap_or(u32::MAX)
 }
 
-/// The counts that a whole log tells, line by line, and those of an image of so many bytes.
+/// The counts that a whole log has, line by line, and those of an image of this length.
 fn tally_of(log: &str, size: usize) -> Tally {
     let is_applied = |line: &&str| line.ends_with(": applied");
     let is_refused = |line: &&str| line.contains(": refused: ");
@@ -98,7 +98,7 @@ struct Unlike<'a> {
     due: Ending,
 }
 
-/// Fails where a call on a script has not ended as it should.
+/// Fails if a call on a script has not ended as it should.
 fn ended_so(call: &'static str, script: &str, came: Ending, due: Ending) -> Result<(), Fail> {
     if came == due {
         return Ok(());

@@ -1,4 +1,4 @@
-//! What the crates of tests share: sectors and images that are told in short, scripts and texts, and one harness for calls on
+//! What the crates of tests share: sectors and images in short form, scripts and texts, and one harness for calls on
 //! them, of cd_image or of the program. It promises nothing.
 #![tactic(auto)]
 
@@ -23,7 +23,7 @@ pub use reports::{Reported, Reporting, report_of, report_within};
 pub use samples::{Sample, cut_image, image_of, sector_of, sectors_of};
 pub use scripts::script_of;
 pub use sectors::{
-    carried, encoded_anew, encoded_at, flipped, joined, mixed_at, mixed_user, with_added,
+    carried, encoded_again, encoded_at, flipped, joined, mixed_at, mixed_user, with_added,
     with_bytes,
 };
 pub use texts::{is_front, is_text, repeated};

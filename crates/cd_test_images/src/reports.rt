@@ -1,7 +1,7 @@
-//! Listings and audits to memory, told by what they answer and what they wrote.
+//! Listings and audits to memory, described by what they answer and what they wrote.
 
 ghost use Rattle.std.specs.Prelude.{◌≤◌};
-ghost use Rattle.cd_stream.specs.Stream.{MayCount};
+ghost use Rattle.cd_stream.specs.Stream.{CanCountFailure};
 
 use crate::answers::Answer;
 use crate::calls::{Limit, Limits};
@@ -12,8 +12,8 @@ use cd_image::{FailAfter, MAX_BASE, Short, Sink, SliceSink, SliceSource, Source}
 pub trait Reporting {
     fn report<I: Source, O: Sink>(image: &mut I, base: u32, out: &mut O) -> Answer
         requires base { base ≤ MAX_BASE }
-        requires image_countable { MayCount (I.seen image.old).failures }
-        requires out_countable { MayCount (O.seen out.old).failures };
+        requires image_countable { CanCountFailure (I.seen image.old).failures }
+        requires out_countable { CanCountFailure (O.seen out.old).failures };
 }
 
 /// How a report ended.
@@ -24,7 +24,7 @@ pub struct Reported {
     pub text: Written,
 }
 
-/// Reports on an image to memory that lets so much pass, beside the text that it should give.
+/// Reports on an image to memory that lets so much pass, with the text that it should give.
 pub fn report_of<R: Reporting, I: Source>(
     image: &mut I,
     base: u32,
@@ -32,7 +32,7 @@ pub fn report_of<R: Reporting, I: Source>(
     text: &str,
 ) -> Reported
     requires base { base ≤ MAX_BASE }
-    requires image_countable { MayCount (I.seen image.old).failures }
+    requires image_countable { CanCountFailure (I.seen image.old).failures }
 {
     let mut space = [UNTOUCHED; 256];
     let out = FailAfter::new(SliceSink::new(&mut space), limit.all);

@@ -1,10 +1,10 @@
-//! Sectors told in short, and images of them.
+//! Sectors in short form, and images of them.
 
 use crate::sectors::{encoded_at, mixed_at, mixed_user, with_added, with_bytes};
 use cd_sector::{EDC, Sector, USER_SIZE, encode};
 use std::alloc::{AllocError, Global};
 
-/// A sector told in short.
+/// A sector in short form.
 #[derive(Clone, Copy)]
 pub enum Sample {
     /// The consistent sector of a block, its user data all `00`.
@@ -25,7 +25,7 @@ pub enum Sample {
     MixedAddressed([u8; 3], u8),
     /// The mixed sector of a block, with a difference added to the byte at a place.
     MixedDamaged(u8, usize, u8),
-    /// The mixed sector of a block, with all bytes behind its user data `FF`.
+    /// The mixed sector of a block, with all bytes after its user data `FF`.
     MixedWiped(u8),
     /// A sync field, the address of 00:02:00, this mode byte, and all else `00`.
     Mode(u8),
@@ -33,7 +33,7 @@ pub enum Sample {
     Blank,
 }
 
-/// The sector that is told.
+/// The sector itself.
 pub fn sector_of(sample: &Sample) -> Sector {
     match *sample {
         Sample::Zeros(block) => encoded_at(block, &[0; USER_SIZE]),
@@ -83,7 +83,7 @@ fn of_mode(mode: u8) -> Sector {
     sector
 }
 
-/// The sectors that are told.
+/// The sectors themselves.
 pub fn sectors_of(alloc: Global, samples: &[Sample]) -> Result<Vec<Sector>, AllocError> {
     let mut sectors = Vec::new(alloc);
     for sample in samples {
@@ -92,7 +92,7 @@ pub fn sectors_of(alloc: Global, samples: &[Sample]) -> Result<Vec<Sector>, Allo
     Ok(sectors)
 }
 
-/// The bytes of sectors, one behind the other.
+/// The bytes of sectors, one after the other.
 pub fn image_of(alloc: Global, samples: &[Sample]) -> Result<Vec<u8>, AllocError> {
     let mut bytes = Vec::new(alloc);
     for sample in samples {
@@ -101,7 +101,7 @@ pub fn image_of(alloc: Global, samples: &[Sample]) -> Result<Vec<u8>, AllocError
     Ok(bytes)
 }
 
-/// The first so many of these bytes.
+/// The first of these bytes, up to a number.
 pub fn cut_image(alloc: Global, samples: &[Sample], size: usize) -> Result<Vec<u8>, AllocError> {
     let mut bytes = image_of(alloc, samples)?;
     bytes.truncate(size);

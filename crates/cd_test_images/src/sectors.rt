@@ -25,7 +25,7 @@ pub fn mixed_at(block: u8) -> Sector {
 }
 
 /// The sector that a sector's header and user data are encoded to.
-pub fn encoded_anew(sector: &Sector) -> Sector {
+pub fn encoded_again(sector: &Sector) -> Sector {
     let [minute, second, fraction, _] = sector.header();
     let mut user = [0; 2048];
     user.copy_from_slice(sector.user());
@@ -62,10 +62,10 @@ pub fn flipped(sector: &Sector, place: usize) -> Sector {
 /// What a sector is carried to: to it is added what two consistent sectors differ in, the one with its content and the
 /// one with that of another.
 pub fn carried(old: &Sector, new: &Sector) -> Sector {
-    sum_of(old, &sum_of(&encoded_anew(old), &encoded_anew(new)))
+    sum_of(old, &sum_of(&encoded_again(old), &encoded_again(new)))
 }
 
-/// The bytes of sectors, one behind the other.
+/// The bytes of sectors, one after the other.
 pub fn joined(alloc: Global, sectors: &[Sector]) -> Result<Vec<u8>, AllocError> {
     let mut bytes = Vec::new(alloc);
     for sector in sectors {

@@ -2,7 +2,7 @@
 
 use std::alloc::{AllocError, Global};
 
-/// A text, so many copies of a part, and an end.
+/// A text, a number of copies of a part, and an end.
 pub fn repeated(
     alloc: Global,
     text: &str,
@@ -19,12 +19,12 @@ pub fn repeated(
     Ok(all)
 }
 
-/// Whether the memory begins with a text, and holds `00` behind it.
+/// Whether the memory begins with a text, and holds `00` after it.
 pub fn is_text(space: &[u8], text: &str) -> bool {
     is_front(space, text, text.len())
 }
 
-/// Whether the memory begins with so many bytes of a text, and holds `00` behind them.
+/// Whether the memory begins with a number of bytes of a text, and holds `00` after them.
 pub fn is_front(space: &[u8], text: &str, count: usize) -> bool {
     space.get(..count) == text.as_bytes().get(..count) && space.get(count..).is_some_and(is_blank)
 }

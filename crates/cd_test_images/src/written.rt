@@ -1,9 +1,9 @@
-//! Bytes that were written to memory, beside those that should have been.
+//! Bytes that were written to memory, with those that should have been.
 
 /// What memory holds before something is written to it.
 pub const UNTOUCHED: u8 = 238;
 
-/// What stands in memory that was filled with `UNTOUCHED`, beside a whole of which it should be a front.
+/// What stands in memory that was filled with `UNTOUCHED`, with a whole of which it should be a front.
 #[derive(Clone, Copy, Debug, PartialEq, Eq)]
 pub struct Written {
     /// How many bytes were written.
@@ -25,7 +25,7 @@ impl Written {
     }
 }
 
-/// What stands in memory to which so many bytes were written.
+/// What stands in memory to which a number of bytes were written.
 pub fn written_in(space: &[u8], count: usize, whole: &[u8]) -> Written {
     let front = space.get(..count).unwrap_or(&[]);
     let rest = space.get(count..).unwrap_or(&[]);

@@ -1,7 +1,7 @@
 //! cdpatch lists, audits and patches raw CD images.
 #![tactic(auto)]
 
-use cd_jobs::run_program;
+use cd_program::run_program;
 use std::process::ExitCode;
 
 fn main(rt: HostRuntime) -> ExitCode {

@@ -95,7 +95,7 @@ const ONE_SECTOR: &[Row] = &[
     },
 ];
 
-/// Sectors made anew.
+/// Sectors that are rebuilt.
 const MADE_ANEW: &[Row] = &[
     Row {
         script: "cdpatch 1\nrebuild 0\n",
@@ -111,9 +111,9 @@ const MADE_ANEW: &[Row] = &[
     },
 ];
 
-/// All 288 bytes behind the user data are `FF`.
+/// All 288 bytes after the user data are `FF`.
 #[test]
-fn codes_made_anew(rt: HostRuntime) -> Result<(), Fail> {
+fn codes_computed_again(rt: HostRuntime) -> Result<(), Fail> {
     let zeros = sector_of(&Zeros(0));
     let damaged = with_bytes(&zeros, 2064, &[255; 288]);
     let rebuild = "cdpatch 1\nrebuild 0\n";
@@ -158,7 +158,7 @@ fn no_patches(rt: HostRuntime) -> Result<(), Fail> {
 }
 
 #[test]
-fn each_patch_alone_and_after_others(rt: HostRuntime) -> Result<(), Fail> {
+fn each_patch_by_itself_and_after_others(rt: HostRuntime) -> Result<(), Fail> {
     for rows in [LOWEST_FIRST, ONE_SECTOR, MADE_ANEW] {
         expect_plain(rt.alloc(), rows)?;
     }

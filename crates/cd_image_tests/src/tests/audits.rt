@@ -28,7 +28,7 @@ pub fn expect_audit(rt: &impl Abort, image: &[u8], base: u32, text: &str)
     }
 }
 
-/// An image that is told in short, and the text of its audit.
+/// An image in short form, and the text of its audit.
 #[derive(Clone, Copy)]
 pub struct Audit<'a> {
     pub image: &'a [Sample],
@@ -75,7 +75,7 @@ const ONE_SECTOR: &[Audit] = &[
     },
 ];
 
-/// The block behind the last one with an address has none to differ from; an address that is no BCD is another address.
+/// The block after the last one with an address has none to differ from; an address that is not BCD is another address.
 const ADDRESSES: &[Audit] = &[
     Audit {
         image: &[Zeros(1)],
@@ -130,7 +130,7 @@ struct Failing {
     first_line: usize,
 }
 
-/// How an audit ends that sends so many bytes of its text.
+/// How an audit ends that sends a number of bytes of its text.
 fn ends(answer: Answer, sent: usize) -> Reported {
     Reported {
         answer,
@@ -139,7 +139,7 @@ fn ends(answer: Answer, sent: usize) -> Reported {
     }
 }
 
-/// The audit of a damaged sector whose image fails after so many bytes.
+/// The audit of a damaged sector whose image fails after a number of bytes.
 fn image_fails(rt: &impl Abort, row: &Failing, image: &[u8], count: u64) {
     let reported = audit_within(image, 0, &passing(count, ALL, ALL), row.text);
     let wanted = match count {
@@ -150,7 +150,7 @@ fn image_fails(rt: &impl Abort, row: &Failing, image: &[u8], count: u64) {
     expect_reported(rt, &reported, &wanted, count as usize, row.text);
 }
 
-/// The same to a sink that fails after so many bytes.
+/// The same to a sink that fails after a number of bytes.
 fn sink_fails(rt: &impl Abort, row: &Failing, image: &[u8], count: usize) {
     let limits = passing(ALL, count as u64, ALL);
     let reported = audit_within(image, 0, &limits, row.text);

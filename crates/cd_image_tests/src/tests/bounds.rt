@@ -36,7 +36,7 @@ fn a_million_sectors(rt: HostRuntime) {
 }
 
 #[test]
-fn a_byte_behind_them(rt: HostRuntime) {
+fn a_byte_after_them(rt: HostRuntime) {
     let mut image = ZeroSource::new(2_352_000_001);
     let listed = list_of(&mut image, "");
     expect_reported(&rt, &listed, &too_long(), 0, "");
@@ -49,7 +49,7 @@ fn an_audit_of_too_many(rt: HostRuntime) {
     expect_reported(&rt, &audited, &too_long(), 0, "");
 }
 
-/// A reader of std that ends just where an image has to end: the read behind its last sector is of one byte.
+/// A reader of std that ends just where an image has to end: the read after its last sector is of one byte.
 #[test]
 fn a_reader_of_a_million_sectors(rt: HostRuntime) {
     let mut image = FromRead::new(io::repeat(0).take(2_352_000_000));
@@ -101,8 +101,8 @@ impl Write for Counted {
 fn an_audit_of_a_million_damaged_sectors(rt: HostRuntime) {
     let sector = sector_of(&Damaged(449_849, 2351, 1));
     let image = Repeated { sector, place: 0 }.take(2_352_000_000);
-    let mut told = Counted { bytes: 0 };
-    let mut out = ToWrite::new(&mut told);
+    let mut logged = Counted { bytes: 0 };
+    let mut out = ToWrite::new(&mut logged);
     let answer = audit(&mut FromRead::new(image), 449_849, &mut out);
     let tally = AuditTally {
         sectors: 1_000_000,
@@ -112,7 +112,7 @@ fn an_audit_of_a_million_damaged_sectors(rt: HostRuntime) {
         tail: 0,
     };
     assert_eq!(rt; (answer, out.finished()), (Ok(tally), true));
-    assert_eq!(rt; told.bytes, 550_151 * 11 + 449_849 * 12 + 53);
+    assert_eq!(rt; logged.bytes, 550_151 * 11 + 449_849 * 12 + 53);
 }
 
 #[test]

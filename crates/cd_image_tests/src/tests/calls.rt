@@ -1,7 +1,7 @@
 //! The four calls, as the tests take them, and the harness at each of them.
 
 ghost use Rattle.std.specs.Prelude.{◌≤◌};
-ghost use Rattle.cd_stream.specs.Stream.{MayCount};
+ghost use Rattle.cd_stream.specs.Stream.{CanCountFailure};
 
 use cd_image::{Fault, MAX_BASE, Sink, Source, Tally, apply, audit, check, list};
 use cd_test_images::{
@@ -101,12 +101,12 @@ pub fn expect_rows(alloc: Global, rows: &[Row], way: &Way) -> Result<(), Fail>
     cd_test_images::expect_rows::<OnImages>(alloc, rows, way)
 }
 
-/// A call has ended as it should. Its name and a number are told of it.
+/// A call has ended as it should. If it has not, its name and a number are printed.
 pub fn expect_ending(rt: &impl Abort, came: &Ending, due: &Ending, call: &str, number: usize) {
     assert_eq!(rt; *came, *due, "{call}, {number}");
 }
 
-/// A report has ended as it should. A number and a text are told of it.
+/// A report has ended as it should. If it has not, a number and a text are printed.
 pub fn expect_reported(
     rt: &impl Abort,
     came: &Reported,
@@ -117,7 +117,7 @@ pub fn expect_reported(
     assert_eq!(rt; *came, *due, "{number} of {text}");
 }
 
-/// A report has ended by this fault, or without one. A number and a text are told of it.
+/// A report has ended by this fault, or without one. If not, a number and a text are printed.
 pub fn expect_fault(
     rt: &impl Abort,
     came: &Reported,
@@ -149,14 +149,14 @@ pub fn audit_within(image: &[u8], base: u32, limits: &Limits, text: &str) -> Rep
 
 /// Lists an image from block 0 on.
 pub fn list_of<I: Source>(image: &mut I, text: &str) -> Reported
-    requires { MayCount (I.seen image.old).failures }
+    requires { CanCountFailure (I.seen image.old).failures }
 {
     report_of::<Lists, _>(image, 0, &NO_LIMIT, text)
 }
 
 /// Audits an image from block 0 on.
 pub fn audit_of<I: Source>(image: &mut I, text: &str) -> Reported
-    requires { MayCount (I.seen image.old).failures }
+    requires { CanCountFailure (I.seen image.old).failures }
 {
     report_of::<Audits, _>(image, 0, &NO_LIMIT, text)
 }

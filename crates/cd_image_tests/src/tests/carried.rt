@@ -14,7 +14,7 @@ const ONE: &str = "line 2: applied\napplied 1 refused 0\n";
 
 const TWO: &str = "line 2: applied\nline 3: applied\napplied 2 refused 0\n";
 
-/// What a script makes of one sector where its damage is carried.
+/// What a script makes of one sector whose damage is carried.
 fn carries(
     alloc: Global,
     script: &str,
@@ -29,7 +29,7 @@ const SET: &str = "cdpatch 1\nset 0 0 41\n";
 
 const IS_DAMAGED: &str = "line 2: refused: block 0 is damaged\napplied 0 refused 1\n";
 
-/// The damage of the parity stays where it is carried, and else the patch is refused.
+/// The damage of the parity stays if it is carried, and else the patch is refused.
 #[test]
 fn a_damaged_byte_of_the_parity(rt: HostRuntime) -> Result<(), Fail> {
     let image = sector_of(&Damaged(0, 2351, 1));

@@ -50,6 +50,6 @@ const BEHIND_THE_LAST: &[Row] = &[Row {
 }];
 
 #[test]
-fn cut_behind_the_last_block_of_the_patch(rt: HostRuntime) -> Result<(), Fail> {
+fn cut_after_the_last_block_of_the_patch(rt: HostRuntime) -> Result<(), Fail> {
     expect_plain(rt.alloc(), BEHIND_THE_LAST)
 }

@@ -1,4 +1,4 @@
-//! Readers of std that have no end, and that fail on the way. They tell no contract which bytes are still to come.
+//! Readers of std that have no end, and that fail on the way. No contract knows which bytes are still to come.
 
 use super::calls::{audit_of, expect_reported, list_of};
 use super::long_images::{expect_applied, expect_checked};

@@ -6,7 +6,7 @@ use cd_script::parse;
 use cd_sector::{SECTOR_SIZE, Sector, USER_SIZE, encode};
 use cd_stream::{
     Buffered, Count, FailAfter, FromRead, Line, Short, Sink, SinkFailed, SliceSink, SliceSource,
-    Source, ToWrite, ZeroSource, fill, write_all,
+    Source, ToWrite, ZeroSource, fill_buffer, write_all,
 };
 use std::alloc::AllocError;
 use std::io;
@@ -17,7 +17,7 @@ use std::test::Fail;
 fn sources(rt: HostRuntime) {
     let mut source = SliceSource::new(b"abc");
     let mut into = [0; 4];
-    assert_eq!(rt; fill(&mut source, &mut into), Ok(3)); // then it has ended
+    assert_eq!(rt; fill_buffer(&mut source, &mut into), Ok(3)); // then it has ended
     assert_eq!(rt; into, *b"abc\0");
 
     let mut source = SliceSource::new(b"abc");
@@ -26,7 +26,7 @@ fn sources(rt: HostRuntime) {
     assert_eq!(rt; into, *b"ab");
 
     let mut into = [7; 4];
-    assert_eq!(rt; fill(&mut ZeroSource::new(3), &mut into), Ok(3));
+    assert_eq!(rt; fill_buffer(&mut ZeroSource::new(3), &mut into), Ok(3));
     assert_eq!(rt; into, [0, 0, 0, 7]);
 
     let mut source = FromRead::new(b"abc".as_slice()); // a slice is a reader

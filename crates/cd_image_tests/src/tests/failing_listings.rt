@@ -7,7 +7,7 @@ use cd_test_images::{ALL, Reported, Written, cut_image, flipped, image_of, passi
 use std::alloc::AllocError;
 use std::process::Abort;
 
-/// A listing, and how much of its text has to be out after so much of the image, where that is not all of it or nothing.
+/// A listing, and how much of its text has to be out after so much of the image, if that is not all of it or nothing.
 #[derive(Clone, Copy)]
 struct Due<'a> {
     image: &'a [u8],
@@ -16,7 +16,7 @@ struct Due<'a> {
     due: &'a [Sent],
 }
 
-/// So many bytes of the text after so many of the image.
+/// A number of bytes of the text after a number of bytes of the image.
 #[derive(Clone, Copy)]
 struct Sent {
     read: usize,
@@ -24,7 +24,7 @@ struct Sent {
 }
 
 impl Due<'_> {
-    /// How many bytes of the text have to be out after so many of the image.
+    /// How many bytes of the text have to be out after a number of bytes of the image.
     fn sent(&self, count: usize) -> usize {
         if self.image.len() < count {
             return self.text.len();
@@ -33,7 +33,7 @@ impl Due<'_> {
         last.map_or(0, |row| row.sent)
     }
 
-    /// Lists the image; where its read or the sink fails, it is by this fault and after so many bytes of the text.
+    /// Lists the image; if its read or the sink fails, it is by this fault and after a number of bytes of the text.
     fn expect(&self, rt: &impl Abort, image: u64, out: u64, fault: Option<Fault>, sent: usize) {
         let limits = passing(image, out, ALL);
         let reported = list_within(self.image, u32::from(self.base), &limits, self.text);

@@ -66,7 +66,7 @@ fn flip(bytes: &mut [u8], place: usize) {
     }
 }
 
-/// Where damage is carried, the last byte of the patched sector is damaged.
+/// If damage is carried, the last byte of the patched sector is damaged.
 fn make_parts(alloc: Global, carry: bool) -> Result<Parts, Fail> {
     let mut image = image_of(alloc, IMAGE)?;
     let mut whole = image_of(alloc, PATCHED)?;
@@ -82,9 +82,9 @@ fn make_parts(alloc: Global, carry: bool) -> Result<Parts, Fail> {
     })
 }
 
-/// How a call ends by this fault, after so many bytes of the output and the log: what it names has failed once, and nothing
+/// How a call ends by this fault, after these numbers of bytes of the output and the log: what it names has failed once, and nothing
 /// else has. What is left of the image is not compared.
-pub fn failed(ended: &Ending, fault: Fault, sent: usize, told: usize) -> Ending {
+pub fn failed(ended: &Ending, fault: Fault, sent: usize, logged: usize) -> Ending {
     Ending {
         answer: Answer::Failed(fault),
         failures: Failures {
@@ -95,20 +95,20 @@ pub fn failed(ended: &Ending, fault: Fault, sent: usize, told: usize) -> Ending 
         out_finished: ended.out_finished,
         log_finished: false,
         out: Written::right(sent),
-        log: Written::right(told),
+        log: Written::right(logged),
         left: ended.left,
     }
 }
 
-/// The image fails after so many bytes, of a call of each kind: a beginning of the output and of the log is out, within a
+/// The image fails after a number of bytes, of a call of each kind: a beginning of the output and of the log is out, within a
 /// window of the bytes that were read, and nothing of the second sector before it was read.
 fn image_fails(rt: &impl Abort, alloc: Global, call: &Call, count: usize) -> Result<(), AllocError>
     requires { call.now.base ≡ 0 }
 {
     let limits = passing(count as u64, ALL, ALL);
     let applied = apply_within(alloc, call, &limits)?;
-    let (sent, told) = (applied.out.count, applied.log.count);
-    let due = failed(&applied, Fault::Read, sent, told);
+    let (sent, logged) = (applied.out.count, applied.log.count);
+    let due = failed(&applied, Fault::Read, sent, logged);
     expect_ending(rt, &applied, &due, "image", count);
     let checked = check_within(alloc, call, &limits)?;
     let seen = checked.log.count;
@@ -117,31 +117,31 @@ fn image_fails(rt: &impl Abort, alloc: Global, call: &Call, count: usize) -> Res
     expect_at_most(rt, "image read", count, sent.saturating_add(IN_HAND));
     if count < 4704 {
         expect_at_most(rt, "sent", sent, 2352);
-        expect_at_most(rt, "told", told, 0);
+        expect_at_most(rt, "told", logged, 0);
         expect_at_most(rt, "told, checked", seen, 0);
     }
     Ok(())
 }
 
-/// The output fails after so many bytes.
+/// The output fails after a number of bytes.
 fn output_fails(rt: &impl Abort, alloc: Global, call: &Call, count: usize) -> Result<(), AllocError>
     requires { call.now.base ≡ 0 }
 {
     let ended = apply_within(alloc, call, &passing(ALL, count as u64, ALL))?;
-    let told = match count {
+    let logged = match count {
         0..2352 => 0,
         2352..7056 => 16,
         _ => 36,
     };
     let wanted = Ending {
         out_finished: false,
-        ..failed(&ended, Fault::Write, count, told)
+        ..failed(&ended, Fault::Write, count, logged)
     };
     expect_ending(rt, &ended, &wanted, "output", count);
     Ok(())
 }
 
-/// The log fails after so many bytes, of a call of each kind. Where all of it was told, the output is finished.
+/// The log fails after a number of bytes, of a call of each kind. If all of it went out, the output is finished.
 fn log_fails(rt: &impl Abort, alloc: Global, call: &Call, count: usize) -> Result<(), AllocError>
     requires { call.now.base ≡ 0 }
 {
@@ -189,7 +189,7 @@ enum Failing {
     Log,
 }
 
-/// It fails after so many bytes.
+/// It fails after a number of bytes.
 fn fails_after(
     rt: &impl Abort,
     alloc: Global,
@@ -206,7 +206,7 @@ fn fails_after(
     }
 }
 
-/// It fails after each number of bytes of a range, where damage is carried or not.
+/// It fails after each number of bytes of a range, with damage carried or not.
 fn fails_at_each(
     rt: &impl Abort,
     alloc: Global,
@@ -252,9 +252,9 @@ fn nothing_fails_within(
     Ok(())
 }
 
-/// Each of the three alone, and then all of them, may pass one byte more than the whole.
+/// Each of the three by itself, and then all of them, may pass one byte more than the whole.
 #[test]
-fn none_fails_behind_the_last_byte(rt: HostRuntime) -> Result<(), Fail> {
+fn none_fails_after_the_last_byte(rt: HostRuntime) -> Result<(), Fail> {
     let each = [
         passing(7057, ALL, ALL),
         passing(ALL, 7057, ALL),
@@ -267,8 +267,8 @@ fn none_fails_behind_the_last_byte(rt: HostRuntime) -> Result<(), Fail> {
 /// So many bytes pass in a call.
 const FEW: &[usize] = &[1, 2, 2351, 2353, usize::MAX];
 
-/// Nothing fails by few bytes a call of the output and the log, beside so many of the image.
-fn few_beside(rt: &impl Abort, alloc: Global, call: &Call, image: usize) -> Result<(), AllocError>
+/// Nothing fails by few bytes a call of the output and the log, with a number of bytes a call of the image.
+fn few_of_each(rt: &impl Abort, alloc: Global, call: &Call, image: usize) -> Result<(), AllocError>
     requires { call.now.base ≡ 0 }
 {
     for out in FEW {
@@ -285,7 +285,7 @@ fn few_bytes_a_call(rt: HostRuntime) -> Result<(), Fail> {
     let parts = make_parts(rt.alloc(), false)?;
     let call = parts.call();
     for image in FEW {
-        few_beside(&rt, rt.alloc(), &call, *image)?;
+        few_of_each(&rt, rt.alloc(), &call, *image)?;
     }
     Ok(())
 }
@@ -299,7 +299,7 @@ const BORDERS: &[(usize, usize)] = &[
     (7055, 7057),
 ];
 
-/// It fails so where damage is carried.
+/// It fails so if damage is carried.
 fn fails_at_borders(rt: &impl Abort, alloc: Global, failing: Failing) -> Result<(), Fail> {
     for (first, end) in BORDERS {
         fails_at_each(rt, alloc, true, failing, *first..*end)?;
@@ -308,7 +308,7 @@ fn fails_at_borders(rt: &impl Abort, alloc: Global, failing: Failing) -> Result<
 }
 
 #[test]
-fn failures_where_damage_is_carried(rt: HostRuntime) -> Result<(), Fail> {
+fn failures_with_damage_carried(rt: HostRuntime) -> Result<(), Fail> {
     fails_at_borders(&rt, rt.alloc(), Failing::Image)?;
     fails_at_borders(&rt, rt.alloc(), Failing::Output)?;
     fails_at_each(&rt, rt.alloc(), true, Failing::Log, 0..37)?;

@@ -27,7 +27,7 @@ fn expect(rt: &impl Abort, image: &[u8], base: u32, text: &str, tally: ListTally
     }
 }
 
-/// An image that is told in short and has no tail, the text of its listing, and the number of its sectors.
+/// An image in short form without a tail, the text of its listing, and the number of its sectors.
 #[derive(Clone, Copy)]
 struct Listing {
     image: &'static [Sample],
@@ -90,7 +90,7 @@ const RUNS: &[Listing] = &[
 const CUT: &[Sample] = &[Mode(0), Mode(3), Mode(1), Mode(1), Blank];
 
 #[test]
-fn a_tail_behind_runs(rt: HostRuntime) -> Result<(), AllocError> {
+fn a_tail_after_runs(rt: HostRuntime) -> Result<(), AllocError> {
     let cut = cut_image(rt.alloc(), CUT, 11_759)?;
     let text = "0-0 mode0\n1-1 other\n2-3 mode1\nsectors 4 tail 2351\n";
     expect(

@@ -1,7 +1,7 @@
 //! Patches on the largest images. A pass over more than 60,000,000 bytes is a test of its own.
 
 ghost use Rattle.std.specs.Prelude.{◌<◌, ◌≤◌};
-ghost use Rattle.cd_stream.specs.Stream.{MayCount};
+ghost use Rattle.cd_stream.specs.Stream.{CanCountFailure};
 
 use super::calls::{expect_ending, patched};
 use cd_image::{
@@ -16,7 +16,7 @@ use std::io;
 use std::process::Abort;
 use std::test::Fail;
 
-/// How a call ends in which nothing fails but by its answer, which tells this log. Its output is not kept.
+/// How a call ends in which nothing fails but by its answer, with this log. Its output is not kept.
 fn unfailed(answer: Answer, log: &str) -> Ending {
     let finished = answer.fault().is_none();
     Ending {
@@ -34,7 +34,7 @@ fn unfailed(answer: Answer, log: &str) -> Ending {
     }
 }
 
-/// Applies a script, with an output that is not kept, and as finished as the log is beside it.
+/// Applies a script, with an output that is not kept, and as finished as the log.
 pub fn expect_applied<I: Source>(
     rt: &impl Abort,
     image: &mut I,
@@ -44,19 +44,19 @@ pub fn expect_applied<I: Source>(
     log: &str,
 )
     requires base { base ≤ MAX_BASE }
-    requires countable { MayCount (I.seen image.old).failures }
+    requires countable { CanCountFailure (I.seen image.old).failures }
 {
     let mut lines = [UNTOUCHED; 128];
     let mut out = ToWrite::new(io::sink());
-    let mut told = SliceSink::new(&mut lines);
-    let answer = apply(image, script, base, false, &mut out, &mut told);
-    let finished = out.finished() && told.finished();
+    let mut logged = SliceSink::new(&mut lines);
+    let answer = apply(image, script, base, false, &mut out, &mut logged);
+    let finished = out.finished() && logged.finished();
     let failures = Failures {
         image: image.failures(),
         out: out.failures(),
-        log: told.failures(),
+        log: logged.failures(),
     };
-    let count = told.written().len();
+    let count = logged.written().len();
     let came = Ending {
         answer: patched(answer),
         failures,
@@ -79,18 +79,18 @@ pub fn expect_checked<I: Source>(
     log: &str,
 )
     requires base { base ≤ MAX_BASE }
-    requires countable { MayCount (I.seen image.old).failures }
+    requires countable { CanCountFailure (I.seen image.old).failures }
 {
     let mut lines = [UNTOUCHED; 128];
-    let mut told = SliceSink::new(&mut lines);
-    let answer = check(image, script, base, false, &mut told);
-    let finished = told.finished();
+    let mut logged = SliceSink::new(&mut lines);
+    let answer = check(image, script, base, false, &mut logged);
+    let finished = logged.finished();
     let failures = Failures {
         image: image.failures(),
         out: 0,
-        log: told.failures(),
+        log: logged.failures(),
     };
-    let count = told.written().len();
+    let count = logged.written().len();
     let came = Ending {
         answer: patched(answer),
         failures,
@@ -103,7 +103,7 @@ pub fn expect_checked<I: Source>(
     expect_ending(rt, &came, &unfailed(want, log), log, count);
 }
 
-/// A script on so many bytes `00` from a block on, and how it ends.
+/// A script on a number of bytes `00` from a block on, and how it ends.
 #[derive(Clone, Copy)]
 struct Long<'a> {
     script: &'a str,
@@ -111,7 +111,7 @@ struct Long<'a> {
     bytes: u32,
     size: u64,
     base: u32,
-    /// How many patches are refused in a million sectors, none being accepted; None where the image is too long.
+    /// How many patches are refused in a million sectors, none being accepted; None if the image is too long.
     refused: Option<u32>,
     log: &'a str,
 }

@@ -15,7 +15,7 @@ fn line_of(alloc: Global, number: u32, outcome: &str) -> Result<String, AllocErr
     format!(in alloc; "line {number}: {outcome}\n")
 }
 
-/// A script of so many patches that all end alike, in lines from 2 on, on one sector.
+/// A script of a number of patches that all end alike, in lines from 2 on, on one sector.
 #[derive(Clone, Copy)]
 struct Many<'a> {
     script: &'a str,
@@ -49,7 +49,7 @@ impl Many<'_> {
     }
 }
 
-/// What the byte is after so many patches of which each adds 1 to it.
+/// What the byte is after a number of patches of which each adds 1 to it.
 fn counted(number: u32) -> u8 {
     (number % 256) as u8
 }

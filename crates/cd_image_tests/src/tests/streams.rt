@@ -1,8 +1,8 @@
 //! Sources and sinks at concrete types.
 
 mod buffering;
+mod call_counts;
 mod calls;
 mod errors;
 mod forms;
-mod one_call;
 mod std_streams;

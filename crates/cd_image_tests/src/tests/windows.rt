@@ -39,7 +39,7 @@ fn image_met(alloc: Global) -> Result<Vec<Sample>, AllocError> {
 }
 
 /// A script on an image from block 0 on, how many bytes the output and the log may pass, which of them fails by that, and
-/// how many bytes must be told.
+/// how many bytes must be logged.
 #[derive(Clone, Copy)]
 struct Stop<'a> {
     image: &'a [Sample],
@@ -47,7 +47,7 @@ struct Stop<'a> {
     out: u64,
     log: u64,
     fault: Fault,
-    told: usize,
+    logged: usize,
 }
 
 /// The call ends so. The image still gives its last bytes, all of those that were not sent but what may be in hand. (What is
@@ -66,7 +66,7 @@ fn expect_stop(rt: &impl Abort, alloc: Global, stop: &Stop) -> Result<(), Fail> 
     let ended = apply_within(alloc, &call, &passing(ALL, stop.out, stop.log))?;
     let sent = ended.out.count;
     let left = ended.left.map_or(0, |left| left.count);
-    let mut wanted = failed(&ended, stop.fault, sent, stop.told);
+    let mut wanted = failed(&ended, stop.fault, sent, stop.logged);
     wanted.out = ended.out;
     wanted.left = Some(Written::right(left));
     let most = usize::try_from(stop.out).unwrap_or(usize::MAX);
@@ -92,7 +92,7 @@ fn an_output_that_takes_nothing(rt: HostRuntime) -> Result<(), Fail> {
             out: 0,
             log: ALL,
             fault: Fault::Write,
-            told: 0,
+            logged: 0,
         };
         expect_stop(&rt, rt.alloc(), &stop)?;
     }
@@ -100,7 +100,7 @@ fn an_output_that_takes_nothing(rt: HostRuntime) -> Result<(), Fail> {
 }
 
 #[test]
-fn sectors_are_in_hand_where_the_output_fails(rt: HostRuntime) -> Result<(), Fail> {
+fn sectors_are_in_hand_when_the_output_fails(rt: HostRuntime) -> Result<(), Fail> {
     let image = image_met(rt.alloc())?;
     let script = longest_patches(rt.alloc())?;
     for count in 0..MET * SECTOR_SIZE / 252 {
@@ -111,7 +111,7 @@ fn sectors_are_in_hand_where_the_output_fails(rt: HostRuntime) -> Result<(), Fai
             out: sent as u64,
             log: ALL,
             fault: Fault::Write,
-            told: (sent / 2352).min(4) * 16 + 16,
+            logged: (sent / 2352).min(4) * 16 + 16,
         };
         expect_stop(&rt, rt.alloc(), &stop)?;
     }
@@ -119,17 +119,17 @@ fn sectors_are_in_hand_where_the_output_fails(rt: HostRuntime) -> Result<(), Fai
 }
 
 #[test]
-fn sectors_are_in_hand_where_the_log_fails(rt: HostRuntime) -> Result<(), Fail> {
+fn sectors_are_in_hand_when_the_log_fails(rt: HostRuntime) -> Result<(), Fail> {
     let image = image_met(rt.alloc())?;
     let script = longest_patches(rt.alloc())?;
-    for told in 0..100usize {
+    for logged in 0..100usize {
         let stop = Stop {
             image: &image,
             script: &script,
             out: ALL,
-            log: told as u64,
+            log: logged as u64,
             fault: Fault::Log,
-            told,
+            logged,
         };
         expect_stop(&rt, rt.alloc(), &stop)?;
     }

@@ -1,7 +1,7 @@
 //! Patches with an output or a log that is a writer of std.
 
 ghost use Rattle.std.specs.Prelude.{◌<◌};
-ghost use Rattle.cd_stream.specs.Stream.{MayCount};
+ghost use Rattle.cd_stream.specs.Stream.{CanCountFailure};
 
 use cd_image::{Fault, Sink, SliceSink, SliceSource, ToWrite, apply, check};
 use cd_test_images::Sample::Zeros;
@@ -17,8 +17,8 @@ fn fault_of<O: Sink, L: Sink>(
     out: &mut O,
     log: &mut L,
 ) -> Result<Option<Fault>, Fail>
-    requires out { MayCount (O.seen out.old).failures }
-    requires log { MayCount (L.seen log.old).failures }
+    requires out { CanCountFailure (O.seen out.old).failures }
+    requires log { CanCountFailure (L.seen log.old).failures }
 {
     let image = image_of(alloc, &[Zeros(0), Zeros(1), Zeros(2)])?;
     let script = script_of(alloc, SCRIPT)?;

@@ -42,7 +42,7 @@ get_or-take_default xs n k d e room inside =
 -- the elements from n on stay if the first n are replaced by as many
 pub slice_get-append_drop : {X : Type 0} (front xs : List X) (n k : ℕ) → length front ≡ n → n ≤ k
     → slice_get (front ++ drop n xs) k ≡ slice_get xs k
-slice_get-append_drop front xs n k long behind =
+slice_get-append_drop front xs n k long after =
     let place : n + (k - n) ≡ k = omega arith in
     slice_get-append_right front (drop n xs) (k - n) k (omega arith)
     ∙ slice_get-drop n xs (k - n) ∙ ap (slice_get xs) place
@@ -83,5 +83,5 @@ list_of_choices {X} P (suc n) h =
     joined : (x : X) (xs : List X) → P 0 x
         → ((i : ℕ) (y : X) → slice_get xs i ≡ Some y → P (suc i) y) → (i : ℕ) (y : X)
         → slice_get (x ∷ xs) i ≡ Some y → P i y
-    joined x xs here behind zero y e = subst (P 0) (same_Some x y e) here
-    joined x xs here behind (suc i) y e = behind i y e
+    joined x xs here after zero y e = subst (P 0) (same_Some x y e) here
+    joined x xs here after (suc i) y e = after i y e

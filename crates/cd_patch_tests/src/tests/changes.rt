@@ -20,7 +20,7 @@ fn wrong_at(came: &Sector, due: &Sector) -> Option<usize> {
     written_in(came.bytes(), SECTOR_SIZE, due.bytes()).wrong_at
 }
 
-/// Asserts that a sector is the one that is due, and tells the first byte that is not.
+/// Asserts that a sector is the one that is due, and prints the first byte that is not.
 fn expect_sector(rt: &impl Abort, came: &Sector, due: &Sector, name: &str) {
     assert_eq!(rt; wrong_at(came, due), None, "{name}");
 }

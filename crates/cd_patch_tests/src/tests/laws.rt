@@ -1,8 +1,8 @@
 //! The laws of patches and runs, as a caller has them.
 
 use cd_patch::{
-    leaves_one, never_damaged, nothing_to_carry, run_exists, run_is_determined, run_leaves_others,
-    runs_agree,
+    leaves_one, never_damaged, nothing_to_carry, sequence_exists, sequence_is_determined,
+    sequence_leaves_others, sequences_agree,
 };
 
 #[test]
@@ -10,8 +10,8 @@ fn laws(_rt: HostRuntime) {
     leaves_one();
     never_damaged();
     nothing_to_carry();
-    run_exists();
-    run_is_determined();
-    run_leaves_others();
-    runs_agree();
+    sequence_exists();
+    sequence_is_determined();
+    sequence_leaves_others();
+    sequences_agree();
 }

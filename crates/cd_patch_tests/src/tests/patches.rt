@@ -14,7 +14,7 @@ use std::alloc::{AllocError, Global};
 use std::process::Abort;
 use std::test::Fail;
 
-/// A script of one patch, sectors from its first block on, what becomes of it where damage is carried or not, and the
+/// A script of one patch, sectors from its first block on, what becomes of it with damage carried or not, and the
 /// sectors that it leaves.
 #[derive(Clone, Copy)]
 struct Case<'a> {
@@ -25,7 +25,7 @@ struct Case<'a> {
     after: &'a [Sector],
 }
 
-/// The same of sectors that are told in short, where no damage is carried.
+/// The same of sectors in short form, without carrying damage.
 #[derive(Clone, Copy)]
 struct Row<'a> {
     script: &'a str,
@@ -50,14 +50,14 @@ struct Refusal<'a> {
     outcome: Outcome,
 }
 
-/// What has become of a patch, and the sectors that it left, beside those that are due.
+/// What has become of a patch, and the sectors that it left, with those that are due.
 #[derive(Clone, Copy, Debug, PartialEq)]
 struct Taken {
     outcome: Outcome,
     sectors: Written,
 }
 
-/// What the patch of a script makes of sectors, beside what is due.
+/// What the patch of a script makes of sectors, with what is due.
 fn patched(rt: &impl Abort, alloc: Global, case: &Case, due: &[u8]) -> Result<Taken, Fail> {
     let script = script_of(alloc, case.script)?;
     let [patch] = script.patches() else {
@@ -73,7 +73,7 @@ fn patched(rt: &impl Abort, alloc: Global, case: &Case, due: &[u8]) -> Result<Ta
     })
 }
 
-/// Asserts what has become of a patch, and that it left so many bytes, all of them right.
+/// Asserts what has become of a patch, and that it left a number of bytes, all of them right.
 fn expect_taken(rt: &impl Abort, script: &str, came: &Taken, outcome: Outcome, size: usize) {
     let due = Taken {
         outcome,
@@ -137,7 +137,7 @@ fn set_on_three(alloc: Global, version: u8) -> Result<String, AllocError> {
     format!(in alloc; "cdpatch {version}\nset 4 2047 AB{bytes}CD\n")
 }
 
-/// A script that sets the last byte of block 4 and the first of block 5, where they are these.
-fn set_where(alloc: Global, last: u8, first: u8) -> Result<String, AllocError> {
+/// A script that sets the last byte of block 4 and the first of block 5, if they are these.
+fn set_if(alloc: Global, last: u8, first: u8) -> Result<String, AllocError> {
     format!(in alloc; "cdpatch 1\nset 4 2047 ABCD was {last:02x}{first:02x}\n")
 }

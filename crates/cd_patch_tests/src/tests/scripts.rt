@@ -18,10 +18,10 @@ struct Alike<'a> {
 /// The most patches of a script.
 const MOST: u32 = MAX_PATCHES as u32;
 
-/// The line behind the head line and as many patches, a line each.
+/// The line after the head line and as many patches, a line each.
 const BEHIND_MOST: u32 = MOST + 2;
 
-/// Asserts the fault of a text, which has none where it is a script.
+/// Asserts the fault of a text, which has none if it is a script.
 fn expect_fault(
     rt: &impl Abort,
     alloc: Global,
@@ -48,7 +48,7 @@ fn expect_faults(rt: &impl Abort, alloc: Global, all: &[Alike]) {
 }
 
 /// Asserts the fault of a script of a head line and one line more.
-fn expect_fault_behind(
+fn expect_fault_after(
     rt: &impl Abort,
     alloc: Global,
     head: &str,
@@ -61,27 +61,27 @@ fn expect_fault_behind(
 }
 
 /// The same of each line.
-fn expect_alike_behind(
+fn expect_alike_after(
     rt: &impl Abort,
     alloc: Global,
     head: &str,
     alike: &Alike,
 ) -> Result<(), AllocError> {
     for line in alike.texts {
-        expect_fault_behind(rt, alloc, head, line, alike.fault)?;
+        expect_fault_after(rt, alloc, head, line, alike.fault)?;
     }
     Ok(())
 }
 
 /// The same of all.
-fn expect_faults_behind(
+fn expect_faults_after(
     rt: &impl Abort,
     alloc: Global,
     head: &str,
     all: &[Alike],
 ) -> Result<(), AllocError> {
     for alike in all {
-        expect_alike_behind(rt, alloc, head, alike)?;
+        expect_alike_after(rt, alloc, head, alike)?;
     }
     Ok(())
 }

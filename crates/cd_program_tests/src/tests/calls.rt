@@ -1,10 +1,10 @@
 //! The calls of the program, which answer a status, as the tests take them, and the harness at each of them.
 
 ghost use Rattle.std.specs.Prelude.{◌≤◌};
-ghost use Rattle.cd_stream.specs.Stream.{MayCount};
+ghost use Rattle.cd_stream.specs.Stream.{CanCountFailure};
 
 use cd_image::{MAX_BASE, Sink, Source, Tally};
-use cd_jobs::{run_apply, run_audit, run_check, run_list};
+use cd_program::{run_apply, run_audit, run_check, run_list};
 use cd_test_images::{
     Answer, Call, Ending, Limit, Limits, NO_LIMIT, Patching, Reported, Reporting, Row, Way,
     Written, report_of,
@@ -17,7 +17,7 @@ use std::test::Fail;
 struct InProgram;
 
 impl Patching for InProgram {
-    /// 0 where no patch is refused, and else 1.
+    /// 0 if no patch is refused, and else 1.
     fn answer(tally: Tally) -> Answer {
         Answer::Status(u8::from(tally.refused > 0))
     }
@@ -75,34 +75,34 @@ pub fn expect_rows(alloc: Global, rows: &[Row], way: &Way) -> Result<(), Fail>
     cd_test_images::expect_rows::<InProgram>(alloc, rows, way)
 }
 
-/// A call has ended as it should. Its lines and a number are told of it.
+/// A call has ended as it should. If it has not, its lines and a number are printed.
 pub fn expect_ending(rt: &impl Abort, came: &Ending, due: &Ending, lines: &str, number: usize) {
     assert_eq!(rt; *came, *due, "{lines}, {number}");
 }
 
-/// A report has ended as it should. A text is told of it.
+/// A report has ended as it should. If it has not, a text is printed.
 pub fn expect_reported(rt: &impl Abort, came: &Reported, due: &Reported, text: &str) {
     assert_eq!(rt; *came, *due, "{text}");
 }
 
-/// A text has been written whole, and nothing behind it.
+/// A text has been written whole, and nothing after it.
 pub fn expect_text(rt: &impl Abort, came: &Written, text: &str) {
     assert_eq!(rt; *came, Written::right(text.len()), "{text}");
 }
 
-/// A call has answered this status. Words are told of it.
+/// A call has answered this status. If it has not, a description is printed.
 pub fn expect_status(rt: &impl Abort, came: u8, due: u8, name: &str) {
     assert_eq!(rt; came, due, "{name}");
 }
 
-/// A text is this one. Words are told of it.
+/// A text is this one. If it is not, a description is printed.
 pub fn expect_same(rt: &impl Abort, came: &str, due: &str, name: &str) {
     assert_eq!(rt; came, due, "{name}");
 }
 
 /// Lists an image from block 0 on, to memory that lets so much pass.
 pub fn list_of<I: Source>(image: &mut I, limit: &Limit, text: &str) -> Reported
-    requires { MayCount (I.seen image.old).failures }
+    requires { CanCountFailure (I.seen image.old).failures }
 {
     report_of::<Lists, _>(image, 0, limit, text)
 }
@@ -110,7 +110,7 @@ pub fn list_of<I: Source>(image: &mut I, limit: &Limit, text: &str) -> Reported
 /// Audits an image.
 pub fn audit_of<I: Source>(image: &mut I, base: u32, text: &str) -> Reported
     requires base { base ≤ MAX_BASE }
-    requires image_countable { MayCount (I.seen image.old).failures }
+    requires image_countable { CanCountFailure (I.seen image.old).failures }
 {
     report_of::<Audits, _>(image, base, &NO_LIMIT, text)
 }

@@ -1,21 +1,21 @@
-//! The command line: what its words ask for, what refuses them, and help.
+//! The command line: what its arguments ask for, what refuses them, and help.
 
 use super::calls::{expect_same, expect_status};
 use super::messages;
-use cd_command::{Job, LineFault, NO_MEMORY, job_of, refusal_line};
+use cd_args::{Job, LineFault, NO_MEMORY, job_of, refusal_line};
 use std::alloc::{AllocError, Global};
 use std::process::Abort;
 
-/// The words of a line.
-pub fn words_of(alloc: Global, line: &str) -> Result<Vec<String>, AllocError> {
-    let mut words = Vec::new(alloc);
+/// The arguments of a line.
+pub fn args_of(alloc: Global, line: &str) -> Result<Vec<String>, AllocError> {
+    let mut args = Vec::new(alloc);
     for word in line.split_whitespace() {
-        words.push(String::from_str(alloc, word)?)?;
+        args.push(String::from_str(alloc, word)?)?;
     }
-    Ok(words)
+    Ok(args)
 }
 
-/// What a job asks for, in words.
+/// What a job asks for, as a description.
 fn asked(alloc: Global, job: &Job) -> Result<String, AllocError> {
     match job {
         Job::List { image, base } => format!(in alloc; "list image={image} base={base}"),
@@ -38,9 +38,9 @@ fn asked(alloc: Global, job: &Job) -> Result<String, AllocError> {
     }
 }
 
-/// What a line asks for, in words.
+/// What a line asks for, as a description.
 fn asked_by(alloc: Global, line: &str) -> Result<String, AllocError> {
-    match &job_of(alloc, words_of(alloc, line)?) {
+    match &job_of(alloc, args_of(alloc, line)?) {
         Ok(job) => asked(alloc, job),
         Err(_) => String::from_str(alloc, "nothing"),
     }
@@ -122,7 +122,7 @@ fn gives_patchings(rt: HostRuntime) -> Result<(), AllocError> {
     expect_jobs(&rt, rt.alloc(), ROWS)
 }
 
-/// Whether the parser refuses the words, with the status 2.
+/// Whether the parser refuses the arguments, with the status 2.
 fn is_refusal(fault: &LineFault) -> bool {
     match fault {
         LineFault::Parser(_) => fault.status() == 2,
@@ -132,14 +132,14 @@ fn is_refusal(fault: &LineFault) -> bool {
 
 /// Whether the parser refuses a line.
 fn refuses(alloc: Global, line: &str) -> Result<bool, AllocError> {
-    Ok(match &job_of(alloc, words_of(alloc, line)?) {
+    Ok(match &job_of(alloc, args_of(alloc, line)?) {
         Err(fault) => is_refusal(fault),
         Ok(_) => false,
     })
 }
 
 #[test]
-fn refuses_words(rt: HostRuntime) -> Result<(), AllocError> {
+fn refuses_args(rt: HostRuntime) -> Result<(), AllocError> {
     const LINES: &[&str] = &[
         "list - --base 450000",
         "list - --base 449850",
@@ -179,7 +179,7 @@ fn refuses_words(rt: HostRuntime) -> Result<(), AllocError> {
     Ok(())
 }
 
-/// Whether a fault is told by help that has this text.
+/// Whether a fault is answered by help with this text.
 fn is_help(alloc: Global, fault: &LineFault, part: &str) -> bool {
     let text = fault.parser_text(alloc);
     let line = refusal_line(text.as_deref());
@@ -189,7 +189,7 @@ fn is_help(alloc: Global, fault: &LineFault, part: &str) -> bool {
 
 /// Whether a line is answered by help that has a text.
 fn helps(alloc: Global, line: &str, part: &str) -> Result<bool, AllocError> {
-    Ok(match &job_of(alloc, words_of(alloc, line)?) {
+    Ok(match &job_of(alloc, args_of(alloc, line)?) {
         Err(fault) => is_help(alloc, fault, part),
         Ok(_) => false,
     })
@@ -223,7 +223,7 @@ fn answers_by_help(rt: HostRuntime) -> Result<(), AllocError> {
 }
 
 #[test]
-fn help_tells_of_the_options(rt: HostRuntime) -> Result<(), AllocError> {
+fn help_describes_the_options(rt: HostRuntime) -> Result<(), AllocError> {
     const ROWS: &[(&str, &str)] = &[
         ("list --help", "at most 449849"),
         ("audit --help", "at most 449849"),

@@ -1,20 +1,20 @@
-//! The examples of the rustdoc of cd_command, cd_jobs and cd_memory.
+//! The examples of the rustdoc of cd_args, cd_program and cd_memory.
 
-use cd_command::{Job, LineFault, NO_MEMORY, job_of, refusal_line};
+use cd_args::{Job, LineFault, NO_MEMORY, job_of, refusal_line};
 use cd_image::{FailAfter, SliceSink, SliceSource, ToWrite, ZeroSource};
-use cd_jobs::{
-    Host, LoadFault, System, do_words, fail, load_fault_line, load_script, read_script, run_apply,
-    run_audit, run_check, run_list,
-};
 use cd_memory::{File, Memory, run_on_files};
+use cd_program::{
+    Host, LoadFault, System, load_fault_line, load_script, print_and_fail, read_script, run_apply,
+    run_args, run_audit, run_check, run_list,
+};
 use cd_script::parse;
 use std::alloc::AllocError;
 use std::io;
 use std::test::Fail;
 
 #[test]
-fn words(rt: HostRuntime) -> Result<(), Fail> {
-    let job = job_of(rt.alloc(), Vec::new(rt.alloc()))?; // no words
+fn args(rt: HostRuntime) -> Result<(), Fail> {
+    let job = job_of(rt.alloc(), Vec::new(rt.alloc()))?; // no arguments
     assert!(rt; matches!(&job, Job::List { image, base: 0 } if image.as_str() == "-"));
 
     let fault = LineFault::NoMemory;
@@ -25,10 +25,10 @@ fn words(rt: HostRuntime) -> Result<(), Fail> {
     assert_eq!(rt; refusal_line(text.as_deref()), NO_MEMORY);
     assert_eq!(rt; fault.status_with(text.as_deref()), 2);
 
-    let words = vec![in rt.alloc(); String::from_str(rt.alloc(), "--help")?]?;
+    let args = vec![in rt.alloc(); String::from_str(rt.alloc(), "--help")?]?;
     let mut space = [0; 4096];
     let mut out = SliceSink::new(&mut space);
-    let status = do_words(rt.alloc(), &mut System::new(&rt), words, &mut out);
+    let status = run_args(rt.alloc(), &mut System::new(&rt), args, &mut out);
     assert!(rt; status == 0 && out.written().starts_with(b"List, audit"));
 
     Ok(())
@@ -53,7 +53,7 @@ fn statuses(rt: HostRuntime) -> Result<(), Fail> {
     let mut space = [0; 64];
     let mut out = SliceSink::new(&mut space);
     let line = load_fault_line(LoadFault::TooLong);
-    assert_eq!(rt; fail(line.as_bytes(), &mut out), 2);
+    assert_eq!(rt; print_and_fail(line.as_bytes(), &mut out), 2);
     assert!(rt; out.written().starts_with(b"cdpatch: the script is longer"));
 
     let mut space = [0; 64];
@@ -89,13 +89,13 @@ fn files_in_memory(rt: HostRuntime) -> Result<(), AllocError> {
     assert_eq!(rt; (file.name(), file.bytes().len()), ("disc.bin", 2352));
 
     let alloc = rt.alloc();
-    let mut words = Vec::new(alloc);
+    let mut args = Vec::new(alloc);
     for word in ["list", "disc.bin"] {
-        words.push(String::from_str(alloc, word)?)?;
+        args.push(String::from_str(alloc, word)?)?;
     }
     let name = String::from_str(alloc, "disc.bin")?;
     let files = Vec::from_array(alloc, [File::new(name, vec![in alloc; 0; 2353]?)])?;
-    let ended = run_on_files(alloc, words, &files, &[]);
+    let ended = run_on_files(alloc, args, &files, &[]);
     assert_eq!(rt; ended.status, 0);
     let text = b"0-0 nosync\nsectors 1 tail 1\n";
     assert_eq!(rt; ended.text.as_slice(), text.as_slice());

@@ -1,13 +1,13 @@
-//! A host in memory: what it is asked for, in which order, and what is said where it gives no file.
+//! A host in memory: what it is asked for, in which order, and what is printed if it gives no file.
 
-ghost use Rattle.cd_jobs.specs.Hosting.{any_answers};
+ghost use Rattle.cd_program.specs.Hosting.{any_answers};
 
 use super::calls::{expect_same, expect_status, expect_text};
-use super::command_line::words_of;
+use super::command_line::args_of;
 use super::messages::{APPLIED, COUNTED_WRITE_FAILED, NO_IMAGE, NO_MEMORY, NO_OUTPUT, NO_SCRIPT};
 use super::streams::Unflushed;
 use cd_image::{SliceSink, SliceSource, ToWrite};
-use cd_jobs::{Host, OpenFault, do_words};
+use cd_program::{Host, OpenFault, run_args};
 use cd_test_images::Sample::Zeros;
 use cd_test_images::{UNTOUCHED, image_of, written_in};
 use std::alloc::{AllocError, Global};
@@ -71,21 +71,21 @@ impl<'a> Host for Memory<'a> {
 /// Words, the number of the question that finds no memory, what is asked, the status, and what is printed.
 #[derive(Clone, Copy)]
 struct Asking {
-    words: &'static str,
+    args: &'static str,
     failing: u32,
     asked: &'static str,
     status: u8,
     text: &'static str,
 }
 
-/// Gives the words of a row to the program, on a host that has this image.
+/// Gives the arguments of a row to the program, on a host that has this image.
 fn expect_row(
     rt: &impl Abort,
     alloc: Global,
     image: &[u8],
     row: &Asking,
 ) -> Result<(), AllocError> {
-    let words = words_of(alloc, row.words)?;
+    let args = args_of(alloc, row.args)?;
     let mut host = Memory {
         image,
         asked: String::new(alloc),
@@ -94,10 +94,10 @@ fn expect_row(
     };
     let mut space = [UNTOUCHED; 128];
     let mut out = SliceSink::new(&mut space);
-    let status = do_words(alloc, &mut host, words, &mut out);
+    let status = run_args(alloc, &mut host, args, &mut out);
     let count = out.written().len();
-    expect_same(rt, host.asked.as_str(), row.asked, row.words);
-    expect_status(rt, status, row.status, row.words);
+    expect_same(rt, host.asked.as_str(), row.asked, row.args);
+    expect_status(rt, status, row.status, row.args);
     expect_text(
         rt,
         &written_in(&space, count, row.text.as_bytes()),
@@ -106,7 +106,7 @@ fn expect_row(
     Ok(())
 }
 
-/// Gives the words of each row to the program.
+/// Gives the arguments of each row to the program.
 fn expect_rows(rt: &impl Abort, alloc: Global, rows: &[Asking]) -> Result<(), AllocError> {
     let image = image_of(alloc, &[Zeros(0), Zeros(1)])?;
     for row in rows {
@@ -121,98 +121,98 @@ fn questions_in_order(rt: HostRuntime) -> Result<(), AllocError> {
     const AUDITED: &str = "sectors 2 mode1 2 damaged 0 tail 0\n";
     const ROWS: &[Asking] = &[
         Asking {
-            words: "",
+            args: "",
             failing: 0,
             asked: " take",
             status: 0,
             text: LISTED,
         },
         Asking {
-            words: "list -",
+            args: "list -",
             failing: 0,
             asked: " take",
             status: 0,
             text: LISTED,
         },
         Asking {
-            words: "list image",
+            args: "list image",
             failing: 0,
             asked: " read image",
             status: 0,
             text: LISTED,
         },
         Asking {
-            words: "audit -",
+            args: "audit -",
             failing: 0,
             asked: " take",
             status: 0,
             text: AUDITED,
         },
         Asking {
-            words: "audit image",
+            args: "audit image",
             failing: 0,
             asked: " read image",
             status: 0,
             text: AUDITED,
         },
         Asking {
-            words: "check image script",
+            args: "check image script",
             failing: 0,
             asked: " read script read image",
             status: 0,
             text: APPLIED,
         },
         Asking {
-            words: "check - script",
+            args: "check - script",
             failing: 0,
             asked: " read script take",
             status: 0,
             text: APPLIED,
         },
         Asking {
-            words: "apply image script out",
+            args: "apply image script out",
             failing: 0,
             asked: " read script read image make out take back out",
             status: 2,
             text: COUNTED_WRITE_FAILED,
         },
         Asking {
-            words: "apply - script out",
+            args: "apply - script out",
             failing: 0,
             asked: " read script take make out take back out",
             status: 2,
             text: COUNTED_WRITE_FAILED,
         },
         Asking {
-            words: "list script2",
+            args: "list script2",
             failing: 0,
             asked: " read script2",
             status: 2,
             text: NO_IMAGE,
         },
         Asking {
-            words: "check image -",
+            args: "check image -",
             failing: 0,
             asked: " read -",
             status: 2,
             text: NO_SCRIPT,
         },
         Asking {
-            words: "apply image none out",
+            args: "apply image none out",
             failing: 0,
             asked: " read none",
             status: 2,
             text: NO_SCRIPT,
         },
         Asking {
-            words: "apply none script out",
+            args: "apply none script out",
             failing: 0,
             asked: " read script read none",
             status: 2,
             text: NO_IMAGE,
         },
         Asking {
-            words: "apply image script -",
+            args: "apply image script -",
             failing: 0,
             asked: " read script read image make -",
             status: 2,
@@ -226,49 +226,49 @@ fn questions_in_order(rt: HostRuntime) -> Result<(), AllocError> {
 fn buffers_without_memory(rt: HostRuntime) -> Result<(), AllocError> {
     const ROWS: &[Asking] = &[
         Asking {
-            words: "",
+            args: "",
             failing: 1,
             asked: " take",
             status: 2,
             text: NO_MEMORY,
         },
         Asking {
-            words: "audit image",
+            args: "audit image",
             failing: 1,
             asked: " read image",
             status: 2,
             text: NO_MEMORY,
         },
         Asking {
-            words: "check image script",
+            args: "check image script",
             failing: 1,
             asked: " read script",
             status: 2,
             text: NO_MEMORY,
         },
         Asking {
-            words: "check image script",
+            args: "check image script",
             failing: 2,
             asked: " read script read image",
             status: 2,
             text: NO_MEMORY,
         },
         Asking {
-            words: "apply image script out",
+            args: "apply image script out",
             failing: 1,
             asked: " read script",
             status: 2,
             text: NO_MEMORY,
         },
         Asking {
-            words: "apply image script out",
+            args: "apply image script out",
             failing: 2,
             asked: " read script read image",
             status: 2,
             text: NO_MEMORY,
         },
         Asking {
-            words: "apply image script out",
+            args: "apply image script out",
             failing: 3,
             asked: " read script read image make out",
             status: 2,

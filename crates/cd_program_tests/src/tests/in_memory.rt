@@ -2,7 +2,7 @@
 //! makes.
 
 use super::calls::{expect_same, expect_status};
-use super::command_line::words_of;
+use super::command_line::args_of;
 use super::messages::{APPLIED, NO_IMAGE, NO_OUTPUT, NO_SCRIPT};
 use cd_memory::{Ended, File, run_on_files};
 use cd_test_images::Sample::{self, Addressed, Damaged, Filled, Zeros};
@@ -14,7 +14,7 @@ use std::process::Abort;
 /// that is made.
 #[derive(Clone, Copy)]
 struct Row {
-    words: &'static str,
+    args: &'static str,
     status: u8,
     text: &'static str,
     made: Option<(&'static str, &'static [Sample])>,
@@ -70,17 +70,17 @@ fn has_bytes(ended: &Ended, due: &[u8]) -> bool {
 
 fn expect_row(rt: &impl Abort, alloc: Global, files: &[File], row: &Row) -> Result<(), AllocError> {
     let input = image_of(alloc, INPUT)?;
-    let ended = run_on_files(alloc, words_of(alloc, row.words)?, files, input.as_slice());
-    expect_status(rt, ended.status, row.status, row.words);
+    let ended = run_on_files(alloc, args_of(alloc, row.args)?, files, input.as_slice());
+    expect_status(rt, ended.status, row.status, row.args);
     let text = String::from_utf8_lossy(alloc, ended.text.as_slice())?;
-    expect_same(rt, text.as_str(), row.text, row.words);
+    expect_same(rt, text.as_str(), row.text, row.args);
     let (name, samples) = row.made.unwrap_or(("", &[]));
-    expect_same(rt, name_made(&ended), name, row.words);
+    expect_same(rt, name_made(&ended), name, row.args);
     let due = image_of(alloc, samples)?;
     assert!(rt;
         ended.complete && has_bytes(&ended, due.as_slice()),
         "{}",
-        row.words
+        row.args
     );
     Ok(())
 }
@@ -89,73 +89,73 @@ fn expect_row(rt: &impl Abort, alloc: Global, files: &[File], row: &Row) -> Resu
 fn each_command_on_files_in_memory(rt: HostRuntime) -> Result<(), AllocError> {
     const ROWS: &[Row] = &[
         Row {
-            words: "apply image script out",
+            args: "apply image script out",
             status: 0,
             text: APPLIED,
             made: Some(("out", &[Zeros(0), Filled(1, 0, 1, 0x41)])),
         },
         Row {
-            words: "apply image script out --base 1",
+            args: "apply image script out --base 1",
             status: 0,
             text: APPLIED,
             made: Some(("out", &[Addressed([0, 2, 0], 0, 1, 0x41), Zeros(1)])),
         },
         Row {
-            words: "apply - script out",
+            args: "apply - script out",
             status: 1,
             text: "line 2: refused: no block 1\napplied 0 refused 1\n",
             made: Some(("out", &[Zeros(0)])),
         },
         Row {
-            words: "apply damaged first out",
+            args: "apply damaged first out",
             status: 1,
             text: "line 2: refused: block 0 is damaged\napplied 0 refused 1\n",
             made: Some(("out", &[Damaged(0, 2351, 1)])),
         },
         Row {
-            words: "apply image script image",
+            args: "apply image script image",
             status: 2,
             text: NO_OUTPUT,
             made: None,
         },
         Row {
-            words: "apply none script out",
+            args: "apply none script out",
             status: 2,
             text: NO_IMAGE,
             made: None,
         },
         Row {
-            words: "apply image none out",
+            args: "apply image none out",
             status: 2,
             text: NO_SCRIPT,
             made: None,
         },
         Row {
-            words: "apply image faulty out",
+            args: "apply image faulty out",
             status: 2,
             text: "script line 2: bad hex\n",
             made: None,
         },
         Row {
-            words: "check image script",
+            args: "check image script",
             status: 0,
             text: APPLIED,
             made: None,
         },
         Row {
-            words: "list image",
+            args: "list image",
             status: 0,
             text: "0-1 mode1\nsectors 2 tail 0\n",
             made: None,
         },
         Row {
-            words: "audit damaged",
+            args: "audit damaged",
             status: 1,
             text: "0 q=1\nsectors 1 mode1 1 damaged 1 tail 0\n",
             made: None,
         },
         Row {
-            words: "",
+            args: "",
             status: 0,
             text: "0-0 mode1\nsectors 1 tail 0\n",
             made: None,

@@ -11,7 +11,7 @@ use super::messages::{
     READ_FAILED, WRITE_FAILED,
 };
 use cd_image::{SliceSink, ZeroSource};
-use cd_jobs::run_check;
+use cd_program::run_check;
 use cd_script::Script;
 use cd_test_images::Sample::{Damaged, Filled, Zeros};
 use cd_test_images::{
@@ -50,7 +50,7 @@ const BUT_FOR_DAMAGE: &[Row] = &[Row {
     out: &[Damaged(0, 2351, 1)],
 }];
 
-/// The status is 0 where all patches are applied and 1 where one is refused; the base and `--carry` count.
+/// The status is 0 if all patches are applied and 1 if one is refused; the base and `--carry` count.
 #[test]
 fn statuses(rt: HostRuntime) -> Result<(), Fail> {
     expect_rows(rt.alloc(), ALL_APPLIED, &PLAIN)?;
@@ -169,15 +169,15 @@ const STOPPED: &[Stopped] = &[
     },
 ];
 
-/// How a call of the status 2 ends, after so many bytes of the output.
-fn ended_by(ended: &Ending, failures: Failures, sent: usize, told: usize) -> Ending {
+/// How a call of the status 2 ends, after a number of bytes of the output.
+fn ended_by(ended: &Ending, failures: Failures, sent: usize, logged: usize) -> Ending {
     Ending {
         answer: Answer::Status(2),
         failures,
         out_finished: ended.out_finished,
         log_finished: failures.log == 0,
         out: Written::right(sent),
-        log: Written::right(told),
+        log: Written::right(logged),
         left: ended.left,
     }
 }
@@ -219,23 +219,23 @@ impl Parts {
     }
 }
 
-/// A call of each kind ends by the status 2, or where the output fails the one that has an output.
+/// A call of each kind ends by the status 2, or if the output fails the one that has an output.
 fn stops(rt: &impl Abort, alloc: Global, call: &Call, row: &Stopped) -> Result<(), AllocError>
     requires { call.now.base ≡ 0 }
 {
     let limits = passing(row.image, row.out, row.log);
-    let told = most(row.lines, row.log);
+    let logged = most(row.lines, row.log);
     let applied = apply_within(alloc, call, &limits)?;
     let sent = match row.out {
         ALL => applied.out.count,
         most => most as usize,
     };
-    let wanted = ended_by(&applied, row.failures, sent, told);
-    expect_ending(rt, &applied, &wanted, row.lines, told);
+    let wanted = ended_by(&applied, row.failures, sent, logged);
+    expect_ending(rt, &applied, &wanted, row.lines, logged);
     if row.out == ALL {
         let checked = check_within(alloc, call, &limits)?;
-        let wanted = ended_by(&checked, row.failures, 0, told);
-        expect_ending(rt, &checked, &wanted, row.lines, told);
+        let wanted = ended_by(&checked, row.failures, 0, logged);
+        expect_ending(rt, &checked, &wanted, row.lines, logged);
     }
     Ok(())
 }
@@ -249,7 +249,7 @@ fn one_of_the_three_fails(rt: HostRuntime) -> Result<(), Fail> {
     Ok(())
 }
 
-/// The output fails at once, and the log after so many bytes of the line that says so.
+/// The output fails at once, and the log after a number of bytes of the line that says so.
 fn both_fail(rt: &impl Abort, alloc: Global, call: &Call, count: usize) -> Result<(), AllocError>
     requires { call.now.base ≡ 0 }
 {
@@ -292,8 +292,8 @@ fn a_byte_too_many(rt: HostRuntime) -> Result<(), Fail> {
     let mut image = ZeroSource::new(2_352_000_001);
     let status = run_check(&mut image, &script, 0, false, &mut log);
     let count = log.written().len();
-    let told = written_in(&lines, count, LONG_IMAGE.as_bytes());
+    let logged = written_in(&lines, count, LONG_IMAGE.as_bytes());
     expect_status(&rt, status, 2, LONG_IMAGE);
-    expect_text(&rt, &told, LONG_IMAGE);
+    expect_text(&rt, &logged, LONG_IMAGE);
     Ok(())
 }

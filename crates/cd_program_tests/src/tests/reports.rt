@@ -8,7 +8,7 @@ use cd_test_images::{ALL, Answer, Limit, NO_LIMIT, Reported, Written, image_of};
 use std::alloc::AllocError;
 use std::process::Abort;
 
-/// An image of so many bytes `00`, of which so many can be read, and a sink that takes so many; the status, and what it gets.
+/// An image of a number of bytes `00`, how many of them can be read and how many the sink takes; the status, and what it gets.
 #[derive(Clone, Copy)]
 struct Listing {
     size: u64,
@@ -77,7 +77,7 @@ fn a_listing_of_a_byte_too_many(rt: HostRuntime) {
     expect_lists(&rt, TOO_LONG);
 }
 
-/// An image from a block on, of which so many bytes can be read; the status, and the text.
+/// An image from a block on, and how many of its bytes can be read; the status, and the text.
 #[derive(Clone, Copy)]
 struct Audit {
     image: &'static [Sample],

@@ -1,12 +1,12 @@
 //! Scripts: the lines of their faults, and how a script's file is read.
 
 ghost use Rattle.std.specs.Prelude.{◌<◌};
-ghost use Rattle.cd_stream.specs.Stream.{MayCount};
+ghost use Rattle.cd_stream.specs.Stream.{CanCountFailure};
 
 use super::calls::expect_text;
 use super::messages::{LONG_SCRIPT, NO_SCRIPT};
 use cd_image::{FailAfter, Short, Sink, SliceSink, SliceSource, Source, ZeroSource};
-use cd_jobs::{load_script, read_script};
+use cd_program::{load_script, read_script};
 use cd_script::{MAX_BYTES, MAX_PATCHES, MAX_TEXT, Patch};
 use cd_test_images::{ALL, UNTOUCHED, is_front, is_text, repeated, written_in};
 use std::alloc::{AllocError, Global};
@@ -30,8 +30,8 @@ fn expect_line(rt: &impl Abort, alloc: Global, text: &[u8], line: &str) {
     let count = log.written().len();
     let want = if line.is_empty() { None } else { Some(2) };
     expect_ends(rt, ends, (want, want.is_some(), 0), line);
-    let told = written_in(&space, count, line.as_bytes());
-    expect_text(rt, &told, line);
+    let logged = written_in(&space, count, line.as_bytes());
+    expect_text(rt, &logged, line);
 }
 
 const BAD_ADDRESS: &str = "script line 2: bad address\n";
@@ -100,7 +100,7 @@ fn faults_have_their_lines(rt: HostRuntime) {
 /// As many hex digits as new bytes may have.
 const MOST_DIGITS: u32 = 2 * MAX_BYTES as u32;
 
-/// A text, and so many copies of a part after it, and the line that they give.
+/// A text, and a number of copies of a part after it, and the line that they give.
 #[derive(Clone, Copy)]
 struct Long {
     front: &'static str,
@@ -194,7 +194,7 @@ fn patches_are_in_order(rt: HostRuntime) {
     assert!(rt; is_text(&space, ""), "a line was written");
 }
 
-/// A reading has ended by the status 2, and its log has failed once, after so many bytes of a line.
+/// A reading has ended by the status 2, and its log has failed once, after a number of bytes of a line.
 fn expect_failed_log(
     rt: &impl Abort,
     status: Option<u8>,
@@ -207,7 +207,7 @@ fn expect_failed_log(
     assert!(rt; is_front(space, line, count), "{count} of {line}");
 }
 
-/// A log that passes so many bytes alone: they are the front of the line. The last passes all, and fails to finish.
+/// A log that passes only a number of bytes: they are the front of the line. The last passes all, and fails to finish.
 #[test]
 fn a_log_that_fails(rt: HostRuntime) {
     const TEXT: &[u8] = b"cdpatch 1\nset 0 0 4\n";
@@ -221,9 +221,9 @@ fn a_log_that_fails(rt: HostRuntime) {
     }
 }
 
-/// A file is read as these bytes, and nothing is said.
+/// A file is read as these bytes, and nothing is printed.
 fn expect_loaded<I: Source>(rt: &impl Abort, alloc: Global, file: &mut I, bytes: &[u8])
-    requires { MayCount (I.seen file.old).failures }
+    requires { CanCountFailure (I.seen file.old).failures }
 {
     let mut space = [0; 64];
     let is_loaded = match load_script(alloc, file, &mut SliceSink::new(&mut space)) {
@@ -244,7 +244,7 @@ fn files_are_read(rt: HostRuntime) {
     }
 }
 
-/// A file of so many bytes `00`, of which so many can be read: how many are read, or the status, and the line.
+/// A file of a number of bytes `00`, and how many of them can be read: how many are read, or the status, and the line.
 #[derive(Clone, Copy)]
 struct File {
     size: u64,
@@ -273,8 +273,8 @@ fn expect_files(rt: &impl Abort, alloc: Global, rows: &[File]) {
         let wanted = (row.loaded.err(), row.loaded.is_err(), failures);
         expect_ends(rt, ends, wanted, row.line);
         expect_size(rt, loaded.ok(), row.loaded.ok());
-        let told = written_in(&space, count, row.line.as_bytes());
-        expect_text(rt, &told, row.line);
+        let logged = written_in(&space, count, row.line.as_bytes());
+        expect_text(rt, &logged, row.line);
     }
 }
 

@@ -3,7 +3,7 @@
 use super::calls::list_of;
 use super::messages::READ_FAILED;
 use cd_image::{FailAfter, FromRead, ToWrite, ZeroSource};
-use cd_jobs::{run_audit, run_list};
+use cd_program::{run_audit, run_list};
 use cd_test_images::{Answer, NO_LIMIT, Written};
 use std::io::{self, ErrorKind, Read, Write};
 

@@ -1,5 +1,5 @@
 use Rattle.std.proofs.Common.{refl, rules}
-use Rattle.cd_c_images.specs.Images.{AppliesOn}
+use Rattle.cd_c_images.specs.Images.{AppliesInMemory}
 use Rattle.cd_c_images.proofs.CommandLemmas.{applies-on}
 use Rattle.cd_c_images.proofs.RoomLemmas.{applies-rooms}
 use Rattle.cd_c_images.proofs.commands.apply_to_rooms.Goals as goal
@@ -33,7 +33,7 @@ pub returns-in-Err : goal.returns-in-Err
 returns-in-Err c =
     let none = c.in-Err.ensures in
     let did = applies-rooms c.args.out.now c.args.out.now c.args.log.now c.script_of.new.log
-    (AppliesOn.without_script (search rules) none.0 none.1 refl none.2) in
+    (AppliesInMemory.without_script (search rules) none.0 none.1 refl none.2) in
     record {
       report = did.2;
       same_out = refl;

@@ -1,5 +1,5 @@
 use Rattle.std.proofs.Common.{rules}
-use Rattle.cd_c_images.specs.Images.{ChecksOn}
+use Rattle.cd_c_images.specs.Images.{ChecksInMemory}
 use Rattle.cd_c_images.proofs.CommandLemmas.{checks-on}
 use Rattle.cd_c_images.proofs.RoomLemmas.{checks-room}
 use Rattle.cd_c_images.proofs.commands.check_image.Goals as goal
@@ -22,5 +22,5 @@ pub returns-in-Err : goal.returns-in-Err
 returns-in-Err c =
     let none = c.in-Err.ensures in
     let did = checks-room c.args.log.now c.script_of.new.log
-    (ChecksOn.without_script (search rules) none.0 none.1 none.2) in
+    (ChecksInMemory.without_script (search rules) none.0 none.1 none.2) in
     record { report = did.1; same_slice = did.0.name; same_bytes = did.0.bytes }

@@ -32,8 +32,8 @@ is_word c =
     (c.with_bytes-3.ensures halves
     (c.with_bytes-2.ensures c.halves.result.0 (c.with_bytes.ensures [] IsEdc-nil)))
 
-pub returns-clause-alone : goal.returns-clause-alone
-returns-clause-alone c = λ w h. IsEdc-unique c.args.bytes.now w c.with_bytes-3.result h (is_word c)
+pub returns-clause-unique : goal.returns-clause-unique
+returns-clause-unique c = λ w h. IsEdc-unique c.args.bytes.now w c.with_bytes-3.result h (is_word c)
 
 pub returns-clause-word : goal.returns-clause-word
 returns-clause-word c = is_word c

@@ -11,9 +11,9 @@ use Rattle.cd_delta.proofs.carrying.carry_header.Goals as goal
 pub returns : goal.returns
 returns c =
     let old = c.args.s.now in
-    let new = c.carry.new.s in
+    let new = c.carry_bytes.new.s in
     let bcd = c.args.bcd in
-    let kept : KeepsError old new 12 bcd = c.carry.ensures in
+    let kept : KeepsError old new 12 bcd = c.carry_bytes.ensures in
     let stored = kept.before in
     let changed = kept.changed in
     let three : length bcd ≡ 3 = search rules in
@@ -23,7 +23,7 @@ returns c =
     (header-of changed three) (header-user changed three) in
     record {
       carried = carried;
-      alone = λ t other. carried_unique old (bcd ++ drop 3 (header_of old)) (user_of old) t new
+      unique = λ t other. carried_unique old (bcd ++ drop 3 (header_of old)) (user_of old) t new
           other carried;
       kind = kind;
       edc = stored-sum stored changed.edc;

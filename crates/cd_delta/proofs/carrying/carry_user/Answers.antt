@@ -2,7 +2,7 @@ use Rattle.std.proofs.Common.{◌+◌, arith}
 use Rattle.cd_sector.specs.Carried.{IsCarried}
 use Rattle.cd_sector.specs.Consistent.{header_of, user_of}
 use Rattle.cd_sector.proofs.CarriedLemmas.{carried_unique}
-use Rattle.cd_delta.specs.Writing.{KeepsError, written}
+use Rattle.cd_delta.specs.Writing.{KeepsError, with_range}
 use Rattle.cd_delta.proofs.CarryLemmas.{carried-consistent, carried-of, stored-sum}
 use Rattle.cd_delta.proofs.UserLemmas.{user-header, user-kind, user-of}
 use Rattle.cd_delta.proofs.carrying.carry_user.Goals as goal
@@ -17,12 +17,12 @@ returns c =
     let stored = kept.before in
     let changed = kept.changed in
     let kind = user-kind offset changed in
-    let carried : IsCarried old (header_of old) (written (user_of old) offset bytes) new =
-    carried-of changed stored (omega arith) (header_of old) (written (user_of old) offset bytes)
+    let carried : IsCarried old (header_of old) (with_range (user_of old) offset bytes) new =
+    carried-of changed stored (omega arith) (header_of old) (with_range (user_of old) offset bytes)
     (user-header offset changed) (user-of offset changed) in
     record {
       carried = carried;
-      alone = λ t other. carried_unique old (header_of old) (written (user_of old) offset bytes) t
+      unique = λ t other. carried_unique old (header_of old) (with_range (user_of old) offset bytes) t
           new other carried;
       kind = kind;
       edc = stored-sum stored changed.edc;

@@ -1,6 +1,6 @@
 use Rattle.std.proofs.Common.{sym, ◌∙◌, arith, rules}
 use Rattle.cd_delta.specs.declared.changes.Change.{Change}
-use Rattle.cd_delta.proofs.AmountLemmas.{alone-carried, nonzero-carried}
+use Rattle.cd_delta.proofs.AmountLemmas.{unique-carried, nonzero-carried}
 use Rattle.cd_delta.proofs.KeepLemmas.{AreCarried, Balances-at, Eight, IsDistinct-carried}
 use Rattle.cd_delta.proofs.KeepLemmas.{SameSyndromes-carried, parity_places-carried}
 use Rattle.cd_delta.proofs.changes.parity_changes.Goals as goal
@@ -62,7 +62,7 @@ returns c =
       inside = search rules;
       distinct = IsDistinct-carried all;
       keeps = SameSyndromes-carried all;
-      alone = λ others at low s each size kept.
-          alone-carried all others (at ∙ sym places) low s each size kept;
+      unique = λ others at low s each size kept.
+          unique-carried all others (at ∙ sym places) low s each size kept;
       nonzero = nonzero-carried all;
     }

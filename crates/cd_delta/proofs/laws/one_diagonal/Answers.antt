@@ -1,5 +1,5 @@
-use Rattle.cd_delta.proofs.PlaceFacts.{one_diagonal-told}
+use Rattle.cd_delta.proofs.PlaceFacts.{one_diagonal-known}
 use Rattle.cd_delta.proofs.laws.one_diagonal.Goals as goal
 
 pub returns : goal.returns
-returns c = one_diagonal-told
+returns c = one_diagonal-known

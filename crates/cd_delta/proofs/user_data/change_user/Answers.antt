@@ -5,8 +5,8 @@ use Rattle.cd_delta.proofs.user_data.change_user.Goals as goal
 
 pub returns : goal.returns
 returns c =
-    let changed : IsChanged c.args.s.now c.change.new.s (16 + c.args.offset) c.args.bytes.now 0 =
-    c.change.ensures in
+    let changed : IsChanged c.args.s.now c.change_bytes.new.s (16 + c.args.offset) c.args.bytes.now 0 =
+    c.change_bytes.ensures in
     record {
       user = user-of c.args.offset changed;
       edc = edc-of changed;

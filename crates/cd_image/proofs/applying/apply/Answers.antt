@@ -4,7 +4,7 @@ use Rattle.cd_script.specs.Patch.{IsPatch}
 use Rattle.cd_image.specs.Applying.{Applies, streams}
 use Rattle.cd_image.proofs.ApplyReportLemmas.{Applies-by_end, Applies-by_length, Applies-carried, Applies-ended}
 use Rattle.cd_image.proofs.ApplyReportLemmas.{Applies-ends_log, Applies-ends_out, Applies-few, Applies-few_counted, Applies-log_failed}
-use Rattle.cd_image.proofs.ApplyReportLemmas.{Applies-output, Applies-read_failed, Applies-told, Applies-too_long}
+use Rattle.cd_image.proofs.ApplyReportLemmas.{Applies-log_bytes, Applies-output, Applies-read_failed, Applies-too_long}
 use Rattle.cd_image.proofs.ApplyReportLemmas.{Applies-write_failed}
 use Rattle.cd_image.proofs.applying.apply.Given.{Over}
 use Rattle.cd_image.proofs.applying.apply.Goals as goal
@@ -39,7 +39,7 @@ returns-clause-carried g c =
     (subst (All IsPatch) c.patches.ensures.patches c.patches.ensures.each)
 
 pub returns-clause-log : goal.returns-clause-log
-returns-clause-log g c = Applies-told _ (done g c)
+returns-clause-log g c = Applies-log_bytes _ (done g c)
 
 pub returns-clause-output_ends_well : goal.returns-clause-output_ends_well
 returns-clause-output_ends_well g c = Applies-ends_out _ (done g c)

@@ -1,6 +1,6 @@
 use Rattle.std.proofs.Common.{◌≡◌, ◌+◌, ◌≤◌, false, take, drop, length, if◌then◌else◌}
 use Rattle.cd_image.specs.Applying.{streams}
-use Rattle.cd_image.specs.Passing.{GoesOn, IsEnded, left_to_do}
+use Rattle.cd_image.specs.Passing.{HoldsInvariant, IsEnded, left_to_do}
 use Rattle.cd_image.proofs.applying.apply_patches.Given as goal
 
 abbrev pub invariant-loop-more : goal.invariant-loop-more
@@ -9,7 +9,7 @@ invariant-loop-more g l =
     streams (g.I.Source.seen l.fn.image) (g.O.Sink.seen l.fn.out) (g.L.Sink.seen l.fn.log) in
     let now = streams (g.I.Source.seen l.image) (g.O.Sink.seen l.out) (g.L.Sink.seen l.log) in
     record {
-      goes : GoesOn l.carry (take l.pass.decided l.patches)
+      goes : HoldsInvariant l.carry (take l.pass.decided l.patches)
           (drop l.pass.decided l.patches) l.fn.base start now l.pass;
       known : l.pass.decided ≤ length l.patches;
       ended : l.more ≡ false → IsEnded l.pass;

@@ -1,6 +1,6 @@
 use Rattle.std.proofs.Common.{subst}
 use Rattle.cd_image.specs.Applying.{Applies, streams, null_outgoing}
-use Rattle.cd_image.proofs.ApplyReportLemmas.{Applies-begins, Applies-told}
+use Rattle.cd_image.proofs.ApplyReportLemmas.{Applies-begins, Applies-log_bytes}
 use Rattle.cd_image.proofs.applying.check.Given.{Over}
 use Rattle.cd_image.proofs.applying.check.Goals as goal
 
@@ -27,7 +27,7 @@ done g c =
     c.patches.ensures.patches c.apply_patches.ensures
 
 pub returns-clause-log : goal.returns-clause-log
-returns-clause-log g c = Applies-told _ (done g c)
+returns-clause-log g c = Applies-log_bytes _ (done g c)
 
 pub returns-clause-begins : goal.returns-clause-begins
 returns-clause-begins g c = Applies-begins _ (done g c)

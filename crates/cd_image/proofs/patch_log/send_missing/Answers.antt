@@ -24,12 +24,12 @@ returns-in_err-send_outcome g c =
 
 pub loop-patch-preserved : goal.loop-patch-preserved
 loop-patch-preserved g c = record {
-  told =
+  log_bytes =
       subst (Appends (g.L.Sink.seen c.args.log.now).written
       (g.L.Sink.seen c.send_outcome.new.log).written)
       (sym (missing_lines-more c.args.patches.now c.loop-patch.patch-index c.patch-item.result
       c.loop-patch-test.true c.patch-item.is))
-      (Appends-trans _ _ _ _ _ c.loop-patch.invariant.told c.in_ok-send_outcome.ensures.bytes);
+      (Appends-trans _ _ _ _ _ c.loop-patch.invariant.log_bytes c.in_ok-send_outcome.ensures.bytes);
   taken =
       subst (Takes (g.L.Sink.seen c.args.log.now) (g.L.Sink.seen c.send_outcome.new.log))
       (sym (missing_lines-more c.args.patches.now c.loop-patch.patch-index c.patch-item.result

@@ -7,7 +7,7 @@ use Rattle.cd_image.proofs.patch_log.send_missing.Given as goal
 
 abbrev pub invariant-loop-patch : goal.invariant-loop-patch
 invariant-loop-patch g l = record {
-  told : Appends (g.L.Sink.seen l.fn.log).written (g.L.Sink.seen l.log).written
+  log_bytes : Appends (g.L.Sink.seen l.fn.log).written (g.L.Sink.seen l.log).written
       (log_lines (take l.patch-index l.patches) (missing_outcomes (take l.patch-index l.patches)));
   taken : Takes (g.L.Sink.seen l.fn.log) (g.L.Sink.seen l.log)
       (log_lines (take l.patch-index l.patches) (missing_outcomes (take l.patch-index l.patches)));

@@ -9,11 +9,11 @@ use Rattle.cd_image.specs.PatchLog.{log_line, outcome_text}
 use Rattle.cd_image.proofs.patch_log.send_outcome.Goals as goal
 
 -- a line, part by part
-put_together : (p : Patch) (o : Outcome) (first number colon told all sent : List ℕ)
+put_together : (p : Patch) (o : Outcome) (first number colon log_bytes all sent : List ℕ)
     → first ≡ codes "line " → number ≡ first ++ decimal p.line → colon ≡ number ++ codes ": "
-    → told ≡ colon ++ outcome_text o → all ≡ told ++ codes "\n" → sent ≡ all → sent ≡ log_line p o
+    → log_bytes ≡ colon ++ outcome_text o → all ≡ log_bytes ++ codes "\n" → sent ≡ all → sent ≡ log_line p o
 unfolding log_line
-put_together p o first number colon told all sent a b d e f h = cc
+put_together p o first number colon log_bytes all sent a b d e f h = cc
 
 pub returns : goal.returns
 returns g c =

@@ -9,7 +9,7 @@ pub enum Call {
     Finish(Result<(), SinkFailed>),
 }
 
-/// Whether the call answers so, and leaves the sink finished where it is a `finish` that succeeds.
+/// Whether the call answers so, and leaves the sink finished if it is a `finish` that succeeds.
 fn answers<S: Sink>(sink: &mut S, call: Call) -> bool {
     if sink.failures() == u32::MAX {
         return false;

@@ -4,15 +4,15 @@ ghost use Rattle.std.specs.Prelude.{◌≡◌, ◌≤◌, ◌++◌, [], ◌∷�
 
 use cd_stream::{
     FailAfter, Short, Sink, SinkFailed, SliceSink, SliceSource, Source, SourceFailed, ZeroSource,
-    fill, write_all,
+    fill_buffer, write_all,
 };
 
 #[test]
-fn a_source_that_fails_behind_short_reads(rt: HostRuntime) {
+fn a_source_that_fails_after_short_reads(rt: HostRuntime) {
     let mut source = Short::new(FailAfter::new(SliceSource::new(b"abcdefg"), 5), 2);
     let mut into = [0; 4];
-    assert!(rt; fill(&mut source, &mut into) == Ok(4) && into == *b"abcd");
-    let (filled, failures) = (fill(&mut source, &mut into), source.failures());
+    assert!(rt; fill_buffer(&mut source, &mut into) == Ok(4) && into == *b"abcd");
+    let (filled, failures) = (fill_buffer(&mut source, &mut into), source.failures());
     assert!(rt; filled == Err(SourceFailed) && failures == 1);
     let (read, failures) = (source.read(&mut into), source.failures());
     assert!(rt; read == Err(SourceFailed) && failures == 2);
@@ -22,12 +22,12 @@ fn a_source_that_fails_behind_short_reads(rt: HostRuntime) {
 fn a_source_that_ends(rt: HostRuntime) {
     let mut source = FailAfter::new(Short::new(ZeroSource::new(3), 0), 100);
     let mut into = [7; 4];
-    assert!(rt; fill(&mut source, &mut into) == Ok(3) && into == [0, 0, 0, 7]);
-    assert!(rt; fill(&mut source, &mut into) == Ok(0) && source.failures() == 0);
+    assert!(rt; fill_buffer(&mut source, &mut into) == Ok(3) && into == [0, 0, 0, 7]);
+    assert!(rt; fill_buffer(&mut source, &mut into) == Ok(0) && source.failures() == 0);
 }
 
 #[test]
-fn a_sink_that_fails_behind_short_writes(rt: HostRuntime) {
+fn a_sink_that_fails_after_short_writes(rt: HostRuntime) {
     let mut space = [0; 8];
     let mut sink = Short::new(FailAfter::new(SliceSink::new(&mut space), 5), 2);
     assert!(rt; write_all(&mut sink, b"abcd").is_ok());

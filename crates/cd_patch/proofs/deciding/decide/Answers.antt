@@ -3,9 +3,9 @@ use Rattle.cd_patch.specs.Blocks.{blocks_met}
 use Rattle.cd_patch.specs.EditMeaning.{needs_consistent}
 use Rattle.cd_patch.specs.Deciding.{by_difference, first_refusal}
 use Rattle.cd_patch.specs.Parts.{HaveUsers}
-use Rattle.cd_patch.proofs.DecidingLemmas.{AreMet-from, Differs-same, outcome-refused, outcome-told, refusal-asked}
+use Rattle.cd_patch.proofs.DecidingLemmas.{AreMet-from, Differs-same, outcome-refused, outcome-found, refusal-asked}
 use Rattle.cd_patch.proofs.RangeLemmas.{old-fits}
-use Rattle.cd_patch.proofs.TakingLemmas.{first_refusal-told}
+use Rattle.cd_patch.proofs.TakingLemmas.{first_refusal-not_applied}
 use Rattle.cd_patch.proofs.deciding.decide.Goals as goal
 
 pub returns-in-Some-clause-outcome : goal.returns-in-Some-clause-outcome
@@ -14,9 +14,9 @@ returns-in-Some-clause-outcome c =
     let ss = c.args.sectors.now in
     let found : first_refusal ss p.block (needs_consistent c.args.carry p.edit) p.block
     (blocks_met p) ≡ Some c.in-Some.refusal = sym
-    (refusal-asked c.args.carry c.meaning-edit.result.builds_on c.needs_consistent-asks.result ss p
+    (refusal-asked c.args.carry c.meaning-edit.result.keeps_old c.needs_consistent-must_be_consistent.result ss p
     c.args.count c.first_refusal.result c.first_refusal.ensures.refusal
-    c.needs_consistent-asks.ensures c.meaning-edit.ensures.builds_on c.requires.count)
+    c.needs_consistent-must_be_consistent.ensures c.meaning-edit.ensures.keeps_old c.requires.count)
     ∙ c.in-Some.is in
     sym (outcome-refused c.args.carry ss p.block p c.in-Some.refusal found)
 
@@ -26,11 +26,11 @@ returns-in-Some-clause-users c = λ applied.
     let ss = c.args.sectors.now in
     let found : first_refusal ss p.block (needs_consistent c.args.carry p.edit) p.block
     (blocks_met p) ≡ Some c.in-Some.refusal = sym
-    (refusal-asked c.args.carry c.meaning-edit.result.builds_on c.needs_consistent-asks.result ss p
+    (refusal-asked c.args.carry c.meaning-edit.result.keeps_old c.needs_consistent-must_be_consistent.result ss p
     c.args.count c.first_refusal.result c.first_refusal.ensures.refusal
-    c.needs_consistent-asks.ensures c.meaning-edit.ensures.builds_on c.requires.count)
+    c.needs_consistent-must_be_consistent.ensures c.meaning-edit.ensures.keeps_old c.requires.count)
     ∙ c.in-Some.is in
-    absurd (first_refusal-told ss p.block (needs_consistent c.args.carry p.edit) p.block
+    absurd (first_refusal-not_applied ss p.block (needs_consistent c.args.carry p.edit) p.block
     (blocks_met p) (found ∙ ap (λ o. Some o) applied))
 
 pub first_difference-requires : goal.first_difference-requires
@@ -39,9 +39,9 @@ first_difference-requires c =
     let ss = c.args.sectors.now in
     let none : first_refusal ss p.block (needs_consistent c.args.carry p.edit) p.block
     (blocks_met p) ≡ None = sym
-    (refusal-asked c.args.carry c.meaning-edit.result.builds_on c.needs_consistent-asks.result ss p
+    (refusal-asked c.args.carry c.meaning-edit.result.keeps_old c.needs_consistent-must_be_consistent.result ss p
     c.args.count c.first_refusal.result c.first_refusal.ensures.refusal
-    c.needs_consistent-asks.ensures c.meaning-edit.ensures.builds_on c.requires.count)
+    c.needs_consistent-must_be_consistent.ensures c.meaning-edit.ensures.keeps_old c.requires.count)
     ∙ c.in_default.is in
     let met = AreMet-from ss p.block (needs_consistent c.args.carry p.edit) (blocks_met p) none in
     let fits = old-fits p c.requires.patch in
@@ -72,16 +72,16 @@ returns-in-None-clause-outcome c =
     let ss = c.args.sectors.now in
     let accepted : first_refusal ss p.block (needs_consistent c.args.carry p.edit) p.block
     (blocks_met p) ≡ None = sym
-    (refusal-asked c.args.carry c.meaning-edit.result.builds_on c.needs_consistent-asks.result ss p
+    (refusal-asked c.args.carry c.meaning-edit.result.keeps_old c.needs_consistent-must_be_consistent.result ss p
     c.args.count c.first_refusal.result c.first_refusal.ensures.refusal
-    c.needs_consistent-asks.ensures c.meaning-edit.ensures.builds_on c.requires.count)
+    c.needs_consistent-must_be_consistent.ensures c.meaning-edit.ensures.keeps_old c.requires.count)
     ∙ c.in_default.is in
-    let told =
-    outcome-told c.args.carry ss p c.meaning-edit.result.old.now c.first_difference.result
+    let known =
+    outcome-found c.args.carry ss p c.meaning-edit.result.old.now c.first_difference.result
     c.requires.patch accepted c.meaning-edit.ensures.old
     (subst (HaveUsers ss) c.requires.count
     (c.first_refusal.ensures.users cc)) c.first_difference.ensures.value in
-    sym (told ∙ ap (by_difference p.block) c.in-None.is)
+    sym (known ∙ ap (by_difference p.block) c.in-None.is)
 
 pub returns-in-Some-first_difference-clause-outcome :
     goal.returns-in-Some-first_difference-clause-outcome
@@ -90,15 +90,15 @@ returns-in-Some-first_difference-clause-outcome c =
     let ss = c.args.sectors.now in
     let accepted : first_refusal ss p.block (needs_consistent c.args.carry p.edit) p.block
     (blocks_met p) ≡ None = sym
-    (refusal-asked c.args.carry c.meaning-edit.result.builds_on c.needs_consistent-asks.result ss p
+    (refusal-asked c.args.carry c.meaning-edit.result.keeps_old c.needs_consistent-must_be_consistent.result ss p
     c.args.count c.first_refusal.result c.first_refusal.ensures.refusal
-    c.needs_consistent-asks.ensures c.meaning-edit.ensures.builds_on c.requires.count)
+    c.needs_consistent-must_be_consistent.ensures c.meaning-edit.ensures.keeps_old c.requires.count)
     ∙ c.in_default.is in
-    let told =
-    outcome-told c.args.carry ss p c.meaning-edit.result.old.now c.first_difference.result
+    let known =
+    outcome-found c.args.carry ss p c.meaning-edit.result.old.now c.first_difference.result
     c.requires.patch accepted c.meaning-edit.ensures.old
     (subst (HaveUsers ss) c.requires.count
     (c.first_refusal.ensures.users cc)) c.first_difference.ensures.value in
     let place = c.in-Some-first_difference.place in
     Differs-same _ _ (p.block + place / 2048) (place % 2048) (omega arith) (omega arith)
-    ∙ sym (told ∙ ap (by_difference p.block) c.in-Some-first_difference.is)
+    ∙ sym (known ∙ ap (by_difference p.block) c.in-Some-first_difference.is)

@@ -6,6 +6,6 @@ use Rattle.cd_patch.proofs.deciding.first_refusal.Given as goal
 abbrev pub invariant-loop-k : goal.invariant-loop-k
 invariant-loop-k l =
     ((count : ℕ) → l.k + count ≡ l.count
-    → first_refusal l.sectors l.block l.asks l.block l.count
-    ≡ first_refusal l.sectors l.block l.asks (l.block + l.k) count)
+    → first_refusal l.sectors l.block l.must_be_consistent l.block l.count
+    ≡ first_refusal l.sectors l.block l.must_be_consistent (l.block + l.k) count)
     × HaveUsers l.sectors l.k

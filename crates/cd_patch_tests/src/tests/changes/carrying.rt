@@ -11,7 +11,7 @@ const PLACES: &[usize] = &[
     12, 14, 16, 17, 1000, 2062, 2063, 2064, 2067, 2068, 2075, 2076, 2247, 2248, 2350, 2351,
 ];
 
-/// What is added to the EDC's bytes where the last byte but one of the user data has been `01`.
+/// What is added to the EDC's bytes if the last byte but one of the user data has been `01`.
 const EDC_DIFFERENCE: [u8; 4] = [0x00, 0x90, 0x01, 0x90];
 
 const FOUND: DefectReport = DefectReport {
@@ -83,9 +83,9 @@ fn carry_there_and_back(rt: &impl Abort, old: &Sector, offset: usize, len: usize
     assert_eq!(rt; came, RIGHT, "{len} bytes from {offset}");
 }
 
-/// A damaged byte in each region, with bytes written over it and beside it, few and many.
+/// A damaged byte in each region, with bytes written over it and next to it, few and many.
 #[test]
-fn user_data_over_and_beside_damage(rt: HostRuntime) {
+fn user_data_over_and_next_to_damage(rt: HostRuntime) {
     let sound = encode(ADDRESS, &mixed_user(7));
     for place in PLACES {
         for d in [0x01, 0xFF] {
@@ -118,7 +118,7 @@ fn carry_to_and_back(rt: &impl Abort, old: &Sector, bcd: [u8; 3]) {
 }
 
 #[test]
-fn addresses_over_and_beside_damage(rt: HostRuntime) {
+fn addresses_over_and_next_to_damage(rt: HostRuntime) {
     let sound = encode(ADDRESS, &mixed_user(7));
     for place in PLACES {
         for d in [0x01, 0xFF] {
@@ -130,7 +130,7 @@ fn addresses_over_and_beside_damage(rt: HostRuntime) {
     }
 }
 
-/// A sector of which each byte behind the header is damaged.
+/// A sector of which each byte after the header is damaged.
 fn noise() -> Sector {
     let mut s = encode(ADDRESS, &[0; 2048]);
     let mut byte: u8 = 11;

@@ -54,7 +54,7 @@ fn only_the_edc_of_a_damaged_sector(rt: HostRuntime) {
     expect_front(&rt, &s, &sound.bytes()[..2068], PARITY_ALONE, 2064);
 }
 
-/// Asserts that a sector into which so many bytes were written is the one that is encoded with this user data.
+/// Asserts that a sector into which a number of bytes were written is the one that is encoded with this user data.
 fn expect_user(rt: &impl Abort, s: &Sector, user: &[u8; 2048], offset: usize, len: usize) {
     let wrong = wrong_at(s, &encode(ADDRESS, user));
     assert_eq!(rt; wrong, None, "{len} bytes from {offset}");
@@ -104,7 +104,7 @@ fn ranges_of_encoded_sectors(rt: HostRuntime) {
     }
 }
 
-/// `len` new bytes behind the first old one, against the sector that is encoded with them.
+/// `len` new bytes after the first old one, against the sector that is encoded with them.
 fn change_against_encode(rt: &impl Abort, old: &[u8; 2048], new: &[u8; 2048], len: usize)
     requires { len < 2048 }
 {
@@ -129,7 +129,7 @@ fn lengths_near_the_one_that_takes_a_difference_sector(rt: HostRuntime) {
     change_against_encode(&rt, &old, &new, 2047);
 }
 
-/// The sector with so many bytes behind its header damaged.
+/// The sector with a number of bytes after its header damaged.
 fn with_damage(sound: &Sector, random: &mut Random, count: usize) -> Sector {
     let mut s = *sound;
     for _damage in 0..count {

@@ -73,7 +73,7 @@ fn sets_at_the_ends(rt: HostRuntime) -> Result<(), Fail> {
 #[test]
 fn old_bytes_that_stand_there(rt: HostRuntime) -> Result<(), Fail> {
     let (last, first) = (mixed_user(4)[2047], mixed_user(5)[0]);
-    let script = set_where(rt.alloc(), last, first)?;
+    let script = set_if(rt.alloc(), last, first)?;
     let row = Row {
         script: &script,
         ..AT_BOTH_ENDS
@@ -81,7 +81,7 @@ fn old_bytes_that_stand_there(rt: HostRuntime) -> Result<(), Fail> {
     take_each(&rt, rt.alloc(), &[row])
 }
 
-/// A sector whose 288 bytes behind the user data are all FF, and a sound one; the next one is not asked.
+/// A sector whose 288 bytes after the user data are all FF, and a sound one; the next one is not asked.
 const REBUILDS: &[Row] = &[
     Row {
         before: &[MixedWiped(4), MixedDamaged(5, 2351, 0x01)],

@@ -1,6 +1,6 @@
 use super::*;
 use cd_sector::{SECTOR_SIZE, USER_DATA, encode};
-use cd_test_images::{encoded_anew, encoded_at, mixed_at, with_added, with_bytes};
+use cd_test_images::{encoded_again, encoded_at, mixed_at, with_added, with_bytes};
 
 /// What is added to a byte that is damaged.
 const DAMAGE: u8 = 0x5A;
@@ -13,7 +13,7 @@ fn damaged_at(sector: &Sector, place: usize) -> Sector {
 /// The consistent sector of a block with these user bytes from an offset on, its others mixed.
 fn patched_at(block: u8, offset: u16, bytes: &[u8]) -> Sector {
     let place = USER_DATA + usize::from(offset);
-    encoded_anew(&with_bytes(&mixed_at(block), place, bytes))
+    encoded_again(&with_bytes(&mixed_at(block), place, bytes))
 }
 
 /// An accepted patch, which carries damage, makes one sector of the other.
@@ -43,7 +43,7 @@ const BESIDE: &[usize] = &[
     12, 14, 16, 515, 616, 2063, 2064, 2067, 2068, 2075, 2076, 2247, 2248, 2351,
 ];
 
-/// The same where the byte at each place in turn is damaged, before and after.
+/// The same if the byte at each place in turn is damaged, before and after.
 fn makes_damaged(
     rt: &impl Abort,
     alloc: Global,
@@ -58,9 +58,9 @@ fn makes_damaged(
     Ok(())
 }
 
-/// A damaged byte of each region stays as wrong as it was, beside the new bytes.
+/// A damaged byte of each region stays as wrong as it was, next to the new bytes.
 #[test]
-fn patches_beside_damage(rt: HostRuntime) -> Result<(), Fail> {
+fn patches_next_to_damage(rt: HostRuntime) -> Result<(), Fail> {
     let set = patched_at(4, 500, &[0xAB, 0xCD]);
     makes_damaged(&rt, rt.alloc(), SET, &set, BESIDE)?;
     let filled = patched_at(4, 500, &[0xE5; 100]);
@@ -71,14 +71,14 @@ const SET_ONE: &str = "cdpatch 2\nset 4 500 AB\n";
 
 const FILL_ALL: &str = "cdpatch 2\nfill 4 0 2048 E5\n";
 
-/// Where the damaged byte itself is written, its code words stay as wrong as they were.
+/// If the damaged byte itself is written, its code words stay as wrong as they were.
 #[test]
 fn patches_over_damage(rt: HostRuntime) -> Result<(), Fail> {
     let before = damaged_at(&mixed_at(4), 516);
     let set = patched_at(4, 500, &[0xAB ^ DAMAGE]);
     makes(&rt, rt.alloc(), SET_ONE, &before, &damaged_at(&set, 516))?;
     let filled = damaged_at(&with_bytes(&before, 16, &[0xE5; 2048]), 516);
-    let filled = encoded_anew(&filled);
+    let filled = encoded_again(&filled);
     makes(
         &rt,
         rt.alloc(),
@@ -91,7 +91,7 @@ fn patches_over_damage(rt: HostRuntime) -> Result<(), Fail> {
 const ADDRESS: &str = "cdpatch 2\naddress 4 12:34:56\n";
 
 #[test]
-fn addresses_beside_damage(rt: HostRuntime) -> Result<(), Fail> {
+fn addresses_in_damaged_sectors(rt: HostRuntime) -> Result<(), Fail> {
     let after = encode([0x12, 0x34, 0x56], &mixed_user(4));
     let places = &[16, 2063, 2064, 2068, 2076, 2351];
     makes_damaged(&rt, rt.alloc(), ADDRESS, &after, places)
@@ -119,7 +119,7 @@ fn rebuilds_carry_nothing(rt: HostRuntime) -> Result<(), Fail> {
 #[test]
 fn a_rebuild_of_damaged_user_data(rt: HostRuntime) -> Result<(), Fail> {
     let before = damaged_at(&mixed_at(4), 516);
-    makes(&rt, rt.alloc(), REBUILD, &before, &encoded_anew(&before))
+    makes(&rt, rt.alloc(), REBUILD, &before, &encoded_again(&before))
 }
 
 /// A patch is refused so although damage is carried, and the sector stays as it was.
@@ -160,7 +160,7 @@ fn a_missing_block_stays_missing(rt: HostRuntime) -> Result<(), Fail> {
     refuses(&rt, rt.alloc(), script, &before, Outcome::NoBlock(5))
 }
 
-/// A script that sets the first byte, where it is another one before.
+/// A script that sets the first byte, if it is another one before.
 fn set_first(alloc: Global, old: u8) -> Result<String, AllocError> {
     format!(in alloc; "cdpatch 2\nset 4 0 AB was {old:02X}\n")
 }
@@ -207,7 +207,7 @@ const FILL_AND_BACK: &str = "cdpatch 2\nfill 4 504 90 E5\nfill 4 504 90 33\n";
 
 const ADDRESS_AND_BACK: &str = "cdpatch 2\naddress 4 12:34:56\naddress 4 00:02:04\n";
 
-/// The same where the byte at each place in turn is damaged.
+/// The same if the byte at each place in turn is damaged.
 fn each_gives_back(
     rt: &impl Abort,
     alloc: Global,

@@ -55,20 +55,20 @@ fn blocks_of_many_bytes_that_are_missing(rt: HostRuntime) -> Result<(), Fail> {
         before: &[],
         outcome: Outcome::NoBlock(4),
     };
-    let behind_one = Refusal {
+    let after_one = Refusal {
         before: &[Mixed(4)],
         outcome: Outcome::NoBlock(5),
         ..set
     };
-    let behind_two = Refusal {
+    let after_two = Refusal {
         before: &[Mixed(4), Mixed(5)],
         outcome: Outcome::NoBlock(6),
         ..set
     };
-    refuse_each(&rt, rt.alloc(), &[set, behind_one, behind_two])
+    refuse_each(&rt, rt.alloc(), &[set, after_one, after_two])
 }
 
-/// The lowest block that refuses is told, and of one block its mode first.
+/// The lowest block that refuses is reported, and of one block its mode first.
 const UPWARDS: &[Refusal] = &[
     Refusal {
         before: &[DAMAGED_4],
@@ -155,7 +155,7 @@ fn differs(
     next: u8,
     outcome: Outcome,
 ) -> Result<(), Fail> {
-    let script = set_where(alloc, old, next)?;
+    let script = set_if(alloc, old, next)?;
     let row = Refusal {
         script: &script,
         before: &[Mixed(4), Mixed(5), Mixed(6)],
@@ -195,6 +195,6 @@ const DAMAGE_AND_OLD_BYTES: Refusal = Refusal {
 };
 
 #[test]
-fn damage_is_told_before_old_bytes(rt: HostRuntime) -> Result<(), Fail> {
+fn damage_is_reported_before_old_bytes(rt: HostRuntime) -> Result<(), Fail> {
     refuse_each(&rt, rt.alloc(), &[DAMAGE_AND_OLD_BYTES])
 }

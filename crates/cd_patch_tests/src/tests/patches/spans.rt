@@ -10,7 +10,7 @@ fn expect_met(rt: &impl Abort, alloc: Global, script: &str, met: usize) -> Resul
     Ok(())
 }
 
-/// Scripts of one patch, which meets so many blocks.
+/// Scripts of one patch, and the number of blocks that it meets.
 #[derive(Clone, Copy)]
 struct Meeting<'a> {
     met: usize,

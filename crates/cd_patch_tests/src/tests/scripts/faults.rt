@@ -34,7 +34,7 @@ fn head_faults(rt: HostRuntime) {
     expect_faults(&rt, rt.alloc(), HEADS);
 }
 
-/// Each line stands as line 2 behind the head line.
+/// Each line stands as line 2, after the head line.
 const LINES: &[Alike] = &[
     Alike {
         fault: Some(Verb(2)),
@@ -69,7 +69,7 @@ const LINES: &[Alike] = &[
 
 #[test]
 fn line_faults(rt: HostRuntime) -> Result<(), AllocError> {
-    expect_faults_behind(&rt, rt.alloc(), "cdpatch 1", LINES)
+    expect_faults_after(&rt, rt.alloc(), "cdpatch 1", LINES)
 }
 
 /// A fault, and its text.

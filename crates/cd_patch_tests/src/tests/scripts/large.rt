@@ -15,7 +15,7 @@ struct Many {
     fault: Option<ScriptFault>,
 }
 
-/// A head line, so many lines `set 0 0 41`, and what follows.
+/// A head line, a number of lines `set 0 0 41`, and what follows.
 fn patches_then(alloc: Global, count: u32, rest: &str) -> Result<String, AllocError> {
     repeated(alloc, "cdpatch 1\n", "set 0 0 41\n", count, rest)
 }
@@ -71,7 +71,7 @@ fn count_of_patches(rt: HostRuntime) -> Result<(), Fail> {
     Ok(())
 }
 
-/// A beginning, so many copies of a part behind it, and the fault of both.
+/// A beginning, a number of copies of a part after it, and the fault of both.
 #[derive(Clone, Copy)]
 struct Long {
     front: &'static str,
@@ -87,7 +87,7 @@ const DIGITS: Long = Long {
     fault: None,
 };
 
-/// Line 2 is `set 0 0` and so many digits `0`, or `set` and so many words `0`.
+/// Line 2 is `set 0 0` and a number of digits `0`, or `set` and a number of words `0`.
 const LONG: &[Long] = &[
     DIGITS,
     Long {
@@ -123,7 +123,7 @@ fn long_words(rt: HostRuntime) -> Result<(), AllocError> {
     Ok(())
 }
 
-/// So many new bytes, so many old ones, and the fault of both.
+/// A number of new bytes, one of old ones, and the fault of both.
 #[derive(Clone, Copy)]
 struct Lengths {
     new: u32,
@@ -154,7 +154,7 @@ const LENGTHS: &[Lengths] = &[
     },
 ];
 
-/// Line 2 is `set 0 0 NEW was OLD`, of so many bytes each.
+/// Line 2 is `set 0 0 NEW was OLD`, of these numbers of bytes.
 fn expect_lengths(rt: &impl Abort, alloc: Global, row: &Lengths) -> Result<(), AllocError> {
     let Lengths { new, old, fault } = *row;
     let front = repeated(alloc, "cdpatch 1\nset 0 0 ", "41", new, " was ")?;
@@ -172,7 +172,7 @@ fn long_old_bytes(rt: HostRuntime) -> Result<(), AllocError> {
     Ok(())
 }
 
-/// Line 2 fills so many bytes.
+/// Line 2 fills a number of bytes.
 fn expect_fill(
     rt: &impl Abort,
     alloc: Global,
@@ -180,7 +180,7 @@ fn expect_fill(
     fault: Option<ScriptFault>,
 ) -> Result<(), AllocError> {
     let line = format!(in alloc; "fill 0 0 {count} FF")?;
-    expect_fault_behind(rt, alloc, "cdpatch 1", &line, fault)
+    expect_fault_after(rt, alloc, "cdpatch 1", &line, fault)
 }
 
 #[test]
@@ -201,7 +201,7 @@ fn expect_longest(
     Ok(())
 }
 
-/// The longest texts: as many bytes 0, and as many line feeds.
+/// The longest texts: of bytes 0, and of line feeds.
 #[test]
 fn longest_texts(rt: HostRuntime) -> Result<(), AllocError> {
     expect_longest(&rt, rt.alloc(), 0, Head(1))?;

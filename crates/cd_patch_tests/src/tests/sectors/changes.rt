@@ -44,8 +44,8 @@ fn changes_that_leave_code_words(rt: HostRuntime) {
             let report = defect(&s);
             assert!(rt; !report.zeros && report.edc && report.p == 0 && report.q == 0);
             add(&mut s, &changes[1..]);
-            let alone = defect(&s);
-            assert!(rt; alone.edc && alone.p == 1 && alone.q == 1);
+            let single = defect(&s);
+            assert!(rt; single.edc && single.p == 1 && single.q == 1);
         }
     }
 }
@@ -64,7 +64,7 @@ fn a_byte_of_user_data(rt: HostRuntime) {
         assert!(rt; place == 2062 || place >= 2064 || !changed, "byte {place}");
         assert!(rt; place != 2062 || changed);
     }
-    // one byte 01 and another behind it: the word of `01 00` is 90019000, stored low byte first
+    // one byte 01 and another after it: the word of `01 00` is 90019000, stored low byte first
     let amounts = [(2064, 0x00), (2065, 0x90), (2066, 0x01), (2067, 0x90)];
     for (place, d) in amounts {
         assert_eq!(rt; new.byte(place) ^ old.byte(place), d, "byte {place}");

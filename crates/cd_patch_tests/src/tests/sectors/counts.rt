@@ -88,9 +88,9 @@ fn a_sector_with_many_defects(rt: HostRuntime) {
     }
 }
 
-/// A sector of zeros with one other byte, at each place: its report, and the parity that is filled in behind it.
+/// A sector of zeros with one other byte, at each place: its report, and the parity that is filled in after it.
 #[test]
-fn each_byte_alone(rt: HostRuntime) {
+fn each_single_byte(rt: HostRuntime) {
     for place in 12..2352usize {
         for byte in [0x01, 0x80, 0xFF] {
             let mut s = Sector::default();

@@ -1,4 +1,4 @@
-//! Whether two sectors have the same defect, with each of its members alone different.
+//! Whether two sectors have the same defect, with only one of its members different, each in turn.
 
 use super::{noise, zeros_at};
 use cd_sector::{DefectReport, Sector, defect, fill_parity, same_defect};
@@ -57,7 +57,7 @@ fn assert_damaged(rt: &impl Abort, s: &Sector, wanted: DefectReport) {
 }
 
 #[test]
-fn each_member_alone(rt: HostRuntime) {
+fn each_single_member(rt: HostRuntime) {
     let sound = DefectReport {
         zeros: false,
         edc: false,

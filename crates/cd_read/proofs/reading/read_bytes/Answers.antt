@@ -19,9 +19,9 @@ returns-then-length-lt-SECTOR_SIZE g c =
           omega (
             arith,
             came.given.counted,
-            length-take-le c.in_ok-length.length c.fill.new.into came.bytes.0,
+            length-take-le c.in_ok-length.length c.fill_buffer.new.into came.bytes.0,
           );
-      size = length-take-le c.in_ok-length.length c.fill.new.into came.bytes.0;
+      size = length-take-le c.in_ok-length.length c.fill_buffer.new.into came.bytes.0;
       kept = came.count;
       at_end = came.bytes.2 (omega arith);
       ended = came.ended.0 (omega arith);
@@ -31,17 +31,17 @@ returns-then-length-lt-SECTOR_SIZE g c =
 pub returns : goal.returns
 returns g c =
     let came = c.in_ok-length.ensures in
-    let whole : take c.in_ok-length.length c.fill.new.into ≡ c.fill.new.into =
-    take_all c.in_ok-length.length c.fill.new.into (omega arith) in
+    let whole : take c.in_ok-length.length c.fill_buffer.new.into ≡ c.fill_buffer.new.into =
+    take_all c.in_ok-length.length c.fill_buffer.new.into (omega arith) in
     record {
       consumes =
           subst (λ bytes. Consumes (g.I.Source.seen c.args.image.now).rest
-          (g.I.Source.seen c.fill.new.image).rest bytes) whole came.bytes.1;
+          (g.I.Source.seen c.fill_buffer.new.image).rest bytes) whole came.bytes.1;
       counted =
           omega (
             arith,
             came.given.counted,
-            length-take-le c.in_ok-length.length c.fill.new.into came.bytes.0,
+            length-take-le c.in_ok-length.length c.fill_buffer.new.into came.bytes.0,
           );
       kept = came.count;
       unended = came.ended.1 (omega arith) (omega arith);

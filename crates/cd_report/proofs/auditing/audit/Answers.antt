@@ -4,7 +4,7 @@ use Rattle.cd_report.specs.Report.{Reports}
 use Rattle.cd_report.specs.Scanning.{audit_remaining, spec_of}
 use Rattle.cd_report.proofs.AuditLemmas.{Auditing-due, Auditing-tally, Auditing-text, none_yet}
 use Rattle.cd_report.proofs.ReportLemmas.{Reports-by_end, Reports-by_length, Reports-ended, Reports-ends_well}
-use Rattle.cd_report.proofs.ReportLemmas.{Reports-read_failed, Reports-text, Reports-too_long_told, Reports-write_failed}
+use Rattle.cd_report.proofs.ReportLemmas.{Reports-read_failed, Reports-text, Reports-answers_too_long, Reports-write_failed}
 use Rattle.cd_report.proofs.ScanLemmas.{Reports-same}
 use Rattle.cd_report.proofs.auditing.audit.Given.{Over}
 use Rattle.cd_report.proofs.auditing.audit.Goals as goal
@@ -38,7 +38,7 @@ pub returns-clause-write_failed : goal.returns-clause-write_failed
 returns-clause-write_failed g c = Reports-write_failed _ (done g c)
 
 pub returns-clause-too_long : goal.returns-clause-too_long
-returns-clause-too_long g c = Reports-too_long_told _ (done g c)
+returns-clause-too_long g c = Reports-answers_too_long _ (done g c)
 
 pub returns-clause-by_length : goal.returns-clause-by_length
 returns-clause-by_length g c = Reports-by_length _ (done g c)

@@ -3,7 +3,7 @@ use Rattle.std.specs.Prelude.{option_map}
 use Rattle.std.specs.Int.{from_bool}
 use Rattle.std.specs.Option.{option_to_list}
 use Rattle.std.proofs.lemmas.Result.{err_from_is_err_and}
-use Rattle.cd_script.specs.Spelled.{as_patch}
+use Rattle.cd_script.specs.HexPatch.{as_patch}
 use Rattle.cd_script.proofs.LineLemmas.{counted, counted-most, fault_here, fault_later, fault_none}
 use Rattle.cd_script.proofs.script.check_lines.Goals as goal
 

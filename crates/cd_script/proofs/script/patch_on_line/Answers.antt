@@ -1,7 +1,7 @@
 use Rattle.std.proofs.Common.{sym, ◌∙◌}
 use Rattle.std.specs.Prelude.{option_map}
 use Rattle.std.proofs.lemmas.Result.{err_from_is_err_and}
-use Rattle.cd_script.specs.Spelled.{as_patch}
+use Rattle.cd_script.specs.HexPatch.{as_patch}
 use Rattle.cd_script.proofs.LineLemmas.{line_at-is, Reads-same}
 use Rattle.cd_script.proofs.script.patch_on_line.Goals as goal
 

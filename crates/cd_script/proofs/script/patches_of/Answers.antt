@@ -1,6 +1,6 @@
 use Rattle.std.proofs.Common.{List, ℕ, length, ap, arith}
 use Rattle.std.specs.Prelude.{option_map}
-use Rattle.cd_script.specs.Spelled.{as_patch}
+use Rattle.cd_script.specs.HexPatch.{as_patch}
 use Rattle.cd_script.proofs.LineLemmas.{goes_on, next_sound, all_read, reads_ok}
 use Rattle.cd_script.proofs.script.patches_of.Goals as goal
 
@@ -16,8 +16,8 @@ pub loop-text-preserved : goal.loop-text-preserved
 loop-text-preserved c =
     let read = rw c.unwrap-found.ensures at c.patch_on_line.ensures in (
       goes_on c.args.head.version c.loop-text.patches.items _ _ _ _ _ _ c.loop-text.lines
-          c.next.new.self _ _ c.len.ensures c.in_ok-put_behind.ensures.count
-          c.in_ok-put_behind.ensures.ok c.in-Some.ensures.steps read c.loop-text.invariant.0,
+          c.next.new.self _ _ c.len.ensures c.in_ok-push_patch.ensures.count
+          c.in_ok-push_patch.ensures.ok c.in-Some.ensures.steps read c.loop-text.invariant.0,
       omega (arith, ap (λ (ls : List (List ℕ)). length ls) c.in-Some.ensures.steps),
     )
 

@@ -10,12 +10,12 @@ returns-then-is_full c =
     words-cut c.loop-end.rest.now c.split_at.result.0.now c.split_at.result.1.now _ c.in-Some.end
     c.in-Some.ensures c.split_at.ensures.front c.split_at.ensures.back refl in
     let so_far =
-    part_taken c.loop-end.words c.put.new.self c.loop-end.rest.now c.split_at.result.0.now _ _
-    c.put.ensures cut c.loop-end.invariant.0 in
-    words_full MOST_WORDS c.put.new.self _ _ so_far
+    part_taken c.loop-end.words c.push.new.self c.loop-end.rest.now c.split_at.result.0.now _ _
+    c.push.ensures cut c.loop-end.invariant.0 in
+    words_full MOST_WORDS c.push.new.self _ _ so_far
     (omega (
       arith,
-      part-most c.loop-end.words c.put.new.self c.split_at.result.0.now c.put.ensures,
+      part-most c.loop-end.words c.push.new.self c.split_at.result.0.now c.push.ensures,
       c.loop-end.invariant.1,
       c.is_full.ensures.0 c.if-is_full.true,
     ))
@@ -26,10 +26,10 @@ loop-end-preserved c =
     words-cut c.loop-end.rest.now c.split_at.result.0.now c.split_at.result.1.now _ c.in-Some.end
     c.in-Some.ensures c.split_at.ensures.front c.split_at.ensures.back refl in
     let so_far =
-    part_taken c.loop-end.words c.put.new.self c.loop-end.rest.now c.split_at.result.0.now _ _
-    c.put.ensures cut c.loop-end.invariant.0 in
-    let room : length c.put.new.self < MOST_WORDS =
-    elim (cases_lt (length c.put.new.self) MOST_WORDS) [
+    part_taken c.loop-end.words c.push.new.self c.loop-end.rest.now c.split_at.result.0.now _ _
+    c.push.ensures cut c.loop-end.invariant.0 in
+    let room : length c.push.new.self < MOST_WORDS =
+    elim (cases_lt (length c.push.new.self) MOST_WORDS) [
       | inl few ↦ few
       | inr full ↦
           let no : true ≡ false = sym (c.is_full.ensures.1 full) ∙ c.if-is_full.false in
@@ -40,11 +40,11 @@ loop-end-preserved c =
 pub returns : goal.returns
 returns c =
     let are =
-    c.put-2.ensures ∙ ap (λ (l : List (List ℕ)). c.loop-end.words ++ l)
+    c.push-2.ensures ∙ ap (λ (l : List (List ℕ)). c.loop-end.words ++ l)
     (sym (words-last c.loop-end.rest.now c.in_default.ensures)) ∙ c.loop-end.invariant.0 in
-    words_all MOST_WORDS c.put-2.new.self _ are
+    words_all MOST_WORDS c.push-2.new.self _ are
     (omega (
       arith,
-      part-most c.loop-end.words c.put-2.new.self c.loop-end.rest.now c.put-2.ensures,
+      part-most c.loop-end.words c.push-2.new.self c.loop-end.rest.now c.push-2.ensures,
       c.loop-end.invariant.1,
     ))

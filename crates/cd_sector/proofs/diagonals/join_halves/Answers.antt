@@ -1,7 +1,7 @@
 use Rattle.std.proofs.Common.{◌≡◌, ℕ, ◌+◌, ◌<◌, ◌≤◌, ◌⊎◌, inl, List, get_or, ap, ◌∙◌, arith}
 use Rattle.cd_sector.proofs.diagonals.join_halves.Goals as goal
 
--- the first 20 of 32 lanes stay where others are put behind them
+-- the first 20 of 32 lanes stay if others are put after them
 stays : (first both lanes : List ℕ) → ((i : ℕ) → i < 32 → get_or first (0 + i) 0 ≡ get_or lanes i 0)
     → ((k : ℕ) → (k < 20) ⊎ (20 + 32 ≤ k) → get_or both k 0 ≡ get_or first k 0) → (i : ℕ) → i < 20
     → get_or both i 0 ≡ get_or lanes i 0

@@ -4,12 +4,12 @@ use Rattle.cd_sector.proofs.diagonals.low_input_sums.Goals as goal
 
 pub returns : goal.returns
 returns c =
-    let last = c.at_the_end.result in
-    let running : c.in_the_middle-2.result.top ≡ 15 =
-    c.in_the_middle-2.ensures.top ∙ c.in_the_middle.ensures.top
-    ∙ c.at_the_beginning-2.ensures.top ∙ c.at_the_beginning.ensures.top ∙ c.low.ensures.top in
-    let top : last.top ≡ 15 = c.at_the_end.ensures.top ∙ running in
+    let last = c.epilogue.result in
+    let running : c.steady-2.result.top ≡ 15 =
+    c.steady-2.ensures.top ∙ c.steady.ensures.top
+    ∙ c.prologue-2.ensures.top ∙ c.prologue.ensures.top ∙ c.low.ensures.top in
+    let top : last.top ≡ 15 = c.epilogue.ensures.top ∙ running in
     SumsOf-rising c.args.bytes.now last.top 52 20 (λ i. i) last.sums.plain last.sums.weighted
     c.rising.result.plain c.rising.result.weighted
-    (lit≤ tt) (λ i h. (omega arith, (omega arith, omega arith))) c.at_the_end.ensures.taken
+    (lit≤ tt) (λ i h. (omega arith, (omega arith, omega arith))) c.epilogue.ensures.taken
     c.rising.ensures.plain c.rising.ensures.weighted

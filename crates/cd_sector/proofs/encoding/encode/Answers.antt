@@ -1,5 +1,5 @@
 use Rattle.cd_sector.specs.Laws.{IsEncoded}
-use Rattle.cd_sector.proofs.ContentLemmas.{encoded-alone}
+use Rattle.cd_sector.proofs.ContentLemmas.{encoded-unique}
 use Rattle.cd_sector.proofs.encoding.encode.Goals as goal
 
 pub returns : goal.returns
@@ -10,5 +10,5 @@ returns c =
       consistent = made.is_consistent;
       header = made.has_header;
       user = made.has_user;
-      alone = λ s. encoded-alone c.args.header c.args.user.now s c.from_bytes.result made;
+      unique = λ s. encoded-unique c.args.header c.args.user.now s c.from_bytes.result made;
     }

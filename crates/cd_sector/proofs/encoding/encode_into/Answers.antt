@@ -1,6 +1,6 @@
 use Rattle.std.proofs.Common.{rules}
 use Rattle.cd_sector.specs.Laws.{IsEncoded}
-use Rattle.cd_sector.proofs.ContentLemmas.{encoded-alone}
+use Rattle.cd_sector.proofs.ContentLemmas.{encoded-unique}
 use Rattle.cd_sector.proofs.encoding.encode_into.Goals as goal
 
 pub returns : goal.returns
@@ -11,5 +11,5 @@ returns c =
       consistent = made.is_consistent;
       header = made.has_header;
       user = made.has_user;
-      alone = λ t. encoded-alone c.args.header c.args.user.now t c.with_bytes_mut.new.self made;
+      unique = λ t. encoded-unique c.args.header c.args.user.now t c.with_bytes_mut.new.self made;
     }

@@ -24,6 +24,6 @@ returns c =
       consistent = made.0;
       header = made.1.0;
       user = made.1.1;
-      alone = λ t sound header user. sector_unique t new sound made.0 (header ∙ sym made.1.0)
+      unique = λ t sound header user. sector_unique t new sound made.0 (header ∙ sym made.1.0)
           (user ∙ sym made.1.1);
     }

@@ -9,16 +9,16 @@ none_without_sync : (s bytes : List ℕ) (begins : Bool) → bytes ≡ s
     → begins ≡ starts_with nat_eq bytes sync_field → begins ≡ false → NoSync ≡ kind_of s
 unfolding kind_of
 none_without_sync s bytes begins same e f =
-    let told : starts_with nat_eq s sync_field ≡ false = rw same at (sym e ∙ f) in
-    rw told
+    let known : starts_with nat_eq s sync_field ≡ false = rw same at (sym e ∙ f) in
+    rw known
 
 by_mode : (s bytes : List ℕ) (begins : Bool) (mode : ℕ) → bytes ≡ s
     → begins ≡ starts_with nat_eq bytes sync_field → begins ≡ true
     → mode ≡ slice_index s 15 → kind_of_mode mode ≡ kind_of s
 unfolding kind_of
 by_mode s bytes begins mode same e f at =
-    let told : starts_with nat_eq s sync_field ≡ true = rw same at (sym e ∙ f) in
-    rw (told, at)
+    let known : starts_with nat_eq s sync_field ≡ true = rw same at (sym e ∙ f) in
+    rw (known, at)
 
 other_past_2 : (mode : ℕ) → 2 < mode → Other ≡ kind_of_mode mode
 other_past_2 mode h = search rules

@@ -12,5 +12,5 @@ returns c =
           (c.pairs.ensures i h);
       before = λ k h. second.outside k (inl (omega arith)) ∙ first.outside k (inl h);
       between = λ k h g. second.outside k (inl g) ∙ first.outside k (inr h);
-      behind = λ k h. second.outside k (inr h) ∙ first.outside k (inr (omega arith));
+      after = λ k h. second.outside k (inr h) ∙ first.outside k (inr (omega arith));
     }

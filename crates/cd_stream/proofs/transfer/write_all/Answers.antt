@@ -1,7 +1,7 @@
 use Rattle.std.proofs.Common.{◌≡◌, ◌-◌, ◌≤◌, length, take, arith, subst, ◌∙◌}
 use Rattle.cd_stream.specs.Transfer.{Takes}
 use Rattle.std.proofs.lemmas.List.{take_all}
-use Rattle.cd_stream.proofs.TransferLemmas.{Appends-sent, Takes-front, length-behind}
+use Rattle.cd_stream.proofs.TransferLemmas.{Appends-sent, Takes-front, length-after}
 use Rattle.cd_stream.proofs.transfer.write_all.Goals as goal
 
 pub loop-sent-preserved : goal.loop-sent-preserved
@@ -9,7 +9,7 @@ loop-sent-preserved g c =
     let before = c.loop-sent.invariant in
     let went = c.in_ok-sent.ensures.bytes in
     let few : c.in_ok-sent.field-0 ≤ length c.args.bytes.now - c.loop-sent.sent =
-    omega (arith, went.1, length-behind c.loop-sent.sent c.args.bytes.now) in
+    omega (arith, went.1, length-after c.loop-sent.sent c.args.bytes.now) in
     record {
       within = omega (arith, few, c.loop-sent-test.true);
       appended = Appends-sent _ _ _ c.loop-sent.sent c.in_ok-sent.field-0 c.args.bytes.now few

@@ -7,7 +7,7 @@ use Rattle.cd_patch.specs.Effect.{Effect}
 use Rattle.cd_patch.specs.Outcome.{is_applied}
 use Rattle.cd_patch.proofs.FrameLemmas.{Effect-length}
 use Rattle.cd_image.specs.Applying.{streams}
-use Rattle.cd_image.specs.Passing.{Going, end_to_come}
+use Rattle.cd_image.specs.Passing.{PassInvariant, end_to_come}
 use Rattle.cd_image.proofs.ApplyLemmas.{Applies-log}
 use Rattle.cd_image.proofs.PassingLemmas.{Going-take, reaches}
 use Rattle.cd_image.proofs.pass.Pass.apply_front.Goals as goal
@@ -49,11 +49,11 @@ returns g c =
     c.requires.at c.apply_first-outcome.ensures.effect in
     record {
       goes = λ taken left base start image out going.
-          subst (λ t. Going c.args.carry (taken ++ p ∷ []) left base start
+          subst (λ t. PassInvariant c.args.carry (taken ++ p ∷ []) left base start
           (streams image out (g.L.Sink.seen c.send_outcome.new.log))
           c.apply_first-outcome.new.self.sectors pass.block pass.sectors
           (pass.applied + c.from.result) t) (sym c.apply_first-outcome.ensures.tail)
-          (subst (λ (n : ℕ). Going c.args.carry (taken ++ p ∷ []) left base start
+          (subst (λ (n : ℕ). PassInvariant c.args.carry (taken ++ p ∷ []) left base start
           (streams image out (g.L.Sink.seen c.send_outcome.new.log))
           c.apply_first-outcome.new.self.sectors pass.block pass.sectors (pass.applied + n)
           pass.window.tail)

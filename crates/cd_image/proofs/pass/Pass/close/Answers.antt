@@ -1,4 +1,4 @@
-use Rattle.cd_image.proofs.CloseLemmas.{Closes-behind, Closes-counts, Closes-flush, Closes-log_flush, Closes-ok, Closes-tail, closing}
+use Rattle.cd_image.proofs.CloseLemmas.{Closes-after, Closes-counts, Closes-flush, Closes-log_flush, Closes-ok, Closes-tail, closing}
 use Rattle.cd_image.proofs.KnownLemmas.{Applies-fault}
 use Rattle.cd_image.proofs.pass.Pass.close.Goals as goal
 
@@ -11,7 +11,7 @@ pub returns-in_err-send_missing : goal.returns-in_err-send_missing
 returns-in_err-send_missing g c = λ carry base start image going.
     let e = closing c.args.patches.now c.requires.ended c.tail-tail.ensures.bytes going in
     Applies-fault c.from_residual-in_err-send_missing.ensures.1
-    (Closes-behind e c.in_ok-write_all.ensures c.in_err-send_missing.ensures)
+    (Closes-after e c.in_ok-write_all.ensures c.in_err-send_missing.ensures)
 
 pub returns-in_err-send_counts : goal.returns-in_err-send_counts
 returns-in_err-send_counts g c = λ carry base start image going.

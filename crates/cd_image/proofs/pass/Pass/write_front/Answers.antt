@@ -1,7 +1,7 @@
 use Rattle.std.proofs.Common.{◌+◌, sym, subst}
 use Rattle.std.proofs.lemmas.Result.{err_from_is_err_and}
 use Rattle.cd_image.specs.Applying.{streams}
-use Rattle.cd_image.specs.Passing.{Going}
+use Rattle.cd_image.specs.Passing.{PassInvariant}
 use Rattle.cd_image.proofs.AdvanceLemmas.{Steps-sent, Steps-unsent, first_is}
 use Rattle.cd_image.proofs.pass.Pass.write_front.Goals as goal
 
@@ -26,9 +26,9 @@ pub returns-clause-goes : goal.returns-clause-goes
 returns-clause-goes g c = λ carry taken left base start image log ahead going.
     let pass = c.args.self.now in
     let streams' = streams image (g.O.Sink.seen c.write_all.new.out) log in
-    subst (λ t. Going carry taken left base start streams' c.remove_first.new.self.sectors
+    subst (λ t. PassInvariant carry taken left base start streams' c.remove_first.new.self.sectors
     (pass.block + 1) pass.sectors pass.applied t) (sym c.remove_first.ensures.tail)
-    (subst (λ items. Going carry taken left base start streams' items (pass.block + 1) pass.sectors
+    (subst (λ items. PassInvariant carry taken left base start streams' items (pass.block + 1) pass.sectors
     pass.applied pass.window.tail) (sym c.remove_first.ensures.sectors)
     (Steps-sent carry taken left base start (streams image (g.O.Sink.seen c.args.out.now) log)
     pass.block pass.sectors pass.applied pass.window.tail ahead (g.O.Sink.seen c.write_all.new.out)

@@ -1,0 +1,446 @@
+-- If the definition gives no kind of error for the arguments, the matches name a command, and have
+-- its texts and a base in its range.
+use Rattle.std.proofs.Common.{inl, inr, ap, length, ℕ, slice_index_or, ◌≡◌, ◌&&◌, ◌||◌, Bool, true, false, cond, List, [], ◌∷◌, ◌++◌, Option, Some, None, arith, codes, refl}
+use Rattle.std.specs.Prelude.{IsSome, find, if◌then◌else◌, is_some, not, option_and_then, option_map, pos, slice_get, slice_index}
+use Rattle.std.specs.List.{list_any}
+use Rattle.std.specs.Option.{option_map_or}
+use Rattle.std.specs.Str.{bytes_eq}
+use Rattle.std.proofs.lemmas.Slice.Eq.{bytes_eq-Decides}
+use Rattle.clap.specs.Words.{App, IsSignedIn, Row, Rule, Shape, Text, built, fault_of, first_of, subcommand_of, without_minus}
+use Rattle.clap.specs.Facts.{explicit_source}
+use Rattle.clap.specs.Faults.{entered_fault, level_fault, use_fault, values_fault, action_fault, repeat_fault, check_fault}
+use Rattle.clap.specs.Kinds.{check_kinds, or_else, range_kinds, values_kinds}
+use Rattle.clap.specs.Simple.{built_leaf, filled, help_rule, with_index, entered, inherited, label_of, marked_built, names_of, rows_at, with_leaf_noted}
+use Rattle.clap.specs.Takes.{is_given}
+use Rattle.clap.specs.ValueTests.{accepts}
+use Rattle.clap.specs.Walk.{answers_to, at_row, default_rows, finished, has_row, more_values, nothing_held, reading_by, row_text, settled, stop_after, walk, with_default}
+use Rattle.clap.specs.declared.builder.value_parser.Reading.{Reading}
+use Rattle.clap.specs.declared.builder.value_parser.Reading.TheVariants.{WithoutMinus}
+use Rattle.clap.specs.declared.builder.value_parser.ValueParser.TheVariants as vp
+use Rattle.clap.specs.declared.builder.action.ArgAction.TheVariants.{Set}
+use Rattle.clap.specs.declared.error.kind.ErrorKind.TheVariants.{DisplayHelp, ValueValidation}
+use Rattle.clap.specs.declared.parser.matches.ValueSource.{ValueSource}
+use Rattle.clap.specs.declared.parser.matches.ValueSource.TheVariants.{DefaultValue}
+use Rattle.clap.proofs.ValueTestLemmas.{accepts-Accepts}
+use Rattle.cd_args.specs.CommandLine.{HasBase, IsComplete, apply_shape, base_rule, carry_rule, check_shape, command_line, image_shape, max_base, program_shape, text_rule}
+use Rattle.cd_args.proofs.general.Rows.{AllStart, Each, Each-find, IsUsedBy, Starts, Uses, level_parts, level_starts, neither}
+
+-- ---- the row of an argument with a default
+
+has_row-values : (id : Text) (s : ValueSource) (values : List Text) (missing rows : List Row)
+    → has_row id missing ≡ true
+    → has_row id (at_row id (more_values s values) missing rows) ≡ true
+has_row-values id s values missing [] there = there
+has_row-values id s values missing (r ∷ rs) there =
+    go (bytes_eq r.id id) refl (has_row-values id s values missing rs there)
+  where
+    go : (b : Bool) → bytes_eq r.id id ≡ b
+        → has_row id (at_row id (more_values s values) missing rs) ≡ true
+        → has_row id (cond b (more_values s values r ++ rs)
+        (r ∷ at_row id (more_values s values) missing rs)) ≡ true
+    go true e rest = rw e refl
+    go false e rest = rw e rest
+
+has_row-stays : (wanted id : Text) (s : ValueSource) (values : List Text) (missing rows : List Row)
+    → has_row wanted rows ≡ true
+    → has_row wanted (at_row id (more_values s values) missing rows) ≡ true
+has_row-stays wanted id s values missing [] there = cc
+has_row-stays wanted id s values missing (r ∷ rs) there =
+    go (bytes_eq r.id id) (bytes_eq r.id wanted) refl (has_row-stays wanted id s values missing rs)
+  where
+    go : (b t : Bool) → bytes_eq r.id wanted ≡ t
+        → (has_row wanted rs ≡ true
+        → has_row wanted (at_row id (more_values s values) missing rs) ≡ true)
+        → has_row wanted
+        (cond b (more_values s values r ++ rs) (r ∷ at_row id (more_values s values) missing rs))
+        ≡ true
+    go true t e rest = there
+    go false true e rest = rw e refl
+    go false false e rest = rw e (rest (rw e at there))
+
+default_stays : (wanted : Text) (a : Rule) (rows : List Row) → has_row wanted rows ≡ true
+    → has_row wanted (with_default rows a) ≡ true
+default_stays wanted a rows there = go (has_row a.id rows) a.defaults
+  where
+    go : (b : Bool) (vs : List Text)
+        → has_row wanted (cond b rows (default_rows a.id (reading_by a) vs rows)) ≡ true
+    go true vs = there
+    go false [] = there
+    go false (v ∷ vs) = has_row-stays wanted a.id DefaultValue (v ∷ vs) _ rows there
+
+default_there : (a : Rule) (v : Text) (vs : List Text) (rows : List Row) → a.defaults ≡ v ∷ vs
+    → bytes_eq a.id a.id ≡ true → has_row a.id (with_default rows a) ≡ true
+default_there a v vs rows e same = go (has_row a.id rows) refl
+  where
+    go : (b : Bool) → has_row a.id rows ≡ b
+        → has_row a.id (cond b rows (default_rows a.id (reading_by a) a.defaults rows)) ≡ true
+    go true there = there
+    go false none = rw e (has_row-values a.id DefaultValue (v ∷ vs) _ rows (rw same refl))
+
+-- a row that is there is found
+pub record Found (id : Text) (rows : List Row) : Type 0 where
+  pub row : Row
+  pub is : find (λ r. bytes_eq r.id id) rows ≡ Some row
+  pub same : bytes_eq row.id id ≡ true
+
+has_row-found : (id : Text) (rows : List Row) → has_row id rows ≡ true → Found id rows
+has_row-found id [] there = cc
+has_row-found id (r ∷ rs) there = go (bytes_eq r.id id) refl (has_row-found id rs)
+  where
+    go : (b : Bool) → bytes_eq r.id id ≡ b → (has_row id rs ≡ true → Found id rs)
+        → Found id (r ∷ rs)
+    go true e rest = record { row = r; is = rw e refl; same = e }
+    go false e rest =
+        let f = rest (rw e at there) in
+        record { row = f.row; is = rw e f.is; same = f.same }
+
+-- ---- what the values of an argument are
+
+-- a text of `--base` is a number in the range, and is read without a minus
+abbrev IsBaseText : Text → Reading → Text → Type 0
+IsBaseText id how text =
+    id ≡ codes "base" → (how ≡ WithoutMinus) × IsSignedIn (pos 0) (pos max_base) text
+
+first_given : (id : Text) (rows : List Row) → AllStart IsBaseText rows → is_given id rows ≡ true
+    → IsSome (first_of id rows)
+first_given id rows starts given =
+    go (find (λ r. bytes_eq r.id id) rows)
+    (Each-find (Starts IsBaseText) (λ r. bytes_eq r.id id) rows starts) given
+  where
+    go : (o : Option Row) → ((r : Row) → o ≡ Some r → Starts IsBaseText r)
+        → option_map_or (λ r. explicit_source r.source) o false ≡ true
+        → is_some (option_and_then (λ (r : Row). slice_get r.values 0) o) ≡ true
+    go None known e = cc
+    go (Some r) known e = rw (known r refl).is_first refl
+
+base_read : (rows : List Row) → AllStart IsBaseText rows → has_row (codes "base") rows ≡ true
+    → HasBase rows
+base_read rows starts there =
+    let f = has_row-found (codes "base") rows there in
+    let s =
+    Each-find (Starts IsBaseText) (λ r. bytes_eq r.id (codes "base")) rows starts f.row f.is in
+    let q = s.holds ((bytes_eq-Decides f.row.id (codes "base")).0 f.same) in
+    let text : row_text f.row ≡ Some (without_minus s.first) = rw (s.is_first, q.0) refl in
+    record { text = s.first; read = rw f.is text; accepted = q.1 }
+
+-- ---- the commands
+
+-- a command as `build` makes it
+abbrev leaf : Shape → Shape
+leaf s = built_leaf (inherited (with_leaf_noted (marked_built program_shape)) s)
+
+accepted_value : (v : Text) (vs : List Text)
+    → values_kinds false (vp.Signed (pos 0) (pos max_base)) (v ∷ vs) ≡ []
+    → IsSignedIn (pos 0) (pos max_base) v
+accepted_value v vs e = go (accepts false (vp.Signed (pos 0) (pos max_base)) v) refl e
+  where
+    go : (b : Bool) → accepts false (vp.Signed (pos 0) (pos max_base)) v ≡ b
+        → or_else (if b then [] else ValueValidation ∷ [])
+        (values_kinds false (vp.Signed (pos 0) (pos max_base)) vs) ≡ []
+        → IsSignedIn (pos 0) (pos max_base) v
+    go true is none = accepts-Accepts false (vp.Signed (pos 0) (pos max_base)) v is
+    go false is none = cc
+
+abbrev text_built : ℕ → Text → Rule
+text_built index id = with_index index (filled (text_rule id))
+
+abbrev base_built : Rule
+base_built = filled base_rule
+
+abbrev carry_built : Rule
+carry_built = filled carry_rule
+
+abbrev help_built : Rule
+help_built = filled help_rule
+
+text_use : (index : ℕ) (id : Text) → (id ≡ codes "base" → ⊥)
+    → (again : Bool) (values : List Text) (rows : List Row)
+    → use_fault again (text_built index id) values rows ≡ []
+    → Uses IsBaseText (text_built index id) values
+text_use index id other again [] rows e = cc
+text_use index id other again (v ∷ vs) rows e = record {
+  replacing = refl;
+  first = v;
+  is_first = refl;
+  holds = λ is. absurd (other is);
+}
+
+-- texts that begin with other bytes
+differ : (a b : ℕ) (s t : Text) → (a ≡ b → ⊥) → a ∷ s ≡ b ∷ t → ⊥
+differ a b s t other e = other (ap (λ (l : List ℕ). slice_index l 0) e)
+
+-- a flag's text is none of `--base`
+not_base : codes "carry" ≡ codes "base" → ⊥
+not_base is = differ 99 98 _ _ (λ e. omega arith) is
+
+carry_use : (again : Bool) (values : List Text) (rows : List Row)
+    → use_fault again carry_built values rows ≡ [] → Uses IsBaseText carry_built values
+carry_use again [] rows e = record {
+  replacing = refl;
+  first = codes "true";
+  is_first = refl;
+  holds = λ is. absurd (not_base is);
+}
+carry_use again (v ∷ vs) rows e = record {
+  replacing = refl;
+  first = v;
+  is_first = refl;
+  holds = λ is. absurd (not_base is);
+}
+
+base_use : (again : Bool) (values : List Text) (rows : List Row)
+    → use_fault again base_built values rows ≡ [] → Uses IsBaseText base_built values
+base_use again [] rows e = cc
+base_use again (v ∷ vs) rows e =
+    let range =
+    neither (range_kinds 1 1 (length (v ∷ vs)))
+    (action_fault Set again base_built (v ∷ vs) rows) e in
+    let values =
+    neither (repeat_fault again (codes "base") rows)
+    (values_fault base_built (v ∷ vs)) range.1 in
+    record {
+      replacing = refl;
+      first = v;
+      is_first = refl;
+      holds = λ is. (refl, accepted_value v vs values.1);
+    }
+
+help_use : (again : Bool) (values : List Text) (rows : List Row)
+    → use_fault again help_built values rows ≡ [] → Uses IsBaseText help_built values
+help_use again values rows e =
+    let range = neither (range_kinds 0 0 (length values)) (DisplayHelp ∷ []) e in
+    let none = range.1 in cc
+
+base_default : (v : Text) (vs : List Text) → base_built.defaults ≡ v ∷ vs
+    → IsBaseText (codes "base") WithoutMinus v
+base_default v vs e is =
+    let same : codes "0" ≡ v = ap (λ (ts : List Text). slice_index_or ts 0 v) e in
+    (refl, rw (← same) (accepts-Accepts false (vp.Signed (pos 0) (pos max_base)) (codes "0") refl))
+
+text_used : (index : ℕ) (id : Text) → (id ≡ codes "base" → ⊥)
+    → IsUsedBy IsBaseText (text_built index id)
+text_used index id other = record { use_of = text_use index id other; default_of = λ v vs e. cc }
+
+image_used : IsUsedBy IsBaseText (text_built 1 (codes "image"))
+image_used = text_used 1 (codes "image") (differ _ _ _ _ (λ e. omega arith))
+
+script_used : IsUsedBy IsBaseText (text_built 2 (codes "script"))
+script_used = text_used 2 (codes "script") (differ _ _ _ _ (λ e. omega arith))
+
+out_used : IsUsedBy IsBaseText (text_built 3 (codes "out"))
+out_used = text_used 3 (codes "out") (differ _ _ _ _ (λ e. omega arith))
+
+base_used : IsUsedBy IsBaseText base_built
+base_used = record { use_of = base_use; default_of = base_default }
+
+carry_used : IsUsedBy IsBaseText carry_built
+carry_used = record { use_of = carry_use; default_of = λ v vs e is. absurd (not_base is) }
+
+help_used : IsUsedBy IsBaseText help_built
+help_used = record { use_of = help_use; default_of = λ v vs e. cc }
+
+image_rules : (name : Text) → Each (IsUsedBy IsBaseText) (leaf (image_shape name)).rules
+image_rules name = (image_used, (base_used, (help_used, tt)))
+
+check_rules : Each (IsUsedBy IsBaseText) (leaf check_shape).rules
+check_rules = (image_used, (script_used, (carry_used, (base_used, (help_used, tt)))))
+
+apply_rules : Each (IsUsedBy IsBaseText) (leaf apply_shape).rules
+apply_rules = (image_used, (script_used, (out_used, (carry_used, (base_used, (help_used, tt))))))
+
+-- one that is required, and the others
+required_given : (b rest : Bool) → (not b || rest) ≡ false → (b ≡ true) × (rest ≡ false)
+required_given true rest e = (refl, e)
+required_given false rest e = cc
+
+no_check : (help subcommand argument : Bool) → check_kinds help subcommand argument ≡ []
+    → (subcommand ≡ false) × (argument ≡ false)
+no_check true subcommand argument e = cc
+no_check false true argument e = cc
+no_check false false true e = cc
+no_check false false false e = (refl, refl)
+
+subcommand_met : (b : Bool) → (not b && true) ≡ false → b ≡ true
+subcommand_met true e = refl
+subcommand_met false e = cc
+
+-- the last checks of a level pass only if a subcommand that is required was met, and each
+-- argument
+-- that is required was given
+check_parts : (s : Shape) (rows : List Row) (met : Bool) → check_fault s rows met ≡ []
+    → ((not met && s.subcommand_required) ≡ false)
+    × ((not (s.subcommand_negates_reqs && met) && list_any
+    (λ (a : Rule). a.required && not (is_given a.id rows)) s.rules) ≡ false)
+check_parts s rows met e =
+    no_check (not met &&
+    (s.arg_required_else_help && not (list_any (λ (r : Row). explicit_source r.source) rows)))
+    (not met && s.subcommand_required)
+    (not (s.subcommand_negates_reqs && met) && list_any
+    (λ (a : Rule). a.required && not (is_given a.id rows)) s.rules) e
+
+-- what the rows of a command have if its words give no kind
+module _ (s : Shape) (by : Each (IsUsedBy IsBaseText) s.rules) (words : List Text)
+    (e : level_fault s [] nothing_held words false [] ≡ []) where
+  abbrev held_rows : List Row
+  held_rows = (settled s.rules (walk s.rules [] nothing_held words).held).rows
+
+  abbrev level_rows : List Row
+  level_rows = finished s.rules (walk s.rules [] nothing_held words).held
+
+  level_start : AllStart IsBaseText level_rows
+  level_start = level_starts IsBaseText s by [] words false [] e
+
+  level_checked :
+      (not (s.subcommand_negates_reqs && false)
+      && list_any (λ (a : Rule). a.required && not (is_given a.id level_rows)) s.rules) ≡ false
+  level_checked = (check_parts s level_rows false (level_parts s [] words false [] e).checks).1
+
+-- the option `--base` has a row after its default
+based : (rows : List Row)
+    → has_row (codes "base") (with_default (with_default rows base_built) help_built) ≡ true
+based rows =
+    default_stays (codes "base") help_built (with_default rows base_built)
+    (default_there base_built (codes "0") [] rows refl refl)
+
+-- the image and the base of a command's matches
+pub record HasImage (rows : List Row) : Type 0 where
+  pub image : IsSome (first_of (codes "image") rows)
+  pub base : HasBase rows
+
+image_level : (name : Text) (words : List Text)
+    → level_fault (leaf (image_shape name)) [] nothing_held words false [] ≡ []
+    → HasImage (rows_at (leaf (image_shape name)) words).1
+image_level name words e =
+    let s = leaf (image_shape name) in
+    let rows = level_rows s (image_rules name) words e in
+    let starts = level_start s (image_rules name) words e in
+    let image =
+    required_given (is_given (codes "image") rows) false
+    (level_checked s (image_rules name) words e) in
+    record {
+      image = first_given (codes "image") rows starts image.0;
+      base =
+          base_read rows starts
+          (based (with_default (held_rows s (image_rules name) words e)
+          (text_built 1 (codes "image"))));
+    }
+
+-- ---- the program
+
+-- if a command's words give no kind, its matches are complete
+abbrev IsSound : Shape → Type 0
+IsSound s =
+    (words : List Text) → level_fault s [] nothing_held words false [] ≡ []
+    → IsComplete (rows_at s words)
+
+list_sound : IsSound (leaf (image_shape (codes "list")))
+list_sound words e =
+    let has = image_level (codes "list") words e in
+    record {
+      name = inl refl;
+      image = has.image;
+      script = λ is. elim is [
+        | inl e ↦ absurd (differ 108 99 _ _ (λ e. omega arith) e)
+        | inr e ↦ absurd (differ 108 97 _ _ (λ e. omega arith) e)
+      ];
+      out = λ e. absurd (differ 108 97 _ _ (λ e. omega arith) e);
+      base = has.base;
+    }
+
+-- texts that differ in their second bytes
+differ_next : (x a b : ℕ) (s t : Text) → (a ≡ b → ⊥) → x ∷ a ∷ s ≡ x ∷ b ∷ t → ⊥
+differ_next x a b s t other e = other (ap (λ (l : List ℕ). slice_index l 1) e)
+
+audit_sound : IsSound (leaf (image_shape (codes "audit")))
+audit_sound words e =
+    let has = image_level (codes "audit") words e in
+    record {
+      name = inr (inl refl);
+      image = has.image;
+      script = λ is. elim is [
+        | inl e ↦ absurd (differ 97 99 _ _ (λ e. omega arith) e)
+        | inr e ↦ absurd (differ_next 97 117 112 _ _ (λ e. omega arith) e)
+      ];
+      out = λ e. absurd (differ_next 97 117 112 _ _ (λ e. omega arith) e);
+      base = has.base;
+    }
+
+check_sound : IsSound (leaf check_shape)
+check_sound words e =
+    let s = leaf check_shape in
+    let rows = level_rows s check_rules words e in
+    let starts = level_start s check_rules words e in
+    let image =
+    required_given (is_given (codes "image") rows) _ (level_checked s check_rules words e) in
+    let script = required_given (is_given (codes "script") rows) false image.1 in
+    let text = with_default (held_rows s check_rules words e) (text_built 1 (codes "image")) in
+    record {
+      name = inr (inr (inl refl));
+      image = first_given (codes "image") rows starts image.0;
+      script = λ is. first_given (codes "script") rows starts script.0;
+      out = λ e. absurd (differ 99 97 _ _ (λ e. omega arith) e);
+      base =
+          base_read rows starts
+          (based (with_default (with_default text (text_built 2 (codes "script"))) carry_built));
+    }
+
+apply_sound : IsSound (leaf apply_shape)
+apply_sound words e =
+    let s = leaf apply_shape in
+    let rows = level_rows s apply_rules words e in
+    let starts = level_start s apply_rules words e in
+    let image =
+    required_given (is_given (codes "image") rows) _ (level_checked s apply_rules words e) in
+    let script = required_given (is_given (codes "script") rows) _ image.1 in
+    let out = required_given (is_given (codes "out") rows) false script.1 in
+    let text =
+    with_default (with_default (held_rows s apply_rules words e) (text_built 1 (codes "image")))
+    (text_built 2 (codes "script")) in
+    record {
+      name = inr (inr (inr refl));
+      image = first_given (codes "image") rows starts image.0;
+      script = λ is. first_given (codes "script") rows starts script.0;
+      out = λ is. first_given (codes "out") rows starts out.0;
+      base =
+          base_read rows starts
+          (based (with_default (with_default text (text_built 3 (codes "out"))) carry_built));
+    }
+
+-- the command that the arguments name, with what its matches have
+pub record Named (words : List Text) : Type 0 where
+  pub matches : Text × List Row
+  pub is : subcommand_of command_line words ≡ Some matches
+  pub complete : IsComplete matches
+
+named_at : (app : App) (stop : Option (Text × List Text)) → Each IsSound app.subs
+    → entered_fault app stop ≡ [] → is_some (entered app stop) ≡ true
+    → (p : Text × List Row) × (entered app stop ≡ Some p) × IsComplete p
+named_at app None sound e there = cc
+named_at app (Some q) sound e there =
+    go (find (λ s. answers_to q.0 (label_of s)) app.subs)
+    (Each-find IsSound (λ s. answers_to q.0 (label_of s)) app.subs sound) e there
+  where
+    go : (o : Option Shape) → ((s : Shape) → o ≡ Some s → IsSound s)
+        → option_map_or (λ s. level_fault s [] nothing_held q.1 false []) o [] ≡ []
+        → is_some (option_map (λ s. rows_at s q.1) o) ≡ true
+        → (p : Text × List Row) × (option_map (λ s. rows_at s q.1) o ≡ Some p) × IsComplete p
+    go None known e there = cc
+    go (Some s) known e there = (rows_at s q.1, refl, known s refl q.1 e)
+
+pub no_fault-named : (words : List Text) → fault_of command_line words ≡ [] → Named words
+unfolding command_line
+no_fault-named words e =
+    let program = built command_line in
+    let stop = stop_after program.top.rules (names_of program) words in
+    let parts =
+    level_parts program.top (names_of program) words (is_some (entered program stop))
+    (entered_fault program stop) e in
+    let end = (walk program.top.rules (names_of program) nothing_held words).held in
+    let checked =
+    check_parts program.top (finished program.top.rules end)
+    (is_some (entered program stop)) parts.checks in
+    let there = subcommand_met (is_some (entered program stop)) checked.0 in
+    let named =
+    named_at program stop
+    (list_sound, (audit_sound, (check_sound, (apply_sound, tt)))) parts.enters there in
+    record { matches = named.0; is = named.1; complete = named.2 }

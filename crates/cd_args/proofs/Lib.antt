@@ -1,0 +1,5 @@
+mod AcceptedLemmas
+mod CliLemmas
+mod ParseLemmas
+pub mod StatusLemmas
+pub mod general

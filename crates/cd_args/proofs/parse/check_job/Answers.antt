@@ -1,0 +1,11 @@
+use Rattle.std.proofs.Common.{refl}
+use Rattle.cd_args.proofs.parse.check_job.Goals as goal
+
+pub returns-clause-job : goal.returns-clause-job
+returns-clause-job c = (
+  refl,
+  c.in_ok-image.ensures,
+  c.in_ok-script.ensures,
+  c.base_of-base.ensures.value,
+  c.carry_of-carry.ensures,
+)

@@ -1,0 +1,191 @@
+//! The command line, as clap is to parse it.
+ghost use Rattle.std.specs.Prelude.{◌≡◌, IfOk, IsOkAnd, codes, false};
+ghost use Rattle.clap.specs.Simple.{new_shape};
+ghost use Rattle.clap.specs.Words.{app_of, rule_of, shape_of, with_subcommand};
+ghost use Rattle.clap.specs.declared.builder.command.Command.TheViews.{out-Command};
+ghost use Rattle.cd_args.specs.CommandLine.{apply_shape, base_rule, carry_rule, check_shape, command_line, image_shape, program_app, text_rule, with_rule};
+
+use crate::help::{
+    APPLY_ABOUT, APPLY_MORE, AUDIT_ABOUT, AUDIT_MORE, CHECK_ABOUT, CHECK_MORE, LIST_ABOUT,
+    LIST_MORE, PROGRAM_ABOUT, PROGRAM_MORE,
+};
+use clap::{Arg, ArgAction, Command, value_parser};
+use std::alloc::{AllocError, Global};
+
+/// The largest number that the first block of an image may have: the last block with an address.
+// Its own number, since for one constant this crate would wait for cd_sector's proof. The clauses name it, so both are checked.
+pub const MAX_BASE: u32 = 449_849;
+
+/// A text that a command needs.
+fn text_argument<'a>(alloc: Global, id: &'a str, name: &'a str, help: &'a str) -> Arg<'a>
+    ensures rule { rule_of result ≡ text_rule id.now }
+    ensures local { result.global ≡ false }
+{
+    Arg::new(alloc, id)
+        .required(true)
+        .value_name(name)
+        .help(help)
+}
+
+/// The image that a command reads.
+fn image_argument<'a>(alloc: Global) -> Arg<'a>
+    ensures rule { rule_of result ≡ text_rule (codes "image") }
+    ensures local { result.global ≡ false }
+{
+    text_argument(
+        alloc,
+        "image",
+        "IMAGE",
+        "The image, or - for the standard input",
+    )
+}
+
+/// The script whose patches a command takes.
+fn script_argument<'a>(alloc: Global) -> Arg<'a>
+    ensures rule { rule_of result ≡ text_rule (codes "script") }
+    ensures local { result.global ≡ false }
+{
+    text_argument(alloc, "script", "SCRIPT", "The file of the patch script")
+}
+
+/// The patched image that a command makes.
+fn out_argument<'a>(alloc: Global) -> Arg<'a>
+    ensures rule { rule_of result ≡ text_rule (codes "out") }
+    ensures local { result.global ≡ false }
+{
+    text_argument(
+        alloc,
+        "out",
+        "OUT",
+        "The file that is made, which must not exist",
+    )
+}
+
+/// The block number of the first sector.
+fn base_argument<'a>(alloc: Global) -> Arg<'a>
+    ensures rule { rule_of result ≡ base_rule }
+    ensures local { result.global ≡ false }
+{
+    Arg::new(alloc, "base")
+        .long("base")
+        .value_name("N")
+        .default_value("0")
+        .value_parser(value_parser!(u32).range(0..=i64::from(MAX_BASE)))
+        .help("The number of the first block, at most 449849")
+}
+
+/// The flag by which damage is carried.
+fn carry_argument<'a>(alloc: Global) -> Arg<'a>
+    ensures rule { rule_of result ≡ carry_rule }
+    ensures local { result.global ≡ false }
+{
+    Arg::new(alloc, "carry")
+        .long("carry")
+        .action(ArgAction::SetTrue)
+        .help("Patch damaged sectors too, and keep their damage")
+}
+
+/// A command before its arguments, with the texts before and after them in its help.
+fn described<'a>(alloc: Global, name: &'a str, about: &'a str, more: &'a str) -> Command<'a>
+    ensures shape { shape_of result ≡ new_shape name.now }
+    ensures local { (out-Command result).has_globals ≡ false }
+{
+    Command::new(alloc, name).about(about).after_help(more)
+}
+
+/// Proof step: a command with one more argument, if memory was found for the command. It takes the
+/// `Result`, since each `?` in a function that holds one of clap's commands costs seconds to prove.
+fn with_argument<'a>(
+    command: Result<Command<'a>, AllocError>,
+    argument: Arg<'a>,
+) -> Result<Command<'a>, AllocError>
+    requires { argument.global ≡ false }
+    ensures shape { IfOk result (λ c. IsOkAnd command.entry (λ was.
+        shape_of c ≡ with_rule (shape_of was) (rule_of argument.entry))) }
+    ensures local { IfOk result (λ c. IsOkAnd command.entry (λ was.
+        (out-Command c).has_globals ≡ (out-Command was).has_globals)) }
+{
+    command?.arg(argument)
+}
+
+/// A command that reads an image: `list` or `audit`.
+fn image_command<'a>(
+    alloc: Global,
+    name: &'a str,
+    about: &'a str,
+    more: &'a str,
+) -> Result<Command<'a>, AllocError>
+    ensures shape { IfOk result (λ c. shape_of c ≡ image_shape name.now) }
+    ensures local { IfOk result (λ c. (out-Command c).has_globals ≡ false) }
+{
+    let command = Ok(described(alloc, name, about, more));
+    let command = with_argument(command, image_argument(alloc));
+    with_argument(command, base_argument(alloc))
+}
+
+/// The command `check`.
+fn check_command<'a>(alloc: Global) -> Result<Command<'a>, AllocError>
+    ensures shape { IfOk result (λ c. shape_of c ≡ check_shape) }
+    ensures local { IfOk result (λ c. (out-Command c).has_globals ≡ false) }
+{
+    let command = Ok(described(alloc, "check", CHECK_ABOUT, CHECK_MORE));
+    let command = with_argument(command, image_argument(alloc));
+    let command = with_argument(command, script_argument(alloc));
+    let command = with_argument(command, carry_argument(alloc));
+    with_argument(command, base_argument(alloc))
+}
+
+/// The command `apply`.
+fn apply_command<'a>(alloc: Global) -> Result<Command<'a>, AllocError>
+    ensures shape { IfOk result (λ c. shape_of c ≡ apply_shape) }
+    ensures local { IfOk result (λ c. (out-Command c).has_globals ≡ false) }
+{
+    let command = Ok(described(alloc, "apply", APPLY_ABOUT, APPLY_MORE));
+    let command = with_argument(command, image_argument(alloc));
+    let command = with_argument(command, script_argument(alloc));
+    let command = with_argument(command, out_argument(alloc));
+    let command = with_argument(command, carry_argument(alloc));
+    with_argument(command, base_argument(alloc))
+}
+
+/// The program before its commands, of which one is required.
+fn program<'a>(alloc: Global) -> Result<Command<'a>, AllocError>
+    ensures { IfOk result (λ c. app_of c ≡ program_app) }
+{
+    Command::new(alloc, "cdpatch")
+        .about(PROGRAM_ABOUT)
+        .after_help(PROGRAM_MORE)
+        .no_binary_name(true)
+        .disable_help_subcommand(true)
+        .subcommand_required(true)
+        .bin_name("cdpatch")
+}
+
+/// Proof step: the program with one more command, if memory was found for both. Both come as a
+/// `Result`, as in `with_argument`.
+fn with_command<'a>(
+    program: Result<Command<'a>, AllocError>,
+    command: Result<Command<'a>, AllocError>,
+) -> Result<Command<'a>, AllocError>
+    requires { IfOk command (λ sub. (out-Command sub).has_globals ≡ false) }
+    ensures { IfOk result (λ c. IsOkAnd program.entry (λ was. IsOkAnd command.entry (λ sub.
+        app_of c ≡ with_subcommand (app_of was) (shape_of sub)))) }
+{
+    program?.subcommand(command?)
+}
+
+/// The parser of the command line.
+///
+/// # Errors
+///
+/// Memory was refused.
+pub(crate) fn command_line<'a>(alloc: Global) -> Result<Command<'a>, AllocError>
+    ensures { IfOk result (λ c. app_of c ≡ command_line) }
+{
+    let list = image_command(alloc, "list", LIST_ABOUT, LIST_MORE);
+    let audit = image_command(alloc, "audit", AUDIT_ABOUT, AUDIT_MORE);
+    let program = with_command(program(alloc), list);
+    let program = with_command(program, audit);
+    let program = with_command(program, check_command(alloc));
+    with_command(program, apply_command(alloc))
+}

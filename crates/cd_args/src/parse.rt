@@ -1,0 +1,172 @@
+//! The job that the arguments ask for.
+ghost use Rattle.std.specs.Prelude.{◌≡◌, ◌≤◌, IfOk, IfErr, OnOk, IsSome, Some, [], map, option_map, string_bytes, codes};
+ghost use Rattle.clap.specs.Words.{first_of, found_of, rows_of};
+ghost use Rattle.cd_args.specs.CommandLine.{HasBase, HasMatches, IsAccepted, IsComplete, IsJobOf};
+ghost use Rattle.cd_args.specs.CommandLine.{IsListJob, base_in, base_of, carry_of, is_set};
+ghost use Rattle.cd_args.specs.Fault.{HasKindOf, error_kinds};
+ghost use Rattle.cd_args.specs.declared.fault.LineFault.TheVariants.{NoMemory};
+
+use crate::cli::{MAX_BASE, command_line};
+use crate::{Job, LineFault};
+use clap::ArgMatches;
+use std::alloc::{AllocError, Global};
+
+/// The text of an argument that the command requires.
+fn text_of(alloc: Global, matches: &ArgMatches<'_>, id: &str) -> Result<String, AllocError>
+    requires { IsSome (first_of id.now (rows_of (found_of matches.now))) }
+    ensures { IfOk result (λ text. first_of id.now (rows_of (found_of matches.now))
+        ≡ Some (string_bytes text)) }
+{
+    let text = matches.get_str(id).unwrap();
+    String::from_str(alloc, text)
+}
+
+/// The number after `--base`, or its default.
+fn base_of(matches: &ArgMatches<'_>) -> u32
+    requires { HasBase (rows_of (found_of matches.now)) }
+    ensures value { base_of (rows_of (found_of matches.now)) ≡ Some result }
+    ensures most { result ≤ MAX_BASE }
+{
+    matches.get_one::<u32>("base").unwrap()
+}
+
+/// Whether a flag with this text is used. clap's clauses name the text that the parser holds:
+/// "true" if the flag is used.
+fn is_set(text: Option<&str>) -> bool
+    ensures { result ≡ is_set (option_map (λ text. text.now) text.entry) }
+{
+    match text {
+        Some(text) => text == "true",
+        None => false,
+    }
+}
+
+/// Whether `--carry` is used.
+fn carry_of(matches: &ArgMatches<'_>) -> bool
+    ensures { result ≡ carry_of (rows_of (found_of matches.now)) }
+{
+    is_set(matches.get_str("carry"))
+}
+
+/// `list IMAGE [--base N]`.
+fn list_job(alloc: Global, matches: &ArgMatches<'_>) -> Result<Job, AllocError>
+    requires image { IsSome (first_of (codes "image") (rows_of (found_of matches.now))) }
+    requires base { HasBase (rows_of (found_of matches.now)) }
+    ensures job { IfOk result (HasMatches (codes "list", rows_of (found_of matches.now))) }
+    ensures base { IfOk result (λ job. base_in job ≤ MAX_BASE) }
+{
+    let image = text_of(alloc, matches, "image")?;
+    let base = base_of(matches);
+    Ok(Job::List { image, base })
+}
+
+/// `audit IMAGE [--base N]`.
+fn audit_job(alloc: Global, matches: &ArgMatches<'_>) -> Result<Job, AllocError>
+    requires image { IsSome (first_of (codes "image") (rows_of (found_of matches.now))) }
+    requires base { HasBase (rows_of (found_of matches.now)) }
+    ensures job { IfOk result (HasMatches (codes "audit", rows_of (found_of matches.now))) }
+    ensures base { IfOk result (λ job. base_in job ≤ MAX_BASE) }
+{
+    let image = text_of(alloc, matches, "image")?;
+    let base = base_of(matches);
+    Ok(Job::Audit { image, base })
+}
+
+/// `check IMAGE SCRIPT [--carry] [--base N]`.
+fn check_job(alloc: Global, matches: &ArgMatches<'_>) -> Result<Job, AllocError>
+    requires image { IsSome (first_of (codes "image") (rows_of (found_of matches.now))) }
+    requires script { IsSome (first_of (codes "script") (rows_of (found_of matches.now))) }
+    requires base { HasBase (rows_of (found_of matches.now)) }
+    ensures job { IfOk result (HasMatches (codes "check", rows_of (found_of matches.now))) }
+    ensures base { IfOk result (λ job. base_in job ≤ MAX_BASE) }
+{
+    let image = text_of(alloc, matches, "image")?;
+    let script = text_of(alloc, matches, "script")?;
+    let base = base_of(matches);
+    let carry = carry_of(matches);
+    Ok(Job::Check {
+        image,
+        script,
+        base,
+        carry,
+    })
+}
+
+/// `apply IMAGE SCRIPT OUT [--carry] [--base N]`.
+fn apply_job(alloc: Global, matches: &ArgMatches<'_>) -> Result<Job, AllocError>
+    requires image { IsSome (first_of (codes "image") (rows_of (found_of matches.now))) }
+    requires script { IsSome (first_of (codes "script") (rows_of (found_of matches.now))) }
+    requires out { IsSome (first_of (codes "out") (rows_of (found_of matches.now))) }
+    requires base { HasBase (rows_of (found_of matches.now)) }
+    ensures job { IfOk result (HasMatches (codes "apply", rows_of (found_of matches.now))) }
+    ensures base { IfOk result (λ job. base_in job ≤ MAX_BASE) }
+{
+    let image = text_of(alloc, matches, "image")?;
+    let script = text_of(alloc, matches, "script")?;
+    let out = text_of(alloc, matches, "out")?;
+    let base = base_of(matches);
+    let carry = carry_of(matches);
+    Ok(Job::Apply {
+        image,
+        script,
+        out,
+        base,
+        carry,
+    })
+}
+
+/// The job of a command, by its name and the parser's matches.
+fn entered_job(alloc: Global, name: &str, matches: &ArgMatches<'_>) -> Result<Job, AllocError>
+    requires { IsComplete (name.now, rows_of (found_of matches.now)) }
+    ensures job { IfOk result (HasMatches (name.now, rows_of (found_of matches.now))) }
+    ensures base { IfOk result (λ job. base_in job ≤ MAX_BASE) }
+{
+    match name {
+        "list" => list_job(alloc, matches),
+        "audit" => audit_job(alloc, matches),
+        "check" => check_job(alloc, matches),
+        _ => apply_job(alloc, matches),
+    }
+}
+
+/// The job without arguments: the standard input is listed, from block 0.
+fn standard_input_job(alloc: Global) -> Result<Job, AllocError>
+    ensures { IfOk result (IsListJob (codes "-") 0) }
+{
+    let image = String::from_str(alloc, "-")?;
+    Ok(Job::List { image, base: 0 })
+}
+
+/// The job that the arguments after the program's name ask for: without any the listing of the
+/// standard input from block 0, and else the command that they name, which is required.
+///
+/// # Errors
+///
+/// The parser refuses the arguments or answers them by help, or memory runs out.
+///
+/// # Examples
+///
+/// ```
+/// let job = job_of(rt.alloc(), Vec::new(rt.alloc()))?; // no arguments
+/// assert!(rt; matches!(&job, Job::List { image, base: 0 } if image.as_str() == "-"));
+/// ```
+pub fn job_of(alloc: Global, args: Vec<String>) -> Result<Job, LineFault>
+    ensures ok { IfOk result (IsJobOf (map string_bytes args.items)) }
+    ensures base { IfOk result (λ job. base_in job ≤ MAX_BASE) }
+
+    // A job comes only of arguments in which the definition finds no fault, and which ask for no help.
+    ensures taken { OnOk result (error_kinds (map string_bytes args.items) ≡ []) }
+
+    // No arguments, and arguments that the definition accepts, are refused only for want of memory.
+    ensures refused { IfErr result (λ fault. IsAccepted (map string_bytes args.items)
+        → fault ≡ NoMemory) }
+    ensures kind { IfErr result (HasKindOf (map string_bytes args.items)) }
+{
+    if args.is_empty() {
+        return Ok(standard_input_job(alloc)?);
+    }
+    let line = command_line(alloc)?;
+    let matches = line.try_get_matches_from(args.as_slice())?;
+    let (name, entered) = matches.subcommand().unwrap();
+    Ok(entered_job(alloc, name, entered)?)
+}

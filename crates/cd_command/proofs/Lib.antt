@@ -1,5 +1,0 @@
-mod AskedLemmas
-mod DefinitionLemmas
-mod TakenLemmas
-pub mod StatusLemmas
-pub mod general

@@ -1,4 +1,0 @@
-use Rattle.cd_command.proofs.asked.entered_job.Goals as goal
-
-pub returns-in-list-clause-job : goal.returns-in-list-clause-job
-returns-in-list-clause-job c = rw c.in-list.is assumption

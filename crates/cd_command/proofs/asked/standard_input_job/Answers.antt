@@ -1,5 +1,0 @@
-use Rattle.std.proofs.Common.{refl}
-use Rattle.cd_command.proofs.asked.standard_input_job.Goals as goal
-
-pub returns : goal.returns
-returns c = (c.in_ok-image.ensures.ok, refl)

@@ -1,8 +1,0 @@
-use Rattle.std.proofs.Common.{inl, inr, rules}
-use Rattle.cd_jobs.proofs.jobs.pass_on_rest.Goals as goal
-
-pub returns-then-failures-eq0 : goal.returns-then-failures-eq0
-returns-then-failures-eq0 g c = record {
-  idle = λ h. elim h [ inl e ↦ absurd (search rules) | inr n ↦ absurd (n (search rules)) ];
-  once = λ _ _. (c.finish.result, c.finish.ensures);
-}

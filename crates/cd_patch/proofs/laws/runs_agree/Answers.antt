@@ -1,5 +1,0 @@
-use Rattle.cd_patch.proofs.AgreeLemmas.{runs-agree}
-use Rattle.cd_patch.proofs.laws.runs_agree.Goals as goal
-
-pub returns : goal.returns
-returns c = runs-agree

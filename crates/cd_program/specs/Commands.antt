@@ -1,0 +1,90 @@
+-- What the program does with the answer of a call on an image: the fault's line, and the status.
+use Rattle.std.specs.Prelude.{◌≡◌, ◌≢◌, ℕ, ◌==◌, ◌+◌, ◌<◌, if◌then◌else◌, Bool, List, [], ◌++◌, length, Some, false, true, Result, Ok, Err, OnOk}
+use Rattle.cd_stream.specs.Stream.{Incoming, IsBeginning, Outgoing}
+use Rattle.cd_stream.specs.Transfer.{Counts, CountsFlush, Takes}
+use Rattle.cd_stream.specs.declared.sink.SinkFailed.{SinkFailed}
+use Rattle.cd_script.specs.declared.patch.Patch.{Patch}
+use Rattle.cd_args.specs.Fault.{done_status, failed_status}
+use Rattle.cd_program.specs.Messages.{fault_line}
+use Rattle.cd_read.specs.Image.{image_limit}
+use Rattle.cd_image.specs.PatchLog.{log_text, patch_tally}
+use Rattle.cd_image.specs.Patched.{EachPatching}
+use Rattle.cd_report.specs.Report.{ReportSpec}
+use Rattle.cd_report.specs.declared.auditing.AuditTally.{AuditTally}
+use Rattle.cd_read.specs.declared.fault.Fault.{Fault}
+use Rattle.cd_image.specs.declared.patch_log.Tally.{Tally}
+
+-- a line went out whole and was passed on by one flush; or a failure was counted, a beginning of it
+-- went out, and no flush was made before all of it
+pub record PrintsLine (line : List ℕ) (before after : Outgoing) : Type 0 where
+  pub sent : List ℕ
+  pub takes : Takes before after sent
+  pub begins : IsBeginning sent line
+  pub answer : Result (Unit {0}) SinkFailed
+  pub whole : OnOk answer ((sent ≡ line) × (after.finished ≡ true))
+  pub count : Counts before.failures after.failures answer
+  pub flushes : CountsFlush before.flushes after.flushes answer
+  pub unflushed : length sent < length line → after.flushes ≡ before.flushes
+
+-- the fault's line, or nothing if it is `own`: the fault that this very sink has failed
+abbrev pub PrintsFaultLine : Fault → Fault → Outgoing → Outgoing → Type 0
+PrintsFaultLine own fault before after =
+    (fault ≡ own → after ≡ before) × (fault ≢ own → PrintsLine (fault_line fault) before after)
+
+-- the status of an audit with a finding
+abbrev pub found_status : ℕ
+found_status = 1
+
+-- the status of a script of which a patch was refused
+abbrev pub refused_status : ℕ
+refused_status = 1
+
+-- what an audit ends with
+abbrev pub audit_status : AuditTally → ℕ
+audit_status tally = if tally.findings == 0 then done_status else found_status
+
+-- what a script ends with
+abbrev pub script_status : Tally → ℕ
+script_status tally = if tally.refused == 0 then done_status else refused_status
+
+-- after a call's answer: its status, or the fault's line and the status of a failure
+abbrev pub Ends : {T : Type 0} → Fault → (T → ℕ) → Result T Fault → Outgoing → Outgoing → ℕ → Type 0
+Ends own status_of (Ok reported) before after status = (after ≡ before)
+    × (status ≡ status_of reported)
+Ends own status_of (Err fault) before after status = PrintsFaultLine own fault before after
+    × (status ≡ failed_status)
+
+-- a call, and then the line of its fault: what the call did is stated of the sink in the `middle` and
+-- of its answer; `own` is the fault that gets no line, since it is that of the sink itself
+pub record CallThenLine {T : Type 0} (Does : Outgoing → Result T Fault → Type 0) (own : Fault)
+    (status_of : T → ℕ) (after : Outgoing) (status : ℕ) : Type 0 where
+  pub result : Result T Fault
+  pub middle : Outgoing
+  pub does : Does middle result
+  pub ends : Ends own status_of result middle after status
+
+-- ---- the same in plain words
+
+-- if the bytes of the image and the sink are known: the whole image was read, the sink has got its
+-- text after what it had, and the status is that of its tally
+abbrev pub PrintsText : {T : Type 0} → ReportSpec T → (T → ℕ) → Incoming → Incoming → Outgoing
+    → Outgoing → ℕ → Type 0
+PrintsText spec status_of image image' out out' status =
+    (bytes earlier : List ℕ) → image.rest ≡ Some bytes → out.written ≡ Some earlier
+    → (image'.rest ≡ Some []) × (out'.written ≡ Some (earlier ++ spec.text bytes))
+    × (status ≡ status_of (spec.tally bytes))
+
+-- if the bytes of the image and the log are known: the log has got the log of the patches after
+-- what it had, and the status is that of its counts
+abbrev pub PrintsPatchLog : Bool → List Patch → ℕ → Incoming → Outgoing → Outgoing → ℕ → Type 0
+PrintsPatchLog carry patches base image log log' status =
+    (bytes earlier : List ℕ) → image.rest ≡ Some bytes → log.written ≡ Some earlier
+    → EachPatching carry patches base bytes (λ outcomes last.
+    (log'.written ≡ Some (earlier ++ log_text patches outcomes))
+    × (status ≡ script_status (patch_tally bytes outcomes)))
+
+-- the image has not ended, and if its bytes are known, a byte was read after the millionth sector
+pub record IsTooLong (image image' : Incoming) : Type 0 where
+  pub unended : image'.ended ≡ false
+  pub beyond : (bytes left : List ℕ) → image.rest ≡ Some bytes → image'.rest ≡ Some left
+      → image_limit + length left < length bytes

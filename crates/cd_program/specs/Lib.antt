@@ -1,0 +1,5 @@
+pub mod Commands
+pub mod Hosting
+pub mod Messages
+pub mod Program
+pub mod ScriptLines

@@ -1,0 +1,221 @@
+-- What the program does for a job: which files it asks for, by which names and in which order, and
+-- what it does with them.
+use Rattle.std.specs.Prelude.{◌≡◌, ◌≢◌, ℕ, ◌≤◌, ◌⊎◌, List, [], Option, None, Result, Ok, Err, codes, false, string_bytes, true}
+use Rattle.cd_args.specs.CommandLine.{IsAccepted, IsJobOf, base_in, max_base}
+use Rattle.cd_args.specs.Fault.{HasKindOf, done_status, error_kinds, failed_status, printed, printed_status}
+use Rattle.cd_args.specs.declared.fault.LineFault.{LineFault}
+use Rattle.cd_args.specs.declared.fault.LineFault.TheVariants as line_fault
+use Rattle.cd_args.specs.declared.job.Job.{Job}
+use Rattle.cd_args.specs.declared.job.Job.TheVariants as job
+use Rattle.cd_image.specs.Applying.{Applies, Checks, streams}
+use Rattle.cd_report.specs.AuditText.{audit_report}
+use Rattle.cd_report.specs.ListText.{list_report}
+use Rattle.cd_report.specs.Report.{Reports, ReportSpec}
+use Rattle.cd_read.specs.declared.fault.Fault.TheVariants.{Log, Write}
+use Rattle.cd_script.specs.Order.{order}
+use Rattle.cd_script.specs.Script.{script}
+use Rattle.cd_script.specs.declared.fault.ScriptFault.{ScriptFault}
+use Rattle.cd_script.specs.declared.patch.Patch.{Patch}
+use Rattle.cd_stream.specs.Stream.{Incoming, Outgoing}
+use Rattle.cd_stream.specs.Transfer.{Flushes, Gives}
+use Rattle.cd_stream.specs.declared.sink.SinkFailed.{SinkFailed}
+use Rattle.cd_program.specs.Hosting.{Hosting}
+use Rattle.cd_program.specs.Messages.{load_fault_line, no_image, no_output, no_script, open_fault_line, script_fault_line}
+use Rattle.cd_program.specs.Commands.{CallThenLine, PrintsLine, audit_status, script_status}
+use Rattle.cd_program.specs.ScriptLines.{IsFaultOf, ReadsWhole, StopsLoading}
+use Rattle.cd_program.specs.declared.host.OpenFault.{OpenFault}
+use Rattle.cd_program.specs.declared.script.LoadFault.{LoadFault}
+use Rattle.cd_program.specs.declared.jobs.Settings.{Settings}
+
+-- ---- what is printed if a file is not there
+
+-- a line of the program's own is printed, with the status of a failure
+abbrev pub PrintsAndFails : List ℕ → Outgoing → Outgoing → ℕ → Type 0
+PrintsAndFails line before after status = PrintsLine line before after × (status ≡ failed_status)
+
+-- ---- scripts
+
+-- the whole file was read and is a script, and nothing was printed; or a line was: that of the
+-- fault of the file, or of its text
+abbrev pub ReadsScript : Incoming → Incoming → Outgoing → Outgoing → Result (List Patch) ℕ → Type 0
+ReadsScript file file' log log' (Ok patches) =
+    (text : List ℕ) × Gives file file' text × ReadsWhole text file file'
+    × ((ps : List Patch) × (script text ≡ Ok ps) × (patches ≡ order ps)) × (log' ≡ log)
+ReadsScript file file' log log' (Err status) =
+    ((read : List ℕ) × Gives file file' read
+    × ((fault : LoadFault) × StopsLoading fault read file file'
+    × PrintsAndFails (load_fault_line fault) log log' status))
+    ⊎ ((text : List ℕ) × Gives file file' text × ReadsWhole text file file'
+    × ((fault : ScriptFault) × IsFaultOf text fault
+    × PrintsAndFails (script_fault_line fault) log log' status))
+
+-- ---- which files are there
+
+module _ {H I O : Type 0} (on : Hosting H I O) where
+  -- an image is asked for by its name: `-` is the standard input, and each other name that of a
+  -- file
+  pub record TakesImage (name : List ℕ) (host : H) (answer : Result I OpenFault) (host' : H)
+      : Type 0 where
+    pub standard : name ≡ codes "-" → on.gives_standard_input host answer host'
+    pub file : name ≢ codes "-" → on.gives_input host name answer host'
+
+module _ {H I O : Type 0} (come : I → Incoming) (on : Hosting H I O) where
+  -- what came of a script's file, or that it is not there
+  abbrev pub ComesOfFile : Outgoing → Outgoing → Result (List Patch) ℕ → Result I OpenFault → Type 0
+  ComesOfFile log log' result (Ok file) =
+      (left : I) × ReadsScript (come file) (come left) log log' result
+  ComesOfFile log log' result (Err fault) =
+      (result ≡ Err failed_status) × PrintsLine (open_fault_line no_script fault) log log'
+
+  -- the script in the file of this name
+  pub record TakesScript (name : List ℕ) (host host' : H) (log log' : Outgoing)
+      (result : Result (List Patch) ℕ) : Type 0 where
+    pub answer : Result I OpenFault
+    pub asked : on.gives_input host name answer host'
+    pub comes : ComesOfFile log log' result answer
+
+-- a file that is finished, or of which a call has failed, stays as it is, and each other one is
+-- finished by one flush
+pub record FlushesRest (before after : Outgoing) : Type 0 where
+  pub idle : (before.finished ≡ true) ⊎ (before.failures ≢ 0) → after ≡ before
+  pub once : before.finished ≡ false → before.failures ≡ 0
+      → (flushed : Result (Unit {0}) SinkFailed) × Flushes before after flushed
+
+-- ---- the commands
+
+-- A command asks for its files in turn. It has one ending for each file that is not there, whose
+-- line is printed and after which nothing more is asked of the host, and one if all are there. The
+-- host, the log and the status are those at the end.
+module _ {H I O : Type 0} (come : I → Incoming) (gone : O → Outgoing) (on : Hosting H I O)
+    (host' : H) (after : Outgoing) (status : ℕ) where
+  -- the script could not be read: its line was printed, and nothing more asked for
+  abbrev pub NoScript : List ℕ → H → Outgoing → Type 0
+  NoScript name host before = TakesScript come on name host host' before after (Err status)
+
+  -- the image is not there: its line was printed, and nothing more asked for
+  abbrev pub NoImage : List ℕ → H → Outgoing → Type 0
+  NoImage name host before =
+      (fault : OpenFault) × TakesImage on name host (Err fault) host'
+      × PrintsAndFails (open_fault_line no_image fault) before after status
+
+  -- the new file was not made: its line was printed
+  abbrev pub NoOutput : List ℕ → H → Outgoing → Type 0
+  NoOutput path host before =
+      (fault : OpenFault) × on.gives_output host path (Err fault) host'
+      × PrintsAndFails (open_fault_line no_output fault) before after status
+
+  -- `list` or `audit`: the report of the image was written
+  pub record ReportsImage {T : Type 0} (spec : ReportSpec T) (status_of_tally : T → ℕ)
+      (before : Outgoing) (image : I) : Type 0 where
+    pub left : I
+    pub runs : CallThenLine (λ out' answer. Reports spec (come image) (come left) before out'
+        answer)
+        Write status_of_tally after status
+
+  -- `check`: the script was decided on the image, and no output made
+  pub record ChecksImage (settings : Settings) (patches : List Patch) (before : Outgoing)
+      (image : I) : Type 0 where
+    pub left : I
+    pub runs : CallThenLine (λ log' answer. Checks settings.carry patches settings.base (come image)
+        (come left) before log' answer)
+        Log script_status after status
+
+  -- `apply`: the image was patched into the new file, what that still held was passed on, and the
+  -- host has it back
+  pub record AppliesImage (settings : Settings) (patches : List Patch) (before : Outgoing)
+      (image : I) (host : H) (path : List ℕ) (out : O) : Type 0 where
+    pub left : I
+    pub made : O
+    pub runs : CallThenLine (λ log' answer. Applies settings.carry patches settings.base
+        (streams (come image) (gone out) before) (streams (come left) (gone made) log') answer)
+        Log script_status after status
+    pub last : O
+    pub rest : FlushesRest (gone made) (gone last)
+    pub back : on.takes_back host path last host'
+
+  -- `list` and `audit`
+  pub data DoesReport {T : Type 0} (spec : ReportSpec T) (status_of_tally : T → ℕ) (name : List ℕ)
+      (host : H) (before : Outgoing) : Type 0 where
+    without_image : NoImage name host before → DoesReport spec status_of_tally name host before
+    reported : (image : I) → TakesImage on name host (Ok image) host'
+        → ReportsImage spec status_of_tally before image
+        → DoesReport spec status_of_tally name host before
+
+  -- `check`
+  pub data DoesCheck (settings : Settings) (name script : List ℕ) (host : H)
+      (before : Outgoing) : Type 0 where
+    without_script : NoScript script host before → DoesCheck settings name script host before
+    without_image : (patches : List Patch) (second : H) (printed_log : Outgoing)
+        → TakesScript come on script host second before printed_log (Ok patches)
+        → NoImage name second printed_log → DoesCheck settings name script host before
+    checked : (patches : List Patch) (second : H) (printed_log : Outgoing)
+        → TakesScript come on script host second before printed_log (Ok patches)
+        → (image : I) → TakesImage on name second (Ok image) host'
+        → ChecksImage settings patches printed_log image → DoesCheck settings name script host before
+
+  -- `apply`
+  pub data DoesApply (settings : Settings) (name script path : List ℕ) (host : H)
+      (before : Outgoing) : Type 0 where
+    without_script : NoScript script host before → DoesApply settings name script path host before
+    without_image : (patches : List Patch) (second : H) (printed_log : Outgoing)
+        → TakesScript come on script host second before printed_log (Ok patches)
+        → NoImage name second printed_log → DoesApply settings name script path host before
+    without_output : (patches : List Patch) (second : H) (printed_log : Outgoing)
+        → TakesScript come on script host second before printed_log (Ok patches)
+        → (image : I) (third : H) → TakesImage on name second (Ok image) third
+        → NoOutput path third printed_log → DoesApply settings name script path host before
+    applied : (patches : List Patch) (second : H) (printed_log : Outgoing)
+        → TakesScript come on script host second before printed_log (Ok patches)
+        → (image : I) (third : H) → TakesImage on name second (Ok image) third
+        → (out : O) (fourth : H) → on.gives_output third path (Ok out) fourth
+        → AppliesImage settings patches printed_log image fourth path out
+        → DoesApply settings name script path host before
+
+-- ---- jobs and arguments
+
+-- each job is the command of its name, with its texts, its base and its flag: the script is read
+-- first, then the image is asked for, and then the output is made
+abbrev pub RunsJob : {H I O : Type 0} → (I → Incoming) → (O → Outgoing) → Hosting H I O → Job
+    → H → H → Outgoing → Outgoing → ℕ → Type 0
+RunsJob come gone on (job.List image base) host host' before after status =
+    DoesReport come gone on host' after status (list_report base) (λ _. done_status)
+    (string_bytes image) host before
+RunsJob come gone on (job.Audit image base) host host' before after status =
+    DoesReport come gone on host' after status (audit_report base) audit_status
+    (string_bytes image) host before
+RunsJob come gone on (job.Check image script base carry) host host' before after status =
+    DoesCheck come gone on host' after status (record { base = base; carry = carry })
+    (string_bytes image)
+    (string_bytes script) host before
+RunsJob come gone on (job.Apply image script out base carry) host host' before after status =
+    DoesApply come gone on host' after status (record { base = base; carry = carry })
+    (string_bytes image)
+    (string_bytes script) (string_bytes out) host before
+
+-- what is printed of a fault: the parser's text, or the line for want of memory; one that went out
+-- in part is a failure
+pub record PrintsFault (fault : LineFault) (before after : Outgoing) (status : ℕ) : Type 0 where
+  pub text : Option (List ℕ)
+  pub memory : fault ≡ line_fault.NoMemory → text ≡ None
+  pub says : PrintsLine (printed text) before after
+  pub whole : after.failures ≡ before.failures → status ≡ printed_status fault text
+  pub cut : after.failures ≢ before.failures → status ≡ failed_status
+
+-- the arguments ask for no job: nothing is asked of the host, and the reason is printed
+pub record RefusesArgs {H : Type 0} (args : List (List ℕ)) (host host' : H)
+    (before after : Outgoing)
+    (status : ℕ) : Type 0 where
+  pub unchanged : host' ≡ host
+  pub fault : LineFault
+  pub kind : HasKindOf args fault
+  pub memory : IsAccepted args → fault ≡ line_fault.NoMemory
+  pub done : PrintsFault fault before after status
+
+-- the arguments ask for a job, with no fault, no help asked for and a base that has an address, and
+-- it is done; or they ask for none
+abbrev pub RunsArgs : {H I O : Type 0} → (I → Incoming) → (O → Outgoing) → Hosting H I O
+    → List (List ℕ) → H → H → Outgoing → Outgoing → ℕ → Type 0
+RunsArgs come gone on args host host' before after status =
+    ((job : Job) × IsJobOf args job × (error_kinds args ≡ []) × (base_in job ≤ max_base)
+    × RunsJob come gone on job host host' before after status)
+    ⊎ RefusesArgs args host host' before after status

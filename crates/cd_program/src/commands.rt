@@ -1,0 +1,265 @@
+//! The commands: a call on an image, then the line of its fault, and the status.
+
+ghost use Rattle.std.specs.Prelude.{◌≡◌, ◌≢◌, ◌⊎◌, ◌+◌, ◌<◌, ◌≤◌, true};
+ghost use Rattle.cd_args.specs.Fault.{done_status, failed_status};
+ghost use Rattle.cd_image.specs.Applying.{Applies, Checks, HoldsFew, WritesCarried, WritesPatched, streams};
+ghost use Rattle.cd_report.specs.AuditText.{audit_report};
+ghost use Rattle.cd_report.specs.ListText.{list_report};
+ghost use Rattle.cd_read.specs.Ends.{EndsWell};
+ghost use Rattle.cd_report.specs.Report.{Reports};
+ghost use Rattle.cd_stream.specs.Transfer.{Counts};
+ghost use Rattle.cd_program.specs.Commands.{CallThenLine, IsTooLong, PrintsFaultLine, PrintsLine, PrintsPatchLog, PrintsText, audit_status, script_status};
+ghost use Rattle.cd_stream.specs.Stream.{CanCountFailure};
+ghost use Rattle.cd_read.specs.Image.{base_limit};
+
+use crate::messages::fault_line;
+use cd_args::{DONE, FAILED};
+use cd_image::{
+    AuditTally, Fault, Sink, SinkFailed, Source, Tally, apply, audit, check, list, write_all,
+};
+use cd_script::Script;
+
+/// The status of an audit with a finding.
+const FOUND: u8 = 1;
+
+/// The status of a script of which a patch was refused.
+const REFUSED: u8 = 1;
+
+/// Prints a line of the program's own and passes it on.
+///
+/// # Errors
+///
+/// A write failed, or the flush.
+pub(crate) fn print_line<O: Sink>(line: &[u8], out: &mut O) -> Result<(), SinkFailed>
+    requires { CanCountFailure (O.seen out.old).failures }
+    ensures line { PrintsLine line.now (O.seen out.old) (O.seen out.new) }
+    ensures count { Counts (O.seen out.old).failures (O.seen out.new).failures result }
+{
+    write_all(out, line)?;
+    out.finish()
+}
+
+/// Prints a line, and answers the status 2.
+///
+/// # Examples
+///
+/// ```
+/// let mut space = [0; 64];
+/// let mut out = SliceSink::new(&mut space);
+/// let line = load_fault_line(LoadFault::TooLong);
+/// assert_eq!(rt; print_and_fail(line.as_bytes(), &mut out), 2);
+/// assert!(rt; out.written().starts_with(b"cdpatch: the script is longer"));
+/// ```
+pub fn print_and_fail<O: Sink>(line: &[u8], out: &mut O) -> u8
+    requires { CanCountFailure (O.seen out.old).failures }
+    ensures line { PrintsLine line.now (O.seen out.old) (O.seen out.new) }
+    ensures status { result ≡ failed_status }
+{
+    let _ = print_line(line, out);
+    FAILED
+}
+
+/// Prints the line of a fault to `out`, and answers the status 2. No line is printed for `own`, the
+/// fault of `out` itself.
+fn report_fault<O: Sink>(fault: Fault, own: Fault, out: &mut O) -> u8
+    requires { fault ≢ own → CanCountFailure (O.seen out.old).failures }
+    ensures line { PrintsFaultLine own fault (O.seen out.old) (O.seen out.new) }
+    ensures status { result ≡ failed_status }
+{
+    if fault == own {
+        return FAILED;
+    }
+    print_and_fail(fault_line(fault).as_bytes(), out)
+}
+
+/// Lists an image to `out`, whose first block has the number `base`, and answers the status: 0, or
+/// 2 after the line of a fault.
+///
+/// # Examples
+///
+/// ```
+/// let mut space = [0; 64];
+/// let mut out = SliceSink::new(&mut space);
+/// assert_eq!(rt; run_list(&mut ZeroSource::new(2352), 7, &mut out), 0);
+/// assert_eq!(rt; out.written(), b"7-7 nosync\nsectors 1 tail 0\n".as_slice());
+/// ```
+pub fn run_list<I: Source, O: Sink>(image: &mut I, base: u32, out: &mut O) -> u8
+    requires base { base ≤ base_limit }
+    requires image_countable { CanCountFailure (I.seen image.old).failures }
+    requires out_countable { CanCountFailure (O.seen out.old).failures }
+    ensures report { CallThenLine (λ out' answer. Reports (list_report base) (I.seen image.old)
+        (I.seen image.new) (O.seen out.old) out' answer)
+        Fault.Write (λ _. done_status) (O.seen out.new) result }
+
+    // What it says if nothing failed, and when something has.
+    ensures text { result ≢ failed_status → PrintsText (list_report base) (λ _. done_status)
+        (I.seen image.old) (I.seen image.new) (O.seen out.old) (O.seen out.new) result }
+    ensures ends_well { result ≢ failed_status
+        → EndsWell (I.seen image.old) (I.seen image.new) (O.seen out.old) (O.seen out.new) }
+    ensures flushed { result ≢ failed_status
+        → (O.seen out.new).flushes ≡ (O.seen out.old).flushes + 1 }
+    ensures failed { result ≡ failed_status
+        → ((I.seen image.new).failures ≢ (I.seen image.old).failures)
+        ⊎ ((O.seen out.new).failures ≢ (O.seen out.old).failures)
+        ⊎ IsTooLong (I.seen image.old) (I.seen image.new) }
+{
+    match list(image, base, out) {
+        Ok(_) => DONE,
+        Err(fault) => report_fault(fault, Fault::Write, out),
+    }
+}
+
+/// The status of an audit that came to its end.
+fn audit_status_of(tally: &AuditTally) -> u8
+    ensures { result ≡ audit_status tally.now }
+{
+    if tally.findings == 0 { DONE } else { FOUND }
+}
+
+/// Audits an image to `out`, whose first block has the number `base`, and answers the status: 0, 1
+/// if it has a finding, or 2 after the line of a fault.
+///
+/// # Examples
+///
+/// ```
+/// let mut space = [0; 64];
+/// let mut out = SliceSink::new(&mut space);
+/// let mut image = FailAfter::new(ZeroSource::new(2352), 5);
+/// assert_eq!(rt; run_audit(&mut image, 0, &mut out), 2);
+/// assert!(rt; out.written().starts_with(b"cdpatch: reading the image"));
+/// ```
+pub fn run_audit<I: Source, O: Sink>(image: &mut I, base: u32, out: &mut O) -> u8
+    requires base { base ≤ base_limit }
+    requires image_countable { CanCountFailure (I.seen image.old).failures }
+    requires out_countable { CanCountFailure (O.seen out.old).failures }
+    ensures report { CallThenLine (λ out' answer. Reports (audit_report base) (I.seen image.old)
+        (I.seen image.new) (O.seen out.old) out' answer)
+        Fault.Write audit_status (O.seen out.new) result }
+
+    // What it says if nothing failed, and when something has.
+    ensures text { result ≢ failed_status → PrintsText (audit_report base) audit_status
+        (I.seen image.old) (I.seen image.new) (O.seen out.old) (O.seen out.new) result }
+    ensures ends_well { result ≢ failed_status
+        → EndsWell (I.seen image.old) (I.seen image.new) (O.seen out.old) (O.seen out.new) }
+    ensures flushed { result ≢ failed_status
+        → (O.seen out.new).flushes ≡ (O.seen out.old).flushes + 1 }
+    ensures failed { result ≡ failed_status
+        → ((I.seen image.new).failures ≢ (I.seen image.old).failures)
+        ⊎ ((O.seen out.new).failures ≢ (O.seen out.old).failures)
+        ⊎ IsTooLong (I.seen image.old) (I.seen image.new) }
+{
+    match audit(image, base, out) {
+        Ok(tally) => audit_status_of(&tally),
+        Err(fault) => report_fault(fault, Fault::Write, out),
+    }
+}
+
+/// The status of a script that was applied to the end.
+fn status_of(tally: &Tally) -> u8
+    ensures { result ≡ script_status tally.now }
+{
+    if tally.refused == 0 { DONE } else { REFUSED }
+}
+
+/// Decides each patch of a script on an image, and writes its line to `log`: the answer is the
+/// status, 0, 1 if a patch is refused, or 2 after the line of a fault. A log that has failed gets
+/// no line. Damage is carried or refused.
+///
+/// # Examples
+///
+/// ```
+/// let script = parse(rt.alloc(), b"cdpatch 1\nset 0 0 41\n")?;
+/// let (mut image, mut space) = (ZeroSource::new(0), [0; 64]);
+/// let mut log = SliceSink::new(&mut space);
+/// assert_eq!(rt; run_check(&mut image, &script, 0, false, &mut log), 1);
+/// assert!(rt; log.written().starts_with(b"line 2: refused: no block 0\n"));
+/// ```
+pub fn run_check<I: Source, L: Sink>(
+    image: &mut I,
+    script: &Script,
+    base: u32,
+    carry: bool,
+    log: &mut L,
+) -> u8
+    requires base { base ≤ base_limit }
+    requires image_countable { CanCountFailure (I.seen image.old).failures }
+    requires log_countable { CanCountFailure (L.seen log.old).failures }
+    ensures report { CallThenLine (λ log' answer. Checks carry script.now base (I.seen image.old)
+        (I.seen image.new) (L.seen log.old) log' answer)
+        Fault.Log script_status (L.seen log.new) result }
+
+    // What it says if nothing failed, and when something has.
+    ensures log { result ≢ failed_status → PrintsPatchLog carry script.now base (I.seen image.old)
+        (L.seen log.old) (L.seen log.new) result }
+    ensures ends_well { result ≢ failed_status
+        → EndsWell (I.seen image.old) (I.seen image.new) (L.seen log.old) (L.seen log.new) }
+    ensures flushed { result ≢ failed_status
+        → (L.seen log.new).flushes ≡ (L.seen log.old).flushes + 1 }
+    ensures failed { result ≡ failed_status
+        → ((I.seen image.new).failures ≢ (I.seen image.old).failures)
+        ⊎ ((L.seen log.new).failures ≢ (L.seen log.old).failures)
+        ⊎ IsTooLong (I.seen image.old) (I.seen image.new) }
+{
+    match check(image, script, base, carry, log) {
+        Ok(tally) => status_of(&tally),
+        Err(fault) => report_fault(fault, Fault::Log, log),
+    }
+}
+
+/// Patches an image to `out`, and writes the line of each patch to `log`: the answer is the status,
+/// 0, 1 if a patch is refused, or 2 after the line of a fault. A log that has failed gets no line.
+///
+/// # Examples
+///
+/// ```
+/// let script = parse(rt.alloc(), b"cdpatch 1\nset 0 0 41\n")?;
+/// let (mut image, mut space) = (ZeroSource::new(3), [7; 4]);
+/// let (mut out, mut log) = (SliceSink::new(&mut space), ToWrite::new(io::sink()));
+/// let status = run_apply(&mut image, &script, 0, false, &mut out, &mut log);
+/// assert_eq!(rt; (status, out.written().len()), (1, 3)); // no block 0, and the tail goes out
+/// ```
+pub fn run_apply<I: Source, O: Sink, L: Sink>(
+    image: &mut I,
+    script: &Script,
+    base: u32,
+    carry: bool,
+    out: &mut O,
+    log: &mut L,
+) -> u8
+    requires base { base ≤ base_limit }
+    requires image_countable { CanCountFailure (I.seen image.old).failures }
+    requires out_countable { CanCountFailure (O.seen out.old).failures }
+    requires log_countable { CanCountFailure (L.seen log.old).failures }
+    ensures report { CallThenLine (λ log' answer. Applies carry script.now base
+        (streams (I.seen image.old) (O.seen out.old) (L.seen log.old))
+        (streams (I.seen image.new) (O.seen out.new) log') answer)
+        Fault.Log script_status (L.seen log.new) result }
+
+    // What it says if nothing failed, and when something has.
+    ensures output { result ≢ failed_status → WritesPatched carry script.now base (I.seen image.old)
+        (I.seen image.new) (O.seen out.old) (O.seen out.new) }
+    ensures carried { carry ≡ true → result ≢ failed_status
+        → WritesCarried script.now base (I.seen image.old) (O.seen out.old) (O.seen out.new) }
+    ensures log { result ≢ failed_status → PrintsPatchLog carry script.now base (I.seen image.old)
+        (L.seen log.old) (L.seen log.new) result }
+    ensures output_ends_well { result ≢ failed_status
+        → EndsWell (I.seen image.old) (I.seen image.new) (O.seen out.old) (O.seen out.new) }
+    ensures log_ends_well { result ≢ failed_status
+        → EndsWell (I.seen image.old) (I.seen image.new) (L.seen log.old) (L.seen log.new) }
+    ensures output_flushed { result ≢ failed_status
+        → (O.seen out.new).flushes ≡ (O.seen out.old).flushes + 1 }
+    ensures log_flushed { result ≢ failed_status
+        → (L.seen log.new).flushes ≡ (L.seen log.old).flushes + 1 }
+    ensures failed { result ≡ failed_status
+        → ((I.seen image.new).failures ≢ (I.seen image.old).failures)
+        ⊎ ((O.seen out.new).failures ≢ (O.seen out.old).failures)
+        ⊎ ((L.seen log.new).failures ≢ (L.seen log.old).failures)
+        ⊎ IsTooLong (I.seen image.old) (I.seen image.new) }
+    ensures holds_few { HoldsFew (streams (I.seen image.old) (O.seen out.old) (L.seen log.old))
+        (streams (I.seen image.new) (O.seen out.new) (L.seen log.new)) }
+{
+    match apply(image, script, base, carry, out, log) {
+        Ok(tally) => status_of(&tally),
+        Err(fault) => report_fault(fault, Fault::Log, log),
+    }
+}

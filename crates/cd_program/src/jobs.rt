@@ -1,0 +1,265 @@
+//! The program as a function of its arguments: which files it asks a host for, what it does with
+//! them, and the status.
+
+ghost use Rattle.std.specs.Prelude.{◌≡◌, ◌<◌, ◌≤◌, IfOk, OnOk, map, string_bytes};
+ghost use Rattle.cd_args.specs.CommandLine.{base_in};
+ghost use Rattle.cd_args.specs.Fault.{done_status};
+ghost use Rattle.cd_report.specs.AuditText.{audit_report};
+ghost use Rattle.cd_report.specs.ListText.{list_report};
+ghost use Rattle.cd_program.specs.Messages.{open_fault_line};
+ghost use Rattle.cd_program.specs.Program.{DoesApply, DoesCheck, DoesReport, PrintsAndFails, RunsArgs, RunsJob};
+ghost use Rattle.cd_program.specs.Program.{FlushesRest, PrintsFault, ReadsScript, TakesImage, TakesScript};
+ghost use Rattle.cd_program.specs.Commands.{audit_status};
+ghost use Rattle.cd_stream.specs.Stream.{CanCountFailure};
+ghost use Rattle.cd_read.specs.Image.{base_limit};
+
+use crate::commands::{print_and_fail, print_line, run_apply, run_audit, run_check, run_list};
+use crate::host::{Host, OpenFault};
+use crate::messages::{NO_IMAGE, NO_OUTPUT, NO_SCRIPT, open_fault_line};
+use crate::script::{load_script, read_script};
+use cd_args::{FAILED, Job, LineFault, job_of, refusal_line};
+use cd_image::{Sink, Source};
+use cd_script::Script;
+use std::alloc::Global;
+
+/// The name of the standard input as an image.
+const STANDARD_INPUT: &str = "-";
+
+/// How a script is applied to an image.
+#[derive(Clone, Copy, Debug)]
+pub struct Settings {
+    /// The number of the image's first block.
+    pub base: u32,
+    /// Whether damage is carried.
+    pub carry: bool,
+}
+
+/// Prints why there is no file, and answers the status. `line` is the line for a file that was
+/// refused.
+fn report_open_fault<O: Sink>(fault: OpenFault, line: &'static str, out: &mut O) -> u8
+    requires { CanCountFailure (O.seen out.old).failures }
+    ensures { PrintsAndFails (open_fault_line line.now fault) (O.seen out.old) (O.seen out.new)
+        result }
+{
+    print_and_fail(open_fault_line(line, fault).as_bytes(), out)
+}
+
+/// Opens the image that a name stands for.
+fn image_at<H: Host>(host: &mut H, name: &str) -> Result<H::Input, OpenFault>
+    ensures asked { TakesImage H.hosting name.now host.old result host.new }
+    ensures fresh { IfOk result (λ file. (H.Input.seen file).failures ≡ 0) }
+{
+    if name == STANDARD_INPUT {
+        host.standard_input()
+    } else {
+        host.input_at(name)
+    }
+}
+
+/// The script of a file. For a fault prints its line to `log`, and answers the status.
+fn script_of<I: Source, L: Sink>(alloc: Global, file: &mut I, log: &mut L) -> Result<Script, u8>
+    requires file_countable { CanCountFailure (I.seen file.old).failures }
+    requires log_countable { CanCountFailure (L.seen log.old).failures }
+    ensures { ReadsScript (I.seen file.old) (I.seen file.new) (L.seen log.old)
+        (L.seen log.new) result }
+{
+    let text = load_script(alloc, file, log)?;
+    read_script(alloc, text.as_slice(), log)
+}
+
+/// The script in the file at a path. For a fault prints its line to `log`, and answers the status.
+fn script_at<H: Host, L: Sink>(
+    alloc: Global,
+    host: &mut H,
+    path: &str,
+    log: &mut L,
+) -> Result<Script, u8>
+    requires { CanCountFailure (L.seen log.old).failures }
+    ensures takes { TakesScript H.Input.seen H.hosting path.now host.old host.new
+        (L.seen log.old) (L.seen log.new) result }
+    ensures nothing_printed { OnOk result (L.seen log.new ≡ L.seen log.old) }
+{
+    match host.input_at(path) {
+        Ok(mut file) => script_of(alloc, &mut file, log),
+        Err(fault) => Err(report_open_fault(fault, NO_SCRIPT, log)),
+    }
+}
+
+/// Passes on what a sink still holds, unless one of its calls has failed or it is finished. It
+/// holds something if a call on an image ended early, by a fault of the image or of the log.
+fn flush_rest<O: Sink>(out: &mut O)
+    ensures { FlushesRest (O.seen out.old) (O.seen out.new) }
+{
+    if !out.finished() && out.failures() == 0 {
+        let _ = out.finish();
+    }
+}
+
+/// The command `list`: opens its image, and runs it.
+fn open_and_list<H: Host, O: Sink>(host: &mut H, image: &str, base: u32, out: &mut O) -> u8
+    requires base { base ≤ base_limit }
+    requires countable { CanCountFailure (O.seen out.old).failures }
+    ensures { DoesReport H.Input.seen H.Output.seen H.hosting
+        host.new (O.seen out.new) result (list_report base) (λ _. done_status) image.now host.old
+        (O.seen out.old) }
+{
+    match image_at(host, image) {
+        Ok(mut image) => run_list(&mut image, base, out),
+        Err(fault) => report_open_fault(fault, NO_IMAGE, out),
+    }
+}
+
+/// The command `audit`: opens its image, and runs it.
+fn open_and_audit<H: Host, O: Sink>(host: &mut H, image: &str, base: u32, out: &mut O) -> u8
+    requires base { base ≤ base_limit }
+    requires countable { CanCountFailure (O.seen out.old).failures }
+    ensures { DoesReport H.Input.seen H.Output.seen H.hosting
+        host.new (O.seen out.new) result (audit_report base) audit_status image.now host.old
+        (O.seen out.old) }
+{
+    match image_at(host, image) {
+        Ok(mut image) => run_audit(&mut image, base, out),
+        Err(fault) => report_open_fault(fault, NO_IMAGE, out),
+    }
+}
+
+/// The command `check`: reads its script, opens its image, and runs it.
+fn open_and_check<H: Host, L: Sink>(
+    alloc: Global,
+    host: &mut H,
+    image: &str,
+    script: &str,
+    settings: Settings,
+    log: &mut L,
+) -> u8
+    requires base { settings.base ≤ base_limit }
+    requires countable { CanCountFailure (L.seen log.old).failures }
+    ensures { DoesCheck H.Input.seen H.Output.seen H.hosting
+        host.new (L.seen log.new) result settings image.now script.now host.old (L.seen log.old) }
+{
+    let script = match script_at(alloc, host, script, log) {
+        Ok(script) => script,
+        Err(status) => return status,
+    };
+    let mut image = match image_at(host, image) {
+        Ok(image) => image,
+        Err(fault) => return report_open_fault(fault, NO_IMAGE, log),
+    };
+    run_check(&mut image, &script, settings.base, settings.carry, log)
+}
+
+/// The command `apply`: reads its script, opens its image, makes its file, and runs it.
+// Not inlined: in its caller the pass would find fewer registers free.
+#[inline(never)]
+fn open_and_apply<H: Host, L: Sink>(
+    alloc: Global,
+    host: &mut H,
+    image: &str,
+    script: &str,
+    path: &str,
+    settings: Settings,
+    log: &mut L,
+) -> u8
+    requires base { settings.base ≤ base_limit }
+    requires countable { CanCountFailure (L.seen log.old).failures }
+    ensures { DoesApply H.Input.seen H.Output.seen H.hosting
+        host.new (L.seen log.new) result settings image.now script.now path.now host.old
+        (L.seen log.old) }
+{
+    let script = match script_at(alloc, host, script, log) {
+        Ok(script) => script,
+        Err(status) => return status,
+    };
+    let mut input = match image_at(host, image) {
+        Ok(input) => input,
+        Err(fault) => return report_open_fault(fault, NO_IMAGE, log),
+    };
+    let mut output = match host.output_at(path) {
+        Ok(output) => output,
+        Err(fault) => return report_open_fault(fault, NO_OUTPUT, log),
+    };
+    let (base, carry) = (settings.base, settings.carry);
+    let status = run_apply(&mut input, &script, base, carry, &mut output, log);
+    flush_rest(&mut output);
+    host.take_back(path, output);
+    status
+}
+
+/// Proof step: does a job, and answers the status. One clause for the four commands, from which
+/// that of `run_args` follows.
+fn run_job<H: Host, O: Sink>(alloc: Global, host: &mut H, job: &Job, out: &mut O) -> u8
+    requires base { base_in job.now ≤ base_limit }
+    requires countable { CanCountFailure (O.seen out.old).failures }
+    ensures { RunsJob H.Input.seen H.Output.seen H.hosting
+        job.now host.old host.new (O.seen out.old) (O.seen out.new) result }
+{
+    match job {
+        Job::List { image, base } => open_and_list(host, image.as_str(), *base, out),
+        Job::Audit { image, base } => open_and_audit(host, image.as_str(), *base, out),
+        Job::Check {
+            image,
+            script,
+            base,
+            carry,
+        } => {
+            let settings = Settings {
+                base: *base,
+                carry: *carry,
+            };
+            open_and_check(alloc, host, image.as_str(), script.as_str(), settings, out)
+        }
+        Job::Apply {
+            image,
+            script,
+            out: path,
+            base,
+            carry,
+        } => {
+            let settings = Settings {
+                base: *base,
+                carry: *carry,
+            };
+            let (image, script, path) = (image.as_str(), script.as_str(), path.as_str());
+            open_and_apply(alloc, host, image, script, path, settings, out)
+        }
+    }
+}
+
+/// Prints why the arguments ask for no job, and answers the status. If that fails, help that was
+/// asked for is a failure too: a text that was lost is not success.
+fn explain<O: Sink>(alloc: Global, fault: &LineFault, out: &mut O) -> u8
+    requires { CanCountFailure (O.seen out.old).failures }
+    ensures { PrintsFault fault.now (O.seen out.old) (O.seen out.new) result }
+{
+    let text = fault.parser_text(alloc);
+    let text = text.as_deref();
+    if print_line(refusal_line(text).as_bytes(), out).is_ok() {
+        fault.status_with(text)
+    } else {
+        FAILED
+    }
+}
+
+/// Does what the arguments after the program's name ask for, and answers the status: 0, 1 if
+/// `audit` has a finding or a patch was refused, 2 after a fault. Every text goes to `out`.
+///
+/// # Examples
+///
+/// ```
+/// let args = vec![in rt.alloc(); String::from_str(rt.alloc(), "--help")?]?;
+/// let mut space = [0; 4096];
+/// let mut out = SliceSink::new(&mut space);
+/// let status = run_args(rt.alloc(), &mut System::new(&rt), args, &mut out);
+/// assert!(rt; status == 0 && out.written().starts_with(b"List, audit"));
+/// ```
+pub fn run_args<H: Host, O: Sink>(alloc: Global, host: &mut H, args: Vec<String>, out: &mut O) -> u8
+    requires { CanCountFailure (O.seen out.old).failures }
+    ensures does { RunsArgs H.Input.seen H.Output.seen H.hosting
+        (map string_bytes args.items) host.old host.new (O.seen out.old) (O.seen out.new) result }
+    ensures few { result ≤ 2 }
+{
+    match job_of(alloc, args) {
+        Ok(job) => run_job(alloc, host, &job, out),
+        Err(fault) => explain(alloc, &fault, out),
+    }
+}

@@ -1,0 +1,40 @@
+//! What the program does, as functions: from its arguments over a host's files to the text that it
+//! prints, the file that it makes, and its status. `main` only calls [`run_program`].
+//!
+//! ```
+//! let mut space = [0; 64];
+//! let mut out = SliceSink::new(&mut space);
+//! assert_eq!(rt; run_list(&mut ZeroSource::new(2352), 7, &mut out), 0);
+//! assert_eq!(rt; out.written(), b"7-7 nosync\nsectors 1 tail 0\n".as_slice());
+//! ```
+//!
+//! | Status | Meaning |
+//! |---|---|
+//! | 0 | done |
+//! | 1 | a patch was refused, or `audit` has a finding |
+//! | 2 | a fault, which has its line, or arguments that are refused |
+//!
+//! [`run_args`] takes the arguments and a [`Host`], whose files it asks for in turn: the script,
+//! the image, the new file. [`System`] is the host of the system; cd_memory has one whose files are
+//! in memory. [`run_list`], [`run_audit`], [`run_check`] and [`run_apply`] are the commands on
+//! streams. A script has at most 67,108,864 bytes, and is read whole; images (ECMA-130, 14) are
+//! not.
+//!
+//! Tests: `crates/cd_program_tests`.
+#![tactic(auto)]
+
+mod commands;
+mod host;
+mod jobs;
+mod messages;
+mod process;
+mod script;
+mod system;
+
+pub use commands::{print_and_fail, run_apply, run_audit, run_check, run_list};
+pub use host::{Host, OpenFault};
+pub use jobs::{Settings, run_args};
+pub use messages::load_fault_line;
+pub use process::run_program;
+pub use script::{LoadFault, load_script, read_script};
+pub use system::System;

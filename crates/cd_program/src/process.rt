@@ -1,0 +1,98 @@
+//! The program of a process: its arguments, and its standard output.
+
+ghost use Rattle.std.specs.Prelude.{◌≡◌, ◌≢◌, ◌≤◌, IfErr, IfOk, map, string_bytes};
+ghost use Rattle.std.specs.IoError.{error_kind};
+ghost use Rattle.cd_args.specs.Fault.{no_memory};
+ghost use Rattle.cd_program.specs.Messages.{not_text};
+ghost use Rattle.cd_program.specs.Program.{PrintsAndFails, RunsArgs};
+ghost use Rattle.cd_stream.specs.Stream.{CanCountFailure};
+
+use crate::commands::print_and_fail;
+use crate::host::Host;
+use crate::jobs::run_args;
+use crate::messages::{NO_ROOT, NOT_TEXT};
+use crate::system::System;
+use cd_args::NO_MEMORY;
+use cd_image::{Sink, ToWrite};
+use std::alloc::Global;
+use std::fs::File;
+use std::io::{self, ErrorKind};
+use std::os::fd::AsFd;
+use std::{env, fs};
+
+/// Does what the arguments after the program's name ask for, and answers the status. Every text
+/// goes to the standard output; the line that says that there is no memory for its buffer goes out
+/// without one.
+///
+/// It has no example: it is the whole of `main`, and [`run_args`] is what a test runs.
+pub fn run_program(rt: &HostRuntime) -> u8
+    ensures { result ≤ 2 }
+{
+    let Ok(_spare) = spare_files(rt) else {
+        return print_and_fail(NO_ROOT.as_bytes(), &mut ToWrite::new(rt.stdout()));
+    };
+    let mut system = System::new(rt);
+    match system.standard_output() {
+        Ok(mut out) => run_or_explain(rt.alloc(), &mut system, args_of(rt), &mut out),
+        Err(_) => print_and_fail(NO_MEMORY.as_bytes(), &mut ToWrite::new(rt.stdout())),
+    }
+}
+
+/// Files for the numbers of closed standard streams, and none if all three are open. The next file
+/// to be opened takes the number of a closed stream; while these have it, no file of the user's
+/// gets it, and no message goes into that file. To read or to write them fails. A pipe would not
+/// do: a read of its free end looks like the end of an image.
+///
+/// # Errors
+///
+/// A stream is closed, and the root directory could not be opened three times.
+fn spare_files(rt: &HostRuntime) -> io::Result<Option<(File, File, File)>> {
+    if has_standard_streams(rt) {
+        return Ok(None);
+    }
+    Ok(Some((fs::open(rt, "/")?, fs::open(rt, "/")?, fs::open(rt, "/")?)))
+}
+
+/// Whether the three standard streams are open: a closed one cannot be duplicated.
+fn has_standard_streams(rt: &HostRuntime) -> bool {
+    rt.stdin().as_fd().try_clone_to_owned().is_ok()
+        && rt.stdout().as_fd().try_clone_to_owned().is_ok()
+        && rt.stderr().as_fd().try_clone_to_owned().is_ok()
+}
+
+/// Proof step: does what the arguments ask for, or says why there are none, and answers the status.
+/// The contract of the whole program, which `run_program` can't state of a process. std gives the
+/// arguments all or none, so no command is looked for among others that are not text.
+fn run_or_explain<H: Host, O: Sink>(
+    alloc: Global,
+    host: &mut H,
+    args: io::Result<Vec<String>>,
+    out: &mut O,
+) -> u8
+    requires { CanCountFailure (O.seen out.old).failures }
+    ensures does { IfOk args (λ args. RunsArgs H.Input.seen H.Output.seen H.hosting
+        (map string_bytes args.items) host.old host.new (O.seen out.old) (O.seen out.new) result) }
+    ensures no_memory { IfErr args (λ error. error_kind error ≡ ErrorKind.OutOfMemory
+        → PrintsAndFails no_memory (O.seen out.old) (O.seen out.new) result) }
+    ensures no_text { IfErr args (λ error. error_kind error ≢ ErrorKind.OutOfMemory
+        → PrintsAndFails not_text (O.seen out.old) (O.seen out.new) result) }
+    ensures few { result ≤ 2 }
+{
+    match args {
+        Ok(args) => run_args(alloc, host, args, out),
+        Err(error) if error.kind() == ErrorKind::OutOfMemory => print_and_fail(
+            NO_MEMORY.as_bytes(),
+            out,
+        ),
+        Err(_) => print_and_fail(NOT_TEXT.as_bytes(), out),
+    }
+}
+
+/// The arguments after the program's name.
+fn args_of(rt: &HostRuntime) -> io::Result<Vec<String>> {
+    let mut args = Vec::new(rt.alloc());
+    for word in env::args(rt)?.skip(1) {
+        args.push(word)?;
+    }
+    Ok(args)
+}

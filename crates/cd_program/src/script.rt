@@ -1,0 +1,147 @@
+//! Scripts: how the file of one is read, and what its text says.
+
+ghost use Rattle.std.specs.Prelude.{◌≡◌, ◌+◌, ◌<◌, ◌≤◌, List, Ok, IfOk, IfErr, IfSome, OnOk, OnErr, length};
+ghost use Rattle.cd_args.specs.Fault.{failed_status};
+ghost use Rattle.cd_script.specs.Order.{order};
+ghost use Rattle.cd_script.specs.Script.{script};
+ghost use Rattle.cd_script.specs.Limits.{text_limit};
+ghost use Rattle.cd_script.specs.declared.fault.ScriptFault.{ScriptFault};
+ghost use Rattle.cd_script.specs.declared.patch.Patch.{Patch};
+ghost use Rattle.cd_program.specs.Messages.{script_fault_line};
+ghost use Rattle.cd_program.specs.Commands.{PrintsLine};
+ghost use Rattle.cd_program.specs.ScriptLines.{Gathers, IsFaultOf, Loads, PrintsFailedReads};
+ghost use Rattle.cd_stream.specs.Stream.{CanCountFailure};
+ghost use Rattle.cd_stream.specs.Transfer.{Gives};
+
+use crate::commands::print_and_fail;
+use crate::messages::{load_fault_line, script_fault_line};
+use cd_image::{Sink, Source, SourceFailed};
+use cd_script::{MAX_TEXT, Script, ScriptFault, parse};
+use std::alloc::{AllocError, Global};
+
+/// The number of bytes that are read of a script at a time.
+const CHUNK_SIZE: usize = 16_384;
+
+/// Why the file of a script was not read whole.
+#[derive(Clone, Copy, Debug)]
+pub enum LoadFault {
+    /// A read of the file failed.
+    Read,
+    /// A byte was read after the longest text.
+    TooLong,
+    /// Memory was refused.
+    NoMemory,
+}
+
+impl From<SourceFailed> for LoadFault {
+    ghost use Rattle.std.specs.Prelude.{◌≡◌};
+    ghost use Rattle.cd_program.specs.declared.script.LoadFault.TheVariants.{Read};
+
+    ghost from_gives = { λ _ fault. fault ≡ Read };
+
+    fn from(_: SourceFailed) -> Self {
+        LoadFault::Read
+    }
+}
+
+impl From<AllocError> for LoadFault {
+    ghost use Rattle.std.specs.Prelude.{◌≡◌};
+    ghost use Rattle.cd_program.specs.declared.script.LoadFault.TheVariants.{NoMemory};
+
+    ghost from_gives = { λ _ fault. fault ≡ NoMemory };
+
+    fn from(_: AllocError) -> Self {
+        LoadFault::NoMemory
+    }
+}
+
+/// The script of a text of at most 67,108,864 bytes.
+///
+/// # Errors
+///
+/// The status 2, for a fault of the text or want of memory: its line goes to `log`.
+///
+/// # Examples
+///
+/// ```
+/// let mut space = [0; 64];
+/// let mut log = SliceSink::new(&mut space);
+/// let status = read_script(rt.alloc(), b"cdpatch 1\nset 0 0 4\n", &mut log).err();
+/// assert_eq!(rt; status, Some(2));
+/// assert_eq!(rt; log.written(), b"script line 2: bad hex\n".as_slice());
+/// ```
+pub fn read_script<L: Sink>(alloc: Global, text: &[u8], log: &mut L) -> Result<Script, u8>
+    requires size { length text.now ≤ text_limit }
+    requires countable { CanCountFailure (L.seen log.old).failures }
+    ensures script { IfOk result (λ s. (ps : List Patch) × (script text.now ≡ Ok ps)
+        × (s ≡ order ps)) }
+    ensures nothing_printed { OnOk result (L.seen log.new ≡ L.seen log.old) }
+    ensures status { IfErr result (λ status. status ≡ failed_status) }
+    ensures line { OnErr result ((fault : ScriptFault) × IsFaultOf text.now fault
+        × PrintsLine (script_fault_line fault) (L.seen log.old) (L.seen log.new)) }
+{
+    match parse(alloc, text) {
+        Ok(script) => Ok(script),
+        Err(fault) => Err(print_and_fail(script_fault_line(fault).as_slice(), log)),
+    }
+}
+
+/// The bytes of a script's file, to its end.
+fn read_all<I: Source>(alloc: Global, file: &mut I) -> Result<Vec<u8>, LoadFault>
+    requires { CanCountFailure (I.seen file.old).failures }
+    ensures { Gathers (λ bytes. bytes.items) (I.seen file.old) (I.seen file.new) result }
+{
+    let mut bytes = Vec::new(alloc);
+    let mut chunk = [0; CHUNK_SIZE];
+    loop {
+        let left = MAX_TEXT - bytes.len();
+        let room = CHUNK_SIZE.min(left + 1);
+        let n = file.read(&mut chunk[..room])?;
+        if n == 0 {
+            return Ok(bytes);
+        }
+        if n > left {
+            return Err(LoadFault::TooLong);
+        }
+        bytes.extend_from_slice(&chunk[..n])?;
+    }
+}
+
+/// The bytes of a script's file, all that it has, at most 67,108,864.
+///
+/// # Errors
+///
+/// The status 2, if a read fails, or a byte comes after that many, or memory is refused,
+/// whichever is first: a line in `log` says so.
+///
+/// # Examples
+///
+/// ```
+/// let mut log = ToWrite::new(io::sink());
+/// let mut file = SliceSource::new(b"cdpatch 1\n");
+/// let text = load_script(rt.alloc(), &mut file, &mut log).ok();
+/// assert_eq!(rt; text.as_deref(), Some(b"cdpatch 1\n".as_slice()));
+/// ```
+pub fn load_script<I: Source, L: Sink>(
+    alloc: Global,
+    file: &mut I,
+    log: &mut L,
+) -> Result<Vec<u8>, u8>
+    requires file_countable { CanCountFailure (I.seen file.old).failures }
+    requires log_countable { CanCountFailure (L.seen log.old).failures }
+    ensures loads { Loads (λ bytes. bytes.items) (I.seen file.old) (I.seen file.new)
+        (L.seen log.old) (L.seen log.new) result }
+    ensures whole { IfOk result
+        (λ bytes. IfSome (I.seen file.old).rest (λ all. bytes.items ≡ all)) }
+    ensures given { IfOk result
+        (λ bytes. Gives (I.seen file.old) (I.seen file.new) bytes.items) }
+    ensures within { IfOk result (λ bytes. length bytes.items ≤ text_limit) }
+    ensures nothing_printed { OnOk result (L.seen log.new ≡ L.seen log.old) }
+    ensures failed_reads { PrintsFailedReads (I.seen file.old) (I.seen file.new) (L.seen log.old)
+        (L.seen log.new) result }
+{
+    match read_all(alloc, file) {
+        Ok(bytes) => Ok(bytes),
+        Err(fault) => Err(print_and_fail(load_fault_line(fault).as_bytes(), log)),
+    }
+}

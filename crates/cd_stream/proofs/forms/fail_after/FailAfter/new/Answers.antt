@@ -1,5 +1,0 @@
-use Rattle.std.proofs.Common.{refl}
-use Rattle.cd_stream.proofs.forms.fail_after.FailAfter.new.Goals as goal
-
-pub returns-clause-limit : goal.returns-clause-limit
-returns-clause-limit g c = refl

@@ -1,5 +1,0 @@
-use Rattle.std.proofs.Common.{rules}
-use Rattle.cd_stream.proofs.forms.from_read.FromRead.new.Goals as goal
-
-pub returns : goal.returns
-returns g c = search rules

@@ -1,4 +1,0 @@
-use Rattle.cd_stream.proofs.forms.short.Short.new.Goals as goal
-
-pub returns-clause-most : goal.returns-clause-most
-returns-clause-most g c = c.max.ensures

@@ -1,0 +1,117 @@
+-- What the adapters show besides what every source and sink does.
+use Rattle.std.specs.Prelude.{ℕ, ◌+◌, ◌-◌, Bool, ◌&&◌, Some, length, min, nat_eq, replicate, take}
+use Rattle.std.specs.Prelude.{List, drop}
+use Rattle.std.specs.Borrow.{GName}
+use Rattle.cd_stream.specs.Stream.{Incoming, Outgoing}
+use Rattle.cd_stream.specs.declared.adapters.fail_after.FailAfter.{FailAfter}
+use Rattle.cd_stream.specs.declared.adapters.short.Short.{Short}
+use Rattle.cd_stream.specs.declared.adapters.slice_sink.SliceSink.{SliceSink}
+use Rattle.cd_stream.specs.declared.adapters.slice_source.SliceSource.{SliceSource}
+use Rattle.cd_stream.specs.declared.adapters.zero_source.ZeroSource.{ZeroSource}
+
+-- ---- a slice as a source, and zeros
+
+-- what a contract sees of a slice: its bytes from the next one on, and no failure
+abbrev pub slice_incoming : SliceSource → Incoming
+slice_incoming s = record {
+  rest = Some s.rest.now;
+  given = s.given;
+  failures = 0;
+  ended = s.ended;
+}
+
+-- what a contract sees of zeros: as many as are left, and no failure
+abbrev pub zeros_incoming : ZeroSource → Incoming
+zeros_incoming s = record {
+  rest = Some (replicate s.left 0);
+  given = s.given;
+  failures = 0;
+  ended = s.ended;
+}
+
+-- ---- a slice as a sink
+
+-- what a contract sees of a slice as a sink: the bytes at its front
+abbrev pub slice_outgoing : SliceSink → Outgoing
+slice_outgoing s = record {
+  written = Some (take s.used s.space.now);
+  taken = s.used;
+  flushes = s.flushes;
+  failures = s.failures;
+  finished = s.finished;
+}
+
+-- what was written, at the front of the slice
+abbrev pub slice_written : SliceSink → List ℕ
+slice_written s = take s.used s.space.now
+
+-- the rest of the slice
+abbrev pub rest_of_slice : SliceSink → List ℕ
+rest_of_slice s = drop s.used s.space.now
+
+-- the ghost name of the slice that it stands over: plumbing, by which a caller finds his slice
+-- again
+abbrev pub slice_ghost_name : SliceSink → GName
+slice_ghost_name s = s.space.ghost_name
+
+-- the number of bytes for which there is room
+abbrev pub room_of : SliceSink → ℕ
+room_of s = length s.space.now - s.used
+
+-- ---- few bytes a call
+
+-- the source or sink inside
+abbrev pub short_inner : {S : Type 0} → Short S → S
+short_inner s = s.inner
+
+-- the largest number of bytes that it passes in a call
+abbrev pub passes_at_most : {S : Type 0} → Short S → ℕ
+passes_at_most s = s.most
+
+-- whether the last call of its own `write` and `finish` was a `finish` that succeeded
+abbrev pub short_finished : {S : Type 0} → Short S → Bool
+short_finished s = s.finished
+
+-- what a contract sees of it: as the sink inside, but finished or not by its own calls
+abbrev pub short_outgoing : {S : Type 0} → (S → Outgoing) → Short S → Outgoing
+short_outgoing seen s = record (seen s.inner) { finished = s.finished }
+
+-- ---- failing from some byte on
+
+-- the source or sink inside
+abbrev pub fail_after_inner : {S : Type 0} → FailAfter S → S
+fail_after_inner f = f.inner
+
+-- the number of bytes that it still passes
+abbrev pub still_passes : {S : Type 0} → FailAfter S → ℕ
+still_passes f = f.left
+
+-- the failures after the limit
+abbrev pub own_failures : {S : Type 0} → FailAfter S → ℕ
+own_failures f = f.own
+
+-- whether the last call of its own `write` and `finish` was a `finish` that succeeded
+abbrev pub fail_after_finished : {S : Type 0} → FailAfter S → Bool
+fail_after_finished f = f.finished
+
+-- the failures inside and its own, as far as they can be counted
+abbrev pub failures_with : {S : Type 0} → ℕ → FailAfter S → ℕ
+failures_with within f = min (within + f.own) 4294967295
+
+-- what a contract sees of it as a source: as the source inside, with its own failures; once it has
+-- failed itself, it has not ended
+abbrev pub failing_incoming : {S : Type 0} → (S → Incoming) → FailAfter S → Incoming
+failing_incoming seen f = record (seen f.inner) {
+  failures = failures_with (seen f.inner).failures f;
+  ended = (seen f.inner).ended && nat_eq f.own 0;
+}
+
+-- what a contract sees of it as a sink: as the sink inside, with its own failures
+abbrev pub failing_outgoing : {S : Type 0} → (S → Outgoing) → FailAfter S → Outgoing
+failing_outgoing seen f = record {
+  written = (seen f.inner).written;
+  taken = (seen f.inner).taken;
+  flushes = (seen f.inner).flushes;
+  failures = failures_with (seen f.inner).failures f;
+  finished = f.finished;
+}

@@ -1,0 +1,191 @@
+//! A sink that holds bytes back.
+
+ghost use Rattle.std.specs.Prelude.{◌≡◌, ◌+◌, ◌≤◌, ◌++◌, drop, length, take};
+ghost use Rattle.cd_stream.specs.Stream.{CanCountFailure};
+
+use crate::sink::{Sink, SinkFailed};
+
+/// Holds bytes back from another sink: they go out when a write finds no room, and at `finish`. Its
+/// space is as long as the bytes that it may hold back, so with a space of no bytes it passes on
+/// each write at once.
+///
+/// A write or flush below that fails is a failure of the call that made it, and is made again only
+/// by a further call. What it still holds when it is dropped is lost.
+///
+/// It stands in the place of std's `BufWriter`. That one makes an interrupted write again, and a
+/// write that failed once more at a drop, and std's contract does not say which calls it makes
+/// below.
+#[derive(Debug, Drop)]
+pub struct Buffered<S> {
+    inner: S,
+    space: Vec<u8>,
+    // What it holds lies from `start` to `end`.
+    start: usize,
+    end: usize,
+    finished: bool,
+    ghost ordered: { start ≤ end },
+    ghost within: { end ≤ length space.items },
+}
+
+impl<S: Sink> Buffered<S> {
+    ghost use Rattle.std.specs.Prelude.{◌≡◌, ◌+◌, ◌<◌, ◌≤◌, [], ◌++◌, IfOk, false, length};
+    ghost use Rattle.cd_stream.specs.Buffering.{Drains, buffered_inner, buffered_outgoing, held_bytes};
+    ghost use Rattle.cd_stream.specs.Buffering.{held_count, held_only, is_finished, room_after};
+    ghost use Rattle.cd_stream.specs.Buffering.{space_of};
+    ghost use Rattle.cd_stream.specs.Transfer.{Writes};
+
+    /// Stands over `inner`, and holds back at most as many bytes as `space` has.
+    ///
+    /// # Examples
+    ///
+    /// ```
+    /// let mut memory = [0; 4];
+    /// let mut sink = Buffered::new(SliceSink::new(&mut memory), vec![in rt.alloc(); 0; 8]?);
+    /// assert_eq!(rt; sink.write(b"abcde"), Ok(5)); // it holds them back
+    /// assert_eq!(rt; sink.finish(), Err(SinkFailed)); // below there is no room for the last
+    /// ```
+    pub fn new(inner: S, space: Vec<u8>) -> Self
+        ensures seen { ⟦<Buffered<S> as Sink>⟧.seen result
+            ≡ record (S.seen inner) { finished = false } }
+        ensures over { buffered_inner result ≡ inner }
+        ensures space { space_of result ≡ length space.items }
+        ensures room { room_after result ≡ length space.items }
+        ensures empty { held_bytes result ≡ [] }
+    {
+        Buffered {
+            inner,
+            space,
+            start: 0,
+            end: 0,
+            finished: false,
+        }
+    }
+
+    /// Puts `bytes`, for which there is room, after what it holds.
+    fn hold(&mut self, bytes: &[u8])
+        requires { length bytes.now ≤ room_after self.old }
+        ensures held { held_bytes self.new ≡ held_bytes self.old ++ bytes.now }
+        ensures count { held_count self.new ≡ held_count self.old + length bytes.now }
+        ensures inner { buffered_inner self.new ≡ buffered_inner self.old }
+        ensures space { space_of self.new ≡ space_of self.old }
+        ensures room { room_after self.new + length bytes.now ≡ room_after self.old }
+        ensures finished { is_finished self.new ≡ is_finished self.old }
+    {
+        copy_at(&mut self.space, self.end, bytes);
+        self.end += bytes.len();
+    }
+
+    /// Passes on all that it holds. If a write fails, it still holds, from where it lies, what that
+    /// write and those after it had to pass; the room before it is used again only when all has
+    /// gone out.
+    #[cold]
+    #[inline(never)]
+    fn drain(&mut self) -> Result<(), SinkFailed>
+        requires { CanCountFailure (S.seen (buffered_inner self.old)).failures }
+        ensures { Drains S.seen self.old self.new result }
+    {
+        while self.start < self.end {
+            self.start += self.inner.write(&self.space[self.start..self.end])?;
+        }
+        self.start = 0;
+        self.end = 0;
+        Ok(())
+    }
+
+    /// Writes bytes for which there was no room: passes on what it holds, and holds them then. Only
+    /// a write that is longer than its space goes straight to the sink below.
+    #[cold]
+    #[inline(never)]
+    fn write_past(&mut self, bytes: &[u8]) -> Result<usize, SinkFailed>
+        requires some { 0 < length bytes.now }
+        requires unfinished { is_finished self.old ≡ false }
+        requires countable { CanCountFailure (S.seen (buffered_inner self.old)).failures }
+        ensures writes { Writes (buffered_outgoing S.seen self.old)
+            (buffered_outgoing S.seen self.new) bytes.now result }
+        ensures space { space_of self.new ≡ space_of self.old }
+        ensures held { IfOk result (λ _. held_bytes self.new ≡ held_only self.old bytes.now) }
+    {
+        self.drain()?;
+        if bytes.len() > self.space.len() {
+            return self.inner.write(bytes);
+        }
+        self.hold(bytes);
+        Ok(bytes.len())
+    }
+}
+
+/// Proof step: writes `bytes` over those of `space` from `place` on, so that the bytes before and
+/// after are named in one clause.
+fn copy_at(space: &mut [u8], place: usize, bytes: &[u8])
+    requires { place + length bytes.now ≤ length space.old }
+    ensures { space.new
+        ≡ take place space.old ++ bytes.now ++ drop (place + length bytes.now) space.old }
+{
+    space[place..place + bytes.len()].copy_from_slice(bytes);
+}
+
+impl<S: Sink> Sink for Buffered<S> {
+    ghost use Rattle.std.specs.Prelude.{◌≡◌, ◌-◌, ◌<◌, ◌≤◌, [], ◌&&◌, IfOk, IsOk, IsTrue, drop};
+    ghost use Rattle.std.specs.Prelude.{length, nat_eq, take, true};
+    ghost use Rattle.std.specs.Io.KnownBytes.{append_known};
+    ghost use Rattle.cd_stream.specs.Buffering.{HasDrained, HoldsBack, buffered_inner, buffered_outgoing};
+    ghost use Rattle.cd_stream.specs.Buffering.{held_after, held_bytes, room_after, space_of};
+    ghost use Rattle.cd_stream.specs.Transfer.{Flushes, Writes};
+
+    ghost seen = { λ s. record {
+      written = append_known (S.seen s.inner).written
+          (take (s.end - s.start) (drop s.start s.space.items));
+      taken = (S.seen s.inner).taken + (s.end - s.start);
+      flushes = (S.seen s.inner).flushes;
+      failures = (S.seen s.inner).failures;
+      finished = s.finished && (S.seen s.inner).finished && nat_eq s.start s.end;
+    } };
+
+    fn write(&mut self, bytes: &[u8]) -> Result<usize, SinkFailed>
+        requires some { 0 < length bytes.now }
+        requires countable { CanCountFailure (buffered_outgoing S.seen self.old).failures }
+        ensures writes { Writes (buffered_outgoing S.seen self.old)
+            (buffered_outgoing S.seen self.new) bytes.now result }
+        ensures fits { length bytes.now ≤ room_after self.old
+            → HoldsBack self.old self.new bytes.now result }
+        ensures held { IfOk result (λ _. held_bytes self.new ≡ held_after self.old bytes.now) }
+        ensures few { length (held_bytes self.new) ≤ space_of self.new }
+        ensures space { space_of self.new ≡ space_of self.old }
+    {
+        self.finished = false;
+        if bytes.len() > self.space.len() - self.end {
+            return self.write_past(bytes);
+        }
+        self.hold(bytes);
+        Ok(bytes.len())
+    }
+
+    fn finish(&mut self) -> Result<(), SinkFailed>
+        requires { CanCountFailure (buffered_outgoing S.seen self.old).failures }
+        ensures flushes { Flushes (buffered_outgoing S.seen self.old)
+            (buffered_outgoing S.seen self.new) result }
+        ensures below { IsOk result → (S.seen (buffered_inner self.new)).finished ≡ true }
+        ensures empty { IsOk result → held_bytes self.new ≡ [] }
+        ensures room { IsOk result → room_after self.new ≡ space_of self.new }
+        ensures few { length (held_bytes self.new) ≤ space_of self.new }
+        ensures space { space_of self.new ≡ space_of self.old }
+    {
+        self.finished = false;
+        self.drain()?;
+        self.inner.finish()?;
+        self.finished = true;
+        Ok(())
+    }
+
+    fn finished(&self) -> bool
+        ensures finished { result ≡ (buffered_outgoing S.seen self.now).finished }
+        ensures passed { IsTrue result → HasDrained S.seen self.now }
+    {
+        // The flag of its own, so that a new one over a finished sink is not finished.
+        self.finished && self.inner.finished() && self.start == self.end
+    }
+
+    fn failures(&self) -> u32 {
+        self.inner.failures()
+    }
+}

@@ -1,0 +1,128 @@
+//! Memory as a sink.
+
+ghost use Rattle.std.specs.Prelude.{◌≡◌, ◌≤◌, [], Some, false, length, take};
+ghost use Rattle.cd_stream.specs.Stream.{CanCountFailure};
+
+use crate::count::Count;
+use crate::sink::{Sink, SinkFailed};
+
+/// Writes to the front of a slice, and fails if that is full.
+///
+/// Its own `write` and `finish` promise that it still stands over the same slice. A call that takes
+/// any sink (`write_all`, `Short`, `FailAfter`) promises only what [`Sink`] does, which names no
+/// slice: there [`SliceSink::written`] gives the bytes.
+#[derive(Debug, Drop)]
+pub struct SliceSink<'a> {
+    space: &'a mut [u8],
+    used: usize,
+    flushes: Count,
+    failures: u32,
+    finished: bool,
+    ghost within: { used ≤ length space.now },
+}
+
+impl<'a> SliceSink<'a> {
+    ghost use Rattle.std.specs.Prelude.{◌≡◌, [], Some, false, length};
+    ghost use Rattle.cd_stream.specs.Adapters.{room_of, slice_written, slice_ghost_name, rest_of_slice};
+
+    /// Stands over `space`, from its front.
+    ///
+    /// # Examples
+    ///
+    /// ```
+    /// let mut space = [0; 4];
+    /// let mut sink = SliceSink::new(&mut space);
+    /// assert_eq!(rt; sink.write(b"ab"), Ok(2));
+    /// assert_eq!(rt; sink.written(), b"ab".as_slice());
+    /// ```
+    pub fn new(space: &'a mut [u8]) -> Self
+        ensures seen { ⟦<SliceSink<'a> as Sink>⟧.seen result
+            ≡ record {
+              written = Some [];
+              taken = 0;
+              flushes = 0;
+              failures = 0;
+              finished = false;
+            } }
+        ensures room { room_of result ≡ length space.entry.now }
+        ensures rest { rest_of_slice result ≡ space.entry.now }
+        ensures same_slice { slice_ghost_name result ≡ space.entry.ghost_name }
+    {
+        SliceSink {
+            space,
+            used: 0,
+            flushes: Count::zero(),
+            failures: 0,
+            finished: false,
+        }
+    }
+
+    /// The bytes that were written, in their order: the front of the slice.
+    ///
+    /// See the example of [`SliceSink::new`].
+    pub fn written(&self) -> &[u8]
+        ensures { result.now ≡ slice_written self.now }
+    {
+        &self.space[..self.used]
+    }
+}
+
+impl Sink for SliceSink<'_> {
+    ghost use Rattle.std.specs.Prelude.{◌≡◌, ◌+◌, ◌<◌, ◌↔◌, IfOk, IsOk, OnErr, Some, drop, false};
+    ghost use Rattle.std.specs.Prelude.{is_ok, length, min, take};
+    ghost use Rattle.cd_stream.specs.Adapters.{room_of, slice_outgoing, slice_ghost_name, rest_of_slice};
+    ghost use Rattle.cd_stream.specs.Transfer.{Flushes, Writes};
+
+    ghost seen = { λ s. record {
+      written = Some (take s.used s.space.now);
+      taken = s.used;
+      flushes = s.flushes;
+      failures = s.failures;
+      finished = s.finished;
+    } };
+
+    fn write(&mut self, bytes: &[u8]) -> Result<usize, SinkFailed>
+        requires some { 0 < length bytes.now }
+        requires countable { CanCountFailure (slice_outgoing self.old).failures }
+        ensures writes { Writes (slice_outgoing self.old) (slice_outgoing self.new)
+            bytes.now result }
+        ensures room { IsOk result ↔ (0 < room_of self.old) }
+        ensures taken { IfOk result (λ n. n ≡ min (length bytes.now) (room_of self.old)) }
+        ensures room_left { IfOk result (λ n. room_of self.new + n ≡ room_of self.old) }
+        ensures rest { IfOk result (λ n. rest_of_slice self.new ≡ drop n (rest_of_slice self.old)) }
+        ensures rest_left { OnErr result (rest_of_slice self.new ≡ rest_of_slice self.old) }
+        ensures same_slice { slice_ghost_name self.new ≡ slice_ghost_name self.old }
+    {
+        self.finished = false;
+        let n = bytes.len().min(self.space.len() - self.used);
+        if n == 0 {
+            self.failures += 1;
+            return Err(SinkFailed);
+        }
+        let end = self.used + n;
+        self.space[self.used..end].copy_from_slice(&bytes[..n]);
+        self.used = end;
+        Ok(n)
+    }
+
+    fn finish(&mut self) -> Result<(), SinkFailed>
+        requires { CanCountFailure (slice_outgoing self.old).failures }
+        ensures flushes { Flushes (slice_outgoing self.old) (slice_outgoing self.new) result }
+        ensures never_fails { IsOk result }
+        ensures room { room_of self.new ≡ room_of self.old }
+        ensures rest { rest_of_slice self.new ≡ rest_of_slice self.old }
+        ensures same_slice { slice_ghost_name self.new ≡ slice_ghost_name self.old }
+    {
+        self.flushes.add(1);
+        self.finished = true;
+        Ok(())
+    }
+
+    fn finished(&self) -> bool {
+        self.finished
+    }
+
+    fn failures(&self) -> u32 {
+        self.failures
+    }
+}
