@@ -114,7 +114,7 @@ fn is_sound(bytes: &[u8; SECTOR_SIZE]) -> bool
 fn has_zeros(bytes: &[u8; SECTOR_SIZE]) -> bool
     ensures { result ≡ list_all (λ b. b == 0) (slice_range bytes.now 2068 2076) }
 {
-    bytes[INTERMEDIATE..P_PARITY].iter().all(|b| *b == 0)
+    bytes[INTERMEDIATE..P_PARITY].starts_with(&[0; P_PARITY - INTERMEDIATE])
 }
 
 /// Whether the EDC is that of the bytes before it.

@@ -1,12 +1,29 @@
-use Rattle.std.proofs.Common.{rules, tests}
+use Rattle.std.proofs.Common.{◌≡◌, ℕ, List, [], ◌∷◌, length, refl, ap, ap₂, sym, ◌∙◌, arith, zero, suc, Bool, ◌&&◌}
+use Rattle.std.specs.Prelude.{nat_eq, replicate}
 use Rattle.std.specs.Bool.{◌==◌}
-use Rattle.std.specs.List.{slice_range}
-use Rattle.std.proofs.lemmas.Iterator.{YieldsList-from_slice}
-use Rattle.std.proofs.lemmas.Iterator.Search.{all_from_yields_List}
+use Rattle.std.specs.List.{list_all, slice_range}
+use Rattle.std.specs.Cmp.Lexicographic.{pointwise}
+use Rattle.std.proofs.lemmas.List.{take_all}
+use Rattle.std.proofs.Math.Dec.{eqb-suc-zero, eqb-zero-suc}
 use Rattle.cd_sector.proofs.defects.has_zeros.Goals as goal
+
+-- zero on either side of the comparison
+same : (x : ℕ) → nat_eq 0 x ≡ (x == 0)
+same zero = refl
+same (suc n) = eqb-zero-suc n ∙ sym (eqb-suc-zero n)
+
+-- a list that is compared with zeros, of its own length, is tested for zeros
+zeros : (n : ℕ) (xs : List ℕ) → length xs ≡ n
+    → pointwise nat_eq (replicate n 0) xs ≡ list_all (λ b. b == 0) xs
+zeros zero [] is = refl
+zeros zero (x ∷ xs) is = absurd (omega (arith, is))
+zeros (suc n) [] is = absurd (omega (arith, is))
+zeros (suc n) (x ∷ xs) is = ap₂ (λ a b. a && b) (same x) (zeros n xs (omega (arith, is)))
 
 pub returns : goal.returns
 returns c =
-    all_from_yields_List (λ b. b == 0) _ _ _ c.all.ensures.ran
-    (YieldsList-from_slice (slice_range c.args.bytes.now 2068 2076) c.iter.ensures.rest)
-    (λ x b q k. search (rules, tests))
+    let part = slice_range c.args.bytes.now 2068 2076 in
+    let size : length part ≡ 8 = omega (arith, c.told-bytes) in
+    c.starts_with.ensures.value
+    ∙ ap (pointwise nat_eq (replicate 8 0)) (take_all 8 part (omega (arith, size)))
+    ∙ zeros 8 part size
