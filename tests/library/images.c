@@ -181,7 +181,7 @@ static void check_bases(const uint8_t *image, size_t size, unsigned n) {
         }
 }
 
-/* An output that is too small gets a beginning of the image. */
+/* An output that is too small is filled by the beginning of the new image. */
 static void check_outputs(const uint8_t *image, size_t size, unsigned n) {
     static const size_t sizes[] = {0, 1, SECTOR - 1, SECTOR, 2 * SECTOR, 2 * SECTOR + TAIL - 1, 2 * SECTOR + TAIL};
     uint8_t wanted[2 * SECTOR + TAIL];
@@ -192,9 +192,9 @@ static void check_outputs(const uint8_t *image, size_t size, unsigned n) {
         const char *reason = "cdpatch: writing the output failed\n";
         size_t length = strlen(reason);
         ask(&it, i % 2);
-        judge(is_beginning(it.out, it.out_size, wanted), "a beginning of the new image", n);
+        judge(!memcmp(it.out, wanted, it.out_size), "the beginning of the new image", n);
         if (it.out_size == size)
-            judge(it.status == CDPATCH_DONE && !memcmp(it.out, wanted, size), "an output of the size of the image", n);
+            judge(it.status == CDPATCH_DONE, "an output of the size of the image", n);
         else
             judge(it.status == CDPATCH_FAILED && it.length >= length && it.length <= MOST &&
                   !memcmp(it.log + it.length - length, reason, length), "an output that is too small", n);

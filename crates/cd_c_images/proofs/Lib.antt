@@ -4,3 +4,4 @@ mod GrowLemmas
 mod PatchFrontLemmas
 mod PlainLemmas
 mod RoomLemmas
+mod StopLemmas

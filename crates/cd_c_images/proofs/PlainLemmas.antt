@@ -11,11 +11,12 @@ use Rattle.cd_stream.specs.Adapters.{slice_incoming}
 use Rattle.cd_stream.specs.Stream.{Outgoing}
 use Rattle.cd_stream.specs.declared.adapters.slice_source.SliceSource.{SliceSource}
 use Rattle.cd_c_images.specs.Images.{AppliesInMemory, ChecksInMemory, ReportsInMemory}
-use Rattle.cd_c_images.specs.Plain.{CheckFails, ReportFails, TakesPatches}
+use Rattle.cd_c_images.specs.Plain.{ApplyFails, CheckFails, ReportFails, TakesPatches}
 use Rattle.cd_c_images.specs.Plain.{WritesLines, WritesReport}
 use Rattle.cd_c_images.specs.Rooms.{FillsCounted, FillsFront, FillsRoom, Holds, lent_to, room_outgoing}
 use Rattle.cd_c_images.specs.declared.room.Room.{Room}
 use Rattle.cd_c_images.proofs.RoomLemmas.{fills-counted}
+use Rattle.cd_c_images.proofs.StopLemmas.{apply-fails}
 
 -- a text that is known to have gone out is the one in the memory
 same-text : (after : Outgoing) (room room' text : List ℕ) (fills : FillsFront after room room')
@@ -177,26 +178,28 @@ module _ (before : Outgoing) (room : Room) (held held' : List ℕ) (fresh : befo
       before room held held' fresh does was now room.used refl in
       record { report = all; text = writes-lines all; failed = check-fails all }
 
-  pub apply-clauses : {carry : Bool} {base : ℕ} {image script out out' : List ℕ} {status : ℕ}
-      → FillsRoom (λ made made'. AppliesInMemory carry base image script made made' before
+  pub apply-clauses : {carry : Bool} {base : ℕ} {bytes script out out' : List ℕ} {status : ℕ}
+      → FillsRoom (λ made made'. AppliesInMemory carry base bytes script made made' before
       (room_outgoing room) status) out out'
       → record {
         report : FillsRoom (λ made made'. FillsCounted (λ lines lines'.
-            AppliesInMemory carry base image script made made' lines lines' status) held held' room.used)
+            AppliesInMemory carry base bytes script made made' lines lines' status) held held' room.used)
             out out';
-        image : status ≢ failed_status → TakesPatches carry base image script
+        image : status ≢ failed_status → TakesPatches carry base bytes script
             (λ patches outcomes last. Holds last out out'
-            × WritesLines patches image outcomes held held' room.used status);
+            × WritesLines patches bytes outcomes held held' room.used status);
+        failed : status ≡ failed_status
+            → ApplyFails carry base bytes script out out' held room.used;
       }
-  apply-clauses {carry = carry} {base = base} {image = image} {script = script} {out = out}
+  apply-clauses {carry = carry} {base = base} {bytes = bytes} {script = script} {out = out}
       {out' = out'} {status = status} filled =
       let all : FillsRoom (λ made made'. FillsCounted (λ lines lines'.
-      AppliesInMemory carry base image script made made' lines lines' status) held held' room.used)
+      AppliesInMemory carry base bytes script made made' lines lines' status) held held' room.used)
       out out' = record {
         after = filled.after;
         does = fills-counted (λ lines lines'.
-            AppliesInMemory carry base image script fresh_outgoing filled.after lines lines' status)
+            AppliesInMemory carry base bytes script fresh_outgoing filled.after lines lines' status)
             before room held held' fresh filled.does was now room.used refl;
         fills = filled.fills;
       } in
-      record { report = all; image = writes-image all }
+      record { report = all; image = writes-image all; failed = apply-fails all }

@@ -1,5 +1,5 @@
 -- What the calls on an image in memory do, in plain words.
-use Rattle.std.specs.Prelude.{◌≡◌, ℕ, ◌<◌, ◌⊎◌, Bool, List, length}
+use Rattle.std.specs.Prelude.{◌≡◌, ℕ, ◌<◌, ◌⊎◌, Bool, List, length, take}
 use Rattle.cd_image.specs.PatchLog.{log_text, patch_tally}
 use Rattle.cd_image.specs.Patched.{EachPatching}
 use Rattle.cd_program.specs.Commands.{script_status}
@@ -7,6 +7,7 @@ use Rattle.cd_patch.specs.declared.outcome.Outcome.{Outcome}
 use Rattle.cd_read.specs.Image.{base_limit, image_limit}
 use Rattle.cd_report.specs.Report.{ReportSpec}
 use Rattle.cd_script.specs.declared.patch.Patch.{Patch}
+use Rattle.cd_stream.specs.Stream.{IsBeginning}
 use Rattle.cd_c_images.specs.Images.{HasNoScript, HasScript}
 use Rattle.cd_c_images.specs.Rooms.{Holds}
 
@@ -41,3 +42,24 @@ pub record TakesPatches (carry : Bool) (base : ℕ) (image text : List ℕ)
 abbrev pub CheckFails : ℕ → List ℕ → List ℕ → List ℕ → ℕ → Type 0
 CheckFails base image text log size =
     ReportFails base image log size ⊎ ((line : List ℕ) × HasNoScript text line)
+
+-- what was sent to an output begins the patched image, in each way to patch the image, cut at the
+-- largest size
+pub record SendsFront (carry : Bool) (patches : List Patch) (base : ℕ) (image out out' : List ℕ)
+    : Type 0 where
+  pub sent : List ℕ
+  pub holds : Holds sent out out'
+  pub begins : EachPatching carry patches base (take image_limit image)
+      (λ outcomes last. IsBeginning sent last)
+
+-- why an `apply` fails: no image has its base, or the text is no script, and then nothing was sent;
+-- or the image is too long, or the output or the log is full
+pub data ApplyFails (carry : Bool) (base : ℕ) (image text out out' log : List ℕ) (size : ℕ)
+    : Type 0 where
+  outside : base_limit < base → out' ≡ out → ApplyFails carry base image text out out' log size
+  without_script : (line : List ℕ) → HasNoScript text line → out' ≡ out
+      → ApplyFails carry base image text out out' log size
+  stopped : (patches : List Patch) → HasScript text patches
+      → (front : SendsFront carry patches base image out out')
+      → (image_limit < length image) ⊎ (length front.sent ≡ length out) ⊎ (size ≡ length log)
+      → ApplyFails carry base image text out out' log size

@@ -3,7 +3,7 @@
 ghost use Rattle.std.specs.Prelude.{◌≡◌, ◌≢◌};
 ghost use Rattle.cd_args.specs.Fault.{failed_status};
 ghost use Rattle.cd_c_images.specs.Images.{AppliesInMemory, ChecksInMemory};
-ghost use Rattle.cd_c_images.specs.Plain.{CheckFails, TakesPatches, WritesLines};
+ghost use Rattle.cd_c_images.specs.Plain.{ApplyFails, CheckFails, TakesPatches, WritesLines};
 ghost use Rattle.cd_c_images.specs.Rooms.{FillsCounted, FillsRoom, Holds};
 
 use crate::commands::{apply_image, check_image};
@@ -57,6 +57,8 @@ pub extern "C" fn cdpatch_apply(
     ensures image { result ≢ failed_status → TakesPatches carry base image.now script.now
         (λ patches outcomes last. Holds last out.old out.new
         × WritesLines patches image.now outcomes log.old log.new length.new result) }
+    ensures failed { result ≡ failed_status → ApplyFails carry base image.now script.now out.old
+        out.new log.old length.new }
 {
     let mut outcomes = Room::new(log);
     let status = apply_image(alloc, image, script, base, carry, out, &mut outcomes);
