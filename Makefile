@@ -16,7 +16,7 @@ all: cdpatch
 
 include install.mk
 
-# tools/prove.sh knows how the toolchain works inside, and is faster. rt alone proves and builds the same.
+# tools/prove.sh knows how the toolchain works inside, and is faster. rt by itself proves and builds the same.
 cdpatch: FORCE
 ifeq ($(SIMPLE),1)
 	cd crates/cdpatch && rt run $(CPU:%=--cpu %) < /dev/null > /dev/null

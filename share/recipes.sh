@@ -377,12 +377,12 @@ files_of() (
     recipes_file "$1" && recipes_number "$2" FIRST && recipes_room || return
     isoinfo -l -i "$file" > "$room/list" 2> "$room/errors" || { recipes_say "isoinfo finds no ISO 9660 file system in $1"; return 2; }
     awk -v first="$2" '
-        /^Directory listing of / { folder = substr($0, 22); next }
+        /^Directory listing of / { directory = substr($0, 22); next }
         /^-/ && match($0, /\[ *[0-9]+ [0-9a-fA-F]+\] +/) {
             split(substr($0, RSTART + 1, RLENGTH), extent, " ")
             name = substr($0, RSTART + RLENGTH); sub(/ +$/, "", name)
             last = extent[1] + ($5 > 0 ? int(($5 - 1) / 2048) : 0)
-            print extent[1] + first "-" last + first, $5, folder name
+            print extent[1] + first "-" last + first, $5, directory name
         }' "$room/list" | sort -n
 )
 

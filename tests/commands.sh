@@ -7,7 +7,7 @@ set -u
 head -c 7056 "$vectors" > image
 printf 'cdpatch 1\nset 1 0 41\n' > script
 keep
-mkdir folder
+mkdir directory
 printf 'cdpatch 1\nset 1 0 4\n' > wrong
 : > empty
 { echo 'cdpatch 1'; yes 'rebuild 0' | head -n "$(($(limit 'patches of a script') + 1))"; } > many
@@ -23,10 +23,10 @@ says() {
 
 # The script is read before the image is opened, and the image is opened before OUT is made.
 says "$no_script" check image missing
-says "$no_script" check image folder
+says "$no_script" check image directory
 says "$no_script" check image -
 says "$no_script" check missing missing
-says "$no_script" apply missing folder out
+says "$no_script" apply missing directory out
 says "$no_script" apply missing - out
 says "$long_script" check image long
 says "$long_script" apply missing long out
@@ -43,17 +43,17 @@ says "$no_image" check missing script
 says "$no_image" apply missing script image
 says "$no_image" apply missing script nowhere/out
 
-says "$read_failed" audit folder
-says "$read_failed" check folder script
-run apply folder script out
-judge 'apply folder script out' ended 2 "$read_failed\n"
+says "$read_failed" audit directory
+says "$read_failed" check directory script
+run apply directory script out
+judge 'apply directory script out' ended 2 "$read_failed\n"
 judge 'OUT is made before the image is read' test -e out -a ! -s out
 rm -f out
 
 # Whatever stands in OUT's place stays as it was.
 echo kept > there
 ln -s nothing dangling
-for out in there image script folder nowhere/out dangling; do
+for out in there image script directory nowhere/out dangling; do
     says "$no_output" apply image script $out
 done
 judge 'a file that is there stays' test "$(cat there)" = kept

@@ -62,7 +62,7 @@ says() {
     [ "$(tail -n 1 log)" = "$1" ]
 }
 
-# How many lines of the log tell of the patches on the first blocks.
+# How many lines the log has for the patches on the first blocks.
 lines_of_blocks() {
     if (($1 <= 0)); then
         echo 0
@@ -90,7 +90,7 @@ right_out=patched
 
 # ---- the image
 
-# A failed read of the image: all that is known by then has been told.
+# A failed read of the image: all that is known by then has been printed.
 image_failed() {
     local moved sectors
     moved=$(moved_before)
@@ -135,7 +135,7 @@ out_failed() {
     logged $((moved / 2352)) && sent "$moved" && [ "$(stat -c %s out)" = "$moved" ]
 }
 
-# A failed sync: all is written, and told.
+# A failed sync: all is written, and printed.
 sync_failed() {
     ended_at_fault && says "$write_failed" && cmp -s before "$right_log" && cmp -s out "$right_out"
 }
@@ -161,7 +161,7 @@ without() {
     tail -c +$(($2 + $3 + 1)) "$1"
 }
 
-# The system took fewer bytes than it was given, and says so: those behind them follow. The injected call writes none, so the
+# The system took fewer bytes than it was given, and says so: those after them follow. The injected call writes none, so the
 # file lacks just those that were taken.
 taken_in_part() {
     local count=${1#retval=} file=$2 right=$3 moved
@@ -178,7 +178,7 @@ as_ever() {
     [ "$2" != apply ] || cmp -s out "$right_out"
 }
 
-# The lines of the trace that tell of a sync.
+# The lines of the trace that have a sync.
 syncs() {
     grep -c '^f\(data\)\?sync(' "$1"
 }
@@ -311,7 +311,7 @@ terminals_fail() {
             on_terminal -e "inject=write:$fault:when=$number"
             head -n $((number - 1)) right > wanted
             judge "audit on a terminal: $fault at write $number: the lines before it" cmp -s log wanted
-            judge "audit on a terminal: $fault at write $number: none behind it" test "$(wc -l < trace)" = $number
+            judge "audit on a terminal: $fault at write $number: none after it" test "$(wc -l < trace)" = $number
             judge "audit on a terminal: $fault at write $number: the status" test "$(cat end)" = 2
         done
     done

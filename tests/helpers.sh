@@ -1,6 +1,6 @@
 #!/usr/bin/env bash
 # What the tests of the program as a process share. They source it with the program as the argument, and end with `finish`,
-# whose last line is 'N passed, M failed'. Each runs in a folder of its own, which is gone afterwards.
+# whose last line is 'N passed, M failed'. Each runs in a directory of its own, which is gone afterwards.
 set -u
 tests=$(cd "$(dirname "${BASH_SOURCE[0]}")" && pwd)
 top=$(dirname "$tests")
@@ -34,7 +34,7 @@ ended_without_output() {
     ended "$1" "$2" && [ ! -e out ] && [ ! -L out ]
 }
 
-# states PAGE SENTENCE: counts whether a page has a sentence, which the tests beside this run.
+# states PAGE SENTENCE: counts whether a page has a sentence, which the tests around it run.
 states() {
     judge "$1 states: $2" has_sentence "$@"
 }
@@ -108,7 +108,7 @@ large_script() {
     done
 }
 
-# What is told of these patches.
+# What is printed for these patches.
 large_log() {
     local block line=$((2 * 74))
     for ((block = 0; block < blocks; block++)); do

@@ -9,8 +9,8 @@ set -u
 
 prepare_large
 
-# told STATUS TEXT NAME: judges that the last run had this status, wrote the text of this file, and nothing to standard error.
-told() {
+# printed STATUS TEXT NAME: judges that the last run had this status, wrote the text of this file, and nothing to standard error.
+printed() {
     judge "$3: the status" test "$status" = "$1"
     judge "$3: the text" cmp -s "$2" log
     judge "$3: nothing on standard error" test ! -s errors
@@ -30,45 +30,45 @@ for size in 0 1 2351; do
     judge "$name: the image" test "$(stat -c %s image)" = $((3 * 65856 + size))
 
     run list image
-    told 0 list.log "list, $name"
+    printed 0 list.log "list, $name"
     run audit image
-    told 1 audit.log "audit, $name"
+    printed 1 audit.log "audit, $name"
     run check image large.script
-    told 0 large.log "check, $name"
+    printed 0 large.log "check, $name"
     run apply image large.script out
-    told 0 large.log "apply, $name"
+    printed 0 large.log "apply, $name"
     made patched "apply, $name"
 
     "$program" list - > log 2> errors < image
     status=$?
-    told 0 list.log "list of the standard input, $name"
+    printed 0 list.log "list of the standard input, $name"
     "$program" > log 2> errors < image
     status=$?
-    told 0 list.log "no words, $name"
+    printed 0 list.log "no words, $name"
     "$program" audit - > log 2> errors < image
     status=$?
-    told 1 audit.log "audit of the standard input, $name"
+    printed 1 audit.log "audit of the standard input, $name"
     "$program" check - large.script > log 2> errors < image
     status=$?
-    told 0 large.log "check of the standard input, $name"
+    printed 0 large.log "check of the standard input, $name"
     "$program" apply - large.script out > log 2> errors < image
     status=$?
-    told 0 large.log "apply to the standard input, $name"
+    printed 0 large.log "apply to the standard input, $name"
     made patched "apply to the standard input, $name"
 
     dd if=image bs=64K status=none | "$program" apply - large.script out > log 2> errors
     status=$?
-    told 0 large.log "apply to a pipe, $name"
+    printed 0 large.log "apply to a pipe, $name"
     made patched "apply to a pipe, $name"
     dd if=image bs=64K status=none | "$program" audit - > log 2> errors
     status=$?
-    told 1 audit.log "audit of a pipe, $name"
+    printed 1 audit.log "audit of a pipe, $name"
     mkfifo fifo
     cat image > fifo &
     run apply fifo large.script out
     kill $! 2> /dev/null # where the program has not read it all
     wait
-    told 0 large.log "apply to a FIFO, $name"
+    printed 0 large.log "apply to a FIFO, $name"
     made patched "apply to a FIFO, $name"
     rm fifo
 done
@@ -93,16 +93,16 @@ if ! missing python3 python3 'a pipe in chunks, and lines on a terminal'; then
             printf 'line 2: applied\nline 3: applied\napplied 2 refused 0\n' > small.log
             printf '0-2 mode1\nsectors 3 tail 0\n' > list.log
             fed 1 apply - small out
-            told 0 small.log 'apply to chunks of 1 byte'
+            printed 0 small.log 'apply to chunks of 1 byte'
             made patched 'apply to chunks of 1 byte'
         else
             make_large 2351
             fed $size apply - large.script out
-            told 0 large.log "apply to chunks of $size bytes"
+            printed 0 large.log "apply to chunks of $size bytes"
             made patched "apply to chunks of $size bytes"
         fi
         fed $size list -
-        told 0 list.log "list of chunks of $size bytes"
+        printed 0 list.log "list of chunks of $size bytes"
     done
 fi
 
@@ -136,15 +136,15 @@ done > noise
 for size in 0 1 2351 2352 2353 65535 65536 65537 65855 65856 65857 131071 131072 131712 131713 197567 197568 200001 263412; do
     head -c $size noise > image
     run apply image script out
-    told 0 none.log "no patch, $size bytes"
+    printed 0 none.log "no patch, $size bytes"
     made image "no patch, $size bytes"
     "$program" apply - script out > log 2> errors < image
     status=$?
-    told 0 none.log "no patch on the standard input, $size bytes"
+    printed 0 none.log "no patch on the standard input, $size bytes"
     made image "no patch on the standard input, $size bytes"
     dd if=image bs=64K status=none | "$program" apply - script out > log 2> errors
     status=$?
-    told 0 none.log "no patch on a pipe, $size bytes"
+    printed 0 none.log "no patch on a pipe, $size bytes"
     made image "no patch on a pipe, $size bytes"
     if [ $size -ge 2352 ]; then
         echo "0-$((size / 2352 - 1)) nosync" > list.log
@@ -153,10 +153,10 @@ for size in 0 1 2351 2352 2353 65535 65536 65537 65855 65856 65857 131071 131072
     fi
     echo "sectors $((size / 2352)) tail $((size % 2352))" >> list.log
     run list image
-    told 0 list.log "list, $size bytes"
+    printed 0 list.log "list, $size bytes"
 done
 
-# ---- disks that get full, before and behind the end of a buffer
+# ---- disks that get full, before and after the end of a buffer
 
 make_large 2351
 

@@ -64,8 +64,8 @@ test_symbols() {
 test_another_library() {
     local build=(gcc -O2 -I "$top/include" "$tests/library/images.c" toolchain.c)
     printf 'void rattle_%s(void) { __builtin_abort(); }\n' alloc realloc dealloc > toolchain.c
-    "${build[@]}" library/libcdpatch.a -o beside 2> errors
-    judge 'another library of the toolchain does not get its calls' holds ./beside "$vectors"
+    "${build[@]}" library/libcdpatch.a -o both 2> errors
+    judge 'another library of the toolchain does not get its calls' holds ./both "$vectors"
     objcopy --redefine-sym cdpatchalloc=rattle_alloc --redefine-sym cdpatchrealloc=rattle_realloc \
         --redefine-sym cdpatchdealloc=rattle_dealloc library/libcdpatch.a clash.a
     "${build[@]}" clash.a -o clash 2> errors
@@ -95,7 +95,7 @@ test_header() {
     judge 'a man page with others is refused' refuses has_the_prototypes wrong.3
     missing mandoc mandoc 'the form of libcdpatch(3)' ||
         judge 'the man page is well formed' test -z "$(mandoc -T lint -W warning "$top/man/libcdpatch.3")"
-    missing python3 python3 'the header beside the source' && return
+    missing python3 python3 'the header against the source' && return
     judge 'the header has the exports of the source' holds python3 -B "$tests/library/prototypes.py" "$header" "${sources[@]}" \
         "${statuses[@]}"
     differs 'a call less' '/^void cdpatch_fill_parity/d'
@@ -166,7 +166,7 @@ test_in_c() {
 
 test_in_python() {
     local build count=2000
-    missing python3 python3 'the library beside the model' && return
+    missing python3 python3 'the library against the model' && return
     for build in "${builds[@]}"; do
         judge "$count sectors by $build and by the model" holds python3 -B "$tests/library/model.py" "./$build" $count
         judge "300 cases of tests/model by $build and by the program" holds python3 -B "$tests/library/images.py" \

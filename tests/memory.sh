@@ -18,7 +18,7 @@ right_answer() {
 }
 
 # refused COMMAND: the last run said just that it found no memory, by a line that is kept in `lines_told`, and an output that was
-# made is empty. The script's line comes only where there is a script, and it has no fault: a fault is told whatever memory
+# made is empty. The script's line comes only where there is a script, and it has no fault: a fault is printed whatever memory
 # there is.
 refused() {
     mapfile -t said < log

@@ -39,7 +39,7 @@ run audit patched
 judge 'the patched image is sound' ended 0 'sectors 3 mode1 3 damaged 0 tail 0\n'
 
 run check image script
-judge 'a check tells what apply tells' ended_without_output 0 "$applied"
+judge 'a check prints what apply prints' ended_without_output 0 "$applied"
 
 run apply image script out --base 2
 judge 'the base counts' ended 1 'line 2: refused: no block 1\napplied 0 refused 1\n'
@@ -95,15 +95,15 @@ judge 'no name as script' ended_without_output 2 "$no_script\n"
 run apply missing missing out
 judge 'the script comes before the image' ended_without_output 2 "$no_script\n"
 
-mkdir folder
-run apply image folder out
+mkdir directory
+run apply image directory out
 judge 'a directory as script' ended_without_output 2 "$no_script\n"
-run list folder
+run list directory
 judge 'a directory as image' ended 2 "$read_failed\n"
-run apply image script folder
+run apply image script directory
 judge 'a directory as output' ended 2 "$no_output\n"
 run apply image script nowhere/out
-judge 'an output in a folder that is not there' ended 2 "$no_output\n"
+judge 'an output in a directory that is not there' ended 2 "$no_output\n"
 run apply image script image
 judge 'the image as output' ended 2 "$no_output\n"
 run apply image script script
@@ -113,7 +113,7 @@ judge 'no name as output' ended 2 "$no_output\n"
 ln -s nothing dangling
 run apply image script dangling
 judge 'a dangling link as output' ended 2 "$no_output\n"
-judge 'nothing behind the link' test ! -e nothing
+judge 'nothing at the end of the link' test ! -e nothing
 ln -s image to_image
 run apply image script to_image
 judge 'a link to the image as output' ended 2 "$no_output\n"
@@ -125,7 +125,7 @@ echo kept > old
 ln -s old to_old
 run apply image script to_old
 judge 'a link to a file as output' ended 2 "$no_output\n"
-judge 'the file behind the link stays' test "$(cat old)" = kept
+judge 'the file at the end of the link stays' test "$(cat old)" = kept
 for device in /dev/null /dev/full /dev/stdout; do
     run apply image script $device
     judge "$device as output" ended 2 "$no_output\n"
@@ -177,7 +177,7 @@ if [ "$(id -u)" != 0 ] || [ ${#reader[@]} != 0 ]; then
     chmod 555 shelf
     (cd shelf && "${reader[@]}" ./cdpatch apply image script another) > log 2> errors
     status=$?
-    judge 'an output in a folder that may only be read' ended 2 "$no_output\n"
+    judge 'an output in a directory that may only be read' ended 2 "$no_output\n"
 fi
 
 printf 'cdpatch 1\nset 1 0 4\n' > wrong
@@ -213,7 +213,7 @@ rm -f out
 status=$?
 : > log
 judge 'a full device as standard output' ended 2 ''
-judge 'the output beside a full device' cmp -s out patched
+judge 'the output, with a full device for the log' cmp -s out patched
 rm -f out
 
 "$program" list image > /dev/full 2> errors
@@ -222,11 +222,11 @@ judge 'a listing to a full device' ended 2 ''
 
 run --help
 judge 'help has status 0' test "$status" = 0
-judge 'help has a text, on standard output alone' eval 'grep -q Usage log && [ ! -s errors ]'
+judge 'help has a text, only on standard output' eval 'grep -q Usage log && [ ! -s errors ]'
 "$program" --help > /dev/full 2> errors
 judge 'help to a full device has status 2' test $? = 2
 
-# Words that the parser refuses: its text is on standard output alone, and no file is made.
+# Arguments that the parser refuses: its text is only on standard output, and no file is made.
 refused() {
     run "$@"
     judge "refused: $*" told_by_parser
@@ -288,7 +288,7 @@ judge 'the standard input closed' ended 2 "$read_failed\n"
 judge 'no output of that' test ! -s out
 rm -f out
 
-# A pipe whose reader is gone, which that tells first.
+# A pipe whose reader is gone, which it says first.
 mkfifo gone
 {
     read -r _ < gone
@@ -301,7 +301,7 @@ mkfifo gone
 : > log
 status=$(cat pipe_status)
 judge 'a closed pipe' ended 2 ''
-judge 'the output beside a closed pipe' cmp -s out patched
+judge 'the output, with a closed pipe for the log' cmp -s out patched
 rm -f out
 
 finish

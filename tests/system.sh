@@ -169,7 +169,7 @@ truncate -s 2352000000 longest
 truncate -s 9408000 long
 echo 'cdpatch 1' > none.script
 row 'the standard input is read from its place on' standard_input_from_its_place rewinds_standard_input
-row 'the standard input is left alone' standard_input_left_alone eats_standard_input
+row 'the standard input is not touched' standard_input_left_alone eats_standard_input
 row 'two runs at once on one image' two_runs_at_once locks_its_inputs
 row 'links are followed' links_are_followed refuses_links
 row 'names are taken as they are' names_are_taken_as_they_are cuts_blanks_off_names

@@ -1,11 +1,11 @@
 #!/usr/bin/env bash
-# `tools/dist.sh PROGRAM LIBRARY DIRECTORY` makes the tarball of a release in DIRECTORY, and its checksum beside it: the program, the
+# `tools/dist.sh PROGRAM LIBRARY DIRECTORY` makes the tarball of a release in DIRECTORY, and its checksum: the program, the
 # library with its header, the man pages, the completions, the recipes, the pages for users, and a Makefile that only installs them.
 # The pages lack what only works in the sources. The bytes follow from those of these files only.
 set -euo pipefail
 program=$(realpath "$1")
 library=$(realpath "$2")
-folder=$(realpath "$3")
+directory=$(realpath "$3")
 cd "$(dirname "$0")/.."
 version=$("$program" --help | tail -n 1)
 name=cdpatch-${version#cdpatch }-x86_64-linux
@@ -27,7 +27,7 @@ cp "$library/x86-64-v3/libcdpatch.so.1" "$scratch/$name/library/x86-64-v3"
 cp completions/_cdpatch completions/cdpatch.bash completions/cdpatch.fish "$scratch/$name/completions"
 chmod -R u=rwX,go=rX "$scratch/$name"
 tar -C "$scratch" --format=ustar --sort=name --mtime="@${SOURCE_DATE_EPOCH:-0}" --owner=0 --group=0 --numeric-owner -cf - "$name" |
-    gzip -9n > "$folder/$name.tar.gz"
-cd "$folder"
+    gzip -9n > "$directory/$name.tar.gz"
+cd "$directory"
 sha256sum "$name.tar.gz" > "$name.tar.gz.sha256"
 cat "$name.tar.gz.sha256"

@@ -128,8 +128,8 @@ move_kept() {
     done
 }
 
-# Makes an rt that builds a library as `rt ci` does, for which rt has no flag: from nothing, and holding its statements alone,
-# without their proofs. The crates above are proved in half the time over those. It is rt beside a rattle that hands on the
+# Makes an rt that builds a library as `rt ci` does, for which rt has no flag: from nothing, and holding only its statements,
+# without their proofs. The crates above are proved in half the time over those. It is rt next to a rattle that hands on the
 # other flags.
 make_lean_rt() {
     local kit part
@@ -160,7 +160,7 @@ EOF_RATTLE
 }
 
 # A run of rt keeps every other run out of all crates below its own until it ends. So that crates with a common crate below
-# need not wait for one another, a library is proved in a folder of its own, beside copies of the crates below it.
+# need not wait for one another, a library is proved in a directory of its own, next to copies of the crates below it.
 prove_library() {
     local name=$1 out=crates/$1/out room=crates/$1/out/room rt=$lean/bin/rt below held status
     # As rt does in this crate, so that none of its runs has its work taken away.
@@ -201,8 +201,8 @@ prove_program() {
     cd "crates/$1" && { rt run --jobs 1 ${cpu:+--cpu "$cpu"} > /dev/null; } 2>&1 | sed -u '/^rt: \(nothing has changed\|running\) /d'
 }
 
-# Hands rt's words on to the crate's log, and says that its proof begins. Of a crate that is proved already rt has no word.
-tell() {
+# Hands rt's lines on to the crate's log, and says that its proof begins. Of a crate that is proved already rt has no word.
+print_result() {
     local line
     if IFS= read -r line; then
         echo "proving $1"
@@ -218,7 +218,7 @@ begin() {
     : > "$logs/$1"
     {
         renice -n $(($(slack "$1") / 8)) "$BASHPID" > /dev/null
-        "prove_$kind" "$1" < /dev/null | tell "$1"
+        "prove_$kind" "$1" < /dev/null | print_result "$1"
     } &
     running[$!]=$1
 }

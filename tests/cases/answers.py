@@ -62,8 +62,8 @@ class Commands:
             return self.run(call, *given)
         if call == 'order':
             # No patch finds a block in an empty image, and each has its line in the log.
-            told = self.run('check', *given).text
-            return ' '.join(re.findall(r'^line (\d+): ', told, re.MULTILINE)) or '-'
+            printed = self.run('check', *given).text
+            return ' '.join(re.findall(r'^line (\d+): ', printed, re.MULTILINE)) or '-'
         return None
 
 
@@ -75,8 +75,8 @@ class Library(Commands):
         self.path = str(Path(path).resolve())
 
     def run(self, command, image, base, carry, text):
-        status, told, out = commands.run(self.path, command, image, base, carry, text)
-        return Answer(status, told.decode('utf-8', 'replace'), out)
+        status, printed, out = commands.run(self.path, command, image, base, carry, text)
+        return Answer(status, printed.decode('utf-8', 'replace'), out)
 
 
 class Program(Commands):

@@ -96,38 +96,38 @@ def script_of(text):
     return text.encode().decode('unicode_escape').encode('latin-1')
 
 
-def text_of(told):
+def text_of(due):
     """The lines that a command prints, which a case joins by semicolons."""
-    return ''.join(line + '\n' for line in told.split('; '))
+    return ''.join(line + '\n' for line in due.split('; '))
 
 
 def patched(form, rest):
     """`apply` and `check` on an image."""
     base, image, out, status, more = rest.split(' ', 4)
-    lines, told = (' ' + more).split(' => ')
+    lines, due = (' ' + more).split(' => ')
     lines = lines[1:]
     if not form.startswith('text'):
         lines = f'cdpatch {2 if form.endswith("2") else 1}\n' + lines.replace('; ', '\n')
     given = image_of(image), int(base), form.rstrip('2').endswith('carry'), script_of(lines)
     out = given[0] if out == '=' else image_of(out)
-    return [Question('apply', given, Answer(int(status), text_of(told), out)),
-            Question('check', given, Answer(int(status), text_of(told), None))]
+    return [Question('apply', given, Answer(int(status), text_of(due), out)),
+            Question('check', given, Answer(int(status), text_of(due), None))]
 
 
 def asked(line):
     """What a line asks."""
     form, _, rest = line.partition(' ')
     if form in ('list', 'audit'):
-        base, image, status, told = rest.split(' ', 3)
-        return [Question(form, (image_of(image), int(base), False, b''), Answer(int(status), text_of(told), None))]
+        base, image, status, due = rest.split(' ', 3)
+        return [Question(form, (image_of(image), int(base), False, b''), Answer(int(status), text_of(due), None))]
     if form in ('apply', 'apply2', 'carry', 'carry2', 'text', 'textcarry'):
         return patched(form, rest)
     if form in ('fault', 'order'):
-        text, told = (' ' + rest).split(' => ')
+        text, due = (' ' + rest).split(' => ')
         given = b'', 0, False, script_of(text[1:])
         if form == 'order':
-            return [Question('order', given, told)]
-        return [Question(command, given, Answer(2, f'script line {told}\n', None)) for command in ('check', 'apply')]
+            return [Question('order', given, due)]
+        return [Question(command, given, Answer(2, f'script line {due}\n', None)) for command in ('check', 'apply')]
     *given, due = rest.split(' ') if form != 'changes' else rest.split(' ', 2)
     return [Question(form, tuple(given), due)]
 

@@ -56,10 +56,10 @@ def failures(judge, lines, only_first=False):
     """How many lines a judge was asked and can answer, and those that it answers wrong, with what is wrong."""
     count, wrong = 0, []
     with Pool() as pool:
-        for line, asked, told in pool.imap(partial(judged, judge), lines, chunksize=1):
+        for line, asked, reasons in pool.imap(partial(judged, judge), lines, chunksize=1):
             count += asked
-            if told:
-                wrong.append((line, told))
+            if reasons:
+                wrong.append((line, reasons))
                 if only_first:
                     break
     return count, wrong
@@ -93,8 +93,8 @@ def main():
     passed, failed = 0, 0
     for judge in judges:
         count, wrong = failures(judge, lines, given.first)
-        for line, told in wrong:
-            print(f'FAILED: {line.place} by {judge.name}: {short(line.text)}', *told, sep='\n    ')
+        for line, reasons in wrong:
+            print(f'FAILED: {line.place} by {judge.name}: {short(line.text)}', *reasons, sep='\n    ')
         passed, failed = passed + count - len(wrong), failed + len(wrong)
     print(f'{passed} passed, {failed} failed')
     return int(failed > 0)

@@ -16,7 +16,7 @@ OK, NOT_MODE1, DAMAGED, OUT_OF_RANGE = range(4)
 class Defect(ctypes.Structure):
     _fields_ = [('zeros', ctypes.c_bool), ('edc', ctypes.c_bool), ('p', ctypes.c_uint8), ('q', ctypes.c_uint8)]
 
-    def told(self):
+    def report(self):
         """As `audit` says it."""
         return (self.zeros * ' zeros' + self.edc * ' edc' + (self.p > 0) * f' p={self.p}' + (self.q > 0) * f' q={self.q}')
 
@@ -80,7 +80,7 @@ def differences(library, random):
         'kind': (KINDS[library.cdpatch_kind(sector)], kind(sector)),
         'encode': (made.raw, sector_with(SYNC + address + b'\1' + sector[16:2064], NO_DEFECT)),
         'is_consistent': (library.cdpatch_is_consistent(sector), consistent(sector)),
-        'find_defect': (found.told(), damage(sector)),
+        'find_defect': (found.report(), damage(sector)),
         'fill_parity': (call('cdpatch_fill_parity')[1], parity_of(sector)),
         'rebuild': (call('cdpatch_rebuild'), rebuilt),
         'change_user': (call('cdpatch_change_user', *range_words), changed(sector, user, True, inside)),

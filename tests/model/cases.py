@@ -188,7 +188,7 @@ def some_script(dice, image, base, carry):
         head = dice.choice([[], [b'cdpatch'], [b'cdpatch', b'01'], [b'cdpatch', b'3'], head + [b'x'], [b'CDPATCH', b'1'],
                             [b'cdpatch', b'1\r'], [b'\xef\xbb\xbfcdpatch', b'1'], [b'set', b'0', b'0', b'41']])
     patches = some_patches(dice, base, count, version)
-    told = [[word for _, word in roles(dice, patch)] for patch in with_was(dice, image, base, carry, patches)]
+    lines = [[word for _, word in roles(dice, patch)] for patch in with_was(dice, image, base, carry, patches)]
     if state == 'faulty':
         for _ in range(dice.choice([1, 1, 2])):
             patch = some_patch(dice, 0, base, count, version)
@@ -196,10 +196,10 @@ def some_script(dice, image, base, carry):
                 patch = patch._replace(was=patch.new)
             found, wrong = spoiled(dice, patch)
             note = note or 'two wrong words in a line' * (wrong > 1)
-            told.insert(dice.randint(0, len(told)), found)
-    told = [head] + told if state != 'head' or dice.random() < .8 else []
+            lines.insert(dice.randint(0, len(lines)), found)
+    lines = [head] + lines if state != 'head' or dice.random() < .8 else []
     text, plain = b'', dice.random() < .5
-    for found in told:
+    for found in lines:
         for _ in range(0 if plain else dice.choice([0, 0, 1, 2])):
             text += dice.choice([b'', b' \t', b'# a note', b'\t#', b'#\xff\0\x0b']) + dice.choice([b'\n', b'\r\n'])
         gap = b' ' if plain else dice.choice([b' ', b'\t', b'  ', b' \t'])
@@ -236,7 +236,7 @@ def image_kinds(case):
     sectors, tail = cut(case.image)
     yield f'tail of {len(tail)}' if len(tail) in (0, 1, 2351) else 'tail of another length'
     yield 'base 0' if case.base == 0 else f'base {LAST_BASE}' if case.base == LAST_BASE else 'base between'
-    yield 'empty image' * (not case.image) + 'tail alone' * (not sectors and tail != b'')
+    yield 'empty image' * (not case.image) + 'only a tail' * (not sectors and tail != b'')
     names = [None] + [kind(sector) for sector in sectors] + [None]
     for before, name, after in zip(names, names[1:], names[2:]):
         yield f'{name} sector'
@@ -257,25 +257,25 @@ def patch_kinds(case, patches):
     taken, now = ordered(patches), sectors
     yield 'patches not in order of lines' * (taken != sorted(patches))
     yield 'no patch' * (not patches) + 'most patches' * (len(patches) == MOST_PATCHES)
-    for i, (patch, told) in enumerate(zip(taken[:100], outcomes)):
-        label = 'differs' if 'differ' in told else re.sub(r'block \d+', 'block B', told)
+    for i, (patch, printed) in enumerate(zip(taken[:100], outcomes)):
+        label = 'differs' if 'differ' in printed else re.sub(r'block \d+', 'block B', printed)
         yield f'{patch.verb} {label}'
         yield f'span of {len(met(patch))}' if len(met(patch)) < MOST_BLOCKS else 'longest span'
-        if told.endswith(('damaged', 'mode 1')) and len(met(patch)) > 1:
-            place = int(told.split()[2]) - patch.block + 1
+        if printed.endswith(('damaged', 'mode 1')) and len(met(patch)) > 1:
+            place = int(printed.split()[2]) - patch.block + 1
             yield f'refused at block {place} of a span' if place < MOST_BLOCKS else 'refused at the last block of the longest span'
         yield 'length 1, 2048 or most' * (len(patch.new) in (1, 2048, MOST_BYTES))
         yield 'offset 0, 2047' * (patch.verb != 'rebuild' and patch.offset in (0, 2047))
         yield 'below the base' * (patch.block < case.base)
         yield 'past the end' * (patch.block >= case.base + len(sectors))
         yield 'past the end from within' * (patch.block < case.base + len(sectors) <= met(patch)[-1])
-        if told == 'applied':
+        if printed == 'applied':
             if any(defect(now[block - case.base]) != NO_DEFECT for block in met(patch)):
                 yield f'{patch.verb} applied on damage' + ' --carry' * case.carry
-            if patch.was and outcome(sectors, case.base, patch, True) != told:
+            if patch.was and outcome(sectors, case.base, patch, True) != printed:
                 yield 'was right now and not at first'
             now = effect(now, case.base, patch, case.carry)
-        elif 'differ' in told and outcome(sectors, case.base, patch, True) == 'applied':
+        elif 'differ' in printed and outcome(sectors, case.base, patch, True) == 'applied':
             yield 'was right at first and not now'
         yield f'was over a border: {label}' * (patch.was is not None and len(met(patch)) > 1)
         for other in taken[:i]:
@@ -293,8 +293,8 @@ def kinds_of(case):
             found |= set(patch_kinds(case, script(case.script)))
             found.add(f'version {2 if b"cdpatch 2" in b" ".join(case.script.split()) else 1}')
         except ScriptFault as fault:
-            told = str(fault).split(': ')[1]
-            found.add('fault: ' + ('too many patches' if told == TOO_MANY else told))
+            text = str(fault).split(': ')[1]
+            found.add('fault: ' + ('too many patches' if text == TOO_MANY else text))
         for name, part in [('CR LF', b'\r\n'), ('tab', b'\t'), ('comment', b'#')]:
             found.add(name * (part in case.script))
         found.add('no LF at the end' * (not case.script.endswith(b'\n')))
@@ -303,5 +303,5 @@ def kinds_of(case):
 
 def wanted(case):
     """What the model says of a case: status, standard output, and OUT or None."""
-    status, told, out = answer(case.command, case.image, case.base, case.carry, case.script)
-    return status, told.encode(), out
+    status, printed, out = answer(case.command, case.image, case.base, case.carry, case.script)
+    return status, printed.encode(), out

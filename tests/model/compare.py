@@ -17,29 +17,29 @@ FLOOR = 200  # of so many cases, on the whole, each kind must have one
 
 
 def judge(program, seed, kept, number):
-    """The kinds of a case, and whether the program answers as the model; if not, the case stays in a folder of `kept`."""
+    """The kinds of a case, and whether the program answers as the model; if not, the case stays in a directory of `kept`."""
     case = some_case(seed, number)
     with tempfile.TemporaryDirectory(dir=kept) as name:
-        folder = Path(name)
-        (folder / 'image').write_bytes(case.image)
+        directory = Path(name)
+        (directory / 'image').write_bytes(case.image)
         if 'script' in case.words:
-            (folder / 'script').write_bytes(case.script)
-        ended = subprocess.run([program, *case.words], cwd=folder, input=case.image if case.piped else b'',
+            (directory / 'script').write_bytes(case.script)
+        ended = subprocess.run([program, *case.words], cwd=directory, input=case.image if case.piped else b'',
                                capture_output=True, timeout=60)
-        out = (folder / 'out').read_bytes() if (folder / 'out').exists() else None
+        out = (directory / 'out').read_bytes() if (directory / 'out').exists() else None
         same = (ended.returncode, ended.stdout, out) == wanted(case) and not ended.stderr
         if not same:
-            status, told, model_out = wanted(case)
-            (folder / 'printed').write_bytes(ended.stdout + ended.stderr)
-            (folder / 'wanted').write_bytes(told)
+            status, printed, model_out = wanted(case)
+            (directory / 'printed').write_bytes(ended.stdout + ended.stderr)
+            (directory / 'wanted').write_bytes(printed)
             if model_out is not None:
-                (folder / 'wanted-out').write_bytes(model_out)
+                (directory / 'wanted-out').write_bytes(model_out)
             call = shlex.join([program, *case.words]) + ' < image' * case.piped
             again = shlex.join([str(Path(__file__).with_name('run')), program,
                                 '--seed', seed, '--first', str(number), '--cases', '1'])
-            (folder / 'command').write_text(f'{call}\n{again}\n# status {ended.returncode}, wanted {status}\n')
-            folder.rename(Path(kept) / f'case-{number}')
-            folder.mkdir()
+            (directory / 'command').write_text(f'{call}\n{again}\n# status {ended.returncode}, wanted {status}\n')
+            directory.rename(Path(kept) / f'case-{number}')
+            directory.mkdir()
     return kinds_of(case), same, number
 
 

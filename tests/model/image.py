@@ -66,19 +66,19 @@ def run(sectors, base, patches, carry):
 
 def patch_text(patches, outcomes):
     """The log: a line for each patch in the order in which they were taken, then the counts."""
-    told = [f'line {patch.line}: {each}\n' for patch, each in zip(ordered(patches), outcomes)]
+    text = [f'line {patch.line}: {each}\n' for patch, each in zip(ordered(patches), outcomes)]
     applied = outcomes.count('applied')
-    return ''.join(told) + f'applied {applied} refused {len(outcomes) - applied}\n'
+    return ''.join(text) + f'applied {applied} refused {len(outcomes) - applied}\n'
 
 
 def list_text(image, base):
     """A line for each maximal run of neighbours of one kind, then the counts."""
     sectors, tail = cut(image)
-    told = ''
+    text = ''
     for name, together in groupby(range(len(sectors)), key=lambda i: kind(sectors[i])):
         together = list(together)
-        told += f'{base + together[0]}-{base + together[-1]} {name}\n'
-    return told + f'sectors {len(sectors)} tail {len(tail)}\n'
+        text += f'{base + together[0]}-{base + together[-1]} {name}\n'
+    return text + f'sectors {len(sectors)} tail {len(tail)}\n'
 
 
 def findings(sector, block):
@@ -87,12 +87,12 @@ def findings(sector, block):
 
 
 def audit_text(image, base):
-    """A line for each Mode 1 sector with a finding, then the counts; an address alone is no damage."""
+    """A line for each Mode 1 sector with a finding, then the counts; an address by itself is not damage."""
     sectors, tail = cut(image)
     mode1 = [(base + i, sector) for i, sector in enumerate(sectors) if kind(sector) == 'mode1']
-    told = ''.join(f'{block}{findings(sector, block)}\n' for block, sector in mode1 if findings(sector, block))
+    text = ''.join(f'{block}{findings(sector, block)}\n' for block, sector in mode1 if findings(sector, block))
     damaged = sum(damage(sector) != '' for _, sector in mode1)
-    return told + f'sectors {len(sectors)} mode1 {len(mode1)} damaged {damaged} tail {len(tail)}\n'
+    return text + f'sectors {len(sectors)} mode1 {len(mode1)} damaged {damaged} tail {len(tail)}\n'
 
 
 def answer(command, image, base=0, carry=False, text=b''):
@@ -100,8 +100,8 @@ def answer(command, image, base=0, carry=False, text=b''):
     if command == 'list':
         return 0, list_text(image, base), None
     if command == 'audit':
-        told = audit_text(image, base)
-        return int(told.count('\n') > 1), told, None
+        text = audit_text(image, base)
+        return int(text.count('\n') > 1), text, None
     try:
         patches = script(text)
     except ScriptFault as fault:

@@ -136,7 +136,7 @@ def address_of(block):
 
 
 def damage(sector):
-    """Rule of cdpatch: what `audit` finds in a sector beside its address, as it says it."""
+    """Rule of cdpatch: what `audit` finds in a sector besides its address, as it prints it."""
     intermediate, rest, sums = defect(sector)
     columns = sum(pair != (0, 0) for pair in sums[:len(COLUMNS)])
     diagonals = sum(pair != (0, 0) for pair in sums[len(COLUMNS):])

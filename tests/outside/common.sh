@@ -1,4 +1,4 @@
-# What the tests of this folder share: a scratch folder, the program on the path, and the counts.
+# What the tests of this directory share: a scratch directory, the program on the path, and the counts.
 
 . "$top/tests/judging.sh"
 mkdir "$scratch/bin"
@@ -21,7 +21,7 @@ same() {
     fi
 }
 
-# enter NAME: goes into a new folder with the image of eight sectors, and the sources' crates and pages beside it.
+# enter NAME: goes into a new directory with the image of eight sectors, and links to the sources' crates.
 enter() {
     mkdir "$scratch/$1"
     cd "$scratch/$1" || exit 1

@@ -12,12 +12,12 @@ for command in list audit check apply; do
     about=$(sed -n "s/^ *[\"']$command:\(.*\)[\"']$/\1/p" "$top/completions/_cdpatch")
     judge "help lists $command" grep -q "^  $command  *$about" help
     judge "help of $command begins with what it does" test "$(head -n 1 "$command.help")" = "$about"
-    judge "help of $command tells statuses" grep -q '^Status: 0 ' "$command.help"
+    judge "help of $command has the statuses" grep -q '^Status: 0 ' "$command.help"
 done
-judge 'help of list tells what it prints' grep -q 'nosync, mode0, mode1, mode2 or other' list.help
-judge 'help of audit tells what it prints' grep -q 'N of the 52 Q diagonals are no' audit.help
-judge 'help of check tells what it writes' grep -q 'No file is written' check.help
-judge 'help of apply tells what it writes' grep -q 'OUT is' apply.help
+judge 'help of list says what it prints' grep -q 'nosync, mode0, mode1, mode2 or other' list.help
+judge 'help of audit says what it prints' grep -q 'N of the 52 Q diagonals are no' audit.help
+judge 'help of check says what it writes' grep -q 'No file is written' check.help
+judge 'help of apply says what it writes' grep -q 'OUT is' apply.help
 judge 'help is at most 80 columns wide' test -z "$(awk 'length > 80' help list.help audit.help check.help apply.help)"
 for word in --version -V; do
     cdpatch $word > log 2>&1

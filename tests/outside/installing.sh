@@ -1,4 +1,4 @@
-# `make install` and `make uninstall`: for a package, below other folders, and of nothing.
+# `make install` and `make uninstall`: for a package, below other directories, and of nothing.
 
 built() { make --no-print-directory -s -C "$top" PROGRAM="$program" LIBRARY="$library" "$@"; }
 files() { (cd "$1" && find . ! -type d | sort); }
@@ -34,7 +34,7 @@ EOF
     same 'it installs these files and no more' wanted got
     judge 'the installed program runs' test "$(root/usr/bin/cdpatch list disc.bin | tail -n 1)" = 'sectors 8 tail 0'
     judge 'the program may be run by all' test "$(stat -c %a root/usr/bin/cdpatch)" = 755
-    judge 'the link of the library stands beside it' test "$(readlink root/usr/lib/libcdpatch.so)" = libcdpatch.so.1
+    judge 'the link of the library stands next to it' test "$(readlink root/usr/lib/libcdpatch.so)" = libcdpatch.so.1
     judge 'the man page may be read by all' test "$(stat -c %a root/usr/share/man/man1/cdpatch.1)" = 644
     touch root/usr/bin/another
     judge 'make uninstall' built uninstall DESTDIR="$PWD/root" PREFIX=/usr
@@ -47,10 +47,10 @@ installed_elsewhere() {
     judge 'without PREFIX into /usr/local' test -x local/usr/local/bin/cdpatch
     built uninstall DESTDIR="$PWD/local"
     judge 'and away again' test -z "$(files local)"
-    local folders=(prefix="$PWD/with space" bindir="$PWD/with space/sbin" zshcompdir="$PWD/zsh")
-    built install "${folders[@]}"
-    judge 'prefix, and folders by their names' test -x 'with space/sbin/cdpatch' -a -f zsh/_cdpatch
-    built uninstall "${folders[@]}"
+    local places=(prefix="$PWD/with space" bindir="$PWD/with space/sbin" zshcompdir="$PWD/zsh")
+    built install "${places[@]}"
+    judge 'prefix, and places by their names' test -x 'with space/sbin/cdpatch' -a -f zsh/_cdpatch
+    built uninstall "${places[@]}"
     judge 'and away from there' test -z "$(files 'with space')$(files zsh)"
     built install PROGRAM="$PWD/nothing" DESTDIR="$PWD/none" 2> /dev/null
     judge 'nothing that was built, nothing installed' test $? != 0 -a ! -e none

@@ -138,8 +138,8 @@ done 3< page
     LC_ALL=C grep -aoE 'cdpatch: [a-zA-Z0-9 ]+' "$program"
     grep -oh '#\[error("[a-z][^"]*")\]' "$top/crates/cd_script/src/fault.rt" |
         sed -e 's/.*("//' -e 's/").*//' -e '/^no memory$/d' -e "s/{MAX_PATCHES}/$patches/"
-} | sort -u > told
-judge 'there are messages to look for' test "$(wc -l < told)" -gt 16
+} | sort -u > messages
+judge 'there are messages to look for' test "$(wc -l < messages)" -gt 16
 while IFS= read -r message <&3; do
     judge "the man page has: $message" grep -qxF -e ".It Li $message" "$top/man/cdpatch.1"
-done 3< told
+done 3< messages

@@ -64,7 +64,7 @@ for crate in "${library_crates[@]}"; do
     judge "the README names contracts of $crate: ${unknown:-all there}" test -s named_in_readme -a -z "$unknown"
 done
 
-# Each file of code and of definitions has its place in docs/MAP.md, by its path or its folder, and each path there is a file.
+# Each file of code and of definitions has its place in docs/MAP.md, by its path or its directory, and each path there is a file.
 for crate in "${crates_with_contracts[@]}" cdpatch; do
     grep "| $crate |" "$map" | grep -oE '`(src|specs)/[A-Za-z_/.]*`' | tr -d '`' | sort -u > placed
     while IFS= read -r path; do
@@ -117,14 +117,14 @@ calls() {
     local passed_on
     passed_on=$(tr '\n' ' ' < "$top/crates/$1/src/lib.rt" | grep -oE 'pub use [^;]*;' | sed 's/[a-z_]*:://g' | tr -cs 'A-Za-z_0-9' ' ')
     sources "$1" | xargs awk -v passed_on=" $passed_on " '
-        function tell() { if (call != "") print call, (shown == "own" ? call : shown == "" ? "none" : shown); call = "" }
-        FNR == 1 { tell() }
+        function print_call() { if (call != "") print call, (shown == "own" ? call : shown == "" ? "none" : shown); call = "" }
+        FNR == 1 { print_call() }
         /^impl/ { type = $0; sub(/^impl(<[^>]*>)? /, "", type); sub(/[^A-Za-z_].*/, "", type) }
         /^ *\/\/\/ ```/ { example = "own" }
         /^ *\/\/\/ See the example of \[`[A-Za-z_:]+`\]\.$/ { example = $0; sub(/^[^`]*`/, "", example); sub(/`.*/, "", example) }
         /^ *\/\/\// || /^ *#\[/ { next }
         /^ *pub fn / {
-            tell()
+            print_call()
             name = $0
             sub(/^ *pub fn /, "", name)
             sub(/[^a-z_0-9].*/, "", name)
@@ -134,7 +134,7 @@ calls() {
         }
         /^\{\}$/ { call = "" }
         { example = "" }
-        END { tell() }'
+        END { print_call() }'
 }
 
 # The call that no test can show: the whole of `main`.

@@ -23,7 +23,7 @@ recipe 'script_of disc.bin new.bin 20' > made
 judge 'with a base' test "$(cdpatch check disc.bin made --base 20 | tail -n 1)" = "$(tail -n 1 log)"
 judge 'equal images give no patch' test "$(recipe 'script_of disc.bin disc.bin')" = 'cdpatch 1'
 
-# The old image is damaged in parity alone, and in user data and parity.
+# The old image is damaged only in parity, and in user data and parity.
 { head -c 2351 disc.bin; printf '\377'; tail -c +2353 disc.bin; } > parity.bin
 recipe 'script_of parity.bin new.bin' > made
 cdpatch apply parity.bin made again2.bin > log

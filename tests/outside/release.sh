@@ -1,12 +1,12 @@
 # `make dist`: the tarball installs without a toolchain, and its bytes are those of its files, wherever and whenever it is made.
 
-# pack FOLDER: a tarball of the program, of a copy of the sources in this folder, into `made` there.
+# pack DIRECTORY: a tarball of the program, of a copy of the sources in this directory, into `made` there.
 pack() {
     mkdir -p "$1/made"
     (cd "$top" && cp -r --parents Makefile install.mk share README.md CHANGELOG.md docs man completions include tools "$OLDPWD/$1")
     cp -r "$library" "$1/library"
     cp "$program" "$1/cdpatch"
-    make --no-print-directory -s -C "$1" dist distdir=made > "$1/told"
+    make --no-print-directory -s -C "$1" dist distdir=made > "$1/printed"
 }
 
 released() {
@@ -19,12 +19,12 @@ released() {
     local name
     name=$(cd one/made && ls ./*.tar.gz)
     judge 'the tarball has the version in its name' test "$name" = "./cdpatch-$(cdpatch --help | sed -n '$s/cdpatch //p')-x86_64-linux.tar.gz"
-    judge 'two folders give the same bytes' cmp "one/made/$name" "another place/made/$name"
+    judge 'two directories give the same bytes' cmp "one/made/$name" "another place/made/$name"
     judge 'the checksum is that of the tarball' eval "(cd one/made && sha256sum --status -c ./*.sha256)"
-    judge 'the checksum is printed' test "$(cat one/told)" = "$(cat one/made/*.sha256)"
+    judge 'the checksum is printed' test "$(cat one/printed)" = "$(cat one/made/*.sha256)"
     mkdir unpacked
     tar -C unpacked -xzf "one/made/$name"
-    judge 'it unpacks into one folder of its own name' test "./$(ls unpacked).tar.gz" = "$name"
+    judge 'it unpacks into one directory of its own name' test "./$(ls unpacked).tar.gz" = "$name"
     # Neither the toolchain nor the program of these tests is on the path.
     PATH=/usr/bin:/bin make --no-print-directory -s -C unpacked/* install DESTDIR="$PWD/root" PREFIX=/usr
     make --no-print-directory -s -C "$top" PROGRAM="$program" LIBRARY="$library" install DESTDIR="$PWD/wanted" PREFIX=/usr
@@ -38,8 +38,8 @@ released() {
     judge 'no library that was built, nothing packed' test $? != 0
 }
 
-# What two builds in different folders could differ in.
-judge 'the program has no path of the folder that it was built in' \
+# What two builds in different directories could differ in.
+judge 'the program has no path of the directory that it was built in' \
     test -z "$(LC_ALL=C grep -aoE '(crates|home|tmp|root)/[a-z_/.]*|[a-z_]*\.rt\b' "$program")"
 
 if ! missing make make; then

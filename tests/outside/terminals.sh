@@ -52,7 +52,7 @@ in_terminal() {
     python3 "$top/tests/outside/terminals.py" "$shell" "$scratch/load_$shell/${2##*/}" < lines > ../became 2> ../errors
     judge "$shell answers on a terminal: $(tail -n 1 ../errors)" test $? = 0
     while IFS='|' read -r typed wanted <&3 && IFS= read -r got <&4; do
-        # A shell may put a space or, to an option with an argument, `=` behind what it completed.
+        # A shell may put a space or, to an option with an argument, `=` after what it completed.
         got=${got%"${got##*[! ]}"}
         [[ $wanted == *--base ]] && got=${got%=}
         judge "$shell on a terminal: '$typed' becomes '${wanted:-$typed}', not '$got'" test "$got" = "${wanted:-$typed}"
