@@ -9,7 +9,7 @@ use Rattle.std.proofs.lemmas.Result.{IfOk-at_ok}
 use Rattle.cd_script.specs.declared.patch.Patch.{Patch}
 use Rattle.cd_script.specs.declared.version.Version.{Version}
 use Rattle.cd_script.specs.Limits.{patch_limit}
-use Rattle.cd_script.specs.Line.{put_at, put_where_at, fill_at, rebuild_at, readdress_at, patch_at, patch_by}
+use Rattle.cd_script.specs.Line.{put_at, put_where_at, fill_line, rebuild_line, address_line, patch_at, patch_by}
 use Rattle.cd_script.specs.Patch.{IsPatch}
 use Rattle.cd_script.specs.Script.{is_passed_over, head_version, line_at, patches_behind, patches_from, script_from}
 use Rattle.cd_script.specs.Words.{words}
@@ -35,35 +35,39 @@ put_where_at-patch line block offset new old =
     word_keeps IsPatch (old-kind line bytes fit) old _ (λ were fits.
     record { block = at; offset = from; edit = (fit, fits) }))))
 
-fill_at-patch : (line : ℕ) (block offset count byte : List ℕ)
-    → IfOk (fill_at line block offset count byte) IsPatch
-unfolding fill_at
-fill_at-patch line block offset count byte =
+fill_line-patch : (line : ℕ) (ws : List (List ℕ)) → IfOk (fill_line line ws) IsPatch
+fill_line-patch line (block ∷ offset ∷ count ∷ byte ∷ []) =
     word_keeps IsPatch (number-kind line) block _ (λ b at.
     word_keeps IsPatch (offset-kind line) offset _ (λ o from.
     word_keeps IsPatch (count-kind line) count _ (λ n many.
     word_keeps IsPatch (byte-kind line) byte _ (λ v value.
     record { block = at; offset = from; edit = (many.0, many.1, value) }))))
+fill_line-patch line _ = tt
 
-rebuild_at-patch : (line : ℕ) (block : List ℕ) → IfOk (rebuild_at line block) IsPatch
-unfolding rebuild_at
-rebuild_at-patch line block =
+rebuild_line-patch : (line : ℕ) (ws : List (List ℕ)) → IfOk (rebuild_line line ws) IsPatch
+rebuild_line-patch line (block ∷ []) =
     word_keeps IsPatch (number-kind line) block _ (λ b at.
     record { block = at; offset = omega arith; edit = refl })
+rebuild_line-patch line _ = tt
 
-readdress_at-patch : (line : ℕ) (block address : List ℕ)
-    → IfOk (readdress_at line block address) IsPatch
-unfolding readdress_at
-readdress_at-patch line block address =
+address_line-patch : (line : ℕ) (ws : List (List ℕ)) → IfOk (address_line line ws) IsPatch
+address_line-patch line (block ∷ address ∷ []) =
     word_keeps IsPatch (number-kind line) block _ (λ b at.
     word_keeps IsPatch (address-kind line) address _ (λ bcd fit.
     record { block = at; offset = omega arith; edit = (refl, fit) }))
+address_line-patch line _ = tt
 
 patch_by-patch : (version : Version) (line : ℕ) (ws : List (List ℕ))
     → IfOk (patch_by version line ws) IsPatch
 unfolding patch_at patch_by
-patch_by-patch version line ws = grind
-    (arith, put_at-patch, put_where_at-patch, fill_at-patch, rebuild_at-patch, readdress_at-patch)
+patch_by-patch version line ws = grind (
+  arith,
+  put_at-patch,
+  put_where_at-patch,
+  fill_line-patch,
+  rebuild_line-patch,
+  address_line-patch,
+)
 
 -- ---- the lines
 

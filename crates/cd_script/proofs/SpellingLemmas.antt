@@ -14,7 +14,7 @@ use Rattle.cd_script.specs.declared.patch.Edit.TheVariants.{Put, Fill, Rebuild, 
 use Rattle.cd_script.specs.declared.version.Version.{Version}
 use Rattle.cd_script.specs.declared.version.Version.TheVariants.{One, Two}
 use Rattle.cd_script.specs.Limits.{number_limit, offset_limit, patch_limit}
-use Rattle.cd_script.specs.Line.{put_at, put_where_at, fill_at, rebuild_at, readdress_at, patch_at, patch_by}
+use Rattle.cd_script.specs.Line.{put_at, put_where_at, patch_at, patch_by}
 use Rattle.cd_script.specs.Patch.{IsEditAt, IsPatch}
 use Rattle.cd_script.specs.Script.{is_passed_over, head_version, line_at, patches_from, script_from, script}
 use Rattle.cd_script.specs.Spelling.{has_form, version_word, edit_words, spelled_line, spelled_patch, spelling, on_lines_from}
@@ -38,7 +38,7 @@ record IsSpelled (version : Version) (line b o : ℕ) (e : Edit) : Type 0 where
 
 edit_words-spelled : (version : Version) (line b o : ℕ) (e : Edit) → b ≤ number_limit
     → o ≤ offset_limit → IsEditAt o e → has_form version e ≡ true → IsSpelled version line b o e
-unfolding patch_by patch_at put_at put_where_at fill_at rebuild_at readdress_at edit_words
+unfolding patch_by patch_at put_at put_where_at edit_words
 edit_words-spelled version line b o (Put bytes None) hb ho fits form =
     let block = (number-kind line).spells b hb in
     let offset = (offset-kind line).spells o ho in

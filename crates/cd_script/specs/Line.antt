@@ -27,30 +27,6 @@ put_where_at line block offset new old = do
   was ← old_at line bytes old
   Ok (record { line = line; block = b; offset = o; edit = Put bytes (Some was) })
 
--- `fill BLOCK OFFSET COUNT BYTE`
-unfoldable pub fill_at : ℕ → List ℕ → List ℕ → List ℕ → List ℕ → Result Patch ScriptFault
-fill_at line block offset count byte = do
-  b ← number_at line block
-  o ← offset_at line offset
-  n ← count_at line count
-  value ← byte_at line byte
-  Ok (record { line = line; block = b; offset = o; edit = Fill n value })
-
--- `rebuild BLOCK`
-unfoldable pub rebuild_at : ℕ → List ℕ → Result Patch ScriptFault
-rebuild_at line block = do
-  b ← number_at line block
-  Ok (record { line = line; block = b; offset = 0; edit = Rebuild })
-
--- `address BLOCK MM:SS:FF`
-unfoldable pub readdress_at : ℕ → List ℕ → List ℕ → Result Patch ScriptFault
-readdress_at line block address = do
-  b ← number_at line block
-  bcd ← address_at line address
-  Ok (record { line = line; block = b; offset = 0; edit = Address bcd })
-
--- ---- the words after each verb
-
 -- `set`, by the number of words after it
 abbrev pub set_line : ℕ → List (List ℕ) → Result Patch ScriptFault
 set_line line (block ∷ offset ∷ new ∷ []) = put_at line block offset new
@@ -58,19 +34,29 @@ set_line line (block ∷ offset ∷ new ∷ was ∷ old ∷ []) =
     if bytes_eq was (codes "was") then put_where_at line block offset new old else Err (Words line)
 set_line line other = Err (Words line)
 
--- `fill`, by the number of words after it
+-- `fill BLOCK OFFSET COUNT BYTE`
 abbrev pub fill_line : ℕ → List (List ℕ) → Result Patch ScriptFault
-fill_line line (block ∷ offset ∷ count ∷ byte ∷ []) = fill_at line block offset count byte
+fill_line line (block ∷ offset ∷ count ∷ byte ∷ []) = do
+  b ← number_at line block
+  o ← offset_at line offset
+  n ← count_at line count
+  value ← byte_at line byte
+  Ok (record { line = line; block = b; offset = o; edit = Fill n value })
 fill_line line other = Err (Words line)
 
--- `rebuild`, by the number of words after it
+-- `rebuild BLOCK`
 abbrev pub rebuild_line : ℕ → List (List ℕ) → Result Patch ScriptFault
-rebuild_line line (block ∷ []) = rebuild_at line block
+rebuild_line line (block ∷ []) = do
+  b ← number_at line block
+  Ok (record { line = line; block = b; offset = 0; edit = Rebuild })
 rebuild_line line other = Err (Words line)
 
--- `address`, by the number of words after it
+-- `address BLOCK MM:SS:FF`
 abbrev pub address_line : ℕ → List (List ℕ) → Result Patch ScriptFault
-address_line line (block ∷ address ∷ []) = readdress_at line block address
+address_line line (block ∷ address ∷ []) = do
+  b ← number_at line block
+  bcd ← address_at line address
+  Ok (record { line = line; block = b; offset = 0; edit = Address bcd })
 address_line line other = Err (Words line)
 
 -- the patch that the words of a line spell in version 1 of the language. It stands as before there

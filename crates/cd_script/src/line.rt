@@ -4,7 +4,7 @@
 ghost use Rattle.std.specs.Prelude.{map};
 ghost use Rattle.cd_script.specs.Reading.{Reads};
 ghost use Rattle.cd_script.specs.Spelled.{as_patch};
-ghost use Rattle.cd_script.specs.Line.{put_at, put_where_at, fill_at, rebuild_at, readdress_at, set_line, fill_line, rebuild_line, address_line, patch_at, patch_by};
+ghost use Rattle.cd_script.specs.Line.{put_at, put_where_at, set_line, fill_line, rebuild_line, address_line, patch_at, patch_by};
 
 use crate::fault::ScriptFault;
 use crate::spelled::{SpelledEdit, SpelledPatch};
@@ -57,17 +57,26 @@ fn put_where<'a>(
     })
 }
 
-/// `fill BLOCK OFFSET COUNT BYTE`, from the words after the verb.
-#[tactic(auto, unfolding(crate::specs::Line::fill_at))]
-fn fill<'a>(
-    line: u32,
-    block: &[u8],
-    offset: &[u8],
-    count: &[u8],
-    byte: &[u8],
-) -> Result<SpelledPatch<'a>, ScriptFault>
-    ensures { Reads as_patch result (fill_at line block.now offset.now count.now byte.now) }
+/// `set ..`: the form that has this number of words after the verb.
+fn set_of<'a>(line: u32, words: &[&'a [u8]]) -> Result<SpelledPatch<'a>, ScriptFault>
+    ensures { Reads as_patch result (set_line line (map (λ w. w.now) words.now)) }
 {
+    match words {
+        [block, offset, new] => put(line, block, offset, new),
+        [block, offset, new, was, old] if *was == b"was".as_slice() => {
+            put_where(line, block, offset, new, old)
+        }
+        _ => Err(ScriptFault::Words(line)),
+    }
+}
+
+/// `fill BLOCK OFFSET COUNT BYTE`, from the words after the verb.
+fn fill_of<'a>(line: u32, words: &[&'a [u8]]) -> Result<SpelledPatch<'a>, ScriptFault>
+    ensures { Reads as_patch result (fill_line line (map (λ w. w.now) words.now)) }
+{
+    let [block, offset, count, byte] = words else {
+        return Err(ScriptFault::Words(line));
+    };
     let block = number_of(line, block)?;
     let offset = offset_of(line, offset)?;
     let count = count_of(line, count)?;
@@ -82,10 +91,12 @@ fn fill<'a>(
 }
 
 /// `rebuild BLOCK`, from the word after the verb.
-#[tactic(auto, unfolding(crate::specs::Line::rebuild_at))]
-fn rebuild<'a>(line: u32, block: &[u8]) -> Result<SpelledPatch<'a>, ScriptFault>
-    ensures { Reads as_patch result (rebuild_at line block.now) }
+fn rebuild_of<'a>(line: u32, words: &[&'a [u8]]) -> Result<SpelledPatch<'a>, ScriptFault>
+    ensures { Reads as_patch result (rebuild_line line (map (λ w. w.now) words.now)) }
 {
+    let [block] = words else {
+        return Err(ScriptFault::Words(line));
+    };
     let block = number_of(line, block)?;
     Ok(SpelledPatch {
         line,
@@ -95,11 +106,14 @@ fn rebuild<'a>(line: u32, block: &[u8]) -> Result<SpelledPatch<'a>, ScriptFault>
     })
 }
 
-/// `address BLOCK MM:SS:FF`, from the words after the verb.
-#[tactic(auto, unfolding(crate::specs::Line::readdress_at))]
-fn readdress<'a>(line: u32, block: &[u8], address: &[u8]) -> Result<SpelledPatch<'a>, ScriptFault>
-    ensures { Reads as_patch result (readdress_at line block.now address.now) }
+/// `address BLOCK MM:SS:FF`, from the words after the verb. Their number is tested first, then the
+/// block, then the address, and last whether the patch is one too many.
+fn readdress_of<'a>(line: u32, words: &[&'a [u8]]) -> Result<SpelledPatch<'a>, ScriptFault>
+    ensures { Reads as_patch result (address_line line (map (λ w. w.now) words.now)) }
 {
+    let [block, address] = words else {
+        return Err(ScriptFault::Words(line));
+    };
     let block = number_of(line, block)?;
     let bcd = address_of(line, address)?;
     Ok(SpelledPatch {
@@ -108,50 +122,6 @@ fn readdress<'a>(line: u32, block: &[u8], address: &[u8]) -> Result<SpelledPatch
         offset: 0,
         edit: SpelledEdit::Address { bcd },
     })
-}
-
-/// `set ..`: the form that has this number of words after the verb.
-fn set_of<'a>(line: u32, words: &[&'a [u8]]) -> Result<SpelledPatch<'a>, ScriptFault>
-    ensures { Reads as_patch result (set_line line (map (λ w. w.now) words.now)) }
-{
-    match words {
-        [block, offset, new] => put(line, block, offset, new),
-        [block, offset, new, was, old] if *was == b"was".as_slice() => {
-            put_where(line, block, offset, new, old)
-        }
-        _ => Err(ScriptFault::Words(line)),
-    }
-}
-
-/// `fill ..`: four words after the verb.
-fn fill_of<'a>(line: u32, words: &[&'a [u8]]) -> Result<SpelledPatch<'a>, ScriptFault>
-    ensures { Reads as_patch result (fill_line line (map (λ w. w.now) words.now)) }
-{
-    match words {
-        [block, offset, count, byte] => fill(line, block, offset, count, byte),
-        _ => Err(ScriptFault::Words(line)),
-    }
-}
-
-/// `rebuild ..`: one word after the verb.
-fn rebuild_of<'a>(line: u32, words: &[&'a [u8]]) -> Result<SpelledPatch<'a>, ScriptFault>
-    ensures { Reads as_patch result (rebuild_line line (map (λ w. w.now) words.now)) }
-{
-    match words {
-        [block] => rebuild(line, block),
-        _ => Err(ScriptFault::Words(line)),
-    }
-}
-
-/// `address ..`: two words after the verb. Their number is tested first, then the block, then the
-/// address, and last whether the patch is one too many.
-fn readdress_of<'a>(line: u32, words: &[&'a [u8]]) -> Result<SpelledPatch<'a>, ScriptFault>
-    ensures { Reads as_patch result (address_line line (map (λ w. w.now) words.now)) }
-{
-    match words {
-        [block, address] => readdress(line, block, address),
-        _ => Err(ScriptFault::Words(line)),
-    }
 }
 
 /// The patch that the words of this line spell in version 1.
