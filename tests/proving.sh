@@ -10,7 +10,7 @@ cd "$scratch" || exit 1
 # `left`.
 mkdir -p tools kit/{bin,rlibs} crates/{low,left,right,program,tests,for_c}/src
 cp "$top/tools/prove.sh" tools
-touch crates/program/src/main.rt kit/START-HERE.md kit/bin/rtlib.py
+touch crates/program/src/main.rt kit/START-HERE.md
 printf '%s\n' 'program: left right' 'left: low bstr' '# the lowest' 'right: low' 'low:' 'tests: program' 'for_c staticlib: left' > crates.txt
 
 # An rt that writes to `calls` what it is called for, which of a crate's libraries lack, and whether its earlier work is there.
@@ -32,7 +32,7 @@ if grep -q "^$name staticlib" ../../crates.txt; then
     echo "$name begins: $*" | tee -a "$CALLS" > "out/lib$name.a"
     exit
 fi
-if [ -e out/rlib/built ]; then
+if [ -e out/rlib/built ] || [ -e out/rlib/stamp ]; then
     [ "$1" = lib ] || printf '%s\n' 'rt: nothing has changed since the last proved build' "rt: running out/$name" >&2
     exit 0
 fi
@@ -59,6 +59,24 @@ fi
 mkdir -p out/rlib
 touch out/rlib/built
 EOF_RATTLE
+
+# What prove.sh asks of rt's own module.
+cat > kit/bin/rtlib.py << 'EOF_RTLIB'
+import glob
+
+
+class Crate:
+    def __init__(self, folder):
+        self.folder = folder
+        self.rlib = f"{folder}/out/rlib/it.rlib"
+
+    def stamp(self):
+        return "up to date"
+
+
+def crates_below(top):
+    return [Crate(folder) for folder in glob.glob(f"{top}/crates/*")]
+EOF_RTLIB
 chmod +x kit/bin/*
 export CALLS=$scratch/calls PATH="$scratch/kit/bin:$PATH"
 
@@ -111,6 +129,18 @@ judge 'it comes after those below it' not_in_calls lacks
 rm -r crates/*/out
 goals=for_c prove 2
 judge 'what a static library does not need is not proved' cmp -s <(sed -n 's/ begins:.*//p' calls) <(printf '%s\n' low left for_c for_c)
+
+rm -r crates/*/out
+mkdir -p crates/{low,left,right}/out/rlib/it.rlib
+prove 2
+judge 'what rt ci has left is proved again' test "$(sed -n 's/ begins:.*//p' calls | sort | paste -sd ' ')" = 'left low program right'
+rm -r crates/*/out
+mkdir -p crates/{low,left,right}/out/rlib/it.rlib
+echo another > crates/right/out/rlib/stamp
+AFTER_CI=1 prove 2
+judge 'and with AFTER_CI taken as it is' test "$status" = 0 -a "$(cat crates/{low,left}/out/rlib/stamp)" = 'up to dateup to date'
+judge 'so only the program is proved' cmp -s <(sed -n 's/ begins:.*//p' calls) <(echo program)
+judge 'a stamp that is there stays' grep -qx another crates/right/out/rlib/stamp
 
 rm -r crates/*/out
 BROKEN=left prove 1

@@ -2,7 +2,8 @@
 # Proves programs and static libraries and the crates below them, and builds them: `bash tools/prove.sh 'NAME ..' [AT_ONCE [CPU]]`.
 # The crates and their order are those of crates.txt. A crate begins once all below it are proved, at most AT_ONCE of them side by
 # side, and no more than there are processors and memory for. CPU is the processor that they are built for, if it is not any
-# x86-64-v2; a static library NAME is out/libNAME.a, and built for x86-64-v3 as well, as out/libNAME-x86-64-v3.a.
+# x86-64-v2; a static library NAME is out/libNAME.a, and built for x86-64-v3 as well, as out/libNAME-x86-64-v3.a. With AFTER_CI=1 the
+# libraries that `rt ci` has just proved and built are taken as they are.
 set -u -o pipefail
 # Each crate gets a process group, so that an interrupt can end all that it started.
 set -m
@@ -159,6 +160,24 @@ EOF_RATTLE
     chmod +x "$lean/bin/rattle"
 }
 
+# `rt ci` leaves its libraries without the stamp by which rt knows what is up to date, since they hold only their statements. So do
+# those that this script makes. What any other run has left has its own stamp.
+stamp_libraries() {
+    python3 - "$lean/bin" << 'EOF_STAMP'
+import os
+import sys
+
+sys.path.insert(0, sys.argv[1])
+import rtlib
+
+for crate in rtlib.crates_below(os.getcwd()):
+    stamp = f"{os.path.dirname(crate.rlib)}/stamp"
+    if os.path.isdir(crate.rlib) and not os.path.exists(stamp):
+        with open(stamp, "w", encoding="utf-8") as file:
+            file.write(crate.stamp())
+EOF_STAMP
+}
+
 # A run of rt keeps every other run out of all crates below its own until it ends. So that crates with a common crate below
 # need not wait for one another, a library is proved in a directory of its own, next to copies of the crates below it.
 prove_library() {
@@ -276,6 +295,7 @@ for name in "${goals[@]}"; do
 done
 measure_longest
 make_lean_rt
+[ -z "${AFTER_CI-}" ] || stamp_libraries || exit 1
 order=$(for name in "${!bytes_above[@]}"; do echo "$(slack "$name") $name"; done | sort -k 1,1n -k 2 | cut -d ' ' -f 2)
 for most in "$(nproc)" "$(room_for)"; do
     [ -n "$at_once" ] && [ "$at_once" -le "$most" ] || at_once=$most
