@@ -59,7 +59,7 @@ uint32_t cdpatch_carry_address(uint8_t *sector, const uint8_t *address);
  * line says why: `out` is too small, the script is invalid, the image has more than 1000000 sectors, or there is no memory. Or
  * the base is above 449849; then nothing is written, and `*length` becomes 0.
  *
- * Enough room: for `text` 100 bytes and 40 for each sector, for `log` 200 bytes and 80 for each line of the script. */
+ * This is enough room: 100 bytes and 40 for each sector for `text`, 200 bytes and 80 for each line of the script for `log`. */
 
 /* Prints the runs of sectors of one kind. Never CDPATCH_FOUND. */
 uint32_t cdpatch_list(const uint8_t *image, size_t size, uint32_t base, uint8_t *text, size_t room, size_t *length);
