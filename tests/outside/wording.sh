@@ -119,4 +119,15 @@ The repaired bytes alone differ.
 As after sectors were put together by hand.
 EDC and parity are made anew for its user data.
 An invalid script is refused whole, by its first faulty line.
+On a file these clauses are silent.
+Want of memory can cut the text.
+ISO images (2048 bytes a sector) have no EDC.
+Bring the right bytes back.
+It prints the places at which a text begins.
+No read and no write is made again.
+Its damage stays, and no other comes.
+Of each change it is also proved which number it answers.
+The other function goes the other way, from a block to its file.
+Whoever has read these files knows what is promised.
+Left to trust there: that a write kept those that it took.
 END
