@@ -1,5 +1,5 @@
-# `make install` installs the program, the library, the man pages, the completions, the recipes and the pages for users, and `make
-# uninstall` removes the files that it installed. In a release's tarball this file is the Makefile.
+# `make install` installs the program, the library, the man pages, the completions, the recipes, the pages for users and the examples,
+# and `make uninstall` removes the files that it installed. In a release's tarball this file is the Makefile.
 .PHONY: install uninstall
 
 PROGRAM = cdpatch
@@ -23,8 +23,9 @@ zshcompdir = $(datarootdir)/zsh/site-functions
 fishcompdir = $(datarootdir)/fish/vendor_completions.d
 docdir = $(datarootdir)/doc/cdpatch
 recipesdir = $(datarootdir)/cdpatch
-# The pages for users; the others are for those who change the sources.
-PAGES = CHANGELOG.md $(addprefix docs/,SCRIPTS.md TRANSLATE.md REPAIR.md TRUST.md sector.svg apply.svg)
+# The pages for users, and the examples in C and Python; the other pages are for those who change the sources.
+PAGES = CHANGELOG.md $(addprefix docs/,SCRIPTS.md TRANSLATE.md REPAIR.md TRUST.md sector.svg apply.svg) \
+    $(addprefix examples/,audit.c cdpatch.py patch.py)
 
 INSTALL = install
 INSTALL_PROGRAM = $(INSTALL) -m 755
@@ -34,7 +35,7 @@ install:
 	@test -x '$(PROGRAM)' || { echo 'There is no $(PROGRAM) to install: run make first.' >&2; exit 1; }
 	@test -f '$(LIBRARY)/libcdpatch.a' || { echo 'There is no $(LIBRARY) to install: run make first.' >&2; exit 1; }
 	$(INSTALL) -d '$(DESTDIR)$(bindir)' '$(DESTDIR)$(man1dir)' '$(DESTDIR)$(bashcompdir)' '$(DESTDIR)$(zshcompdir)' \
-	    '$(DESTDIR)$(fishcompdir)' '$(DESTDIR)$(docdir)/docs' '$(DESTDIR)$(man3dir)' '$(DESTDIR)$(includedir)' \
+	    '$(DESTDIR)$(fishcompdir)' '$(DESTDIR)$(docdir)/docs' '$(DESTDIR)$(docdir)/examples' '$(DESTDIR)$(man3dir)' '$(DESTDIR)$(includedir)' \
 	    '$(DESTDIR)$(pkgconfigdir)' '$(DESTDIR)$(fastdir)' '$(DESTDIR)$(recipesdir)'
 	$(INSTALL_PROGRAM) '$(PROGRAM)' '$(DESTDIR)$(bindir)/cdpatch'
 	$(INSTALL_DATA) man/cdpatch.1 '$(DESTDIR)$(man1dir)/cdpatch.1'

@@ -95,6 +95,13 @@ def encode(address, user):
     return made.raw
 
 
+def with_parity(sector):
+    """A sector of any kind with P and Q parity recalculated."""
+    made = ctypes.create_string_buffer(_sized(sector, SECTOR_SIZE), SECTOR_SIZE)
+    _library.cdpatch_fill_parity(made)
+    return made.raw
+
+
 def is_consistent(sector):
     """Whether a sector is of Mode 1 with nothing wrong in it."""
     return _library.cdpatch_is_consistent(_sized(sector, SECTOR_SIZE))
@@ -113,7 +120,7 @@ def rebuild(sector):
 
 
 def with_user(sector, offset, new, carry=False):
-    """The sector with other user bytes from `offset` on. A damaged one is refused, or with `carry` keeps its damage."""
+    """The sector with other user bytes, beginning at `offset`. A damaged one is refused, or with `carry` keeps its damage."""
     if offset < 0:
         raise OutOfRange(offset)
     name = 'cdpatch_carry_user' if carry else 'cdpatch_change_user'

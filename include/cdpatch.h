@@ -1,8 +1,8 @@
 /* libcdpatch: the codes of CD-ROM sectors (ECMA-130), and the commands of cdpatch on images in memory. Each call is proved to do
- * what its comment says. cc .. -lcdpatch; libcdpatch(3). A sector is 2352 bytes, an address three: minute, second and fraction in
- * BCD. The caller makes sure that no pointer is null, even if it stands for no bytes, that each is valid for the size given here,
- * and that what a call writes overlaps nothing else that it is passed. Nothing is kept between calls: threads may call at once,
- * each on memory of its own. Only cdpatch_check and cdpatch_apply allocate memory, and they free it. */
+ * what its comment says. cc .. -lcdpatch; libcdpatch(3). A sector is 2352 bytes, an address three: minute, second and frame
+ * in BCD. The caller makes sure that no pointer is null, even for a size of 0, that each is valid for the size given here, and
+ * that what a call writes overlaps none of its other arguments. Nothing is kept between calls: threads may make calls at the
+ * same time, each on its own memory. Only cdpatch_check and cdpatch_apply allocate memory, and they free it. */
 #ifndef CDPATCH_H
 #define CDPATCH_H
 
@@ -32,33 +32,34 @@ bool cdpatch_address(uint32_t block, uint8_t *address);
 void cdpatch_encode(const uint8_t *address, const uint8_t *user, uint8_t *sector);
 /* Recalculates P and Q parity, bytes 2076 to 2351, in a sector of any kind; bytes 0 to 2075 stay. */
 void cdpatch_fill_parity(uint8_t *sector);
-/* Whether a sector is of Mode 1 with nothing wrong in it: Intermediate field, EDC, P and Q parity. */
+/* Returns whether a sector is a Mode 1 sector with nothing wrong in it: Intermediate field, EDC, P and Q parity. */
 bool cdpatch_is_consistent(const uint8_t *sector);
-/* Writes what is wrong with a sector of any kind, read as one of Mode 1; the mode byte is not tested. */
+/* Writes what is wrong with a sector of any kind, read as a Mode 1 sector; the mode byte is not tested. */
 void cdpatch_find_defect(const uint8_t *sector, struct cdpatch_defect *defect);
 
 /* Changes of a Mode 1 sector of 2352 bytes. If the result is not CDPATCH_OK, the sector stays as it was. */
 
 /* Makes the sector the one consistent sector with its header and its user data. */
 uint32_t cdpatch_rebuild(uint8_t *sector);
-/* Writes `length` bytes into the 2048 of user data, from `offset` on, with EDC and parity; refuses a damaged sector. */
+/* Writes `length` bytes into the 2048 of user data, beginning at `offset`, and updates EDC and parity; refuses a damaged sector. */
 uint32_t cdpatch_change_user(uint8_t *sector, size_t offset, const uint8_t *bytes, size_t length);
-/* The same in a sector that may be damaged: its damage stays, and no other comes; never CDPATCH_DAMAGED. */
+/* The same in a sector that may be damaged: its damage stays, and none is added; never CDPATCH_DAMAGED. */
 uint32_t cdpatch_carry_user(uint8_t *sector, size_t offset, const uint8_t *bytes, size_t length);
-/* Writes 3 bytes of address into the header, with EDC and parity; refuses a damaged sector. */
+/* Writes 3 bytes of address into the header, and updates EDC and parity; refuses a damaged sector. */
 uint32_t cdpatch_change_address(uint8_t *sector, const uint8_t *address);
-/* The same in a sector that may be damaged: its damage stays, and no other comes; never CDPATCH_DAMAGED. */
+/* The same in a sector that may be damaged: its damage stays, and none is added; never CDPATCH_DAMAGED. */
 uint32_t cdpatch_carry_address(uint8_t *sector, const uint8_t *address);
 
-/* Commands on an image in memory, such as a mapped file: `size` bytes, whose first sector is block `base`, 0 to 449849. Each call
- * does what the command of its name does (cdpatch(1)), and returns its exit status. What the command prints is written to the first
- * bytes of `text` or `log`, which has `room` bytes, and `*length` becomes the number of bytes written; the other bytes stay.
+/* Commands on an image in memory, such as a mapped file: `size` bytes, whose first sector is block `base`, 0 to 449849. Each
+ * call does the same as the command of that name (cdpatch(1)), and returns its exit status. What the command prints is written
+ * to the first bytes of `text` or `log`, which has `room` bytes, and `*length` becomes the number of bytes written; the other
+ * bytes stay.
  *
- * CDPATCH_FAILED: the room is too small, which is a failed write as in the command, and the beginning of the text fills it. Or the
- * last line says why: `out` is too small, the script is invalid, the image has more than 1000000 sectors, or there is no memory.
- * Or the base is above 449849; then nothing is written, and `*length` becomes 0.
+ * CDPATCH_FAILED: the room is too small, which counts as a failed write, and the beginning of the text fills it. Or the last
+ * line says why: `out` is too small, the script is invalid, the image has more than 1000000 sectors, or there is no memory. Or
+ * the base is above 449849; then nothing is written, and `*length` becomes 0.
  *
- * Enough room: for `text` 100 bytes and 40 for each sector, for `log` 200 bytes and 80 for each line of the script. */
+ * This is enough room: 100 bytes and 40 for each sector for `text`, 200 bytes and 80 for each line of the script for `log`. */
 
 /* Prints the runs of sectors of one kind. Never CDPATCH_FOUND. */
 uint32_t cdpatch_list(const uint8_t *image, size_t size, uint32_t base, uint8_t *text, size_t room, size_t *length);

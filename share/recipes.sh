@@ -9,6 +9,10 @@ recipes_say() { printf '%s: %s\n' "$recipes_name" "$*" >&2; }
 recipes_begin() {
     # In zsh a trap would end with the function that sets it, and words would not be those of a POSIX shell.
     [ -z "${ZSH_VERSION-}" ] || emulate sh
+    # With the caller's `set -euC -o pipefail` a function would end at the first `cmp` that finds a difference. Each function runs in a
+    # subshell, so the caller keeps these options.
+    set +euC
+    ! (set +o pipefail) 2> /dev/null || set +o pipefail
     recipes_name=$1
     if [ "$4" -lt "$2" ] || [ "$4" -gt "$3" ]; then
         printf 'usage: %s\n' "$5" >&2
@@ -71,12 +75,12 @@ recipes_unused() {
     return 2
 }
 
-# hex TEXT [ENCODING]: the bytes of a text as hexadecimal digits.
+# hex TEXT [ENCODING]: the bytes of a text, given in UTF-8, as hexadecimal digits.
 hex() (
     recipes_begin hex 1 2 $# 'hex TEXT [ENCODING]' || return
     recipes_room || return
     if [ $# = 2 ]; then
-        printf '%s' "$1" | iconv -t "$2" > "$room/text" || { recipes_say "no $2 for this text"; return 2; }
+        printf '%s' "$1" | iconv -f UTF-8 -t "$2" > "$room/text" || { recipes_say "no $2 for this text"; return 2; }
     else
         printf '%s' "$1" > "$room/text"
     fi
@@ -84,7 +88,7 @@ hex() (
     echo
 )
 
-# find_text FILE TEXT [ENCODING]: the places in a file at which a text begins, counted in bytes from 0.
+# find_text FILE TEXT [ENCODING]: the places in a file at which a text, given in UTF-8, begins, counted in bytes from 0.
 find_text() (
     recipes_begin find_text 2 3 $# 'find_text FILE TEXT [ENCODING]' || return
     recipes_file "$1" && recipes_room || return
@@ -92,7 +96,7 @@ find_text() (
     printf '%s' "$2" > "$room/utf8"
     cp "$room/utf8" "$room/text"
     if [ $# = 3 ]; then
-        iconv -t "$3" < "$room/utf8" > "$room/text" || { recipes_say "no $3 for this text"; return 2; }
+        iconv -f UTF-8 -t "$3" < "$room/utf8" > "$room/text" || { recipes_say "no $3 for this text"; return 2; }
     fi
     [ $(($(tr -cd '\n' < "$room/text" | wc -c))) = 0 ] || { recipes_say 'a text cannot go over the end of a line'; return 2; }
     LC_ALL=C grep -abo -F -f "$room/text" "$file" > "$room/found" && { cut -d: -f1 < "$room/found"; return; }

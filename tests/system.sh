@@ -241,7 +241,7 @@ row 'a limit on file sizes kills' size_limit_kills ignores_the_limit_on_file_siz
 traced 'OUT has what was sent' out_has_what_was_sent drops_what_is_held
 states docs/DECISIONS.md 'OUT is opened only to be written'
 states docs/DECISIONS.md "so after a fault of the image or of the log, where \`apply\` ends early, the program passes on what OUT's buffer still"
-states docs/TRUST.md "What the output's buffer holds when another stream fails is written then, so OUT has all that was sent to it."
+states docs/TRUST.md "If another stream fails, the output's buffer is still written, so OUT has all that was sent to it."
 states man/cdpatch.1 'A limit on file sizes .Pq Ql ulimit -f ends a run in the same way, by SIGXFSZ: the status is 153.'
 
 # ---- errors of all kinds, and two in one run
@@ -276,7 +276,7 @@ traced 'each kind of error of a read of the script' reads_of_the_script_fail tak
 traced 'each kind of error of a write to OUT' writes_of_out_fail repeats_a_write_of_out passes_over_a_full_disk
 traced 'each kind of error of a write of the log' writes_of_the_log_fail prints_again
 traced 'each kind of error of a sync' syncs_of_out_fail passes_over_a_sync_that_is_not_known repeats_a_sync syncs_nothing
-states docs/TRUST.md 'No read and no write is made again'
+states docs/TRUST.md 'No read and no write is retried'
 states docs/DECISIONS.md "Status 0 means that the disk has OUT's data."
 
 # two_faults FILE CALLS FAULT..: in a run of `apply`, whose log has several buffers, these faults are put into calls on OUT and
@@ -310,7 +310,7 @@ second_fault_in_a_sync() {
 { echo 'cdpatch 1'; yes 'rebuild 3' | head -n 9000; } > long.script
 traced 'a fault, and then one of a write to OUT' second_fault_in_a_write repeats_a_write_of_out drops_what_is_held
 traced 'a fault, and then one of a sync' second_fault_in_a_sync repeats_a_sync syncs_nothing
-states docs/TRUST.md 'After a write to OUT or its sync has failed, no more goes out, and OUT has what it took before.'
+states docs/TRUST.md 'After a failed write to OUT or a failed sync, nothing more is written, and OUT has what it took before.'
 
 # ---- the standard output, and terminals
 

@@ -1,7 +1,7 @@
 #!/usr/bin/env bash
 # `tools/dist.sh PROGRAM LIBRARY DIRECTORY` makes the tarball of a release in DIRECTORY, and its checksum: the program, the
-# library with its header, the man pages, the completions, the recipes, the pages for users, and a Makefile that only installs them.
-# The pages lack what only works in the sources. The bytes follow from those of these files only.
+# library with its header, the man pages, the completions, the recipes, the pages for users, the examples, and a Makefile that only
+# installs them. The pages lack what only works in the sources. The bytes follow from those of these files only.
 set -euo pipefail
 program=$(realpath "$1")
 library=$(realpath "$2")
@@ -11,7 +11,7 @@ version=$("$program" --help | tail -n 1)
 name=cdpatch-${version#cdpatch }-x86_64-linux
 scratch=$(mktemp -d)
 trap 'rm -rf "$scratch"' EXIT
-mkdir -p "$scratch/$name"/{docs,man,completions,include,share,library/x86-64-v3}
+mkdir -p "$scratch/$name"/{docs,man,completions,examples,include,share,library/x86-64-v3}
 cp "$program" "$scratch/$name/cdpatch"
 { printf '%s\n' 'all:' "	@echo 'Everything is built: make install installs it.'" ''; cat install.mk; } > "$scratch/$name/Makefile"
 cp CHANGELOG.md "$scratch/$name"
@@ -20,6 +20,7 @@ for page in README.md docs/INSTALL.md; do
     sed '/^<!-- sources -->$/,/^<!-- end of sources -->$/d' "$page" > "$scratch/$name/$page"
 done
 cp share/recipes.sh "$scratch/$name/share"
+cp examples/{audit.c,cdpatch.py,patch.py} "$scratch/$name/examples"
 cp man/cdpatch.1 man/libcdpatch.3 "$scratch/$name/man"
 cp include/cdpatch.h include/cdpatch.pc.in "$scratch/$name/include"
 cp "$library"/libcdpatch.{a,so.1} "$scratch/$name/library"

@@ -21,7 +21,7 @@ assert cdpatch.address(16) == bytes([0x00, 0x02, 0x16]) and cdpatch.address(4498
 assert cdpatch.edc(b'\1') == 0x90910101 and cdpatch.kind(sector) == 'mode1' and cdpatch.kind(bytes(2352)) == 'nosync'
 assert cdpatch.is_consistent(sector) and not cdpatch.is_consistent(damaged)
 assert cdpatch.defect(sector) == (False, False, 0, 0) and cdpatch.defect(damaged).q == 1
-assert cdpatch.rebuild(damaged) == sector
+assert cdpatch.rebuild(damaged) == sector and cdpatch.with_parity(damaged) == sector
 assert cdpatch.with_address(cdpatch.with_user(sector, 0, b'\x41'), bytes([0x12, 0x34, 0x56])) == other
 assert cdpatch.defect(cdpatch.with_user(damaged, 0, b'\x41', carry=True)).q == 1
 assert fails(cdpatch.Damaged, cdpatch.with_user, damaged, 0, b'\x41') and fails(cdpatch.NotMode1, cdpatch.rebuild, bytes(2352))

@@ -22,7 +22,8 @@ installed_for_a_package() {
 ./usr/lib/pkgconfig/cdpatch.pc $PWD/cdpatch.pc
 ./usr/share/bash-completion/completions/cdpatch $top/completions/cdpatch.bash
 ./usr/share/cdpatch/recipes.sh $top/share/recipes.sh
-$(for page in CHANGELOG.md docs/{REPAIR,SCRIPTS,TRANSLATE,TRUST}.md docs/{apply,sector}.svg; do echo "./usr/share/doc/cdpatch/$page $top/$page"; done)
+$(for page in CHANGELOG.md docs/{REPAIR,SCRIPTS,TRANSLATE,TRUST}.md docs/{apply,sector}.svg \
+    examples/{audit.c,{cdpatch,patch}.py}; do echo "./usr/share/doc/cdpatch/$page $top/$page"; done)
 $(for page in README.md docs/INSTALL.md; do echo "./usr/share/doc/cdpatch/$page $PWD/$page"; done)
 ./usr/share/fish/vendor_completions.d/cdpatch.fish $top/completions/cdpatch.fish
 ./usr/share/man/man1/cdpatch.1 $top/man/cdpatch.1

@@ -50,6 +50,24 @@ if ! missing nm binutils; then
     judge "and names no other: ${needless:-none}" test -z "$needless"
 fi
 
+# docs/INSTALL.md has each command without which something is skipped.
+{
+    grep -rhoE --include='*.sh' --include=run '(^ *|! |\|\| |&& )missing [a-z][a-z0-9-]+' "$top/tests" | sed 's/.*missing //'
+    sed -n 's/^```sh //p' "$top"/docs/*.md | tr ' ' '\n'
+} | sort -u > skipping
+for goal in check test-outside; do
+    row=$(grep "^| \`make $goal\` |" "$top/docs/INSTALL.md")
+    unknown=
+    while read -r command; do
+        case $goal:$command in
+            *:python3) command='Python 3' ;;
+            test-outside:strace | test-outside:valgrind | test-outside:setpriv | test-outside:objcopy | test-outside:pkg-config) continue ;;
+        esac
+        [[ $row == *" $command"[,\ ]* ]] || unknown+=" $command"
+    done < skipping
+    judge "docs/INSTALL.md: make $goal needs${unknown:- what it says}" test -z "$unknown"
+done
+
 # docs/MAP.md says what the code of each crate uses of the others.
 tr '\n' ' ' < "$top/docs/MAP.md" > map
 for crate in cd_code cd_sector cd_delta cd_script cd_patch cd_stream cd_read cd_report cd_image cd_args cd_program cdpatch cd_c \

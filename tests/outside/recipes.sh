@@ -230,6 +230,8 @@ judge 'a text is taken as it is' test "$(recipe 'find_text texts "[b].*"')" = "$
 judge 'in Shift-JIS' test "$(recipe 'find_text texts "テスト[" SHIFT_JIS')" = 14
 judge 'a text with a backslash' test "$(recipe 'find_text texts "*\a"')" = 5
 judge 'a text that begins as an option' test "$(printf 'x-e' > option; recipe 'find_text option -e')" = 1
+judge 'in a locale that is not UTF-8' test \
+    "$(recipe 'export LC_ALL=C; find_text texts "テスト[" SHIFT_JIS; hex テ SHIFT_JIS')" = "$(printf '14\n8365')"
 refuses 'a text that is not there' 1 'find_text: not found in texts' 'find_text texts b..'
 refuses 'no text' 2 'find_text: no text is given' 'find_text texts ""'
 refuses 'a text of two lines' 2 'find_text: a text cannot go over the end of a line' "find_text texts \"\$(printf 'a\nx')\""
@@ -295,6 +297,39 @@ for command in awk cat dash sh od tr mktemp rm; do ln -sf "$(command -v $command
 (PATH=$PWD/bare; $plain "$top/share/recipes.sh" base_of disc.bin 2> errors)
 judge 'without the program it says so' test $? = 2 -a "$(cat errors)" = 'base_of: cdpatch is not on the path'
 judge 'no temporary file is left' test -z "$(ls -A "$scratch/temporary")"
+
+# The caller's options end no function early, and stay. The image is longer than what a pipe holds.
+printf 'cdpatch 2\naddress 3 00:02:33\nset 5 0 41\n' > far
+cdpatch apply long.bin far far.bin > log
+cat > strict << END
+(set -o pipefail) 2> /dev/null && set -o pipefail
+set -euC
+. '$top/share/recipes.sh'
+base_of disc.bin
+script_of long.bin far.bin > strict.made
+cat strict.made
+apply_long long.bin strict.made strict.bin
+echo 'cdpatch 1' > strict.none
+apply_long long.bin strict.none strict.same
+changed_fields long.bin strict.bin
+user_data strict.bin 0 70 > strict.iso
+raw_of strict.iso 0 strict.raw
+is_sound strict.raw && patch_one far strict.raw
+printf '%s' "\$-" | tr -cd euC | wc -c | tr -d ' '
+is_sound far.bin
+echo 'not printed'
+END
+for shell in "$plain" bash zsh 'busybox sh'; do
+    if ! missing "${shell%% *}" "${shell%% *}" 'recipes with strict options'; then
+        rm -f strict.*
+        PATH=$scratch/plain:$PATH $shell strict > got 2> errors
+        status=$?
+        judge "in $shell with strict options: $(head -n 1 errors)" test $status = 1
+        judge "in $shell they stay" test "$(tail -n 1 got)" = 3
+        judge "in $shell the image is right" cmp -s far.bin strict.bin
+        judge "in $shell the raw image is made" test "$(stat -c %s strict.raw.new)" = $((71 * 2352))
+    fi
+done
 
 # The same in other shells.
 for shell in 'bash --posix' bash zsh 'busybox sh'; do

@@ -3,7 +3,7 @@
 # pack DIRECTORY: a tarball of the program, of a copy of the sources in this directory, into `made` there.
 pack() {
     mkdir -p "$1/made"
-    (cd "$top" && cp -r --parents Makefile install.mk share README.md CHANGELOG.md docs man completions include tools "$OLDPWD/$1")
+    (cd "$top" && cp -r --parents Makefile install.mk share README.md CHANGELOG.md docs man completions examples include tools "$OLDPWD/$1")
     cp -r "$library" "$1/library"
     cp "$program" "$1/cdpatch"
     make --no-print-directory -s -C "$1" dist distdir=made > "$1/printed"

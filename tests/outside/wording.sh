@@ -68,12 +68,32 @@ cat > phrases << 'END'
 \bfrom offset [0-9A-Z]+ on\b
 \bsomebody else\b
 \ball else\b
+\b[Rr]ight bytes?\b
+\bholds? of\b
+\b[Ww]ant of\b
+\b(made|asked) again\b
+\bWhoever (has|reads)\b
+\band (its|the) like\b
+(^|[.:] )Of (each|every|all|these|this|which)\b
+\bplaces? (at|in|of) (which|a file|a byte)\b
+\bwrite over\b
+\bbytes a sector\b
+\bno other comes\b
+\bit is passed\b
+\bgo(es)? the other way\b
+\b[Ll]eft to (trust|a)\b
+\b[Rr]ead aloud\b
+\b(is|are) silent\b
+\bbut that no\b
+\bbelong(s)? to it\b
+\blets? the [a-z]+ become\b
+\bEnough room:
 \bsaid of\b
 END
 
 # phrases_in FILE TEXT: the phrases of the list that the text has.
 phrases_in() { grep -noE -f phrases | sed 's/^[0-9]*://' | sort -u | paste -sd '|'; }
-for page in README.md docs/SCRIPTS.md docs/TRANSLATE.md docs/REPAIR.md docs/INSTALL.md CHANGELOG.md; do
+for page in README.md docs/SCRIPTS.md docs/TRANSLATE.md docs/REPAIR.md docs/INSTALL.md docs/TRUST.md docs/SPEED.md CHANGELOG.md; do
     found=$(plain_text "$top/$page" | phrases_in)
     judge "$page has phrases to rewrite: ${found:-none}" test -z "$found"
 done
@@ -99,4 +119,15 @@ The repaired bytes alone differ.
 As after sectors were put together by hand.
 EDC and parity are made anew for its user data.
 An invalid script is refused whole, by its first faulty line.
+On a file these clauses are silent.
+Want of memory can cut the text.
+ISO images (2048 bytes a sector) have no EDC.
+Bring the right bytes back.
+It prints the places at which a text begins.
+No read and no write is made again.
+Its damage stays, and no other comes.
+Of each change it is also proved which number it answers.
+The other function goes the other way, from a block to its file.
+Whoever has read these files knows what is promised.
+Left to trust there: that a write kept those that it took.
 END
