@@ -52,7 +52,7 @@ complete -c cdpatch -f
 complete -c cdpatch -n __cdpatch_begins -a list -d 'List the kinds of an image\'s sectors'
 complete -c cdpatch -n __cdpatch_begins -a audit -d 'Report what is wrong with an image\'s sectors'
 complete -c cdpatch -n __cdpatch_begins -a check -d 'Report what a script\'s patches would do to an image'
-complete -c cdpatch -n __cdpatch_begins -a apply -d 'Patch an image by a script, into a new file'
+complete -c cdpatch -n __cdpatch_begins -a apply -d 'Apply a script to an image, into a new file'
 complete -c cdpatch -s h -l help -d 'Print help'
 complete -c cdpatch -n 'not __cdpatch_begins; and not __fish_contains_opt base' -l base -x -d 'The number of the first block'
 complete -c cdpatch -n '__fish_seen_subcommand_from check apply; and not __fish_contains_opt carry' -l carry -d 'Patch damaged sectors too, and keep their damage'

@@ -7,13 +7,13 @@ pub(crate) const PROGRAM_ABOUT: &str =
 /// How to make a script, what the program writes, its statuses and, as the last line, its version.
 pub(crate) const PROGRAM_MORE: &str = "\
 Without arguments cdpatch lists the image on standard input; on a terminal end
-it with Ctrl-D. 'cdpatch COMMAND --help' has more on a command.
+it with Ctrl-D. 'cdpatch COMMAND --help' describes a command.
 
 A script is a text file: the line 'cdpatch 1', then one patch per line. Empty
 lines and lines that begin with '#' are skipped.
 
     cdpatch 1
-    # write five bytes at offset 16 of block 1, but only if these are there now
+    # write five bytes at offset 16 of block 1, but only if the old are there
     set 1 16 48454C4C4F was 71FE284B05
     # the same, whatever is there now
     set 1 16 48454C4C4F
@@ -66,15 +66,15 @@ found:
 Then it prints 'sectors S mode1 M damaged D tail T'. Other sectors are not
 audited, nor are those that lost sync field or mode byte: compare M with S.
 
-Status: 0 nothing found, 1 something found, 2 an I/O error.";
+Status: 0 no findings, 1 findings, 2 an I/O error.";
 
 /// What `check` does.
 pub(crate) const CHECK_ABOUT: &str = "Report what a script's patches would do to an image";
 
 /// What `check` writes, and its statuses.
 pub(crate) const CHECK_MORE: &str = "\
-For each patch it prints 'line L: applied' or 'line L: refused: WHY', ordered by
-blocks, and then 'applied A refused R'. No file is written.
+For each patch, in block order, it prints 'line L: applied' or
+'line L: refused: WHY', and then 'applied A refused R'. No file is written.
 'cdpatch --help' has an example of a script.
 
 With --carry patches on damaged sectors are accepted, and each sector keeps its
@@ -84,13 +84,14 @@ damage unless it is rebuilt. Use it to keep damage visible, or before a
 Status: 0 all applied, 1 a patch refused, 2 an I/O error or an invalid script.";
 
 /// What `apply` does.
-pub(crate) const APPLY_ABOUT: &str = "Patch an image by a script, into a new file";
+pub(crate) const APPLY_ABOUT: &str = "Apply a script to an image, into a new file";
 
 /// What `apply` writes, and its statuses.
 pub(crate) const APPLY_MORE: &str = "\
-For each patch it prints 'line L: applied' or 'line L: refused: WHY', ordered by
-blocks, and then 'applied A refused R'. A refused patch changes nothing. OUT is
-as long as the image. After an error OUT has a prefix of the patched image.
+For each patch, in block order, it prints 'line L: applied' or
+'line L: refused: WHY', and then 'applied A refused R'. A refused patch changes
+nothing. OUT is as long as the image. After an error OUT has a prefix of the
+patched image.
 'cdpatch --help' has an example of a script.
 
 With --carry patches on damaged sectors are accepted, and each sector keeps its

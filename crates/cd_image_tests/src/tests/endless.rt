@@ -3,6 +3,7 @@
 use super::calls::{audit_of, expect_reported, list_of};
 use super::long_images::{expect_applied, expect_checked};
 use cd_image::{Fault, FromRead, Source, ToWrite, apply, audit, check, list};
+use cd_script::Script;
 use cd_test_images::{Answer, Reported, Written, script_of};
 use std::io::{self, ErrorKind, Read};
 use std::test::Fail;
@@ -80,26 +81,43 @@ impl Read for Faltering {
     }
 }
 
+/// Why a listing ends, and how many failures the image has counted.
+fn end_of_list(reads: u32) -> (Option<Fault>, u32) {
+    let mut image = FromRead::new(Faltering::new(reads));
+    let fault = list(&mut image, 0, &mut ToWrite::new(io::sink())).err();
+    (fault, image.failures())
+}
+
+fn end_of_audit(reads: u32) -> (Option<Fault>, u32) {
+    let mut image = FromRead::new(Faltering::new(reads));
+    let fault = audit(&mut image, 0, &mut ToWrite::new(io::sink())).err();
+    (fault, image.failures())
+}
+
+fn end_of_apply(reads: u32, script: &Script) -> (Option<Fault>, u32) {
+    let mut image = FromRead::new(Faltering::new(reads));
+    let (mut out, mut log) = (ToWrite::new(io::sink()), ToWrite::new(io::sink()));
+    let fault = apply(&mut image, script, 0, false, &mut out, &mut log).err();
+    (fault, image.failures())
+}
+
+fn end_of_check(reads: u32, script: &Script) -> (Option<Fault>, u32) {
+    let mut image = FromRead::new(Faltering::new(reads));
+    let fault = check(&mut image, script, 0, false, &mut ToWrite::new(io::sink())).err();
+    (fault, image.failures())
+}
+
 /// It is not read on, although the next read would succeed.
 #[test]
 fn a_read_that_fails(rt: HostRuntime) -> Result<(), Fail> {
     let script = script_of(rt.alloc(), SCRIPT)?;
     for reads in 0..12u32 {
-        let mut out = ToWrite::new(io::sink());
-        let mut log = ToWrite::new(io::sink());
-        let mut image = FromRead::new(Faltering::new(reads));
-        let listed = list(&mut image, 0, &mut out).err();
-        let is_listed = (listed, image.failures());
-        let mut image = FromRead::new(Faltering::new(reads));
-        let audited = audit(&mut image, 0, &mut out).err();
-        let is_audited = (audited, image.failures());
-        let mut image = FromRead::new(Faltering::new(reads));
-        let applied = apply(&mut image, &script, 0, false, &mut out, &mut log).err();
-        let is_applied = (applied, image.failures());
-        let mut image = FromRead::new(Faltering::new(reads));
-        let checked = check(&mut image, &script, 0, false, &mut log).err();
-        let is_checked = (checked, image.failures());
-        let ends = [is_listed, is_audited, is_applied, is_checked];
+        let ends = [
+            end_of_list(reads),
+            end_of_audit(reads),
+            end_of_apply(reads, &script),
+            end_of_check(reads, &script),
+        ];
         assert_eq!(rt; ends, [(Some(Fault::Read), 1); 4], "{reads} reads");
     }
     Ok(())

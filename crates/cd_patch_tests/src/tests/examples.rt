@@ -16,41 +16,62 @@ use std::simd::prelude::*;
 use std::test::Fail;
 
 #[test]
-fn field_and_edc(rt: HostRuntime) {
+fn products(rt: HostRuntime) {
     assert_eq!(rt; times(0x80, 0x02), 0x1D); // x^8 is x^4 + x^3 + x^2 + 1
     assert_eq!(rt; times(0x03, 0xF4), 0x01); // F4 is the inverse of 03
+}
 
+#[test]
+fn powers(rt: HostRuntime) {
     assert_eq!(rt; alpha_power(8), 0x1D);
     assert_eq!(rt; alpha_power(255), 0x01); // from here on they come again
+}
 
+#[test]
+fn edc_words(rt: HostRuntime) {
     assert_eq!(rt; edc_of(&[0x00; 2064]), 0);
     assert_eq!(rt; edc_of(&[0x01]), 0x9091_0101);
 }
 
 #[test]
-fn pairs_of_a_word(rt: HostRuntime) {
+fn both_syndromes(rt: HostRuntime) {
     assert_eq!(rt; syndromes(&[0x80, 0x01]), (0x81, 0x1C)); // 80 + 01, and 2 * 80 + 01
+}
 
+#[test]
+fn a_pair_from_syndromes(rt: HostRuntime) {
     let (plain, weighted) = syndromes(&[0x01]);
     assert_eq!(rt; pair_from(plain, weighted), (0x03, 0x02)); // as `parity_pair` of 01
+}
 
+#[test]
+fn a_parity_pair(rt: HostRuntime) {
     assert_eq!(rt; parity_pair(&[0x01]), (0x03, 0x02));
     assert_eq!(rt; syndromes(&[0x01, 0x03, 0x02]), (0x00, 0x00)); // a code word
+}
 
+#[test]
+fn a_change_of_a_pair(rt: HostRuntime) {
     assert_eq!(rt; pair_change(3, 0, 0x01), (0x03, 0x02)); // 00 00 00 becomes 01 03 02
 }
 
 #[test]
-fn columns_of_rows(rt: HostRuntime) {
+fn sums_row_by_row(rt: HostRuntime) {
     let mut sums = ColumnSums::zero();
     row_sums(&[0x80; COLUMNS], &mut sums);
     row_sums(&[0x01; COLUMNS], &mut sums);
     assert_eq!(rt; (sums.plain[85], sums.weighted[85]), (0x81, 0x1C)); // 80 + 01, and 2 * 80 + 01
+}
 
+#[test]
+fn columns_in_lanes(rt: HostRuntime) {
     let lanes = column_lanes(&[[0x80; COLUMNS], [0x01; COLUMNS]]); // two rows
     assert_eq!(rt; lanes.front.plain[0], 0x81); // 80 + 01, in column 0
     assert_eq!(rt; lanes.back.weighted[31], 0x1C); // 2 * 80 + 01, in column 85
+}
 
+#[test]
+fn sums_of_all_rows(rt: HostRuntime) {
     let mut rows = [0x00; ROWS_SIZE];
     rows[0] = 0x01; // column 0 is 01, and 25 times 00
     let sums = column_sums(&rows);
@@ -58,17 +79,23 @@ fn columns_of_rows(rt: HostRuntime) {
 }
 
 #[test]
-fn lanes_of_words(rt: HostRuntime) {
+fn one_more_byte_of_each_word(rt: HostRuntime) {
     let words = LaneSums::zero().with_lanes(u8x32::splat(0x80)); // 32 words 80
     let longer = words.with_masked_lanes(u8x32::splat(0x01), u8x32::splat(0xFF)); // 32 words 80 01
     assert_eq!(rt; (longer.plain[0], longer.weighted[0]), (0x81, 0x1C)); // 80 + 01, and 2 * 80 + 01
     let same = words.with_masked_lanes(u8x32::splat(0x01), u8x32::splat(0x00));
     assert_eq!(rt; (same.plain[0], same.weighted[0]), (0x80, 0x80)); // still 80
+}
 
+#[test]
+fn pairs_of_words(rt: HostRuntime) {
     let words = LaneSums::zero().with_lanes(u8x32::splat(0x01)); // 32 words 01
     let (first, second) = words.pairs();
     assert_eq!(rt; (first[31], second[31]), (0x03, 0x02)); // 01 03 02 is a code word
+}
 
+#[test]
+fn lanes_of_bytes(rt: HostRuntime) {
     let lanes = lanes_at(&[0x07; 40], 8); // bytes 8 to 39
     let mut bytes = [0x00; 34];
     put_lanes(&mut bytes, 1, lanes);
@@ -76,48 +103,69 @@ fn lanes_of_words(rt: HostRuntime) {
 }
 
 #[test]
-fn whole_sectors(rt: HostRuntime) {
+fn an_encoded_sector(rt: HostRuntime) {
     let sector = encode([0x00, 0x02, 0x00], &[0x41; USER_SIZE]); // block 0
     assert_eq!(rt; kind(&sector), SectorKind::Mode1);
     assert_eq!(rt; stored_edc(sector.bytes()), edc_of(&sector.bytes()[..EDC]));
+}
 
+#[test]
+fn encoding_in_place(rt: HostRuntime) {
     let mut sector = Sector::from_bytes([0xFF; SECTOR_SIZE]);
     encode_into(&mut sector, [0x00, 0x02, 0x00], &[0x41; USER_SIZE]);
     assert!(rt; sector == encode([0x00, 0x02, 0x00], &[0x41; USER_SIZE]));
+}
 
+#[test]
+fn kinds(rt: HostRuntime) {
     let sector = encode([0x00, 0x02, 0x00], &[0x00; USER_SIZE]);
     assert_eq!(rt; kind(&sector), SectorKind::Mode1);
     assert_eq!(rt; kind(&Sector::default()), SectorKind::NoSync); // all 00
+}
 
+#[test]
+fn parity_filled_in(rt: HostRuntime) {
     let mut sector = Sector::default(); // all 00
     sector.put(12, 0x01);
     fill_parity(&mut sector);
     assert_eq!(rt; [sector.byte(2076), sector.byte(2162)], [0xF5, 0xF4]); // P of its column
+}
 
+#[test]
+fn a_rebuilt_sector(rt: HostRuntime) {
     let mut sector = encode([0x00, 0x02, 0x00], &[0x41; USER_SIZE]);
     let sound = sector;
     sector.put(2351, 0xFF); // the last byte of Q parity
     assert_eq!(rt; kind(&sector), SectorKind::Mode1);
     rebuild(&mut sector);
     assert!(rt; sector == sound);
+}
 
+#[test]
+fn a_sum_of_sectors(rt: HostRuntime) {
     let sector = Sector::from_bytes([0x0F; SECTOR_SIZE]);
     let other = Sector::from_bytes([0xFF; SECTOR_SIZE]);
     assert_eq!(rt; sum_of(&sector, &other).byte(2351), 0xF0);
 }
 
 #[test]
-fn defects(rt: HostRuntime) {
+fn a_defect(rt: HostRuntime) {
     let mut sector = encode([0x00, 0x02, 0x00], &[0x00; USER_SIZE]);
     sector.put(16, 0x01); // a byte of the user data, in one column and one diagonal
     let report = defect(&sector);
     assert_eq!(rt; (report.edc, report.p, report.q), (true, 1, 1));
+}
 
+#[test]
+fn a_consistent_sector(rt: HostRuntime) {
     let mut sector = encode([0x00, 0x02, 0x00], &[0x00; USER_SIZE]); // block 0, all zeros
     assert!(rt; is_consistent(&sector));
     sector.put(2351, 0xFF); // the last byte of Q parity
     assert!(rt; !is_consistent(&sector));
+}
 
+#[test]
+fn the_same_defect(rt: HostRuntime) {
     let sector = encode([0x00, 0x02, 0x00], &[0x00; USER_SIZE]);
     let other = encode([0x00, 0x02, 0x01], &[0x41; USER_SIZE]);
     assert!(rt; same_defect(&sector, &other)); // neither has any
@@ -125,42 +173,66 @@ fn defects(rt: HostRuntime) {
 }
 
 #[test]
-fn bytes_of_a_sector(rt: HostRuntime) {
+fn a_sector_from_bytes(rt: HostRuntime) {
     let sector = Sector::from_bytes([0xA5; SECTOR_SIZE]);
     assert_eq!(rt; *sector.bytes(), [0xA5; SECTOR_SIZE]);
+}
 
+#[test]
+fn one_byte(rt: HostRuntime) {
     let mut sector = Sector::default(); // all 00
     sector.put(16, 0x41);
     assert_eq!(rt; (sector.byte(16), sector.byte(17)), (0x41, 0x00));
+}
 
+#[test]
+fn bytes_lent(rt: HostRuntime) {
     let mut sector = Sector::default(); // all 00
     sector.with_bytes_mut(&mut 0x41, |byte, bytes| bytes[16] = *byte);
     assert_eq!(rt; sector.byte(16), 0x41);
+}
 
+#[test]
+fn a_part_of_the_bytes(rt: HostRuntime) {
     let mut bytes = [0x00; SECTOR_SIZE];
     put_part(&mut bytes, HEADER, &[0x00, 0x02, 0x16]);
     assert_eq!(rt; (bytes[13], bytes[14], bytes[15]), (0x02, 0x16, 0x00));
 }
 
 #[test]
-fn parts_of_a_sector(rt: HostRuntime) {
+fn a_header(rt: HostRuntime) {
     let sector = encode([0x00, 0x02, 0x00], &[0x00; USER_SIZE]); // block 0, at 00:02:00
     assert_eq!(rt; sector.header(), [0x00, 0x02, 0x00, 0x01]); // the last is the mode
+}
 
+#[test]
+fn user_data(rt: HostRuntime) {
     let sector = encode([0x00, 0x02, 0x00], &[0x41; USER_SIZE]);
     assert_eq!(rt; sector.user(), [0x41; USER_SIZE].as_slice());
+}
 
+#[test]
+fn addresses(rt: HostRuntime) {
     assert_eq!(rt; address_of(0), Some([0x00, 0x02, 0x00])); // 00:02:00
     assert_eq!(rt; address_of(449_849), Some([0x99, 0x59, 0x74])); // 99:59:74
     assert_eq!(rt; address_of(449_850), None);
+}
 
+#[test]
+fn bytes_of_an_edc_word(rt: HostRuntime) {
     assert_eq!(rt; edc_bytes(0x9091_0101), [0x01, 0x01, 0x91, 0x90]);
+}
 
+#[test]
+fn an_edc_put(rt: HostRuntime) {
     let mut bytes = [0x00; SECTOR_SIZE];
     put_edc(&mut bytes, 0x9091_0101);
     assert_eq!(rt; bytes[2067], 0x90); // the most significant byte is the last
     assert_eq!(rt; stored_edc(&bytes), 0x9091_0101);
+}
 
+#[test]
+fn an_edc_filled_in(rt: HostRuntime) {
     let mut bytes = [0x00; SECTOR_SIZE];
     bytes[2063] = 0x01; // the last byte of the user data
     fill_edc(&mut bytes, 0);
@@ -170,33 +242,45 @@ fn parts_of_a_sector(rt: HostRuntime) {
 }
 
 #[test]
-fn changes(rt: HostRuntime) {
+fn eight_changes(rt: HostRuntime) {
     let [first, second, ..] = parity_changes(12, 0x01); // the P bytes of the column of byte 12
     assert_eq!(rt; (first.place, first.d), (2076, 0xF5));
     assert_eq!(rt; (second.place, second.d), (2162, 0xF4));
+}
 
+#[test]
+fn a_changed_byte(rt: HostRuntime) {
     let mut sector = Sector::default(); // all 00: all columns and diagonals are code words
     change_byte(&mut sector, 12, 0x01);
     let report = defect(&sector); // and they stay so
     assert_eq!(rt; (sector.byte(12), report.p, report.q), (0x01, 0, 0));
+}
 
+#[test]
+fn changed_user_data(rt: HostRuntime) {
     let mut sector = encode([0x00, 0x02, 0x00], &[0x00; USER_SIZE]);
     change_user(&mut sector, 0, &[0x41; USER_SIZE]);
     assert!(rt; sector == encode([0x00, 0x02, 0x00], &[0x41; USER_SIZE]));
+}
 
+#[test]
+fn a_changed_header(rt: HostRuntime) {
     let mut sector = encode([0x00, 0x02, 0x00], &[0x41; USER_SIZE]); // block 0
     change_header(&mut sector, [0x00, 0x02, 0x01]);
     assert!(rt; sector == encode([0x00, 0x02, 0x01], &[0x41; USER_SIZE])); // block 1
 }
 
 #[test]
-fn carried_damage(rt: HostRuntime) {
+fn damage_carried_under_user_data(rt: HostRuntime) {
     let mut sector = encode([0x00, 0x02, 0x00], &[0x00; USER_SIZE]);
     sector.put(2351, 0xFF); // damage in the Q parity, to one diagonal
     assert_eq!(rt; kind(&sector), SectorKind::Mode1);
     carry_user(&mut sector, 0, &[0x41]);
     assert_eq!(rt; (sector.user()[0], defect(&sector).q), (0x41, 1)); // which stays
+}
 
+#[test]
+fn damage_carried_under_a_header(rt: HostRuntime) {
     let mut sector = encode([0x00, 0x02, 0x00], &[0x00; USER_SIZE]);
     sector.put(2351, 0xFF); // damage in the Q parity, to one diagonal
     assert_eq!(rt; kind(&sector), SectorKind::Mode1);
@@ -205,40 +289,56 @@ fn carried_damage(rt: HostRuntime) {
 }
 
 #[test]
-fn scripts(rt: HostRuntime) -> Result<(), Fail> {
+fn patches_in_order(rt: HostRuntime) -> Result<(), Fail> {
     let script = parse(rt.alloc(), b"cdpatch 1\nrebuild 16\nset 5 0 4869\n")?;
     assert_eq!(rt; script.patches().first().map(|patch| patch.block), Some(5)); // then that of 16
+    Ok(())
+}
 
+#[test]
+fn lines_of_patches(rt: HostRuntime) -> Result<(), Fail> {
     let script = parse(rt.alloc(), b"cdpatch 1\nrebuild 7\n")?;
     assert_eq!(rt; script.patches().first().map(|patch| patch.line), Some(2));
+    Ok(())
+}
 
+#[test]
+fn bytes_of_a_patch(rt: HostRuntime) -> Result<(), Fail> {
     let script = parse(rt.alloc(), b"cdpatch 1\nset 5 0 4869\n")?;
     let Some(Edit::Put { bytes, .. }) = script.patches().first().map(|patch| &patch.edit) else {
         panic!(rt; "a patch of another kind");
     };
     assert_eq!(rt; bytes.as_slice(), b"Hi".as_slice());
-
-    let fault = parse(rt.alloc(), b"cdpatch 1\n\nset 16 2048 41\n").err();
-    assert_eq!(rt; fault, Some(ScriptFault::Offset(3))); // in line 3
-
     Ok(())
 }
 
 #[test]
-fn patches(rt: HostRuntime) -> Result<(), Fail> {
+fn a_fault(rt: HostRuntime) {
+    let fault = parse(rt.alloc(), b"cdpatch 1\n\nset 16 2048 41\n").err();
+    assert_eq!(rt; fault, Some(ScriptFault::Offset(3))); // in line 3
+}
+
+#[test]
+fn blocks_of_a_patch(rt: HostRuntime) -> Result<(), Fail> {
     let script = parse(rt.alloc(), b"cdpatch 1\nset 5 2047 4142\n")?;
     for patch in script.patches() {
         assert_eq!(rt; blocks_met(patch), 2); // the last user byte of block 5, the first of 6
     }
+    Ok(())
+}
 
+#[test]
+fn an_applied_patch(rt: HostRuntime) -> Result<(), Fail> {
     let script = parse(rt.alloc(), b"cdpatch 1\nset 0 0 41\n")?;
     let mut sectors = [encode([0x00, 0x02, 0x00], &[0x00; USER_SIZE])]; // block 0
     for patch in script.patches() {
         assert_eq!(rt; apply_patch(&mut sectors, patch, false), Outcome::Applied);
     }
+    Ok(())
+}
 
+#[test]
+fn outcomes(rt: HostRuntime) {
     assert!(rt; Outcome::Applied.is_applied());
     assert!(rt; !Outcome::NoBlock(5).is_applied());
-
-    Ok(())
 }
