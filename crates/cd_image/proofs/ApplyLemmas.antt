@@ -54,8 +54,7 @@ module _ (carry : Bool) (taken left : List Patch) (base : ℕ) (start now : Stre
       → image.failures ≡ now.image.failures + 1 → image.ended ≡ false
       → Applies carry (taken ++ left) base start (record now { image = image }) (Err Read)
   Applies-read room short few failed unended =
-      applies (bytes_of g.seen ++ came) (bytes_of g.done) (log_lines taken g.outcomes)
-      (Err Read) all g.sends g.logs (in_hand room short)
+      applies all g.sends g.logs (in_hand room short)
       (record {
         failed =
             record {
@@ -80,8 +79,7 @@ module _ (carry : Bool) (taken left : List Patch) (base : ℕ) (start now : Stre
       → image.ended ≡ false
       → Applies carry (taken ++ left) base start (record now { image = image }) (Err TooLong)
   Applies-beyond room one full kept unended =
-      applies (bytes_of g.seen ++ came) (bytes_of g.done) (log_lines taken g.outcomes)
-      (Err TooLong) all g.sends g.logs (in_hand room (omega arith))
+      applies all g.sends g.logs (in_hand room (omega arith))
       (record {
         failed =
             record {
@@ -135,8 +133,7 @@ module _ (carry : Bool) (taken left : List Patch) (base : ℕ) (start now : Stre
       → Applies carry (taken ++ left) base start (record now { out = out }) (Err Write)
   unfolding settled
   Applies-write out fails size ahead =
-      applies (bytes_of g.seen ++ tail_bytes end) sent (log_lines taken g.outcomes) (Err Write)
-      g.gives went g.logs (omega (arith, length_read, length_sent, g.in_hand, g.held, g.count))
+      applies g.gives went g.logs (omega (arith, length_read, length_sent, g.in_hand, g.held, g.count))
       (record {
         failed =
             record {
@@ -266,8 +263,7 @@ module _ (carry : Bool) (taken : List Patch) (p : Patch) (left : List Patch) (ba
       → Sends {X = X} {E = E} now.log log (log_line p o) (Err e)
       → Applies carry (taken ++ p ∷ left) base start (record now { log = log }) (Err Log)
   Applies-log log fails =
-      applies (bytes_of g.seen ++ tail_bytes end) (bytes_of g.done) log_bytes (Err Log) g.gives g.sends
-      went
+      applies g.gives g.sends went
       (omega (
         arith,
         size_read carry taken (p ∷ left) base start now window block sectors_read applied end g,

@@ -94,12 +94,12 @@ unfinished_lines taken left front back log_bytes n same size part =
 
 -- the contract, by what each stream gave or took
 pub applies : {carry : Bool} {patches : List Patch} {base : ℕ} {old new : Streams}
-    (read sent log_bytes : List ℕ) (result : Result Tally Fault) → Gives old.image new.image read
+    {read sent log_bytes : List ℕ} {result : Result Tally Fault} → Gives old.image new.image read
     → Takes old.out new.out sent → Takes old.log new.log log_bytes
     → length read ≤ length sent + bytes_in_hand
     → AppliesBy carry patches base read sent log_bytes old new result
     → Applies carry patches base old new result
-applies read sent log_bytes result came went logged in_hand answers = record {
+applies {read = read} {sent = sent} {log_bytes = log_bytes} came went logged in_hand answers = record {
   read = read;
   sent = sent;
   log_bytes = log_bytes;
