@@ -1,8 +1,9 @@
 -- How a call on patches ends before its first read, and after the last sector of the image.
-use Rattle.std.proofs.Common.{take_all, ◌≡◌, ℕ, ◌+◌, ◌-◌, ◌<◌, ◌≤◌, inl, inr, Bool, List, [], ◌++◌, length, take, drop, Ok, Err, refl, sym, ap, ◌∙◌, subst, arith, append_assoc, append-nil, length-append, take-append-drop}
+use Rattle.std.proofs.Common.{take_all, ◌≡◌, ℕ, ◌+◌, ◌-◌, ◌*◌, ◌<◌, ◌≤◌, inl, inr, Bool, List, [], ◌++◌, length, take, drop, Ok, Err, refl, sym, ap, ◌∙◌, subst, arith, append_assoc, append-nil, length-append, take-append-drop}
 use Rattle.std.specs.Prelude.{All}
 use Rattle.std.proofs.KnownBytes.{Consumes-nil}
 use Rattle.cd_sector.specs.declared.sector.TheConstants.{SECTOR_SIZE}
+use Rattle.std.proofs.Math.Nat.{add-zero, le_of_eq}
 use Rattle.std.proofs.lemmas.List.{length-drop, length-take-le}
 use Rattle.cd_stream.specs.Stream.{IsBeginning, Outgoing}
 use Rattle.cd_stream.specs.Transfer.{Flushes, Gives, Sends, Takes}
@@ -21,9 +22,9 @@ use Rattle.cd_image.specs.PatchLog.{applied_count, log_end, log_lines, log_text,
 use Rattle.cd_read.specs.Ends.{MayBeImageAtEnd}
 use Rattle.cd_read.specs.declared.fault.Fault.TheVariants.{Log, Write}
 use Rattle.cd_image.specs.declared.patch_log.Tally.{Tally}
-use Rattle.cd_patch.specs.Outcome.{is_applied}
 use Rattle.cd_read.proofs.general.Counts.{count_by-append}
 use Rattle.cd_read.proofs.ImageLemmas.{cut_of_joined}
+use Rattle.cd_image.proofs.ApplyLemmas.{size_read}
 use Rattle.cd_image.proofs.KnownLemmas.{ahead_of_done, StopsAtLog-within, applies, outcomes_length, unfinished_log}
 use Rattle.cd_read.proofs.EndLemmas.{MayBeImageAtEnd-end}
 use Rattle.cd_image.proofs.PassingLemmas.{length-bytes_of}
@@ -126,10 +127,11 @@ module _ (carry : Bool) (below left : List Patch) (base : ℕ) (start : Streams)
 -- the lines of the other patches and the last line are left to log
 module _ {carry : Bool} (ps : List Patch) {base : ℕ} {start now : Streams} {pass : Pass}
     {end : List ℕ} (ended : IsEnded pass) (is : end ≡ tail_bytes pass.window.tail)
-    (g : HoldsInvariant carry (take pass.decided ps) (drop pass.decided ps) base start now pass) where
+    (g : HoldsInvariant carry (take pass.decided ps) (drop pass.decided ps)
+    base start now pass) where
   -- the bytes of the log: those that it has got, and those that are left
-  abbrev logged : List ℕ
-  logged = log_lines (take pass.decided ps) g.outcomes
+  abbrev log_bytes : List ℕ
+  log_bytes = log_lines (take pass.decided ps) g.outcomes
 
   abbrev lines : List ℕ
   lines = missing_lines (take (length ps - pass.decided) (drop pass.decided ps))
@@ -145,14 +147,14 @@ module _ {carry : Bool} (ps : List Patch) {base : ℕ} {start now : Streams} {pa
     within : length read ≤ image_limit
     size : length (bytes_of g.done ++ end) ≡ length read
     patched : IsPatched carry ps outcomes base read (bytes_of g.done ++ end)
-    whole_log : log_text ps outcomes ≡ logged ++ (lines ++ last_line)
+    whole_log : log_text ps outcomes ≡ log_bytes ++ (lines ++ last_line)
     tally_right : tally pass.applied (length ps - pass.applied) pass.sectors (length end)
         ≡ patch_tally read outcomes
     -- what was logged is what belongs before the tail; before the rest belongs the whole image
-    log_at_tail : (sent : ℕ) → length (bytes_of g.done) ≤ sent → sent < length read
-        → log_when_out_fails ps outcomes base (length read) sent ≡ logged
+    log_at_tail : (sent : ℕ) → sent < length read → length (bytes_of g.done) ≤ sent
+        → log_when_out_fails ps outcomes base (length read) sent ≡ log_bytes
     sent_at_log : (n : ℕ)
-        → sent_when_log_fails ps outcomes base read (length logged + n) ≡ length read
+        → sent_when_log_fails ps outcomes base read (length log_bytes + n) ≡ length read
 
   e : Run
   unfolding log_text
@@ -163,44 +165,43 @@ module _ {carry : Bool} (ps : List Patch) {base : ℕ} {start now : Streams} {pa
       let missing = missing_outcomes left in
       let os = g.outcomes ++ missing in
       let short : length end < SECTOR_SIZE = rw is g.short in
-      let cut = cut_of_joined g.seen end g.seen_sizes short in
+      let old = cut_of_joined g.seen end g.seen_sizes short in
       let new = cut_of_joined g.done end g.done_sizes short in
-      let lengths = outcomes_length carry taken left base start now _ _ _ _ _ g in
-      let ahead = ahead_of_done carry taken left base start now _ _ _ _ _ g in
-      let first = rw (ended.empty, append-nil g.seen, append-nil g.done) at (g.run [] (λ _. refl)) in
-      let others = PatchSequence-missing carry left g.done base (λ k d here. inr (ahead k d here)) in
+      let lengths = outcomes_length g in
+      let ahead = ahead_of_done g in
+      let first = simp (ended.empty, append-nil) at (g.run [] (λ _. refl)) in
+      let others = PatchSequence-missing _ left g.done base (λ k d here. inr (ahead k d here)) in
       let run : PatchSequence carry ps os base g.seen g.done =
       rw take-append-drop at (PatchSequence-append _ taken left _ _ _ _ _ _ first others) in
       let each = PatchSequence-lengths carry ps os base g.seen g.done run in
       let as_many = PatchSequence-count carry ps os base g.seen g.done run in
-      let seen = length-bytes_of g.seen g.seen_sizes in
       let done = length-bytes_of g.done g.done_sizes in
-      let read = length-append (bytes_of g.seen) end in
-      let both = count_by-append is_applied g.outcomes missing in
-      let none = applied_count-missing_outcomes left in
-      let applied : pass.applied ≡ applied_count os = omega (arith, g.counted) in
+      let size : length image ≡ SECTOR_SIZE * pass.sectors + length end = rw is (size_read g) in
+      let applied : pass.applied ≡ applied_count os =
+      simp (count_by-append, applied_count-missing_outcomes, add-zero) g.counted in
       let refused : length ps - pass.applied ≡ refused_count os = omega (arith, counts-all os) in
-      let slice = take_all (length ps - pass.decided) left (omega (arith, length-drop pass.decided ps)) in
+      let slice = take_all _ left (le_of_eq (length-drop pass.decided ps)) in
       let lines = rw take-append-drop at (log_lines-append taken left g.outcomes missing lengths) in
       record {
         read = image;
         outcomes = os;
         gives = rw is g.gives;
-        within = omega (arith, g.within, g.count, ap length is);
-        size = omega (arith, length-append (bytes_of g.done) end);
-        patched = record { run = rw (← cut.0, ← new.0) run; same_tail = sym new.1 ∙ cut.1 };
+        within = omega (arith, g.within, ap length is);
+        size = omega (arith, length-append (bytes_of g.done) end, g.count);
+        patched = record { run = rw (← old.0, ← new.0) run; same_tail = sym new.1 ∙ old.1 };
         whole_log = simp (slice, lines, ← applied, ← refused, append_assoc);
-        tally_right = cc (applied, refused, g.count, cut.0, cut.1);
-        log_at_tail = λ sent begun inside.
-            log_when_out_fails-tail ps os base _ _ pass.sectors (omega (arith, g.count))
+        tally_right = cc (applied, refused, g.count, old.0, old.1);
+        log_at_tail = λ sent inside begun.
+            log_when_out_fails-tail ps os base _ _ pass.sectors (omega arith)
             (omega (arith, g.count)) inside
-            ∙ rw take-append-drop at (lines_below-cut (base + pass.sectors) taken left g.outcomes missing
-            lengths (λ k d here. (g.due k d here).1) (λ k d here. omega (arith, ahead k d here, g.count)));
+            ∙ rw take-append-drop at
+            (lines_below-cut (base + pass.sectors) taken left g.outcomes missing lengths
+            (λ k d here. (g.due k d here).1) (λ k d here. omega (arith, ahead k d here, g.count)));
         sent_at_log = λ n.
             rw take-append-drop at
             (sent_when_log_fails-later image base taken left g.outcomes missing n lengths)
             ∙ sent_when_log_fails-after image base left missing n (λ k d here.
-            bytes_before-after image base _ (omega (arith, ahead k d here, ap length cut.0)));
+            bytes_before-after image base _ (omega (arith, ahead k d here, ap length old.0)));
       }
 
   -- what holds of this run holds of each run on each image that fits
@@ -224,6 +225,7 @@ module _ {carry : Bool} (ps : List Patch) {base : ℕ} {start now : Streams} {pa
       let all = length-append (bytes_of g.done) end in
       let some = length-append (bytes_of g.done) (take n end) in
       let part = length-take-le n end (omega (arith, fails.taken.1)) in
+      let inside : length sent < length e.read = omega (arith, e.size, fails.taken.1) in
       applies e.gives (Takes-trans _ _ _ _ _ g.sends fails.taken.2) g.logs
       (omega (arith, e.size, g.short, ap length is)) (record {
         failed = omega arith;
@@ -233,8 +235,7 @@ module _ {carry : Bool} (ps : List Patch) {base : ℕ} {start now : Streams} {pa
         at_end = λ less. refl;
         within = e.within;
         begins = by_run _ ((drop n end, whole), (lines ++ last_line, e.whole_log));
-        between_sinks =
-            by_run _ (sym (e.log_at_tail (length sent) (omega arith) (omega (arith, e.size, fails.taken.1))));
+        between_sinks = by_run _ (sym (e.log_at_tail (length sent) inside (omega arith)));
       })
 
   module _ {X E : Type 0} {x : X} {out : Outgoing}
@@ -253,24 +254,23 @@ module _ {carry : Bool} (ps : List Patch) {base : ℕ} {start now : Streams} {pa
         let got = front ++ take n part in
         let rest = drop n part ++ begins.0 in
         let cut = rw (← take-append-drop n part) at begins.1 in
-        let whole : log_text ps e.outcomes ≡ (logged ++ got) ++ rest =
+        let whole : log_text ps e.outcomes ≡ (log_bytes ++ got) ++ rest =
         e.whole_log ∙ simp (cut, append_assoc) in
-        let all = length-append (logged ++ got) rest in
+        let all = length-append (log_bytes ++ got) rest in
         let some = length-append (drop n part) begins.0 in
         let left = length-drop n part in
         applies e.gives all_sent
         (Takes-trans _ _ _ _ _ g.logs (Takes-trans _ _ _ _ _ before fails.taken.2))
         (omega (arith, e.size)) (StopsAtLog-within (omega arith) (omega arith) e.within
         (by_run _ (([], sym (append-nil _)), (rest, whole)))
-        (by_run _ (e.size ∙ sym (rw (length-append logged got) (e.sent_at_log (length got)))))
+        (by_run _ (e.size ∙ sym (rw length-append (e.sent_at_log _))))
         (by_run _ (λ every. absurd (omega (arith, ap length (every ∙ whole), fails.taken.1)))))
 
     module _ {Y F Z G : Type 0} {y : Y} {z : Z} {middle log : Outgoing}
-        (lines_sent : Sends {X = Y} {E = F} now.log middle lines (Ok y))
-        (last_sent : Sends {X = Z} {E = G} middle log last_line (Ok z)) where
-      all_logged : Takes start.log log (logged ++ (lines ++ last_line))
-      all_logged =
-          Takes-trans _ _ _ _ _ g.logs (Takes-trans _ _ _ _ _ lines_sent.taken last_sent.taken)
+        (logged : Sends {X = Y} {E = F} now.log middle lines (Ok y))
+        (counted : Sends {X = Z} {E = G} middle log last_line (Ok z)) where
+      all_logged : Takes start.log log (log_bytes ++ (lines ++ last_line))
+      all_logged = Takes-trans _ _ _ _ _ g.logs (Takes-trans _ _ _ _ _ logged.taken counted.taken)
 
       -- the output fails in its flush
       pub Closes-flush : {H : Type 0} {f : H} {late : Outgoing} → Flushes {E = H} out late (Err f)
@@ -285,8 +285,7 @@ module _ {carry : Bool} (ps : List Patch) {base : ℕ} {start now : Streams} {pa
             at_end = λ less. absurd (omega (arith, e.size));
             within = e.within;
             begins = by_run _ (([], sym (append-nil _)), ([], e.whole_log ∙ sym (append-nil _)));
-            between_sinks =
-                by_run _ (sym (log_when_out_fails-end ps e.outcomes base _ _ e.size ∙ e.whole_log));
+            between_sinks = by_run _ (sym (log_when_out_fails-end _ _ _ _ _ e.size ∙ e.whole_log));
           })
 
       -- the log fails in its flush
@@ -303,8 +302,7 @@ module _ {carry : Bool} (ps : List Patch) {base : ℕ} {start now : Streams} {pa
             once = omega arith;
             within = e.within;
             begins = by_run _ (([], sym (append-nil _)), ([], e.whole_log ∙ sym (append-nil _)));
-            between_sinks =
-                by_run _ (e.size ∙ sym (rw (length-append logged (lines ++ last_line)) (e.sent_at_log _)));
+            between_sinks = by_run _ (e.size ∙ sym (rw length-append (e.sent_at_log _)));
             flushed = by_run _ (λ all. flushed.finished);
             at_end = by_run _ (λ all. refl, λ once. sym e.whole_log);
           })

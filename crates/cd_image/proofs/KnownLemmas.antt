@@ -99,7 +99,7 @@ pub applies : {carry : Bool} {patches : List Patch} {base : ℕ} {old new : Stre
     → length read ≤ length sent + bytes_in_hand
     → AppliesBy carry patches base read sent log_bytes old new result
     → Applies carry patches base old new result
-applies {read = read} {sent = sent} {log_bytes = log_bytes} came went logged in_hand answers = record {
+applies {read = read} {sent = sent} {log_bytes = log_bytes} came went logged few by = record {
   read = read;
   sent = sent;
   log_bytes = log_bytes;
@@ -109,8 +109,8 @@ applies {read = read} {sent = sent} {log_bytes = log_bytes} came went logged in_
   out_taken = went.counted;
   logs = logged.appends;
   log_taken = logged.counted;
-  in_hand = in_hand;
-  answers = answers;
+  in_hand = few;
+  answers = by;
 }
 
 -- the `?` of a call that fails
@@ -166,8 +166,8 @@ pub record Known (settled : List (List ℕ)) (outcomes os : List Outcome)
   pub all : os ≡ outcomes ++ back
   pub cut : sectors last ≡ settled ++ others
 
-module _ (carry : Bool) (taken left : List Patch) (base : ℕ) (start now : Streams)
-    (window : List (List ℕ)) (block sectors_read applied : ℕ) (end : Option (List ℕ))
+module _ {carry : Bool} {taken left : List Patch} {base : ℕ} {start now : Streams}
+    {window : List (List ℕ)} {block sectors_read applied : ℕ} {end : Option (List ℕ)}
     (g : PassInvariant carry taken left base start now window block sectors_read applied end) where
   pub outcomes_length : length g.outcomes ≡ length taken
   outcomes_length =
