@@ -151,14 +151,14 @@ module _ {carry : Bool} (ps : List Patch) {base : ℕ} {start now : Streams} {pa
     tally_right : tally pass.applied (length ps - pass.applied) pass.sectors (length end)
         ≡ patch_tally read outcomes
     -- what was logged is what belongs before the tail; before the rest belongs the whole image
-    log_at_tail : (sent : ℕ) → sent < length read → length (bytes_of g.done) ≤ sent
+    log_at_tail : (sent : ℕ) → (length (bytes_of g.done) ≤ sent) × (sent < length read)
         → log_when_out_fails ps outcomes base (length read) sent ≡ log_bytes
     sent_at_log : (n : ℕ)
         → sent_when_log_fails ps outcomes base read (length log_bytes + n) ≡ length read
 
-  e : Run
+  r : Run
   unfolding log_text
-  e =
+  r =
       let taken = take pass.decided ps in
       let left = drop pass.decided ps in
       let image = bytes_of g.seen ++ end in
@@ -187,13 +187,13 @@ module _ {carry : Bool} (ps : List Patch) {base : ℕ} {start now : Streams} {pa
         outcomes = os;
         gives = rw is g.gives;
         within = omega (arith, g.within, ap length is);
-        size = omega (arith, length-append (bytes_of g.done) end, g.count);
+        size = omega (arith, g.count, length-append {A = ℕ});
         patched = record { run = rw (← old.0, ← new.0) run; same_tail = sym new.1 ∙ old.1 };
         whole_log = simp (slice, lines, ← applied, ← refused, append_assoc);
         tally_right = cc (applied, refused, g.count, old.0, old.1);
-        log_at_tail = λ sent inside begun.
+        log_at_tail = λ sent inside.
             log_when_out_fails-tail ps os base _ _ pass.sectors (omega arith)
-            (omega (arith, g.count)) inside
+            (omega (arith, g.count)) inside.1
             ∙ rw take-append-drop at
             (lines_below-cut (base + pass.sectors) taken left g.outcomes missing lengths
             (λ k d here. (g.due k d here).1) (λ k d here. omega (arith, ahead k d here, g.count)));
@@ -206,11 +206,11 @@ module _ {carry : Bool} (ps : List Patch) {base : ℕ} {start now : Streams} {pa
 
   -- what holds of this run holds of each run on each image that fits
   by_run : (Holds : List ℕ → List Outcome → List ℕ → Type 0)
-      → Holds e.read e.outcomes (bytes_of g.done ++ end) → (whole : List ℕ)
-      → MayBeImageAtEnd now.image.rest e.read whole → EachPatching carry ps base whole (Holds whole)
+      → Holds r.read r.outcomes (bytes_of g.done ++ end) → (whole : List ℕ)
+      → MayBeImageAtEnd now.image.rest r.read whole → EachPatching carry ps base whole (Holds whole)
   by_run Holds h whole fits os new patched =
-      let is = MayBeImageAtEnd-end now.image.rest e.read whole (g.ended ended.ended).0 fits in
-      let same = IsPatched-determined _ _ _ _ _ _ _ _ (rw is at patched) e.patched in
+      let is = MayBeImageAtEnd-end now.image.rest r.read whole (g.ended ended.ended).0 fits in
+      let same = IsPatched-determined _ _ _ _ _ _ _ _ (rw is at patched) r.patched in
       rw (is, same.0, same.1) h
 
   -- the output fails in the tail
@@ -220,22 +220,18 @@ module _ {carry : Bool} (ps : List Patch) {base : ℕ} {start now : Streams} {pa
   Closes-tail fails =
       let n = fails.taken.0 in
       let sent = bytes_of g.done ++ take n end in
-      let whole : bytes_of g.done ++ end ≡ sent ++ drop n end =
-      rw (append_assoc, take-append-drop n end) in
-      let all = length-append (bytes_of g.done) end in
-      let some = length-append (bytes_of g.done) (take n end) in
-      let part = length-take-le n end (omega (arith, fails.taken.1)) in
-      let inside : length sent < length e.read = omega (arith, e.size, fails.taken.1) in
-      applies e.gives (Takes-trans _ _ _ _ _ g.sends fails.taken.2) g.logs
-      (omega (arith, e.size, g.short, ap length is)) (record {
+      let inside : (length (bytes_of g.done) ≤ length sent) × (length sent < length r.read) =
+      omega (arith, r.size, fails.taken.1, length-append {A = ℕ}, length-take-le n end) in
+      applies r.gives (Takes-trans _ _ _ _ _ g.sends fails.taken.2) g.logs
+      (omega (arith, r.size, g.short, ap length is, length-append {A = ℕ})) (record {
         failed = omega arith;
         out_flushes = 0;
         flushes = omega arith;
         once = omega arith;
         at_end = λ less. refl;
-        within = e.within;
-        begins = by_run _ ((drop n end, whole), (lines ++ last_line, e.whole_log));
-        between_sinks = by_run _ (sym (e.log_at_tail (length sent) inside (omega arith)));
+        within = r.within;
+        begins = by_run _ ((drop n end, rw (append_assoc, take-append-drop)), (_, r.whole_log));
+        between_sinks = by_run _ (sym (r.log_at_tail (length sent) inside));
       })
 
   module _ {X E : Type 0} {x : X} {out : Outgoing}
@@ -254,17 +250,16 @@ module _ {carry : Bool} (ps : List Patch) {base : ℕ} {start now : Streams} {pa
         let got = front ++ take n part in
         let rest = drop n part ++ begins.0 in
         let cut = rw (← take-append-drop n part) at begins.1 in
-        let whole : log_text ps e.outcomes ≡ (log_bytes ++ got) ++ rest =
-        e.whole_log ∙ simp (cut, append_assoc) in
-        let all = length-append (log_bytes ++ got) rest in
-        let some = length-append (drop n part) begins.0 in
-        let left = length-drop n part in
-        applies e.gives all_sent
+        let whole : log_text ps r.outcomes ≡ (log_bytes ++ got) ++ rest =
+        r.whole_log ∙ simp (cut, append_assoc) in
+        let some : 0 < length rest =
+        omega (arith, fails.taken.1, length-append {A = ℕ}, length-drop n part) in
+        applies r.gives all_sent
         (Takes-trans _ _ _ _ _ g.logs (Takes-trans _ _ _ _ _ before fails.taken.2))
-        (omega (arith, e.size)) (StopsAtLog-within (omega arith) (omega arith) e.within
+        (omega (arith, r.size)) (StopsAtLog-within (omega arith) (omega arith) r.within
         (by_run _ (([], sym (append-nil _)), (rest, whole)))
-        (by_run _ (e.size ∙ sym (rw length-append (e.sent_at_log _))))
-        (by_run _ (λ every. absurd (omega (arith, ap length (every ∙ whole), fails.taken.1)))))
+        (by_run _ (r.size ∙ sym (rw length-append (r.sent_at_log _))))
+        (by_run _ (λ all. absurd (omega (arith, ap length (all ∙ whole), length-append {A = ℕ})))))
 
     module _ {Y F Z G : Type 0} {y : Y} {z : Z} {middle log : Outgoing}
         (logged : Sends {X = Y} {E = F} now.log middle lines (Ok y))
@@ -276,16 +271,16 @@ module _ {carry : Bool} (ps : List Patch) {base : ℕ} {start now : Streams} {pa
       pub Closes-flush : {H : Type 0} {f : H} {late : Outgoing} → Flushes {E = H} out late (Err f)
           → Applies carry ps base start (record now { out = late; log = log }) (Err Write)
       Closes-flush {late = late} fails =
-          applies e.gives (Takes-flushed _ _ _ _ _ all_sent fails) all_logged
-          (omega (arith, e.size)) (record {
+          applies r.gives (Takes-flushed _ _ _ _ _ all_sent fails) all_logged
+          (omega (arith, r.size)) (record {
             failed = omega arith;
             out_flushes = late.flushes - out.flushes;
             flushes = omega arith;
             once = omega arith;
-            at_end = λ less. absurd (omega (arith, e.size));
-            within = e.within;
-            begins = by_run _ (([], sym (append-nil _)), ([], e.whole_log ∙ sym (append-nil _)));
-            between_sinks = by_run _ (sym (log_when_out_fails-end _ _ _ _ _ e.size ∙ e.whole_log));
+            at_end = λ less. absurd (omega (arith, r.size));
+            within = r.within;
+            begins = by_run _ (([], sym (append-nil _)), ([], r.whole_log ∙ sym (append-nil _)));
+            between_sinks = by_run _ (sym (log_when_out_fails-end _ _ _ _ _ r.size ∙ r.whole_log));
           })
 
       -- the log fails in its flush
@@ -293,18 +288,18 @@ module _ {carry : Bool} (ps : List Patch) {base : ℕ} {start now : Streams} {pa
           → Flushes {E = H} out late (Ok u) → Flushes {E = K} log last (Err f)
           → Applies carry ps base start (record now { out = late; log = last }) (Err Log)
       Closes-log_flush {last = last} flushed fails =
-          applies e.gives (Takes-flushed _ _ _ _ _ all_sent flushed)
-          (Takes-flushed _ _ _ _ _ all_logged fails) (omega (arith, e.size)) (record {
+          applies r.gives (Takes-flushed _ _ _ _ _ all_sent flushed)
+          (Takes-flushed _ _ _ _ _ all_logged fails) (omega (arith, r.size)) (record {
             failed = omega arith;
             out_flushes = 1;
             log_flushes = last.flushes - log.flushes;
             flushes = omega arith;
             once = omega arith;
-            within = e.within;
-            begins = by_run _ (([], sym (append-nil _)), ([], e.whole_log ∙ sym (append-nil _)));
-            between_sinks = by_run _ (e.size ∙ sym (rw length-append (e.sent_at_log _)));
+            within = r.within;
+            begins = by_run _ (([], sym (append-nil _)), ([], r.whole_log ∙ sym (append-nil _)));
+            between_sinks = by_run _ (r.size ∙ sym (rw length-append (r.sent_at_log _)));
             flushed = by_run _ (λ all. flushed.finished);
-            at_end = by_run _ (λ all. refl, λ once. sym e.whole_log);
+            at_end = by_run _ (λ all. refl, λ once. sym r.whole_log);
           })
 
       -- all has gone well
@@ -313,17 +308,17 @@ module _ {carry : Bool} (ps : List Patch) {base : ℕ} {start now : Streams} {pa
           → Applies carry ps base start (record now { out = late; log = last })
           (Ok (tally pass.applied (length ps - pass.applied) pass.sectors (length end)))
       Closes-ok flushed log_flushed =
-          applies e.gives (Takes-flushed _ _ _ _ _ all_sent flushed)
-          (Takes-flushed _ _ _ _ _ all_logged log_flushed) (omega (arith, e.size)) (record {
+          applies r.gives (Takes-flushed _ _ _ _ _ all_sent flushed)
+          (Takes-flushed _ _ _ _ _ all_logged log_flushed) (omega (arith, r.size)) (record {
             failed = omega arith;
             flushes = omega arith;
             out_finished = flushed.finished;
             log_finished = log_flushed.finished;
             at_end = (g.ended ended.ended).0;
             ended = (g.ended ended.ended).1;
-            within = e.within;
-            outcomes = e.outcomes;
-            patched = e.patched;
-            log_right = sym e.whole_log;
-            tally_right = e.tally_right;
+            within = r.within;
+            outcomes = r.outcomes;
+            patched = r.patched;
+            log_right = sym r.whole_log;
+            tally_right = r.tally_right;
           })
