@@ -223,9 +223,7 @@ pub bounds : (carry : Bool) (ps : List Patch) (base : ℕ) (start now : Streams)
     → HoldsInvariant carry (take pass.decided ps) (drop pass.decided ps) base start now pass
     → Bounds start now pass
 bounds carry ps base start now pass low g =
-    let log_bytes =
-    outcomes_length carry (take pass.decided ps) (drop pass.decided ps) base start now
-    pass.window.sectors pass.block pass.sectors pass.applied pass.window.tail g in
+    let lengths = outcomes_length g in
     let few = count_by-le-length is_applied g.outcomes in
     let taken = length-take pass.decided ps in
     record {
@@ -234,7 +232,7 @@ bounds carry ps base start now pass low g =
       logs = omega (arith, g.unfailed.logs);
       sectors = omega (arith, g.within);
       block = omega (arith, g.within, g.front, g.held, g.count);
-      applied = omega (arith, g.counted, few, log_bytes, taken);
+      applied = omega (arith, g.counted, few, lengths, taken);
     }
 
 -- a new pass, after the patches that begin below the image

@@ -54,8 +54,7 @@ module _ (carry : Bool) (taken left : List Patch) (base : ℕ) (start now : Stre
       → image.failures ≡ now.image.failures + 1 → image.ended ≡ false
       → Applies carry (taken ++ left) base start (record now { image = image }) (Err Read)
   Applies-read room short few failed unended =
-      applies (bytes_of g.seen ++ came) (bytes_of g.done) (log_lines taken g.outcomes)
-      (Err Read) all g.sends g.logs (in_hand room short)
+      applies all g.sends g.logs (in_hand room short)
       (record {
         failed =
             record {
@@ -69,9 +68,7 @@ module _ (carry : Bool) (taken left : List Patch) (base : ℕ) (start now : Stre
         begins = λ whole fits.
             let begins =
             Fits-begins (bytes_of g.seen ++ came) whole (omega (arith, length_read)) fits in
-            begins_now carry taken left base start now window block sectors_read
-            applied None g whole
-            (Extends-begun g.seen whole (came ++ begins.0) g.seen_sizes
+            begins_now g whole (Extends-begun g.seen whole (came ++ begins.0) g.seen_sizes
             (begins.1 ∙ append_assoc (bytes_of g.seen) came begins.0));
       })
 
@@ -80,8 +77,7 @@ module _ (carry : Bool) (taken left : List Patch) (base : ℕ) (start now : Stre
       → image.ended ≡ false
       → Applies carry (taken ++ left) base start (record now { image = image }) (Err TooLong)
   Applies-beyond room one full kept unended =
-      applies (bytes_of g.seen ++ came) (bytes_of g.done) (log_lines taken g.outcomes)
-      (Err TooLong) all g.sends g.logs (in_hand room (omega arith))
+      applies all g.sends g.logs (in_hand room (omega arith))
       (record {
         failed =
             record {
@@ -97,15 +93,13 @@ module _ (carry : Bool) (taken left : List Patch) (base : ℕ) (start now : Stre
             length-bytes_of g.seen g.seen_sizes ∙ ap (λ n. 2352 * n) (sym g.count) ∙ full in
             let limited : take image_limit (bytes_of g.seen ++ came) ≡ bytes_of g.seen =
             take_at (bytes_of g.seen) came image_limit size in
-            begins_now carry taken left base start now window block sectors_read
-            applied None g whole
-            (Extends-begun g.seen whole fits.begins.0 g.seen_sizes
+            begins_now g whole (Extends-begun g.seen whole fits.begins.0 g.seen_sizes
             (fits.begins.1 ∙ ap (λ l. l ++ fits.begins.0) limited));
       })
 
 -- what was read, in any state of a pass
-module _ (carry : Bool) (taken left : List Patch) (base : ℕ) (start now : Streams)
-    (window : List (List ℕ)) (block sectors_read applied : ℕ) (end : Option (List ℕ))
+module _ {carry : Bool} {taken left : List Patch} {base : ℕ} {start now : Streams}
+    {window : List (List ℕ)} {block sectors_read applied : ℕ} {end : Option (List ℕ)}
     (g : PassInvariant carry taken left base start now window block sectors_read applied end) where
   pub size_read : length (bytes_of g.seen ++ tail_bytes end)
       ≡ 2352 * sectors_read + length (tail_bytes end)
@@ -117,8 +111,7 @@ module _ (carry : Bool) (taken left : List Patch) (base : ℕ) (start now : Stre
   pub extends : (whole : List ℕ) → MayBeImageAtEnd now.image.rest (bytes_of g.seen ++ tail_bytes end) whole
       → Extends g.seen end whole
   extends whole fits =
-      extends_left carry taken left base start now window block sectors_read applied end g whole
-      fits (omega (arith, size_read, g.within))
+      extends_left g whole fits (omega (arith, size_read, g.within))
 
 -- ---- the output fails in the first sector of the window
 
@@ -135,8 +128,7 @@ module _ (carry : Bool) (taken left : List Patch) (base : ℕ) (start now : Stre
       → Applies carry (taken ++ left) base start (record now { out = out }) (Err Write)
   unfolding settled
   Applies-write out fails size ahead =
-      applies (bytes_of g.seen ++ tail_bytes end) sent (log_lines taken g.outcomes) (Err Write)
-      g.gives went g.logs (omega (arith, length_read, length_sent, g.in_hand, g.held, g.count))
+      applies g.gives went g.logs (omega (arith, length_read, length_sent, g.in_hand, g.held, g.count))
       (record {
         failed =
             record {
@@ -181,15 +173,11 @@ module _ (carry : Bool) (taken left : List Patch) (base : ℕ) (start now : Stre
       went = Takes-trans start.out now.out out _ _ g.sends fails.taken.2
 
       lengths : length g.outcomes ≡ length taken
-      lengths =
-          outcomes_length carry taken left base start now
-          (sector ∷ window) block sectors_read applied end g
+      lengths = outcomes_length g
 
       length_read : length (bytes_of g.seen ++ tail_bytes end)
           ≡ 2352 * sectors_read + length (tail_bytes end)
-      length_read =
-          size_read carry taken left base start now
-          (sector ∷ window) block sectors_read applied end g
+      length_read = size_read g
 
       length_sent : length (bytes_of g.done ++ take n sector) ≡ 2352 * length g.done + n
       length_sent =
@@ -209,9 +197,7 @@ module _ (carry : Bool) (taken left : List Patch) (base : ℕ) (start now : Stre
           → (os : List Outcome) (last : List ℕ) → IsPatched carry (taken ++ left) os base whole last
           → Known (g.done ++ sector ∷ []) g.outcomes os last
       knows whole fits os last patched =
-          known carry taken left base start now (sector ∷ window) block sectors_read applied end g
-          whole (extends carry taken left base start now
-          (sector ∷ window) block sectors_read applied end g whole fits)
+          known g whole (extends g whole fits)
           (g.done ++ sector ∷ []) (λ more. window ++ more)
           (λ more. sym (append_assoc g.done (sector ∷ []) (window ++ more)))
           (λ i d here. let h = ahead i d here in let all = length-append g.done (sector ∷ []) in
@@ -266,16 +252,8 @@ module _ (carry : Bool) (taken : List Patch) (p : Patch) (left : List Patch) (ba
       → Sends {X = X} {E = E} now.log log (log_line p o) (Err e)
       → Applies carry (taken ++ p ∷ left) base start (record now { log = log }) (Err Log)
   Applies-log log fails =
-      applies (bytes_of g.seen ++ tail_bytes end) (bytes_of g.done) log_bytes (Err Log) g.gives g.sends
-      went
-      (omega (
-        arith,
-        size_read carry taken (p ∷ left) base start now window block sectors_read applied end g,
-        length_sent,
-        g.in_hand,
-        g.held,
-        g.count,
-      ))
+      applies g.gives g.sends went
+      (omega (arith, size_read g, length_sent, g.in_hand, g.held, g.count))
       (StopsAtLog-within
       (record {
         reads = g.unfailed.reads;
@@ -283,25 +261,16 @@ module _ (carry : Bool) (taken : List Patch) (p : Patch) (left : List Patch) (ba
         logs = omega (arith, fails.count, g.unfailed.logs);
       })
       (record { outs = g.unflushed.outs; logs = fails.flushes ∙ g.unflushed.logs })
-      (omega (
-        arith,
-        size_read carry taken (p ∷ left) base start now window block sectors_read applied end g,
-        g.within,
-      ))
+      (omega (arith, size_read g, g.within))
       (λ whole fits os last patched.
-      let extended =
-      extends carry taken (p ∷ left) base start now window block sectors_read applied end
-      g whole fits in
+      let extended = extends g whole fits in
       let r = next whole extended os last patched in (
-        (begins_now carry taken (p ∷ left) base start now window block sectors_read applied end g
-            whole extended os last patched).0,
+        (begins_now g whole extended os last patched).0,
         subst (λ u. IsBeginning log_bytes (log_text (taken ++ p ∷ left) u)) (sym r.all)
             (logged_begins r.back),
       ))
       (λ whole fits os last patched.
-      let extended =
-      extends carry taken (p ∷ left) base start now window block sectors_read applied end
-      g whole fits in
+      let extended = extends g whole fits in
       let r = next whole extended os last patched in
       let cut = ap length extended.cut ∙ length-append g.seen extended.more in
       length_sent
@@ -309,9 +278,7 @@ module _ (carry : Bool) (taken : List Patch) (p : Patch) (left : List Patch) (ba
       ∙ ap (sent_when_log_fails (taken ++ p ∷ left) (g.outcomes ++ o ∷ r.back) base whole) length_logged
       ∙ between_sinks whole r.back (omega (arith, cut, g.held))))
       (λ whole fits os last patched all.
-      let r =
-      next whole (extends carry taken (p ∷ left) base start now window block sectors_read applied
-      end g whole fits) os last patched in
+      let r = next whole (extends g whole fits) os last patched in
       unfinished_lines taken (p ∷ left) g.outcomes (o ∷ r.back) log_bytes n lengths length_logged
       (in_line r.back) (all ∙ ap (log_text (taken ++ p ∷ left)) r.all)))
     where
@@ -325,8 +292,7 @@ module _ (carry : Bool) (taken : List Patch) (p : Patch) (left : List Patch) (ba
       went = Takes-trans start.log now.log log _ _ g.logs fails.taken.2
 
       lengths : length g.outcomes ≡ length taken
-      lengths =
-          outcomes_length carry taken (p ∷ left) base start now window block sectors_read applied end g
+      lengths = outcomes_length g
 
       length_sent : length (bytes_of g.done) ≡ 2352 * length g.done
       length_sent = length-bytes_of g.done g.done_sizes

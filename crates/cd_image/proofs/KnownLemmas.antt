@@ -94,12 +94,12 @@ unfinished_lines taken left front back log_bytes n same size part =
 
 -- the contract, by what each stream gave or took
 pub applies : {carry : Bool} {patches : List Patch} {base : ℕ} {old new : Streams}
-    (read sent log_bytes : List ℕ) (result : Result Tally Fault) → Gives old.image new.image read
+    {read sent log_bytes : List ℕ} {result : Result Tally Fault} → Gives old.image new.image read
     → Takes old.out new.out sent → Takes old.log new.log log_bytes
     → length read ≤ length sent + bytes_in_hand
     → AppliesBy carry patches base read sent log_bytes old new result
     → Applies carry patches base old new result
-applies read sent log_bytes result came went logged in_hand answers = record {
+applies {read = read} {sent = sent} {log_bytes = log_bytes} came went logged few by = record {
   read = read;
   sent = sent;
   log_bytes = log_bytes;
@@ -109,8 +109,8 @@ applies read sent log_bytes result came went logged in_hand answers = record {
   out_taken = went.counted;
   logs = logged.appends;
   log_taken = logged.counted;
-  in_hand = in_hand;
-  answers = answers;
+  in_hand = few;
+  answers = by;
 }
 
 -- the `?` of a call that fails
@@ -166,8 +166,8 @@ pub record Known (settled : List (List ℕ)) (outcomes os : List Outcome)
   pub all : os ≡ outcomes ++ back
   pub cut : sectors last ≡ settled ++ others
 
-module _ (carry : Bool) (taken left : List Patch) (base : ℕ) (start now : Streams)
-    (window : List (List ℕ)) (block sectors_read applied : ℕ) (end : Option (List ℕ))
+module _ {carry : Bool} {taken left : List Patch} {base : ℕ} {start now : Streams}
+    {window : List (List ℕ)} {block sectors_read applied : ℕ} {end : Option (List ℕ)}
     (g : PassInvariant carry taken left base start now window block sectors_read applied end) where
   pub outcomes_length : length g.outcomes ≡ length taken
   outcomes_length =

@@ -93,12 +93,12 @@ module _ (ps : List Patch) (os : List Outcome) (base count sent : ℕ) where
       ∙ cond-true _ _ _ (lt-ltb sent count inside) ∙ ap (λ n. lines_below (base + n) ps os) all
 
   -- after all
-  pub log_when_out_fails-end : SECTOR_SIZE * (count / SECTOR_SIZE) ≤ sent → count ≤ sent
+  pub log_when_out_fails-end : sent ≡ count
       → log_when_out_fails ps os base count sent ≡ log_text ps os
   unfolding log_when_out_fails
-  log_when_out_fails-end after all =
-      cond-false _ _ _ (le-ltb sent (SECTOR_SIZE * (count / SECTOR_SIZE)) after)
-      ∙ cond-false _ _ _ (le-ltb sent count all)
+  log_when_out_fails-end all =
+      cond-false _ _ _ (le-ltb sent (SECTOR_SIZE * (count / SECTOR_SIZE)) (omega arith))
+      ∙ cond-false _ _ _ (le-ltb sent count (omega arith))
 
 -- ---- when the log has failed
 

@@ -1,42 +1,43 @@
-use Rattle.cd_image.proofs.CloseLemmas.{Closes-after, Closes-counts, Closes-flush, Closes-log_flush, Closes-ok, Closes-tail, closing}
+use Rattle.std.proofs.Common.{[], refl, sym, append-nil}
+use Rattle.cd_stream.proofs.TransferLemmas.{Takes-nil}
+use Rattle.cd_image.proofs.CloseLemmas.{Closes-flush, Closes-log, Closes-log_flush, Closes-ok, Closes-tail}
 use Rattle.cd_image.proofs.KnownLemmas.{Applies-fault}
 use Rattle.cd_image.proofs.pass.Pass.close.Goals as goal
 
 pub returns-in_err-write_all : goal.returns-in_err-write_all
 returns-in_err-write_all g c = λ carry base start image going.
-    let e = closing c.args.patches.now c.requires.ended c.tail-tail.ensures.bytes going in
-    Applies-fault c.from_residual.ensures.1 (Closes-tail e c.in_err-write_all.ensures)
+    Applies-fault c.from_residual.ensures.1
+    (Closes-tail _ c.requires.ended c.tail-tail.ensures.bytes going c.in_err-write_all.ensures)
 
+-- the log fails in the lines, with nothing in front of them, or after them in the last line
 pub returns-in_err-send_missing : goal.returns-in_err-send_missing
 returns-in_err-send_missing g c = λ carry base start image going.
-    let e = closing c.args.patches.now c.requires.ended c.tail-tail.ensures.bytes going in
     Applies-fault c.from_residual-in_err-send_missing.ensures.1
-    (Closes-after e c.in_ok-write_all.ensures c.in_err-send_missing.ensures)
+    (Closes-log _ c.requires.ended c.tail-tail.ensures.bytes going c.in_ok-write_all.ensures
+    (_, refl) (Takes-nil _) refl refl c.in_err-send_missing.ensures)
 
 pub returns-in_err-send_counts : goal.returns-in_err-send_counts
 returns-in_err-send_counts g c = λ carry base start image going.
-    let e = closing c.args.patches.now c.requires.ended c.tail-tail.ensures.bytes going in
+    let lines = c.in_ok-send_missing.ensures in
     Applies-fault c.from_residual-in_err-send_counts.ensures.1
-    (Closes-counts e c.in_ok-write_all.ensures c.in_ok-send_missing.ensures
-    c.in_err-send_counts.ensures)
+    (Closes-log _ c.requires.ended c.tail-tail.ensures.bytes going c.in_ok-write_all.ensures
+    ([], sym (append-nil _)) lines.taken lines.count lines.flushes c.in_err-send_counts.ensures)
 
 pub returns-in_err-finish_output : goal.returns-in_err-finish_output
 returns-in_err-finish_output g c = λ carry base start image going.
-    let e = closing c.args.patches.now c.requires.ended c.tail-tail.ensures.bytes going in
     Applies-fault c.from_residual-in_err-finish_output.ensures.1
-    (Closes-flush e c.in_ok-write_all.ensures c.in_ok-send_missing.ensures
-    c.in_ok-send_counts.ensures
-    (rw c.in_err-finish_output.was at c.finish_output.ensures))
+    (Closes-flush _ c.requires.ended c.tail-tail.ensures.bytes going c.in_ok-write_all.ensures
+    c.in_ok-send_missing.ensures c.in_ok-send_counts.ensures c.in_err-finish_output.ensures)
 
 pub returns-in_err-finish_log : goal.returns-in_err-finish_log
 returns-in_err-finish_log g c = λ carry base start image going.
-    let e = closing c.args.patches.now c.requires.ended c.tail-tail.ensures.bytes going in
     Applies-fault c.from_residual-in_err-finish_log.ensures.1
-    (Closes-log_flush e c.in_ok-write_all.ensures c.in_ok-send_missing.ensures
-    c.in_ok-send_counts.ensures c.in_ok-finish_output.ensures c.in_err-finish_log.ensures)
+    (Closes-log_flush _ c.requires.ended c.tail-tail.ensures.bytes going c.in_ok-write_all.ensures
+    c.in_ok-send_missing.ensures c.in_ok-send_counts.ensures c.in_ok-finish_output.ensures
+    c.in_err-finish_log.ensures)
 
 pub returns : goal.returns
 returns g c = λ carry base start image going.
-    let e = closing c.args.patches.now c.requires.ended c.tail-tail.ensures.bytes going in
-    Closes-ok e c.in_ok-write_all.ensures c.in_ok-send_missing.ensures c.in_ok-send_counts.ensures
-    c.in_ok-finish_output.ensures c.in_ok-finish_log.ensures
+    Closes-ok _ c.requires.ended c.tail-tail.ensures.bytes going c.in_ok-write_all.ensures
+    c.in_ok-send_missing.ensures c.in_ok-send_counts.ensures c.in_ok-finish_output.ensures
+    c.in_ok-finish_log.ensures
