@@ -45,6 +45,10 @@ pub cut-by-failure : (complete : Bool) (failures : ℕ) → complete ≡ nat_eq 
     → failures ≡ 1 → complete ≡ false
 cut-by-failure complete failures is one = is ∙ ap (λ n. nat_eq n 0) one
 
+pub whole-by-none : (complete : Bool) (failures : ℕ) → complete ≡ nat_eq failures 0
+    → failures ≡ 0 → complete ≡ true
+whole-by-none complete failures is none = is ∙ ap (λ n. nat_eq n 0) none
+
 pub none-failed : (complete : Bool) (failures : ℕ) → complete ≡ nat_eq failures 0
     → complete ≡ true → failures ≡ 0
 none-failed complete zero is all = refl
@@ -92,6 +96,13 @@ pub MayBeImageAtEnd-within : (read rest : List ℕ) → length read ≤ image_li
 MayBeImageAtEnd-within read [] within =
     ap (take image_limit) (append-nil read) ∙ take_all image_limit read within
 MayBeImageAtEnd-within read (x ∷ xs) within = Fits-within read (x ∷ xs) within
+
+-- what was read is a front of it all
+pub read-front : (count : ℕ) (all read rest : List ℕ) → all ≡ read ++ rest → length read ≡ count
+    → read ≡ take count all
+read-front count all read rest is size =
+    sym (ap (take count) is ∙ take-append-le count read rest (omega (arith, size))
+    ∙ take_all count read (omega (arith, size)))
 
 -- all was read
 pub read-whole : (all read rest : List ℕ) → all ≡ read ++ rest → rest ≡ [] → all ≡ read

@@ -16,7 +16,7 @@ use Rattle.cd_program.specs.Commands.{Ends, PrintsLine, script_status}
 use Rattle.cd_program.specs.declared.jobs.Settings.{Settings}
 use Rattle.cd_memory.specs.Memory.{fresh_incoming, fresh_outgoing}
 use Rattle.cd_memory.specs.Whole.{Environment, Opened, Patches, Prints, ProgramResult, StopsPatching, WhyStopped}
-use Rattle.cd_memory.proofs.KnownLemmas.{Appends-Some, Appends-known, Consumes-known, Fits-beyond, Fits-within, MayBeImageAtEnd-within, Some-injective, cut-by-failure, read-whole}
+use Rattle.cd_memory.proofs.KnownLemmas.{Appends-Some, Appends-known, Consumes-known, Fits-beyond, Fits-within, MayBeImageAtEnd-within, Some-injective, cut-by-failure, read-whole, whole-by-none}
 use Rattle.cd_memory.proofs.PrintLemmas.{Leaves, Prints-line}
 
 -- the call was done, or it was stopped, with these bytes sent
@@ -36,7 +36,8 @@ pub record InMemory (bytes rest : List ℕ) (old new : Streams) : Type 0 where
 
 module _ (settings : Settings) {before : Environment} {image name : List ℕ} (after : ProgramResult)
     (files : Opened before image name) (rest : List ℕ) (old new : Streams) (log : Outgoing)
-    (memory : InMemory files.bytes rest old new) (leaves : Leaves log after) where
+    (memory : InMemory files.bytes rest old new) (leaves : Leaves log after)
+    (made : new.out.failures ≢ old.out.failures → after.made ≢ []) where
   -- what was read and what is left
   parts : (read : List ℕ) → Consumes old.image.rest new.image.rest read → files.bytes ≡ read ++ rest
   parts read came =
@@ -96,6 +97,8 @@ module _ (settings : Settings) {before : Environment} {image name : List ℕ} (a
             subst (λ b. IsPatched settings.carry files.patches c.outcomes settings.base b a.sent)
             (sym whole) c.patched;
         text = text-of a.log_bytes a.logs ends.0 ∙ c.log_right;
+        complete = whole-by-none after.complete log.failures leaves.complete
+            (ap (λ o. o.failures) ends.0 ∙ failed-log 0 c.failed.logs);
         status = ends.1 ∙ ap script_status c.tally_right
             ∙ ap (λ b. script_status (patch_tally b c.outcomes)) (sym whole);
       })
@@ -108,7 +111,9 @@ module _ (settings : Settings) {before : Environment} {image name : List ℕ} (a
         begins =
             a.answers.begins (take image_limit files.bytes)
             (fits-left a.read read a.answers.within);
-        why = WhyStopped.no_room (line-after (fault_line Write) a.log_bytes a.logs a.answers.failed.logs
+        why = WhyStopped.no_room
+            (made (λ same. let more = a.answers.failed.writes in omega (arith, same, more)))
+            (line-after (fault_line Write) a.log_bytes a.logs a.answers.failed.logs
             (ends.0.1 (λ is. cc)));
         status = ends.1;
       })

@@ -1,17 +1,18 @@
 -- `list` and `audit` on an image that is there.
-use Rattle.std.proofs.Common.{◌≡◌, ℕ, ◌+◌, ◌≤◌, List, [], ◌++◌, length, take, Some, Result, Ok, Err, refl, sym, ap, ◌∙◌, subst, arith, length-append}
+use Rattle.std.proofs.Common.{◌≡◌, ℕ, ◌+◌, ◌≤◌, true, false, List, [], ◌++◌, length, take, Some, Result, Ok, Err, refl, sym, ap, ◌∙◌, subst, arith, length-append}
 use Rattle.std.specs.Io.KnownBytes.{Appends, IsAtEnd}
 use Rattle.cd_read.specs.Ends.{MayBeImage, MayBeImageAtEnd}
 use Rattle.cd_read.specs.Image.{image_limit}
 use Rattle.cd_read.specs.declared.fault.Fault.{Fault}
 use Rattle.cd_read.specs.declared.fault.Fault.TheVariants.{Log, Read, TooLong, Write}
+use Rattle.cd_report.specs.Lines.{text_of}
 use Rattle.cd_report.specs.Report.{Reports, ReportSpec}
 use Rattle.cd_stream.specs.Stream.{Incoming, Outgoing}
 use Rattle.cd_program.specs.Messages.{fault_line}
 use Rattle.cd_program.specs.Commands.{Ends}
 use Rattle.cd_memory.specs.Memory.{fresh_outgoing}
 use Rattle.cd_memory.specs.Whole.{Environment, ProgramResult, ReportsOn, WhyStopped, image_at}
-use Rattle.cd_memory.proofs.KnownLemmas.{Appends-Some, Consumes-known, Fits-beyond, MayBeImageAtEnd-within, Some-injective, cut-by-failure, read-whole}
+use Rattle.cd_memory.proofs.KnownLemmas.{Appends-Some, Consumes-known, Fits-beyond, MayBeImageAtEnd-within, Some-injective, cut-by-failure, read-front, read-whole, whole-by-none}
 use Rattle.cd_memory.proofs.PrintLemmas.{Leaves, Prints-line}
 
 module _ {T : Type 0} (spec : ReportSpec T) (status_of : T → ℕ) (before : Environment) (after : ProgramResult)
@@ -40,6 +41,8 @@ module _ {T : Type 0} (spec : ReportSpec T) (status_of : T → ℕ) (before : En
       ReportsOn.reported bytes there
       (subst (λ b. length b ≤ image_limit) (sym whole) c.within)
       (text-of r.sent r.takes.appends ends.0 ∙ c.whole_sent ∙ ap spec.text (sym whole))
+      (whole-by-none after.complete log.failures leaves.complete
+      (ap (λ o. o.failures) ends.0 ∙ c.writes ∙ ap (λ o. o.failures) fresh))
       (ends.1 ∙ ap status_of c.tally_right ∙ ap (λ b. status_of (spec.tally b)) (sym whole))
       none_made
   reports (Err Read) r ends = absurd (omega (arith, r.answers.reads, reads))
@@ -50,14 +53,16 @@ module _ {T : Type 0} (spec : ReportSpec T) (status_of : T → ℕ) (before : En
       Consumes-known image.rest image'.rest bytes rest r.read known left r.gives.consumes in
       let same : log ≡ out' = ends.0.0 refl in
       let none : out.failures ≡ 0 = ap (λ o. o.failures) fresh in
+      let cut : after.complete ≡ false =
+      cut-by-failure after.complete log.failures leaves.complete
+      (ap (λ o. o.failures) same ∙ c.writes ∙ ap (λ n. n + 1) none) in
       ReportsOn.stopped bytes r.sent there
       (c.beginning (take image_limit bytes)
       (subst (λ o. MayBeImageAtEnd o r.read (take image_limit bytes)) (sym left)
       (subst (λ b. MayBeImageAtEnd (Some rest) r.read (take image_limit b)) (sym read)
       (MayBeImageAtEnd-within r.read rest c.within))))
-      (WhyStopped.no_text
-      (cut-by-failure after.complete log.failures leaves.complete
-      (ap (λ o. o.failures) same ∙ c.writes ∙ ap (λ n. n + 1) none))
+      (λ all. let no : true ≡ false = sym all ∙ cut in cc)
+      (WhyStopped.no_text cut
       (text-of r.sent r.takes.appends same))
       ends.1 none_made
   reports (Err TooLong) r ends =
@@ -69,6 +74,8 @@ module _ {T : Type 0} (spec : ReportSpec T) (status_of : T → ℕ) (before : En
       (c.beginning (take image_limit bytes)
       (subst (λ b. MayBeImage r.read (take image_limit b)) (sym read)
       (Fits-beyond r.read rest (omega (arith, c.beyond)))))
+      (λ all. c.due_sent
+      ∙ ap (λ b. text_of (spec.due b)) (read-front (image_limit + 1) bytes r.read rest read c.beyond))
       (WhyStopped.too_long (omega (arith, size, c.beyond, length-append r.read rest))
       (Prints-line (fault_line TooLong) r.sent out' log after (got r.sent r.takes.appends)
       (c.writes ∙ ap (λ o. o.failures) fresh) leaves (ends.0.1 (λ is. cc))))

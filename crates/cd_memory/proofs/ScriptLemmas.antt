@@ -13,7 +13,7 @@ use Rattle.cd_stream.specs.declared.adapters.slice_source.SliceSource.{SliceSour
 use Rattle.cd_program.specs.Messages.{load_fault_line, no_script, open_fault_line, script_fault_line}
 use Rattle.cd_program.specs.Program.{ComesOfFile, PrintsAndFails, ReadsScript}
 use Rattle.cd_program.specs.Commands.{PrintsLine}
-use Rattle.cd_program.specs.ScriptLines.{StopsLoading}
+use Rattle.cd_program.specs.ScriptLines.{IsFaultOf, StopsLoading}
 use Rattle.cd_program.specs.declared.host.OpenFault.{OpenFault}
 use Rattle.cd_program.specs.declared.script.LoadFault.{LoadFault}
 use Rattle.cd_program.specs.declared.script.LoadFault.TheVariants.{NoMemory, Read, TooLong}
@@ -64,24 +64,31 @@ module _ (before : Environment) (name : List ℕ) {log log' : Outgoing} where
         fails,
       )
   lacks-stopped bytes read file left NoMemory is opens came stops fails =
-      (load_fault_line NoMemory, NoPatches.without_memory (inl refl), fails)
+      (load_fault_line NoMemory, NoPatches.unread bytes is refl, fails)
 
   -- the text has a fault, or memory was refused
   lacks-faulty : {status : ℕ} (bytes : List ℕ) (fault : ScriptFault)
-      → file_bytes before.files name ≡ Some bytes
-      → (fault ≢ script_fault.NoMemory → script bytes ≡ Err fault)
-      → PrintsAndFails (script_fault_line fault) log log' status → Lacks before name log log' status
-  lacks-faulty {status = status} bytes fault is other fails = go (memory-or-other fault)
+      → file_bytes before.files name ≡ Some bytes → length bytes ≤ text_limit
+      → IsFaultOf bytes fault → PrintsAndFails (script_fault_line fault) log log' status
+      → Lacks before name log log' status
+  lacks-faulty {status = status} bytes fault is within said fails =
+      go (script bytes) refl (memory-or-other fault)
     where
-      go : ((fault ≡ script_fault.NoMemory) ⊎ (fault ≢ script_fault.NoMemory))
+      go : (read : Result (List Patch) ScriptFault) → script bytes ≡ read
+          → ((fault ≡ script_fault.NoMemory) ⊎ (fault ≢ script_fault.NoMemory))
           → Lacks before name log log' status
-      go (inl memory) = (
+      go (Err own) reads memory = (
         script_fault_line fault,
-        NoPatches.without_memory (inr (ap script_fault_line memory)),
+        NoPatches.faulty bytes fault is within (reads ∙ ap Err (sym (said.own own reads))) refl,
         fails,
       )
-      go (inr another) =
-          (script_fault_line fault, NoPatches.faulty bytes fault is (other another) refl, fails)
+      go (Ok ps) reads (inl memory) = (
+        script_fault_line fault,
+        NoPatches.without_memory bytes ps is within reads (ap script_fault_line memory),
+        fails,
+      )
+      go (Ok ps) reads (inr another) =
+          let no : Ok ps ≡ Err fault = sym reads ∙ said.other another in cc
 
   lacks-read : {status : ℕ} (bytes : List ℕ) (file left : SliceSource)
       → file_bytes before.files name ≡ Some bytes → slice_incoming file ≡ fresh_incoming bytes
@@ -91,8 +98,8 @@ module _ (before : Environment) (name : List ℕ) {log log' : Outgoing} where
       lacks-stopped bytes h.0 file left h.2.0 is opens h.1 h.2.1 h.2.2
   lacks-read bytes file left is opens (inr h) =
       let all : bytes ≡ h.0 = text-whole bytes h.0 file left opens h.1 h.2.at_end in
-      lacks-faulty bytes h.3.0 is
-      (λ other. ap script all ∙ h.3.1.other other) h.3.2
+      lacks-faulty bytes h.3.0 is (subst (λ t. length t ≤ text_limit) (sym all) h.2.within)
+      (subst (λ t. IsFaultOf t h.3.0) (sym all) h.3.1) h.3.2
 
   module _ {O : Type 0} (gone : O → Outgoing) where
     pub lacks-patches : {status : ℕ} (found : Option (List ℕ)) → file_bytes before.files name ≡ found

@@ -1,5 +1,5 @@
 -- From what the program does with a host to what it does with files in memory.
-use Rattle.std.proofs.Common.{◌≡◌, ℕ, suc, zero, Bool, true, false, List, [], ◌∷◌, ◌++◌, Option, None, Some, Result, Ok, Err, is_some, string_bytes, refl, sym, ap, ◌∙◌, subst, inl, inr}
+use Rattle.std.proofs.Common.{◌≡◌, ◌≢◌, ℕ, suc, zero, Bool, true, false, List, [], ◌∷◌, ◌++◌, Option, None, Some, Result, Ok, Err, is_some, string_bytes, refl, sym, ap, ◌∙◌, subst, inl, inr}
 use Rattle.cd_args.specs.Fault.{done_status, failed_status, no_memory, printed}
 use Rattle.cd_args.specs.declared.job.Job.{Job}
 use Rattle.cd_args.specs.declared.job.Job.TheVariants as job
@@ -180,12 +180,14 @@ module _ {O : Type 0} (gone : O → Outgoing) (host host' : Memory) (log : Outgo
   took : (settings : Settings) (name script : List ℕ) (patches : List Patch)
       (image left : SliceSource)
       (third : Memory) (both : OpenedBoth name script patches image third)
-      (out out' printed_log middle : Outgoing) → printed_log ≡ fresh_outgoing → (result : Result Tally Fault)
+      (out out' printed_log middle : Outgoing) → printed_log ≡ fresh_outgoing
+      → (out'.failures ≢ out.failures → after.made ≢ []) → (result : Result Tally Fault)
       → (a : Applies settings.carry patches settings.base (streams (slice_incoming image) out printed_log)
       (streams (slice_incoming left) out' middle) result)
       → Ends Log script_status result middle log after.status
       → Took settings after both.files a.sent
-  took settings name script patches image left third both out out' printed_log middle silent result =
+  took settings name script patches image left third both out out' printed_log middle silent made
+      result =
       subst
       (λ ps. (a : Applies settings.carry ps settings.base (streams (slice_incoming image) out printed_log)
       (streams (slice_incoming left) out' middle) result)
@@ -195,7 +197,7 @@ module _ {O : Type 0} (gone : O → Outgoing) (host host' : Memory) (log : Outgo
       (takes settings after both.files left.rest.now (streams (slice_incoming image) out printed_log)
       (streams (slice_incoming left) out' middle) log
       (record { before = ap (λ i. i.rest) both.fresh; after = refl; reads = refl; log = silent })
-      leaves result)
+      leaves made result)
 
   pub checks-on : (settings : Settings) (name script : List ℕ)
       → DoesCheck slice_incoming gone (memory_hosting gone) host' log after.status settings name
@@ -215,7 +217,7 @@ module _ {O : Type 0} (gone : O → Outgoing) (host host' : Memory) (log : Outgo
       go both (took settings name script patches image checks.left host' both
       (null_outgoing 0 0 false)
       (null_outgoing checks.runs.does.0 checks.runs.does.1 checks.runs.does.2) printed_log
-      checks.runs.middle read.silent
+      checks.runs.middle read.silent (λ more none. more refl)
       checks.runs.result checks.runs.does.3 checks.runs.ends)
     where
       go : (both : OpenedBoth name script patches image host') {sent : List ℕ}
@@ -303,12 +305,14 @@ module _ {O : Type 0} (gone : O → Outgoing) (host host' : Memory) (log : Outgo
       let both = opened-both name script patches second printed_log read image third asked in
       let file = made-file path out third fourth both.same gives.1 in
       let a = applies.runs.does in
-      go both file
-      (came-back path a.sent out applies.made applies.last fourth file a.appends
-      applies.rest applies.back)
+      let back = came-back path a.sent out applies.made applies.last fourth file a.appends
+      applies.rest applies.back in
+      go both file back
       (took settings name script patches image applies.left third both (gone out)
       (gone applies.made)
-      printed_log applies.runs.middle read.silent applies.runs.result a applies.runs.ends)
+      printed_log applies.runs.middle read.silent
+      (λ more none. let no : named_file path a.sent ∷ [] ≡ [] = sym back ∙ none in cc)
+      applies.runs.result a applies.runs.ends)
     where
       go : (both : OpenedBoth name script patches image third) → MadeFile path out fourth
           → {sent : List ℕ} → after.made ≡ named_file path sent ∷ []
@@ -345,6 +349,7 @@ module _ {O : Type 0} (gone : O → Outgoing) (host host' : Memory) (log : Outgo
         kind = refuses.kind;
         memory = refuses.memory;
         text = done.text;
+        without_text = done.memory;
         prints =
             Prints-line (printed done.text) [] fresh_outgoing log after refl refl
             leaves done.says;

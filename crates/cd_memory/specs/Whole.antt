@@ -1,5 +1,5 @@
 -- What the program does over files in memory: its status, its text, and the file that it makes.
-use Rattle.std.specs.Prelude.{◌≡◌, ◌≢◌, ℕ, ◌<◌, ◌≤◌, ◌⊎◌, Bool, true, false, List, [], ◌∷◌, ◌++◌, length, take}
+use Rattle.std.specs.Prelude.{◌≡◌, ◌≢◌, ℕ, ◌+◌, ◌<◌, ◌≤◌, ◌⊎◌, Bool, true, false, List, [], ◌∷◌, ◌++◌, length, take}
 use Rattle.std.specs.Prelude.{codes, if◌then◌else◌, Option, None, Some, Result, Ok, Err, string_bytes}
 use Rattle.std.specs.Str.{bytes_eq}
 use Rattle.cd_args.specs.CommandLine.{IsAccepted, IsJobOf}
@@ -19,6 +19,7 @@ use Rattle.cd_read.specs.Image.{image_limit}
 use Rattle.cd_read.specs.declared.fault.Fault.TheVariants.{TooLong, Write}
 use Rattle.cd_stream.specs.Stream.{IsBeginning}
 use Rattle.cd_report.specs.AuditText.{audit_report}
+use Rattle.cd_report.specs.Lines.{text_of}
 use Rattle.cd_report.specs.ListText.{list_report}
 use Rattle.cd_report.specs.Report.{ReportSpec}
 use Rattle.cd_image.specs.Applying.{Begins}
@@ -71,15 +72,20 @@ pub record HasPatches (before : Environment) (name : List ℕ) (patches : List P
   pub within : length text ≤ text_limit
   pub reads : (ps : List Patch) × (script text ≡ Ok ps) × (patches ≡ order ps)
 
--- why there are no patches, and the line that says so
+-- why there are no patches, and the line that says so. Want of memory leaves a file unread, or a
+-- script without its patches; a text that has a fault is answered by it
 pub data NoPatches (before : Environment) (name line : List ℕ) : Type 0 where
   absent : file_bytes before.files name ≡ None → line ≡ no_script → NoPatches before name line
   too_long : (text : List ℕ) → file_bytes before.files name ≡ Some text → text_limit < length text
       → line ≡ load_fault_line load_fault.TooLong → NoPatches before name line
   faulty : (text : List ℕ) (fault : ScriptFault) → file_bytes before.files name ≡ Some text
-      → script text ≡ Err fault → line ≡ script_fault_line fault → NoPatches before name line
-  without_memory : (line ≡ no_memory) ⊎ (line ≡ script_fault_line script_fault.NoMemory)
+      → length text ≤ text_limit → script text ≡ Err fault → line ≡ script_fault_line fault
       → NoPatches before name line
+  unread : (text : List ℕ) → file_bytes before.files name ≡ Some text → line ≡ no_memory
+      → NoPatches before name line
+  without_memory : (text : List ℕ) (ps : List Patch) → file_bytes before.files name ≡ Some text
+      → length text ≤ text_limit → script text ≡ Ok ps
+      → line ≡ script_fault_line script_fault.NoMemory → NoPatches before name line
 
 -- both files are there
 pub record Opened (before : Environment) (image script_name : List ℕ) : Type 0 where
@@ -104,26 +110,31 @@ pub record FailsWith (after : ProgramResult) (line : List ℕ) : Type 0 where
   pub none_made : after.made ≡ []
 
 -- why a call on an image of these bytes ended with status 2 after it had printed a text: the image
--- is too long, the new file found no memory, or the text found none
+-- is too long, the new file, if one was made, found no memory, or the text found none
 pub data WhyStopped (after : ProgramResult) (bytes printed_before : List ℕ) : Type 0 where
   too_long : image_limit < length bytes → Prints after printed_before (fault_line TooLong)
       → WhyStopped after bytes printed_before
-  no_room : Prints after printed_before (fault_line Write) → WhyStopped after bytes printed_before
+  no_room : after.made ≢ [] → Prints after printed_before (fault_line Write)
+      → WhyStopped after bytes printed_before
   no_text : after.complete ≡ false → after.text ≡ printed_before
       → WhyStopped after bytes printed_before
 
 -- ---- the commands
 
--- `list` and `audit`: the text of the image, or a beginning of it if the call was stopped
+-- `list` and `audit`: the text of the image, or a beginning of it if the call was stopped. If it is
+-- complete, that is just the lines that were due after one byte too many
 pub data ReportsOn {T : Type 0} (spec : ReportSpec T) (status_of : T → ℕ) (image : List ℕ)
     (before : Environment) (after : ProgramResult) : Type 0 where
   without_image : image_at before image ≡ None → FailsWith after no_image
       → ReportsOn spec status_of image before after
   reported : (bytes : List ℕ) → image_at before image ≡ Some bytes → length bytes ≤ image_limit
-      → after.text ≡ spec.text bytes → after.status ≡ status_of (spec.tally bytes)
+      → after.text ≡ spec.text bytes → after.complete ≡ true
+      → after.status ≡ status_of (spec.tally bytes)
       → after.made ≡ [] → ReportsOn spec status_of image before after
   stopped : (bytes printed_before : List ℕ) → image_at before image ≡ Some bytes
       → IsBeginning printed_before (spec.text (take image_limit bytes))
+      → (after.complete ≡ true
+      → printed_before ≡ text_of (spec.due (take (image_limit + 1) bytes)))
       → WhyStopped after bytes printed_before
       → after.status ≡ failed_status → after.made ≡ [] → ReportsOn spec status_of image before after
 
@@ -137,6 +148,7 @@ module _ (settings : Settings) {before : Environment} {image script_name : List 
     pub last : List ℕ
     pub patched : IsPatched settings.carry files.patches outcomes settings.base files.bytes last
     pub text : after.text ≡ log_text files.patches outcomes
+    pub complete : after.complete ≡ true
     pub status : after.status ≡ script_status (patch_tally files.bytes outcomes)
 
   -- the call was stopped: what was sent begins the patched image, and what was printed its log, in
@@ -204,6 +216,7 @@ pub record Explains (args : List (List ℕ)) (after : ProgramResult) : Type 0 wh
   pub kind : HasKindOf args fault
   pub memory : IsAccepted args → fault ≡ line_fault.NoMemory
   pub text : Option (List ℕ)
+  pub without_text : fault ≡ line_fault.NoMemory → text ≡ None
   pub prints : Prints after [] (printed text)
   pub status : after.complete ≡ true → after.status ≡ printed_status fault text
   pub cut : after.complete ≡ false → after.status ≡ failed_status
