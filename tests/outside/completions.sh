@@ -14,6 +14,11 @@ offers() {
     judge "$shell completes: $*" test "$(offered "$@" | sort | paste -sd ' ')" = "$wanted"
 }
 
+# options_of COMMAND [USED]: the options that its help has, without one that is used already.
+options_of() {
+    cdpatch "$1" --help | sed -nE 's/^  (-.,|   ) (--[a-z-]+).*/\2/p' | grep -vxe "${2-}" | sort | paste -sd ' '
+}
+
 asked_at_each_position() {
     offers "$commands" ''
     offers 'apply audit' a
@@ -26,19 +31,18 @@ asked_at_each_position() {
         offers "$everything" $command --base 3 ''
         offers "$everything" $command -- ''
         offers '' $command -- --
+        offers "$(options_of $command)" $command --
+        offers "$(options_of $command --base)" $command --base 3 --
+        for flag in $(options_of $command); do
+            [[ $flag = --base || $flag = --help ]] && continue
+            offers "$(options_of $command "$flag")" $command "$flag" --
+            offers "$everything" $command "$flag" ''
+        done
     done
     for command in list audit; do
-        offers '--base --help' $command --
-        offers '--help' $command --base 3 --
         offers '' $command image ''
         offers '' $command - ''
         offers '--base' $command image --b
-    done
-    for command in check apply; do
-        offers '--base --carry --help' $command --
-        offers '--carry --help' $command --base 3 --
-        offers '--base --help' $command --carry --
-        offers "$everything" $command --carry ''
     done
     offers "$everything" check image ''
     offers '' check image script ''
@@ -75,9 +79,9 @@ offers '' list --base = ''
 offers "$everything" list --base = 3 ''
 offers '' --help ''
 offers '--help' -
-offers '--base --help' list -
-offers '--base --carry --help' check -
-offers '--base --carry --help' apply image -
+offers "$(options_of list)" list -
+offers "$(options_of check)" check -
+offers "$(options_of apply)" apply image -
 for operator in '<' '>' '>>' '<<<'; do
     offers 'image' list image "$operator" im
     offers "$everything" $operator ''
