@@ -23,8 +23,8 @@ class Model:
 
     def answer(self, call, given):
         if call in COMMANDS:
-            image, base, carry, text = given
-            return Answer(*answer(call, image, base, carry, text))
+            image, base, options, text = given
+            return Answer(*answer(call, image, base, options, text))
         if call == 'order':
             return ' '.join(str(patch.line) for patch in ordered(script(given[3]))) or '-'
         return value(call, given)
@@ -74,8 +74,10 @@ class Library(Commands):
     def __init__(self, path):
         self.path = str(Path(path).resolve())
 
-    def run(self, command, image, base, carry, text):
-        status, printed, out = commands.run(self.path, command, image, base, carry, text)
+    def run(self, command, image, base, options, text):
+        if set(options) - {'--carry'}:
+            return None
+        status, printed, out = commands.run(self.path, command, image, base, '--carry' in options, text)
         return Answer(status, printed.decode('utf-8', 'replace'), out)
 
 
@@ -86,13 +88,13 @@ class Program(Commands):
         self.path = str(Path(path).resolve())
         self.name = 'the program'
 
-    def run(self, command, image, base, carry, text):
+    def run(self, command, image, base, options, text):
         with tempfile.TemporaryDirectory() as name:
             directory = Path(name)
             (directory / 'image').write_bytes(image)
             (directory / 'script').write_bytes(text)
             words = [command, 'image'] + ['script'] * (command in ('check', 'apply')) + ['out'] * (command == 'apply')
-            words += ['--base', str(base)] * (base > 0) + ['--carry'] * carry
+            words += ['--base', str(base)] * (base > 0) + options
             ended = subprocess.run([self.path, *words], cwd=directory, stdin=subprocess.DEVNULL, capture_output=True, timeout=TIME)
             out = (directory / 'out').read_bytes() if (directory / 'out').exists() else None
         return Answer(ended.returncode, (ended.stdout + ended.stderr).decode('utf-8', 'replace'), out)

@@ -23,7 +23,7 @@ class Answer(NamedTuple):
 
 
 class Question(NamedTuple):
-    """A call, what it is given, and what must come: of a command an image, a base, --carry and a script, and an Answer."""
+    """A call, what it is given, and what must come: of a command an image, a base, other options and a script, and an Answer."""
     call: str
     given: tuple
     due: Any
@@ -103,12 +103,14 @@ def text_of(due):
 
 def patched(form, rest):
     """`apply` and `check` on an image."""
+    options, rest = re.fullmatch(r'((?:--\S+ )*)(.*)', rest).groups()
+    options = options.split()
     base, image, out, status, more = rest.split(' ', 4)
     lines, due = (' ' + more).split(' => ')
     lines = lines[1:]
-    if not form.startswith('text'):
+    if form != 'text':
         lines = f'cdpatch {2 if form.endswith("2") else 1}\n' + lines.replace('; ', '\n')
-    given = image_of(image), int(base), form.rstrip('2').endswith('carry'), script_of(lines)
+    given = image_of(image), int(base), options, script_of(lines)
     out = given[0] if out == '=' else image_of(out)
     return [Question('apply', given, Answer(int(status), text_of(due), out)),
             Question('check', given, Answer(int(status), text_of(due), None))]
@@ -119,12 +121,12 @@ def asked(line):
     form, _, rest = line.partition(' ')
     if form in ('list', 'audit'):
         base, image, status, due = rest.split(' ', 3)
-        return [Question(form, (image_of(image), int(base), False, b''), Answer(int(status), text_of(due), None))]
-    if form in ('apply', 'apply2', 'carry', 'carry2', 'text', 'textcarry'):
+        return [Question(form, (image_of(image), int(base), [], b''), Answer(int(status), text_of(due), None))]
+    if form in ('apply', 'apply2', 'text'):
         return patched(form, rest)
     if form in ('fault', 'order'):
         text, due = (' ' + rest).split(' => ')
-        given = b'', 0, False, script_of(text[1:])
+        given = b'', 0, [], script_of(text[1:])
         if form == 'order':
             return [Question('order', given, due)]
         return [Question(command, given, Answer(2, f'script line {due}\n', None)) for command in ('check', 'apply')]

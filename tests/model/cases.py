@@ -303,5 +303,5 @@ def kinds_of(case):
 
 def wanted(case):
     """What the model says of a case: status, standard output, and OUT or None."""
-    status, printed, out = answer(case.command, case.image, case.base, case.carry, case.script)
+    status, printed, out = answer(case.command, case.image, case.base, ['--carry'] * case.carry, case.script)
     return status, printed.encode(), out

@@ -95,7 +95,7 @@ def audit_text(image, base):
     return text + f'sectors {len(sectors)} mode1 {len(mode1)} damaged {damaged} tail {len(tail)}\n'
 
 
-def answer(command, image, base=0, carry=False, text=b''):
+def answer(command, image, base, options, text):
     """A command's status, standard output, and for `apply` the bytes of OUT, which a script's fault leaves unmade."""
     if command == 'list':
         return 0, list_text(image, base), None
@@ -107,6 +107,6 @@ def answer(command, image, base=0, carry=False, text=b''):
     except ScriptFault as fault:
         return 2, f'{fault}\n', None
     sectors, tail = cut(image)
-    outcomes, last = run(sectors, base, patches, carry)
+    outcomes, last = run(sectors, base, patches, '--carry' in options)
     out = b''.join(last) + tail if command == 'apply' else None
     return int(outcomes != len(outcomes) * ['applied']), patch_text(patches, outcomes), out
