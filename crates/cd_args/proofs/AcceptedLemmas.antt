@@ -1,7 +1,7 @@
 -- If the definition gives no kind of error for the arguments, the matches name a command, and have
 -- its texts and a base in its range.
-use Rattle.std.proofs.Common.{inl, inr, ap, length, ℕ, slice_index_or, ◌≡◌, ◌&&◌, ◌||◌, Bool, true, false, cond, List, [], ◌∷◌, ◌++◌, Option, Some, None, arith, codes, refl}
-use Rattle.std.specs.Prelude.{IsSome, find, if◌then◌else◌, is_some, not, option_and_then, option_map, pos, slice_get, slice_index}
+use Rattle.std.proofs.Common.{inl, inr, ap, length, ℕ, slice_index_or, ◌≡◌, ◌&&◌, ◌||◌, Bool, true, false, cond, List, [], ◌∷◌, ◌++◌, Option, Some, None, arith, codes, refl, subst}
+use Rattle.std.specs.Prelude.{IsSome, find, fold, if◌then◌else◌, is_some, not, option_and_then, option_map, pos, slice_get, slice_index}
 use Rattle.std.specs.List.{list_any}
 use Rattle.std.specs.Option.{option_map_or}
 use Rattle.std.specs.Str.{bytes_eq}
@@ -22,7 +22,7 @@ use Rattle.clap.specs.declared.error.kind.ErrorKind.TheVariants.{DisplayHelp, Va
 use Rattle.clap.specs.declared.parser.matches.ValueSource.{ValueSource}
 use Rattle.clap.specs.declared.parser.matches.ValueSource.TheVariants.{DefaultValue}
 use Rattle.clap.proofs.ValueTestLemmas.{accepts-Accepts}
-use Rattle.cd_args.specs.CommandLine.{HasBase, IsComplete, apply_shape, base_rule, carry_rule, check_shape, command_line, image_shape, max_base, program_shape, text_rule}
+use Rattle.cd_args.specs.CommandLine.{HasBase, IsComplete, apply_shape, base_rule, command_line, flag_rule, image_shape, max_base, patching_shape, program_shape, text_rule}
 use Rattle.cd_args.proofs.general.Rows.{AllStart, Each, Each-find, IsUsedBy, Starts, Uses, level_parts, level_starts, neither}
 
 -- ---- the row of an argument with a default
@@ -76,6 +76,57 @@ default_there a v vs rows e same = go (has_row a.id rows) refl
         → has_row a.id (cond b rows (default_rows a.id (reading_by a) a.defaults rows)) ≡ true
     go true there = there
     go false none = rw e (has_row-values a.id DefaultValue (v ∷ vs) _ rows (rw same refl))
+
+-- whether there is one
+abbrev has_values : List Text → Bool
+has_values [] = false
+has_values (v ∷ vs) = true
+
+default_of_rule : (a : Rule) (rows : List Row) → bytes_eq a.id a.id ≡ true
+    → has_values a.defaults ≡ true → has_row a.id (with_default rows a) ≡ true
+default_of_rule a rows same some = go a.defaults refl some
+  where
+    go : (vs : List Text) → a.defaults ≡ vs → has_values vs ≡ true
+        → has_row a.id (with_default rows a) ≡ true
+    go [] e some = cc
+    go (v ∷ vs) e some = default_there a v vs rows e same
+
+defaults_stay : (wanted : Text) (rules : List Rule) (rows : List Row) → has_row wanted rows ≡ true
+    → has_row wanted (fold with_default rows rules) ≡ true
+defaults_stay wanted [] rows there = there
+defaults_stay wanted (a ∷ others) rows there =
+    defaults_stay wanted others (with_default rows a) (default_stays wanted a rows there)
+
+-- whether a rule is that of `--base`, with a default
+abbrev is_base : Rule → Bool
+is_base a = bytes_eq a.id (codes "base") && has_values a.defaults
+
+base_there : (a : Rule) (rows : List Row) → is_base a ≡ true
+    → has_row (codes "base") (with_default rows a) ≡ true
+base_there a rows is = go (bytes_eq a.id (codes "base")) refl is
+  where
+    go : (b : Bool) → bytes_eq a.id (codes "base") ≡ b → (b && has_values a.defaults) ≡ true
+        → has_row (codes "base") (with_default rows a) ≡ true
+    go true e some =
+        let same : a.id ≡ codes "base" = (bytes_eq-Decides a.id (codes "base")).0 e in
+        subst (λ (id : Text). has_row id (with_default rows a) ≡ true) same
+        (default_of_rule a rows (rw same refl) some)
+    go false e some = cc
+
+-- one of the rules is that of `--base`, so after the defaults it has a row
+based : (rules : List Rule) (rows : List Row) → list_any is_base rules ≡ true
+    → has_row (codes "base") (fold with_default rows rules) ≡ true
+based [] rows there = cc
+based (a ∷ others) rows there =
+    go (is_base a) refl there (based others (with_default rows a))
+  where
+    go : (b : Bool) → is_base a ≡ b → (b || list_any is_base others) ≡ true
+        → (list_any is_base others ≡ true
+        → has_row (codes "base") (fold with_default (with_default rows a) others) ≡ true)
+        → has_row (codes "base") (fold with_default (with_default rows a) others) ≡ true
+    go true is rest further =
+        defaults_stay (codes "base") others (with_default rows a) (base_there a rows is)
+    go false is rest further = further rest
 
 -- a row that is there is found
 pub record Found (id : Text) (rows : List Row) : Type 0 where
@@ -147,8 +198,8 @@ text_built index id = with_index index (filled (text_rule id))
 abbrev base_built : Rule
 base_built = filled base_rule
 
-abbrev carry_built : Rule
-carry_built = filled carry_rule
+abbrev flag_built : Text → Rule
+flag_built id = filled (flag_rule id)
 
 abbrev help_built : Rule
 help_built = filled help_rule
@@ -169,23 +220,21 @@ text_use index id other again (v ∷ vs) rows e = record {
 differ : (a b : ℕ) (s t : Text) → (a ≡ b → ⊥) → a ∷ s ≡ b ∷ t → ⊥
 differ a b s t other e = other (ap (λ (l : List ℕ). slice_index l 0) e)
 
--- a flag's text is none of `--base`
-not_base : codes "carry" ≡ codes "base" → ⊥
-not_base is = differ 99 98 _ _ (λ e. omega arith) is
-
-carry_use : (again : Bool) (values : List Text) (rows : List Row)
-    → use_fault again carry_built values rows ≡ [] → Uses IsBaseText carry_built values
-carry_use again [] rows e = record {
+-- the text of a flag that is another than `--base`
+flag_use : (id : Text) → (id ≡ codes "base" → ⊥) → (again : Bool) (values : List Text)
+    (rows : List Row) → use_fault again (flag_built id) values rows ≡ []
+    → Uses IsBaseText (flag_built id) values
+flag_use id other again [] rows e = record {
   replacing = refl;
   first = codes "true";
   is_first = refl;
-  holds = λ is. absurd (not_base is);
+  holds = λ is. absurd (other is);
 }
-carry_use again (v ∷ vs) rows e = record {
+flag_use id other again (v ∷ vs) rows e = record {
   replacing = refl;
   first = v;
   is_first = refl;
-  holds = λ is. absurd (not_base is);
+  holds = λ is. absurd (other is);
 }
 
 base_use : (again : Bool) (values : List Text) (rows : List Row)
@@ -233,8 +282,14 @@ out_used = text_used 3 (codes "out") (differ _ _ _ _ (λ e. omega arith))
 base_used : IsUsedBy IsBaseText base_built
 base_used = record { use_of = base_use; default_of = base_default }
 
-carry_used : IsUsedBy IsBaseText carry_built
-carry_used = record { use_of = carry_use; default_of = λ v vs e is. absurd (not_base is) }
+flag_used : (id : Text) → (id ≡ codes "base" → ⊥) → IsUsedBy IsBaseText (flag_built id)
+flag_used id other = record {
+  use_of = flag_use id other;
+  default_of = λ v vs e is. absurd (other is);
+}
+
+carry_used : IsUsedBy IsBaseText (flag_built (codes "carry"))
+carry_used = flag_used (codes "carry") (differ _ _ _ _ (λ e. omega arith))
 
 help_used : IsUsedBy IsBaseText help_built
 help_used = record { use_of = help_use; default_of = λ v vs e. cc }
@@ -242,11 +297,11 @@ help_used = record { use_of = help_use; default_of = λ v vs e. cc }
 image_rules : (name : Text) → Each (IsUsedBy IsBaseText) (leaf (image_shape name)).rules
 image_rules name = (image_used, (base_used, (help_used, tt)))
 
-check_rules : Each (IsUsedBy IsBaseText) (leaf check_shape).rules
-check_rules = (image_used, (script_used, (carry_used, (base_used, (help_used, tt)))))
+patching_rules : (name : Text) → Each (IsUsedBy IsBaseText) (leaf (patching_shape name)).rules
+patching_rules name = (image_used, (script_used, (carry_used, (base_used, (help_used, tt)))))
 
 apply_rules : Each (IsUsedBy IsBaseText) (leaf apply_shape).rules
-apply_rules = (image_used, (script_used, (out_used, (carry_used, (base_used, (help_used, tt))))))
+apply_rules = (image_used, (script_used, (carry_used, (base_used, (out_used, (help_used, tt))))))
 
 -- one that is required, and the others
 required_given : (b rest : Bool) → (not b || rest) ≡ false → (b ≡ true) × (rest ≡ false)
@@ -295,12 +350,9 @@ module _ (s : Shape) (by : Each (IsUsedBy IsBaseText) s.rules) (words : List Tex
       && list_any (λ (a : Rule). a.required && not (is_given a.id level_rows)) s.rules) ≡ false
   level_checked = (check_parts s level_rows false (level_parts s [] words false [] e).checks).1
 
--- the option `--base` has a row after its default
-based : (rows : List Row)
-    → has_row (codes "base") (with_default (with_default rows base_built) help_built) ≡ true
-based rows =
-    default_stays (codes "base") help_built (with_default rows base_built)
-    (default_there base_built (codes "0") [] rows refl refl)
+  -- the option `--base` has a row after its default
+  level_base : list_any is_base s.rules ≡ true → HasBase level_rows
+  level_base there = base_read level_rows level_start (based s.rules held_rows there)
 
 -- the image and the base of a command's matches
 pub record HasImage (rows : List Row) : Type 0 where
@@ -319,10 +371,7 @@ image_level name words e =
     (level_checked s (image_rules name) words e) in
     record {
       image = first_given (codes "image") rows starts image.0;
-      base =
-          base_read rows starts
-          (based (with_default (held_rows s (image_rules name) words e)
-          (text_built 1 (codes "image"))));
+      base = level_base s (image_rules name) words e refl;
     }
 
 -- ---- the program
@@ -365,23 +414,20 @@ audit_sound words e =
       base = has.base;
     }
 
-check_sound : IsSound (leaf check_shape)
+check_sound : IsSound (leaf (patching_shape (codes "check")))
 check_sound words e =
-    let s = leaf check_shape in
-    let rows = level_rows s check_rules words e in
-    let starts = level_start s check_rules words e in
-    let image =
-    required_given (is_given (codes "image") rows) _ (level_checked s check_rules words e) in
+    let s = leaf (patching_shape (codes "check")) in
+    let by = patching_rules (codes "check") in
+    let rows = level_rows s by words e in
+    let starts = level_start s by words e in
+    let image = required_given (is_given (codes "image") rows) _ (level_checked s by words e) in
     let script = required_given (is_given (codes "script") rows) false image.1 in
-    let text = with_default (held_rows s check_rules words e) (text_built 1 (codes "image")) in
     record {
       name = inr (inr (inl refl));
       image = first_given (codes "image") rows starts image.0;
       script = λ is. first_given (codes "script") rows starts script.0;
       out = λ e. absurd (differ 99 97 _ _ (λ e. omega arith) e);
-      base =
-          base_read rows starts
-          (based (with_default (with_default text (text_built 2 (codes "script"))) carry_built));
+      base = level_base s by words e refl;
     }
 
 apply_sound : IsSound (leaf apply_shape)
@@ -393,17 +439,12 @@ apply_sound words e =
     required_given (is_given (codes "image") rows) _ (level_checked s apply_rules words e) in
     let script = required_given (is_given (codes "script") rows) _ image.1 in
     let out = required_given (is_given (codes "out") rows) false script.1 in
-    let text =
-    with_default (with_default (held_rows s apply_rules words e) (text_built 1 (codes "image")))
-    (text_built 2 (codes "script")) in
     record {
       name = inr (inr (inr refl));
       image = first_given (codes "image") rows starts image.0;
       script = λ is. first_given (codes "script") rows starts script.0;
       out = λ is. first_given (codes "out") rows starts out.0;
-      base =
-          base_read rows starts
-          (based (with_default (with_default text (text_built 3 (codes "out"))) carry_built));
+      base = level_base s apply_rules words e refl;
     }
 
 -- the command that the arguments name, with what its matches have

@@ -28,33 +28,31 @@ base_rule = record (new_rule (codes "base")) {
   parser = Some (vp.Signed (pos 0) (pos max_base));
 }
 
+-- a flag, two dashes and its name
+abbrev pub flag_rule : Text → Rule
+flag_rule id = record (new_rule id) { long = Some id; action = Some SetTrue }
+
 -- the flag `--carry`
 abbrev pub carry_rule : Rule
-carry_rule = record (new_rule (codes "carry")) {
-  long = Some (codes "carry");
-  action = Some SetTrue;
-}
+carry_rule = flag_rule (codes "carry")
 
 -- a command with the text IMAGE and the option `--base N`
 abbrev pub image_shape : Text → Shape
 image_shape name = record (new_shape name) { rules = text_rule (codes "image") ∷ base_rule ∷ [] }
 
--- `check`, with the texts IMAGE and SCRIPT, the flag and the option
-abbrev pub check_shape : Shape
-check_shape = record (new_shape (codes "check")) {
+-- a command with the texts IMAGE and SCRIPT, the flag and the option
+abbrev pub patching_shape : Text → Shape
+patching_shape name = record (new_shape name) {
   rules = text_rule (codes "image") ∷ text_rule (codes "script") ∷ carry_rule ∷ base_rule ∷ [];
 }
 
--- `apply`, with the texts IMAGE, SCRIPT and OUT, the flag and the option
-abbrev pub apply_shape : Shape
-apply_shape = record (new_shape (codes "apply")) {
-  rules = text_rule (codes "image") ∷ text_rule (codes "script") ∷ text_rule (codes "out")
-      ∷ carry_rule ∷ base_rule ∷ [];
-}
-
--- plumbing: a command with one more argument
+-- a command with one more argument
 abbrev pub with_rule : Shape → Rule → Shape
 with_rule s a = record s { rules = s.rules ++ a ∷ [] }
+
+-- `apply`, which has the text OUT too
+abbrev pub apply_shape : Shape
+apply_shape = with_rule (patching_shape (codes "apply")) (text_rule (codes "out"))
 
 -- the program, which requires a command
 abbrev pub program_shape : Shape
@@ -73,7 +71,8 @@ program_app = record { top = record program_shape { is_leaf = true }; subs = [] 
 unfoldable pub command_line : App
 command_line = record {
   top = program_shape;
-  subs = image_shape (codes "list") ∷ image_shape (codes "audit") ∷ check_shape ∷ apply_shape ∷ [];
+  subs = image_shape (codes "list") ∷ image_shape (codes "audit") ∷ patching_shape (codes "check")
+      ∷ apply_shape ∷ [];
 }
 
 -- ---- the job

@@ -3,7 +3,7 @@ ghost use Rattle.std.specs.Prelude.{◌≡◌, IfOk, IsOkAnd, codes, false};
 ghost use Rattle.clap.specs.Simple.{new_shape};
 ghost use Rattle.clap.specs.Words.{app_of, rule_of, shape_of, with_subcommand};
 ghost use Rattle.clap.specs.declared.builder.command.Command.TheViews.{out-Command};
-ghost use Rattle.cd_args.specs.CommandLine.{apply_shape, base_rule, carry_rule, check_shape, command_line, image_shape, program_app, text_rule, with_rule};
+ghost use Rattle.cd_args.specs.CommandLine.{apply_shape, base_rule, carry_rule, command_line, image_shape, patching_shape, program_app, text_rule, with_rule};
 
 use crate::help::{
     APPLY_ABOUT, APPLY_MORE, AUDIT_ABOUT, AUDIT_MORE, CHECK_ABOUT, CHECK_MORE, LIST_ABOUT,
@@ -123,13 +123,18 @@ fn image_command<'a>(
     with_argument(command, base_argument(alloc))
 }
 
-/// The command `check`.
-fn check_command<'a>(alloc: Global) -> Result<Command<'a>, AllocError>
-    ensures shape { IfOk result (λ c. shape_of c ≡ check_shape) }
+/// A command that reads an image and a script: `check`, and `apply` before its OUT.
+fn patching_command<'a>(
+    alloc: Global,
+    name: &'a str,
+    about: &'a str,
+    more: &'a str,
+) -> Result<Command<'a>, AllocError>
+    ensures shape { IfOk result (λ c. shape_of c ≡ patching_shape name.now) }
     ensures local { IfOk result (λ c. (out-Command c).has_globals ≡ false) }
 {
-    let command = Ok(described(alloc, "check", CHECK_ABOUT, CHECK_MORE));
-    let command = with_argument(command, image_argument(alloc));
+    let command = described(alloc, name, about, more);
+    let command = with_argument(Ok(command), image_argument(alloc));
     let command = with_argument(command, script_argument(alloc));
     let command = with_argument(command, carry_argument(alloc));
     with_argument(command, base_argument(alloc))
@@ -140,12 +145,8 @@ fn apply_command<'a>(alloc: Global) -> Result<Command<'a>, AllocError>
     ensures shape { IfOk result (λ c. shape_of c ≡ apply_shape) }
     ensures local { IfOk result (λ c. (out-Command c).has_globals ≡ false) }
 {
-    let command = Ok(described(alloc, "apply", APPLY_ABOUT, APPLY_MORE));
-    let command = with_argument(command, image_argument(alloc));
-    let command = with_argument(command, script_argument(alloc));
-    let command = with_argument(command, out_argument(alloc));
-    let command = with_argument(command, carry_argument(alloc));
-    with_argument(command, base_argument(alloc))
+    let command = patching_command(alloc, "apply", APPLY_ABOUT, APPLY_MORE);
+    with_argument(command, out_argument(alloc))
 }
 
 /// The program before its commands, of which one is required.
@@ -186,6 +187,7 @@ pub(crate) fn command_line<'a>(alloc: Global) -> Result<Command<'a>, AllocError>
     let audit = image_command(alloc, "audit", AUDIT_ABOUT, AUDIT_MORE);
     let program = with_command(program(alloc), list);
     let program = with_command(program, audit);
-    let program = with_command(program, check_command(alloc));
+    let check = patching_command(alloc, "check", CHECK_ABOUT, CHECK_MORE);
+    let program = with_command(program, check);
     with_command(program, apply_command(alloc))
 }

@@ -2,15 +2,15 @@ use Rattle.std.proofs.Common.{Ok, codes}
 use Rattle.clap.specs.Simple.{new_shape}
 use Rattle.cd_args.specs.CommandLine.{base_rule, carry_rule, text_rule, with_rule}
 use Rattle.cd_args.proofs.CliLemmas.{local-with, shape-with}
-use Rattle.cd_args.proofs.cli.check_command.Goals as goal
+use Rattle.cd_args.proofs.cli.patching_command.Goals as goal
 
 pub returns-clause-shape : goal.returns-clause-shape
 returns-clause-shape c =
-    let bare = new_shape (codes "check") in
+    let bare = new_shape c.args.name.now in
     let image = text_rule (codes "image") in
     let script = text_rule (codes "script") in
-    let reads = shape-with (Ok c.described.result) c.with_argument-command.result _ image bare
-    c.described.ensures.shape c.with_argument-command.ensures.shape c.image_argument.ensures.rule in
+    let reads = shape-with (Ok c.described-command.result) c.with_argument-command.result _ image bare
+    c.described-command.ensures.shape c.with_argument-command.ensures.shape c.image_argument.ensures.rule in
     let patches =
     shape-with c.with_argument-command.result c.with_argument-command-2.result _ script
     (with_rule bare image)
@@ -27,7 +27,7 @@ pub returns-clause-local : goal.returns-clause-local
 returns-clause-local c =
     let reads =
     local-with
-    (Ok c.described.result) c.with_argument-command.result c.described.ensures.local
+    (Ok c.described-command.result) c.with_argument-command.result c.described-command.ensures.local
     c.with_argument-command.ensures.local in
     let patches =
     local-with c.with_argument-command.result c.with_argument-command-2.result reads
