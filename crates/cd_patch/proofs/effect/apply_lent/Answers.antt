@@ -5,7 +5,7 @@ use Rattle.cd_patch.specs.Effect.{IsApplied}
 use Rattle.cd_patch.specs.Parts.{EachBecomes, HaveUsers}
 use Rattle.cd_patch.proofs.DecidingLemmas.{AreMet}
 use Rattle.cd_patch.proofs.TakingLemmas.{accepted, met-where-applied, mode-front, sound-front, part_by, IsApplied-from, Effect-applied}
-use Rattle.cd_patch.proofs.effect.apply_patch.Goals as goal
+use Rattle.cd_patch.proofs.effect.apply_lent.Goals as goal
 
 pub slice_bounds-change_blocks-end : goal.slice_bounds-change_blocks-end
 slice_bounds-change_blocks-end c =
@@ -13,7 +13,7 @@ slice_bounds-change_blocks-end c =
     met-where-applied c.args.carry c.args.sectors.now c.args.patch.now
     (sym c.decide-outcome.ensures.outcome
     ∙ accepted c.decide-outcome.result (sym c.is_applied.ensures ∙ c.if-is_applied.true)) in
-    let number = c.blocks_met-count.ensures.number in
+    let number = c.blocks_met_lent-count.ensures.number in
     omega (arith, met.enough)
 
 pub slice_bounds-change_blocks-end-then-is_applied : goal.slice_bounds-change_blocks-end-then-is_applied
@@ -22,8 +22,8 @@ slice_bounds-change_blocks-end-then-is_applied c =
     met-where-applied c.args.carry c.args.sectors.now c.args.patch.now
     (sym c.decide-outcome.ensures.outcome
     ∙ accepted c.decide-outcome.result (sym c.is_applied.ensures ∙ c.if-is_applied.true)) in
-    let number = c.blocks_met-count.ensures.number in
-    sym (length-take-le c.blocks_met-count.result c.args.sectors.now (omega (arith, met.enough)))
+    let number = c.blocks_met_lent-count.ensures.number in
+    sym (length-take-le c.blocks_met_lent-count.result c.args.sectors.now (omega (arith, met.enough)))
 
 pub change_blocks-requires-clause-met : goal.change_blocks-requires-clause-met
 change_blocks-requires-clause-met c =
@@ -31,8 +31,8 @@ change_blocks-requires-clause-met c =
     met-where-applied c.args.carry c.args.sectors.now c.args.patch.now
     (sym c.decide-outcome.ensures.outcome
     ∙ accepted c.decide-outcome.result (sym c.is_applied.ensures ∙ c.if-is_applied.true)) in
-    let number = c.blocks_met-count.ensures.number in
-    length-take-le c.blocks_met-count.result c.args.sectors.now (omega (arith, met.enough)) ∙ number
+    let number = c.blocks_met_lent-count.ensures.number in
+    length-take-le c.blocks_met_lent-count.result c.args.sectors.now (omega (arith, met.enough)) ∙ number
 
 pub change_blocks-requires-clause-mode : goal.change_blocks-requires-clause-mode
 change_blocks-requires-clause-mode c =
@@ -42,9 +42,9 @@ change_blocks-requires-clause-mode c =
     met-where-applied c.args.carry ss p
     (sym c.decide-outcome.ensures.outcome
     ∙ accepted c.decide-outcome.result (sym c.is_applied.ensures ∙ c.if-is_applied.true)) in
-    mode-front (needs_consistent c.args.carry p.edit) ss c.blocks_met-count.result
+    mode-front (needs_consistent c.args.carry p.edit) ss c.blocks_met_lent-count.result
     (subst (AreMet (needs_consistent c.args.carry p.edit) ss)
-    (sym c.blocks_met-count.ensures.number) met)
+    (sym c.blocks_met_lent-count.ensures.number) met)
 
 pub change_blocks-requires-clause-sound : goal.change_blocks-requires-clause-sound
 change_blocks-requires-clause-sound c = λ asked.
@@ -54,9 +54,9 @@ change_blocks-requires-clause-sound c = λ asked.
     met-where-applied c.args.carry ss p
     (sym c.decide-outcome.ensures.outcome
     ∙ accepted c.decide-outcome.result (sym c.is_applied.ensures ∙ c.if-is_applied.true)) in
-    sound-front (needs_consistent c.args.carry p.edit) ss c.blocks_met-count.result
+    sound-front (needs_consistent c.args.carry p.edit) ss c.blocks_met_lent-count.result
     (subst (AreMet (needs_consistent c.args.carry p.edit) ss)
-    (sym c.blocks_met-count.ensures.number) met) asked
+    (sym c.blocks_met_lent-count.ensures.number) met) asked
 
 pub returns-then-is_applied-clause-effect : goal.returns-then-is_applied-clause-effect
 returns-then-is_applied-clause-effect c =
@@ -67,13 +67,13 @@ returns-then-is_applied-clause-effect c =
     sym c.decide-outcome.ensures.outcome
     ∙ accepted c.decide-outcome.result (sym c.is_applied.ensures ∙ c.if-is_applied.true) in
     let met = met-where-applied c.args.carry ss p applied in
-    let number = c.blocks_met-count.ensures.number in
+    let number = c.blocks_met_lent-count.ensures.number in
     let users =
     subst (HaveUsers ss) number
     (c.decide-outcome.ensures.users
     (accepted c.decide-outcome.result (sym c.is_applied.ensures ∙ c.if-is_applied.true))) in
     let each =
     subst (λ n. EachBecomes (part_by c.args.carry p) (take n ss) front) number c.change_blocks.ensures in
-    Effect-applied c.args.carry p ss (front ++ drop c.blocks_met-count.result ss) applied
+    Effect-applied c.args.carry p ss (front ++ drop c.blocks_met_lent-count.result ss) applied
     (subst (λ n. IsApplied c.args.carry p.block p ss (front ++ drop n ss)) (sym number)
     (IsApplied-from c.args.carry p ss front met.enough users each))

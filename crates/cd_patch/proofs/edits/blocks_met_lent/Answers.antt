@@ -1,6 +1,6 @@
 use Rattle.std.proofs.Common.{length, ap, ◌∙◌}
 use Rattle.cd_patch.specs.Blocks.{blocks_met, blocks_spanned}
-use Rattle.cd_patch.proofs.edits.blocks_met.Goals as goal
+use Rattle.cd_patch.proofs.edits.blocks_met_lent.Goals as goal
 
 pub returns-clause-number : goal.returns-clause-number
 unfolding blocks_met
