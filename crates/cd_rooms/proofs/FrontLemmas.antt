@@ -13,7 +13,7 @@ use Rattle.cd_report.specs.Report.{ReportAnswers, ReportSpec, Reports}
 use Rattle.cd_stream.specs.Adapters.{slice_incoming}
 use Rattle.cd_stream.specs.Stream.{Incoming, Outgoing}
 use Rattle.cd_stream.specs.Transfer.{Takes}
-use Rattle.cd_c_images.specs.Images.{ReportsFrom, ReportsInMemory}
+use Rattle.cd_rooms.specs.Reports.{ReportsFrom, ReportsInMemory}
 
 -- a sink without its first n bytes
 abbrev pub without : ℕ → Outgoing → Outgoing

@@ -2,9 +2,9 @@ use Rattle.std.proofs.Common.{◌≡◌, ◌+◌, ◌-◌, ◌++◌, take, arith
 use Rattle.std.proofs.lemmas.Grind.{common_steps}
 use Rattle.std.proofs.lemmas.Slice.{drop-put_mid}
 use borrow.Rule.Slice.PartMut.{put_mid}
-use Rattle.cd_c_images.specs.Rooms.{front_of, lent_to}
-use Rattle.cd_c_images.proofs.RoomLemmas.{after-front, rest-written}
-use Rattle.cd_c_images.proofs.room.RoomSink.write.Goals as goal
+use Rattle.cd_rooms.specs.Rooms.{front_of, lent_to}
+use Rattle.cd_rooms.proofs.RoomLemmas.{after-front, rest-written}
+use Rattle.cd_rooms.proofs.room.RoomSink.write.Goals as goal
 
 pub returns : goal.returns
 returns c =

@@ -1,4 +1,4 @@
-//! What C lends a call for what it writes.
+//! What a caller lends for what is written.
 
 ghost use Rattle.std.specs.Prelude.{◌≡◌, ◌≢◌, ◌≤◌, drop, length};
 ghost use Rattle.std.specs.Mem.{manually_drop_value};
@@ -13,7 +13,7 @@ struct Lent<'a> {
     slice: &'a mut [u8],
 }
 
-/// Writes to the front of a slice that C has lent, and fails if that is full, as
+/// Writes to the front of a slice that was lent, and fails if that is full, as
 /// [`cd_stream::SliceSink`].
 ///
 /// A call that takes any sink promises only what [`Sink`] does, which names no slice. So what a
@@ -22,10 +22,11 @@ struct Lent<'a> {
 /// he has moved the slice out of the room. For that it is a field of the room itself, and not of a
 /// sink in it.
 #[derive(Drop)]
-pub(crate) struct Room<'a> {
-    pub(crate) space: &'a mut [u8],
-    // How many bytes were written.
-    pub(crate) used: usize,
+pub struct Room<'a> {
+    /// What was lent. Its first `used` bytes were written, and the rest is as it was.
+    pub space: &'a mut [u8],
+    /// How many bytes were written.
+    pub used: usize,
     flushes: Count,
     failures: u32,
     finished: bool,
@@ -41,10 +42,19 @@ pub(crate) struct Room<'a> {
 impl<'a> Room<'a> {
     ghost use Rattle.std.specs.Prelude.{◌≡◌};
     ghost use Rattle.cd_memory.specs.Memory.{fresh_outgoing};
-    ghost use Rattle.cd_c_images.specs.Rooms.{lent_to, room_outgoing};
+    ghost use Rattle.cd_rooms.specs.Rooms.{lent_to, room_outgoing};
 
     /// Stands over `space`, from its front.
-    pub(crate) fn new(space: &'a mut [u8]) -> Self
+    ///
+    /// # Examples
+    ///
+    /// ```
+    /// let mut space = [0; 4];
+    /// let mut room = Room::new(&mut space);
+    /// assert_eq!(rt; room.write(b"ab"), Ok(2));
+    /// assert_eq!(rt; space, *b"ab\0\0");
+    /// ```
+    pub fn new(space: &'a mut [u8]) -> Self
         ensures seen { room_outgoing result ≡ fresh_outgoing }
         ensures lent { (lent_to result).now ≡ space.entry.now }
         ensures same_slice { result.space.ghost_name ≡ space.entry.ghost_name }
@@ -64,7 +74,7 @@ impl<'a> Room<'a> {
 }
 
 impl Sink for Room<'_> {
-    ghost use Rattle.cd_c_images.specs.Rooms.{named_outgoing};
+    ghost use Rattle.cd_rooms.specs.Rooms.{named_outgoing};
 
     ghost seen = { named_outgoing };
 

@@ -1,7 +1,6 @@
 use Rattle.std.proofs.Common.{rules}
-use Rattle.cd_c_images.proofs.CommandLemmas.{reports-on}
-use Rattle.cd_c_images.proofs.RoomLemmas.{reports-room}
-use Rattle.cd_c_images.proofs.commands.list_image.Goals as goal
+use Rattle.cd_rooms.proofs.ReportLemmas.{reports-on, reports-room}
+use Rattle.cd_rooms.proofs.reports.list_image.Goals as goal
 
 pub returns : goal.returns
 returns c =

@@ -1,10 +1,10 @@
--- What a call leaves in memory that C has lent it: a room.
+-- What a call leaves in memory that was lent for a text: a room.
 use Rattle.std.specs.Prelude.{◌≡◌, ◌≢◌, ℕ, ◌≤◌, List, ◌∷◌, ◌++◌, length, drop, take, Some}
 use Rattle.std.specs.Borrow.{MutBor}
 use Rattle.std.specs.Mem.{manually_drop_value}
 use Rattle.cd_stream.specs.Stream.{Outgoing}
 use Rattle.cd_memory.specs.Memory.{fresh_outgoing}
-use Rattle.cd_c_images.specs.declared.room.Room.{Room}
+use Rattle.cd_rooms.specs.declared.room.Room.{Room}
 
 -- ---- lent memory
 
@@ -48,11 +48,11 @@ room_outgoing r = record {
   finished = r.finished;
 }
 
--- plumbing, as all below: the slice as it was lent
+-- the slice as it was lent
 abbrev pub lent_to : Room → MutBor (List ℕ)
 lent_to r = (manually_drop_value r.lent).value.slice
 
--- the name of a slice, how long it is, and its bytes
+-- plumbing, as all below: the name of a slice, how long it is, and its bytes
 unfoldable pub front_of : MutBor (List ℕ) → List ℕ
 front_of lent = lent.ghost_name ∷ length lent.now ∷ lent.now
 

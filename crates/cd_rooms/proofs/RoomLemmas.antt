@@ -1,19 +1,16 @@
 -- A room over a slice.
-use Rattle.std.proofs.Common.{◌≡◌, ℕ, ◌+◌, Bool, List, ◌∷◌, ◌++◌, length, drop, take}
+use Rattle.std.proofs.Common.{◌≡◌, ℕ, ◌+◌, List, ◌∷◌, ◌++◌, length, drop, take}
 use Rattle.std.proofs.Common.{Some, refl, sym, ap, ◌∙◌, subst, append_assoc, arith, length-append}
 use Rattle.std.proofs.Math.Seq.{drop-append_seam, take-append_seam}
 use Rattle.std.proofs.lemmas.List.{drop-drop, length-take-le, take-append-drop}
 use Rattle.cd_memory.proofs.KnownLemmas.{Some-injective}
 use Rattle.cd_memory.specs.Memory.{fresh_outgoing}
-use Rattle.cd_report.specs.Report.{ReportSpec}
 use Rattle.cd_stream.specs.Stream.{Outgoing}
-use Rattle.cd_c_images.specs.Images.{AppliesInMemory, ChecksInMemory, ReportsInMemory}
-use Rattle.cd_c_images.specs.Rooms.{FillsCounted, FillsFront, FillsRoom, front_of, lent_to}
-use Rattle.cd_c_images.specs.Rooms.{named_outgoing, room_outgoing, room_written}
-use Rattle.cd_c_images.specs.declared.room.Room.{Room}
-use Rattle.cd_c_images.proofs.FrontLemmas.{Has, ReportsOn-without, without}
-use Rattle.cd_c_images.proofs.GrowLemmas.{Grew, applies-grow, checks-grow, reports-grow}
-use Rattle.cd_c_images.proofs.PatchFrontLemmas.{AppliesOn-without, ChecksOn-without}
+use Rattle.cd_rooms.specs.Rooms.{FillsCounted, FillsFront, FillsRoom, Holds, front_of, lent_to}
+use Rattle.cd_rooms.specs.Rooms.{named_outgoing, room_outgoing, room_written}
+use Rattle.cd_rooms.specs.declared.room.Room.{Room}
+use Rattle.cd_rooms.proofs.FrontLemmas.{Has, without}
+use Rattle.cd_rooms.proofs.GrowLemmas.{Grew}
 
 -- ---- a write keeps what a room knows
 
@@ -35,7 +32,7 @@ pub record SameRoom (was now : Room) : Type 0 where
   pub bytes : (lent_to now).now ≡ (lent_to was).now
 
 -- it does if it has got more bytes
-found : (was now : Room)
+pub found : (was now : Room)
     → Grew (front_of (lent_to was) ++ room_written was) (named_outgoing now) → SameRoom was now
 unfolding front_of
 found was now grew =
@@ -61,7 +58,7 @@ same-size : (was now : Room) → SameRoom was now
 unfolding front_of
 same-size was now same = ap (λ b. length (0 ∷ 0 ∷ b)) same.bytes
 
-named-has : (r : Room) → Has (length (front_of (lent_to r))) (named_outgoing r)
+pub named-has : (r : Room) → Has (length (front_of (lent_to r))) (named_outgoing r)
 named-has r = record {
   bytes = front_of (lent_to r) ++ room_written r;
   known = refl;
@@ -75,7 +72,7 @@ without-front n r size =
     (ap (λ k. drop k (front_of (lent_to r) ++ room_written r)) (sym size)
     ∙ drop-append_seam (front_of (lent_to r)) (room_written r))
 
-bare : (Does : Outgoing → Outgoing → Type 0) (was now : Room) → SameRoom was now
+pub bare : (Does : Outgoing → Outgoing → Type 0) (was now : Room) → SameRoom was now
     → Does (without (length (front_of (lent_to was))) (named_outgoing was))
     (without (length (front_of (lent_to was))) (named_outgoing now))
     → Does (room_outgoing was) (room_outgoing now)
@@ -84,55 +81,6 @@ bare Does was now same does =
     subst (λ o. Does o (room_outgoing now)) (without-front n was refl)
     (subst (Does (without n (named_outgoing was)))
     (without-front n now (same-size was now same)) does)
-
--- ---- commands over rooms
-
-pub reports-room : {T : Type 0} {spec : ReportSpec T} {status_of : T → ℕ} {base : ℕ}
-    {image : List ℕ} {status : ℕ} (was now : Room)
-    → ReportsInMemory spec status_of base image (named_outgoing was) (named_outgoing now) status
-    → SameRoom was now
-    × ReportsInMemory spec status_of base image (room_outgoing was) (room_outgoing now) status
-reports-room {spec = spec} {status_of = status_of} {base = base} {image = image} {status = status}
-    was now does =
-    let same = found was now (reports-grow _ _ _ refl does) in (
-      same,
-      bare (λ o o'. ReportsInMemory spec status_of base image o o' status) was now same
-          (ReportsOn-without _ _ _ (named-has was) does),
-    )
-
-module _ {carry : Bool} {base : ℕ} {image text : List ℕ} {status : ℕ} where
-  pub checks-room : (was now : Room)
-      → ChecksInMemory carry base image text (named_outgoing was) (named_outgoing now) status
-      → SameRoom was now
-      × ChecksInMemory carry base image text (room_outgoing was) (room_outgoing now) status
-  checks-room was now does =
-      let same = found was now (checks-grow _ _ _ refl does) in (
-        same,
-        bare (λ o o'. ChecksInMemory carry base image text o o' status) was now same
-            (ChecksOn-without _ _ _ (named-has was) does),
-      )
-
-  pub applies-rooms : (out out' log log' : Room)
-      → AppliesInMemory carry base image text (named_outgoing out) (named_outgoing out')
-      (named_outgoing log) (named_outgoing log') status
-      → SameRoom out out' × SameRoom log log'
-      × AppliesInMemory carry base image text (room_outgoing out) (room_outgoing out')
-      (room_outgoing log) (room_outgoing log') status
-  applies-rooms out out' log log' does =
-      let grew = applies-grow _ _ _ _ _ _ refl refl does in
-      let same_out = found out out' grew.1 in
-      let same_log = found log log' grew.0 in
-      let n = length (front_of (lent_to log)) in (
-        same_out,
-        same_log,
-        bare (λ o o'. AppliesInMemory carry base image text o o' (room_outgoing log) (room_outgoing log')
-            status) out out' same_out
-            (bare (λ l l'. AppliesInMemory carry base image text
-            (without (length (front_of (lent_to out))) (named_outgoing out))
-            (without (length (front_of (lent_to out))) (named_outgoing out')) l l' status)
-            log log' same_log
-            (AppliesOn-without _ _ _ _ _ _ (named-has out) (named-has log) does)),
-      )
 
 -- ---- lent memory
 
@@ -153,6 +101,17 @@ fills-of room held held' was now =
       };
       full = λ failed. long ∙ room.full failed ∙ size;
     }
+
+-- a text that is known to have gone out is the one in the memory
+pub same-text : (after : Outgoing) (room room' text : List ℕ) (fills : FillsFront after room room')
+    → after.written ≡ Some text → fills.text ≡ text
+same-text after room room' text fills written =
+    Some-injective (sym fills.written ∙ written)
+
+pub holds-text : (after : Outgoing) (room room' text : List ℕ) (fills : FillsFront after room room')
+    → after.written ≡ Some text → Holds text room room'
+holds-text after room room' text fills written =
+    subst (λ t. Holds t room room') (same-text after room room' text fills written) fills.holds
 
 module _ (Does : Outgoing → Outgoing → Type 0) (before : Outgoing) (room : Room)
     (held held' : List ℕ) (fresh : before ≡ fresh_outgoing)

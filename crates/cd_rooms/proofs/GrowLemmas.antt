@@ -1,5 +1,5 @@
 -- What a command's sinks have got is what they had, and then some text.
-use Rattle.std.proofs.Common.{◌≡◌, ◌≢◌, ℕ, ◌⊎◌, Bool, List, [], ◌++◌, Some, Result, Ok, Err}
+use Rattle.std.proofs.Common.{◌≡◌, ◌≢◌, ℕ, ◌⊎◌, List, [], ◌++◌, Some, Result, Ok, Err}
 use Rattle.std.proofs.Common.{inl, inr, refl, sym, ap, ◌∙◌, append-nil, append_assoc}
 use Rattle.std.specs.Io.KnownBytes.{Appends}
 use Rattle.cd_program.specs.Commands.{Ends, PrintsLine}
@@ -8,7 +8,7 @@ use Rattle.cd_read.specs.declared.fault.Fault.{Fault}
 use Rattle.cd_read.specs.declared.fault.Fault.TheVariants.{Log, Read, TooLong, Write}
 use Rattle.cd_report.specs.Report.{ReportSpec}
 use Rattle.cd_stream.specs.Stream.{Outgoing}
-use Rattle.cd_c_images.specs.Images.{AppliesInMemory, ChecksInMemory, ReportsInMemory}
+use Rattle.cd_rooms.specs.Reports.{ReportsInMemory}
 
 same-or-other : (a b : Fault) → (a ≡ b) ⊎ (a ≢ b)
 same-or-other Read Read = inl refl
@@ -20,12 +20,12 @@ same-or-other _ _ = inr (λ is. cc)
 abbrev pub Grew : List ℕ → Outgoing → Type 0
 Grew front after = (sent : List ℕ) × (after.written ≡ Some (front ++ sent))
 
-stayed : (front : List ℕ) (before after : Outgoing) → before.written ≡ Some front → after ≡ before
+pub stayed : (front : List ℕ) (before after : Outgoing) → before.written ≡ Some front → after ≡ before
     → Grew front after
 stayed front before after had same =
     ([], ap (λ o. o.written) same ∙ had ∙ ap Some (sym (append-nil front)))
 
-printed_log : (front line : List ℕ) (before after : Outgoing) → Grew front before
+pub printed_log : (front line : List ℕ) (before after : Outgoing) → Grew front before
     → PrintsLine line before after → Grew front after
 printed_log front line before after grew says = (
   grew.0 ++ says.sent,
@@ -33,7 +33,7 @@ printed_log front line before after grew says = (
       ∙ ap Some (append_assoc front grew.0 says.sent),
 )
 
-ended : {T : Type 0} (front : List ℕ) (own : Fault) (status_of : T → ℕ) (result : Result T Fault)
+pub ended : {T : Type 0} (front : List ℕ) (own : Fault) (status_of : T → ℕ) (result : Result T Fault)
     (middle after : Outgoing) (status : ℕ) → Grew front middle
     → Ends own status_of result middle after status → Grew front after
 ended front own status_of (Ok tally) middle after status grew ends =
@@ -44,7 +44,7 @@ ended front own status_of (Err fault) middle after status grew ends = go (same-o
     go (inl same) = (grew.0, ap (λ o. o.written) (ends.0.0 same) ∙ grew.1)
     go (inr other) = printed_log front _ middle after grew (ends.0.1 other)
 
-appended : (front sent : List ℕ) (before after : Outgoing) → before.written ≡ Some front
+pub appended : (front sent : List ℕ) (before after : Outgoing) → before.written ≡ Some front
     → Appends before.written after.written sent → Grew front after
 appended front sent before after had went =
     (sent, Appends-Some before.written after.written front sent had went)
@@ -60,34 +60,3 @@ reports-grow {status_of = status_of} {status = status} front before after had
     let runs = r.runs in
     ended front Write status_of runs.result runs.middle after status
     (appended front runs.does.sent before runs.middle had runs.does.takes.appends) runs.ends
-
-pub checks-grow : {carry : Bool} {base : ℕ} {image text : List ℕ} {status : ℕ} (front : List ℕ)
-    (before after : Outgoing) → before.written ≡ Some front
-    → ChecksInMemory carry base image text before after status → Grew front after
-checks-grow front before after had (ChecksInMemory.outside above failed same) =
-    stayed front before after had same
-checks-grow front before after had (ChecksInMemory.without_script within line none fails) =
-    printed_log front line before after (stayed front before before had refl) fails.0
-checks-grow front before after had (ChecksInMemory.checked within patches has r) =
-    let runs = r.runs in
-    let does = runs.does.3 in
-    ended front Log _ runs.result runs.middle after _
-    (appended front does.log_bytes before runs.middle had does.logs) runs.ends
-
-pub applies-grow : {carry : Bool} {base : ℕ} {image text : List ℕ} {status : ℕ}
-    (front made : List ℕ) (out out' log log' : Outgoing) → log.written ≡ Some front
-    → out.written ≡ Some made → AppliesInMemory carry base image text out out' log log' status
-    → Grew front log' × Grew made out'
-applies-grow front made out out' log log' had held (AppliesInMemory.outside above failed same silent) =
-    (stayed front log log' had silent, stayed made out out' held same)
-applies-grow front made out out' log log' had held
-    (AppliesInMemory.without_script within line none same fails) = (
-      printed_log front line log log' (stayed front log log had refl) fails.0,
-      stayed made out out' held same,
-    )
-applies-grow front made out out' log log' had held (AppliesInMemory.applied within patches has r) =
-    let runs = r.runs in (
-      ended front Log _ runs.result runs.middle log' _
-          (appended front runs.does.log_bytes log runs.middle had runs.does.logs) runs.ends,
-      appended made runs.does.sent out out' held runs.does.appends,
-    )
