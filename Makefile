@@ -1,18 +1,23 @@
 # `make` proves and builds the program and libcdpatch and leaves them as ./cdpatch and in ./library, with `CPU=x86-64-v3` for that
-# processor, and with `SIMPLE=1` by the toolchain's own means; `make check` runs all tests of what it left and of the pages, and
+# processor, and with `SIMPLE=1` by the toolchain's own means; if wasm-opt is there it makes the WebAssembly modules too, as `make
+# wasm` does by itself; `make check` runs all tests of what it left and of the pages, and
 # skips what wants a command that is not there, which `WHOLE=1` makes a failure; `make quick` is both; `make test` runs the merge
 # gate; `make bench` builds what measures speed, in bench/; `make install` and `make uninstall` are those of install.mk.
-.PHONY: all check quick test test-outside bench clean
+.PHONY: all check quick test test-outside bench wasm clean
 
 # Goals come one after the other, as they are given. Crates are proved side by side, at most as many as `make -j N` says.
 .NOTPARALLEL:
 AT_ONCE = $(patsubst -j%,%,$(filter -j%,$(MAKEFLAGS)))
 CPU =
 SIMPLE =
+LIBRARY_CRATES = $(shell bash tools/library_crates.sh)
 
 distdir = .
 
 all: cdpatch
+
+# The WebAssembly modules, if they can be made.
+MODULES = $(if $(shell command -v wasm-opt),wasm)
 
 include install.mk
 
@@ -20,17 +25,23 @@ include install.mk
 cdpatch: FORCE
 ifeq ($(SIMPLE),1)
 	cd crates/cdpatch && rt run $(CPU:%=--cpu %) < /dev/null > /dev/null
-	for crate in cd_c cd_c_images; do \
+	for crate in $(LIBRARY_CRATES); do \
 	    (cd crates/$$crate && rt lib --cpu x86-64-v3 > /dev/null && mv out/lib$$crate.a out/lib$$crate-x86-64-v3.a && \
 	    rt lib $(CPU:%=--cpu %) > /dev/null) || exit; \
 	done
+	$(if $(MODULES),bash tools/wasm.sh library)
 else
-	@bash tools/prove.sh 'cdpatch cd_c cd_c_images' '$(AT_ONCE)' '$(CPU)'
+	@bash tools/prove.sh '$(strip cdpatch $(LIBRARY_CRATES) $(MODULES))' '$(AT_ONCE)' '$(CPU)'
 endif
 	cp crates/cdpatch/out/cdpatch cdpatch
 	bash tools/library.sh library
+	@[ -n '$(MODULES)' ] || echo 'library/cdpatch.wasm was not made: that wants wasm-opt (Debian package binaryen)'
 
 FORCE:
+
+wasm:
+	@[ -n '$(MODULES)' ] || { echo 'library/cdpatch.wasm wants wasm-opt (Debian package binaryen).' >&2; exit 1; }
+	@bash tools/prove.sh wasm '$(AT_ONCE)'
 
 check:
 	@test -x '$(PROGRAM)' || { echo 'There is no $(PROGRAM) to test: run make first.' >&2; exit 1; }

@@ -22,7 +22,7 @@ int main(int count, char **arguments) {
         perror("audit");
         return CDPATCH_FAILED;
     }
-    uint32_t status = cdpatch_audit(image, size, 0, text, room, &length);
+    enum cdpatch_status status = cdpatch_audit(image, size, 0, text, room, &length);
     fwrite(text, 1, length, stdout);
     free(text);
     close(file);

@@ -1,15 +1,20 @@
 #!/usr/bin/env bash
-# libcdpatch from C and from Python, as tools/prove.sh has built it of cd_c and cd_c_images: `bash tests/library.sh [PROGRAM]`. The
-# last line is 'N passed, M failed'.
+# libcdpatch from C and from Python, as tools/prove.sh has built it of the crates of tools/library_crates.sh:
+# `bash tests/library.sh [PROGRAM]`. The last line is 'N passed, M failed'.
 set -u
 . "$(dirname "$0")/helpers.sh"
-sources=("$top"/crates/cd_c/src/*.rt "$top"/crates/cd_c_images/src/*.rt)
-# These have the numbers of the commands' statuses.
-statuses=("$top/crates/cd_args/src/fault.rt" "$top/crates/cd_program/src/commands.rt")
+read -ra crates < <(bash "$top/tools/library_crates.sh")
+sources=()
+for crate in "${crates[@]}"; do
+    sources+=("$top/crates/$crate"/src/*.rt)
+done
+# These have the numbers of the commands' statuses, a struct that C sees, and sizes.
+others=("$top"/crates/{cd_args/src/fault,cd_program/src/commands,cd_script/src/cutting,cd_script/src/limits}.rt
+    "$top"/crates/{cd_sector/src/sector,cd_stream/src/line}.rt)
 header=$top/include/cdpatch.h
 strict=(-Wall -Wextra -Werror -pedantic -I "$top/include")
 if ! bash "$top/tools/library.sh" library 2> errors; then
-    judge "the library is built (bash tools/prove.sh 'cd_c cd_c_images'): $(tail -n 1 errors)" false
+    judge "the library is built (bash tools/prove.sh '${crates[*]}'): $(tail -n 1 errors)" false
     finish
     exit
 fi
@@ -26,7 +31,7 @@ refuses() { ! { "$@" > log; } 2> errors; }
 
 # ---- what the library shows and needs
 
-exported() { sed -n 's/^pub extern "C" fn \([a-z_]*\).*/\1/p' "${sources[@]}" | sort; }
+exported() { sed -n 's/^pub extern "C" fn \([a-z0-9_]*\).*/\1/p' "${sources[@]}" | sort; }
 
 shows_the_calls() { nm -D --defined-only "$1" | sed 's/.* //' | sort | cmp -s - <(exported); }
 
@@ -53,6 +58,9 @@ test_symbols() {
         gcc -I "$top/include" "$tests/library/ten_lines.c" library/libcdpatch.a -o static_lines 2> errors
         judge 'a program that only calls for sectors has nothing for images' test -x static_lines -a \
             -z "$(nm static_lines | grep -E 'cdpatch(alloc|_apply)')"
+        gcc -I "$top/include" "$tests/library/scripts.c" library/libcdpatch.a -o static_scripts 2> errors
+        judge 'nor has one that calls for lines, patches and sectors' test -x static_scripts -a \
+            -z "$(nm static_scripts | grep -E 'cdpatch(alloc|_apply$|_check)')"
         test_another_library
         gcc -shared -fPIC another.c -Wl,--whole-archive library/libcdpatch.a -Wl,--no-whole-archive -o another.so
         judge 'a library that shows more is refused' refuses shows_the_calls another.so
@@ -81,23 +89,37 @@ compiler() { ! missing "$1" "$2" "what $1 compiles"; }
 differs() {
     sed "$2" "$header" > wrong.h
     judge "a header with $1 is another" refuses cmp -s "$header" wrong.h
-    judge "a header with $1 is refused" refuses python3 -B "$tests/library/prototypes.py" wrong.h "${sources[@]}" "${statuses[@]}"
+    judge "a header with $1 is refused" refuses python3 -B "$tests/library/prototypes.py" wrong.h "${sources[@]}" "${others[@]}"
 }
 
 # man_prototypes PAGE: those of its synopsis, as the header writes them.
 man_prototypes() { sed -n '/^\.Ft/{s/^\.Ft //;N;s/\n\.Fn / /;s/ "/(/;s/" "/, /g;s/"$/);/;p}' "$1"; }
 
-has_the_prototypes() { man_prototypes "$1" | cmp -s - <(sed -n '/^[a-z].* cdpatch_[a-z_]*(.*/{/;$/!{N;s/\n */ /};p}' "$header"); }
+header_prototypes() { sed -n '/^[a-z].* cdpatch_[a-z0-9_]*(.*/{/;$/!{N;s/\n */ /};p}' "$header"; }
+
+has_the_prototypes() { man_prototypes "$1" | cmp -s - <(header_prototypes); }
+
+# man_declarations PAGE: the structs, enums and versions of its synopsis, in one line, and the header's.
+man_declarations() { sed -n '/^\.Sh SYNOPSIS/,/^\.Ed/{/^\./d;p}' "$1" | tr -s ' \n' ' '; }
+
+header_declarations() {
+    sed -nE -e '/^#define CDPATCH_V/p' -e '/^(enum|struct) .*\{/{:more' -e '/\};/!{N;b more' -e '};p}' "$header" | tr -s ' \n' ' '
+}
+
+has_the_declarations() { man_declarations "$1" | cmp -s - <(header_declarations); }
 
 test_header() {
     judge 'the man page has the prototypes of the header' has_the_prototypes "$top/man/libcdpatch.3"
     sed 's/"size_t length"/"uint32_t length"/' "$top/man/libcdpatch.3" > wrong.3
     judge 'a man page with others is refused' refuses has_the_prototypes wrong.3
+    judge 'it has the structs and the numbers of the header' has_the_declarations "$top/man/libcdpatch.3"
+    sed 's/uint16_t offset; uint16_t count;/uint16_t count; uint16_t offset;/' "$top/man/libcdpatch.3" > wrong.3
+    judge 'a man page with another struct is refused' refuses has_the_declarations wrong.3
     missing mandoc mandoc 'the form of libcdpatch(3)' ||
         judge 'the man page is well formed' test -z "$(mandoc -T lint -W warning "$top/man/libcdpatch.3")"
     missing python3 python3 'the header against the source' && return
     judge 'the header has the exports of the source' holds python3 -B "$tests/library/prototypes.py" "$header" "${sources[@]}" \
-        "${statuses[@]}"
+        "${others[@]}"
     differs 'a call less' '/^void cdpatch_fill_parity/d'
     differs 'a parameter less' 's/, size_t length);$/);/'
     differs 'parameters exchanged' 's/size_t offset, const uint8_t \*bytes/const uint8_t *bytes, size_t offset/'
@@ -112,7 +134,23 @@ test_header() {
     differs 'a room that is not written' 's/uint8_t \*text, size_t room/const uint8_t *text, size_t room/'
     differs 'image and script exchanged' '/cdpatch_apply/{s/\*image/*it/;s/\*script/*image/;s/\*it/*script/}'
     differs 'output and log exchanged' 's/\*out, size_t out_size, uint8_t \*log/*log, size_t out_size, uint8_t *out/'
-    differs 'no carry' '/cdpatch_check/s/, bool carry//'
+    differs 'a call for sectors less' '/^bool cdpatch_survey/d'
+    differs 'a record by value' 's/struct cdpatch_line \*line/struct cdpatch_line line/'
+    differs 'another struct' 's/const struct cdpatch_patch \*patch/const struct cdpatch_place *patch/'
+    differs 'sectors that are not written' '/uint8_t \*sectors, size_t count, bool/s/uint8_t/const uint8_t/'
+    differs 'sectors without a count' 's/\*sectors, size_t count, uint32_t block/*sectors, uint32_t block/'
+    differs 'a result that is a number' 's/^enum cdpatch_result cdpatch_rebuild/uint32_t cdpatch_rebuild/'
+    differs 'a status for a result' 's/^enum cdpatch_result cdpatch_rebuild/enum cdpatch_status cdpatch_rebuild/'
+    differs 'a longer offset' '/^struct cdpatch_place/s/uint16_t/uint32_t/'
+    differs 'a shorter array' 's/address\[3\]/address[2]/'
+    differs 'flags that are numbers' '/^struct cdpatch_record/s/bool/uint8_t/'
+    differs 'sizes of a line exchanged' 's/size_t size; size_t taken;/size_t taken; size_t size;/'
+    differs 'faults in another order' 's/CDPATCH_BAD_HEX, CDPATCH_BAD_LENGTH/CDPATCH_BAD_LENGTH, CDPATCH_BAD_HEX/'
+    differs 'verbs in another order' 's/CDPATCH_SET, CDPATCH_FILL/CDPATCH_FILL, CDPATCH_SET/'
+    differs 'less room for a line' 's/CDPATCH_LINE_SIZE = 96/CDPATCH_LINE_SIZE = 95/'
+    differs 'another version' 's/VERSION "1/VERSION "2/'
+    differs 'another number of the version' 's/NUMBER 10100/NUMBER 10101/'
+    differs 'no carry' '/cdpatch_check/{n;s/bool carry, //}'
     differs 'statuses in another order' 's/CDPATCH_DONE, CDPATCH_FOUND/CDPATCH_FOUND, CDPATCH_DONE/'
 }
 
@@ -124,8 +162,12 @@ compiled_test() { gcc -std=c99 -O2 "${strict[@]}" "$tests/library/$1.c" "$2" -o 
 # wrong NAME: the test in C refuses the library that tests/library/wrong.c makes by this name.
 wrong() {
     local call test=check
-    call=$(sed -n "/defined $1\$/,/^#el/s/^[a-z0-9_]* cdpatch_\([a-z_]*\)(.*/\1/p" "$tests/library/wrong.c")
-    [[ $call != @(list|audit|check|apply) ]] || test=images
+    call=$(sed -n "/defined $1\$/,/^#el/s/^[a-z][a-z0-9_ ]* cdpatch_\([a-z0-9_]*\)(.*/\1/p" "$tests/library/wrong.c")
+    case $call in
+        list | audit | check | apply) test=images ;;
+        sha1_*) test=digest ;;
+        version | *_text | *_line | *_patch | survey | find_broken) test=scripts ;;
+    esac
     objcopy --redefine-sym "cdpatch_$call=right_$call" library/libcdpatch.a "$1.a" &&
         gcc -O2 "${strict[@]}" "-D$1" "$tests/library/$test.c" "$tests/library/wrong.c" "$1.a" -o "$1" 2> errors
     judge "$1 compiles" test -x "$1"
@@ -155,6 +197,8 @@ test_in_c() {
     compiler gcc 'gcc and libc6-dev' || return
     in_c check "$vectors"
     in_c images "$vectors" long
+    in_c scripts "$vectors" long
+    in_c digest
     gcc -O2 "${strict[@]}" -DREFUSES -Wl,--wrap=malloc,--wrap=realloc,--wrap=free "$tests/library/images.c" library/libcdpatch.a \
         -o refusing 2> errors
     judge 'images.c with memory refused' holds ./refusing "$vectors"
@@ -173,14 +217,21 @@ test_in_python() {
             "./$build" "$program"
         count=400
     done
+    judge '300 cases of tests/model by lines and patches' holds python3 -B "$tests/library/lines.py" "./${builds[0]}"
     # test_in_c has made this archive.
     if [ -e CHECK_EXCHANGES_STATUSES.a ]; then
         gcc -shared -fPIC -I "$top/include" -DCHECK_EXCHANGES_STATUSES "$tests/library/wrong.c" CHECK_EXCHANGES_STATUSES.a \
             -o wrong.so 2> errors
         judge 'a wrong shared library' test -e wrong.so
         judge 'cases of tests/model refuse a wrong library' refuses python3 -B "$tests/library/images.py" ./wrong.so "$program" 40
-        judge 'so do the worked cases' refuses bash "$tests/cases/run" model --without-model --library ./wrong.so \
+        judge 'the worked cases refuse it too' refuses bash "$tests/cases/run" model --without-model --library ./wrong.so \
             "$tests/cases/carried.txt"
+    fi
+    if [ -e FIRST_LINE_KEEPS_THE_CR.a ]; then
+        gcc -shared -fPIC -I "$top/include" -DFIRST_LINE_KEEPS_THE_CR "$tests/library/wrong.c" FIRST_LINE_KEEPS_THE_CR.a \
+            -o wrong_lines.so 2> errors
+        judge 'cases of tests/model refuse a library with a wrong line' refuses python3 -B "$tests/library/lines.py" \
+            ./wrong_lines.so 300
     fi
     judge 'the worked cases by the library' holds bash "$tests/cases/run" model --without-model --library "./${builds[0]}"
 }

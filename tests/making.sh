@@ -6,9 +6,11 @@ top=$(cd "$(dirname "$0")/.." && pwd)
 . "$top/tests/judging.sh"
 cd "$scratch" || exit 1
 
-# A repository whose rt, tools/prove.sh, tools/library.sh and tests/run write into `called` what they are called for.
+# A repository whose rt, tools/prove.sh, tools/library.sh, tools/wasm.sh and tests/run write into `called` what they are called for.
 mkdir -p crates/cdpatch crates/cd_c crates/cd_c_images tools tests bin
 cp "$top/Makefile" "$top/install.mk" .
+cp "$top/tools/library_crates.sh" tools
+printf '%s\n' cdpatch: 'cd_c staticlib: cd_code' 'cd_c_images staticlib: cd_image' > crates.txt
 cat > bin/rt << 'EOF_RT'
 #!/usr/bin/env bash
 echo "rt in $(basename "$PWD"): $*" >> "$CALLED"
@@ -31,13 +33,15 @@ echo 'by prove.sh' > crates/cdpatch/out/cdpatch
 chmod +x crates/cdpatch/out/cdpatch
 EOF_PROVE
 echo 'echo "library.sh: $*" >> "$CALLED"' > tools/library.sh
+echo 'echo "wasm.sh: $*" >> "$CALLED"' > tools/wasm.sh
 echo 'echo "tests: $* ${WHOLE-}" >> "$CALLED"' > tests/run
 export CALLED=$scratch/called PATH="$scratch/bin:$PATH"
 
-# makes WORD..: a run of make with these words, what it called in `called` and its status in `status`.
+# makes WORD..: a run of make with these words, what it called in `called` and its status in `status`. MODULES is what it makes
+# of WebAssembly.
 makes() {
     : > called
-    make "$@" > log 2>&1 <<< 'what is on the standard input'
+    make MODULES="${MODULES-}" "$@" > log 2>&1 <<< 'what is on the standard input'
     status=$?
 }
 
@@ -77,6 +81,18 @@ if ! missing make make 'what the Makefile does'; then
     judge 'an empty SIMPLE is none' called 'prove.sh: cdpatch cd_c cd_c_images  ' 'library.sh: library'
     makes -j 3 CPU=x86-64-v3
     judge 'it gets the number and the processor' called 'prove.sh: cdpatch cd_c cd_c_images 3 x86-64-v3' 'library.sh: library'
+    judge 'the modules that were not made are named, with the package' grep -q 'cdpatch.wasm was not made.*package binaryen' log
+    makes wasm
+    judge 'make wasm without wasm-opt' test "$status" = 2 -a ! -s called
+    judge 'names the package too' grep -q 'package binaryen' log
+    MODULES=wasm makes
+    judge 'the modules are one more goal' called 'prove.sh: cdpatch cd_c cd_c_images wasm  ' 'library.sh: library'
+    judge 'of which nothing is said then' eval '! grep -q binaryen log'
+    MODULES=wasm makes SIMPLE=1
+    judge 'with SIMPLE they come after the libraries' called 'rt in cdpatch: run' "${libraries[@]:0:4}" 'wasm.sh: library' \
+        'library.sh: library'
+    MODULES=wasm makes wasm
+    judge 'make wasm makes only the modules' called 'prove.sh: wasm '
     makes check
     judge 'make check tests what make left' called 'tests: cdpatch '
     makes check WHOLE=1
@@ -86,7 +102,8 @@ if ! missing make make 'what the Makefile does'; then
 
     mkdir -p bench/src
     cp "$top/bench/build" bench
-    touch crates.txt bench/src/{main,work}.rt.in
+    : > crates.txt
+    touch bench/src/{main,work}.rt.in
     echo 'what the program prints' > bench/usage
     makes bench
     judge 'make bench' test "$status" = 0

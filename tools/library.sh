@@ -1,30 +1,32 @@
 #!/usr/bin/env bash
-# `tools/library.sh DIRECTORY` makes libcdpatch from what tools/prove.sh has built of cd_c and cd_c_images: in DIRECTORY
+# `tools/library.sh DIRECTORY` makes libcdpatch from what tools/prove.sh has built of the crates of tools/library_crates.sh: in DIRECTORY
 # libcdpatch.a and libcdpatch.so.1, and in x86-64-v3/ there the shared library for that processor. It uses the toolchain's own
 # archiver, linker and C library.
 set -euo pipefail
 mkdir -p "$1/x86-64-v3"
 directory=$(realpath "$1")
 cd "$(dirname "$0")/.."
+read -ra crates < <(bash tools/library_crates.sh)
 kit=$(rt doc)
 kit=$(dirname "$kit")
 scratch=$(mktemp -d)
 trap 'rm -rf "$scratch"' EXIT
 echo '{ global: cdpatch_*; local: *; };' > "$scratch/shown"
 
-# archive SUFFIX FILE: the two crates as they were built with this suffix, and the toolchain's three functions for memory, over
+# archive SUFFIX FILE: the crates as they were built with this suffix, and the toolchain's three functions for memory, over
 # malloc. Every library of this toolchain has these three by the same names. Here they get others, of the same length, so that a
 # program can use another such library too.
 archive() {
-    local name members=$scratch/members$1
-    for name in cd_c cd_c_images; do
+    local name members=$scratch/members$1 objects=()
+    for name in "${crates[@]}"; do
         mkdir -p "$members/$name"
         "$kit/toolchain/bin/llvm-ar" x --output "$members/$name" "crates/$name/out/lib$name$1.a"
+        objects+=("$members/$name"/*)
     done
     "$kit/toolchain/bin/llvm-ar" x --output "$members" "$kit/c/liblibc_c.a" heap.pic.o
     find "$members" -type f -exec env LC_ALL=C sed -i -z -E 's/^rattle_(alloc|dealloc|realloc)$/cdpatch\1/' {} +
     rm -f "$2"
-    "$kit/toolchain/bin/llvm-ar" rc "$2" "$members"/cd_c/* "$members"/cd_c_images/* "$members/heap.pic.o"
+    "$kit/toolchain/bin/llvm-ar" rc "$2" "${objects[@]}" "$members/heap.pic.o"
     chmod 644 "$2"
 }
 

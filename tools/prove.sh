@@ -3,7 +3,8 @@
 # The crates and their order are those of crates.txt. A crate begins once all below it are proved, at most AT_ONCE of them side by
 # side, and no more than there are processors and memory for. CPU is the processor that they are built for, if it is not any
 # x86-64-v2; a static library NAME is out/libNAME.a, and built for x86-64-v3 as well, as out/libNAME-x86-64-v3.a. With AFTER_CI=1 the
-# libraries that `rt ci` has just proved and built are taken as they are.
+# libraries that `rt ci` has just proved and built are taken as they are. The goal `wasm` makes the WebAssembly modules, by
+# tools/wasm.sh.
 set -u -o pipefail
 # Each crate gets a process group, so that an interrupt can end all that it started.
 set -m
@@ -40,11 +41,19 @@ read_crates() {
         done
         needs[$name]=$words
     done
+    # The modules stand on what their crates of exports stand on.
+    words=cd_words
+    for name in "${!static[@]}"; do
+        [ "$name" = cd_c_images ] || words+=" ${needs[$name]}"
+    done
+    needs[wasm]=$words
 }
 
 # The bytes of a crate's text without its tests, and one more: roughly how long its proof takes.
 bytes_of() {
-    find "crates/$1" \( -name out -o -name tests \) -prune -o -name '*.rt' -print0 -o -name '*.antt' -print0 |
+    local folders=("crates/$1")
+    [ "$1" != wasm ] || folders=(crates/cd_c crates/cd_c_*)
+    find "${folders[@]}" \( -name out -o -name tests \) -prune -o -name '*.rt' -print0 -o -name '*.antt' -print0 |
         xargs -0 cat /dev/null | echo $(($(wc -c) + 1))
 }
 
@@ -220,6 +229,8 @@ prove_program() {
     cd "crates/$1" && { rt run --jobs 1 ${cpu:+--cpu "$cpu"} > /dev/null; } 2>&1 | sed -u '/^rt: \(nothing has changed\|running\) /d'
 }
 
+prove_modules() { RT=$lean/bin/rt bash tools/wasm.sh library 2>&1; }
+
 # Hands rt's lines on to the crate's log, and says that its proof begins. Of a crate that is proved already rt has no word.
 print_result() {
     local line
@@ -233,6 +244,7 @@ print_result() {
 begin() {
     local kind=library
     [ ! -f "crates/$1/src/main.rt" ] || kind=program
+    [ "$1" != wasm ] || kind=modules
     state[$1]=running
     : > "$logs/$1"
     {

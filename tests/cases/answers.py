@@ -1,5 +1,6 @@
-"""Who answers the questions of worked cases: the model, a program, and a library."""
+"""Who answers the questions of worked cases: the model, a program, a library, and a module."""
 
+import ctypes
 import re
 import subprocess
 import sys
@@ -11,8 +12,11 @@ from image import answer
 from script import ordered, script
 from sector import COLUMNS, DIAGONALS, SIZE, address_of, edc_bytes, parity, power, syndromes, times
 
-sys.path.insert(0, str(Path(__file__).resolve().parent.parent / 'library'))
+TESTS = Path(__file__).resolve().parent.parent
+sys.path[:0] = [str(TESTS / 'library'), str(TESTS / 'wasm')]
+import by_lines  # noqa: E402
 import commands  # noqa: E402
+import module  # noqa: E402
 
 TIME = 300  # seconds, which no command takes
 
@@ -68,17 +72,61 @@ class Commands:
 
 
 class Library(Commands):
-    """A shared library with the calls of cdpatch.h on images."""
+    """A shared library with the calls of cdpatch.h on images, and for the values that it can show."""
     name = 'the library'
+    commands = commands
 
     def __init__(self, path):
         self.path = str(Path(path).resolve())
 
+    def answer(self, call, given):
+        shown = {'edc': self.edc, 'address': self.address, 'changes': self.changes}
+        return shown[call](*given) if call in shown else super().answer(call, given)
+
     def run(self, command, image, base, options, text):
         if set(options) - {'--carry'}:
             return None
-        status, printed, out = commands.run(self.path, command, image, base, '--carry' in options, text)
+        status, printed, out = self.commands.run(self.path, command, image, base, '--carry' in options, text)
         return Answer(status, printed.decode('utf-8', 'replace'), out)
+
+    def edc(self, digits):
+        word = commands.opened(self.path).cdpatch_edc(listed(digits), ctypes.c_size_t(len(listed(digits))))
+        return (word % 2 ** 32).to_bytes(4, 'little').hex().upper()
+
+    def address(self, block):
+        made = ctypes.create_string_buffer(3)
+        has_one = commands.opened(self.path).cdpatch_address(ctypes.c_uint32(int(block)), made) & 255
+        return made.raw.hex() if has_one else 'None'
+
+    def changes(self, place, amount):
+        made = ctypes.create_string_buffer(SIZE)
+        made[int(place)] = int(amount, 16)
+        commands.opened(self.path).cdpatch_fill_parity(made)
+        return ' '.join(f'{i}:{made.raw[i]:02X}' for i in range(2076, SIZE) if made.raw[i])
+
+
+class ByLines(Library):
+    """A client that makes the commands of a shared library's calls on lines, patches and sectors."""
+    name = 'the library line by line'
+    commands = by_lines
+
+
+class Module(Library):
+    """A WebAssembly module with the calls of cdpatch.h that take no memory, and a client of them in node."""
+    name = 'the module'
+    commands = module
+
+    def edc(self, digits):
+        return module.ask(self.path, 'edc', listed(digits))[1][0].hex().upper()
+
+    def address(self, block):
+        return module.ask(self.path, 'address', block=int(block))[1][0].hex() or 'None'
+
+    def changes(self, place, amount):
+        made = bytearray(SIZE)
+        made[int(place)] = int(amount, 16)
+        filled = module.ask(self.path, 'parity', bytes(made))[1][0]
+        return ' '.join(f'{i}:{filled[i]:02X}' for i in range(2076, SIZE) if filled[i])
 
 
 class Program(Commands):

@@ -1,11 +1,11 @@
-"""Judges each line of worked cases by the model, by a program and by a library: `run PROGRAM [FILE..]`, `run model [FILE..]`."""
+"""Judges each line of worked cases by the model, a program, a library and a module: `run PROGRAM [FILE..]`, `run model [FILE..]`."""
 
 import argparse
 import sys
 from functools import partial
 from multiprocessing import Pool
 
-from answers import Library, Model, Program
+from answers import ByLines, Library, Model, Module, Program
 from forms import SIZE, Answer, worked_lines
 
 SHOWN = 300  # so many characters of a text
@@ -72,16 +72,18 @@ def size(line):
 
 def judges_named():
     """The judges, and the arguments of the call."""
-    words = argparse.ArgumentParser(prog='tests/cases/run', description='Judges worked cases by model, program and library.')
+    words = argparse.ArgumentParser(prog='tests/cases/run', description='Judges worked cases by model, program, library and module.')
     words.add_argument('program', help="the program, or 'model' for only the model")
     words.add_argument('files', nargs='*', help='files of cases; all if there are none')
     words.add_argument('--without-model', action='store_true', help='does not ask the model')
-    words.add_argument('--library', help='a shared library to ask too')
+    words.add_argument('--library', help='a shared library to ask too, for whole images and line by line')
+    words.add_argument('--module', help='a WebAssembly module to ask too')
     words.add_argument('--first', action='store_true', help='ends at the first failure, the shortest lines first')
     given = words.parse_args()
     judges = [] if given.without_model else [Model()]
     judges += [] if given.program == 'model' else [Program(given.program)]
-    return judges + ([] if given.library is None else [Library(given.library)]), given
+    judges += [] if given.library is None else [Library(given.library), ByLines(given.library)]
+    return judges + ([] if given.module is None else [Module(given.module)]), given
 
 
 def main():

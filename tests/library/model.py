@@ -1,6 +1,7 @@
 """Random sectors by a shared library and by tests/model: `model.py LIBRARY [COUNT [SEED]]`. Prints what differs."""
 
 import ctypes
+import hashlib
 import sys
 from multiprocessing import Pool
 from pathlib import Path
@@ -53,6 +54,31 @@ def parity_of(sector):
     return sector_with(sector[:2064], (intermediate, rest, len(sums) * ((0, 0),)))
 
 
+def broken(sector):
+    """A byte for each column and each diagonal by its number and plane: whether one of its syndromes is not 0."""
+    marks = [int(pair != (0, 0)) for pair in defect(sector)[2]]
+    columns, diagonals = marks[:86], marks[86:]
+    return bytes(columns[i % 2 * 43 + i // 2] for i in range(86)), bytes(diagonals[i % 2 * 26 + i // 2] for i in range(52))
+
+
+def broken_by(library, sector):
+    columns, diagonals = ctypes.create_string_buffer(86), ctypes.create_string_buffer(52)
+    library.cdpatch_find_broken(sector, columns, diagonals)
+    return columns.raw, diagonals.raw
+
+
+def digest_by(library, random, data):
+    """The SHA-1 of bytes that are added in pieces."""
+    state, digest = (ctypes.c_uint64 * 12)(*(random.getrandbits(64) for _ in range(12))), ctypes.create_string_buffer(20)
+    library.cdpatch_sha1_begin(state)
+    while data:
+        piece = data[:random.choice([0, 1, 55, 56, 63, 64, 65, 128, 2352])]
+        library.cdpatch_sha1_add(state, piece, ctypes.c_size_t(len(piece)))
+        data = data[len(piece):]
+    library.cdpatch_sha1_end(state, digest)
+    return digest.raw
+
+
 def differences(library, random):
     """The names of the calls that differ from the model on a random sector."""
     sector = some_sector(random)
@@ -81,6 +107,8 @@ def differences(library, random):
         'encode': (made.raw, sector_with(SYNC + address + b'\1' + sector[16:2064], NO_DEFECT)),
         'is_consistent': (library.cdpatch_is_consistent(sector), consistent(sector)),
         'find_defect': (found.report(), damage(sector)),
+        'find_broken': (broken_by(library, sector), broken(sector)),
+        'sha1': (digest_by(library, random, sector + new), hashlib.sha1(sector + new).digest()),
         'fill_parity': (call('cdpatch_fill_parity')[1], parity_of(sector)),
         'rebuild': (call('cdpatch_rebuild'), rebuilt),
         'change_user': (call('cdpatch_change_user', *range_words), changed(sector, user, True, inside)),

@@ -4,47 +4,97 @@ import re
 import sys
 from pathlib import Path
 
-TYPES = {'u8': 'uint8_t', 'u32': 'uint32_t', 'usize': 'size_t', 'bool': 'bool'}
+TYPES = {'u8': 'uint8_t', 'u16': 'uint16_t', 'u32': 'uint32_t', 'u64': 'uint64_t', 'usize': 'size_t', 'bool': 'bool'}
 NAMES = {'bcd': 'address', 'found': 'defect'}  # parameters with another name in C
-FLAGS = {'zeros', 'edc'}  # bytes that are 0 or 1, which C sees as bool
+NAMES_IN = {('cdpatch_result_text', 'number'): 'result'}
+STRUCTS = {'FoundDefect': 'cdpatch_defect', 'SectorRecord': 'cdpatch_record', 'TextLine': 'cdpatch_line',
+           'FlatPatch': 'cdpatch_patch', 'Place': 'cdpatch_place', 'DigestState': 'cdpatch_sha1'}
+# Bytes that are 0 or 1, which C sees as bool.
+FLAGS = {('FoundDefect', 'zeros'), ('FoundDefect', 'edc'), ('SectorRecord', 'address'), ('SectorRecord', 'zeros'),
+         ('SectorRecord', 'edc')}
+# The numbers that a call answers have these names.
+ENUMS = {'cdpatch_kind': 'cdpatch_sector_kind', 'cdpatch_read_line': 'cdpatch_content',
+         **dict.fromkeys(['cdpatch_rebuild', 'cdpatch_change_user', 'cdpatch_carry_user', 'cdpatch_change_address',
+                          'cdpatch_carry_address', 'cdpatch_apply_patch'], 'cdpatch_result'),
+         **dict.fromkeys(['cdpatch_list', 'cdpatch_audit', 'cdpatch_check', 'cdpatch_apply'], 'cdpatch_status')}
+FAULTS = {'Head': 'NO_HEAD', 'Verb': 'UNKNOWN_VERB', 'Words': 'WORD_COUNT', 'Number': 'BAD_NUMBER', 'Hex': 'BAD_HEX',
+          'Length': 'BAD_LENGTH', 'Offset': 'BAD_OFFSET', 'Address': 'BAD_ADDRESS', 'TooMany': 'TOO_MANY',
+          'NoMemory': 'NO_MEMORY'}
+OUTCOMES = {'Applied': 'OK', 'NotMode1': 'NOT_MODE1', 'Damaged': 'DAMAGED', 'NoBlock': 'NO_BLOCK', 'Differs': 'DIFFERS'}
+SIZES = {'CDPATCH_SECTOR_SIZE': ['SECTOR_SIZE'], 'CDPATCH_USER_SIZE': ['USER_SIZE'], 'CDPATCH_PATCH_SIZE': ['MAX_BYTES'],
+         'CDPATCH_LINE_SIZE': ['LINE_SIZE', 'TEXT_SIZE']}
 
 
 def spaced(text):
     return re.sub(r'\s*\*\s*', ' *', ' '.join(text.split()))
 
 
-def of_c(parameter):
+def of_c(call, parameter):
     """The C parameters of a parameter: a slice has two, and its size may have any name; the allocator has none."""
     name, kind = parameter.split(': ', 1)
-    name = NAMES.get(name, name)
+    name = NAMES_IN.get((call, name), NAMES.get(name, name))
     if kind == 'Global':
         return []
-    if re.fullmatch(r'&(mut )?\[u8\]', kind):
-        return ['uint8_t *' + name if '&mut' in kind else 'const uint8_t *' + name, 'size_t']
-    if re.fullmatch(r'&(mut )?(Sector|\[u8; \w+\])', kind):
-        return ['uint8_t *' + name if '&mut' in kind else 'const uint8_t *' + name]
-    if kind == '&mut FoundDefect':
-        return ['struct cdpatch_defect *' + name]
-    if kind == '&mut usize':
-        return ['size_t *' + name]
-    return ['size_t' if kind == 'usize' else f'{TYPES[kind]} {name}']
+    pointer = re.fullmatch(r'&(mut )?(.*)', kind)
+    if not pointer:
+        return ['size_t' if kind == 'usize' else f'{TYPES[kind]} {name}']
+    changes, target = pointer.groups()
+    piece = re.fullmatch(r'\[([^;]*)\]', target)
+    item = piece.group(1) if piece else target
+    if item in STRUCTS:
+        made = f'struct {STRUCTS[item]} *{name}'
+    elif item == 'usize':
+        made = f'size_t *{name}'
+    elif re.fullmatch(r'u8|Sector|\[u8; \w+\]', item):
+        made = f'uint8_t *{name}'
+    else:
+        raise ValueError(f'{call}: {parameter}')
+    return [made if changes else 'const ' + made] + ['size_t'] * bool(piece)
+
+
+def fields_of(struct, body):
+    """The types and names of a struct's fields."""
+    made = []
+    for name, kind in re.findall(r'^    (?:pub )?(\w+): ([^,]+),$', body, re.M):
+        item, _, count = kind.strip('[]').partition('; ')
+        made.append(('bool' if (struct, name) in FLAGS else TYPES[item]) + f' {name}' + (f'[{count}]' if count else ''))
+    return made
+
+
+def numbered(pairs):
+    """The names of numbers that count from 0 on, each pair as often as it likes."""
+    made = sorted({(int(number), 'CDPATCH_' + name.upper()) for name, number in pairs})
+    return [name if number == place else f'{name} = {number}' for place, (number, name) in enumerate(made)]
 
 
 def exports(source):
-    """Of each export its C types and names, the result's first; and the struct's fields and the numbers of the results."""
+    """Of each export its C types and names, the result's first; the structs; the numbers of the enums; sizes and version."""
     made = {}
     for name, listed, result in re.findall(r'pub extern "C" fn (\w+)\(([^)]*)\)(?: -> (\w+))?', source):
-        parameters = spaced(listed).rstrip(',').split(', ')
-        made[name] = [TYPES[result] if result else 'void', *(c for parameter in parameters for c in of_c(parameter))]
-    fields = re.findall(r'pub (\w+): (\w+),', re.search(r'struct FoundDefect \{(.*?)\n\}', source, re.S).group(1))
-    made['struct cdpatch_defect'] = ['bool' if name in FLAGS else TYPES[kind] for name, kind in fields]
-    made['fields'] = [name for name, _ in fields]
-    results = re.findall(r'pub const (\w+): u32 = (\d+);', source)
-    made['results'] = ['CDPATCH_' + name for name, _ in sorted(results, key=lambda it: int(it[1]))]
-    statuses = re.findall(r'const (DONE|FOUND|FAILED): u8 = (\d);', source)
-    made['statuses'] = ['CDPATCH_' + name for name, _ in sorted(statuses, key=lambda it: it[1])]
-    arms = re.findall(r'SectorKind::(\w+) => (\d),', source)
-    made['kinds'] = ['CDPATCH_' + name.upper() for name, _ in sorted(arms, key=lambda it: it[1])]
+        parameters = [parameter for parameter in spaced(listed).rstrip(',').split(', ') if parameter]
+        answered = f'enum {ENUMS[name]}' if name in ENUMS else TYPES[result] if result else 'void'
+        made[name] = [answered, *(c for parameter in parameters for c in of_c(name, parameter))]
+    for struct, name in STRUCTS.items():
+        body = re.search(rf'^pub struct {struct} {{\n(.*?)\n}}', source, re.S | re.M)
+        made[f'struct {name}'] = fields_of(struct, body.group(1) + '\n') if body else None
+    constants = re.findall(r'const (\w+): \w+ = ([\d_]+);', source)
+    results = [(name, number) for name, number in re.findall(r'pub const (\w+): u32 = (\d+);', source) if name != 'VERSION']
+    results += [(OUTCOMES[name], number) for name, number in re.findall(r'Outcome::(\w+)(?:\([_.]+\))? => (\d+),', source)]
+    results += [('NO_PATCH', number) for name, number in constants if name == 'NO_PATCH']
+    contents = [(FAULTS[name], number) for name, number in re.findall(r'ScriptFault::(\w+)(?:\(_\))? => (\d+),', source)]
+    contents += [('NOTHING', number) for number in re.findall(r'LineContent::PassedOver\) => (\d+),', source)]
+    contents += [({'One': 'VERSION_1', 'Two': 'VERSION_2'}[name], number)
+                 for name, number in re.findall(r'LineContent::Head\(Version::(\w+)\)\) => (\d+),', source)]
+    contents += [pair for pair in constants if pair[0] in ('PATCH', 'NO_VERSION')]
+    made['enum cdpatch_result'], made['enum cdpatch_content'] = numbered(results), numbered(contents)
+    made['enum cdpatch_status'] = numbered(pair for pair in constants if pair[0] in ('DONE', 'FOUND', 'FAILED'))
+    made['enum cdpatch_verb'] = numbered(pair for pair in constants if pair[0] in ('SET', 'FILL', 'REBUILD', 'ADDRESS'))
+    made['enum cdpatch_sector_kind'] = numbered(re.findall(r'SectorKind::(\w+) => (\d),', source))
+    for name, sources in SIZES.items():
+        made[name] = sorted({number.replace('_', '') for each, number in constants if each in sources})
+    made['CDPATCH_VERSION_NUMBER'] = [number for name, number in constants if name == 'VERSION']
+    made['CDPATCH_VERSION'] = [f'{int(number) // 10000}.{int(number) // 100 % 100}.{int(number) % 100}'
+                               for number in made['CDPATCH_VERSION_NUMBER']]
     return made
 
 
@@ -53,12 +103,15 @@ def declared(header):
     code = re.sub(r'/\*.*?\*/', '', header, flags=re.S)
     made = {}
     for result, name, listed in re.findall(r'^(\w[\w ]*?)\s+(cdpatch_\w+)\(([^)]*)\);', code, re.M):
-        made[name] = [result, *(re.sub(r'^size_t \w+', 'size_t', spaced(parameter)) for parameter in listed.split(','))]
-    fields = re.findall(r'(\w+) (\w+);', re.search(r'struct cdpatch_defect \{(.*?)\}', code, re.S).group(1))
-    made['struct cdpatch_defect'] = [kind for kind, _ in fields]
-    made['fields'] = [name for _, name in fields]
-    enums = [re.findall(r'CDPATCH_\w+', words) for words in re.findall(r'enum \{(.*?)\}', code)]
-    made['kinds'], made['results'], made['statuses'] = enums[1:]
+        parameters = [spaced(parameter) for parameter in listed.split(',') if parameter != 'void']
+        made[name] = [result, *(re.sub(r'^size_t \w+', 'size_t', parameter) for parameter in parameters)]
+    for name, body in re.findall(r'struct (\w+) \{(.*?)\}', code, re.S):
+        made[f'struct {name}'] = [' '.join(field.split()) for field in body.split(';') if field.strip()]
+    for name, body in re.findall(r'enum (\w+) \{(.*?)\}', code, re.S):
+        made[f'enum {name}'] = [' '.join(each.split()) for each in body.split(',')]
+    for body in re.findall(r'enum \{(.*?)\}', code, re.S):
+        made.update((name, [number]) for name, number in re.findall(r'(\w+) = (\d+)', body))
+    made.update((name, [text]) for name, text in re.findall(r'^#define (\w+) "?([\d.]+)"?$', code, re.M))
     return made
 
 

@@ -3,9 +3,10 @@
 # one, and a test runs it.
 
 enter promises
-library_crates=(cd_code cd_sector cd_delta cd_script cd_patch cd_stream cd_read cd_report cd_image cd_args cd_program cd_memory)
-# Those, and what C calls: static libraries, which no crate of tests can stand on.
-crates_with_contracts=("${library_crates[@]}" cd_c cd_c_images)
+library_crates=(cd_code cd_sector cd_delta cd_script cd_patch cd_stream cd_read cd_report cd_image cd_args cd_program cd_memory cd_rooms)
+# Those, and what C calls: static libraries, which no crate of tests can stand on. cd_words has calls of cd_sector, by other bodies.
+read -ra static_crates <<< "$(bash "$top/tools/library_crates.sh")"
+crates_with_contracts=("${library_crates[@]}" cd_words "${static_crates[@]}")
 contracts=$top/docs/CONTRACTS.md
 map=$top/docs/MAP.md
 

@@ -11,8 +11,9 @@ judge 'the reading list is that of the sources (bash tests/reading_list.sh --wri
 
 # The promises of docs/TRUST.md on what is in the crates: no statement that is taken on trust, and nothing in another language.
 foreign=$(grep -rnwE --include='*.rt' --exclude-dir=out 'unsafe|extern' "$top/crates" |
-    grep -vE '^[^:]*/cd_c(_images)?/src/[a-z]*\.rt:[0-9]*:(#\[unsafe\(no_mangle\)\]$|pub extern "C" fn cdpatch_[a-z_]*\()')
-judge 'no unsafe code and no functions of C in the crates, but exports of cd_c and cd_c_images' test -z "$foreign"
+    grep -vE '^[^:]*/cd_c(_[a-z]*)?/src/[a-z_]*\.rt:[0-9]*:(#\[unsafe\(no_mangle\)\]$|pub extern "C" fn cdpatch_[a-z0-9_]*\()' |
+    grep -vE '^[^:]*/cd_c_digest/src/state\.rt:[0-9]*: *unsafe \{ ptr::read\(&raw const [a-z]* as \*const [A-Za-z0-9]*\) \}$')
+judge 'no unsafe code and no functions of C in the crates, but exports, and the state of a digest' test -z "$foreign"
 judge 'no axiom and no hole in the crates' \
     test -z "$(grep -rnE --include='*.antt' --exclude-dir=out '(^|[^-A-Za-z_])axiom([^-A-Za-z_]|$)|[=(] *\?' "$top/crates")"
 judge 'no file of C in the crates' test -z "$(find "$top/crates" -name out -prune -o -name '*.[chS]' -print)"
@@ -61,7 +62,7 @@ for goal in check test-outside; do
     while read -r command; do
         case $goal:$command in
             *:python3) command='Python 3' ;;
-            test-outside:strace | test-outside:valgrind | test-outside:setpriv | test-outside:objcopy | test-outside:pkg-config) continue ;;
+            test-outside:node | test-outside:tsc | test-outside:eslint | test-outside:strace | test-outside:valgrind | test-outside:setpriv | test-outside:objcopy | test-outside:pkg-config) continue ;;
         esac
         [[ $row == *" $command"[,\ ]* ]] || unknown+=" $command"
     done < skipping
@@ -70,8 +71,8 @@ done
 
 # docs/MAP.md says what the code of each crate uses of the others.
 tr '\n' ' ' < "$top/docs/MAP.md" > map
-for crate in cd_code cd_sector cd_delta cd_script cd_patch cd_stream cd_read cd_report cd_image cd_args cd_program cdpatch cd_c \
-    cd_c_images; do
+for crate in cd_code cd_sector cd_delta cd_script cd_patch cd_stream cd_read cd_report cd_image cd_args cd_program cdpatch cd_rooms cd_words \
+    $(bash "$top/tools/library_crates.sh"); do
     mapfile -t used < <(find "$top/crates/$crate/src" -name '*.rt' ! -path '*/tests/*' ! -name tests.rt -exec \
         sed -nE 's/^ *(pub )?use (cd_[a-z]+)::.*/\2/p' {} + | sort -u)
     words=$(printf ', %s' "${used[@]}")

@@ -6,3 +6,5 @@
 mod changes;
 mod results;
 mod sectors;
+mod texts;
+mod version;

@@ -1,4 +1,4 @@
-//! What a change of a sector answers.
+//! What changes and patches answer.
 
 ghost use Rattle.std.specs.Prelude.{◌≡◌, ◌+◌, ◌≤◌, length, true};
 ghost use Rattle.cd_sector.specs.Kind.{kind_of};
@@ -18,6 +18,15 @@ pub const DAMAGED: u32 = 2;
 
 /// The bytes do not lie in the user data.
 pub const OUT_OF_RANGE: u32 = 3;
+
+/// The image does not have a block that the patch meets.
+pub const NO_BLOCK: u32 = 4;
+
+/// Old bytes that the patch names differ.
+pub const DIFFERS: u32 = 5;
+
+/// The record is not one of a patch.
+pub const NO_PATCH: u32 = 6;
 
 /// Whether as many bytes lie in the user data from `offset` on.
 pub(crate) fn is_inside(offset: usize, bytes: &[u8]) -> bool

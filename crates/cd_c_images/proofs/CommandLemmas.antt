@@ -1,4 +1,4 @@
--- The commands on an image in memory, and the script of a text.
+-- `check` and `apply` on an image in memory, and the script of a text.
 use Rattle.std.proofs.Common.{◌≡◌, ℕ, ◌≤◌, Bool, List, length, Result, Ok, Err, IfOk, IfErr, OnOk}
 use Rattle.std.proofs.Common.{OnErr, refl, subst}
 use Rattle.cd_args.specs.Fault.{failed_status}
@@ -7,24 +7,14 @@ use Rattle.cd_program.specs.Commands.{PrintsLine}
 use Rattle.cd_program.specs.ScriptLines.{IsFaultOf}
 use Rattle.cd_memory.specs.Memory.{fresh_incoming}
 use Rattle.cd_read.specs.Image.{base_limit}
-use Rattle.cd_report.specs.Report.{ReportSpec}
 use Rattle.cd_script.specs.Limits.{text_limit}
 use Rattle.cd_script.specs.Order.{order}
 use Rattle.cd_script.specs.Script.{script}
 use Rattle.cd_script.specs.declared.fault.ScriptFault.{ScriptFault}
-use Rattle.cd_script.specs.declared.patch.Patch.{Patch}
+use Rattle.cd_script.specs.PatchForm.{Patch}
 use Rattle.cd_stream.specs.Stream.{Incoming, Outgoing}
 use Rattle.cd_c_images.specs.Images.{AppliesFrom, AppliesInMemory, ChecksFrom, ChecksInMemory, HasNoScript}
-use Rattle.cd_c_images.specs.Images.{ReportsFrom, ReportsInMemory, TakesText}
-
-pub reports-on : {T : Type 0} {spec : ReportSpec T} {status_of : T → ℕ} {base : ℕ} {image : List ℕ}
-    {out out' : Outgoing} {status : ℕ} → base ≤ base_limit → (source : Incoming)
-    → source ≡ fresh_incoming image → ReportsFrom spec status_of source out out' status
-    → ReportsInMemory spec status_of base image out out' status
-reports-on {spec = spec} {status_of = status_of} {out = out} {out' = out'} {status = status}
-    within source fresh reports =
-    ReportsInMemory.reported within
-    (subst (λ s. ReportsFrom spec status_of s out out' status) fresh reports)
+use Rattle.cd_c_images.specs.Images.{TakesText}
 
 pub takes-text : (text : List ℕ) (log log' : Outgoing) (result : Result (List Patch) ℕ)
     → length text ≤ text_limit

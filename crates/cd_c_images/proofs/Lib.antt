@@ -1,7 +1,5 @@
 mod CommandLemmas
-mod FrontLemmas
-mod GrowLemmas
 mod PatchFrontLemmas
+mod PatchRoomLemmas
 mod PlainLemmas
-mod RoomLemmas
 mod StopLemmas

@@ -9,12 +9,12 @@ use Rattle.cd_program.specs.Commands.{PrintsPatchLog, script_status}
 use Rattle.cd_memory.proofs.KnownLemmas.{Some-injective}
 use Rattle.cd_read.specs.declared.fault.Fault.{Fault}
 use Rattle.cd_read.specs.declared.fault.Fault.TheVariants.{Log, Read, TooLong, Write}
-use Rattle.cd_script.specs.declared.patch.Patch.{Patch}
+use Rattle.cd_script.specs.PatchForm.{Patch}
 use Rattle.cd_stream.specs.Adapters.{slice_incoming}
 use Rattle.cd_stream.specs.Stream.{Incoming, Outgoing}
 use Rattle.cd_c_images.specs.Images.{AppliesFrom, AppliesInMemory, ChecksFrom, ChecksInMemory}
-use Rattle.cd_c_images.proofs.FrontLemmas.{Appends-without, Ends-without, EndsWell-without, Has}
-use Rattle.cd_c_images.proofs.FrontLemmas.{Has-more, PrintsLine-without, grown-without, without}
+use Rattle.cd_rooms.proofs.FrontLemmas.{Appends-without, Ends-without, EndsWell-without, Has}
+use Rattle.cd_rooms.proofs.FrontLemmas.{Has-more, PrintsLine-without, grown-without, without}
 
 -- ---- the whole contract
 

@@ -1,73 +1,18 @@
 -- The clauses of the calls: the plain ones follow from the whole one.
-use Rattle.std.proofs.Common.{◌≡◌, ◌≢◌, ℕ, ◌<◌, ◌⊎◌, Bool, List, [], length, Some, inl, inr, refl}
-use Rattle.std.proofs.Common.{sym, ap, ◌∙◌, subst, arith}
+use Rattle.std.proofs.Common.{◌≡◌, ◌≢◌, ℕ, ◌⊎◌, Bool, List, [], length, inl, inr, refl, ap}
+use Rattle.std.proofs.Common.{◌∙◌}
 use Rattle.cd_args.specs.Fault.{failed_status}
 use Rattle.cd_program.specs.Commands.{IsTooLong}
-use Rattle.cd_memory.proofs.KnownLemmas.{Some-injective}
 use Rattle.cd_memory.specs.Memory.{fresh_incoming, fresh_outgoing}
-use Rattle.cd_read.specs.Image.{image_limit}
-use Rattle.cd_report.specs.Report.{ReportSpec}
+use Rattle.cd_rooms.proofs.ReportLemmas.{too-long}
+use Rattle.cd_rooms.proofs.RoomLemmas.{fills-counted, holds-text, same-text}
+use Rattle.cd_rooms.specs.Rooms.{FillsCounted, FillsRoom, Holds, lent_to, room_outgoing}
+use Rattle.cd_rooms.specs.declared.room.Room.{Room}
 use Rattle.cd_stream.specs.Adapters.{slice_incoming}
 use Rattle.cd_stream.specs.Stream.{Outgoing}
-use Rattle.cd_stream.specs.declared.adapters.slice_source.SliceSource.{SliceSource}
-use Rattle.cd_c_images.specs.Images.{AppliesInMemory, ChecksInMemory, ReportsInMemory}
-use Rattle.cd_c_images.specs.Plain.{ApplyFails, CheckFails, ReportFails, TakesPatches}
-use Rattle.cd_c_images.specs.Plain.{WritesLines, WritesReport}
-use Rattle.cd_c_images.specs.Rooms.{FillsCounted, FillsFront, FillsRoom, Holds, lent_to, room_outgoing}
-use Rattle.cd_c_images.specs.declared.room.Room.{Room}
-use Rattle.cd_c_images.proofs.RoomLemmas.{fills-counted}
+use Rattle.cd_c_images.specs.Images.{AppliesInMemory, ChecksInMemory}
+use Rattle.cd_c_images.specs.Plain.{ApplyFails, CheckFails, TakesPatches, WritesLines}
 use Rattle.cd_c_images.proofs.StopLemmas.{apply-fails}
-
--- a text that is known to have gone out is the one in the memory
-same-text : (after : Outgoing) (room room' text : List ℕ) (fills : FillsFront after room room')
-    → after.written ≡ Some text → fills.text ≡ text
-same-text after room room' text fills written =
-    Some-injective (sym fills.written ∙ written)
-
-holds-text : (after : Outgoing) (room room' text : List ℕ) (fills : FillsFront after room room')
-    → after.written ≡ Some text → Holds text room room'
-holds-text after room room' text fills written =
-    subst (λ t. Holds t room room') (same-text after room room' text fills written) fills.holds
-
--- an image in memory is read without a failure
-too-long : (image : List ℕ) (left : SliceSource)
-    → IsTooLong (fresh_incoming image) (slice_incoming left) → image_limit < length image
-too-long image left is = omega (arith, is.beyond image left.rest.now refl refl)
-
-module _ {T : Type 0} {spec : ReportSpec T} {status_of : T → ℕ} {base : ℕ}
-    {image room room' : List ℕ} {size status : ℕ}
-    (all : FillsCounted (λ out out'. ReportsInMemory spec status_of base image out out' status) room room'
-    size) where
-  writes-report : status ≢ failed_status
-      → WritesReport spec status_of image room room' size status
-  writes-report done = go all.room_filled.does
-    where
-      go : ReportsInMemory spec status_of base image fresh_outgoing all.room_filled.after status
-          → WritesReport spec status_of image room room' size status
-      go (ReportsInMemory.outside above failed same) = absurd (done failed)
-      go (ReportsInMemory.reported within r) =
-          let fills = all.room_filled.fills in
-          let text = r.text done image [] refl refl in record {
-            holds = holds-text _ room room' _ fills text.1;
-            counted = all.counted ∙ ap length (same-text _ room room' _ fills text.1);
-            tally = text.2;
-          }
-
-  report-fails : status ≡ failed_status → ReportFails base image room size
-  report-fails failed = go all.room_filled.does
-    where
-      go : ReportsInMemory spec status_of base image fresh_outgoing all.room_filled.after status
-          → ReportFails base image room size
-      go (ReportsInMemory.outside above is same) = inl above
-      go (ReportsInMemory.reported within r) = why (r.failed failed)
-        where
-          why : ((slice_incoming r.left).failures ≢ 0)
-              ⊎ (all.room_filled.after.failures ≢ 0)
-              ⊎ IsTooLong (fresh_incoming image) (slice_incoming r.left)
-              → ReportFails base image room size
-          why (inl none) = absurd (none refl)
-          why (inr (inl full)) = inr (inr (all.counted ∙ all.room_filled.fills.full full))
-          why (inr (inr long)) = inr (inl (too-long image r.left long))
 
 module _ {carry : Bool} {base : ℕ} {image text log log' : List ℕ} {size status : ℕ}
     (all : FillsCounted (λ lines lines'. ChecksInMemory carry base image text lines lines' status) log
@@ -146,22 +91,6 @@ writes-image {carry = carry} {base = base} {image = image} {text = text} {out = 
 
 module _ (before : Outgoing) (room : Room) (held held' : List ℕ) (fresh : before ≡ fresh_outgoing)
     (was : (lent_to room).now ≡ held) (now : held' ≡ room.space.now) where
-  pub report-clauses : {T : Type 0} {spec : ReportSpec T} {status_of : T → ℕ} {base : ℕ}
-      {image : List ℕ} {status : ℕ}
-      → ReportsInMemory spec status_of base image before (room_outgoing room) status
-      → record {
-        report : FillsCounted (λ out out'. ReportsInMemory spec status_of base image out out' status)
-            held held' room.used;
-        text : status ≢ failed_status
-            → WritesReport spec status_of image held held' room.used status;
-        failed : status ≡ failed_status → ReportFails base image held room.used;
-      }
-  report-clauses {spec = spec} {status_of = status_of} {base = base} {image = image}
-      {status = status} does =
-      let all = fills-counted (λ out out'. ReportsInMemory spec status_of base image out out' status)
-      before room held held' fresh does was now room.used refl in
-      record { report = all; text = writes-report all; failed = report-fails all }
-
   pub check-clauses : {carry : Bool} {base : ℕ} {image script : List ℕ} {status : ℕ}
       → ChecksInMemory carry base image script before (room_outgoing room) status
       → record {

@@ -14,13 +14,13 @@ use Rattle.cd_read.specs.Ends.{MayBeImage, MayBeImageAtEnd}
 use Rattle.cd_read.specs.Image.{image_limit}
 use Rattle.cd_read.specs.declared.fault.Fault.{Fault}
 use Rattle.cd_read.specs.declared.fault.Fault.TheVariants.{Log, Read, TooLong, Write}
-use Rattle.cd_script.specs.declared.patch.Patch.{Patch}
+use Rattle.cd_script.specs.PatchForm.{Patch}
 use Rattle.cd_stream.specs.Stream.{IsBeginning, Outgoing}
 use Rattle.cd_stream.specs.Adapters.{slice_incoming}
 use Rattle.cd_stream.specs.declared.adapters.slice_source.SliceSource.{SliceSource}
 use Rattle.cd_c_images.specs.Images.{AppliesInMemory}
 use Rattle.cd_c_images.specs.Plain.{ApplyFails, SendsFront}
-use Rattle.cd_c_images.specs.Rooms.{FillsCounted, FillsFront, FillsRoom, Holds}
+use Rattle.cd_rooms.specs.Rooms.{FillsCounted, FillsFront, FillsRoom, Holds}
 
 -- a script that was applied to the end has another status
 few-if : (b : Bool) → cond b 0 1 ≢ failed_status

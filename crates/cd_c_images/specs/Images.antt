@@ -1,4 +1,4 @@
--- What the commands do on an image in memory.
+-- What `check` and `apply` do on an image and a script in memory.
 use Rattle.std.specs.Prelude.{◌≡◌, ◌≢◌, ℕ, ◌+◌, ◌<◌, ◌≤◌, ◌⊎◌, Bool, true, List, length, Result, Ok}
 use Rattle.std.specs.Prelude.{Err}
 use Rattle.cd_args.specs.Fault.{failed_status}
@@ -6,46 +6,21 @@ use Rattle.cd_image.specs.Applying.{Applies, Checks, HoldsFew, WritesCarried, Wr
 use Rattle.cd_image.specs.Applying.{streams}
 use Rattle.cd_program.specs.Messages.{load_fault_line, script_fault_line}
 use Rattle.cd_program.specs.Program.{PrintsAndFails}
-use Rattle.cd_program.specs.Commands.{CallThenLine, IsTooLong, PrintsPatchLog, PrintsText, script_status}
+use Rattle.cd_program.specs.Commands.{CallThenLine, IsTooLong, PrintsPatchLog, script_status}
 use Rattle.cd_program.specs.ScriptLines.{IsFaultOf}
 use Rattle.cd_program.specs.declared.script.LoadFault.TheVariants as load_fault
 use Rattle.cd_memory.specs.Memory.{fresh_incoming}
 use Rattle.cd_read.specs.Ends.{EndsWell}
 use Rattle.cd_read.specs.Image.{base_limit}
-use Rattle.cd_read.specs.declared.fault.Fault.TheVariants.{Log, Write}
-use Rattle.cd_report.specs.Report.{ReportSpec, Reports}
+use Rattle.cd_read.specs.declared.fault.Fault.TheVariants.{Log}
 use Rattle.cd_script.specs.Limits.{text_limit}
 use Rattle.cd_script.specs.Order.{order}
 use Rattle.cd_script.specs.Script.{script}
 use Rattle.cd_script.specs.declared.fault.ScriptFault.{ScriptFault}
-use Rattle.cd_script.specs.declared.patch.Patch.{Patch}
+use Rattle.cd_script.specs.PatchForm.{Patch}
 use Rattle.cd_stream.specs.Adapters.{slice_incoming}
 use Rattle.cd_stream.specs.Stream.{Incoming, Outgoing}
 use Rattle.cd_stream.specs.declared.adapters.slice_source.SliceSource.{SliceSource}
-
--- ---- `list` and `audit`
-
--- all that `run_list` and `run_audit` promise of an image of which something is left
-pub record ReportsFrom {T : Type 0} (spec : ReportSpec T) (status_of : T → ℕ) (image : Incoming)
-    (out out' : Outgoing) (status : ℕ) : Type 0 where
-  pub left : SliceSource
-  pub runs : CallThenLine (λ middle answer. Reports spec image (slice_incoming left) out middle
-      answer)
-      Write status_of out' status
-  pub text : status ≢ failed_status
-      → PrintsText spec status_of image (slice_incoming left) out out' status
-  pub ends_well : status ≢ failed_status → EndsWell image (slice_incoming left) out out'
-  pub flushed : status ≢ failed_status → out'.flushes ≡ out.flushes + 1
-  pub failed : status ≡ failed_status → ((slice_incoming left).failures ≢ image.failures)
-      ⊎ (out'.failures ≢ out.failures) ⊎ IsTooLong image (slice_incoming left)
-
--- a base that no image has prints nothing
-pub data ReportsInMemory {T : Type 0} (spec : ReportSpec T) (status_of : T → ℕ) (base : ℕ)
-    (image : List ℕ) (out out' : Outgoing) (status : ℕ) : Type 0 where
-  outside : base_limit < base → status ≡ failed_status → out' ≡ out
-      → ReportsInMemory spec status_of base image out out' status
-  reported : base ≤ base_limit → ReportsFrom spec status_of (fresh_incoming image) out out' status
-      → ReportsInMemory spec status_of base image out out' status
 
 -- ---- scripts
 

@@ -1,28 +1,15 @@
--- What the calls on an image in memory do, in plain words.
+-- What the calls that take a script to an image in memory do, in plain words.
 use Rattle.std.specs.Prelude.{◌≡◌, ℕ, ◌<◌, ◌⊎◌, Bool, List, length, take}
 use Rattle.cd_image.specs.PatchLog.{log_text, patch_tally}
 use Rattle.cd_image.specs.Patched.{EachPatching}
 use Rattle.cd_program.specs.Commands.{script_status}
 use Rattle.cd_patch.specs.declared.outcome.Outcome.{Outcome}
 use Rattle.cd_read.specs.Image.{base_limit, image_limit}
-use Rattle.cd_report.specs.Report.{ReportSpec}
-use Rattle.cd_script.specs.declared.patch.Patch.{Patch}
+use Rattle.cd_rooms.specs.Reports.{ReportFails}
+use Rattle.cd_rooms.specs.Rooms.{Holds}
+use Rattle.cd_script.specs.PatchForm.{Patch}
 use Rattle.cd_stream.specs.Stream.{IsBeginning}
 use Rattle.cd_c_images.specs.Images.{HasNoScript, HasScript}
-use Rattle.cd_c_images.specs.Rooms.{Holds}
-
--- the whole text was written, and the status is that of its tally
-pub record WritesReport {T : Type 0} (spec : ReportSpec T) (status_of : T → ℕ) (image : List ℕ)
-    (room room' : List ℕ) (size status : ℕ) : Type 0 where
-  pub holds : Holds (spec.text image) room room'
-  pub counted : size ≡ length (spec.text image)
-  pub tally : status ≡ status_of (spec.tally image)
-
--- why a call fails that takes no script: no image has its base, the image is too long, or the
--- memory is full
-abbrev pub ReportFails : ℕ → List ℕ → List ℕ → ℕ → Type 0
-ReportFails base image room size =
-    (base_limit < base) ⊎ (image_limit < length image) ⊎ (size ≡ length room)
 
 -- the log of these outcomes was written, and the status is that of their counts
 pub record WritesLines (patches : List Patch) (image : List ℕ) (outcomes : List Outcome)

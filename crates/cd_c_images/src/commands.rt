@@ -1,52 +1,17 @@
-//! The commands on an image in memory, each to a room. A base that no image has is answered as a
-//! failure, with nothing written.
+//! The commands that take a script to an image in memory, each to a room. A base that no image has
+//! is answered as a failure, with nothing written.
 
 ghost use Rattle.std.specs.Prelude.{◌≡◌, ◌<◌};
-ghost use Rattle.cd_c_images.specs.Images.{AppliesInMemory, ChecksInMemory, ReportsInMemory, TakesText};
-ghost use Rattle.cd_c_images.specs.Rooms.{FillsRoom, lent_to, room_outgoing};
-ghost use Rattle.cd_args.specs.Fault.{done_status};
-ghost use Rattle.cd_program.specs.Commands.{audit_status};
-ghost use Rattle.cd_report.specs.AuditText.{audit_report};
-ghost use Rattle.cd_report.specs.ListText.{list_report};
+ghost use Rattle.cd_c_images.specs.Images.{AppliesInMemory, ChecksInMemory, TakesText};
+ghost use Rattle.cd_rooms.specs.Rooms.{FillsRoom, lent_to, room_outgoing};
 ghost use Rattle.cd_stream.specs.Stream.{CanCountFailure};
 
-use crate::room::Room;
 use cd_args::FAILED;
 use cd_image::{MAX_BASE, Sink, SliceSource};
-use cd_program::{
-    LoadFault, load_fault_line, print_and_fail, read_script, run_apply, run_audit, run_check,
-    run_list,
-};
+use cd_program::{LoadFault, load_fault_line, print_and_fail, read_script, run_apply, run_check};
+use cd_rooms::Room;
 use cd_script::{MAX_TEXT, Script};
 use std::alloc::Global;
-
-/// The command `list`, as [`run_list`].
-pub(crate) fn list_image(image: &[u8], base: u32, out: &mut Room<'_>) -> u8
-    requires { CanCountFailure (room_outgoing out.old).failures }
-    ensures report { ReportsInMemory (list_report base) (λ _. done_status) base image.now
-        (room_outgoing out.old) (room_outgoing out.new) result }
-    ensures same_slice { out.new.space.ghost_name ≡ out.old.space.ghost_name }
-    ensures same_bytes { (lent_to out.new).now ≡ (lent_to out.old).now }
-{
-    if base > MAX_BASE {
-        return FAILED;
-    }
-    run_list(&mut SliceSource::new(image), base, out)
-}
-
-/// The command `audit`, as [`run_audit`].
-pub(crate) fn audit_image(image: &[u8], base: u32, out: &mut Room<'_>) -> u8
-    requires { CanCountFailure (room_outgoing out.old).failures }
-    ensures report { ReportsInMemory (audit_report base) audit_status base image.now
-        (room_outgoing out.old) (room_outgoing out.new) result }
-    ensures same_slice { out.new.space.ghost_name ≡ out.old.space.ghost_name }
-    ensures same_bytes { (lent_to out.new).now ≡ (lent_to out.old).now }
-{
-    if base > MAX_BASE {
-        return FAILED;
-    }
-    run_audit(&mut SliceSource::new(image), base, out)
-}
 
 /// The script of a text, as [`read_script`]. For one that is too long it prints the same line as
 /// for such a file.

@@ -4,10 +4,10 @@ ghost use Rattle.std.specs.Prelude.{◌≡◌, ◌≢◌};
 ghost use Rattle.cd_args.specs.Fault.{failed_status};
 ghost use Rattle.cd_c_images.specs.Images.{AppliesInMemory, ChecksInMemory};
 ghost use Rattle.cd_c_images.specs.Plain.{ApplyFails, CheckFails, TakesPatches, WritesLines};
-ghost use Rattle.cd_c_images.specs.Rooms.{FillsCounted, FillsRoom, Holds};
+ghost use Rattle.cd_rooms.specs.Rooms.{FillsCounted, FillsRoom, Holds};
 
 use crate::commands::{apply_image, check_image};
-use crate::room::Room;
+use cd_rooms::Room;
 use std::alloc::Global;
 
 /// Decides each patch of a script on an image, as the command `check`, and answers its status.

@@ -42,7 +42,7 @@ pub use columns::{
     BACK_COLUMN, COLUMNS, ColumnLanes, ColumnSums, MIDDLE_COLUMN, ROWS, ROWS_SIZE, column_lanes,
     column_sums, row_sums,
 };
-pub use edc::edc_of;
+pub use edc::{edc_by_tables, edc_of};
 pub use field::{alpha_power, times};
 pub use lane_sums::LaneSums;
 pub use lanes::{lanes_at, put_lanes};

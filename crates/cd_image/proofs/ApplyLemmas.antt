@@ -6,7 +6,7 @@ use Rattle.std.proofs.lemmas.List.{length-take-le, take-append-le}
 use Rattle.cd_stream.specs.Stream.{Incoming, IsBeginning, Outgoing}
 use Rattle.cd_stream.specs.Transfer.{Gives, Sends, Takes}
 use Rattle.cd_stream.proofs.TransferLemmas.{Gives-trans, Takes-trans}
-use Rattle.cd_script.specs.declared.patch.Patch.{Patch}
+use Rattle.cd_script.specs.PatchForm.{Patch}
 use Rattle.cd_sector.specs.declared.sector.TheConstants.{SECTOR_SIZE}
 use Rattle.cd_patch.specs.Blocks.{block_limit, blocks_met}
 use Rattle.cd_patch.specs.Deciding.{outcome}

@@ -4,7 +4,7 @@ use Rattle.std.specs.Prelude.{All}
 use Rattle.std.proofs.lemmas.Bool.{true≢false}
 use Rattle.cd_script.specs.Patch.{IsPatch}
 use Rattle.std.specs.Io.KnownBytes.{Appends}
-use Rattle.cd_script.specs.declared.patch.Patch.{Patch}
+use Rattle.cd_script.specs.PatchForm.{Patch}
 use Rattle.cd_image.specs.Applying.{Applies, BeginsLog, HoldsFew, HoldsFewCounted, Streams, WritesCarried, WritesLog, WritesPatched}
 use Rattle.cd_image.specs.Patched.{IsPatched}
 use Rattle.cd_image.specs.PatchLog.{log_text, patch_tally}

@@ -8,7 +8,7 @@ use Rattle.std.proofs.lemmas.List.{length-drop, length-take-le}
 use Rattle.cd_stream.specs.Stream.{IsBeginning, Outgoing}
 use Rattle.cd_stream.specs.Transfer.{Flushes, Gives, Sends, Takes}
 use Rattle.cd_stream.proofs.TransferLemmas.{Takes-flushed, Takes-nil, Takes-trans}
-use Rattle.cd_script.specs.declared.patch.Patch.{Patch}
+use Rattle.cd_script.specs.PatchForm.{Patch}
 use Rattle.cd_patch.specs.declared.outcome.Outcome.{Outcome}
 use Rattle.cd_patch.specs.Sequence.{PatchSequence}
 use Rattle.cd_patch.proofs.SequenceLemmas.{PatchSequence-append, PatchSequence-count, PatchSequence-determined, PatchSequence-lengths, PatchSequence-split}
@@ -18,7 +18,7 @@ use Rattle.cd_image.specs.Passing.{HoldsInvariant, IsEnded, missing_outcomes}
 use Rattle.cd_image.specs.Window.{tail_bytes}
 use Rattle.cd_image.specs.declared.pass.Pass.{Pass}
 use Rattle.cd_image.specs.Patched.{EachPatching, IsPatched}
-use Rattle.cd_image.specs.PatchLog.{applied_count, log_end, log_lines, log_text, log_when_out_fails, patch_tally, refused_count, sent_when_log_fails}
+use Rattle.cd_image.specs.PatchLog.{applied_count, counts_line, log_lines, log_text, log_when_out_fails, patch_tally, refused_count, sent_when_log_fails}
 use Rattle.cd_read.specs.Ends.{MayBeImageAtEnd}
 use Rattle.cd_read.specs.declared.fault.Fault.TheVariants.{Log, Write}
 use Rattle.cd_image.specs.declared.patch_log.Tally.{Tally}
@@ -110,7 +110,7 @@ module _ (carry : Bool) (below left : List Patch) (base : ℕ) (start : Streams)
       logged_begins back =
           let lines = log_lines below (missing_outcomes below) in
           let end =
-          log_end (applied_count (missing_outcomes below ++ back))
+          counts_line (applied_count (missing_outcomes below ++ back))
           (refused_count (missing_outcomes below ++ back)) in (
             drop n lines ++ (log_lines left back ++ end),
             ap (λ l. l ++ end)
@@ -137,7 +137,7 @@ module _ {carry : Bool} (ps : List Patch) {base : ℕ} {start now : Streams} {pa
   lines = missing_lines (take (length ps - pass.decided) (drop pass.decided ps))
 
   abbrev last_line : List ℕ
-  last_line = log_end pass.applied (length ps - pass.applied)
+  last_line = counts_line pass.applied (length ps - pass.applied)
 
   -- the run of all the patches on the image that was read
   record Run : Type 0 where

@@ -2,7 +2,7 @@
 use Rattle.std.proofs.Common.{◌≡◌, ◌≢◌, ℕ, ◌+◌, ◌<◌, ◌≤◌, Bool, List, [], ◌++◌, length, take, drop, Option, None, Some, Result, Ok, Err, IsErrAnd, refl, sym, ap, ◌∙◌, subst, arith, append_assoc, append-nil, length-append, take-append-drop}
 use Rattle.std.specs.Prelude.{All, IsSome}
 use Rattle.std.specs.Io.KnownBytes.{IsAtEnd}
-use Rattle.cd_script.specs.declared.patch.Patch.{Patch}
+use Rattle.cd_script.specs.PatchForm.{Patch}
 use Rattle.cd_sector.specs.declared.sector.TheConstants.{SECTOR_SIZE}
 use Rattle.cd_patch.specs.Sequence.{PatchSequence}
 use Rattle.cd_patch.specs.declared.outcome.Outcome.{Outcome}
@@ -12,7 +12,7 @@ use Rattle.cd_read.specs.Image.{image_limit, bytes_of, sectors, tail}
 use Rattle.cd_image.specs.Window.{tail_bytes}
 use Rattle.cd_image.specs.Passing.{PassInvariant}
 use Rattle.cd_image.specs.Patched.{EachPatching, IsPatched}
-use Rattle.cd_image.specs.PatchLog.{applied_count, log_end, log_lines, log_text, refused_count, sent_when_log_fails}
+use Rattle.cd_image.specs.PatchLog.{applied_count, counts_line, log_lines, log_text, refused_count, sent_when_log_fails}
 use Rattle.cd_stream.specs.Stream.{IsBeginning}
 use Rattle.cd_stream.specs.Transfer.{Gives, Takes}
 use Rattle.cd_read.specs.declared.fault.Fault.{Fault}
@@ -45,7 +45,7 @@ pub lines-begin : (taken left : List Patch) (front back : List Outcome)
     → IsBeginning (log_lines taken front) (log_text (taken ++ left) (front ++ back))
 unfolding log_text
 lines-begin taken left front back same =
-    let end = log_end (applied_count (front ++ back)) (refused_count (front ++ back)) in (
+    let end = counts_line (applied_count (front ++ back)) (refused_count (front ++ back)) in (
       log_lines left back ++ end,
       ap (λ l. l ++ end) (log_lines-append taken left front back same)
           ∙ append_assoc (log_lines taken front) (log_lines left back) end,
@@ -58,7 +58,7 @@ pub lines-begin_within : (taken left : List Patch) (front back : List Outcome)
     (log_text (taken ++ left) (front ++ back))
 unfolding log_text
 lines-begin_within taken left front back same n =
-    let end = log_end (applied_count (front ++ back)) (refused_count (front ++ back)) in
+    let end = counts_line (applied_count (front ++ back)) (refused_count (front ++ back)) in
     let lines = log_lines taken front in
     let others = log_lines left back in (
       drop n others ++ end,
@@ -72,13 +72,13 @@ lines-begin_within taken left front back same n =
 -- less than the whole log
 pub unfinished_log : (patches : List Patch) (os : List Outcome) (log_bytes : List ℕ)
     → length log_bytes
-    < length (log_lines patches os) + length (log_end (applied_count os) (refused_count os))
+    < length (log_lines patches os) + length (counts_line (applied_count os) (refused_count os))
     → log_bytes ≢ log_text patches os
 unfolding log_text
 unfinished_log patches os log_bytes less = λ all.
     let whole =
     ap length all
-    ∙ length-append (log_lines patches os) (log_end (applied_count os) (refused_count os)) in
+    ∙ length-append (log_lines patches os) (counts_line (applied_count os) (refused_count os)) in
     absurd (omega (arith, whole, less))
 
 -- lines of the first patches, and a part of the other lines

@@ -8,7 +8,7 @@ use Rattle.cd_stream.specs.Transfer.{Sends, Takes}
 use Rattle.cd_stream.proofs.TransferLemmas.{Takes-trans}
 use Rattle.std.proofs.lemmas.Bool.{cases_lt, cond-true, cond-false, lt-ltb, le-ltb}
 use Rattle.std.proofs.lemmas.List.Elements.{All-head, All-tail}
-use Rattle.cd_script.specs.declared.patch.Patch.{Patch}
+use Rattle.cd_script.specs.PatchForm.{Patch}
 use Rattle.cd_sector.specs.declared.sector.TheConstants.{SECTOR_SIZE}
 use Rattle.cd_patch.specs.Outcome.{is_applied}
 use Rattle.cd_patch.specs.Sequence.{PatchSequence}
@@ -17,7 +17,7 @@ use Rattle.cd_patch.specs.declared.outcome.Outcome.TheVariants.{NoBlock}
 use Rattle.cd_patch.proofs.FrameLemmas.{Effect-missing, outcome-missing}
 use Rattle.cd_read.specs.Image.{sectors}
 use Rattle.cd_image.specs.Passing.{missing_outcomes}
-use Rattle.cd_image.specs.PatchLog.{applied_count, bytes_before, lines_below, log_line, log_lines, log_text, log_when_out_fails, outcome_text, refused_count, sent_when_log_fails}
+use Rattle.cd_image.specs.PatchLog.{applied_count, bytes_before, lines_below, log_line, log_lines, log_text, log_when_out_fails, outcome_line, outcome_text, refused_count, sent_when_log_fails}
 use Rattle.cd_read.proofs.general.Counts.{count_by-cons}
 
 pub log_lines-append : (ps qs : List Patch) (os us : List Outcome) → length os ≡ length ps
@@ -231,7 +231,7 @@ counts-all (o ∷ os) =
 
 -- no line is empty
 pub log_line-some : (p : Patch) (o : Outcome) → 0 < length (log_line p o)
-unfolding log_line
+unfolding outcome_line
 log_line-some p o =
     omega (
       arith,

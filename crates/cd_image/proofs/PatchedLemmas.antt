@@ -8,7 +8,7 @@ use Rattle.cd_code.specs.Field.{AreBytes}
 use Rattle.cd_script.specs.Patch.{IsPatch}
 use Rattle.cd_patch.specs.BySector.{IsSector}
 use Rattle.cd_patch.specs.Sequence.{PatchSequence}
-use Rattle.cd_script.specs.declared.patch.Patch.{Patch}
+use Rattle.cd_script.specs.PatchForm.{Patch}
 use Rattle.cd_patch.specs.declared.outcome.Outcome.{Outcome}
 use Rattle.cd_code.proofs.ByteLemmas.{AreBytes-drop, AreBytes-take}
 use Rattle.cd_patch.specs.declared.outcome.Outcome.TheVariants.{Damaged}

@@ -1,7 +1,7 @@
 -- The log of patches: a line for each, then their counts.
 use Rattle.std.specs.Prelude.{ℕ, ◌+◌, ◌-◌, ◌*◌, ◌/◌, nat_lt, not, if◌then◌else◌, List, [], ◌∷◌}
 use Rattle.std.specs.Prelude.{◌++◌, length, count_by, codes, decimal}
-use Rattle.cd_script.specs.declared.patch.Patch.{Patch}
+use Rattle.cd_script.specs.PatchForm.{Patch}
 use Rattle.cd_sector.specs.declared.sector.TheConstants.{SECTOR_SIZE}
 use Rattle.cd_patch.specs.Outcome.{is_applied}
 use Rattle.cd_patch.specs.declared.outcome.Outcome.{Outcome}
@@ -21,9 +21,13 @@ outcome_text (Differs block offset) =
     ++ decimal offset
 
 -- the line of a patch, by the number of its line in the script
-unfoldable pub log_line : Patch → Outcome → List ℕ
-log_line p outcome =
-    codes "line " ++ decimal p.line ++ codes ": " ++ outcome_text outcome ++ codes "\n"
+unfoldable pub outcome_line : ℕ → Outcome → List ℕ
+outcome_line number outcome =
+    codes "line " ++ decimal number ++ codes ": " ++ outcome_text outcome ++ codes "\n"
+
+-- the same of a patch
+abbrev pub log_line : Patch → Outcome → List ℕ
+log_line p outcome = outcome_line p.line outcome
 
 -- a line for each patch
 abbrev pub log_lines : List Patch → List Outcome → List ℕ
@@ -32,8 +36,8 @@ log_lines (p ∷ ps) [] = []
 log_lines (p ∷ ps) (o ∷ os) = log_line p o ++ log_lines ps os
 
 -- the last line: how many were accepted, and how many refused
-unfoldable pub log_end : ℕ → ℕ → List ℕ
-log_end applied refused =
+unfoldable pub counts_line : ℕ → ℕ → List ℕ
+counts_line applied refused =
     codes "applied " ++ decimal applied ++ codes " refused " ++ decimal refused ++ codes "\n"
 
 -- how many patches were accepted
@@ -46,7 +50,7 @@ refused_count os = count_by (λ o. not (is_applied o)) os
 
 -- the whole log
 unfoldable pub log_text : List Patch → List Outcome → List ℕ
-log_text ps os = log_lines ps os ++ log_end (applied_count os) (refused_count os)
+log_text ps os = log_lines ps os ++ counts_line (applied_count os) (refused_count os)
 
 -- the counts of the outcomes, of the image's sectors, and of the bytes of its tail
 abbrev pub patch_tally : List ℕ → List Outcome → Tally

@@ -43,4 +43,4 @@ pub use cd_stream::{
     SliceSource, Source, SourceFailed, ToWrite, ZeroSource, fill_buffer, write_all,
 };
 pub use laws::{patched_carries, patched_exists, patched_is_determined};
-pub use patch_log::Tally;
+pub use patch_log::{Tally, counts_line, outcome_line};

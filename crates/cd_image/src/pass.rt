@@ -6,7 +6,7 @@ ghost use Rattle.std.specs.Prelude.{All, Bool, List, None, OnOk, IfOk, IfSome, I
 ghost use Rattle.std.specs.Prelude.{drop, if◌then◌else◌, length, slice_get, take};
 ghost use Rattle.cd_script.specs.Limits.{patch_limit};
 ghost use Rattle.cd_script.specs.Patch.{IsPatch, IsPatchList};
-ghost use Rattle.cd_script.specs.declared.patch.Patch.{Patch};
+ghost use Rattle.cd_script.specs.PatchForm.{Patch as ThePatch};
 ghost use Rattle.cd_patch.specs.Blocks.{block_limit, blocks_met};
 ghost use Rattle.cd_stream.specs.Stream.{CanCountFailure, Incoming, Outgoing};
 ghost use Rattle.cd_stream.specs.Transfer.{Flushes};
@@ -63,7 +63,7 @@ impl Pass {
         requires few { self.old.sectors ≤ sector_limit }
         requires room { length self.old.window.sectors < block_limit }
         requires unended { self.old.window.tail ≡ None }
-        ensures goes { (carry : Bool) (taken left : List Patch) (base : ℕ) (start : Streams)
+        ensures goes { (carry : Bool) (taken left : List ThePatch) (base : ℕ) (start : Streams)
             (out log : Outgoing)
             → HoldsInvariant carry taken left base start (streams (I.seen image.old) out log)
             self.old
@@ -84,7 +84,7 @@ impl Pass {
         requires countable { CanCountFailure (O.seen out.old).failures }
         requires small { self.old.block < 4294967295 }
         requires some { 0 < length self.old.window.sectors }
-        ensures goes { (carry : Bool) (taken left : List Patch) (base : ℕ) (start : Streams)
+        ensures goes { (carry : Bool) (taken left : List ThePatch) (base : ℕ) (start : Streams)
             (image : Incoming) (log : Outgoing)
             → All (λ p. self.old.block < p.block) left
             → HoldsInvariant carry taken left base start (streams image (O.seen out.old) log)
@@ -113,7 +113,7 @@ impl Pass {
             ⊎ IsSome self.old.window.tail }
         requires few { self.old.decided < patch_limit }
         requires small { self.old.applied ≤ self.old.decided }
-        ensures goes { (taken left : List Patch) (base : ℕ) (start : Streams)
+        ensures goes { (taken left : List ThePatch) (base : ℕ) (start : Streams)
             (image : Incoming) (out : Outgoing)
             → HoldsInvariant carry taken (patch.now ∷ left) base start
             (streams image out (L.seen log.old)) self.old
@@ -134,7 +134,7 @@ impl Pass {
     fn patch_at_front<'a>(&self, patches: &'a [Patch]) -> Option<&'a Patch>
         ensures some { IfSome result (λ p. (slice_get patches.now self.now.decided ≡ Some p.now)
             × (p.now.block ≡ self.now.block)) }
-        ensures none { IfNone result ((p : Patch)
+        ensures none { IfNone result ((p : ThePatch)
             → slice_get patches.now self.now.decided ≡ Some p → p.block ≢ self.now.block) }
     {
         match patches.get(self.decided) {

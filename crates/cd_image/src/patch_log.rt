@@ -4,13 +4,13 @@ ghost use Rattle.std.specs.Prelude.{◌≡◌, ◌+◌, ◌<◌, ◌≤◌, ◌+
 ghost use Rattle.cd_stream.specs.Transfer.{Flushes, Sends};
 ghost use Rattle.cd_read.specs.declared.fault.Fault.TheVariants.{Log};
 ghost use Rattle.cd_image.specs.Passing.{missing_outcomes};
-ghost use Rattle.cd_image.specs.PatchLog.{log_end, log_line, log_lines, outcome_text};
+ghost use Rattle.cd_image.specs.PatchLog.{counts_line, log_line, log_lines, outcome_line, outcome_text};
 ghost use Rattle.cd_stream.specs.Stream.{CanCountFailure};
 
 use cd_patch::Outcome;
 use cd_read::Fault;
 use cd_script::Patch;
-use cd_stream::{Line, Sink, SinkFailed, write_all};
+use cd_stream::{LINE_SIZE, Line, Sink, SinkFailed, write_all};
 
 /// What became of the patches of a script, and what the image is.
 #[derive(Clone, Copy, Debug, PartialEq, Eq)]
@@ -76,8 +76,32 @@ fn push_outcome(line: &mut Line, outcome: Outcome)
     }
 }
 
-/// Writes `line L: OUTCOME`, the line of a patch.
-#[tactic(auto, unfolding(crate::specs::PatchLog::log_line))]
+/// `line L: OUTCOME`, the log's line of the patch in line `number` of a script.
+///
+/// # Examples
+///
+/// ```
+/// let line = outcome_line(3, Outcome::Applied);
+/// assert_eq!(rt; line.as_slice(), b"line 3: applied\n".as_slice());
+/// let last = counts_line(0, 1);
+/// assert_eq!(rt; last.as_slice(), b"applied 0 refused 1\n".as_slice());
+/// ```
+#[tactic(auto, unfolding(crate::specs::PatchLog::outcome_line))]
+pub fn outcome_line(number: u32, outcome: Outcome) -> Line
+    ensures line { result ≡ outcome_line number outcome }
+    ensures some { 0 < length result }
+    ensures room { length result ≤ LINE_SIZE }
+{
+    let mut line = Line::new();
+    line.push_text(b"line ");
+    line.push_number(number);
+    line.push_text(b": ");
+    push_outcome(&mut line, outcome);
+    line.push_text(b"\n");
+    line
+}
+
+/// Writes the line of a patch.
 pub(crate) fn send_outcome<L: Sink>(
     patch: &Patch,
     outcome: Outcome,
@@ -86,13 +110,7 @@ pub(crate) fn send_outcome<L: Sink>(
     requires { CanCountFailure (L.seen log.old).failures }
     ensures { Sends (L.seen log.old) (L.seen log.new) (log_line patch.now outcome) result }
 {
-    let mut line = Line::new();
-    line.push_text(b"line ");
-    line.push_number(patch.line);
-    line.push_text(b": ");
-    push_outcome(&mut line, outcome);
-    line.push_text(b"\n");
-    Ok(write_all(log, line.as_slice())?)
+    Ok(write_all(log, outcome_line(patch.line, outcome).as_slice())?)
 }
 
 /// Writes the lines of patches whose first block the image does not have.
@@ -107,19 +125,30 @@ pub(crate) fn send_missing<L: Sink>(patches: &[Patch], log: &mut L) -> Result<()
     Ok(())
 }
 
-/// Writes `applied A refused R`, the last line.
-#[tactic(auto, unfolding(crate::specs::PatchLog::log_end))]
+/// `applied A refused R`, the log's last line.
+///
+/// See the example of [`outcome_line`].
+#[tactic(auto, unfolding(crate::specs::PatchLog::counts_line))]
+pub fn counts_line(applied: u32, refused: u32) -> Line
+    ensures line { result ≡ counts_line applied refused }
+    ensures some { 0 < length result }
+    ensures room { length result ≤ LINE_SIZE }
+{
+    let mut line = Line::new();
+    line.push_text(b"applied ");
+    line.push_number(applied);
+    line.push_text(b" refused ");
+    line.push_number(refused);
+    line.push_text(b"\n");
+    line
+}
+
+/// Writes the last line.
 pub(crate) fn send_counts<L: Sink>(applied: u32, refused: u32, log: &mut L) -> Result<(), LogFailed>
     requires { CanCountFailure (L.seen log.old).failures }
-    ensures { Sends (L.seen log.old) (L.seen log.new) (log_end applied refused) result }
+    ensures { Sends (L.seen log.old) (L.seen log.new) (counts_line applied refused) result }
 {
-    let mut last = Line::new();
-    last.push_text(b"applied ");
-    last.push_number(applied);
-    last.push_text(b" refused ");
-    last.push_number(refused);
-    last.push_text(b"\n");
-    Ok(write_all(log, last.as_slice())?)
+    Ok(write_all(log, counts_line(applied, refused).as_slice())?)
 }
 
 /// Proof step: the flush of the log, whose failure is a `LogFailed`.

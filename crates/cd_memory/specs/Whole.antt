@@ -13,7 +13,7 @@ use Rattle.cd_script.specs.Order.{order}
 use Rattle.cd_script.specs.Script.{script}
 use Rattle.cd_script.specs.declared.fault.ScriptFault.{ScriptFault}
 use Rattle.cd_script.specs.declared.fault.ScriptFault.TheVariants as script_fault
-use Rattle.cd_script.specs.declared.patch.Patch.{Patch}
+use Rattle.cd_script.specs.PatchForm.{Patch}
 use Rattle.cd_patch.specs.declared.outcome.Outcome.{Outcome}
 use Rattle.cd_read.specs.Image.{image_limit}
 use Rattle.cd_read.specs.declared.fault.Fault.TheVariants.{TooLong, Write}

@@ -5,8 +5,7 @@ use Rattle.std.specs.Option.{IfSome}
 use Rattle.std.proofs.lemmas.Bool.{and_right}
 use Rattle.std.proofs.lemmas.List.{get_or-append_right, get_or-drop}
 use Rattle.cd_script.specs.Patch.{IsPatch}
-use Rattle.cd_script.specs.declared.patch.Edit.{Edit}
-use Rattle.cd_script.specs.declared.patch.Patch.{Patch}
+use Rattle.cd_script.specs.PatchForm.{Edit, Patch}
 use Rattle.cd_sector.specs.Carried.{IsCarried}
 use Rattle.cd_sector.specs.Consistent.{IsConsistent, header_of, user_of}
 use Rattle.cd_sector.proofs.CarriedLemmas.{carried_consistent, carried_unique, consistent_carried}

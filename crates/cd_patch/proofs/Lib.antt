@@ -4,6 +4,7 @@ pub mod CarryLemmas
 mod DecidingLemmas
 pub mod ExistenceLemmas
 pub mod FrameLemmas
+mod HandLemmas
 pub mod BySectorLemmas
 pub mod BecomesLemmas
 mod MeaningLemmas

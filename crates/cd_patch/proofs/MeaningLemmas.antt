@@ -12,9 +12,8 @@ use Rattle.cd_code.specs.Field.{AreBytes}
 use Rattle.cd_script.specs.Address.{IsAddress, packed_bcd}
 use Rattle.cd_script.specs.Limits.{offset_limit}
 use Rattle.cd_script.specs.Patch.{IsBytes, IsEditAt, IsPatch}
-use Rattle.cd_script.specs.declared.patch.Edit.{Edit}
 use Rattle.cd_script.specs.declared.patch.Edit.TheVariants.{Put, Fill, Rebuild, Address}
-use Rattle.cd_script.specs.declared.patch.Patch.{Patch}
+use Rattle.cd_script.specs.PatchForm.{Edit, Patch}
 use Rattle.cd_sector.specs.declared.sector.TheConstants.{USER_SIZE}
 use Rattle.cd_patch.specs.Blocks.{block_limit}
 use Rattle.cd_patch.specs.EditMeaning.{EditMeaning, meaning}

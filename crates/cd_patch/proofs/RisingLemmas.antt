@@ -4,7 +4,7 @@ use Rattle.std.specs.List.{All}
 use Rattle.std.specs.List.Sorted.{IsNonDecreasingBy}
 use Rattle.std.proofs.lemmas.Bool.{cases_lt}
 use Rattle.std.proofs.lemmas.List.Elements.{All-cons}
-use Rattle.cd_script.specs.declared.patch.Patch.{Patch}
+use Rattle.cd_script.specs.PatchForm.{Patch}
 
 pub rising-tail : (p : Patch) (ps : List Patch) → IsNonDecreasingBy (λ q. q.block) (p ∷ ps)
     → IsNonDecreasingBy (λ q. q.block) ps

@@ -4,7 +4,7 @@ use Rattle.std.specs.Prelude.{All, not, ◌&&◌, if◌then◌else◌, unwrap_or
 use Rattle.std.proofs.lemmas.List.{get_or_append_left, length-append, length-drop, length-take-le}
 use Rattle.std.proofs.lemmas.Option.{get_or_from_slice_get}
 use Rattle.cd_script.specs.Patch.{IsPatch}
-use Rattle.cd_script.specs.declared.patch.Patch.{Patch}
+use Rattle.cd_script.specs.PatchForm.{Patch}
 use Rattle.cd_sector.specs.Consistent.{IsConsistent, consistent, header_of, is_mode1, user_of}
 use Rattle.cd_sector.specs.Kind.{kind_of}
 use Rattle.cd_delta.specs.Writing.{with_range}

@@ -6,7 +6,7 @@ use Rattle.std.proofs.lemmas.Bool.{and_from, and_left, and_right, cases_lt, cond
 use Rattle.std.proofs.lemmas.Option.{same_Some}
 use Rattle.cd_code.specs.Field.{AreBytes}
 use Rattle.cd_script.specs.Patch.{IsPatch}
-use Rattle.cd_script.specs.declared.patch.Patch.{Patch}
+use Rattle.cd_script.specs.PatchForm.{Patch}
 use Rattle.cd_sector.specs.Consistent.{user_of}
 use Rattle.cd_sector.specs.declared.sector.TheConstants.{USER_SIZE}
 use Rattle.cd_sector.proofs.DefectLemmas.{length-range, range-byte}

@@ -1,7 +1,6 @@
 -- The blocks that a patch meets.
 use Rattle.std.specs.Prelude.{ℕ, ◌+◌, ◌-◌, ◌/◌, nat_lt, if◌then◌else◌, List, length, slice_get, Option, None}
-use Rattle.cd_script.specs.declared.patch.Edit.{Edit}
-use Rattle.cd_script.specs.declared.patch.Patch.{Patch}
+use Rattle.cd_script.specs.PatchForm.{Edit, Patch}
 use Rattle.cd_sector.specs.declared.sector.TheConstants.{USER_SIZE}
 use Rattle.cd_patch.specs.EditMeaning.{new_bytes}
 

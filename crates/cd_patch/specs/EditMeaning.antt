@@ -1,6 +1,6 @@
 -- What each edit means: the one place in which the edits of a script are distinguished.
 use Rattle.std.specs.Prelude.{ℕ, Bool, true, false, not, ◌&&◌, List, [], ◌++◌, drop, replicate, Option, Some, None, unwrap_or}
-use Rattle.cd_script.specs.declared.patch.Edit.{Edit}
+use Rattle.cd_script.specs.PatchForm.{Edit}
 use Rattle.cd_script.specs.declared.patch.Edit.TheVariants.{Put, Fill, Rebuild, Address}
 
 -- what an edit means for the blocks that its patch meets

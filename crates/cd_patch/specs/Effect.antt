@@ -1,8 +1,7 @@
 -- What a patch makes of the sectors, as a relation between those before and those after: it says
 -- what is true of both, and computes no sector. A law says that there is just one result.
 use Rattle.std.specs.Prelude.{◌≡◌, ℕ, ◌+◌, ◌*◌, ◌<◌, ◌≤◌, ◌⊎◌, Bool, true, false, List, length, slice_range, Some}
-use Rattle.cd_script.specs.declared.patch.Edit.{Edit}
-use Rattle.cd_script.specs.declared.patch.Patch.{Patch}
+use Rattle.cd_script.specs.PatchForm.{Edit, Patch}
 use Rattle.cd_sector.specs.Carried.{IsCarried}
 use Rattle.cd_sector.specs.Consistent.{IsConsistent, header_of, user_of}
 use Rattle.cd_sector.specs.declared.sector.TheConstants.{USER_SIZE}

@@ -1,12 +1,13 @@
 -- What follows from the definitions; each law is the contract of a function of `laws.rt`.
-use Rattle.std.specs.Prelude.{◌≡◌, ℕ, ◌+◌, ◌≤◌, ◌≢◌, Bool, true, false, List, All, take, slice_get, Some}
+use Rattle.std.specs.Prelude.{◌≡◌, ◌↔◌, ℕ, ◌+◌, ◌≤◌, ◌≢◌, Bool, true, false, List, All, take, slice_get, Some}
 use Rattle.std.specs.List.Sorted.{IsNonDecreasingBy}
 use Rattle.cd_script.specs.Patch.{IsPatch}
-use Rattle.cd_script.specs.declared.patch.Patch.{Patch}
+use Rattle.cd_script.specs.PatchForm.{Patch}
 use Rattle.cd_patch.specs.Blocks.{block_limit}
 use Rattle.cd_patch.specs.Deciding.{outcome}
 use Rattle.cd_patch.specs.Effect.{Effect}
 use Rattle.cd_patch.specs.BySector.{IsSector, LeavesOthers}
+use Rattle.cd_patch.specs.Hand.{HandSequence, hand, put_back}
 use Rattle.cd_patch.specs.Sequence.{PatchSequence}
 use Rattle.cd_patch.specs.declared.outcome.Outcome.{Outcome}
 use Rattle.cd_patch.specs.declared.outcome.Outcome.TheVariants.{Applied, Damaged}
@@ -53,6 +54,24 @@ LeavesOne =
     (carry : Bool) (ps : List Patch) (os : List Outcome) (base : ℕ) (old last last' : List (List ℕ))
     → LeavesOthers carry ps os base old last → LeavesOthers carry ps os base old last'
     → last ≡ last'
+
+-- ---- the hand stands for the image
+
+-- a patch has on its hand the outcome that it has on the image, and what it leaves there, put back,
+-- is what it makes of the image
+abbrev pub HandStandsForImage : Type 0
+HandStandsForImage =
+    (carry : Bool) (base : ℕ) (p : Patch) (sectors changed : List (List ℕ)) → IsPatch p
+    → (outcome carry (hand sectors base p.block) p.block p ≡ outcome carry sectors base p)
+    × (Effect carry p.block p (hand sectors base p.block) changed
+    → Effect carry base p sectors (put_back sectors base p.block changed))
+
+-- patches taken hand by hand are a run, and each run can be taken so
+abbrev pub HandSequenceIsRun : Type 0
+HandSequenceIsRun =
+    (carry : Bool) (ps : List Patch) (os : List Outcome) (base : ℕ) (old last : List (List ℕ))
+    → All IsPatch ps
+    → HandSequence carry ps os base old last ↔ PatchSequence carry ps os base old last
 
 -- ---- if there is nothing to carry
 

@@ -3,6 +3,7 @@ pub mod Blocks
 pub mod Deciding
 pub mod Effect
 pub mod Sequence
+pub mod Hand
 pub mod Outcome
 pub mod BySector
 pub mod Laws

@@ -1,6 +1,6 @@
 -- A run: patches taken one after the other, each on the sectors as the earlier ones leave them.
 use Rattle.std.specs.Prelude.{◌≡◌, ℕ, Bool, List, [], ◌∷◌}
-use Rattle.cd_script.specs.declared.patch.Patch.{Patch}
+use Rattle.cd_script.specs.PatchForm.{Patch}
 use Rattle.cd_patch.specs.Deciding.{outcome}
 use Rattle.cd_patch.specs.Effect.{Effect}
 use Rattle.cd_patch.specs.declared.outcome.Outcome.{Outcome}

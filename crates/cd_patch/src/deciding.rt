@@ -11,12 +11,17 @@ ghost use Rattle.cd_patch.specs.declared.outcome.Outcome.TheVariants.{Applied};
 
 use crate::edits::meaning;
 use crate::outcome::Outcome;
-use cd_script::Patch;
+use cd_script::{LentBytes, Patch};
 use cd_sector::{Sector, SectorKind, USER_SIZE, is_consistent, kind};
 
 /// Decides a patch, which meets `count` blocks, on the sectors from its first block on; damage may
 /// be carried.
-pub(crate) fn decide(sectors: &[Sector], patch: &Patch, count: usize, carry: bool) -> Outcome
+pub(crate) fn decide(
+    sectors: &[Sector],
+    patch: &Patch<LentBytes<'_>>,
+    count: usize,
+    carry: bool,
+) -> Outcome
     requires patch { IsPatch patch.now }
     requires count { count ≡ blocks_met patch.now }
     requires few { count ≤ block_limit }

@@ -6,7 +6,7 @@ ghost use Rattle.cd_patch.specs.Blocks.{block_limit, blocks_met, blocks_spanned}
 ghost use Rattle.cd_patch.specs.EditMeaning.{meaning};
 ghost use Rattle.cd_patch.specs.Parts.{bytes_to_write};
 
-use cd_script::{Edit, Patch};
+use cd_script::{Edit, LentBytes, Patch, lend};
 use cd_sector::USER_SIZE;
 
 /// How many blocks a patch may meet: 4096 bytes lie in at most three, from any offset on.
@@ -64,7 +64,7 @@ const NOTHING: EditMeaning<'static> = EditMeaning {
 };
 
 /// The meaning of an edit: a row for each.
-pub(crate) fn meaning(edit: &Edit) -> EditMeaning<'_>
+pub(crate) fn meaning<'a>(edit: &Edit<LentBytes<'a>>) -> EditMeaning<'a>
     ensures bytes { bytes_to_write result.bytes ≡ (meaning edit.now).bytes }
     ensures old { result.old.now ≡ (meaning edit.now).old }
     ensures address { result.address ≡ (meaning edit.now).address }
@@ -110,6 +110,16 @@ pub fn blocks_met(patch: &Patch) -> usize
     ensures some { 1 ≤ result }
     ensures few { result ≤ block_limit }
     ensures limit { MAX_BLOCKS_MET ≡ block_limit }
+{
+    blocks_met_lent(&lend(patch))
+}
+
+/// As [`blocks_met`], of a patch whose bytes are borrowed.
+pub(crate) fn blocks_met_lent(patch: &Patch<LentBytes<'_>>) -> usize
+    requires { IsPatch patch.now }
+    ensures number { result ≡ blocks_met patch.now }
+    ensures some { 1 ≤ result }
+    ensures few { result ≤ block_limit }
 {
     blocks_spanned(patch.offset, meaning(&patch.edit).bytes.len())
 }

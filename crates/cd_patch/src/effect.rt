@@ -16,10 +16,10 @@ ghost use Rattle.cd_patch.specs.Effect.{Becomes, Effect};
 ghost use Rattle.cd_patch.specs.Parts.{EachBecomes, HasPart, IsPart, bytes_to_write};
 
 use crate::deciding::{decide, lemma_user_size};
-use crate::edits::{NewBytes, blocks_met, meaning};
+use crate::edits::{NewBytes, blocks_met_lent, meaning};
 use crate::outcome::Outcome;
 use cd_delta::{carry_header, carry_user, change_header, change_user};
-use cd_script::Patch;
+use cd_script::{LentBytes, Patch, lend};
 use cd_sector::{Sector, USER_SIZE, rebuild};
 
 /// Decides a patch on the sectors from its first block on: as many as the image has, or
@@ -42,7 +42,32 @@ pub fn apply_patch(sectors: &mut [Sector], patch: &Patch, carry: bool) -> Outcom
     ensures outcome { result ≡ outcome carry sectors.old patch.now.block patch.now }
     ensures effect { Effect carry patch.now.block patch.now sectors.old sectors.new }
 {
-    let count = blocks_met(patch);
+    apply_lent(sectors, &lend(patch), carry)
+}
+
+/// As [`apply_patch`], of a patch whose bytes are borrowed: for a caller without memory of its own.
+///
+/// # Examples
+///
+/// ```
+/// let bytes = LentBytes::new(b"A");
+/// let patch = Patch {
+///     line: 2,
+///     block: 0,
+///     offset: 0,
+///     edit: Edit::Put { bytes, was: None },
+/// };
+/// let mut sectors = [encode([0x00, 0x02, 0x00], &[0x00; USER_SIZE])]; // block 0
+/// if is_patch(&patch) {
+///     assert_eq!(rt; apply_lent(&mut sectors, &patch, false), Outcome::Applied);
+/// }
+/// ```
+pub fn apply_lent(sectors: &mut [Sector], patch: &Patch<LentBytes<'_>>, carry: bool) -> Outcome
+    requires { IsPatch patch.now }
+    ensures outcome { result ≡ outcome carry sectors.old patch.now.block patch.now }
+    ensures effect { Effect carry patch.now.block patch.now sectors.old sectors.new }
+{
+    let count = blocks_met_lent(patch);
     let outcome = decide(sectors, patch, count, carry);
     if outcome.is_applied() {
         change_blocks(&mut sectors[..count], patch, carry);
@@ -51,7 +76,7 @@ pub fn apply_patch(sectors: &mut [Sector], patch: &Patch, carry: bool) -> Outcom
 }
 
 /// Changes the sectors that an accepted patch meets.
-fn change_blocks(sectors: &mut [Sector], patch: &Patch, carry: bool)
+fn change_blocks(sectors: &mut [Sector], patch: &Patch<LentBytes<'_>>, carry: bool)
     requires patch { IsPatch patch.now }
     requires met { length sectors.old ≡ blocks_met patch.now }
     requires mode { All (λ s. kind_of s ≡ Mode1) sectors.old }
@@ -69,7 +94,7 @@ fn change_blocks(sectors: &mut [Sector], patch: &Patch, carry: bool)
 /// Changes the sector at number `k` among those that an accepted patch meets. User data and
 /// addresses are written by differences; a rebuild encodes the sector, since a damaged sector's
 /// parity may be wrong too. Both give the one consistent sector.
-fn change_sector(sector: &mut Sector, k: usize, patch: &Patch, carry: bool)
+fn change_sector(sector: &mut Sector, k: usize, patch: &Patch<LentBytes<'_>>, carry: bool)
     requires patch { IsPatch patch.now }
     requires met { k < blocks_met patch.now }
     requires mode { kind_of sector.old ≡ Mode1 }

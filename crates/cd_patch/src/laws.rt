@@ -1,6 +1,6 @@
 //! Laws of the definitions, each the contract of a function that does nothing.
 
-ghost use Rattle.cd_patch.specs.Laws.{LeavesOne, NeverDamaged, NothingToCarry, SequenceExists, SequenceIsDetermined, SequenceLeavesOthers, SequencesAgree};
+ghost use Rattle.cd_patch.specs.Laws.{HandSequenceIsRun, HandStandsForImage, LeavesOne, NeverDamaged, NothingToCarry, SequenceExists, SequenceIsDetermined, SequenceLeavesOthers, SequencesAgree};
 
 /// A run's outcomes and last sectors follow from the patches and the sectors.
 pub fn sequence_is_determined()
@@ -29,6 +29,19 @@ pub fn sequence_leaves_others()
 /// the run.
 pub fn leaves_one()
     ensures { LeavesOne }
+{}
+
+/// A patch's hand is the sectors from its first block on: as many as the image has, and at most
+/// `MAX_BLOCKS_MET`. There the patch has the outcome that it has on the image, and if the sectors
+/// that it leaves are put back, they make the image that it leaves.
+pub fn hand_stands_for_image()
+    ensures { HandStandsForImage }
+{}
+
+/// Patches that are taken in order, each on its hand of what the earlier ones left, are a run on
+/// the image if each hand is put back, and each run can be made so.
+pub fn hand_sequence_is_run()
+    ensures { HandSequenceIsRun }
 {}
 
 /// A patch that is accepted if no damage is carried is accepted if it is, and makes equal sectors.

@@ -25,9 +25,9 @@ mod laws;
 mod outcome;
 
 pub use edits::{MAX_BLOCKS_MET, blocks_met};
-pub use effect::apply_patch;
+pub use effect::{apply_lent, apply_patch};
 pub use laws::{
-    leaves_one, never_damaged, nothing_to_carry, sequence_exists, sequence_is_determined,
-    sequence_leaves_others, sequences_agree,
+    hand_sequence_is_run, hand_stands_for_image, leaves_one, never_damaged, nothing_to_carry,
+    sequence_exists, sequence_is_determined, sequence_leaves_others, sequences_agree,
 };
 pub use outcome::Outcome;

@@ -6,7 +6,7 @@ use Rattle.cd_stream.specs.declared.sink.SinkFailed.{SinkFailed}
 use Rattle.cd_read.specs.declared.fault.Fault.{Fault}
 use Rattle.cd_read.specs.declared.fault.Fault.TheVariants.{Log, Read, TooLong, Write}
 use Rattle.cd_stream.proofs.TransferLemmas.{Takes-flushed}
-use Rattle.cd_script.specs.declared.patch.Patch.{Patch}
+use Rattle.cd_script.specs.PatchForm.{Patch}
 use Rattle.cd_image.specs.Applying.{Applies, AppliesBy, Streams}
 use Rattle.cd_report.specs.Report.{ReportAnswers, Reports, ReportSpec}
 use Rattle.cd_program.specs.Commands.{PrintsLine}

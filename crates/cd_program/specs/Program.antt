@@ -15,7 +15,7 @@ use Rattle.cd_read.specs.declared.fault.Fault.TheVariants.{Log, Write}
 use Rattle.cd_script.specs.Order.{order}
 use Rattle.cd_script.specs.Script.{script}
 use Rattle.cd_script.specs.declared.fault.ScriptFault.{ScriptFault}
-use Rattle.cd_script.specs.declared.patch.Patch.{Patch}
+use Rattle.cd_script.specs.PatchForm.{Patch}
 use Rattle.cd_stream.specs.Stream.{Incoming, Outgoing}
 use Rattle.cd_stream.specs.Transfer.{Flushes, Gives}
 use Rattle.cd_stream.specs.declared.sink.SinkFailed.{SinkFailed}

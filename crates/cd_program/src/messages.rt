@@ -1,13 +1,13 @@
 //! The lines that the program itself prints, each with its line feed. One more is
 //! `cd_args::NO_MEMORY`.
 
-ghost use Rattle.std.specs.Prelude.{◌≡◌, ◌≤◌, length};
+ghost use Rattle.std.specs.Prelude.{◌≡◌, ◌<◌, ◌≤◌, length};
 ghost use Rattle.cd_program.specs.Messages.{fault_line, load_fault_line, numbered_line, open_fault_line, script_fault_line, too_many};
 
 use crate::host::OpenFault;
 use crate::script::LoadFault;
 use cd_args::NO_MEMORY;
-use cd_image::{Fault, Line};
+use cd_image::{Fault, LINE_SIZE, Line};
 use cd_script::{MAX_PATCHES, ScriptFault};
 
 /// There is no file of a script, or a read of it failed.
@@ -71,7 +71,9 @@ pub(crate) fn fault_line(fault: Fault) -> &'static str
 #[tactic(auto, unfolding(crate::specs::Messages::numbered_line))]
 fn numbered_line(number: u32, text: &[u8]) -> Line
     requires { length text.now ≤ 40 }
-    ensures { result ≡ numbered_line number text.now }
+    ensures line { result ≡ numbered_line number text.now }
+    ensures some { 0 < length result }
+    ensures room { length result ≤ LINE_SIZE }
 {
     let mut line = Line::new();
     line.push_text(b"script line ");
@@ -95,10 +97,19 @@ fn too_many() -> Line
     text
 }
 
-/// The line of a script's fault.
+/// The line of a script's fault, with the number of the script's line that has it.
+///
+/// # Examples
+///
+/// ```
+/// let line = script_fault_line(ScriptFault::Hex(3));
+/// assert_eq!(rt; line.as_slice(), b"script line 3: bad hex\n".as_slice());
+/// ```
 #[tactic(auto, unfolding(crate::specs::Messages::script_fault_line))]
-pub(crate) fn script_fault_line(fault: ScriptFault) -> Line
-    ensures { result ≡ script_fault_line fault }
+pub fn script_fault_line(fault: ScriptFault) -> Line
+    ensures line { result ≡ script_fault_line fault }
+    ensures some { 0 < length result }
+    ensures room { length result ≤ LINE_SIZE }
 {
     match fault {
         ScriptFault::Head(line) => numbered_line(line, b"no cdpatch 1 line"),

@@ -6,7 +6,7 @@ ghost use Rattle.cd_script.specs.Order.{order};
 ghost use Rattle.cd_script.specs.Script.{script};
 ghost use Rattle.cd_script.specs.Limits.{text_limit};
 ghost use Rattle.cd_script.specs.declared.fault.ScriptFault.{ScriptFault};
-ghost use Rattle.cd_script.specs.declared.patch.Patch.{Patch};
+ghost use Rattle.cd_script.specs.PatchForm.{Patch as ThePatch};
 ghost use Rattle.cd_program.specs.Messages.{script_fault_line};
 ghost use Rattle.cd_program.specs.Commands.{PrintsLine};
 ghost use Rattle.cd_program.specs.ScriptLines.{Gathers, IsFaultOf, Loads, PrintsFailedReads};
@@ -73,7 +73,7 @@ impl From<AllocError> for LoadFault {
 pub fn read_script<L: Sink>(alloc: Global, text: &[u8], log: &mut L) -> Result<Script, u8>
     requires size { length text.now ≤ text_limit }
     requires countable { CanCountFailure (L.seen log.old).failures }
-    ensures script { IfOk result (λ s. (ps : List Patch) × (script text.now ≡ Ok ps)
+    ensures script { IfOk result (λ s. (ps : List ThePatch) × (script text.now ≡ Ok ps)
         × (s ≡ order ps)) }
     ensures nothing_printed { OnOk result (L.seen log.new ≡ L.seen log.old) }
     ensures status { IfErr result (λ status. status ≡ failed_status) }

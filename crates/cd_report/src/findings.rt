@@ -12,9 +12,9 @@ ghost use Rattle.cd_stream.specs.Stream.{CanCountFailure};
 use cd_sector::{DefectReport, Sector, SectorKind, address_of, defect, kind};
 use cd_stream::{LINE_SIZE, Line, Sink, SinkFailed, write_all};
 
-/// What is found of a Mode 1 sector.
+/// What is found of a Mode 1 sector (ECMA-130, 14 and Annex A).
 #[derive(Clone, Copy, Debug, PartialEq, Eq)]
-pub(crate) struct Findings {
+pub struct Findings {
     /// The header's address is another than that of the block.
     pub address: bool,
     /// What is wrong with the sector.
@@ -44,8 +44,16 @@ fn report_of(sector: &Sector) -> DefectReport
 }
 
 /// Whether the header does not begin with the address of the block; a block without one is not
-/// compared.
-fn has_other_address(sector: &Sector, block: u32) -> bool
+/// compared (ECMA-130, 14).
+///
+/// # Examples
+///
+/// ```
+/// let sector = encode([0x00, 0x02, 0x16], &[0x00; USER_SIZE]); // its address is that of block 16
+/// assert!(rt; !has_other_address(&sector, 16));
+/// assert!(rt; has_other_address(&sector, 17));
+/// ```
+pub fn has_other_address(sector: &Sector, block: u32) -> bool
     ensures { result ≡ is_other_address (address block) (header_of sector.now) }
 {
     match address_of(block) {

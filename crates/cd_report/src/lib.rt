@@ -30,6 +30,7 @@ mod scan;
 
 pub use auditing::{AuditTally, audit};
 use cd_sector::MAX_BLOCK;
+pub use findings::{Findings, has_other_address};
 pub use laws::{audit_counts_lines, runs_spell_kinds};
 pub use listing::{ListTally, list};
 

@@ -6,6 +6,8 @@ pub mod LineLemmas
 pub mod OrderLemmas
 pub mod PatchLemmas
 pub mod ParseLemmas
+pub mod ByLineLemmas
+pub mod CuttingLemmas
 pub mod SpellingLemmas
 pub mod SplitLemmas
 pub mod VersionLemmas

@@ -1,6 +1,6 @@
 -- Lines, read one after the other as a loop does.
 use Rattle.std.proofs.Common.{◌≡◌, ℕ, ◌+◌, ◌≤◌, true, false, List, [], ◌∷◌, ◌++◌, length, take, Option, Some, None, Result, Ok, Err, refl, subst, sym, ap, ◌∙◌, arith}
-use Rattle.std.specs.Prelude.{is_some, option_map, IsOk}
+use Rattle.std.specs.Prelude.{is_some, IsOk}
 use Rattle.std.specs.Int.{from_bool}
 use Rattle.std.specs.List.{cons_option}
 use Rattle.std.specs.Option.{option_to_list}
@@ -8,26 +8,19 @@ use Rattle.std.specs.Result.{result_err}
 use Rattle.std.proofs.lemmas.List.{append-nil, append_assoc}
 use Rattle.cd_script.specs.declared.fault.ScriptFault.{ScriptFault}
 use Rattle.cd_script.specs.declared.fault.ScriptFault.TheVariants.{Head}
-use Rattle.cd_script.specs.declared.patch.Patch.{Patch}
+use Rattle.cd_script.specs.PatchForm.{Patch}
 use Rattle.cd_script.specs.declared.version.Version.{Version}
 use Rattle.cd_script.specs.Line.{patch_by}
-use Rattle.cd_script.specs.FirstFault.{◌>>=◌, AnswersAs}
+use Rattle.cd_script.specs.FirstFault.{◌>>=◌}
 use Rattle.cd_script.specs.Script.{at_limit, is_passed_over, head_version, line_at, patches_after, patches_from, script_from}
 use Rattle.cd_script.specs.Words.{words}
 use Rattle.cd_script.proofs.WordLemmas.{is_passed_over-take, head_version-take, patch_by-take}
 
--- what was answered for a reading is what was answered for the same
-pub Reads-same : {X Y : Type 0} (view : X → Y) (r : Result X ScriptFault)
-    (read same : Result Y ScriptFault) → same ≡ read → AnswersAs view r read → AnswersAs view r same
-Reads-same view (Ok x) read same e h = e ∙ h
-Reads-same view (Err f) read same e h = e ∙ h
-
 -- if a reading has no fault, neither has what was answered for it
-pub reads_ok : {X Y : Type 0} (view : X → Y) (r : Result X ScriptFault)
-    (read : Result Y ScriptFault) → AnswersAs view r read
+pub reads_ok : {X : Type 0} (r read : Result X ScriptFault) → r ≡ read
     → ((e : ScriptFault) → read ≡ Err e → ⊥) → IsOk r
-reads_ok view (Ok x) read h sound = refl
-reads_ok view (Err e) read h sound = absurd (sound e h)
+reads_ok (Ok x) read h sound = refl
+reads_ok (Err e) read h sound = absurd (sound e (sym h))
 
 -- ---- one line, of which the first seven words were found
 
@@ -144,10 +137,10 @@ fault_none version line earlier all none =
     ap (λ (ls : List (List ℕ)). result_err (patches_from version line earlier ls)) none
 
 -- one more if a line has a patch
-pub counted : {X Y : Type 0} (f : X → Y) (found : Option X)
-    → from_bool (is_some found) ≡ length (option_to_list (option_map f found))
-counted f None = refl
-counted f (Some x) = refl
+pub counted : {X : Type 0} (found : Option X)
+    → from_bool (is_some found) ≡ length (option_to_list found)
+counted None = refl
+counted (Some x) = refl
 
 pub counted-most : {X : Type 0} (found : Option X) → length (option_to_list found) ≤ 1
 counted-most None = omega arith

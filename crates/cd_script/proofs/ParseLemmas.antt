@@ -9,7 +9,7 @@ use denote.Ref.{Bor}
 use Rattle.std.specs.Fn.{Called, ComputesKey, Mut}
 use Rattle.bstr.specs.Text.{lines_of, without_terminator}
 use Rattle.cd_script.specs.declared.fault.ScriptFault.{ScriptFault}
-use Rattle.cd_script.specs.declared.patch.Patch.{Patch}
+use Rattle.cd_script.specs.PatchForm.{Patch}
 use Rattle.cd_script.specs.declared.version.Version.{Version}
 use Rattle.cd_script.specs.declared.patch.Edit.TheVariants.{Rebuild}
 use Rattle.cd_script.specs.Order.{order, stands_in}

@@ -6,7 +6,7 @@ use Rattle.std.specs.Option.{option_to_list}
 use Rattle.std.proofs.lemmas.Bool.Decides.{nat_tests}
 use Rattle.std.proofs.lemmas.List.Elements.{All-nil, All-cons}
 use Rattle.std.proofs.lemmas.Result.{IfOk-at_ok}
-use Rattle.cd_script.specs.declared.patch.Patch.{Patch}
+use Rattle.cd_script.specs.PatchForm.{Patch}
 use Rattle.cd_script.specs.declared.version.Version.{Version}
 use Rattle.cd_script.specs.Limits.{patch_limit}
 use Rattle.cd_script.specs.Line.{set_patch, set_if_patch, fill_patch, rebuild_patch, address_patch, patch_at, patch_by}
@@ -67,7 +67,7 @@ patch_by-patch version line ws = grind
 
 -- ---- the lines
 
-line_at-patch : (version : Version) (line earlier : ℕ) (text : List ℕ)
+pub line_at-patch : (version : Version) (line earlier : ℕ) (text : List ℕ)
     → IfOk (line_at version line earlier text)
     (λ found. IfSome found (λ p. IsPatch p × (earlier < patch_limit)))
 unfolding line_at

@@ -38,3 +38,9 @@ pub record IsAddress (bytes : List ℕ) : Type 0 where
   pub is_second : second < second_limit
   pub is_fraction : fraction < fraction_limit
   pub are : bytes ≡ packed_bcd minute ∷ packed_bcd second ∷ packed_bcd fraction ∷ []
+
+-- the byte is a number below a limit, in BCD
+pub record IsBcd (limit byte : ℕ) : Type 0 where
+  pub number : ℕ
+  pub below : number < limit
+  pub is : byte ≡ packed_bcd number

@@ -1,3 +1,4 @@
+pub mod PatchForm
 pub mod Limits
 pub mod Patch
 pub mod Number
@@ -7,8 +8,8 @@ pub mod Address
 pub mod FirstFault
 pub mod Value
 pub mod Line
-pub mod HexPatch
 pub mod Order
 pub mod Script
+pub mod ByLine
 pub mod Spelling
 pub mod Versions

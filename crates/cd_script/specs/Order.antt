@@ -1,7 +1,7 @@
 -- The order in which patches are applied.
 use Rattle.std.specs.Prelude.{◌≡◌, ℕ, ◌==◌, nat_le, Bool, List, [], ◌∷◌, filter, if◌then◌else◌}
 use Rattle.std.specs.List.Sorted.{IsNonDecreasingBy, IsPermutation}
-use Rattle.cd_script.specs.declared.patch.Patch.{Patch}
+use Rattle.cd_script.specs.PatchForm.{Patch}
 
 -- p before the first patch whose block is not below its own, at the end if there is none
 unfoldable pub insert_patch : Patch → List Patch → List Patch

@@ -1,8 +1,7 @@
 -- The limits that each patch of a script keeps.
 use Rattle.std.specs.Prelude.{◌≡◌, ℕ, ◌<◌, ◌≤◌, List, length, All, IfSome}
 use Rattle.std.specs.List.Sorted.{IsNonDecreasingBy}
-use Rattle.cd_script.specs.declared.patch.Patch.{Patch}
-use Rattle.cd_script.specs.declared.patch.Edit.{Edit}
+use Rattle.cd_script.specs.PatchForm.{Edit, Patch}
 use Rattle.cd_script.specs.declared.patch.Edit.TheVariants.{Put, Fill, Rebuild, Address}
 use Rattle.cd_script.specs.Address.{IsAddress}
 use Rattle.cd_script.specs.Limits.{bytes_limit, number_limit, offset_limit, patch_limit}

@@ -44,3 +44,42 @@ impl PatchBytes {
         self.octets.as_slice()
     }
 }
+
+/// The bytes of a patch, borrowed: of a patch that takes no memory of its own.
+#[derive(Drop)]
+pub struct LentBytes<'a> {
+    octets: &'a [u8],
+}
+
+impl<'a> Model for LentBytes<'a> {
+    ghost use Rattle.std.specs.Prelude.{List, ℕ};
+
+    ghost Value = { List ℕ };
+
+    ghost view = { λ b. b.octets.now };
+}
+
+impl<'a> LentBytes<'a> {
+    /// These bytes.
+    ///
+    /// # Examples
+    ///
+    /// ```
+    /// let bytes = LentBytes::new(b"Hi");
+    /// assert_eq!(rt; bytes.as_slice(), b"Hi".as_slice());
+    /// ```
+    pub fn new(octets: &'a [u8]) -> Self
+        ensures { result ≡ octets.now }
+    {
+        LentBytes { octets }
+    }
+
+    /// The bytes.
+    ///
+    /// See the example of [`LentBytes::new`].
+    pub fn as_slice(&self) -> &'a [u8]
+        ensures { result.now ≡ self.now }
+    {
+        self.octets
+    }
+}

@@ -1,4 +1,4 @@
-//! One patch of a script, as its line spells it.
+//! A patch as its line spells it, and how it gets its bytes.
 
 ghost use Rattle.std.specs.Prelude.{◌≡◌, IfOk};
 
@@ -7,33 +7,13 @@ use crate::hex_word::HexWord;
 use crate::patch::{Edit, Patch};
 use std::alloc::{AllocError, Global};
 
-/// A patch that has no bytes of its own: a line can be checked without memory.
-#[derive(Drop)]
-pub(crate) struct HexPatch<'a> {
-    pub(crate) line: u32,
-    pub(crate) block: u32,
-    pub(crate) offset: u16,
-    pub(crate) edit: HexEdit<'a>,
-}
+/// A patch whose bytes are still the hex words of its line, so a line can be read without memory.
+pub type HexPatch<'a> = Patch<HexWord<'a>>;
 
-/// An [`Edit`](crate::Edit) whose bytes are still hex words.
-#[derive(Drop)]
-pub(crate) enum HexEdit<'a> {
-    Put {
-        bytes: HexWord<'a>,
-        was: Option<HexWord<'a>>,
-    },
-    Fill {
-        count: u16,
-        value: u8,
-    },
-    Rebuild,
-    Address {
-        bcd: [u8; 3],
-    },
-}
+/// An edit whose bytes are still hex words.
+pub type HexEdit<'a> = Edit<HexWord<'a>>;
 
-/// Old bytes, if there are some.
+/// The old bytes, if it names some.
 fn decode_old(alloc: Global, was: Option<HexWord<'_>>) -> Result<Option<PatchBytes>, AllocError>
     ensures { IfOk result (λ old. old ≡ was.entry) }
 {
@@ -56,35 +36,33 @@ fn build_put(
     Ok(Edit::Put { bytes, was })
 }
 
-impl<'a> HexEdit<'a> {
-    ghost use Rattle.cd_script.specs.HexPatch.{as_edit};
-
-    /// The edit, with its bytes.
-    fn build(self, alloc: Global) -> Result<Edit, AllocError>
-        ensures { IfOk result (λ edit. edit ≡ as_edit self.entry) }
-    {
-        match self {
-            HexEdit::Put { bytes, was } => build_put(alloc, bytes, was),
-            HexEdit::Fill { count, value } => Ok(Edit::Fill { count, value }),
-            HexEdit::Rebuild => Ok(Edit::Rebuild),
-            HexEdit::Address { bcd } => Ok(Edit::Address { bcd }),
-        }
+/// The edit, with its bytes.
+fn build_edit(alloc: Global, edit: HexEdit<'_>) -> Result<Edit, AllocError>
+    ensures { IfOk result (λ built. built ≡ edit.entry) }
+{
+    match edit {
+        Edit::Put { bytes, was } => build_put(alloc, bytes, was),
+        Edit::Fill { count, value } => Ok(Edit::Fill { count, value }),
+        Edit::Rebuild => Ok(Edit::Rebuild),
+        Edit::Address { bcd } => Ok(Edit::Address { bcd }),
     }
 }
 
-impl<'a> HexPatch<'a> {
-    ghost use Rattle.cd_script.specs.HexPatch.{as_patch};
-
-    /// The patch, with its bytes.
-    pub(crate) fn build(self, alloc: Global) -> Result<Patch, AllocError>
-        ensures { IfOk result (λ patch. patch ≡ as_patch self.entry) }
-    {
-        let edit = self.edit.build(alloc)?;
-        Ok(Patch {
-            line: self.line,
-            block: self.block,
-            offset: self.offset,
-            edit,
-        })
-    }
+/// The patch, with its bytes.
+pub(crate) fn build_patch(alloc: Global, patch: HexPatch<'_>) -> Result<Patch, AllocError>
+    ensures { IfOk result (λ built. built ≡ patch.entry) }
+{
+    let Patch {
+        line,
+        block,
+        offset,
+        edit,
+    } = patch;
+    let edit = build_edit(alloc, edit)?;
+    Ok(Patch {
+        line,
+        block,
+        offset,
+        edit,
+    })
 }

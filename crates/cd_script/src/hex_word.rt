@@ -1,6 +1,6 @@
 //! Hex words, checked and not yet decoded.
 
-ghost use Rattle.std.specs.Prelude.{◌≡◌, ◌∷◌, [], IfOk, length};
+ghost use Rattle.std.specs.Prelude.{◌≡◌, ◌≤◌, ◌∷◌, ◌++◌, [], IfOk, drop, length};
 ghost use Rattle.std.specs.List.{list_all};
 ghost use Rattle.hex.specs.Hex.{is_hex_digit};
 ghost use Rattle.cd_script.specs.Hex.{hex_bytes};
@@ -11,7 +11,7 @@ use std::marker::Model;
 
 /// An even number of hex digits, in either case. Contracts see the bytes that they spell.
 #[derive(Drop)]
-pub(crate) struct HexWord<'a> {
+pub struct HexWord<'a> {
     digits: &'a [u8],
 }
 
@@ -53,7 +53,9 @@ impl<'a> HexWord<'a> {
     }
 
     /// How many bytes it spells.
-    pub(crate) fn len(&self) -> usize
+    ///
+    /// See the example of [`HexWord::decode_to`].
+    pub fn len(&self) -> usize
         ensures { result ≡ length self.now }
     {
         self.digits.len() / 2
@@ -67,6 +69,31 @@ impl<'a> HexWord<'a> {
         let mut octets = [0; 1];
         hex::decode_to_slice(self.digits, &mut octets).unwrap();
         octets[0]
+    }
+
+    /// Writes the bytes that it spells to the front of a room that holds them.
+    ///
+    /// # Examples
+    ///
+    /// ```
+    /// let line = read_line(Some(Version::One), 2, 0, b"set 5 0 4869");
+    /// let Ok(LineContent::Patch(patch)) = line else {
+    ///     panic!(rt; "not a patch");
+    /// };
+    /// let Edit::Put { bytes, .. } = &patch.edit else {
+    ///     panic!(rt; "a patch of another kind");
+    /// };
+    /// assert_eq!(rt; bytes.len(), 2);
+    /// let mut room = [0xFF; 4];
+    /// bytes.decode_to(&mut room);
+    /// assert_eq!(rt; room, [0x48, 0x69, 0xFF, 0xFF]);
+    /// ```
+    pub fn decode_to(&self, room: &mut [u8])
+        requires { length self.now ≤ length room.old }
+        ensures { room.new ≡ self.now ++ drop (length self.now) room.old }
+    {
+        let count = self.len();
+        hex::decode_to_slice(self.digits, &mut room[..count]).unwrap();
     }
 
     /// The bytes that it spells.

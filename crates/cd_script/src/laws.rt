@@ -1,12 +1,13 @@
 //! Laws of the definitions, each the contract of a function that does nothing.
 
 ghost use Rattle.std.specs.Prelude.{◌≡◌};
-ghost use Rattle.cd_script.specs.Limits.{bytes_limit, digit_limit, offset_limit, patch_limit, text_limit};
+ghost use Rattle.cd_script.specs.ByLine.{ReadsByLine};
+ghost use Rattle.cd_script.specs.Limits.{bytes_limit, digit_limit, number_limit, offset_limit, patch_limit, text_limit};
 ghost use Rattle.cd_script.specs.Order.{OrderRises, OrderKeepsTies, OrderPermutes};
 ghost use Rattle.cd_script.specs.Spelling.{SpellingReads};
 ghost use Rattle.cd_script.specs.Versions.{FirstStays, SecondExtends};
 
-use crate::limits::{MAX_BYTES, MAX_DIGITS, MAX_OFFSET, MAX_PATCHES, MAX_TEXT};
+use crate::limits::{MAX_BYTES, MAX_DIGITS, MAX_NUMBER, MAX_OFFSET, MAX_PATCHES, MAX_TEXT};
 
 /// The limits of the code are those of the language.
 pub fn limits_agree()
@@ -15,6 +16,7 @@ pub fn limits_agree()
     ensures bytes { MAX_BYTES ≡ bytes_limit }
     ensures offset { MAX_OFFSET ≡ offset_limit }
     ensures digits { MAX_DIGITS ≡ digit_limit }
+    ensures number { MAX_NUMBER ≡ number_limit }
 {}
 
 /// The blocks rise along the order.
@@ -45,4 +47,9 @@ pub fn first_stays()
 /// Lines without the verb `address` say in version 2 what they say in version 1.
 pub fn second_extends()
     ensures { SecondExtends }
+{}
+
+/// A text whose lines are read one after the other, each by itself, gives its script or first fault.
+pub fn reads_by_line()
+    ensures { ReadsByLine }
 {}

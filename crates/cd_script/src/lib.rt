@@ -28,11 +28,17 @@
 //! assert_eq!(rt; script.patches().first().map(|patch| patch.block), Some(5)); // then that of 16
 //! ```
 //!
+//! A reader that has no memory, or one line in hand at a time, cuts a text by [`first_line`] and reads
+//! each line by [`read_line`]; the law [`reads_by_line`] says that this gives the same.
+//!
 //! Tests: `crates/cd_patch_tests/src/tests/scripts`.
 #![tactic(auto)]
 
 mod address;
+mod by_line;
 mod bytes;
+mod checking;
+mod cutting;
 mod fault;
 mod hex_patch;
 mod hex_word;
@@ -45,12 +51,18 @@ mod value;
 mod version;
 mod words;
 
-pub use bytes::PatchBytes;
+pub use by_line::{LineContent, read_line};
+pub use bytes::{LentBytes, PatchBytes};
+pub use checking::is_patch;
+pub use cutting::{TextLine, first_line};
 pub use fault::ScriptFault;
+pub use hex_patch::{HexEdit, HexPatch};
+pub use hex_word::HexWord;
 pub use laws::{
-    first_stays, limits_agree, order_keeps_ties, order_permutes, order_rises, second_extends,
-    spelling_reads,
+    first_stays, limits_agree, order_keeps_ties, order_permutes, order_rises, reads_by_line,
+    second_extends, spelling_reads,
 };
-pub use limits::{MAX_BYTES, MAX_DIGITS, MAX_OFFSET, MAX_PATCHES, MAX_TEXT};
-pub use patch::{Edit, Patch};
+pub use limits::{MAX_BYTES, MAX_DIGITS, MAX_NUMBER, MAX_OFFSET, MAX_PATCHES, MAX_TEXT};
+pub use patch::{Edit, Patch, lend};
 pub use script::{Script, parse};
+pub use version::Version;

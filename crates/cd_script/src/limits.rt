@@ -12,8 +12,11 @@ pub const MAX_BYTES: usize = 4_096;
 /// The last offset in the user bytes of a block.
 pub const MAX_OFFSET: u32 = 2_047;
 
-/// The most digits of a number, so the last block is 999,999,999.
+/// The most digits of a number.
 pub const MAX_DIGITS: usize = 9;
+
+/// The greatest number, so the last block: as many digits 9.
+pub const MAX_NUMBER: u32 = 999_999_999;
 
 /// One more than the last minute of an address.
 pub(crate) const MINUTES: u8 = 100;

@@ -1,13 +1,12 @@
 //! The forms of a patch line.
 #![tactic(auto, using(crate::proofs::FormLemmas::forms))]
 
-ghost use Rattle.std.specs.Prelude.{map};
-ghost use Rattle.cd_script.specs.FirstFault.{AnswersAs};
-ghost use Rattle.cd_script.specs.HexPatch.{as_patch};
+ghost use Rattle.std.specs.Prelude.{◌≡◌, map};
 ghost use Rattle.cd_script.specs.Line.{set_patch, set_if_patch, fill_patch, rebuild_patch, address_patch, set_line, fill_line, rebuild_line, address_line, patch_at, patch_by};
 
 use crate::fault::ScriptFault;
-use crate::hex_patch::{HexEdit, HexPatch};
+use crate::hex_patch::HexPatch;
+use crate::patch::{Edit, Patch};
 use crate::value::{address_of, byte_of, count_of, new_of, number_of, offset_of, old_of};
 use crate::version::Version;
 
@@ -19,13 +18,13 @@ fn set_patch<'a>(
     offset: &[u8],
     new: &'a [u8],
 ) -> Result<HexPatch<'a>, ScriptFault>
-    ensures { AnswersAs as_patch result (set_patch line block.now offset.now new.now) }
+    ensures { result ≡ set_patch line block.now offset.now new.now }
 {
     let block = number_of(line, block)?;
     let offset = offset_of(line, offset)?;
     let bytes = new_of(line, new)?;
-    let edit = HexEdit::Put { bytes, was: None };
-    Ok(HexPatch {
+    let edit = Edit::Put { bytes, was: None };
+    Ok(Patch {
         line,
         block,
         offset,
@@ -42,14 +41,14 @@ fn set_if_patch<'a>(
     new: &'a [u8],
     old: &'a [u8],
 ) -> Result<HexPatch<'a>, ScriptFault>
-    ensures { AnswersAs as_patch result (set_if_patch line block.now offset.now new.now old.now) }
+    ensures { result ≡ set_if_patch line block.now offset.now new.now old.now }
 {
     let block = number_of(line, block)?;
     let offset = offset_of(line, offset)?;
     let bytes = new_of(line, new)?;
     let was = Some(old_of(line, &bytes, old)?);
-    let edit = HexEdit::Put { bytes, was };
-    Ok(HexPatch {
+    let edit = Edit::Put { bytes, was };
+    Ok(Patch {
         line,
         block,
         offset,
@@ -66,14 +65,14 @@ fn fill_patch<'a>(
     count: &[u8],
     byte: &[u8],
 ) -> Result<HexPatch<'a>, ScriptFault>
-    ensures { AnswersAs as_patch result (fill_patch line block.now offset.now count.now byte.now) }
+    ensures { result ≡ fill_patch line block.now offset.now count.now byte.now }
 {
     let block = number_of(line, block)?;
     let offset = offset_of(line, offset)?;
     let count = count_of(line, count)?;
     let value = byte_of(line, byte)?;
-    let edit = HexEdit::Fill { count, value };
-    Ok(HexPatch {
+    let edit = Edit::Fill { count, value };
+    Ok(Patch {
         line,
         block,
         offset,
@@ -84,35 +83,35 @@ fn fill_patch<'a>(
 /// `rebuild BLOCK`, from the word after the verb.
 #[tactic(auto, unfolding(crate::specs::Line::rebuild_patch))]
 fn rebuild_patch<'a>(line: u32, block: &[u8]) -> Result<HexPatch<'a>, ScriptFault>
-    ensures { AnswersAs as_patch result (rebuild_patch line block.now) }
+    ensures { result ≡ rebuild_patch line block.now }
 {
     let block = number_of(line, block)?;
-    Ok(HexPatch {
+    Ok(Patch {
         line,
         block,
         offset: 0,
-        edit: HexEdit::Rebuild,
+        edit: Edit::Rebuild,
     })
 }
 
 /// `address BLOCK MM:SS:FF`, from the words after the verb.
 #[tactic(auto, unfolding(crate::specs::Line::address_patch))]
 fn address_patch<'a>(line: u32, block: &[u8], address: &[u8]) -> Result<HexPatch<'a>, ScriptFault>
-    ensures { AnswersAs as_patch result (address_patch line block.now address.now) }
+    ensures { result ≡ address_patch line block.now address.now }
 {
     let block = number_of(line, block)?;
     let bcd = address_of(line, address)?;
-    Ok(HexPatch {
+    Ok(Patch {
         line,
         block,
         offset: 0,
-        edit: HexEdit::Address { bcd },
+        edit: Edit::Address { bcd },
     })
 }
 
 /// `set ..`: the form that has this number of words after the verb.
 fn set_line<'a>(line: u32, words: &[&'a [u8]]) -> Result<HexPatch<'a>, ScriptFault>
-    ensures { AnswersAs as_patch result (set_line line (map (λ w. w.now) words.now)) }
+    ensures { result ≡ set_line line (map (λ w. w.now) words.now) }
 {
     match words {
         [block, offset, new] => set_patch(line, block, offset, new),
@@ -125,7 +124,7 @@ fn set_line<'a>(line: u32, words: &[&'a [u8]]) -> Result<HexPatch<'a>, ScriptFau
 
 /// `fill ..`: four words after the verb.
 fn fill_line<'a>(line: u32, words: &[&'a [u8]]) -> Result<HexPatch<'a>, ScriptFault>
-    ensures { AnswersAs as_patch result (fill_line line (map (λ w. w.now) words.now)) }
+    ensures { result ≡ fill_line line (map (λ w. w.now) words.now) }
 {
     match words {
         [block, offset, count, byte] => fill_patch(line, block, offset, count, byte),
@@ -135,7 +134,7 @@ fn fill_line<'a>(line: u32, words: &[&'a [u8]]) -> Result<HexPatch<'a>, ScriptFa
 
 /// `rebuild ..`: one word after the verb.
 fn rebuild_line<'a>(line: u32, words: &[&'a [u8]]) -> Result<HexPatch<'a>, ScriptFault>
-    ensures { AnswersAs as_patch result (rebuild_line line (map (λ w. w.now) words.now)) }
+    ensures { result ≡ rebuild_line line (map (λ w. w.now) words.now) }
 {
     match words {
         [block] => rebuild_patch(line, block),
@@ -146,7 +145,7 @@ fn rebuild_line<'a>(line: u32, words: &[&'a [u8]]) -> Result<HexPatch<'a>, Scrip
 /// `address ..`: two words after the verb. Their number is tested first, then the block, then the
 /// address, and last whether the patch is one too many.
 fn address_line<'a>(line: u32, words: &[&'a [u8]]) -> Result<HexPatch<'a>, ScriptFault>
-    ensures { AnswersAs as_patch result (address_line line (map (λ w. w.now) words.now)) }
+    ensures { result ≡ address_line line (map (λ w. w.now) words.now) }
 {
     match words {
         [block, address] => address_patch(line, block, address),
@@ -157,7 +156,7 @@ fn address_line<'a>(line: u32, words: &[&'a [u8]]) -> Result<HexPatch<'a>, Scrip
 /// The patch that the words of this line spell in version 1.
 #[tactic(auto, using(crate::proofs::FormLemmas::forms), unfolding(crate::specs::Line::patch_at))]
 fn first_patch_of<'a>(line: u32, words: &[&'a [u8]]) -> Result<HexPatch<'a>, ScriptFault>
-    ensures { AnswersAs as_patch result (patch_at line (map (λ w. w.now) words.now)) }
+    ensures { result ≡ patch_at line (map (λ w. w.now) words.now) }
 {
     let Some((verb, rest)) = words.split_first() else {
         return Err(ScriptFault::Verb(line));
@@ -178,7 +177,7 @@ pub(crate) fn patch_of<'a>(
     line: u32,
     words: &[&'a [u8]],
 ) -> Result<HexPatch<'a>, ScriptFault>
-    ensures { AnswersAs as_patch result (patch_by version line (map (λ w. w.now) words.now)) }
+    ensures { result ≡ patch_by version line (map (λ w. w.now) words.now) }
 {
     match version {
         Version::One => first_patch_of(line, words),

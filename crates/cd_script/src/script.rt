@@ -1,6 +1,6 @@
 //! Scripts, and how they are read.
 
-ghost use Rattle.std.specs.Prelude.{◌≡◌, ◌≢◌, ◌+◌, ◌≤◌, ◌++◌, List, length, map, option_map, vec_len, All, IsOk, IfOk, IfErr, OnOk};
+ghost use Rattle.std.specs.Prelude.{◌≡◌, ◌≢◌, ◌+◌, ◌≤◌, ◌++◌, List, length, map, vec_len, All, IsOk, IfOk, IfErr, OnOk};
 ghost use Rattle.std.specs.Fn.{Called};
 ghost use Rattle.std.specs.List.Sorted.{IsNonDecreasingBy};
 ghost use Rattle.std.specs.Option.{option_to_list};
@@ -8,16 +8,15 @@ ghost use Rattle.std.specs.Result.{result_err};
 ghost use Rattle.bstr.specs.Text.{lines_of, without_terminator};
 ghost use Rattle.cd_script.specs.declared.fault.ScriptFault.{ScriptFault};
 ghost use Rattle.cd_script.specs.declared.fault.ScriptFault.TheVariants.{NoMemory};
-ghost use Rattle.cd_script.specs.declared.patch.Patch.{Patch};
+ghost use Rattle.cd_script.specs.PatchForm.{Patch as ThePatch};
 ghost use Rattle.cd_script.specs.Limits.{patch_limit, text_limit};
 ghost use Rattle.cd_script.specs.Order.{order};
 ghost use Rattle.cd_script.specs.Patch.{IsPatch};
-ghost use Rattle.cd_script.specs.FirstFault.{AnswersAs};
+ghost use Rattle.cd_script.specs.ByLine.{head_at};
 ghost use Rattle.cd_script.specs.Script.{at_limit, head_version, is_passed_over, line_at, named_version, patches_from, script, script_from};
-ghost use Rattle.cd_script.specs.HexPatch.{as_patch};
 
 use crate::fault::ScriptFault;
-use crate::hex_patch::HexPatch;
+use crate::hex_patch::{HexPatch, build_patch};
 use crate::limits::MAX_PATCHES;
 use crate::line::patch_of;
 use crate::patch::Patch;
@@ -35,9 +34,9 @@ pub struct Script {
 
 impl Model for Script {
     ghost use Rattle.std.specs.Prelude.{List};
-    ghost use Rattle.cd_script.specs.declared.patch.Patch.{Patch};
+    ghost use Rattle.cd_script.specs.PatchForm.{Patch as ThePatch};
 
-    ghost Value = { List Patch };
+    ghost Value = { List ThePatch };
 
     ghost use Rattle.cd_script.specs.Patch.{IsPatchList};
 
@@ -109,6 +108,22 @@ struct Head {
     version: Version,
 }
 
+/// The version that a line names if there was no head line before; none if it is blank or a comment.
+#[tactic(auto, unfolding(crate::specs::ByLine::head_at))]
+pub(crate) fn head_on_line(line: u32, text: &[u8]) -> Result<Option<Version>, ScriptFault>
+    ensures { result ≡ head_at line text.now }
+{
+    let words = words(text);
+    let words = words.as_slice();
+    if is_passed_over(words) {
+        return Ok(None);
+    }
+    match head_version(words) {
+        Some(version) => Ok(Some(version)),
+        None => Err(ScriptFault::Head(line)),
+    }
+}
+
 /// Reads on past the head line.
 fn head_of(lines: &mut Lines) -> Result<Head, ScriptFault>
     requires { length lines.old ≤ text_limit }
@@ -119,12 +134,7 @@ fn head_of(lines: &mut Lines) -> Result<Head, ScriptFault>
 {
     let mut line = 1;
     while let Some(text) = lines.next() {
-        let words = words(text);
-        let words = words.as_slice();
-        if !is_passed_over(words) {
-            let Some(version) = head_version(words) else {
-                return Err(ScriptFault::Head(line));
-            };
+        if let Some(version) = head_on_line(line, text)? {
             return Ok(Head { line, version });
         }
         line += 1;
@@ -138,7 +148,7 @@ fn within_limit<'a>(
     earlier: usize,
     patch: HexPatch<'a>,
 ) -> Result<Option<HexPatch<'a>>, ScriptFault>
-    ensures { AnswersAs (option_map as_patch) result (at_limit line earlier (as_patch patch.entry)) }
+    ensures { result ≡ at_limit line earlier patch.entry }
 {
     if earlier >= MAX_PATCHES {
         Err(ScriptFault::TooMany(line))
@@ -149,13 +159,13 @@ fn within_limit<'a>(
 
 /// The patch of a line after `earlier` others, none if the line is blank or a comment.
 #[tactic(auto, unfolding(crate::specs::Script::line_at))]
-fn patch_on_line<'a>(
+pub(crate) fn patch_on_line<'a>(
     version: Version,
     line: u32,
     earlier: usize,
     text: &'a [u8],
 ) -> Result<Option<HexPatch<'a>>, ScriptFault>
-    ensures { AnswersAs (option_map as_patch) result (line_at version line earlier text.now) }
+    ensures { result ≡ line_at version line earlier text.now }
 {
     let words = words(text);
     let words = words.as_slice();
@@ -189,12 +199,12 @@ fn push_patch(
     found: Option<HexPatch<'_>>,
 ) -> Result<(), AllocError>
     ensures ok { OnOk result (patches.new.items
-        ≡ patches.old.items ++ option_to_list (option_map as_patch found.entry)) }
+        ≡ patches.old.items ++ option_to_list found.entry) }
     ensures count { OnOk result (vec_len patches.new
-        ≡ vec_len patches.old + length (option_to_list (option_map as_patch found.entry))) }
+        ≡ vec_len patches.old + length (option_to_list found.entry)) }
 {
     if let Some(spelled) = found {
-        let patch = spelled.build(alloc)?;
+        let patch = build_patch(alloc, spelled)?;
         patches.push(patch)?;
     }
     Ok(())
@@ -271,7 +281,7 @@ fn put_in_order(patches: &mut Vec<Patch>) -> Result<(), AllocError>
 /// ```
 pub fn parse(alloc: Global, text: &[u8]) -> Result<Script, ScriptFault>
     requires { length text.now ≤ text_limit }
-    ensures ok { IfOk result (λ s. (ps : List Patch) × (script text.now ≡ Ok ps) × (s ≡ order ps)) }
+    ensures ok { IfOk result (λ s. (ps : List ThePatch) × (script text.now ≡ Ok ps) × (s ≡ order ps)) }
     ensures err { IfErr result (λ e. e ≢ NoMemory → script text.now ≡ Err e) }
     // A text that is not a script is refused by its fault, whatever memory there is.
     ensures refused { (e : ScriptFault) → script text.now ≡ Err e → result ≡ Err e }

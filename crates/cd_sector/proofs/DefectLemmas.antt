@@ -13,7 +13,7 @@ use Rattle.cd_code.specs.Field.{AreBytes}
 use Rattle.cd_code.specs.Syndrome.{IsCodeWord, first_syndrome, second_syndrome}
 use Rattle.cd_sector.specs.CodeWords.{SumsOf, column_of, diagonal_of}
 use Rattle.cd_sector.specs.Consistent.{IsConsistent, consistent, is_mode1}
-use Rattle.cd_sector.specs.Defect.{all_syndromes, defect_of, is_broken, is_nonzero, is_sound}
+use Rattle.cd_sector.specs.Defect.{all_syndromes, broken_mark, defect_of, is_broken, is_nonzero, is_sound}
 use Rattle.cd_sector.specs.Kind.{kind_of}
 use Rattle.cd_sector.specs.declared.kinds.SectorKind.{SectorKind}
 use Rattle.cd_sector.specs.declared.kinds.SectorKind.TheVariants.{NoSync, Mode0, Mode1, Mode2, Other}
@@ -53,6 +53,18 @@ pub broken_of : (word : ℕ → List ℕ) (count r : ℕ) (plain weighted : List
 broken_of word count r plain weighted long sums h =
     subst (λ n. r ≡ count_by is_broken (all_syndromes word n)) long
     (h (subst (λ n. SumsOf word n plain weighted) (sym long) sums))
+
+-- the marks of as many words as there are sums
+pub marks_of : (words : List ℕ → ℕ → List ℕ) (s bytes : List ℕ) (count : ℕ)
+    (old new plain weighted : List ℕ) → length old ≡ count → bytes ≡ s
+    → SumsOf (words bytes) count plain weighted
+    → ((word : ℕ → List ℕ) → SumsOf word (length old) plain weighted
+    → (i : ℕ) → i < length old → get_or new i 0 ≡ broken_mark (word i))
+    → (i : ℕ) → i < count → get_or new i 0 ≡ broken_mark (words s i)
+marks_of words s bytes count old new plain weighted long same sums h i inside =
+    ((h (words bytes) (subst (λ n. SumsOf (words bytes) n plain weighted) (sym long) sums) i
+    (omega arith))
+    ∙ ap (λ b. broken_mark (words b i)) same)
 
 same_all : {X : Type 0} (p q : X → Bool) → ((x : X) → p x ≡ q x) → (xs : List X)
     → list_all p xs ≡ list_all q xs
@@ -112,7 +124,7 @@ whole_word w =
     Decides-at (not (is_broken w)) ((w.0 == 0) && (w.1 == 0)) (both_zero (w.0 == 0) (w.1 == 0))
     (Decides-and (w.0 == 0) (w.1 == 0) (Decides-eqb w.0 0) (Decides-eqb w.1 0))
 
-whole_words : (word : ℕ → List ℕ) (n : ℕ)
+pub whole_words : (word : ℕ → List ℕ) (n : ℕ)
     → Decides (list_all (λ w. not (is_broken w)) (all_syndromes word n))
     ((i : ℕ) → i < n → IsCodeWord (word i))
 unfolding all_syndromes

@@ -1,5 +1,5 @@
 -- What is wrong with a sector: four parts that are all 0 in a sound one (ECMA-130, 14 and Annex A).
-use Rattle.std.specs.Prelude.{ℕ, ◌==◌, Bool, not, ◌&&◌, ◌||◌, List, map, take, slice_range}
+use Rattle.std.specs.Prelude.{ℕ, ◌==◌, Bool, not, ◌&&◌, ◌||◌, if◌then◌else◌, List, map, take, slice_range}
 use Rattle.std.specs.List.{list_all, range_with_len}
 use Rattle.cd_code.specs.Edc.{bits, remainder}
 use Rattle.cd_code.specs.Syndrome.{first_syndrome, second_syndrome}
@@ -34,6 +34,10 @@ is_nonzero x = not (x == 0)
 -- a word whose syndromes are not both 0
 abbrev pub is_broken : ℕ × ℕ → Bool
 is_broken sums = is_nonzero sums.0 || is_nonzero sums.1
+
+-- 1 for a word whose syndromes are not both 0, else 0
+abbrev pub broken_mark : List ℕ → ℕ
+broken_mark word = if is_broken (first_syndrome word, second_syndrome word) then 1 else 0
 
 -- every part is 0
 abbrev pub is_sound : Defect → Bool

@@ -6,11 +6,12 @@ ghost use Rattle.cd_code.specs.Edc.{bits, remainder};
 ghost use Rattle.cd_sector.specs.CodeWords.{SumsOf, column_of, diagonal_of};
 ghost use Rattle.cd_sector.specs.Consistent.{consistent, is_mode1};
 ghost use Rattle.cd_sector.specs.Kind.{kind_of};
-ghost use Rattle.cd_sector.specs.Defect.{all_syndromes, defect_of, is_broken, is_nonzero, is_sound};
+ghost use Rattle.cd_sector.specs.Defect.{all_syndromes, broken_mark, defect_of, is_broken, is_nonzero, is_sound};
 
 use crate::diagonals::diagonal_sums;
 use crate::edc_field::stored_edc;
 use crate::kinds::{SectorKind, kind};
+use crate::product_code::{COLUMNS, DIAGONALS};
 use crate::sector::{EDC, HEADER, INTERMEDIATE, P_PARITY, Q_PARITY, SECTOR_SIZE, Sector};
 use crate::sums::sum_of_bytes;
 use cd_code::{ColumnSums, column_sums, edc_of};
@@ -110,8 +111,17 @@ fn is_sound(bytes: &[u8; SECTOR_SIZE]) -> bool
         && count_broken_diagonals(bytes) == 0
 }
 
-/// Whether the Intermediate field is all 00.
-fn has_zeros(bytes: &[u8; SECTOR_SIZE]) -> bool
+/// Whether the Intermediate field, bytes 2068 to 2075, is all `00` (ECMA-130, 14).
+///
+/// # Examples
+///
+/// ```
+/// let mut sector = encode([0x00, 0x02, 0x00], &[0x41; USER_SIZE]);
+/// assert!(rt; has_zeros(sector.bytes()));
+/// sector.put(2075, 0x01);
+/// assert!(rt; !has_zeros(sector.bytes()));
+/// ```
+pub fn has_zeros(bytes: &[u8; SECTOR_SIZE]) -> bool
     ensures { result ≡ list_all (λ b. b == 0) (slice_range bytes.now 2068 2076) }
 {
     bytes[INTERMEDIATE..P_PARITY].starts_with(&[0; P_PARITY - INTERMEDIATE])
@@ -148,8 +158,74 @@ pub(crate) fn all_column_sums(bytes: &[u8; SECTOR_SIZE]) -> ColumnSums
     column_sums(bytes[HEADER..Q_PARITY].first_chunk().unwrap())
 }
 
-/// The number of words whose sums are not both 0.
-fn count_broken(plain: &[u8], weighted: &[u8]) -> u8
+/// Marks the P columns of a sector of any kind, taken as one of Mode 1: 1 for a column that is not a
+/// code word, else 0 (ECMA-130, Annex A). Entry `2N + plane` is column N of that plane.
+///
+/// # Examples
+///
+/// ```
+/// let mut sector = encode([0x00, 0x02, 0x00], &[0x00; USER_SIZE]);
+/// sector.put(12 + 86 * 3 + 7, 0x01); // a byte of row 3
+/// let mut marks = [0x00; COLUMNS];
+/// mark_columns(&sector, &mut marks);
+/// assert_eq!(rt; (marks[6], marks[7], marks[8]), (0, 1, 0)); // column 3 of plane 1
+/// ```
+pub fn mark_columns(s: &Sector, marks: &mut [u8; COLUMNS])
+    ensures { (i : ℕ) → i < 86 → slice_index marks.new i ≡ broken_mark (column_of s.now i) }
+{
+    let sums = all_column_sums(s.bytes());
+    mark_broken(&sums.plain, &sums.weighted, marks);
+}
+
+/// Marks the Q diagonals of a sector of any kind, taken as one of Mode 1: 1 for a diagonal that is
+/// not a code word, else 0 (ECMA-130, Annex A). Entry `2N + plane` is diagonal N of that plane.
+///
+/// # Examples
+///
+/// ```
+/// let mut sector = encode([0x00, 0x02, 0x00], &[0x00; USER_SIZE]);
+/// sector.put(12 + 86 * 4 + 2, 0x01); // a byte of row 4 and of column 1 of plane 0
+/// let mut marks = [0x00; DIAGONALS];
+/// mark_diagonals(&sector, &mut marks);
+/// assert_eq!(rt; (marks[4], marks[6], marks[8]), (0, 1, 0)); // diagonal 4 - 1 of plane 0
+/// ```
+pub fn mark_diagonals(s: &Sector, marks: &mut [u8; DIAGONALS])
+    ensures { (i : ℕ) → i < 52 → slice_index marks.new i ≡ broken_mark (diagonal_of s.now i) }
+{
+    let sums = diagonal_sums(s.bytes());
+    mark_broken(&sums.plain, &sums.weighted, marks);
+}
+
+/// Marks words by their two syndromes, `plain` and `weighted`: 1 if these are not both 0, else 0
+/// (ECMA-130, Annex A).
+///
+/// # Examples
+///
+/// ```
+/// let mut marks = [0x00; 3];
+/// mark_broken(&[0x00, 0x01, 0x00], &[0x00, 0x00, 0x02], &mut marks);
+/// assert_eq!(rt; marks, [0, 1, 1]);
+/// ```
+pub fn mark_broken(plain: &[u8], weighted: &[u8], marks: &mut [u8])
+    requires same_plain { length plain.now ≡ length marks.old }
+    requires same_weighted { length weighted.now ≡ length marks.old }
+    ensures { (word : ℕ → List ℕ) → SumsOf word (length marks.old) plain.now weighted.now
+        → (i : ℕ) → i < length marks.old → slice_index marks.new i ≡ broken_mark (word i) }
+{
+    for i in 0..marks.len() {
+        marks[i] = one_if_broken(plain[i], weighted[i]);
+    }
+}
+
+/// The number of words, at most 86, whose two syndromes, `plain` and `weighted`, are not both 0
+/// (ECMA-130, Annex A).
+///
+/// # Examples
+///
+/// ```
+/// assert_eq!(rt; count_broken(&[0x00, 0x01, 0x00], &[0x00, 0x00, 0x02]), 2);
+/// ```
+pub fn count_broken(plain: &[u8], weighted: &[u8]) -> u8
     requires few { length plain.now ≤ 86 }
     requires same { length weighted.now ≡ length plain.now }
     ensures { (word : ℕ → List ℕ) → SumsOf word (length plain.now) plain.now weighted.now

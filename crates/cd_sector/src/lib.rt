@@ -38,7 +38,10 @@ mod sector;
 mod sums;
 
 pub use addresses::{MAX_BLOCK, address_of};
-pub use defects::{DefectReport, defect, is_consistent, same_defect};
+pub use defects::{
+    DefectReport, count_broken, defect, has_zeros, is_consistent, mark_broken, mark_columns,
+    mark_diagonals, same_defect,
+};
 pub use edc_field::{edc_bytes, fill_edc, put_edc, stored_edc};
 pub use encoding::{encode, encode_into, rebuild};
 pub use kinds::{SectorKind, kind};
@@ -48,8 +51,8 @@ pub use laws::{
 };
 pub use parity::fill_parity;
 pub use product_code::{
-    DIAGONAL_SIZE, FIRST_P, FIRST_P_ROW, FIRST_Q, PLANE_COLUMNS, ROWS, SECOND_P, SECOND_P_ROW,
-    SECOND_Q,
+    COLUMNS, DIAGONAL_SIZE, DIAGONALS, FIRST_P, FIRST_P_ROW, FIRST_Q, PLANE_COLUMNS, ROWS,
+    SECOND_P, SECOND_P_ROW, SECOND_Q,
 };
 pub use sector::{EDC, HEADER, INTERMEDIATE, SECTOR_SIZE, Sector, USER_DATA, USER_SIZE, put_part};
 pub use sums::sum_of;

@@ -2,8 +2,7 @@
 //! then two rows of P parity, then the Q parity of its 26 diagonals. A byte's number in its plane
 //! counts from 0, row after row.
 
-pub(crate) use cd_code::COLUMNS;
-pub use cd_code::ROWS;
+pub use cd_code::{COLUMNS, ROWS};
 
 /// The number of columns in a plane, which are the bytes of a row.
 pub const PLANE_COLUMNS: usize = COLUMNS / 2;
@@ -30,4 +29,4 @@ pub const SECOND_Q: usize = FIRST_Q + ROWS;
 pub const DIAGONAL_SIZE: usize = PLANE_COLUMNS + 2;
 
 /// The number of Q diagonals of both planes; a plane has as many as rows.
-pub(crate) const DIAGONALS: usize = 2 * ROWS;
+pub const DIAGONALS: usize = 2 * ROWS;

@@ -1,7 +1,8 @@
 //! The examples of the rustdoc of cd_stream, cd_read, cd_report and cd_image.
 
-use cd_image::{apply, audit, check, list};
+use cd_image::{Outcome, apply, audit, check, counts_line, list, outcome_line};
 use cd_read::read_sector;
+use cd_report::has_other_address;
 use cd_script::parse;
 use cd_sector::{SECTOR_SIZE, Sector, USER_SIZE, encode};
 use cd_stream::{
@@ -145,6 +146,13 @@ fn an_audit(rt: HostRuntime) -> Result<(), Fail> {
 }
 
 #[test]
+fn an_address_of_another_block(rt: HostRuntime) {
+    let sector = encode([0x00, 0x02, 0x16], &[0x00; USER_SIZE]); // its address is that of block 16
+    assert!(rt; !has_other_address(&sector, 16));
+    assert!(rt; has_other_address(&sector, 17));
+}
+
+#[test]
 fn an_apply(rt: HostRuntime) -> Result<(), Fail> {
     let script = parse(rt.alloc(), b"cdpatch 1\nset 0 0 41\n")?;
     let sector = encode([0x00, 0x02, 0x00], &[0x00; USER_SIZE]); // block 0
@@ -163,4 +171,12 @@ fn a_check(rt: HostRuntime) -> Result<(), Fail> {
     check(&mut ZeroSource::new(0), &script, 0, false, &mut log)?; // no sector
     assert!(rt; log.written().starts_with(b"line 2: refused: no block 0\n"));
     Ok(())
+}
+
+#[test]
+fn lines_of_a_log(rt: HostRuntime) {
+    let line = outcome_line(3, Outcome::Applied);
+    assert_eq!(rt; line.as_slice(), b"line 3: applied\n".as_slice());
+    let last = counts_line(0, 1);
+    assert_eq!(rt; last.as_slice(), b"applied 0 refused 1\n".as_slice());
 }

@@ -1,16 +1,21 @@
 //! The examples of the rustdoc of cd_code, cd_sector, cd_delta, cd_patch and cd_script.
 
 use cd_code::{
-    COLUMNS, ColumnSums, LaneSums, ROWS_SIZE, alpha_power, column_lanes, column_sums, edc_of,
-    lanes_at, pair_change, pair_from, parity_pair, put_lanes, row_sums, syndromes, times,
+    COLUMNS, ColumnSums, LaneSums, ROWS_SIZE, alpha_power, column_lanes, column_sums,
+    edc_by_tables, edc_of, lanes_at, pair_change, pair_from, parity_pair, put_lanes, row_sums,
+    syndromes, times,
 };
 use cd_delta::{carry_header, carry_user, change_byte, change_header, change_user, parity_changes};
-use cd_patch::{Outcome, apply_patch, blocks_met};
-use cd_script::{Edit, ScriptFault, parse};
+use cd_patch::{Outcome, apply_lent, apply_patch, blocks_met};
+use cd_script::{
+    Edit, LentBytes, LineContent, Patch, ScriptFault, Version, first_line, is_patch, lend, parse,
+    read_line,
+};
 use cd_sector::{
-    EDC, HEADER, SECTOR_SIZE, Sector, SectorKind, USER_SIZE, address_of, defect, edc_bytes, encode,
-    encode_into, fill_edc, fill_parity, is_consistent, kind, put_edc, put_part, rebuild,
-    same_defect, stored_edc, sum_of,
+    DIAGONALS, EDC, HEADER, SECTOR_SIZE, Sector, SectorKind, USER_SIZE, address_of, count_broken,
+    defect, edc_bytes, encode, encode_into, fill_edc, fill_parity, has_zeros, is_consistent, kind,
+    mark_broken, mark_columns, mark_diagonals, put_edc, put_part, rebuild, same_defect, stored_edc,
+    sum_of,
 };
 use std::simd::prelude::*;
 use std::test::Fail;
@@ -31,6 +36,11 @@ fn powers(rt: HostRuntime) {
 fn edc_words(rt: HostRuntime) {
     assert_eq!(rt; edc_of(&[0x00; 2064]), 0);
     assert_eq!(rt; edc_of(&[0x01]), 0x9091_0101);
+}
+
+#[test]
+fn edc_words_by_tables(rt: HostRuntime) {
+    assert_eq!(rt; edc_by_tables(&[0x01]), 0x9091_0101);
 }
 
 #[test]
@@ -154,6 +164,44 @@ fn a_defect(rt: HostRuntime) {
     sector.put(16, 0x01); // a byte of the user data, in one column and one diagonal
     let report = defect(&sector);
     assert_eq!(rt; (report.edc, report.p, report.q), (true, 1, 1));
+}
+
+#[test]
+fn the_intermediate_field(rt: HostRuntime) {
+    let mut sector = encode([0x00, 0x02, 0x00], &[0x41; USER_SIZE]);
+    assert!(rt; has_zeros(sector.bytes()));
+    sector.put(2075, 0x01);
+    assert!(rt; !has_zeros(sector.bytes()));
+}
+
+#[test]
+fn broken_columns(rt: HostRuntime) {
+    let mut sector = encode([0x00, 0x02, 0x00], &[0x00; USER_SIZE]);
+    sector.put(12 + 86 * 3 + 7, 0x01); // a byte of row 3
+    let mut marks = [0x00; COLUMNS];
+    mark_columns(&sector, &mut marks);
+    assert_eq!(rt; (marks[6], marks[7], marks[8]), (0, 1, 0)); // column 3 of plane 1
+}
+
+#[test]
+fn broken_diagonals(rt: HostRuntime) {
+    let mut sector = encode([0x00, 0x02, 0x00], &[0x00; USER_SIZE]);
+    sector.put(12 + 86 * 4 + 2, 0x01); // a byte of row 4 and of column 1 of plane 0
+    let mut marks = [0x00; DIAGONALS];
+    mark_diagonals(&sector, &mut marks);
+    assert_eq!(rt; (marks[4], marks[6], marks[8]), (0, 1, 0)); // diagonal 4 - 1 of plane 0
+}
+
+#[test]
+fn marks_by_syndromes(rt: HostRuntime) {
+    let mut marks = [0x00; 3];
+    mark_broken(&[0x00, 0x01, 0x00], &[0x00, 0x00, 0x02], &mut marks);
+    assert_eq!(rt; marks, [0, 1, 1]);
+}
+
+#[test]
+fn a_number_by_syndromes(rt: HostRuntime) {
+    assert_eq!(rt; count_broken(&[0x00, 0x01, 0x00], &[0x00, 0x00, 0x02]), 2);
 }
 
 #[test]
@@ -319,6 +367,67 @@ fn a_fault(rt: HostRuntime) {
 }
 
 #[test]
+fn a_first_line(rt: HostRuntime) {
+    let text = b"rebuild 7\r\nrebuild 8";
+    let line = first_line(text).map(|line| (line.size, line.taken));
+    assert_eq!(rt; line, Some((9, 11))); // two bytes are its end
+}
+
+#[test]
+fn lines_one_by_one(rt: HostRuntime) {
+    let Ok(LineContent::Head(version)) = read_line(None, 1, 0, b"cdpatch 1") else {
+        panic!(rt; "not a head line");
+    };
+    let Ok(LineContent::Patch(patch)) = read_line(Some(version), 2, 0, b"rebuild 16") else {
+        panic!(rt; "not a patch");
+    };
+    assert_eq!(rt; (patch.line, patch.block), (2, 16));
+    let fault = read_line(Some(version), 3, 1, b"rebuild x").err();
+    assert_eq!(rt; fault, Some(ScriptFault::Number(3)));
+}
+
+#[test]
+fn bytes_of_a_line(rt: HostRuntime) {
+    let line = read_line(Some(Version::One), 2, 0, b"set 5 0 4869");
+    let Ok(LineContent::Patch(patch)) = line else {
+        panic!(rt; "not a patch");
+    };
+    let Edit::Put { bytes, .. } = &patch.edit else {
+        panic!(rt; "a patch of another kind");
+    };
+    assert_eq!(rt; bytes.len(), 2);
+    let mut room = [0xFF; 4];
+    bytes.decode_to(&mut room);
+    assert_eq!(rt; room, [0x48, 0x69, 0xFF, 0xFF]);
+}
+
+#[test]
+fn lent_bytes(rt: HostRuntime) {
+    let bytes = LentBytes::new(b"Hi");
+    assert_eq!(rt; bytes.as_slice(), b"Hi".as_slice());
+}
+
+#[test]
+fn a_lent_patch(rt: HostRuntime) -> Result<(), Fail> {
+    let script = parse(rt.alloc(), b"cdpatch 1\nset 5 0 4869\n")?;
+    for patch in script.patches() {
+        assert!(rt; is_patch(&lend(patch)));
+    }
+    Ok(())
+}
+
+#[test]
+fn a_record_of_no_patch(rt: HostRuntime) {
+    let patch = Patch {
+        line: 2,
+        block: 16,
+        offset: 2047,
+        edit: Edit::Rebuild,
+    };
+    assert!(rt; !is_patch(&patch)); // a rebuild is of a whole block
+}
+
+#[test]
 fn blocks_of_a_patch(rt: HostRuntime) -> Result<(), Fail> {
     let script = parse(rt.alloc(), b"cdpatch 1\nset 5 2047 4142\n")?;
     for patch in script.patches() {
@@ -335,6 +444,21 @@ fn an_applied_patch(rt: HostRuntime) -> Result<(), Fail> {
         assert_eq!(rt; apply_patch(&mut sectors, patch, false), Outcome::Applied);
     }
     Ok(())
+}
+
+#[test]
+fn an_applied_lent_patch(rt: HostRuntime) {
+    let bytes = LentBytes::new(b"A");
+    let patch = Patch {
+        line: 2,
+        block: 0,
+        offset: 0,
+        edit: Edit::Put { bytes, was: None },
+    };
+    let mut sectors = [encode([0x00, 0x02, 0x00], &[0x00; USER_SIZE])]; // block 0
+    if is_patch(&patch) {
+        assert_eq!(rt; apply_lent(&mut sectors, &patch, false), Outcome::Applied);
+    }
 }
 
 #[test]

@@ -1,6 +1,7 @@
 //! What texts say, and their faults.
 
 mod accepted;
+mod by_line;
 mod faults;
 mod large;
 

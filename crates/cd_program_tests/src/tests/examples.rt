@@ -1,13 +1,14 @@
-//! The examples of the rustdoc of cd_args, cd_program and cd_memory.
+//! The examples of the rustdoc of cd_args, cd_program, cd_memory and cd_rooms.
 
 use cd_args::{Job, LineFault, NO_MEMORY, job_of, refusal_line};
-use cd_image::{FailAfter, SliceSink, SliceSource, ToWrite, ZeroSource};
+use cd_image::{FailAfter, Sink, SliceSink, SliceSource, ToWrite, ZeroSource};
 use cd_memory::{File, Memory, run_on_files};
 use cd_program::{
     Host, LoadFault, System, load_fault_line, load_script, print_and_fail, read_script, run_apply,
-    run_args, run_audit, run_check, run_list,
+    run_args, run_audit, run_check, run_list, script_fault_line,
 };
-use cd_script::parse;
+use cd_rooms::{Room, audit_image, list_image};
+use cd_script::{ScriptFault, parse};
 use std::alloc::AllocError;
 use std::io;
 use std::test::Fail;
@@ -50,6 +51,12 @@ fn a_script_that_is_refused(rt: HostRuntime) {
     let status = read_script(rt.alloc(), b"cdpatch 1\nset 0 0 4\n", &mut log).err();
     assert_eq!(rt; status, Some(2));
     assert_eq!(rt; log.written(), b"script line 2: bad hex\n".as_slice());
+}
+
+#[test]
+fn the_line_of_a_scripts_fault(rt: HostRuntime) {
+    let line = script_fault_line(ScriptFault::Hex(3));
+    assert_eq!(rt; line.as_slice(), b"script line 3: bad hex\n".as_slice());
 }
 
 #[test]
@@ -136,4 +143,29 @@ fn a_host_in_memory(rt: HostRuntime) {
     assert!(rt; host.input_at("disc.bin").is_err()); // there is none
     let made = host.output_at("new.bin").is_ok();
     assert_eq!(rt; (made, host.into_made().len()), (true, 1)); // it has no bytes yet
+}
+
+#[test]
+fn a_room(rt: HostRuntime) {
+    let mut space = [0; 4];
+    let mut room = Room::new(&mut space);
+    assert_eq!(rt; room.write(b"ab"), Ok(2));
+    assert_eq!(rt; space, *b"ab\0\0");
+}
+
+#[test]
+fn a_listing_to_a_room(rt: HostRuntime) {
+    let mut text = [0; 64];
+    let mut listing = Room::new(&mut text);
+    assert_eq!(rt; list_image(&[0; 2353], 7, &mut listing), 0);
+    assert_eq!(rt; listing.used, 28);
+    assert!(rt; text.starts_with(b"7-7 nosync\nsectors 1 tail 1\n"));
+}
+
+#[test]
+fn an_audit_to_a_room(rt: HostRuntime) {
+    let mut text = [0; 64];
+    let mut findings = Room::new(&mut text);
+    assert_eq!(rt; audit_image(&[0; 2352], 0, &mut findings), 0);
+    assert!(rt; text.starts_with(b"sectors 1 mode1 0 damaged 0 tail 0\n"));
 }

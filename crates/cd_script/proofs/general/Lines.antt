@@ -38,7 +38,7 @@ lines-cut l rest none =
     (omega (arith, length-slice_split is_feed rest))
 
 -- what follows the last line feed
-lines-last : (l : List ℕ) → NoFeed l → 0 < length l → lines l ≡ l ∷ []
+pub lines-last : (l : List ℕ) → NoFeed l → 0 < length l → lines l ≡ l ∷ []
 lines-last l none some =
     ap lines_of_parts (slice_split_none is_feed l none)
     ∙ cond-false _ _ _ (ne_eqb (length l) 0 (λ z. omega arith))

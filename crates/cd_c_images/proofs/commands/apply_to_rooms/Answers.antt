@@ -1,7 +1,7 @@
 use Rattle.std.proofs.Common.{refl, rules}
 use Rattle.cd_c_images.specs.Images.{AppliesInMemory}
 use Rattle.cd_c_images.proofs.CommandLemmas.{applies-on}
-use Rattle.cd_c_images.proofs.RoomLemmas.{applies-rooms}
+use Rattle.cd_c_images.proofs.PatchRoomLemmas.{applies-rooms}
 use Rattle.cd_c_images.proofs.commands.apply_to_rooms.Goals as goal
 
 pub returns-in-Ok : goal.returns-in-Ok

@@ -1,21 +1,19 @@
 use Rattle.std.proofs.Common.{sym, ◌∙◌}
-use Rattle.std.specs.Prelude.{option_map}
 use Rattle.std.proofs.lemmas.Result.{err_from_is_err_and}
-use Rattle.cd_script.specs.HexPatch.{as_patch}
-use Rattle.cd_script.proofs.LineLemmas.{line_at-is, Reads-same}
+use Rattle.cd_script.proofs.LineLemmas.{line_at-is}
 use Rattle.cd_script.proofs.script.patch_on_line.Goals as goal
 
 pub returns-in_err-patch : goal.returns-in_err-patch
 returns-in_err-patch c =
     let p = err_from_is_err_and c.from_residual.result c.from_residual.ensures.1 in
     let found = c.as_slice-words.ensures ∙ c.words-words.ensures in
-    rw (p.1, p.2) (line_at-is c.args.version c.args.line c.args.earlier c.args.text.now _ _ found
-    (sym c.is_passed_over.ensures ∙ c.if-is_passed_over.false) c.in_err-patch.ensures)
+    rw (p.1, p.2) (sym (line_at-is c.args.version c.args.line c.args.earlier c.args.text.now _ _ found
+    (sym c.is_passed_over.ensures ∙ c.if-is_passed_over.false) (sym c.in_err-patch.ensures)))
 
 pub returns : goal.returns
 returns c =
     let found = c.as_slice-words.ensures ∙ c.words-words.ensures in
     let read =
     line_at-is c.args.version c.args.line c.args.earlier c.args.text.now _ _ found
-    (sym c.is_passed_over.ensures ∙ c.if-is_passed_over.false) c.in_ok-patch.ensures in
-    Reads-same (option_map as_patch) c.within_limit.result _ _ read c.within_limit.ensures
+    (sym c.is_passed_over.ensures ∙ c.if-is_passed_over.false) (sym c.in_ok-patch.ensures) in
+    c.within_limit.ensures ∙ sym read

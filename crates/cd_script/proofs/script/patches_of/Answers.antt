@@ -1,12 +1,10 @@
-use Rattle.std.proofs.Common.{List, ℕ, length, ap, arith}
-use Rattle.std.specs.Prelude.{option_map}
-use Rattle.cd_script.specs.HexPatch.{as_patch}
+use Rattle.std.proofs.Common.{List, ℕ, length, ap, sym, arith}
 use Rattle.cd_script.proofs.LineLemmas.{goes_on, next_sound, all_read, reads_ok}
 use Rattle.cd_script.proofs.script.patches_of.Goals as goal
 
 pub unwrap-found-requires : goal.unwrap-found-requires
 unwrap-found-requires c =
-    reads_ok (option_map as_patch) c.patch_on_line.result _ c.patch_on_line.ensures
+    reads_ok c.patch_on_line.result _ c.patch_on_line.ensures
     (λ e read.
     next_sound c.args.head.version c.loop-text.patches.items _ _ _ _ c.loop-text.lines
     c.next.new.self e _ c.len.ensures c.in-Some.ensures.steps c.loop-text.invariant.0
@@ -14,7 +12,7 @@ unwrap-found-requires c =
 
 pub loop-text-preserved : goal.loop-text-preserved
 loop-text-preserved c =
-    let read = rw c.unwrap-found.ensures at c.patch_on_line.ensures in (
+    let read = sym (rw c.unwrap-found.ensures at c.patch_on_line.ensures) in (
       goes_on c.args.head.version c.loop-text.patches.items _ _ _ _ _ _ c.loop-text.lines
           c.next.new.self _ _ c.len.ensures c.in_ok-push_patch.ensures.count
           c.in_ok-push_patch.ensures.ok c.in-Some.ensures.steps read c.loop-text.invariant.0,

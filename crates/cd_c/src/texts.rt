@@ -1,0 +1,39 @@
+//! Words for what a call answers.
+
+ghost use Rattle.std.specs.Prelude.{◌≡◌, ◌++◌, ◌≤◌, drop, length};
+ghost use Rattle.cd_c.specs.Texts.{result_text};
+
+use crate::results::{DAMAGED, DIFFERS, NO_BLOCK, NO_PATCH, NOT_MODE1, OK, OUT_OF_RANGE};
+
+/// The largest number of bytes of a text that a call writes.
+pub const TEXT_SIZE: usize = 96;
+
+/// The words for a result; none for any other number.
+#[tactic(auto, unfolding(crate::specs::Texts::result_text))]
+fn words_for(number: u32) -> &'static [u8]
+    ensures words { result.now ≡ result_text number }
+    ensures room { length result.now ≤ TEXT_SIZE }
+{
+    match number {
+        OK => b"done",
+        NOT_MODE1 => b"the sector is not a Mode 1 sector",
+        DAMAGED => b"the sector is damaged",
+        OUT_OF_RANGE => b"the bytes are not within the user data",
+        NO_BLOCK => b"the image has no such block",
+        DIFFERS => b"the old bytes differ",
+        NO_PATCH => b"the record is not one of a patch",
+        _ => b"",
+    }
+}
+
+/// Writes the words for a result to the front of `text`, and returns how many bytes they have: 0 for any other number. The rest
+/// of `text` stays.
+#[unsafe(no_mangle)]
+pub extern "C" fn cdpatch_result_text(number: u32, text: &mut [u8; TEXT_SIZE]) -> usize
+    ensures count { result ≡ length (result_text number) }
+    ensures text { text.new ≡ result_text number ++ drop (length (result_text number)) text.old }
+{
+    let words = words_for(number);
+    text[..words.len()].copy_from_slice(words);
+    words.len()
+}

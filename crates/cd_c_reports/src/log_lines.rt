@@ -1,0 +1,125 @@
+//! The lines of a log, and the line of a script's fault.
+
+ghost use Rattle.std.specs.Prelude.{◌≡◌, ◌<◌, ◌≤◌, ◌↔◌, IfSome, None, drop, length, take};
+ghost use Rattle.cd_image.specs.PatchLog.{counts_line, outcome_line};
+ghost use Rattle.cd_program.specs.Messages.{script_fault_line};
+ghost use Rattle.cd_c_reports.specs.LogLines.{fault_of, outcome_of};
+
+use cd_image::{LINE_SIZE, Line, Outcome, counts_line, outcome_line};
+use cd_program::script_fault_line;
+use cd_script::ScriptFault;
+
+/// The patch is applied.
+pub const OK: u32 = 0;
+
+/// A sector is not of Mode 1.
+pub const NOT_MODE1: u32 = 1;
+
+/// A sector is damaged.
+pub const DAMAGED: u32 = 2;
+
+/// The image does not have a block.
+pub const NO_BLOCK: u32 = 4;
+
+/// An old byte differs.
+pub const DIFFERS: u32 = 5;
+
+/// The outcome that C means by a number of `enum cdpatch_result`, if it is that of an outcome.
+fn outcome_of(number: u32, block: u32, offset: u16) -> Option<Outcome>
+    ensures { result ≡ outcome_of number block offset }
+{
+    match number {
+        OK => Some(Outcome::Applied),
+        NOT_MODE1 => Some(Outcome::NotMode1(block)),
+        DAMAGED => Some(Outcome::Damaged(block)),
+        NO_BLOCK => Some(Outcome::NoBlock(block)),
+        DIFFERS => Some(Outcome::Differs(block, offset)),
+        _ => None,
+    }
+}
+
+/// The fault that C means by a number of `enum cdpatch_content`, if it is that of a fault, in a line
+/// of a script.
+fn fault_of(number: u32, line: u32) -> Option<ScriptFault>
+    ensures { result ≡ fault_of number line }
+{
+    match number {
+        4 => Some(ScriptFault::Head(line)),
+        5 => Some(ScriptFault::Verb(line)),
+        6 => Some(ScriptFault::Words(line)),
+        7 => Some(ScriptFault::Number(line)),
+        8 => Some(ScriptFault::Hex(line)),
+        9 => Some(ScriptFault::Length(line)),
+        10 => Some(ScriptFault::Offset(line)),
+        11 => Some(ScriptFault::Address(line)),
+        12 => Some(ScriptFault::TooMany(line)),
+        13 => Some(ScriptFault::NoMemory),
+        _ => None,
+    }
+}
+
+/// Writes a line to the front of `text`, and answers its size.
+fn write_line(line: &Line, text: &mut [u8; LINE_SIZE]) -> usize
+    requires { length line.now ≤ LINE_SIZE }
+    ensures size { result ≡ length line.now }
+    ensures line { take result text.new ≡ line.now }
+    ensures rest { drop result text.new ≡ drop result text.old }
+{
+    let bytes = line.as_slice();
+    text[..bytes.len()].copy_from_slice(bytes);
+    bytes.len()
+}
+
+/// Writes the line of a log for the patch in line `number` of a script to the front of `text`, as
+/// [`outcome_line`], and answers its size in bytes. The outcome is a number of `enum
+/// cdpatch_result`; for one that is none of an outcome it writes nothing, and answers 0.
+#[unsafe(no_mangle)]
+pub extern "C" fn cdpatch_outcome_line(
+    number: u32,
+    outcome: u32,
+    block: u32,
+    offset: u16,
+    text: &mut [u8; LINE_SIZE],
+) -> usize
+    ensures line { IfSome (outcome_of outcome block offset)
+        (λ o. take result text.new ≡ outcome_line number o) }
+    ensures rest { drop result text.new ≡ drop result text.old }
+    ensures within { result ≤ LINE_SIZE }
+    ensures none { result ≡ 0 ↔ outcome_of outcome block offset ≡ None }
+    ensures stays { result ≡ 0 → text.new ≡ text.old }
+{
+    match outcome_of(outcome, block, offset) {
+        Some(outcome) => write_line(&outcome_line(number, outcome), text),
+        None => 0,
+    }
+}
+
+/// Writes the last line of a log to the front of `text`, as [`counts_line`], and answers its size in
+/// bytes.
+#[unsafe(no_mangle)]
+pub extern "C" fn cdpatch_last_line(applied: u32, refused: u32, text: &mut [u8; LINE_SIZE]) -> usize
+    ensures line { take result text.new ≡ counts_line applied refused }
+    ensures rest { drop result text.new ≡ drop result text.old }
+    ensures within { result ≤ LINE_SIZE }
+    ensures some { 0 < result }
+{
+    write_line(&counts_line(applied, refused), text)
+}
+
+/// Writes the line of the fault in line `number` of a script to the front of `text`, as
+/// [`script_fault_line`], and answers its size in bytes. The fault is a number of `enum
+/// cdpatch_content`; for one that is none of a fault it writes nothing, and answers 0.
+#[unsafe(no_mangle)]
+pub extern "C" fn cdpatch_fault_line(number: u32, fault: u32, text: &mut [u8; LINE_SIZE]) -> usize
+    ensures line { IfSome (fault_of fault number)
+        (λ f. take result text.new ≡ script_fault_line f) }
+    ensures rest { drop result text.new ≡ drop result text.old }
+    ensures within { result ≤ LINE_SIZE }
+    ensures none { result ≡ 0 ↔ fault_of fault number ≡ None }
+    ensures stays { result ≡ 0 → text.new ≡ text.old }
+{
+    match fault_of(fault, number) {
+        Some(fault) => write_line(&script_fault_line(fault), text),
+        None => 0,
+    }
+}

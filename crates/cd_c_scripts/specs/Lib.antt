@@ -1,0 +1,3 @@
+pub mod FlatPatch
+pub mod Lines
+pub mod Outcomes

@@ -1,0 +1,57 @@
+-- What C is told of a line of a script. The numbers are those of `enum cdpatch_content`.
+use Rattle.std.specs.Prelude.{ℕ, ◌==◌, List, Option, Some, None, option_map, Result, Ok, Err, if◌then◌else◌}
+use Rattle.cd_script.specs.declared.by_line.LineContent.{LineContent}
+use Rattle.cd_script.specs.declared.by_line.LineContent.TheVariants as content
+use Rattle.cd_script.specs.declared.fault.ScriptFault.{ScriptFault}
+use Rattle.cd_script.specs.declared.fault.ScriptFault.TheVariants as fault
+use Rattle.cd_script.specs.declared.version.Version.{Version}
+use Rattle.cd_script.specs.declared.version.Version.TheVariants.{One, Two}
+use Rattle.cd_script.specs.ByLine.{meaning_at}
+use Rattle.cd_script.specs.PatchForm.{Patch}
+
+-- the version that a number means: 0 that there was no head line; none for another number
+abbrev pub version_of : ℕ → Option (Option Version)
+version_of n =
+    if n == 0 then Some None
+    else if n == 1 then Some (Some One)
+    else if n == 2 then Some (Some Two)
+    else None
+
+-- what a line says in the version of this number, or its fault; none if the number means no version
+abbrev pub line_read : ℕ → ℕ → ℕ → List ℕ → Option (Result LineContent ScriptFault)
+line_read version number earlier line =
+    option_map (λ v. meaning_at v number earlier line) (version_of version)
+
+-- the number of a fault
+abbrev pub fault_number : ScriptFault → ℕ
+fault_number (fault.Head line) = 4
+fault_number (fault.Verb line) = 5
+fault_number (fault.Words line) = 6
+fault_number (fault.Number line) = 7
+fault_number (fault.Hex line) = 8
+fault_number (fault.Length line) = 9
+fault_number (fault.Offset line) = 10
+fault_number (fault.Address line) = 11
+fault_number (fault.TooMany line) = 12
+fault_number fault.NoMemory = 13
+
+-- the number of what a line says
+abbrev pub content_number : LineContent → ℕ
+content_number content.PassedOver = 0
+content_number (content.Head One) = 1
+content_number (content.Head Two) = 2
+content_number (content.Patch p) = 3
+
+-- the number of what was read
+abbrev pub answer_number : Option (Result LineContent ScriptFault) → ℕ
+answer_number None = 14
+answer_number (Some (Err e)) = fault_number e
+answer_number (Some (Ok says)) = content_number says
+
+-- the patch that was read, if it is one
+abbrev pub patch_read : Option (Result LineContent ScriptFault) → Option Patch
+patch_read None = None
+patch_read (Some (Err e)) = None
+patch_read (Some (Ok content.PassedOver)) = None
+patch_read (Some (Ok (content.Head version))) = None
+patch_read (Some (Ok (content.Patch p))) = Some p

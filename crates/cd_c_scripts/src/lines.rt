@@ -1,0 +1,90 @@
+//! The call that reads a line of a script.
+
+ghost use Rattle.std.specs.Prelude.{◌≡◌, ◌≢◌, IfSome, Some};
+ghost use Rattle.cd_c_scripts.specs.FlatPatch.{IsSomePatch, flat_patch, new_of, old_of, record_of, with_front};
+ghost use Rattle.cd_c_scripts.specs.Lines.{answer_number, content_number, fault_number, line_read, patch_read, version_of};
+
+use crate::flat_patch::FlatPatch;
+use crate::lending::lend_patch;
+use cd_script::{LineContent, MAX_BYTES, ScriptFault, Version, read_line};
+
+/// The line has a patch.
+const PATCH: u32 = 3;
+
+/// The version is not 0, 1 or 2.
+const NO_VERSION: u32 = 14;
+
+/// The number of a fault.
+fn fault_number(fault: ScriptFault) -> u32
+    ensures number { result ≡ fault_number fault }
+    ensures fault { result ≢ PATCH }
+{
+    match fault {
+        ScriptFault::Head(_) => 4,
+        ScriptFault::Verb(_) => 5,
+        ScriptFault::Words(_) => 6,
+        ScriptFault::Number(_) => 7,
+        ScriptFault::Hex(_) => 8,
+        ScriptFault::Length(_) => 9,
+        ScriptFault::Offset(_) => 10,
+        ScriptFault::Address(_) => 11,
+        ScriptFault::TooMany(_) => 12,
+        ScriptFault::NoMemory => 13,
+    }
+}
+
+/// The version that a number means, 0 that there was no head line.
+fn version_of(version: u32) -> Option<Option<Version>>
+    ensures { result ≡ version_of version }
+{
+    match version {
+        0 => Some(None),
+        1 => Some(Some(Version::One)),
+        2 => Some(Some(Version::Two)),
+        _ => None,
+    }
+}
+
+/// Reads one line of a script without its end, as [`read_line`], and answers a number of `enum
+/// cdpatch_content`. `version` is 0 while there was no head line, then what that was answered;
+/// `earlier` is how many patches were read before. A patch goes to `patch`, and its new and old
+/// bytes to the front of `new_bytes` and `old_bytes`; if the line has none, nothing is written.
+#[unsafe(no_mangle)]
+pub extern "C" fn cdpatch_read_line(
+    version: u32,
+    number: u32,
+    earlier: usize,
+    line: &[u8],
+    patch: &mut FlatPatch,
+    new_bytes: &mut [u8; MAX_BYTES],
+    old_bytes: &mut [u8; MAX_BYTES],
+) -> u32
+    ensures answer { result ≡ answer_number (line_read version number earlier line.now) }
+    ensures patch { IfSome (patch_read (line_read version number earlier line.now))
+        (λ p. flat_patch p.line patch.new new_bytes.new old_bytes.new ≡ Some p) }
+    ensures record { IfSome (patch_read (line_read version number earlier line.now))
+        (λ p. patch.new ≡ record_of p.block p.offset p.edit) }
+    ensures limits { result ≡ PATCH
+        → IsSomePatch (flat_patch number patch.new new_bytes.new old_bytes.new) }
+    ensures new_room { IfSome (patch_read (line_read version number earlier line.now))
+        (λ p. new_bytes.new ≡ with_front (new_of p.edit) new_bytes.old) }
+    ensures old_room { IfSome (patch_read (line_read version number earlier line.now))
+        (λ p. old_bytes.new ≡ with_front (old_of p.edit) old_bytes.old) }
+    ensures patch_stays { result ≢ PATCH → patch.new ≡ patch.old }
+    ensures new_stays { result ≢ PATCH → new_bytes.new ≡ new_bytes.old }
+    ensures old_stays { result ≢ PATCH → old_bytes.new ≡ old_bytes.old }
+{
+    let Some(version) = version_of(version) else {
+        return NO_VERSION;
+    };
+    match read_line(version, number, earlier, line) {
+        Ok(LineContent::PassedOver) => 0,
+        Ok(LineContent::Head(Version::One)) => 1,
+        Ok(LineContent::Head(Version::Two)) => 2,
+        Ok(LineContent::Patch(found)) => {
+            *patch = lend_patch(&found, new_bytes, old_bytes);
+            PATCH
+        }
+        Err(fault) => fault_number(fault),
+    }
+}

@@ -1,0 +1,89 @@
+//! The call that takes a patch on the sectors in hand.
+
+ghost use Rattle.std.specs.Prelude.{◌≡◌, ◌≢◌, ◌↔◌, IfSome};
+ghost use Rattle.cd_script.specs.Patch.{IsPatch};
+ghost use Rattle.cd_patch.specs.Deciding.{outcome};
+ghost use Rattle.cd_patch.specs.Effect.{Effect};
+ghost use Rattle.cd_c_scripts.specs.FlatPatch.{IsSomePatch, flat_patch};
+ghost use Rattle.cd_c_scripts.specs.Outcomes.{no_patch, outcome_number, place_after};
+
+use crate::flat_patch::{FlatPatch, patch_of};
+use cd_patch::{Outcome, apply_lent};
+use cd_script::{MAX_BYTES, is_patch};
+use cd_sector::Sector;
+
+/// The record is that of no patch.
+const NO_PATCH: u32 = 6;
+
+/// Where a patch was refused, as C's `struct cdpatch_place`.
+#[derive(Clone, Copy)]
+#[repr(C)]
+pub struct Place {
+    /// The block that refuses it.
+    pub block: u32,
+    /// The user byte of that block that differs, else 0.
+    pub offset: u16,
+}
+
+/// The number of an outcome.
+fn outcome_number(outcome: Outcome) -> u32
+    ensures number { result ≡ outcome_number outcome }
+    ensures patch { result ≢ no_patch }
+{
+    match outcome {
+        Outcome::Applied => 0,
+        Outcome::NotMode1(_) => 1,
+        Outcome::Damaged(_) => 2,
+        Outcome::NoBlock(_) => 4,
+        Outcome::Differs(..) => 5,
+    }
+}
+
+/// Writes where a patch was refused, if it was.
+fn note_place(outcome: Outcome, place: &mut Place)
+    ensures { place.new ≡ place_after outcome place.old }
+{
+    match outcome {
+        Outcome::Applied => {}
+        Outcome::NotMode1(block) | Outcome::Damaged(block) | Outcome::NoBlock(block) => {
+            *place = Place { block, offset: 0 };
+        }
+        Outcome::Differs(block, offset) => *place = Place { block, offset },
+    }
+}
+
+/// Decides a patch on the sectors from its first block on, and makes it if it is accepted, as
+/// [`apply_lent`]; `sectors` has as many as the image has from there, of which at most three are
+/// looked at. The patch is that of `patch`, with its bytes at the front of `new_bytes` and
+/// `old_bytes`, as `cdpatch_read_line` writes them. Answers a number of `enum cdpatch_result`;
+/// `place` gets the block and the byte if the patch is refused. A record of no patch changes nothing.
+#[unsafe(no_mangle)]
+pub extern "C" fn cdpatch_apply_patch(
+    patch: &FlatPatch,
+    new_bytes: &[u8; MAX_BYTES],
+    old_bytes: &[u8; MAX_BYTES],
+    sectors: &mut [Sector],
+    carry: bool,
+    place: &mut Place,
+) -> u32
+    ensures patch { IsSomePatch (flat_patch 0 patch.now new_bytes.now old_bytes.now)
+        ↔ (result ≢ no_patch) }
+    ensures outcome { IfSome (flat_patch 0 patch.now new_bytes.now old_bytes.now) (λ p. IsPatch p
+        → result ≡ outcome_number (outcome carry sectors.old p.block p)) }
+    ensures place { IfSome (flat_patch 0 patch.now new_bytes.now old_bytes.now) (λ p. IsPatch p
+        → place.new ≡ place_after (outcome carry sectors.old p.block p) place.old) }
+    ensures effect { IfSome (flat_patch 0 patch.now new_bytes.now old_bytes.now) (λ p. IsPatch p
+        → Effect carry p.block p sectors.old sectors.new) }
+    ensures sectors_stay { result ≡ no_patch → sectors.new ≡ sectors.old }
+    ensures place_stays { result ≡ no_patch → place.new ≡ place.old }
+{
+    let Some(patch) = patch_of(patch, new_bytes, old_bytes) else {
+        return NO_PATCH;
+    };
+    if !is_patch(&patch) {
+        return NO_PATCH;
+    }
+    let outcome = apply_lent(sectors, &patch, carry);
+    note_place(outcome, place);
+    outcome_number(outcome)
+}

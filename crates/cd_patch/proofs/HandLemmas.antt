@@ -1,0 +1,273 @@
+-- A patch taken on its hand, and the hand put back, is the patch taken on the whole image.
+use Rattle.std.proofs.Common.{◌≡◌, ◌↔◌, ℕ, ◌+◌, ◌-◌, ◌<◌, ◌≤◌, min, ◌⊎◌, inl, inr, Bool, List, [], ◌∷◌, ◌++◌, length, take, drop, sym, ap, subst, ◌∙◌, arith, append-nil}
+use Rattle.std.specs.List.{All, slice_get}
+use Rattle.std.proofs.lemmas.Bool.{cases_lt, cond-false, cond-true, le-ltb, lt-ltb}
+use Rattle.std.proofs.lemmas.List.{drop-drop, drop_all, length-drop, length-take, length-take-le, nil_from_length, take-append-drop, take_all}
+use Rattle.std.proofs.lemmas.List.Elements.{All-head, All-tail}
+use Rattle.cd_script.specs.Patch.{IsPatch}
+use Rattle.cd_script.specs.PatchForm.{Patch}
+use Rattle.cd_patch.specs.Blocks.{block_limit, blocks_met, sector_at}
+use Rattle.cd_patch.specs.Deciding.{outcome}
+use Rattle.cd_patch.specs.Effect.{EditResult, Effect, EffectOf, IsApplied, user_part}
+use Rattle.cd_patch.specs.Hand.{HandSequence, hand, put_back}
+use Rattle.cd_patch.specs.Sequence.{PatchSequence}
+use Rattle.cd_patch.specs.declared.outcome.Outcome.{Outcome}
+use Rattle.cd_patch.specs.declared.outcome.Outcome.TheVariants.{Applied, Damaged, Differs, NoBlock, NotMode1}
+use Rattle.cd_patch.proofs.FrameLemmas.{Effect-frame, Effect-length, Effect-missing, outcome-frame, outcome-missing, patched_user-same}
+use Rattle.cd_patch.proofs.RangeLemmas.{blocks_met-most}
+use Rattle.cd_patch.proofs.SectorAtLemmas.{sector_at-after, sector_at-below, sector_at-from}
+use Rattle.cd_patch.proofs.SequenceLemmas.{Effect-determined}
+use Rattle.cd_patch.proofs.general.Elements.{slice_get-drop, slice_get-take}
+
+-- ---- the sectors in hand
+
+hand-below : (sectors : List (List ℕ)) (base block : ℕ) → block < base
+    → hand sectors base block ≡ []
+unfolding hand
+hand-below sectors base block below = cond-true _ _ _ (lt-ltb block base below)
+
+hand-from : (sectors : List (List ℕ)) (base block : ℕ) → base ≤ block
+    → hand sectors base block ≡ take block_limit (drop (block - base) sectors)
+unfolding hand
+hand-from sectors base block from = cond-false _ _ _ (le-ltb block base from)
+
+length-hand : (sectors : List (List ℕ)) (base block : ℕ) → base ≤ block
+    → length (hand sectors base block) ≡ min block_limit (length sectors - (block - base))
+length-hand sectors base block from =
+    ap length (hand-from sectors base block from)
+    ∙ length-take block_limit (drop (block - base) sectors)
+    ∙ ap (min block_limit) (length-drop (block - base) sectors)
+
+hand-at : (sectors : List (List ℕ)) (base first block : ℕ) → base ≤ first → first ≤ block
+    → block < first + block_limit
+    → sector_at (hand sectors base first) first block ≡ sector_at sectors base block
+hand-at sectors base first block from low high =
+    let n = first - base in
+    let place : n + (block - first) ≡ block - base = omega arith in
+    sector_at-from (hand sectors base first) first block low
+    ∙ ap (λ l. slice_get l (block - first)) (hand-from sectors base first from)
+    ∙ slice_get-take block_limit (drop n sectors) (block - first) (omega arith)
+    ∙ slice_get-drop n sectors (block - first) ∙ ap (slice_get sectors) place
+    ∙ sym (sector_at-from sectors base block (omega arith))
+
+-- ---- where the hand lies
+
+-- no sector is in hand, and none is put back
+record IsMissing (sectors : List (List ℕ)) (base block : ℕ) : Type 0 where
+  missing : (block < base) ⊎ (base + length sectors ≤ block)
+  empty : hand sectors base block ≡ []
+  stays : put_back sectors base block [] ≡ sectors
+
+-- the hand is a part of the sectors, of `block_limit` sectors if others follow it
+record LiesAt (sectors : List (List ℕ)) (base block : ℕ) : Type 0 where
+  front : List (List ℕ)
+  more : List (List ℕ)
+  here : block ≡ base + length front
+  old : sectors ≡ front ++ (hand sectors base block ++ more)
+  new : (changed : List (List ℕ)) → put_back sectors base block changed ≡ front ++ (changed ++ more)
+  room : (length (hand sectors base block) ≡ block_limit) ⊎ (more ≡ [])
+
+hand-cases : (sectors : List (List ℕ)) (base block : ℕ)
+    → IsMissing sectors base block ⊎ LiesAt sectors base block
+unfolding put_back
+hand-cases sectors base block = elim (cases_lt block base) [
+  | inl below ↦
+      inl (record {
+        missing = inl below;
+        empty = hand-below sectors base block below;
+        stays = cond-true _ _ _ (lt-ltb block base below);
+      })
+  | inr from ↦
+      let n = block - base in
+      let some = le-ltb block base from in
+      let window = hand-from sectors base block from in
+      elim (cases_lt n (length sectors)) [
+        | inr past ↦
+            inl (record {
+              missing = inr (omega arith);
+              empty = window ∙ ap (take block_limit) (drop_all n sectors past);
+              stays =
+                  cond-false _ _ _ some
+                  ∙ ap (λ l. take n sectors ++ l) (drop_all (n + block_limit) sectors (omega arith))
+                  ∙ append-nil (take n sectors) ∙ take_all n sectors past;
+            })
+        | inl inside ↦
+            inr (record {
+              front = take n sectors;
+              more = drop (n + block_limit) sectors;
+              here = omega (arith, length-take-le n sectors (omega arith));
+              old =
+                  sym (ap (λ l. take n sectors ++ l)
+                  (ap (λ l. l ++ drop (n + block_limit) sectors) window
+                  ∙ ap (λ l. take block_limit (drop n sectors) ++ l)
+                  (sym (drop-drop block_limit n sectors))
+                  ∙ take-append-drop block_limit (drop n sectors))
+                  ∙ take-append-drop n sectors);
+              new = λ changed. cond-false _ _ _ some;
+              room = elim (cases_lt (length sectors) (n + block_limit)) [
+                | inl short ↦ inr (drop_all (n + block_limit) sectors (omega arith))
+                | inr long ↦
+                    inl (ap length window
+                    ∙ length-take-le block_limit (drop n sectors)
+                    (omega (arith, length-drop n sectors)))
+              ];
+            })
+      ]
+]
+
+-- the hand has the blocks that a patch meets, or no sector follows it
+hand-room : (p : Patch) (base : ℕ) (sectors : List (List ℕ)) (lies : LiesAt sectors base p.block)
+    → IsPatch p
+    → (p.block + blocks_met p ≤ p.block + length (hand sectors base p.block)) ⊎ (lies.more ≡ [])
+hand-room p base sectors lies kept = elim lies.room [
+  | inl full ↦ inl (omega (arith, full, blocks_met-most p kept))
+  | inr none ↦ inr none
+]
+
+-- ---- a patch on its hand is a patch on the image
+
+outcome-hand : (carry : Bool) (p : Patch) (base : ℕ) (sectors : List (List ℕ)) → IsPatch p
+    → outcome carry (hand sectors base p.block) p.block p ≡ outcome carry sectors base p
+outcome-hand carry p base sectors kept = elim (hand-cases sectors base p.block) [
+  | inl none ↦
+      outcome-missing carry (hand sectors base p.block) p.block p
+      (inr (omega (arith, ap length none.empty)))
+      ∙ sym (outcome-missing carry sectors base p none.missing)
+  | inr lies ↦
+      sym (ap (λ l. outcome carry l base p) lies.old
+      ∙ outcome-frame carry lies.front (hand sectors base p.block) lies.more base p.block p
+      lies.here (omega arith) (hand-room p base sectors lies kept))
+]
+
+Effect-put_back : (carry : Bool) (p : Patch) (base : ℕ) (sectors changed : List (List ℕ))
+    → IsPatch p → Effect carry p.block p (hand sectors base p.block) changed
+    → Effect carry base p sectors (put_back sectors base p.block changed)
+Effect-put_back carry p base sectors changed kept h = elim (hand-cases sectors base p.block) [
+  | inl none ↦
+      let size = Effect-length carry p.block p (hand sectors base p.block) changed h in
+      let nothing : changed ≡ [] = nil_from_length changed (size ∙ ap length none.empty) in
+      subst (λ l. Effect carry base p sectors l)
+      (sym (ap (put_back sectors base p.block) nothing ∙ none.stays))
+      (Effect-missing carry sectors base p none.missing)
+  | inr lies ↦
+      let window = hand sectors base p.block in
+      subst (λ l. Effect carry base p l (put_back sectors base p.block changed)) (sym lies.old)
+      (subst (λ l. Effect carry base p (lies.front ++ (window ++ lies.more)) l)
+      (sym (lies.new changed))
+      (Effect-frame carry lies.front window changed lies.more base p.block p lies.here (omega arith)
+      (hand-room p base sectors lies kept) h))
+]
+
+pub hand-stands : (carry : Bool) (base : ℕ) (p : Patch) (sectors changed : List (List ℕ))
+    → IsPatch p
+    → (outcome carry (hand sectors base p.block) p.block p ≡ outcome carry sectors base p)
+    × (Effect carry p.block p (hand sectors base p.block) changed
+    → Effect carry base p sectors (put_back sectors base p.block changed))
+hand-stands carry base p sectors changed kept =
+    (outcome-hand carry p base sectors kept, Effect-put_back carry p base sectors changed kept)
+
+-- ---- a patch on the image is a patch on its hand
+
+IsApplied-hand : (carry : Bool) (p : Patch) (base : ℕ) (old new : List (List ℕ)) → IsPatch p
+    → base ≤ p.block → IsApplied carry base p old new
+    → IsApplied carry p.block p (hand old base p.block) (hand new base p.block)
+IsApplied-hand carry p base old new kept from h =
+    let most = blocks_met-most p kept in
+    let past =
+    λ (sectors : List (List ℕ)) (block : ℕ) (after : p.block + block_limit ≤ block).
+    sector_at-after (hand sectors base p.block) p.block block
+    (omega (arith, length-hand sectors base p.block from)) in
+    record {
+      count =
+          length-hand new base p.block from
+          ∙ ap (λ n. min block_limit (n - (p.block - base))) h.count
+          ∙ sym (length-hand old base p.block from);
+      met = λ k before after inside is was.
+          let low : p.block ≤ p.block + k = omega arith in
+          let high : p.block + k < p.block + block_limit = omega arith in
+          subst (λ user. EditResult carry p.edit before (user_part user k) after)
+          (patched_user-same old (hand old base p.block) base p.block p
+          (λ b first last. sym (hand-at old base p.block b from first (omega arith))))
+          (h.met k before after inside
+          (sym (hand-at old base p.block (p.block + k) from low high) ∙ is)
+          (sym (hand-at new base p.block (p.block + k) from low high) ∙ was));
+      others = λ block side. elim (cases_lt block p.block) [
+        | inl below ↦
+            sector_at-below (hand new base p.block) p.block block below
+            ∙ sym (sector_at-below (hand old base p.block) p.block block below)
+        | inr low ↦ elim (cases_lt block (p.block + block_limit)) [
+          | inl high ↦
+              hand-at new base p.block block from low high ∙ h.others block side
+              ∙ sym (hand-at old base p.block block from low high)
+          | inr after ↦ past new block after ∙ sym (past old block after)
+        ]
+      ];
+    }
+
+Effect-hand : (carry : Bool) (p : Patch) (base : ℕ) (old new : List (List ℕ)) → IsPatch p
+    → Effect carry base p old new
+    → Effect carry p.block p (hand old base p.block) (hand new base p.block)
+Effect-hand carry p base old new kept h = elim (cases_lt p.block base) [
+  | inl below ↦
+      let none = hand-below old base p.block below in
+      subst (λ l. Effect carry p.block p (hand old base p.block) l)
+      (none ∙ sym (hand-below new base p.block below))
+      (Effect-missing carry (hand old base p.block) p.block p (inr (omega (arith, ap length none))))
+  | inr from ↦
+      subst (λ o. EffectOf carry o p.block p (hand old base p.block) (hand new base p.block))
+      (sym (outcome-hand carry p base old kept)) (by_outcome from (outcome carry old base p) h)
+]
+  where
+    by_outcome : base ≤ p.block → (o : Outcome) → EffectOf carry o base p old new
+        → EffectOf carry o p.block p (hand old base p.block) (hand new base p.block)
+    by_outcome from Applied h = IsApplied-hand carry p base old new kept from h
+    by_outcome from (NoBlock b) h = ap (λ l. hand l base p.block) h
+    by_outcome from (NotMode1 b) h = ap (λ l. hand l base p.block) h
+    by_outcome from (Damaged b) h = ap (λ l. hand l base p.block) h
+    by_outcome from (Differs b offset) h = ap (λ l. hand l base p.block) h
+
+-- ---- runs
+
+to_run : (carry : Bool) (ps : List Patch) (os : List Outcome) (base : ℕ) (old last : List (List ℕ))
+    → All IsPatch ps → HandSequence carry ps os base old last
+    → PatchSequence carry ps os base old last
+to_run carry [] [] base old last kept h = h
+to_run carry [] (o ∷ os) base old last kept h = elim h [ ]
+to_run carry (p ∷ ps) [] base old last kept h = elim h [ ]
+to_run carry (p ∷ ps) (o ∷ os) base old last kept h =
+    let one = All-head IsPatch p ps kept in
+    let next = put_back old base p.block h.next in
+    record {
+      decided = h.decided ∙ outcome-hand carry p base old one;
+      next = next;
+      effect = Effect-put_back carry p base old h.next one h.effect;
+      others = to_run carry ps os base next last (All-tail IsPatch p ps kept) h.others;
+    }
+
+from_run : (carry : Bool) (ps : List Patch) (os : List Outcome) (base : ℕ)
+    (old last : List (List ℕ)) → All IsPatch ps → PatchSequence carry ps os base old last
+    → HandSequence carry ps os base old last
+from_run carry [] [] base old last kept h = h
+from_run carry [] (o ∷ os) base old last kept h = elim h [ ]
+from_run carry (p ∷ ps) [] base old last kept h = elim h [ ]
+from_run carry (p ∷ ps) (o ∷ os) base old last kept h =
+    let one = All-head IsPatch p ps kept in
+    let changed = hand h.next base p.block in
+    let effect = Effect-hand carry p base old h.next one h.effect in
+    let same : h.next ≡ put_back old base p.block changed =
+    Effect-determined carry base p old h.next (put_back old base p.block changed) h.effect
+    (Effect-put_back carry p base old changed one effect) in
+    record {
+      decided = h.decided ∙ sym (outcome-hand carry p base old one);
+      next = changed;
+      effect = effect;
+      others =
+          subst (λ l. HandSequence carry ps os base l last) same
+          (from_run carry ps os base h.next last (All-tail IsPatch p ps kept) h.others);
+    }
+
+pub runs-by_hand : (carry : Bool) (ps : List Patch) (os : List Outcome) (base : ℕ)
+    (old last : List (List ℕ)) → All IsPatch ps
+    → HandSequence carry ps os base old last ↔ PatchSequence carry ps os base old last
+runs-by_hand carry ps os base old last kept =
+    (to_run carry ps os base old last kept, from_run carry ps os base old last kept)

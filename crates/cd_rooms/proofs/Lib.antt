@@ -1,0 +1,4 @@
+pub mod FrontLemmas
+pub mod GrowLemmas
+pub mod ReportLemmas
+pub mod RoomLemmas

@@ -1,0 +1,42 @@
+-- `list` and `audit` on an image in memory, to a room.
+use Rattle.std.proofs.Common.{◌≡◌, ℕ, ◌<◌, ◌≤◌, List, length, refl, subst, arith}
+use Rattle.cd_memory.specs.Memory.{fresh_incoming}
+use Rattle.cd_program.specs.Commands.{IsTooLong}
+use Rattle.cd_read.specs.Image.{base_limit, image_limit}
+use Rattle.cd_report.specs.Report.{ReportSpec}
+use Rattle.cd_stream.specs.Adapters.{slice_incoming}
+use Rattle.cd_stream.specs.Stream.{Incoming, Outgoing}
+use Rattle.cd_stream.specs.declared.adapters.slice_source.SliceSource.{SliceSource}
+use Rattle.cd_rooms.specs.Reports.{ReportsFrom, ReportsInMemory}
+use Rattle.cd_rooms.specs.Rooms.{named_outgoing, room_outgoing}
+use Rattle.cd_rooms.specs.declared.room.Room.{Room}
+use Rattle.cd_rooms.proofs.FrontLemmas.{ReportsOn-without}
+use Rattle.cd_rooms.proofs.GrowLemmas.{reports-grow}
+use Rattle.cd_rooms.proofs.RoomLemmas.{SameRoom, bare, found, named-has}
+
+-- an image in memory is read without a failure
+pub too-long : (image : List ℕ) (left : SliceSource)
+    → IsTooLong (fresh_incoming image) (slice_incoming left) → image_limit < length image
+too-long image left is = omega (arith, is.beyond image left.rest.now refl refl)
+
+pub reports-on : {T : Type 0} {spec : ReportSpec T} {status_of : T → ℕ} {base : ℕ} {image : List ℕ}
+    {out out' : Outgoing} {status : ℕ} → base ≤ base_limit → (source : Incoming)
+    → source ≡ fresh_incoming image → ReportsFrom spec status_of source out out' status
+    → ReportsInMemory spec status_of base image out out' status
+reports-on {spec = spec} {status_of = status_of} {out = out} {out' = out'} {status = status}
+    within source fresh reports =
+    ReportsInMemory.reported within
+    (subst (λ s. ReportsFrom spec status_of s out out' status) fresh reports)
+
+pub reports-room : {T : Type 0} {spec : ReportSpec T} {status_of : T → ℕ} {base : ℕ}
+    {image : List ℕ} {status : ℕ} (was now : Room)
+    → ReportsInMemory spec status_of base image (named_outgoing was) (named_outgoing now) status
+    → SameRoom was now
+    × ReportsInMemory spec status_of base image (room_outgoing was) (room_outgoing now) status
+reports-room {spec = spec} {status_of = status_of} {base = base} {image = image} {status = status}
+    was now does =
+    let same = found was now (reports-grow _ _ _ refl does) in (
+      same,
+      bare (λ o o'. ReportsInMemory spec status_of base image o o' status) was now same
+          (ReportsOn-without _ _ _ (named-has was) does),
+    )

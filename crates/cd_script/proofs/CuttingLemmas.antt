@@ -1,0 +1,45 @@
+-- A text, cut after its first line.
+use Rattle.std.proofs.Common.{◌≡◌, ◌+◌, ◌<◌, ◌≤◌, ℕ, suc, false, List, [], ◌∷◌, ◌++◌, length, length-take, take, drop, slice_index, subst, sym, ap, ◌∙◌, arith, add-one}
+use Rattle.std.specs.Str.Lines.{lines, strip_carriage_return}
+use Rattle.std.proofs.lemmas.Bool.{eqb-true, false_from_ne_true}
+use Rattle.std.proofs.lemmas.List.{get_or-take, get_or_default, take-append-drop, take_all, drop_all, take-take}
+use Rattle.std.proofs.Math.Seq.{drop-cons}
+use Rattle.memchr.specs.Find.{Nowhere, NoneBefore, Passes}
+use Rattle.cd_script.proofs.general.Lines.{NoFeed, is_feed, lines-cut, lines-last}
+
+-- the first line feed, and what stands before and after it
+pub first-cut : (text : List ℕ) (k size : ℕ)
+    → NoneBefore (Passes is_feed text) 0 (length text) k × Passes is_feed text k
+    → take size (take k text) ≡ strip_carriage_return (take k text) → size ≤ length (take k text)
+    → lines text ≡ take size text ∷ lines (drop (k + 1) text)
+first-cut text k size found line most =
+    let lt : k < length text = found.0.high in
+    let later = drop (suc k) text in
+    let tail : drop k text ≡ slice_index text k ∷ later = drop-cons text k 0 lt in
+    let feed : slice_index text k ≡ 10 = eqb-true _ _ found.1 in
+    let none : NoFeed (take k text) = λ i d small.
+    let below : i < k = omega (arith, length-take k text) in
+    rw (get_or-take k text i d below)
+    (subst (λ (b : ℕ). is_feed b ≡ false) (get_or_default text i 0 d (omega arith))
+    (false_from_ne_true _ (found.0.before i (omega arith) below))) in
+    let shorter : take size (take k text) ≡ take size text =
+    take-take size k text (omega (arith, length-take k text)) in
+    ap lines (sym (take-append-drop k text) ∙ ap (λ (l : List ℕ). take k text ++ l)
+    (tail ∙ ap (λ (b : ℕ). b ∷ later) feed))
+    ∙ lines-cut (take k text) later none
+    ∙ ap (λ (l : List ℕ). l ∷ lines later) (sym line ∙ shorter)
+    ∙ ap (λ (n : ℕ). take size text ∷ lines (drop n text)) (sym (add-one k))
+
+-- the last line of a text without a line feed
+pub first-last : (text : List ℕ) → Nowhere (Passes is_feed text) 0 (length text)
+    → 0 < length text
+    → lines text ≡ take (length text) text ∷ lines (drop (length text) text)
+first-last text never some =
+    let none : NoFeed text = λ k d lt.
+    subst (λ (b : ℕ). is_feed b ≡ false) (get_or_default text k 0 d lt)
+    (false_from_ne_true _ (never k (omega arith) lt)) in
+    let front = take_all (length text) text (omega arith) in
+    let back = drop_all (length text) text (omega arith) in
+    lines-last text none some
+    ∙ ap (λ (l : List ℕ). l ∷ lines []) (sym front)
+    ∙ ap (λ (l : List ℕ). take (length text) text ∷ lines l) (sym back)

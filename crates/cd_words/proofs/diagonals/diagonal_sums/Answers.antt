@@ -1,0 +1,19 @@
+use Rattle.std.proofs.Common.{◌+◌, ◌*◌, arith}
+use Rattle.cd_sector.specs.CodeWords.{diagonal_of}
+use Rattle.cd_words.proofs.WordLemmas.{SumsOf-count, SumsOf-none}
+use Rattle.cd_words.proofs.diagonals.diagonal_sums.Goals as goal
+
+pub loop-k-init : goal.loop-k-init
+loop-k-init c = SumsOf-none (diagonal_of c.args.bytes.now) _ _
+
+pub loop-k-preserved : goal.loop-k-preserved
+loop-k-preserved c =
+    let k = c.loop-k.k in
+    SumsOf-count (diagonal_of c.args.bytes.now) (2 * (4 * k) + 8) (8 * (k + 1)) c.put_sums.new.plain
+    c.put_sums.new.weighted (omega arith)
+    (c.put_sums.ensures (diagonal_of c.args.bytes.now) (8 * k) (omega arith) c.loop-k.invariant
+    c.diagonal_sums_at-eight.ensures)
+
+pub returns : goal.returns
+returns c = c.put_sums-2.ensures (diagonal_of c.args.bytes.now) (8 * c.loop-k.k)
+    (let e = c.loop-k-test.false in omega arith) c.loop-k.invariant c.diagonal_sums_at-last.ensures

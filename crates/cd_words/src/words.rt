@@ -1,0 +1,111 @@
+//! Eight bytes in a word, the first of the lowest worth, and eight code words side by side.
+
+ghost use Rattle.std.specs.Prelude.{◌≡◌, ℕ, ◌+◌, ◌<◌, ◌≤◌, ◌⊎◌, List, [], ◌∷◌, ◌++◌, length, slice_index};
+ghost use Rattle.cd_code.specs.Field.{AreBytes, double};
+ghost use Rattle.cd_sector.specs.CodeWords.{SumsOf};
+ghost use Rattle.cd_words.specs.Words.{IsWord, SumsOfEight};
+
+/// The low seven bits of each byte.
+const LOW_BITS: u64 = 0x7F7F_7F7F_7F7F_7F7F;
+
+/// Eight field elements times alpha.
+#[inline(always)]
+fn doubled_word(x: u64) -> u64
+    ensures { (f : ℕ → ℕ) → IsWord f x → IsWord (λ i. double (f i)) result }
+{
+    let low = x & LOW_BITS;
+    let high = (x - low) >> 7;
+    (low << 1) ^ high.wrapping_mul(0x1D)
+}
+
+/// Eight bytes from place `at` on.
+#[inline(always)]
+pub(crate) fn word_at(bytes: &[u8], at: usize) -> u64
+    requires { at + 8 ≤ length bytes.now }
+    ensures { IsWord (λ i. slice_index bytes.now (at + i)) result }
+{
+    are_bytes(bytes);
+    u64::from_le_bytes([
+        bytes[at],
+        bytes[at + 1],
+        bytes[at + 2],
+        bytes[at + 3],
+        bytes[at + 4],
+        bytes[at + 5],
+        bytes[at + 6],
+        bytes[at + 7],
+    ])
+}
+
+/// Writes eight bytes from place `at` on.
+#[inline(always)]
+fn put_word(bytes: &mut [u8], at: usize, word: u64)
+    requires { at + 8 ≤ length bytes.old }
+    ensures inside { (f : ℕ → ℕ) → IsWord f word
+        → (i : ℕ) → i < 8 → slice_index bytes.new (at + i) ≡ f i }
+    ensures below { (k : ℕ) → k < at → slice_index bytes.new k ≡ slice_index bytes.old k }
+{
+    put_eight(bytes, at, &word.to_le_bytes());
+}
+
+/// Proof step: copies eight bytes to place `at`.
+#[inline(always)]
+fn put_eight(bytes: &mut [u8], at: usize, eight: &[u8; 8])
+    requires { at + 8 ≤ length bytes.old }
+    ensures inside { (i : ℕ) → i < 8 → slice_index bytes.new (at + i) ≡ slice_index eight.now i }
+    ensures below { (k : ℕ) → k < at → slice_index bytes.new k ≡ slice_index bytes.old k }
+{
+    bytes[at..at + 8].copy_from_slice(eight);
+}
+
+/// Proof step: a byte is below 256.
+pub(crate) fn are_bytes(bytes: &[u8])
+    ensures { AreBytes bytes.now }
+{}
+
+/// Both syndromes of eight words, byte by byte.
+#[derive(Clone, Copy)]
+pub(crate) struct WordSums {
+    /// The sum of each word's bytes.
+    pub(crate) plain: u64,
+    /// The sum of each word's bytes times falling powers of alpha.
+    pub(crate) weighted: u64,
+}
+
+impl WordSums {
+    /// The sums of words that have no byte yet.
+    #[inline(always)]
+    pub(crate) fn zero() -> Self
+        ensures { SumsOfEight (λ _. []) result }
+    {
+        WordSums {
+            plain: 0,
+            weighted: 0,
+        }
+    }
+
+    /// Appends one byte to each word.
+    #[inline(always)]
+    pub(crate) fn with_word(self, word: u64) -> Self
+        ensures { (code longer : ℕ → List ℕ) (byte : ℕ → ℕ) → SumsOfEight code self → IsWord byte word
+            → ((i : ℕ) → longer i ≡ code i ++ byte i ∷ []) → SumsOfEight longer result }
+    {
+        WordSums {
+            plain: self.plain ^ word,
+            weighted: doubled_word(self.weighted) ^ word,
+        }
+    }
+}
+
+/// Writes the sums of eight code words at the places from `at` on; some may stand there already.
+#[inline(always)]
+pub(crate) fn put_sums(plain: &mut [u8], weighted: &mut [u8], at: usize, sums: WordSums)
+    requires within_plain { at + 8 ≤ length plain.old }
+    requires within_weighted { at + 8 ≤ length weighted.old }
+    ensures { (code : ℕ → List ℕ) (count : ℕ) → at ≤ count
+        → SumsOf code count plain.old weighted.old → SumsOfEight (λ i. code (at + i)) sums
+        → SumsOf code (at + 8) plain.new weighted.new }
+{
+    put_word(plain, at, sums.plain);
+    put_word(weighted, at, sums.weighted);
+}

@@ -1,0 +1,64 @@
+#!/usr/bin/env bash
+# The core of the page and of cdscript, web/core, in node over library/cdpatch.wasm: `bash tests/core.sh [PROGRAM]`. The last line is
+# 'N passed, M failed'.
+set -u
+. "$(dirname "$0")/helpers.sh"
+export ANSWERS=$scratch
+
+# tested CORE WORD..: runs node with these words on a core, with a line in `tap` for each test.
+tested() {
+    local core=$1
+    shift
+    CORE=$core node --test-reporter=tap "$@" > tap 2>&1
+}
+
+# The tests of the core as it is, each by its name.
+test_core() {
+    local line
+    judge 'the answers of worked and random cases' python3 -B "$tests/core/answers.py" "$ANSWERS"
+    judge 'all tests of the core' tested "$top/web/core" --test "$tests"/core/*.test.mjs
+    while IFS= read -r line; do
+        judge "the core: ${line#* - }" [ "${line%%ok *}" = '' ]
+    done < <(sed -nE 's/^ *((not )?ok [0-9]+ - )/\1/p' tap)
+    [ "$failed" = 0 ] || grep -E -A 12 '^ *not ok' tap | head -n 60
+}
+
+# refused EDIT: whether the test that an edit names fails, if the core is changed so.
+refused() {
+    local name file
+    rm -rf wrong
+    cp -r "$top/web/core" wrong
+    name=$(node "$tests/core/wrong.mjs" "$1" wrong) || return
+    file=$(grep -lF "test('$name'" "$tests"/core/*.test.mjs) || return
+    tested "$PWD/wrong" --test-name-pattern="^$name\$" "$file"
+    grep -qE "^ *not ok [0-9]+ - $name\$" tap
+}
+
+test_wrong() {
+    local edit name
+    for edit in "$tests"/core/wrong/*.edit; do
+        name=${edit##*/}
+        name=${name%.edit}
+        judge "a wrong core is refused: ${name//_/ }" refused "$edit"
+    done
+}
+
+# Types and forms. Debian's eslint finds its parts by NODE_PATH, if node is another than Debian's.
+typed() { tsc -p "$tests/core/tsconfig.json"; }
+linted() { (cd "$top" && NODE_PATH=/usr/share/nodejs eslint -f unix --no-eslintrc -c tests/core/eslint.json web/core); }
+
+test_all() {
+    if [ ! -f "$top/library/cdpatch.wasm" ]; then
+        skip "the core over its module, which tools/wasm.sh makes with wasm-opt (Debian's package binaryen)"
+        return
+    fi
+    missing node nodejs 'the core over its module' && return
+    missing python3 python3 'the core over its module' && return
+    test_core
+    test_wrong
+    missing tsc node-typescript 'the types of the core' || judge 'the types of the core' typed
+    missing eslint eslint 'the forms of the core' || judge 'the forms of the core' linted
+}
+
+test_all
+finish

@@ -1,0 +1,128 @@
+// The calls and what they are given, against cdpatch.h, the man page and the sectors of another encoder.
+
+import assert from 'node:assert/strict';
+import { createHash } from 'node:crypto';
+import { readFileSync } from 'node:fs';
+import { join } from 'node:path';
+import { test } from 'node:test';
+import { calls, core, decoded, diceOf, newCalls, sameBytes, someBytes, top } from './common.mjs';
+
+const records = await core('records.js');
+const { MOST_SECTORS, SECTOR_SIZE, addressIn, addressText, blockAt, imageTooLong, sectorOf, userOf } = await core('sector.js');
+const { MOST_SCRIPT_BYTES } = await core('script.js');
+
+const header = readFileSync(join(top, 'include/cdpatch.h'), 'utf8');
+const vectors = new Uint8Array(readFileSync(join(top, 'crates/cd_vectors/data/cdrkit-8.bin')));
+
+/** The numbers of an enumeration of cdpatch.h. */
+function numbersOf(name) {
+    const names = header.match(new RegExp(`enum ${name} \\{([^}]*)\\}`))[1].match(/\w+/g);
+    return Object.fromEntries(names.map((each, i) => [each.replace('CDPATCH_', ''), i]));
+}
+
+test('the numbers are those of cdpatch.h', () => {
+    assert.deepEqual({ ...records.RESULT }, numbersOf('cdpatch_result'));
+    assert.deepEqual({ ...records.STATUS }, numbersOf('cdpatch_status'));
+    assert.deepEqual({ ...records.SECTOR_KIND }, numbersOf('cdpatch_sector_kind'));
+    assert.deepEqual({ ...records.VERB }, numbersOf('cdpatch_verb'));
+    const contents = numbersOf('cdpatch_content');
+    for (const [name, number] of Object.entries(records.CONTENT)) assert.equal(number, contents[name], name);
+});
+
+test('the limits are those of the man page', () => {
+    const limit = name => Number(readFileSync(join(top, 'man/cdpatch.1'), 'utf8').match(new RegExp(`\\.It ${name}\n(\\d+)`))[1]);
+    assert.equal(MOST_SCRIPT_BYTES, limit('bytes of a script'));
+    assert.equal(MOST_SECTORS, limit('sectors of an image'));
+    assert.ok(imageTooLong(MOST_SECTORS * SECTOR_SIZE + 1));
+    assert.ok(!imageTooLong(MOST_SECTORS * SECTOR_SIZE));
+});
+
+test('each call of cdpatch.h that takes no memory has a method', () => {
+    const names = header.match(/\bcdpatch_\w+(?=\()/g).filter(name => !/^cdpatch_(check|apply)$/.test(name));
+    const code = readFileSync(join(process.env.CORE ?? join(top, 'web/core'), 'codes.js'), 'utf8');
+    for (const name of names) assert.ok(code.includes(name), name);
+});
+
+test('sectors of another encoder', () => {
+    for (let i = 0; i < 8; i++) {
+        const sector = sectorOf(vectors, i);
+        assert.ok(calls.isConsistent(sector));
+        assert.deepEqual(calls.findDefect(sector), { zeros: false, edc: false, p: 0, q: 0 });
+        assert.equal(calls.kind(sector), records.SECTOR_KIND.MODE1);
+        assert.equal(calls.edc(sector.subarray(0, 2064)), new DataView(sector.slice().buffer).getUint32(2064, true));
+        sameBytes(calls.encode(calls.address(i), userOf(vectors, i)), sector, `sector ${i}`);
+        const bare = sector.slice().fill(0, 2076);
+        calls.fillParity(bare);
+        sameBytes(bare, sector, `parity of sector ${i}`);
+    }
+});
+
+test('one wrong byte lies where a column and a diagonal cross', () => {
+    const sector = sectorOf(vectors, 3).slice();
+    sector[12 + 5 + 86 * 7] ^= 1;
+    assert.ok(!calls.isConsistent(sector));
+    assert.deepEqual(calls.findDefect(sector), { zeros: false, edc: true, p: 1, q: 1 });
+    const { columns, diagonals } = calls.findBroken(sector);
+    assert.equal(columns.indexOf(1), 5);
+    assert.equal(columns.length, 86);
+    assert.deepEqual([diagonals.length, diagonals.filter(Boolean).length], [52, 1]);
+});
+
+test('changes of a sector in its place', () => {
+    const { RESULT } = records;
+    const sector = sectorOf(vectors, 2).slice();
+    assert.equal(calls.changeUser(sector, 7, Uint8Array.of(1, 2, 3), false), RESULT.OK);
+    assert.deepEqual([...sector.subarray(23, 26)], [1, 2, 3]);
+    assert.equal(calls.changeAddress(sector, calls.address(75), false), RESULT.OK);
+    assert.equal(addressText(addressIn(sector, 0)), '00:03:00');
+    assert.ok(calls.isConsistent(sector));
+    assert.equal(calls.changeUser(sector, 2047, Uint8Array.of(1, 2), false), RESULT.OUT_OF_RANGE);
+    sector[2100] ^= 255;
+    const damaged = sector.slice();
+    assert.equal(calls.changeUser(sector, 0, Uint8Array.of(9), false), RESULT.DAMAGED);
+    assert.equal(calls.changeAddress(sector, calls.address(1), false), RESULT.DAMAGED);
+    sameBytes(sector, damaged, 'a refused change');
+    assert.equal(calls.changeUser(sector, 0, Uint8Array.of(9), true), RESULT.OK);
+    assert.equal(calls.changeAddress(sector, calls.address(1), true), RESULT.OK);
+    assert.ok(sector[16] === 9 && !calls.isConsistent(sector));
+    assert.equal(calls.rebuild(sector), RESULT.OK);
+    assert.ok(calls.isConsistent(sector));
+    assert.equal(decoded(calls.resultText(RESULT.DAMAGED)).includes('damaged'), true);
+});
+
+test('addresses and their blocks', () => {
+    for (const block of [0, 1, 74, 75, 4349, 4350, 150000, 449848, 449849]) assert.equal(blockAt(calls, calls.address(block)), block);
+    for (const block of [-1, 449850, 2 ** 32, 2 ** 32 + 5]) assert.equal(calls.address(block), null);
+    for (const address of [[0, 1, 0x74], [0, 0x60, 0], [0, 2, 0x75], [0, 2, 0x0A], [0xA0, 2, 0]]) {
+        assert.equal(blockAt(calls, Uint8Array.from(address)), null);
+    }
+});
+
+test('SHA-1 of bytes as they come', () => {
+    const bytes = someBytes(diceOf(1), 1000);
+    const state = calls.sha1Begin();
+    for (const [from, to] of [[0, 0], [0, 1], [1, 64], [64, 700], [700, 1000]]) calls.sha1Add(state, bytes.subarray(from, to));
+    assert.equal(Buffer.from(calls.sha1End(state)).toString('hex'), createHash('sha1').update(bytes).digest('hex'));
+});
+
+test('the arena grows, and is used again', () => {
+    const own = newCalls();
+    const before = own.memory.length;
+    const sectors = new Uint8Array(2352 * 400);
+    own.survey(sectors, 0);
+    const grown = own.memory.length;
+    assert.ok(grown > before && grown < before + sectors.length + 2 * 65536);
+    for (let i = 0; i < 20; i++) own.survey(sectors, 0);
+    assert.equal(own.memory.length, grown);
+});
+
+test('bytes of a wrong size, and what is no longer held, are refused', () => {
+    const short = new Uint8Array(2351);
+    for (const job of [() => calls.kind(short), () => calls.isConsistent(short), () => calls.rebuild(short), () => calls.survey(short, 0),
+        () => calls.encode(new Uint8Array(3), short), () => calls.survey(new Uint8Array(2352), 2 ** 32)]) assert.throws(job, RangeError);
+    calls.hold(new Uint8Array(10));
+    assert.equal(calls.held(0, 10).length, 10);
+    assert.throws(() => calls.held(0, 11), RangeError);
+    calls.edc(new Uint8Array(20));
+    assert.throws(() => calls.held(0, 10), RangeError);
+});

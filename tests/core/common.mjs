@@ -1,0 +1,93 @@
+// What the tests of the core share: the core, which CORE names if it is not web/core; images, readers, and comparing bytes.
+
+import assert from 'node:assert/strict';
+import { readFileSync } from 'node:fs';
+import { join } from 'node:path';
+import { fileURLToPath, pathToFileURL } from 'node:url';
+
+export const top = fileURLToPath(new URL('../..', import.meta.url));
+const folder = process.env.CORE ?? join(top, 'web/core');
+
+/** @param {string} name a module of the core */
+export const core = name => import(pathToFileURL(join(folder, name)).href);
+
+const { Calls } = await core('codes.js');
+const module = new WebAssembly.Module(readFileSync(process.env.MODULE ?? join(top, 'library/cdpatch.wasm')));
+
+/** Calls with a memory of their own. */
+export const newCalls = () => new Calls(module);
+export const calls = newCalls();
+
+/** @param {string} text */
+export const encoded = text => new TextEncoder().encode(text);
+
+/** @param {Uint8Array} bytes */
+export const decoded = bytes => new TextDecoder('latin1').decode(bytes);
+
+/** Numbers below a limit, the same ones for the same seed. */
+export function diceOf(seed) {
+    let state = seed >>> 0;
+    return limit => {
+        state = (state + 0x6D2B79F5) >>> 0;
+        let mixed = Math.imul(state ^ (state >>> 15), state | 1);
+        mixed ^= mixed + Math.imul(mixed ^ (mixed >>> 7), mixed | 61);
+        return ((mixed ^ (mixed >>> 14)) >>> 0) % limit;
+    };
+}
+
+/** @param {Uint8Array} a */
+export function sameBytes(a, b, name) {
+    assert.equal(a.length, b.length, `${name}: sizes`);
+    assert.equal(Buffer.compare(a, b), 0, `${name}: bytes`);
+}
+
+/** Random bytes. */
+export const someBytes = (dice, size) => Uint8Array.from({ length: size }, () => dice(256));
+
+/** Sectors from a block on: most of them consistent, some damaged, of another kind or with another address; and a tail. */
+export function someImage(dice, count, base, tail = 0) {
+    const image = new Uint8Array(count * 2352 + tail).fill(7);
+    const user = new Uint8Array(2048);
+    for (let i = 0; i < count; i++) {
+        user.fill(dice(256), dice(2048));
+        const sector = calls.encode(calls.address(dice(20) === 0 ? 5 : base + i) ?? Uint8Array.of(1, 2, 3), user);
+        if (dice(10) === 0) sector[16 + dice(2336)] ^= 1 + dice(255);
+        if (dice(30) === 0) sector[15] = dice(4);
+        if (dice(40) === 0) sector[dice(12)] ^= 16;
+        image.set(sector, i * 2352);
+    }
+    return image;
+}
+
+/** A reader of bytes in memory, whose reads give at most so many bytes. */
+export function readerOf(bytes, most = Infinity) {
+    const reads = [];
+    return {
+        size: bytes.length,
+        reads,
+        async read(at, length) {
+            reads.push({ at, length });
+            return bytes.subarray(at, at + Math.min(length, most));
+        },
+    };
+}
+
+/** The bytes of pieces, each of which begins where the one before it ends. */
+export function joinedPieces(image, pieces) {
+    let end = 0;
+    const parts = pieces.map(piece => {
+        assert.equal(piece.at ?? piece.from, end, 'a piece follows the one before it');
+        const bytes = piece.bytes ?? image.subarray(piece.from, piece.to);
+        assert.ok(bytes.length > 0, 'no piece is empty');
+        end += bytes.length;
+        return bytes;
+    });
+    return Buffer.concat(parts);
+}
+
+/** A text cut at these places. */
+export const cutAt = (bytes, ...places) => [0, ...places].map((from, i) => bytes.subarray(from, places[i] ?? bytes.length));
+
+/** A text in pieces of one size. */
+export const cutBy = (bytes, size) =>
+    Array.from({ length: Math.ceil(bytes.length / size) }, (_, i) => bytes.subarray(i * size, (i + 1) * size));

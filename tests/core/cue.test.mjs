@@ -1,0 +1,111 @@
+import assert from 'node:assert';
+import { test } from 'node:test';
+import { core } from './common.mjs';
+
+const { sheetOf, tracksOf } = await core('cue.js');
+
+const RAW = 2352;
+
+/** A sheet of one file. @param {...string} lines */
+const sheet = (...lines) => `FILE "game.bin" BINARY\r\n${lines.join('\r\n')}\r\n`;
+
+/** The tracks in short. @param {string} text @param {...number} sizes */
+function tracks(text, ...sizes) {
+    return tracksOf(sheetOf(text), sizes).map(({ number, file, at, end, block, gap, tail }) => ({
+        number, file, at, end, block, tail, gap: gap && [gap.file, gap.at, gap.end, gap.block],
+    }));
+}
+
+test('one file of one track', () => {
+    const text = sheet('  TRACK 01 MODE1/2352', '    INDEX 01 00:00:00');
+    assert.deepStrictEqual(sheetOf(text).files, [{ name: 'game.bin', raw: true }]);
+    assert.deepStrictEqual(tracksOf(sheetOf(text), [100 * RAW]), [{
+        number: 1, type: 'MODE1/2352', sectorSize: RAW, file: 0, at: 0, end: 100 * RAW, block: 0, tail: 0, gap: null }]);
+});
+
+test('a cut last sector is counted', () => {
+    assert.strictEqual(tracks(sheet('TRACK 01 MODE1/2352', 'INDEX 01 00:00:00'), 3 * RAW + 2351)[0].tail, 2351);
+});
+
+test('one file of three tracks: a track begins at its INDEX 01, and INDEX 00 is its gap', () => {
+    const text = sheet('TRACK 01 MODE1/2352', 'INDEX 01 00:00:00', 'TRACK 02 AUDIO', 'INDEX 00 00:02:00', 'INDEX 01 00:04:00',
+        'TRACK 03 AUDIO', 'INDEX 01 00:06:10', 'INDEX 02 00:07:00');
+    assert.deepStrictEqual(tracks(text, 1000 * RAW), [
+        { number: 1, file: 0, at: 0, end: 150 * RAW, block: 0, tail: 0, gap: null },
+        { number: 2, file: 0, at: 300 * RAW, end: 460 * RAW, block: 300, tail: 0, gap: [0, 150 * RAW, 300 * RAW, 150] },
+        { number: 3, file: 0, at: 460 * RAW, end: 1000 * RAW, block: 460, tail: 0, gap: null },
+    ]);
+});
+
+test('a file for each track: blocks go on from file to file', () => {
+    const text = `REM a comment
+        CATALOG 1234567890123
+        FILE "Game (Track 1).bin" BINARY
+          TRACK 01 AUDIO
+            FLAGS DCP
+            INDEX 01 00:00:00
+        FILE "Game (Track 2).bin" binary
+          track 02 mode1/2352
+            INDEX 00 00:00:00
+            INDEX 01 00:02:00
+        FILE Game Three.bin MOTOROLA
+          TRACK 03 AUDIO
+            INDEX 01 00:00:00`;
+    assert.deepStrictEqual(sheetOf(text).files.map(file => file.name), ['Game (Track 1).bin', 'Game (Track 2).bin', 'Game Three.bin']);
+    assert.deepStrictEqual(tracks(text, 500 * RAW, 700 * RAW, 20 * RAW), [
+        { number: 1, file: 0, at: 0, end: 500 * RAW, block: 0, tail: 0, gap: null },
+        { number: 2, file: 1, at: 150 * RAW, end: 700 * RAW, block: 650, tail: 0, gap: [1, 0, 150 * RAW, 500] },
+        { number: 3, file: 2, at: 0, end: 20 * RAW, block: 1200, tail: 0, gap: null },
+    ]);
+});
+
+test('pauses that are in no file count as blocks; the first two seconds do not', () => {
+    const text = sheet('TRACK 01 MODE1/2352', 'PREGAP 00:02:00', 'INDEX 01 00:00:00', 'POSTGAP 00:00:10', 'TRACK 02 AUDIO', 'PREGAP 00:02:00',
+        'INDEX 01 00:01:00');
+    assert.deepStrictEqual(tracks(text, 100 * RAW).map(it => [it.at, it.end, it.block]),
+        [[0, 75 * RAW, 0], [75 * RAW, 100 * RAW, 75 + 10 + 150]]);
+    assert.strictEqual(tracks(text.replace('00:02:00', '00:03:00'), 100 * RAW)[0].block, 75);
+});
+
+test('a gap in the file before, as some programs write it', () => {
+    const text = `FILE "1.bin" BINARY\nTRACK 01 MODE1/2352\nINDEX 01 00:00:00\nTRACK 02 AUDIO\nINDEX 00 00:01:00
+FILE "2.bin" BINARY\nINDEX 01 00:00:00`;
+    assert.deepStrictEqual(tracks(text, 100 * RAW, 50 * RAW), [
+        { number: 1, file: 0, at: 0, end: 75 * RAW, block: 0, tail: 0, gap: null },
+        { number: 2, file: 1, at: 0, end: 50 * RAW, block: 100, tail: 0, gap: [0, 75 * RAW, 100 * RAW, 75] },
+    ]);
+});
+
+test('a file whose tracks have sectors of several sizes', () => {
+    const text = sheet('TRACK 01 MODE1/2048', 'INDEX 01 00:00:00', 'TRACK 02 AUDIO', 'INDEX 00 00:00:10', 'INDEX 01 00:00:20');
+    assert.deepStrictEqual(tracks(text, 10 * 2048 + 30 * RAW).map(it => [it.at, it.end, it.block]),
+        [[0, 10 * 2048, 0], [10 * 2048 + 10 * RAW, 10 * 2048 + 30 * RAW, 20]]);
+});
+
+test('what a sheet does not say of audio files is null', () => {
+    const text = `FILE "1.bin" BINARY\nTRACK 01 MODE1/2352\nINDEX 01 00:00:00\nFILE "2.wav" WAVE\nTRACK 02 AUDIO\nINDEX 01 00:00:00
+FILE "3.bin" BINARY\nTRACK 03 AUDIO\nINDEX 01 00:00:00`;
+    assert.deepStrictEqual(tracks(text, 9 * RAW, 5000, 4 * RAW).map(it => [it.at, it.end, it.block]),
+        [[0, 9 * RAW, 0], [null, null, 9], [0, 4 * RAW, null]]);
+});
+
+test('a sheet that can\'t be used names its line', () => {
+    const refused = (/** @type {string} */ text, /** @type {number} */ place, /** @type {RegExp} */ message) =>
+        assert.throws(() => tracks(text, 100 * RAW), { place, message });
+    refused('', 0, /^the cue sheet has no track$/);
+    refused('TRACK 01 AUDIO', 1, /^line 1 of the cue sheet: a track before the first FILE$/);
+    refused('FILE x', 1, /FILE wants a name and a format/);
+    refused(sheet('INDEX 01 00:00:00'), 2, /no TRACK stands before this/);
+    refused(sheet('TRACK 01 MODE1'), 2, /MODE1 is no type of a track/);
+    refused(sheet('TRACK one AUDIO'), 2, /TRACK wants a number and a type/);
+    refused(sheet('TRACK 00 AUDIO'), 2, /track 0 comes after track 0/);
+    refused(sheet('TRACK 01 AUDIO', 'INDEX 00 00:00:00'), 2, /track 1 has no INDEX 01/);
+    refused(sheet('TRACK 01 AUDIO', 'INDEX 01 00:00:00', 'TRACK 01 AUDIO', 'INDEX 01 00:00:01'), 4, /track 1 comes after track 1/);
+    refused(sheet('TRACK 01 AUDIO', 'INDEX 01 00:00:75'), 3, /00:00:75 is no time/);
+    refused(sheet('TRACK 01 AUDIO', 'INDEX 01 00:60:00'), 3, /is no time/);
+    refused(sheet('TRACK 01 AUDIO', 'INDEX 01'), 3, /INDEX wants a number and a time/);
+    refused(sheet('TRACK 01 AUDIO', 'INDEX 01 00:00:09', 'INDEX 02 00:00:08'), 4, /INDEX 02 goes back in its file/);
+    refused(sheet('TRACK 01 AUDIO', 'INDEX 01 00:00:00', 'INDEX 00 00:00:08'), 4, /INDEX 00 comes too late/);
+    refused(sheet('TRACK 01 AUDIO', 'INDEX 01 00:02:00'), 2, /track 1 begins after the end of game.bin/);
+    refused(`${sheet('TRACK 01 AUDIO', 'INDEX 01 00:00:00')}FILE b BINARY\nINDEX 02 00:00:00`, 2, /track 1 lies in two files/);
+});

@@ -1,0 +1,153 @@
+import assert from 'node:assert';
+import { test } from 'node:test';
+import { core, diceOf } from './common.mjs';
+import { rawOf } from './discs.mjs';
+
+const { findIn, joinFound, sectorsBeyond } = await core('find.js');
+const { encodeText, encodingOf, tableOf } = await core('text.js');
+
+const RAW = 2352;
+const USER = 2048;
+const ALL = 1e9;
+
+/** Units of one spelling each, a byte a unit. @param {string} digits */
+const bytesOf = digits => encodingOf('hex').units(digits);
+
+/** @param {Uint8Array[][]} wanted @returns {Uint8Array[]} every way to spell it */
+function spelled(wanted) {
+    if (wanted.length === 0) return [new Uint8Array(0)];
+    const [first, ...rest] = wanted;
+    return spelled(rest).flatMap(end => first.map(begin => Uint8Array.from([...begin, ...end])));
+}
+
+/**
+ * Every place at which a text begins, byte by byte.
+ * @param {Uint8Array} user
+ * @param {Uint8Array[][]} wanted
+ * @param {number} base
+ */
+function naive(user, wanted, base) {
+    const texts = spelled(wanted);
+    const hits = [];
+    for (let at = 0; at < user.length; at++) {
+        const text = texts.find(it => at + it.length <= user.length && it.every((byte, i) => user[at + i] === byte));
+        if (text) hits.push({ block: base + Math.floor(at / USER), offset: at % USER, size: text.length });
+    }
+    return hits;
+}
+
+/**
+ * The answer by ranges of so many sectors.
+ * @param {Uint8Array} raw
+ * @param {Uint8Array[][]} wanted
+ * @param {{ base: number, range: number, limit: number }} how
+ */
+function byRanges(raw, wanted, { base, range, limit }) {
+    const parts = [];
+    for (let first = 0; first < raw.length / RAW; first += range) {
+        const bytes = raw.slice(first * RAW, (first + range + sectorsBeyond(wanted)) * RAW);
+        parts.unshift(findIn(null, bytes, base + first, { wanted, count: range, limit }));
+    }
+    return joinFound(parts, limit);
+}
+
+/** The user data of an image, random, of few values, so that there are many hits. @param {number} seed @param {number} sectors */
+function randomUser(seed, sectors) {
+    const dice = diceOf(seed);
+    return Uint8Array.from({ length: sectors * USER }, () => dice(3));
+}
+
+for (const range of [1, 2, 3, 7]) {
+    test(`ranges of ${range} sectors have the hits of a naive search, each once`, () => {
+        const user = randomUser(range, 7);
+        const raw = rawOf(user);
+        for (const digits of ['00', '0102', '020200010201', '010101010101', '01'.repeat(40)]) {
+            const due = naive(user, bytesOf(digits), 225);
+            const found = byRanges(raw, bytesOf(digits), { base: 225, range, limit: ALL });
+            assert.deepStrictEqual(found, { first: 225, count: due.length, hits: due });
+        }
+    });
+
+    test(`ranges of ${range} sectors: a text cut by a border at each of its bytes is found once`, () => {
+        const text = encodeText(encodingOf('CP932'), '漢字とEND');
+        for (const border of [1, 2, 3, 7]) {
+            for (let cut = 0; cut <= text.length; cut++) {
+                const user = new Uint8Array(9 * USER).fill(0x8A);
+                user.set(text, border * USER - cut);
+                const found = byRanges(rawOf(user), encodingOf('CP932').units('漢字とEND'), { base: 0, range, limit: 10 });
+                const block = cut > 0 ? border - 1 : border;
+                const offset = cut > 0 ? USER - cut : 0;
+                assert.deepStrictEqual(found.hits, [{ block, offset, size: text.length }], `border ${border}, cut ${cut}`);
+                assert.strictEqual(found.count, 1);
+            }
+        }
+    });
+
+    test(`ranges of ${range} sectors: a text longer than they are, and the end of the image`, () => {
+        const text = randomUser(99, 5).subarray(0, 4 * USER + 100);
+        const user = new Uint8Array(9 * USER).fill(0x55);
+        user.set(text, 9 * USER - text.length);
+        const wanted = [...text].map(byte => [Uint8Array.of(byte)]);
+        const how = { base: 0, range, limit: 10 };
+        assert.deepStrictEqual(byRanges(rawOf(user), wanted, how).hits, [{ block: 4, offset: USER - 100, size: text.length }]);
+        assert.strictEqual(byRanges(rawOf(user).slice(0, 8 * RAW), wanted, how).count, 0);
+    });
+}
+
+test('a character that stands twice is found in both spellings', () => {
+    const user = new Uint8Array(4 * USER);
+    const places = [[2047, [0xFB, 0xFC]], [2100, [0xEE, 0xE0]], [4095, [0xEE, 0xE0]], [5000, [0xEE, 0xFC]]];
+    for (const [at, bytes] of places) user.set(bytes, at);
+    for (const range of [1, 2, 4]) {
+        const found = byRanges(rawOf(user), encodingOf('CP932').units('髙'), { base: 10, range, limit: ALL });
+        assert.deepStrictEqual(found.hits.map(it => (it.block - 10) * USER + it.offset), [2047, 2100, 4095]);
+    }
+});
+
+test('spellings of several lengths: every one is found, with its size', () => {
+    const own = tableOf(new TextEncoder().encode('01=a\n0102=a\n02=b\n0202=b\n00=c'));
+    const user = randomUser(5, 3);
+    for (const text of ['ab', 'ba', 'bab', 'aabb', 'cab', 'a']) {
+        const wanted = own.units(text);
+        const due = naive(user, wanted, 0).map(({ block, offset }) => `${block}:${offset}`);
+        for (const range of [1, 2, 3]) {
+            const { count, hits } = byRanges(rawOf(user), wanted, { base: 0, range, limit: ALL });
+            assert.deepStrictEqual(hits.map(it => `${it.block}:${it.offset}`), due, text);
+            assert.strictEqual(count, due.length);
+            for (const hit of hits) {
+                const at = hit.block * USER + hit.offset;
+                assert.ok(spelled(wanted).some(it => Buffer.compare(it, user.subarray(at, at + hit.size)) === 0), text);
+            }
+        }
+    }
+});
+
+test('all hits are counted, and the first ones kept', () => {
+    const raw = rawOf(new Uint8Array(9 * USER));
+    for (const range of [1, 4, 9]) {
+        const found = byRanges(raw, bytesOf('0000'), { base: 3, range, limit: 5 });
+        assert.strictEqual(found.count, 9 * USER - 1);
+        assert.deepStrictEqual(found.hits, [0, 1, 2, 3, 4].map(offset => ({ block: 3, offset, size: 2 })));
+        assert.deepStrictEqual(byRanges(raw, bytesOf('0000'), { base: 3, range, limit: 0 }).hits, []);
+    }
+});
+
+test('what is rare in one range and not in the next is found in both', () => {
+    const user = new Uint8Array(6 * USER);
+    user.fill(7, 0, 3 * USER);
+    user.set([7, 0], 3 * USER - 1);
+    user.set([7, 0], 5 * USER - 1);
+    assert.deepStrictEqual(byRanges(rawOf(user), bytesOf('0700'), { base: 0, range: 3, limit: 9 }).hits.map(it => it.block), [2, 4]);
+});
+
+test('no text and no image have no hits', () => {
+    assert.deepStrictEqual(findIn(null, rawOf(new Uint8Array(USER)), 4, { wanted: [], count: 1, limit: 5 }), { first: 4, count: 0, hits: [] });
+    assert.deepStrictEqual(joinFound([], 5), { first: 0, count: 0, hits: [] });
+    assert.strictEqual(findIn(null, new Uint8Array(0), 0, { wanted: bytesOf('00'), count: 7, limit: 5 }).count, 0);
+    assert.deepStrictEqual([0, 1, 2, 2049, 2050].map(size => sectorsBeyond(bytesOf('00'.repeat(size)))), [0, 0, 1, 1, 2]);
+});
+
+test('the parity and the header of a sector are not searched', () => {
+    const raw = rawOf(new Uint8Array(2 * USER)); // 77 everywhere but in the user data
+    assert.strictEqual(byRanges(raw, bytesOf('77'), { base: 0, range: 2, limit: 5 }).count, 0);
+});

@@ -1,0 +1,34 @@
+// The forms by which the files of the core can be joined to one function.
+
+import assert from 'node:assert/strict';
+import { readFileSync, readdirSync } from 'node:fs';
+import { join } from 'node:path';
+import { test } from 'node:test';
+import { top } from './common.mjs';
+
+const folder = process.env.CORE ?? join(top, 'web/core');
+const files = readdirSync(folder).filter(name => name.endsWith('.js'));
+const linesOf = name => readFileSync(join(folder, name), 'utf8').split('\n');
+const DECLARED = /^(?:export )?(?:async )?(?:function\*?|class|const|let) (\w+|[[{])/;
+
+test('imports are lines, and what is declared has one name in all files', () => {
+    assert.ok(files.length >= 7);
+    const names = new Map();
+    for (const file of files) {
+        for (const line of linesOf(file)) {
+            if (/^import\b/.test(line)) assert.match(line, /^import \{ \w+(, \w+)* \} from '\.\/\w+\.js';$/, file);
+            if (/^export\b/.test(line)) assert.match(line, /^export (async function\*?|function\*?|class|const) \w/, file);
+            const [, name] = line.match(DECLARED) ?? [];
+            if (name === undefined) continue;
+            assert.match(name, /^\w/, `${file}: ${line}`);
+            assert.equal(names.get(name), undefined, `${name} is in ${names.get(name)} and in ${file}`);
+            names.set(name, file);
+        }
+    }
+});
+
+test('the files name no page and no node', () => {
+    for (const file of files) {
+        for (const line of linesOf(file)) assert.doesNotMatch(line, /\b(window|document|self|process|Buffer|require)\b *[.([]/, file);
+    }
+});

@@ -1,0 +1,103 @@
+import assert from 'node:assert';
+import { test } from 'node:test';
+import { calls, core, diceOf, readerOf } from './common.mjs';
+
+const { basesIn, joinBases, natureOf, sliceOf } = await core('image.js');
+
+const RAW = 2352;
+
+/** @param {Uint8Array | string} bytes */
+const kind = async bytes => (await natureOf(calls, readerOf(Buffer.from(bytes), 1000))).kind;
+
+/** Consistent sectors from a block on. @param {number} block @param {number} count */
+function sectors(block, count) {
+    const user = new Uint8Array(2048).fill(block);
+    return Buffer.concat(Array.from({ length: count }, (_, i) => calls.encode(calls.address(block + i), user)));
+}
+
+/** The same, each with 96 bytes of subchannels. @param {Buffer} raw */
+const longer = raw => Buffer.concat(Array.from({ length: raw.length / RAW }, (_, i) =>
+    Buffer.concat([raw.subarray(RAW * i, RAW * (i + 1)), Buffer.alloc(96, 0x40)])));
+
+/** The base by ranges of so many sectors. @param {Uint8Array} raw @param {number} range */
+function baseOf(raw, range) {
+    const parts = [];
+    for (let first = 0; first < raw.length / RAW; first += range) {
+        parts.unshift(basesIn(calls, raw.subarray(first * RAW, (first + range) * RAW), first));
+    }
+    return joinBases(parts);
+}
+
+test('raw images are known, short ones and cut ones, with audio before and after', async () => {
+    const raw = sectors(0, 60);
+    for (const count of [1, 2, 3, 51, 60]) assert.strictEqual(await kind(raw.subarray(0, count * RAW)), 'raw');
+    assert.strictEqual(await kind(raw.subarray(0, 60 * RAW - 1)), 'raw');
+    const audio = Buffer.alloc(3000 * RAW, 1);
+    assert.strictEqual(await kind(Buffer.concat([audio, sectors(0, 400)])), 'raw');
+    assert.strictEqual(await kind(Buffer.concat([sectors(0, 400), audio])), 'raw');
+    const damaged = sectors(0, 60);
+    damaged[3] = damaged[RAW + 3] = 0;
+    assert.strictEqual(await kind(damaged), 'raw');
+});
+
+test('sectors of 2448 bytes are known', async () => {
+    const raw = sectors(0, 400);
+    for (const count of [1, 2, 3, 49, 51, 98, 102, 400]) {
+        assert.strictEqual(await kind(longer(raw.subarray(0, count * RAW))), 'subchannels', `${count} sectors`);
+    }
+});
+
+test('other files are known by how they begin', async () => {
+    const wave = Buffer.concat([Buffer.from('RIFF\0\0\0\0WAVEfmt '), Buffer.alloc(RAW)]);
+    const iso = Buffer.alloc(40 * 2048);
+    iso.write('CD001', 16 * 2048 + 1);
+    const files = [['chd', 'MComprHD....'], ['ecm', 'ECM\0....'], ['archive', 'PK\x03\x04..'], ['archive', 'Rar!..'], ['wave', wave],
+        ['iso', iso], ['empty', ''], ['audio', Buffer.alloc(5 * RAW, 3)], ['unknown', Buffer.alloc(5 * RAW + 1, 3)], ['unknown', 'x'],
+        ['unknown', 'RIFF....AVI '], ['archive', Buffer.from([0x1F, 0x8B, 8, 0])],
+        ['cue', 'FILE "a.bin" BINARY\r\n  TRACK 01 MODE1/2352\r\n    INDEX 01 00:00:00\r\n']];
+    for (const [due, bytes] of files) assert.strictEqual(await kind(bytes), due);
+});
+
+test('each kind of file has words for it, and all but a raw image what to do with it', async () => {
+    const nature = await natureOf(calls, readerOf(Buffer.from('MComprHD....')));
+    assert.deepStrictEqual(nature, {
+        kind: 'chd', what: 'a CHD file', advice: 'Unpack it with `chdman extractcd`, which writes a cue sheet and an image.' });
+    assert.strictEqual((await natureOf(calls, readerOf(sectors(0, 2)))).advice, '');
+});
+
+test('the base of an image is what its addresses agree in, by ranges of any size', () => {
+    for (const base of [0, 1, 225, 449000]) {
+        for (const range of [1, 2, 7, 20]) assert.deepStrictEqual(baseOf(sectors(base, 20), range), { base, agree: 20, mode1: 20 });
+    }
+});
+
+test('other addresses, audio, other modes and bytes that are no address do not change the base', () => {
+    const raw = Buffer.concat([Buffer.alloc(3 * RAW, 9), sectors(1000, 20), Buffer.alloc(RAW - 1)]);
+    sectors(7, 1).copy(raw, 5 * RAW);
+    raw.set([0xAA, 0xBB, 0xCC], 6 * RAW + 12);
+    raw.set([0x00, 0x01, 0x00], 7 * RAW + 12); // before block 0
+    raw[8 * RAW + 15] = 2;
+    for (const range of [1, 3, 24]) assert.deepStrictEqual(baseOf(raw, range), { base: 997, agree: 16, mode1: 19 });
+});
+
+test('no base is guessed: half of the addresses are not enough', () => {
+    assert.deepStrictEqual(baseOf(Buffer.concat([sectors(10, 5), sectors(300, 5)]), 4), { base: null, agree: 0, mode1: 10 });
+    assert.deepStrictEqual(baseOf(Buffer.concat([sectors(10, 5), sectors(300, 6)]), 4), { base: 295, agree: 6, mode1: 11 });
+    assert.deepStrictEqual(baseOf(Buffer.alloc(4 * RAW, 9), 4), { base: null, agree: 0, mode1: 0 });
+    assert.deepStrictEqual(joinBases([]), { base: null, agree: 0, mode1: 0 });
+});
+
+test('an image that begins before block 0 has a base below 0', () => {
+    assert.deepStrictEqual(baseOf(Buffer.concat([Buffer.alloc(150 * RAW), sectors(0, 10)]), 40), { base: -150, agree: 10, mode1: 10 });
+});
+
+test('a slice of a reader reads nothing outside', async () => {
+    const dice = diceOf(3);
+    const bytes = Uint8Array.from({ length: 100 }, () => dice(256));
+    const slice = sliceOf(readerOf(bytes), 10, 40);
+    assert.strictEqual(slice.size, 30);
+    assert.deepStrictEqual(await slice.read(0, 30), bytes.slice(10, 40));
+    assert.deepStrictEqual(await slice.read(25, 100), bytes.slice(35, 40));
+    assert.strictEqual((await slice.read(30, 5)).length, 0);
+    assert.strictEqual((await slice.read(50, 5)).length, 0);
+});

@@ -1,0 +1,184 @@
+import assert from 'node:assert';
+import { spawnSync } from 'node:child_process';
+import { test } from 'node:test';
+import { core } from './common.mjs';
+
+const { ENCODINGS, encodeText, encodingOf, tableOf, textOfFile } = await core('text.js');
+
+/** @param {Uint8Array} bytes */
+const hex = bytes => Buffer.from(bytes).toString('hex').toUpperCase();
+
+/** @param {string} name @param {string} text */
+const encoded = (name, text) => hex(encodeText(encodingOf(name), text));
+
+/** @param {string} name @param {string} digits */
+const decoded = (name, digits) => encodingOf(name).text(Buffer.from(digits, 'hex'));
+
+/** @param {string} text */
+const table = text => tableOf(new TextEncoder().encode(text));
+
+/** Every character of the first plane, without the halves of others. */
+const CHARACTERS = Array.from({ length: 0x10000 }, (_, code) => String.fromCharCode(code)).filter(it => !/\p{Cs}/u.test(it));
+
+/**
+ * The bytes that Python writes for each of these characters, and the texts that it reads in each pair of bytes, '' for none.
+ * @param {string} codec
+ */
+function python(codec) {
+    const run = spawnSync('python3', ['-c', `
+import json
+def tried(f):
+    try: return f()
+    except UnicodeError: return ''
+codec = '${codec}'
+print(json.dumps([[tried(lambda: chr(c).encode(codec).hex().upper()) for c in range(0x10000)],
+    [tried(lambda: bytes([c >> 8, c & 255] if c > 255 else [c]).decode(codec)) for c in range(0x10000)]]))`], { maxBuffer: 1 << 26 });
+    if (run.error) return null;
+    const [written, read] = JSON.parse(run.stdout.toString());
+    return { written, read };
+}
+
+/** The bytes of each character, '' for none. @param {string} name */
+function allEncoded(name) {
+    const encoding = encodingOf(name);
+    return CHARACTERS.map(it => {
+        try {
+            return hex(encodeText(encoding, it));
+        } catch {
+            return '';
+        }
+    });
+}
+
+test('CP932 is read as Python reads it, but for five single bytes that are no characters', t => {
+    const known = python('cp932');
+    if (!known) return t.skip('no python3');
+    const encoding = encodingOf('CP932');
+    const others = [];
+    known.read.forEach((/** @type {string} */ text, /** @type {number} */ code) => {
+        const bytes = Uint8Array.from(code > 255 ? [code >> 8, code & 255] : [code]);
+        const own = encoding.text(bytes).includes('\uFFFD') ? '' : encoding.text(bytes);
+        if (own !== text && !/[\x80\uF8F0-\uF8F3]/.test(text)) others.push(code.toString(16));
+    });
+    assert.deepStrictEqual(others, []);
+    for (const single of ['80', 'A0', 'FD', 'FE', 'FF']) assert.strictEqual(decoded('CP932', single), '\uFFFD');
+});
+
+test('CP932 is written as Python writes it, but for 373 kanji with IBM\'s codes and a dash that it lacks', t => {
+    const known = python('cp932');
+    if (!known) return t.skip('no python3');
+    const [ibm, fewer, more, others] = [[], [], [], []];
+    allEncoded('CP932').forEach((own, i) => {
+        const theirs = known.written[CHARACTERS[i].charCodeAt(0)];
+        if (own === theirs) return;
+        if (/^F[ABC]/.test(own) && /^E[DE]/.test(theirs)) ibm.push(CHARACTERS[i]);
+        else if (own === '') fewer.push(theirs);
+        else if (theirs === '') more.push(CHARACTERS[i]);
+        else others.push(CHARACTERS[i]);
+    });
+    assert.deepStrictEqual(others, []);
+    assert.strictEqual(ibm.length, 373);
+    assert.deepStrictEqual(fewer, ['80', 'A0', 'FD', 'FE', 'FF']);
+    assert.deepStrictEqual(more, ['—']);
+});
+
+test('of two spellings Windows\' comes first, and the other is kept', () => {
+    assert.strictEqual(encoded('CP932', '∵Ⅱ￢ⅰ髙①～－'), '81E6' + '8755' + '81CA' + 'FA40' + 'FBFC' + '8740' + '8160' + '817C');
+    assert.deepStrictEqual(encodingOf('CP932').units('ⅰ髙A').map(unit => unit.map(hex)), [['FA40', 'EEEF'], ['FBFC', 'EEE0'], ['41']]);
+    assert.deepStrictEqual(encodingOf('CP932').units('∵').map(unit => unit.map(hex)), [['81E6', '879A', 'FA5B']]);
+    assert.strictEqual(encoded('CP932', '—〜−‖¢£¬'), '815C8160817C81618191819281CA');
+});
+
+test('EUC-JP is read as Python reads it where both have a character', t => {
+    const known = python('euc_jp');
+    if (!known) return t.skip('no python3');
+    const encoding = encodingOf('EUC-JP');
+    const others = [];
+    known.read.forEach((/** @type {string} */ text, /** @type {number} */ code) => {
+        const own = encoding.text(Uint8Array.from(code > 255 ? [code >> 8, code & 255] : [code]));
+        if (text && own !== text && code > 0x80) others.push(own);
+    });
+    // JIS X 0208's signs that have two places in Unicode: Windows and the web take the full-width ones.
+    assert.strictEqual(others.sort().join(''), [...'～∥－￠￡￢'].sort().join(''));
+});
+
+test('EUC-JP has row 13 and IBM\'s kanji in two bytes', () => {
+    assert.strictEqual(encoded('EUC-JP', 'あA①Ⅱ髙ｱ'), 'A4A2' + '41' + 'ADA1' + 'ADB6' + 'FCE2' + '8EB1');
+    assert.strictEqual(encoded('EUC-JP', '〜'), 'A1C1');
+});
+
+test('each character that an encoding writes, it reads again', () => {
+    for (const name of ENCODINGS.filter(it => it !== 'hex')) {
+        const encoding = encodingOf(name);
+        const own = allEncoded(name);
+        const again = CHARACTERS.filter((it, i) => own[i] && encoding.text(Buffer.from(own[i], 'hex')) !== it);
+        assert.strictEqual(again.join(''), ['CP932', 'EUC-JP'].includes(name) ? '¢£¬—‖−〜' : '', name);
+    }
+    for (const name of ENCODINGS.filter(it => it.startsWith('UTF'))) {
+        assert.strictEqual(allEncoded(name).filter(it => it === '').length, 0, name);
+        assert.strictEqual(encodingOf(name).text(encodeText(encodingOf(name), '\uFEFFA😀\n')), '\uFEFFA😀\n');
+    }
+});
+
+test('every spelling of a part is read as that part', () => {
+    for (const name of ['CP932', 'EUC-JP']) {
+        const encoding = encodingOf(name);
+        for (const it of encoding.spellings.keys()) {
+            if ('¢£¬—‖−〜'.includes(it)) continue;
+            for (const bytes of encoding.spellings.get(it)) assert.strictEqual(encoding.text(bytes), it);
+        }
+    }
+});
+
+test('UTF-8 and UTF-16 are those of the system, line ends and all', () => {
+    const text = 'ほげ\r\n上\n😀';
+    assert.strictEqual(encoded('utf8', text), hex(Buffer.from(text)));
+    assert.strictEqual(encoded('UTF-16LE', text), hex(Buffer.from(text, 'utf16le')));
+    assert.strictEqual(encoded('UTF-16BE', text), hex(Buffer.from(text, 'utf16le').swap16()));
+});
+
+test('hex is read in any case and with spaces, and written in capitals', () => {
+    assert.strictEqual(encoded('HEX', '0a ff\n B0'), '0AFFB0');
+    assert.strictEqual(decoded('hex', '0aff'), '0AFF');
+    assert.throws(() => encoded('hex', '0A F 0'), { place: 4, message: /half a byte/ });
+    assert.throws(() => encoded('hex', '0A zz'), { place: 4, message: 'hex has no \'z\' (U+007A), character 4 of the text' });
+});
+
+test('a character without bytes is named, with its place', () => {
+    assert.throws(() => encoded('CP932', '上😀下é'), { place: 2, message: 'CP932 has no \'😀\' (U+1F600), character 2 of the text' });
+    assert.throws(() => encoded('sjis', '😎'), { place: 1 });
+    assert.throws(() => encoded('EUC-JP', '髙\n\u00A0'), { place: 3, message: 'EUC-JP has no U+00A0, character 3 of the text' });
+    for (const name of ['UTF-8', 'UTF-16LE', 'UTF-16BE']) assert.throws(() => encoded(name, '😀x\uD800'), { place: 3, message: /U\+D800/ });
+});
+
+test('encodings are known by their usual names, and no others', () => {
+    for (const name of ENCODINGS) assert.strictEqual(encodingOf(name).name, name);
+    for (const name of ['Shift_JIS', 'shift-jis', 'SJIS', 'cp932', 'Windows-31J']) assert.strictEqual(encodingOf(name).name, 'CP932');
+    for (const name of ['', 'latin1', 'constructor', 'UTF-16']) assert.strictEqual(encodingOf(name), null);
+});
+
+test('bytes that are no character do not hide the next one', () => {
+    assert.strictEqual(decoded('CP932', '41FF8142'), 'A\uFFFD。');
+    assert.strictEqual(decoded('CP932', '81'), '\uFFFD');
+    assert.strictEqual(decoded('CP932', '8120'), '\uFFFD ');
+});
+
+test('a table takes the longest match, both ways', () => {
+    const own = table('\uFEFF01=a\r\n0102=ab\n03=abc\n04==\n05= \n/00=<end>\n*FE\n; a comment\n\n06=漢\n07=a');
+    assert.strictEqual(hex(encodeText(own, 'abcaba= 漢\n<end>')), '03' + '0102' + '01' + '04' + '05' + '06' + 'FE' + '00');
+    assert.strictEqual(own.text(Uint8Array.of(1, 2, 1, 3, 0x55, 0xFE, 0, 7)), 'abaabc\uFFFD\n<end>a');
+    assert.deepStrictEqual(own.units('a').map(unit => unit.map(hex)), [['01', '07']]);
+    assert.throws(() => encodeText(own, 'abd'), { place: 3, message: 'the table has no \'d\' (U+0064), character 3 of the text' });
+});
+
+test('a table that can\'t be read names its line', () => {
+    assert.throws(() => table('01=a\nxx=b'), { place: 2, message: 'line 2 of the table is not HEX=TEXT' });
+    assert.throws(() => table('01=a\n02='), { place: 2 });
+    assert.throws(() => table('01=a\n123=b'), { place: 2 });
+    assert.throws(() => table('01=a\n02=b\n01=c'), { place: 3, message: 'line 3 of the table: 01 stands twice' });
+});
+
+test('files of a person are UTF-8, or else CP932', () => {
+    assert.strictEqual(textOfFile(Buffer.from('\uFEFF漢字')), '漢字');
+    assert.strictEqual(textOfFile(encodeText(encodingOf('CP932'), '漢字')), '漢字');
+});

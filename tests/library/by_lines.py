@@ -1,0 +1,171 @@
+"""The commands of the program as a client makes them that has neither calls on whole images nor memory for one: by the calls of a
+shared library of libcdpatch on lines, patches, sectors and lines of the log."""
+
+import ctypes
+from functools import lru_cache
+from itertools import groupby
+
+SIZE = 2352
+HAND = 3  # sectors that a patch can meet
+LINE_SIZE, PATCH_SIZE = 96, 4096
+KINDS = ('nosync', 'mode0', 'mode1', 'mode2', 'other')
+OK = 0
+NOTHING, PATCH, NO_HEAD = 0, 3, 4
+KEPT = b'\xA5'
+MORE = 40  # bytes after what a call may write, which must stay
+
+
+class Line(ctypes.Structure):
+    _fields_ = [('size', ctypes.c_size_t), ('taken', ctypes.c_size_t)]
+
+
+class Patch(ctypes.Structure):
+    _fields_ = [('block', ctypes.c_uint32), ('offset', ctypes.c_uint16), ('count', ctypes.c_uint16), ('verb', ctypes.c_uint8),
+                ('has_old', ctypes.c_uint8), ('value', ctypes.c_uint8), ('address', ctypes.c_uint8 * 3)]
+
+
+class Place(ctypes.Structure):
+    _fields_ = [('block', ctypes.c_uint32), ('offset', ctypes.c_uint16)]
+
+
+class Record(ctypes.Structure):
+    _fields_ = [('kind', ctypes.c_uint8), ('address', ctypes.c_bool), ('zeros', ctypes.c_bool), ('edc', ctypes.c_bool),
+                ('p', ctypes.c_uint8), ('q', ctypes.c_uint8)]
+
+
+@lru_cache
+def opened(path):
+    """The calls, with the types of what they answer."""
+    library = ctypes.CDLL(path)
+    number, size, pointer = ctypes.c_uint32, ctypes.c_size_t, ctypes.c_void_p
+    shapes = {'first_line': (ctypes.c_bool, pointer, size, pointer),
+              'read_line': (number, number, number, size, pointer, size, pointer, pointer, pointer),
+              'apply_patch': (number, pointer, pointer, pointer, pointer, size, ctypes.c_bool, pointer),
+              'survey': (ctypes.c_bool, pointer, size, number, pointer, size),
+              'outcome_line': (size, number, number, number, ctypes.c_uint16, pointer),
+              'last_line': (size, number, number, pointer),
+              'fault_line': (size, number, number, pointer)}
+    for name, (answer, *arguments) in shapes.items():
+        call = getattr(library, 'cdpatch_' + name)
+        call.restype, call.argtypes = answer, arguments
+    return library
+
+
+def line_by(call, *words):
+    """The line that a call writes."""
+    text = ctypes.create_string_buffer(KEPT * (LINE_SIZE + MORE), LINE_SIZE + MORE)
+    length = call(*words, text)
+    if text.raw[length:].strip(KEPT):
+        raise ValueError('bytes changed after a line')
+    return text.raw[:length]
+
+
+class Fault(Exception):
+    """The number of a line, and that of its fault."""
+
+
+def lines_of(library, text):
+    """The lines of a text, as the calls cut them."""
+    room, start, line = ctypes.create_string_buffer(text, len(text) + 1), 0, Line()
+    where, found = ctypes.addressof(room), ctypes.byref(line)
+    while library.cdpatch_first_line(where + start, len(text) - start, found):
+        yield where + start, line.size
+        start += line.taken
+
+
+def patches_of(library, text):
+    """The patches of a script in the order of its lines: of each the line's number, the record, its new and its old bytes."""
+    new, old = (ctypes.create_string_buffer(PATCH_SIZE) for _ in range(2))
+    version, number, made = 0, 0, []
+    for number, (line, size) in enumerate(lines_of(library, text), 1):
+        patch = Patch()
+        content = library.cdpatch_read_line(version, number, len(made), line, size, ctypes.byref(patch), new, old)
+        if content == PATCH:
+            bytes_of_each = patch.count if patch.verb == 0 else 0
+            made.append((number, patch, new.raw[:bytes_of_each], old.raw[:bytes_of_each * (patch.has_old == 1)]))
+        elif content >= NO_HEAD:
+            raise Fault(number, content)
+        elif content != NOTHING:
+            version = content
+    if version == 0:
+        raise Fault(number + 1, NO_HEAD)
+    return made
+
+
+def apply_in_hand(library, image, base, patch, new, old, carry):
+    """Makes a patch on a copy of the sectors from its block on, which goes back into the image. Returns result and place."""
+    count = len(image) // SIZE
+    first = patch.block - base
+    taken = min(HAND, count - first) if 0 <= first < count else 0
+    hand = ctypes.create_string_buffer(bytes(image[first * SIZE:(first + taken) * SIZE]) + KEPT * MORE, taken * SIZE + MORE)
+    place = Place()
+    new, old = (each.ljust(PATCH_SIZE, KEPT) for each in (new, old))
+    result = library.cdpatch_apply_patch(ctypes.byref(patch), new, old, hand, taken, carry, ctypes.byref(place))
+    if hand.raw[taken * SIZE:].strip(KEPT):
+        raise ValueError('bytes changed after the sectors in hand')
+    if taken and result != OK and hand.raw[:taken * SIZE] != image[first * SIZE:(first + taken) * SIZE]:
+        raise ValueError('a refused patch changed the sectors in hand')
+    if taken:
+        image[first * SIZE:(first + taken) * SIZE] = hand.raw[:taken * SIZE]
+    return result, place
+
+
+def patched(library, image, base, carry, script):
+    """The status, the log and the new image."""
+    try:
+        patches = patches_of(library, script)
+    except Fault as fault:
+        return 2, line_by(library.cdpatch_fault_line, *fault.args), None
+    image, log, applied = bytearray(image), [], 0
+    for number, patch, new, old in sorted(patches, key=lambda each: each[1].block):
+        result, place = apply_in_hand(library, image, base, patch, new, old, carry)
+        applied += result == OK
+        log.append(line_by(library.cdpatch_outcome_line, number, result, place.block, place.offset))
+    log.append(line_by(library.cdpatch_last_line, applied, len(patches) - applied))
+    return int(applied < len(patches)), b''.join(log), bytes(image)
+
+
+def surveyed(library, image, base):
+    """A record of each sector."""
+    count = len(image) // SIZE
+    records = (Record * (count + 1))()
+    ctypes.memset(ctypes.byref(records[count]), KEPT[0], ctypes.sizeof(Record))
+    if not library.cdpatch_survey(image, count, base, records, count):
+        raise ValueError('no survey')
+    if bytes(records[count]).strip(KEPT):
+        raise ValueError('bytes changed after the records')
+    return records[:count]
+
+
+def finding(record):
+    """What an audit says of a record."""
+    return ((' address' if record.address else '') + (' zeros' if record.zeros else '') + (' edc' if record.edc else '')
+            + (f' p={record.p}' if record.p else '') + (f' q={record.q}' if record.q else ''))
+
+
+def listed(library, image, base):
+    """The status and the text of `list`."""
+    text, block = '', base
+    for kind, together in groupby(record.kind for record in surveyed(library, image, base)):
+        first, block = block, block + len(list(together))
+        text += f'{first}-{block - 1} {KINDS[kind]}\n'
+    return 0, f'{text}sectors {block - base} tail {len(image) % SIZE}\n'.encode(), None
+
+
+def audited(library, image, base):
+    """The status and the text of `audit`."""
+    records = surveyed(library, image, base)
+    findings = [f'{block}{finding(record)}\n' for block, record in enumerate(records, base) if finding(record)]
+    mode1 = sum(KINDS[record.kind] == 'mode1' for record in records)
+    damaged = sum(record.zeros or record.edc or record.p > 0 or record.q > 0 for record in records)
+    text = ''.join(findings) + f'sectors {len(records)} mode1 {mode1} damaged {damaged} tail {len(image) % SIZE}\n'
+    return int(bool(findings)), text.encode(), None
+
+
+def run(path, command, image, base, carry, script):
+    """The status, the text, and the new image of `apply`, or None. Raises if a call has changed other bytes."""
+    library = opened(path)
+    if command in ('list', 'audit'):
+        return (listed if command == 'list' else audited)(library, image, base)
+    status, text, out = patched(library, image, base, carry, script)
+    return status, text, out if command == 'apply' else None

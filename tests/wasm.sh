@@ -1,0 +1,61 @@
+#!/usr/bin/env bash
+# The WebAssembly modules of libcdpatch in node, as tools/wasm.sh has left them in library/: `bash tests/wasm.sh [PROGRAM]`. The
+# last line is 'N passed, M failed'.
+set -u
+. "$(dirname "$0")/helpers.sh"
+header=$top/include/cdpatch.h
+largest=200000 # bytes of a module
+
+holds() { { "$@" > log; } 2>> log || { tail -n 5 log; false; }; }
+refuses() { ! { "$@" > log; } 2> errors; }
+
+# What a module has to show: the calls of the header but those that take memory, what a host needs, and no import.
+due() {
+    sed -nE 's/^[a-z].*[ *](cdpatch_[a-z0-9_]+)\(.*/\1/p' "$1" | grep -vxE 'cdpatch_(check|apply)'
+    printf '%s\n' memory __heap_base
+}
+shows_the_calls() {
+    node "$tests/wasm/show.mjs" "$1" > shown || return
+    cmp -s <(due "$2" | sed 's/^/exports /' | sort) <(grep -vx 'without a flag' shown | sort)
+}
+
+# by_cases MODULE, by_model MODULE: the worked cases, and random ones.
+by_cases() { bash "$tests/cases/run" model --without-model --module "$1"; }
+by_model() { python3 -B "$tests/wasm/compare.py" "$1" "${2:-300}"; }
+
+test_module() {
+    local name=${1##*/}
+    judge "$name has the calls of the header that take no memory, and needs nothing" shows_the_calls "$1" "$header"
+    judge "$name has at most $largest bytes" test "$(stat -c %s "$1")" -le $largest
+    judge "the worked cases by $name" holds by_cases "$1"
+    judge "300 cases of tests/model by $name" holds by_model "$1"
+}
+
+# Wrong modules and a wrong header, which the tests above refuse.
+test_wrong() {
+    LC_ALL=C sed 's/old bytes differ/old bytes deffir/' "$1" > wrong.wasm
+    judge 'a module with another text' refuses cmp -s "$1" wrong.wasm
+    judge 'a module with another text is refused by the worked cases' refuses by_cases wrong.wasm
+    judge 'a module with another text is refused by cases of tests/model' refuses by_model wrong.wasm
+    sed '/cdpatch_survey(/d' "$header" > wrong.h
+    judge 'a header with a call less is refused' refuses shows_the_calls "$1" wrong.h
+}
+
+test_modules() {
+    local name
+    for name in cdpatch-wasm64 cdpatch; do
+        if [ ! -f "$top/library/$name.wasm" ]; then
+            skip "the WebAssembly modules, which tools/wasm.sh makes with wasm-opt (Debian's package binaryen)"
+            return
+        fi
+    done
+    missing node nodejs 'the WebAssembly modules' && return
+    missing python3 python3 'the WebAssembly modules' && return
+    test_module "$top/library/cdpatch-wasm64.wasm"
+    test_module "$top/library/cdpatch.wasm"
+    judge 'cdpatch.wasm needs no flag of node' grep -qx 'without a flag' shown
+    test_wrong "$top/library/cdpatch.wasm"
+}
+
+test_modules
+finish

@@ -1,0 +1,189 @@
+// What a client makes of the calls that take no memory: the four commands on an image.
+
+import { Room, Size } from './calls.mjs';
+
+/** @typedef {import('./calls.mjs').Calls} Calls */
+/** @typedef {{ status: number, text: Uint8Array, out: Uint8Array | null }} Answer */
+/** @typedef {{ number: number, block: number, record: Uint8Array, fresh: Uint8Array, old: Uint8Array }} Patch */
+
+export const SECTOR = 2352;
+const PATCH_SIZE = 4096;
+const LINE_SIZE = 96;
+const RECORD_SIZE = 6;
+const MOST_IN_HAND = 3;
+const KINDS = ['nosync', 'mode0', 'mode1', 'mode2', 'other'];
+const MODE1 = 2;
+const PATCH = 3;
+const NO_HEAD = 4;
+
+/** @param {Uint8Array} bytes the memory of a record */
+const fields = bytes => new DataView(bytes.buffer, bytes.byteOffset, bytes.length);
+
+/** @param {string} text */
+const encoded = text => new TextEncoder().encode(text);
+
+/**
+ * A line that a call makes.
+ * @param {Calls} calls
+ * @param {string} name
+ * @param {...number} given
+ */
+function lineBy(calls, name, ...given) {
+    const room = new Room(LINE_SIZE);
+    const size = Number(calls.call(name, ...given, room));
+    if (room.bytes.subarray(size).some(byte => byte !== 0xA5)) throw new Error('bytes changed after a line');
+    return room.bytes.subarray(0, size);
+}
+
+/**
+ * The lines of a text.
+ * @param {Calls} calls
+ * @param {Uint8Array} text
+ */
+function* linesOf(calls, text) {
+    for (let rest = text; ;) {
+        const found = new Room(16);
+        if (!calls.call('cdpatch_first_line', rest, new Size(rest.length), found)) return;
+        const [size, taken] = [0, 8].map(at => Number(fields(found.bytes).getBigUint64(at, true)));
+        yield rest.subarray(0, size);
+        rest = rest.subarray(taken);
+    }
+}
+
+/**
+ * The patches of a script, in the order in which they are applied, or the line of its fault.
+ * @param {Calls} calls
+ * @param {Uint8Array} text
+ * @returns {Patch[] | Uint8Array}
+ */
+export function script(calls, text) {
+    const patches = [];
+    let [version, number] = [0, 0];
+    for (const line of linesOf(calls, text)) {
+        number += 1;
+        const [record, fresh, old] = [new Room(16), new Room(PATCH_SIZE), new Room(PATCH_SIZE)];
+        const content = Number(calls.call('cdpatch_read_line', version, number, new Size(patches.length), line,
+            new Size(line.length), record, fresh, old));
+        if (content > PATCH) return lineBy(calls, 'cdpatch_fault_line', number, content);
+        if (content === PATCH) {
+            patches.push({ number, block: fields(record.bytes).getUint32(0, true), record: record.bytes, fresh: fresh.bytes, old: old.bytes });
+        } else {
+            version = content || version;
+        }
+    }
+    if (version === 0) return lineBy(calls, 'cdpatch_fault_line', number + 1, NO_HEAD);
+    return patches.sort((a, b) => a.block - b.block);
+}
+
+/**
+ * `check` and `apply`.
+ * @param {Calls} calls
+ * @param {{ image: Uint8Array, base: number, carry: boolean, script: Uint8Array }} given
+ * @returns {Answer}
+ */
+export function apply(calls, { image, base, carry, script: text }) {
+    const patches = script(calls, text);
+    if (patches instanceof Uint8Array) return { status: 2, text: patches, out: null };
+    const out = image.slice();
+    const end = image.length - image.length % SECTOR;
+    const log = [];
+    let applied = 0;
+    for (const patch of patches) {
+        const first = (patch.block - base) * SECTOR;
+        const last = Math.min(first + MOST_IN_HAND * SECTOR, end);
+        const there = first >= 0 && first < last;
+        const hand = new Room(there ? out.subarray(first, last) : 0);
+        const place = new Room(8);
+        const outcome = Number(calls.call('cdpatch_apply_patch', patch.record, patch.fresh, patch.old, hand,
+            new Size(hand.bytes.length / SECTOR), carry, place));
+        const where = fields(place.bytes);
+        log.push(lineBy(calls, 'cdpatch_outcome_line', patch.number, outcome, where.getUint32(0, true), where.getUint16(4, true)));
+        applied += Number(outcome === 0);
+        if (there) out.set(hand.bytes, first);
+    }
+    log.push(lineBy(calls, 'cdpatch_last_line', applied, patches.length - applied));
+    return { status: Number(applied < patches.length), text: Buffer.concat(log), out };
+}
+
+/**
+ * A record of each sector of an image.
+ * @param {Calls} calls
+ * @param {Uint8Array} image
+ * @param {number} base
+ */
+function survey(calls, image, base) {
+    const count = Math.floor(image.length / SECTOR);
+    const records = new Room(RECORD_SIZE * count);
+    const sectors = image.subarray(0, SECTOR * count);
+    if (!calls.call('cdpatch_survey', sectors, new Size(count), base, records, new Size(count))) throw new Error('no survey');
+    return Array.from({ length: count }, (_, i) => {
+        const [kind, address, zeros, edc, p, q] = records.bytes.subarray(RECORD_SIZE * i, RECORD_SIZE * (i + 1));
+        return { kind, address, zeros, edc, p, q };
+    });
+}
+
+/**
+ * The text of a call that reports on an image, and its status.
+ * @param {Calls} calls
+ * @param {string} name
+ * @param {Uint8Array} image
+ * @param {number} base
+ * @returns {Answer}
+ */
+function reported(calls, name, image, base) {
+    const [room, length] = [new Room(100 + 40 * Math.floor(image.length / SECTOR)), new Room(8)];
+    const status = Number(calls.call(name, image, new Size(image.length), base, room, new Size(room.bytes.length), length));
+    return { status, text: room.bytes.subarray(0, Number(fields(length.bytes).getBigUint64(0, true))), out: null };
+}
+
+/**
+ * An answer by the survey, which is that of the call that reports.
+ * @param {Calls} calls
+ * @param {string} name
+ * @param {Uint8Array} image
+ * @param {number} base
+ * @param {Answer} made
+ */
+function agreed(calls, name, image, base, made) {
+    const due = reported(calls, name, image, base);
+    if (due.status !== made.status || Buffer.compare(due.text, made.text) !== 0) throw new Error(`${name} prints another text than its survey`);
+    return made;
+}
+
+/**
+ * `list`.
+ * @param {Calls} calls
+ * @param {{ image: Uint8Array, base: number }} given
+ */
+export function list(calls, { image, base }) {
+    const lines = [];
+    const kinds = survey(calls, image, base).map(it => it.kind);
+    for (let first = 0, i = 1; i <= kinds.length; i++) {
+        if (kinds[i] === kinds[first]) continue;
+        lines.push(`${base + first}-${base + i - 1} ${KINDS[kinds[first]]}\n`);
+        first = i;
+    }
+    lines.push(`sectors ${kinds.length} tail ${image.length % SECTOR}\n`);
+    return agreed(calls, 'cdpatch_list', image, base, { status: 0, text: encoded(lines.join('')), out: null });
+}
+
+/**
+ * `audit`.
+ * @param {Calls} calls
+ * @param {{ image: Uint8Array, base: number }} given
+ */
+export function audit(calls, { image, base }) {
+    const records = survey(calls, image, base);
+    let [mode1, damaged] = [0, 0];
+    const lines = records.flatMap((it, i) => {
+        if (it.kind !== MODE1) return [];
+        mode1 += 1;
+        damaged += Number(Boolean(it.zeros || it.edc || it.p || it.q));
+        const found = (it.address ? ' address' : '') + (it.zeros ? ' zeros' : '') + (it.edc ? ' edc' : '')
+            + (it.p ? ` p=${it.p}` : '') + (it.q ? ` q=${it.q}` : '');
+        return found ? [`${base + i}${found}\n`] : [];
+    });
+    const status = Number(lines.length > 0);
+    lines.push(`sectors ${records.length} mode1 ${mode1} damaged ${damaged} tail ${image.length % SECTOR}\n`);
+    return agreed(calls, 'cdpatch_audit', image, base, { status, text: encoded(lines.join('')), out: null });
+}

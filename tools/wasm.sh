@@ -1,0 +1,87 @@
+#!/usr/bin/env bash
+# `tools/wasm.sh DIRECTORY` makes two WebAssembly modules in DIRECTORY of the calls of libcdpatch that take no memory:
+# cdpatch-wasm64.wasm, which is proved for that target, and of it cdpatch.wasm, whose memory has 32-bit addresses, so that engines
+# without 64-bit memories run it too; and cdpatch-wasm64.txt, the verdict. It needs the libraries that tools/prove.sh has built, and
+# wasm-opt. RT is the rt that it runs.
+#
+# A module has one crate of exports. So the crates of exports are joined to one, in a copy of the repository: the merge gate takes
+# no crate for wasm64. Their modules keep their names, and the paths to them lose the crate's.
+set -euo pipefail
+mkdir -p "$1"
+directory=$(realpath "$1")
+cd "$(dirname "$0")/.."
+crate=cdpatch_wasm64
+
+# The names in the rows of crates in crates.txt.
+named_by() { sed -n -E "s/^($(paste -sd '|' <<< "$1"))( staticlib)?: *//p" crates.txt | tr -s ' ' '\n' | sort -u; }
+
+# The crates of exports whose calls take no memory, the crates that they name, and the repository's crates below these.
+exporting=$(bash tools/library_crates.sh | tr ' ' '\n' | grep -vx cd_c_images)
+named=$({ named_by "$exporting"; echo cd_words; } | sort -u)
+below=$named
+while more=$(printf '%s\n' "$below" "$(named_by "$below")" | grep . | sort -u) && [ "$more" != "$below" ]; do
+    below=$more
+done
+
+# Nothing is proved again if nothing has changed.
+changed() {
+    local name
+    [ -f "$directory/cdpatch-wasm64.wasm" ] && [ -f "$directory/cdpatch.wasm" ] || return 0
+    for name in $exporting $below; do
+        [ ! -d "crates/$name" ] || find "crates/$name"/{src,specs,proofs} -newer "$directory/cdpatch.wasm" -print -quit 2> /dev/null
+    done | grep -q . || [ -n "$(find crates.txt tools/wasm.sh -newer "$directory/cdpatch.wasm")" ]
+}
+changed || exit 0
+
+# On the same disk, so that built libraries are linked and not copied.
+room=$(mktemp -d "$directory/room.XXXXXX")
+trap 'rm -rf "$room"' EXIT
+
+# join_part PART HEAD: a part of all crates, without the files HEAD that declare their modules. No two may have the same name.
+join_part() {
+    local name file
+    for name in $exporting; do
+        [ -d "crates/$name/$1" ] || continue
+        while IFS= read -r file; do
+            if [ -e "$made/$1/$file" ]; then
+                echo "tools/wasm.sh: two crates have $1/$file" >&2
+                exit 1
+            fi
+            mkdir -p "$(dirname "$made/$1/$file")"
+            cp "crates/$name/$1/$file" "$made/$1/$file"
+        done < <(cd "crates/$name/$1" && find . -type f ! -path "./$2")
+    done
+}
+
+for name in $below; do
+    [ -d "crates/$name" ] || continue
+    mkdir -p "$room/crates/$name/out"
+    for part in src specs proofs out/rlib; do
+        [ ! -d "crates/$name/$part" ] || cp -al "crates/$name/$part" "$room/crates/$name/$part"
+    done
+    grep -E "^$name:" crates.txt >> "$room/crates.txt"
+done
+echo "$crate wasm64: $(paste -sd ' ' <<< "$named")" >> "$room/crates.txt"
+made=$room/crates/$crate
+mkdir -p "$made"/{src,specs,proofs}
+join_part src lib.rt
+join_part specs Lib.antt
+join_part proofs Lib.antt
+for name in $exporting; do
+    grep -h '^mod ' "crates/$name/src/lib.rt" >> "$made/src/modules"
+    cat "crates/$name/specs/Lib.antt" >> "$made/specs/Lib.antt"
+    [ ! -f "crates/$name/proofs/Lib.antt" ] || cat "crates/$name/proofs/Lib.antt" >> "$made/proofs/Lib.antt"
+done
+{ printf '%s\n' '//! The calls of libcdpatch that take no memory.' '#![tactic(auto)]' ''; sort "$made/src/modules"; } > "$made/src/lib.rt"
+rm "$made/src/modules"
+find "$made" -type f -exec sed -i -E "s/\\bRattle\\.($(paste -sd '|' <<< "$exporting"))\\./Rattle.$crate./g" {} +
+# Vectors are compiled a lane at a time for this target, so here the survey works on words of 64 bits, under the same contracts.
+sed -i 's/use cd_sector::/use cd_words::/' "$made/src/bodies.rt"
+
+(cd "$made" && "${RT:-rt}" lib 2>&1) > "$room/log" || { cat "$room/log"; exit 1; }
+cat "$room/log"
+mv "$made/out/$crate.wasm" "$directory/cdpatch-wasm64.wasm"
+wasm-opt --enable-memory64 --enable-bulk-memory --enable-sign-ext --enable-mutable-globals --enable-nontrapping-float-to-int \
+    --memory64-lowering "$directory/cdpatch-wasm64.wasm" -o "$directory/cdpatch.wasm"
+grep '^logic=proved ' "$room/log" > "$directory/cdpatch-wasm64.txt"
+chmod 644 "$directory"/cdpatch{,-wasm64}.wasm

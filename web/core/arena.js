@@ -1,0 +1,94 @@
+// The memory of a module of libcdpatch: a few rooms of its own, and an arena, which grows and is used again.
+
+import { PATCH_RECORD_SIZE } from './records.js';
+
+const PATCH_SIZE = 4096;
+const ANSWER_SIZE = 144;
+const PAGE_SIZE = 65536;
+
+/** @param {number} size */
+function aligned(size) {
+    return Math.ceil(size / 16) * 16;
+}
+
+/** Bytes that are held stay until others are put. So nothing may be awaited while they are used. */
+export class Arena {
+    /** @param {WebAssembly.Module} module of libcdpatch, with 32-bit addresses of memory */
+    constructor(module) {
+        this.exports = /** @type {Record<string, any>} */ (new WebAssembly.Instance(module).exports);
+        this.answer = aligned(Number(this.exports.__heap_base.value));
+        this.patch = this.answer + ANSWER_SIZE;
+        this.fresh = this.patch + PATCH_RECORD_SIZE;
+        this.old = this.fresh + PATCH_SIZE;
+        this.arena = this.old + PATCH_SIZE;
+        this.places = { answer: BigInt(this.answer), patch: BigInt(this.patch), fresh: BigInt(this.fresh), old: BigInt(this.old) };
+        this.memory = new Uint8Array(0);
+        this.view = new DataView(this.memory.buffer);
+        this.heldSize = 0;
+        this.reserve(0);
+    }
+
+    /** @param {number} size how many bytes the arena has to have */
+    reserve(size) {
+        const missing = this.arena + size - this.exports.memory.buffer.byteLength;
+        if (missing > 0) this.exports.memory.grow(Math.ceil(missing / PAGE_SIZE));
+        if (this.memory.buffer === this.exports.memory.buffer) return;
+        this.memory = new Uint8Array(this.exports.memory.buffer);
+        this.view = new DataView(this.exports.memory.buffer);
+    }
+
+    /**
+     * Copies bytes to the arena, and answers where each stands.
+     * @param {...Uint8Array} pieces
+     */
+    put(...pieces) {
+        this.heldSize = 0;
+        this.reserve(pieces.reduce((sum, piece) => sum + aligned(piece.length), 0));
+        let end = this.arena;
+        return pieces.map(piece => {
+            const at = end;
+            this.memory.set(piece, at);
+            end += aligned(piece.length);
+            return BigInt(at);
+        });
+    }
+
+    /**
+     * A copy of bytes of the memory.
+     * @param {number | bigint} at
+     * @param {number | bigint} size
+     */
+    copied(at, size) {
+        return this.memory.slice(Number(at), Number(at) + Number(size));
+    }
+
+    /** @param {Uint8Array} bytes a text, or sectors, for the calls that take a place in what is held */
+    hold(bytes) {
+        this.put(bytes);
+        this.heldSize = bytes.length;
+    }
+
+    /**
+     * What is held, not copied.
+     * @param {number} from
+     * @param {number} to
+     */
+    held(from, to) {
+        return this.memory.subarray(this.arena + this.within(from), this.arena + this.within(to));
+    }
+
+    /** @param {number} place in what is held */
+    within(place) {
+        if (place > this.heldSize) throw new RangeError(`place ${place} of ${this.heldSize} bytes`);
+        return place;
+    }
+
+    /**
+     * The text that a call writes.
+     * @param {string} name
+     * @param {...number} given
+     */
+    line(name, ...given) {
+        return this.copied(this.answer, this.exports[name](...given, this.places.answer));
+    }
+}

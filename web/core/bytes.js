@@ -1,0 +1,93 @@
+// Bytes as doors read and write them.
+
+/**
+ * What an image is read by: bytes from a place on, as many as were asked for or fewer, but none only if the image ends there.
+ * @typedef {{ size: number, read(at: number, length: number): Promise<Uint8Array> }} Reader
+ */
+
+/**
+ * A piece of what is written: bytes at a place, or a slice of a reader, which is there what it was.
+ * @typedef {{ at: number, bytes: Uint8Array } | { from: number, to: number }} Piece
+ */
+
+/** So many bytes of a slice are read at a time. */
+const READ_SIZE = 1 << 22;
+
+/** An image that ends before its size. */
+export class ImageEnded extends Error {
+    /** @param {number} at the place of the first byte that is missing */
+    constructor(at) {
+        super(`the image ends at byte ${at}`);
+        this.name = 'ImageEnded';
+        this.at = at;
+    }
+}
+
+/**
+ * Reads so many bytes, by more reads if the first are short. Throws ImageEnded if the image ends before.
+ * @param {Reader} reader
+ * @param {number} at
+ * @param {number} length
+ * @returns {Promise<Uint8Array>}
+ */
+export async function readBytes(reader, at, length) {
+    let bytes = new Uint8Array(0);
+    for (let done = 0; done < length;) {
+        const part = await reader.read(at + done, length - done);
+        if (part.length === length) return part;
+        if (part.length === 0) throw new ImageEnded(at + done);
+        if (done === 0) bytes = new Uint8Array(length);
+        bytes.set(part, done);
+        done += part.length;
+    }
+    return bytes;
+}
+
+/**
+ * The bytes of pieces, in turn.
+ * @param {Reader} reader that the slices are of
+ * @param {Iterable<Piece> | AsyncIterable<Piece>} pieces
+ * @returns {AsyncGenerator<Uint8Array>}
+ */
+export async function* bytesOfPieces(reader, pieces) {
+    for await (const piece of pieces) {
+        if ('bytes' in piece) {
+            yield piece.bytes;
+            continue;
+        }
+        for (let at = piece.from; at < piece.to; at += READ_SIZE) {
+            yield await readBytes(reader, at, Math.min(READ_SIZE, piece.to - at));
+        }
+    }
+}
+
+/** Bytes that others are appended to. */
+export class ByteList {
+    constructor() {
+        this.room = new Uint8Array(1 << 12);
+        this.size = 0;
+    }
+
+    /** @param {Uint8Array} bytes what is appended, copied */
+    push(bytes) {
+        const size = this.size + bytes.length;
+        if (size > this.room.length) {
+            const room = new Uint8Array(Math.max(size, 2 * this.room.length));
+            room.set(this.bytes());
+            this.room = room;
+        }
+        this.room.set(bytes, this.size);
+        this.size = size;
+    }
+
+    /** The bytes, not copied: they stay until the list changes. */
+    bytes() {
+        return this.room.subarray(0, this.size);
+    }
+
+    /** @param {number} count how many bytes at the front are dropped */
+    drop(count) {
+        this.room.copyWithin(0, count, this.size);
+        this.size -= count;
+    }
+}

@@ -1,0 +1,181 @@
+// Characters and their bytes: Shift-JIS as Windows has it (CP932), EUC-JP, and what else has a table.
+
+/** Signs that Japanese character sets have twice in Unicode: what people type, and what the decoders give. */
+const ALIKE = { '—': '―', '〜': '～', '−': '－', '‖': '∥', '¢': '￠', '£': '￡', '¬': '￢' };
+
+const NO_CHARACTER = '\uFFFD';
+
+/** Why a text has no bytes, or a table can't be read. `place` is the character of the text or the line of the table, from 1. */
+export class TextFault extends Error {
+    /**
+     * @param {string} message
+     * @param {number} place
+     */
+    constructor(message, place) {
+        super(message);
+        this.place = place;
+    }
+}
+
+/**
+ * A character as a message shows it.
+ * @param {string} character
+ */
+function shownCharacter(character) {
+    const code = (character.codePointAt(0) || 0).toString(16).toUpperCase().padStart(4, '0');
+    return /[\p{C}\p{Z}\p{M}]/u.test(character) ? `U+${code}` : `'${character}' (U+${code})`;
+}
+
+/**
+ * @param {string} name of an encoding
+ * @param {string} text
+ * @param {number} at where the character that it lacks stands in the text
+ */
+export function lacks(name, text, at) {
+    const place = [...text.slice(0, at)].length + 1;
+    const character = String.fromCodePoint(text.codePointAt(at) || 0);
+    return new TextFault(`${name} has no ${shownCharacter(character)}, character ${place} of the text`, place);
+}
+
+/** Characters and their bytes, as a character set or a game's table has them. The longest match is taken, both ways. */
+export class CharacterTable {
+    /** @param {string} name */
+    constructor(name) {
+        this.name = name;
+        /** @type {Map<string, Uint8Array[]>} */
+        this.spellings = new Map();
+        /** @type {Map<string, string>} by the bytes, one character each */
+        this.texts = new Map();
+        this.longestText = 0;
+        this.longestBytes = 0;
+    }
+
+    /**
+     * Adds bytes and what they mean. What was added first is the usual spelling. Answers whether the bytes were new.
+     * @param {Uint8Array} bytes
+     * @param {string} text
+     */
+    add(bytes, text) {
+        const key = String.fromCharCode(...bytes);
+        if (this.texts.has(key)) return false;
+        this.texts.set(key, text);
+        this.spellings.set(text, [...this.spellings.get(text) || [], bytes]);
+        this.longestText = Math.max(this.longestText, text.length);
+        this.longestBytes = Math.max(this.longestBytes, bytes.length);
+        return true;
+    }
+
+    /**
+     * Lets a text be written as another one.
+     * @param {string} text
+     * @param {string} other
+     */
+    addAlike(text, other) {
+        const spellings = this.spellings.get(other);
+        if (spellings && !this.spellings.has(text)) this.spellings.set(text, spellings);
+    }
+
+    /**
+     * The parts of a text, each with its spellings.
+     * @param {string} text
+     */
+    units(text) {
+        const units = [];
+        for (let at = 0; at < text.length;) {
+            const length = longestIn(this.spellings, text, at, this.longestText);
+            if (length === 0) throw lacks(this.name, text, at);
+            units.push(this.spellings.get(text.substr(at, length)) || []);
+            at += length;
+        }
+        return units;
+    }
+
+    /**
+     * The text of bytes.
+     * @param {Uint8Array} bytes
+     */
+    text(bytes) {
+        const keys = Array.from(bytes, byte => String.fromCharCode(byte)).join('');
+        const parts = [];
+        for (let at = 0; at < keys.length;) {
+            const length = longestIn(this.texts, keys, at, this.longestBytes);
+            parts.push(length === 0 ? NO_CHARACTER : this.texts.get(keys.substr(at, length)));
+            at += Math.max(length, 1);
+        }
+        return parts.join('');
+    }
+}
+
+/**
+ * How much of a text from a place on is the longest key of a map, 0 if none is.
+ * @param {Map<string, unknown>} map
+ * @param {string} text
+ * @param {number} at
+ * @param {number} longest
+ */
+function longestIn(map, text, at, longest) {
+    let length = Math.min(longest, text.length - at);
+    while (length > 0 && !map.has(text.substr(at, length))) length -= 1;
+    return length;
+}
+
+/**
+ * The numbers of runs, in order.
+ * @param {...number[]} runs first and last
+ */
+function numbersOf(...runs) {
+    return runs.flatMap(([first, last]) => Array.from({ length: last - first + 1 }, (_, i) => first + i));
+}
+
+/**
+ * Adds each pair of bytes that a decoder reads as one character.
+ * @param {CharacterTable} table
+ * @param {string} label of the decoder
+ * @param {number[]} before bytes before each pair
+ * @param {number[]} leads
+ * @param {number[]} trails
+ */
+function addPairs(table, label, before, leads, trails) {
+    const codes = leads.flatMap(lead => trails.map(trail => [...before, lead, trail]));
+    const bytes = Uint8Array.from(codes.flatMap(code => [...code, 0x0A]));
+    new TextDecoder(label).decode(bytes).split('\n').forEach((text, i) => {
+        if (text.length === 1 && text !== NO_CHARACTER) table.add(Uint8Array.from(codes[i]), text);
+    });
+}
+
+/**
+ * Adds ASCII and the half-width katakana. No decoder is asked: they differ in 1A, 1C, 7F and 80.
+ * @param {CharacterTable} table
+ * @param {number[]} before bytes before each katakana
+ */
+function addSingles(table, before) {
+    for (const code of numbersOf([0x00, 0x7F])) table.add(Uint8Array.of(code), String.fromCharCode(code));
+    for (const code of numbersOf([0xA1, 0xDF])) {
+        table.add(Uint8Array.of(...before, code), String.fromCharCode(0xFF61 + code - 0xA1));
+    }
+}
+
+/** @param {CharacterTable} table */
+function addAllAlike(table) {
+    for (const [text, other] of Object.entries(ALIKE)) table.addAlike(text, other);
+    return table;
+}
+
+/** Shift-JIS as Windows has it. Of two spellings of a kanji Windows takes IBM's, in rows FA to FC: NEC's, in ED and EE, come last. */
+export function cp932() {
+    const table = new CharacterTable('CP932');
+    const leads = numbersOf([0x81, 0x9F], [0xE0, 0xEC], [0xEF, 0xFC], [0xED, 0xEE]);
+    addSingles(table, []);
+    addPairs(table, 'shift_jis', [], leads, numbersOf([0x40, 0x7E], [0x80, 0xFC]));
+    return addAllAlike(table);
+}
+
+/** EUC-JP. Two bytes come before three (8F, JIS X 0212). */
+export function eucJp() {
+    const table = new CharacterTable('EUC-JP');
+    const bytes = numbersOf([0xA1, 0xFE]);
+    addSingles(table, [0x8E]);
+    addPairs(table, 'euc-jp', [], bytes, bytes);
+    addPairs(table, 'euc-jp', [0x8F], bytes, bytes);
+    return addAllAlike(table);
+}

@@ -1,0 +1,184 @@
+// Search over the user data of sectors, of any kind. A hit may lie over borders of sectors, and of the ranges that workers share.
+
+import { SECTOR_SIZE, USER_SIZE, userOf } from './sector.js';
+import { joinedBytes } from './text.js';
+
+/** How many bytes of a range are counted to know which are rare, and how many of the wanted ones are weighed. */
+const SAMPLES = 20000;
+const MOST_OPENINGS = 64;
+
+/**
+ * What is searched for: a text's parts in order, each in one of its spellings, as Encoding.units gives them.
+ * @typedef {Uint8Array[][]} Wanted
+ */
+/** @typedef {{ block: number, offset: number, size: number }} Hit the user byte at which it begins, and how many bytes it has */
+/** @typedef {{ first: number, count: number, hits: Hit[] }} Found from block `first` on: how many there are, and the first of them */
+
+/**
+ * How many sectors after a range the search has to see, so that no hit that begins in the range is missed.
+ * @param {Wanted} wanted
+ */
+export function sectorsBeyond(wanted) {
+    const longest = wanted.reduce((sum, unit) => sum + Math.max(...unit.map(bytes => bytes.length)), 0);
+    return Math.ceil(Math.max(longest - 1, 0) / USER_SIZE);
+}
+
+/**
+ * The hits that begin in the first `count` sectors of raw bytes: all are counted, and the first `limit` are kept. The bytes have
+ * `sectorsBeyond` sectors more, or as many as the image has. Hits may overlap; a place counts once.
+ * @param {unknown} _calls
+ * @param {Uint8Array} bytes of whole raw sectors
+ * @param {number} firstBlock
+ * @param {{ wanted: Wanted, count: number, limit: number }} args
+ * @returns {Found}
+ */
+export function findIn(_calls, bytes, firstBlock, { wanted, count, limit }) {
+    const parts = joinedParts(wanted);
+    const user = userBytes(bytes);
+    const end = parts.length > 0 ? Math.min(user.length, count * USER_SIZE) : 0;
+    const anchor = anchorOf(parts, user);
+    /** @type {Found} */
+    const found = { first: firstBlock, count: 0, hits: [] };
+    for (let at = nextStart(anchor, user, 0, end); at < end; at = nextStart(anchor, user, at + 1, end)) {
+        const stop = endOfMatch(parts, 0, user, at);
+        if (stop < 0) continue;
+        found.count += 1;
+        if (found.hits.length < limit) found.hits.push(hitAt(firstBlock, at, stop));
+    }
+    return found;
+}
+
+/**
+ * The hits of several ranges as those of one, in the order of their blocks.
+ * @param {Found[]} parts in any order
+ * @param {number} limit
+ * @returns {Found}
+ */
+export function joinFound(parts, limit) {
+    const sorted = [...parts].sort((a, b) => a.first - b.first);
+    return {
+        first: sorted.length > 0 ? sorted[0].first : 0,
+        count: sorted.reduce((sum, part) => sum + part.count, 0),
+        hits: sorted.flatMap(part => part.hits).slice(0, limit),
+    };
+}
+
+/**
+ * @param {number} firstBlock
+ * @param {number} at
+ * @param {number} stop
+ */
+function hitAt(firstBlock, at, stop) {
+    return { block: firstBlock + Math.floor(at / USER_SIZE), offset: at % USER_SIZE, size: stop - at };
+}
+
+/**
+ * The user data of sectors in one piece.
+ * @param {Uint8Array} bytes
+ */
+function userBytes(bytes) {
+    const count = Math.floor(bytes.length / SECTOR_SIZE);
+    const user = new Uint8Array(USER_SIZE * count);
+    for (let i = 0; i < count; i++) user.set(userOf(bytes, i), USER_SIZE * i);
+    return user;
+}
+
+/**
+ * The same, with neighbours of one spelling each as one part.
+ * @param {Wanted} wanted
+ */
+function joinedParts(wanted) {
+    /** @type {Uint8Array[][]} */
+    const parts = [];
+    for (let i = 0; i < wanted.length;) {
+        let next = i + 1;
+        while (wanted[i].length === 1 && next < wanted.length && wanted[next].length === 1) next += 1;
+        parts.push(next > i + 1 ? [joinedBytes(wanted.slice(i, next).map(([only]) => only))] : wanted[i]);
+        i = next;
+    }
+    return parts;
+}
+
+/**
+ * The byte to look for first: which values it may have, and its distance from the beginning of a hit. Of all that have one
+ * distance it is the one that is rarest here. If it is rare and has one value, `only` is that, which the engine finds fastest.
+ * @param {Wanted} parts
+ * @param {Uint8Array} user
+ */
+function anchorOf(parts, user) {
+    const counts = new Float64Array(256);
+    const step = Math.floor(user.length / SAMPLES) + 1;
+    for (let at = 0; at < user.length; at += step) counts[user[at]] += 1;
+    const rarity = openings(parts).map(values => values.reduce((sum, value) => sum + counts[value], 0));
+    const distance = rarity.indexOf(Math.min(...rarity));
+    const values = openings(parts)[distance] || [];
+    const rare = rarity[distance] * step < user.length / 32;
+    return {
+        distance,
+        only: rare && values.length === 1 ? values[0] : -1,
+        values: Uint8Array.from(counts, (_, value) => Number(values.includes(value))),
+    };
+}
+
+/**
+ * The values that the first bytes of a hit may have, as far as they have one distance from its beginning, and a few at most.
+ * @param {Wanted} parts
+ */
+function openings(parts) {
+    /** @type {number[][]} */
+    const values = [];
+    for (const part of parts) {
+        const lengths = part.map(bytes => bytes.length);
+        const shortest = Math.min(...lengths, MOST_OPENINGS - values.length);
+        for (let k = 0; k < shortest; k++) values.push([...new Set(part.map(bytes => bytes[k]))]);
+        if (lengths.some(length => length !== shortest)) break;
+    }
+    return values;
+}
+
+/**
+ * The next place from `at` on where a hit may begin, or the end.
+ * @param {ReturnType<typeof anchorOf>} anchor
+ * @param {Uint8Array} user
+ * @param {number} at
+ * @param {number} end
+ */
+function nextStart({ distance, only, values }, user, at, end) {
+    let found = at + distance;
+    if (only >= 0) {
+        found = user.indexOf(only, found);
+        return found < 0 ? end : found - distance;
+    }
+    while (found < user.length && values[user[found]] === 0) found += 1;
+    return found - distance;
+}
+
+/**
+ * Where the parts from part `i` on end if they stand at a place, or -1.
+ * @param {Wanted} parts
+ * @param {number} i
+ * @param {Uint8Array} user
+ * @param {number} at
+ * @returns {number}
+ */
+function endOfMatch(parts, i, user, at) {
+    if (i === parts.length) return at;
+    for (const bytes of parts[i]) {
+        const stop = standsAt(bytes, user, at) ? endOfMatch(parts, i + 1, user, at + bytes.length) : -1;
+        if (stop >= 0) return stop;
+    }
+    return -1;
+}
+
+/**
+ * @param {Uint8Array} bytes
+ * @param {Uint8Array} user
+ * @param {number} at
+ */
+function standsAt(bytes, user, at) {
+    if (at + bytes.length > user.length) return false;
+    for (let k = 0; k < bytes.length; k++) {
+        if (user[at + k] !== bytes[k]) return false;
+    }
+    return true;
+}

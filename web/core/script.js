@@ -1,0 +1,159 @@
+// A script, which comes as bytes in pieces and is never one string.
+
+import { ByteList } from './bytes.js';
+import { CONTENT } from './records.js';
+
+/** @typedef {import('./codes.js').Calls} Calls */
+/** @typedef {Iterable<Uint8Array> | AsyncIterable<Uint8Array>} Pieces */
+
+/**
+ * A patch of a script: the number of its line, its first block, and what patchFields reads.
+ * @typedef {{ number: number, block: number, bytes: Uint8Array }} Patch
+ */
+
+/** The most bytes of a script. No call asks for it: who reads a script does. */
+export const MOST_SCRIPT_BYTES = 67108864;
+
+/** The text is cut into lines when there are so many bytes of it. */
+const TEXT_WINDOW = 1 << 20;
+
+/** Why nothing was done: a fault of the script, with the program's line for it; or a limit, which has no line here. */
+export class Refusal {
+    /**
+     * @param {'script-fault' | 'script-too-long' | 'image-too-long'} reason
+     * @param {Uint8Array} text
+     */
+    constructor(reason, text = new Uint8Array(0)) {
+        this.reason = reason;
+        this.text = text;
+    }
+}
+
+/** Cuts a text into lines, as its pieces come. */
+class LineCutter {
+    /**
+     * @param {Calls} calls
+     * @param {(from: number, size: number) => boolean} visit is given each line by its place in what is held; false is 'enough'
+     */
+    constructor(calls, visit) {
+        this.calls = calls;
+        this.visit = visit;
+        this.text = new ByteList();
+        this.wanted = TEXT_WINDOW;
+        this.going = true;
+    }
+
+    /** @param {Uint8Array} piece */
+    push(piece) {
+        for (let at = 0; at < piece.length && this.going; at += TEXT_WINDOW) {
+            this.text.push(piece.subarray(at, at + TEXT_WINDOW));
+            if (this.text.size >= this.wanted) this.cut(false);
+        }
+    }
+
+    end() {
+        if (this.going) this.cut(true);
+    }
+
+    /**
+     * A line that ends where the text does so far may go on. It waits until there is twice as much.
+     * @param {boolean} whole whether no piece is to come
+     */
+    cut(whole) {
+        this.calls.hold(this.text.bytes());
+        let from = 0;
+        while (this.going) {
+            const line = this.calls.firstLine(from);
+            if (line === null || (!whole && from + line.taken === this.text.size)) break;
+            this.going = this.visit(from, line.size);
+            from += line.taken;
+        }
+        this.text.drop(from);
+        this.wanted = Math.max(TEXT_WINDOW, 2 * this.text.size);
+    }
+}
+
+/**
+ * The lines of a text, without their ends.
+ * @param {Calls} calls
+ * @param {Pieces} pieces
+ * @returns {AsyncGenerator<Uint8Array>}
+ */
+export async function* linesOf(calls, pieces) {
+    /** @type {Uint8Array[]} */
+    const lines = [];
+    const cutter = new LineCutter(calls, (from, size) => lines.push(calls.held(from, from + size).slice()) > 0);
+    for await (const piece of pieces) {
+        cutter.push(piece);
+        yield* lines.splice(0);
+    }
+    cutter.end();
+    yield* lines;
+}
+
+/** The patches of the lines so far, or the fault of the last one. */
+class ScriptReading {
+    /**
+     * @param {Calls} calls
+     * @param {boolean} long whether there may be any number of patches
+     */
+    constructor(calls, long) {
+        this.calls = calls;
+        this.long = long;
+        this.version = 0;
+        this.number = 0;
+        /** @type {Patch[]} */
+        this.patches = [];
+        this.fault = 0;
+    }
+
+    /**
+     * Reads the next line, and returns whether the script has no fault so far.
+     * @param {number} from
+     * @param {number} size
+     */
+    read(from, size) {
+        this.number += 1;
+        const earlier = this.long ? 0 : this.patches.length;
+        const content = this.calls.readLine(this.version, this.number, earlier, from, size);
+        if (content === CONTENT.PATCH) this.push(this.calls.patchRead());
+        else if (content > CONTENT.PATCH) this.fault = content;
+        else if (content !== CONTENT.NOTHING) this.version = content;
+        return this.fault === 0;
+    }
+
+    /** @param {{ block: number, bytes: Uint8Array }} patch */
+    push({ block, bytes }) {
+        this.patches.push({ number: this.number, block, bytes });
+    }
+
+    /** The patches in the order in which they are applied, after the last line. */
+    answer() {
+        if (this.fault === 0 && this.version === 0) {
+            this.number += 1;
+            this.fault = CONTENT.NO_HEAD;
+        }
+        if (this.fault !== 0) return new Refusal('script-fault', this.calls.faultLine(this.number, this.fault));
+        return this.patches.sort((a, b) => a.block - b.block);
+    }
+}
+
+/**
+ * The patches of a script, in the order in which they are applied: by their first block, those of equal blocks by their lines.
+ * @param {Calls} calls
+ * @param {Pieces} pieces
+ * @param {boolean} long whether the script may have more bytes and patches than the program takes
+ * @returns {Promise<Patch[] | Refusal>}
+ */
+export async function patchesOf(calls, pieces, long = false) {
+    const reading = new ScriptReading(calls, long);
+    const cutter = new LineCutter(calls, (from, size) => reading.read(from, size));
+    let size = 0;
+    for await (const piece of pieces) {
+        size += piece.length;
+        if (!long && size > MOST_SCRIPT_BYTES) return new Refusal('script-too-long');
+        cutter.push(piece);
+    }
+    cutter.end();
+    return reading.answer();
+}

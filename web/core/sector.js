@@ -1,0 +1,80 @@
+// The layout of a sector and of an image (ECMA-130), and addresses by the calls.
+
+/** @typedef {import('./codes.js').Calls} Calls */
+
+export const SECTOR_SIZE = 2352;
+export const USER_SIZE = 2048;
+export const HEADER_OFFSET = 12;
+export const MODE_OFFSET = 15;
+export const USER_OFFSET = 16;
+
+/** The twelve bytes with which a data sector begins. */
+export const SYNC = Uint8Array.of(0, 255, 255, 255, 255, 255, 255, 255, 255, 255, 255, 0);
+
+/** The most sectors of an image. No call asks for it: who opens an image does. */
+export const MOST_SECTORS = 1000000;
+
+/**
+ * The number of whole sectors of an image. The bytes after them are its tail.
+ * @param {number} size of the image in bytes
+ */
+export function sectorCount(size) {
+    return Math.floor(size / SECTOR_SIZE);
+}
+
+/**
+ * Whether an image has more bytes than cdpatch takes.
+ * @param {number} size of the image in bytes
+ */
+export function imageTooLong(size) {
+    return size > MOST_SECTORS * SECTOR_SIZE;
+}
+
+/**
+ * The i-th sector of some bytes, not copied.
+ * @param {Uint8Array} bytes
+ * @param {number} i
+ */
+export function sectorOf(bytes, i) {
+    return bytes.subarray(i * SECTOR_SIZE, (i + 1) * SECTOR_SIZE);
+}
+
+/**
+ * The 2048 bytes of user data of the i-th sector, not copied.
+ * @param {Uint8Array} bytes
+ * @param {number} i
+ */
+export function userOf(bytes, i) {
+    const at = i * SECTOR_SIZE + USER_OFFSET;
+    return bytes.subarray(at, at + USER_SIZE);
+}
+
+/**
+ * The three bytes of the address in the header of the i-th sector, not copied.
+ * @param {Uint8Array} bytes
+ * @param {number} i
+ */
+export function addressIn(bytes, i) {
+    const at = i * SECTOR_SIZE + HEADER_OFFSET;
+    return bytes.subarray(at, at + 3);
+}
+
+/**
+ * An address as a script writes it, as 00:02:00.
+ * @param {Uint8Array} address three bytes in BCD
+ */
+export function addressText(address) {
+    return Array.from(address, byte => byte.toString(16).padStart(2, '0')).join(':');
+}
+
+/**
+ * The block that has an address, or null if none has.
+ * @param {Calls} calls
+ * @param {Uint8Array} address three bytes in BCD
+ */
+export function blockAt(calls, address) {
+    const [minute, second, frame] = Array.from(address, byte => 10 * (byte >> 4) + (byte & 15));
+    const block = (minute * 60 + second) * 75 + frame - 150;
+    const made = block < 0 ? null : calls.address(block);
+    return made !== null && made.every((byte, i) => byte === address[i]) ? block : null;
+}

@@ -1,0 +1,160 @@
+// Texts as bytes of a disc, and back: hex, UTF-8, UTF-16, Shift-JIS as Windows has it (CP932), EUC-JP, and a game's own tables (.tbl).
+
+import { CharacterTable, TextFault, cp932, eucJp, lacks } from './characters.js';
+
+/**
+ * One way to write texts. `units` cuts a text into its parts and gives the bytes of each, first as they are usually written, then
+ * in other ways that are read as the same; `text` reads bytes, with U+FFFD for a byte that begins no character.
+ * @typedef {{ name: string, units: (text: string) => Uint8Array[][], text: (bytes: Uint8Array) => string }} Encoding
+ */
+
+/** The names of the encodings; `encodingOf` takes a few others for them. */
+export const ENCODINGS = ['hex', 'UTF-8', 'UTF-16LE', 'UTF-16BE', 'CP932', 'EUC-JP'];
+
+/** @type {Record<string, string>} other names, in capitals and without what is no letter or digit */
+const ENCODING_NAMES = { SHIFTJIS: 'CP932', SJIS: 'CP932', MS932: 'CP932', WINDOWS31J: 'CP932' };
+
+/** @returns {Encoding} bytes in hexadecimal digits, with or without spaces and line ends between them */
+function hexEncoding() {
+    const digits = (/** @type {number} */ byte) => byte.toString(16).toUpperCase().padStart(2, '0');
+    return {
+        name: 'hex',
+        units(text) {
+            const units = [];
+            for (const { 0: found, index } of text.matchAll(/[0-9A-Fa-f]{2}|\S/g)) {
+                if (found.length < 2) throw notHex(text, index || 0);
+                units.push([Uint8Array.of(parseInt(found, 16))]);
+            }
+            return units;
+        },
+        text: bytes => Array.from(bytes, digits).join(''),
+    };
+}
+
+/**
+ * @param {string} text
+ * @param {number} at
+ */
+function notHex(text, at) {
+    const place = [...text.slice(0, at)].length + 1;
+    if (!/[0-9A-Fa-f]/.test(text[at])) return lacks('hex', text, at);
+    return new TextFault(`hexadecimal digits come in pairs: character ${place} of the text is half a byte`, place);
+}
+
+/**
+ * An encoding of all of Unicode, which lacks only the halves of characters.
+ * @param {string} name
+ * @param {(character: string) => Uint8Array} bytesOf
+ * @returns {Encoding}
+ */
+function unicodeEncoding(name, bytesOf) {
+    return {
+        name,
+        units(text) {
+            let at = 0;
+            return Array.from(text, character => {
+                if (/\p{Cs}/u.test(character)) throw lacks(name, text, at);
+                at += character.length;
+                return [bytesOf(character)];
+            });
+        },
+        text: bytes => new TextDecoder(name, { ignoreBOM: true }).decode(bytes),
+    };
+}
+
+/** @param {boolean} little whether the least significant byte comes first */
+function utf16Encoding(little) {
+    return unicodeEncoding(little ? 'UTF-16LE' : 'UTF-16BE', character => {
+        const bytes = new DataView(new ArrayBuffer(2 * character.length));
+        for (let i = 0; i < character.length; i++) bytes.setUint16(2 * i, character.charCodeAt(i), little);
+        return new Uint8Array(bytes.buffer);
+    });
+}
+
+/** @type {Record<string, () => Encoding>} */
+const ENCODING_MAKERS = {
+    'hex': hexEncoding,
+    'UTF-8': () => unicodeEncoding('UTF-8', character => new TextEncoder().encode(character)),
+    'UTF-16LE': () => utf16Encoding(true),
+    'UTF-16BE': () => utf16Encoding(false),
+    'CP932': cp932,
+    'EUC-JP': eucJp,
+};
+
+/** @type {Map<string, Encoding>} */
+const openedEncodings = new Map();
+
+/**
+ * The encoding of a name, in capitals or not, or null.
+ * @param {string} name
+ * @returns {Encoding | null}
+ */
+export function encodingOf(name) {
+    const plain = (/** @type {string} */ text) => text.toUpperCase().replace(/[^A-Z0-9]/g, '');
+    const known = ENCODING_NAMES[plain(name)] || ENCODINGS.find(it => plain(it) === plain(name));
+    if (!known) return null;
+    const encoding = openedEncodings.get(known) || ENCODING_MAKERS[known]();
+    openedEncodings.set(known, encoding);
+    return encoding;
+}
+
+/**
+ * The bytes of a text, each part in its usual spelling. Throws a TextFault that names the first character without bytes.
+ * @param {Encoding} encoding
+ * @param {string} text
+ */
+export function encodeText(encoding, text) {
+    return joinedBytes(encoding.units(text).map(([usual]) => usual));
+}
+
+/**
+ * Bytes one after the other.
+ * @param {Uint8Array[]} parts
+ */
+export function joinedBytes(parts) {
+    const whole = new Uint8Array(parts.reduce((size, part) => size + part.length, 0));
+    let at = 0;
+    for (const part of parts) {
+        whole.set(part, at);
+        at += part.length;
+    }
+    return whole;
+}
+
+/**
+ * The text of a small file that somebody wrote, as a cue sheet or a table: UTF-8 if it is that, else CP932.
+ * @param {Uint8Array} bytes
+ */
+export function textOfFile(bytes) {
+    try {
+        return new TextDecoder('utf-8', { fatal: true }).decode(bytes);
+    } catch {
+        return cp932Text(bytes);
+    }
+}
+
+/** @param {Uint8Array} bytes */
+function cp932Text(bytes) {
+    const encoding = encodingOf('CP932');
+    return encoding ? encoding.text(bytes) : '';
+}
+
+/**
+ * The encoding of a `.tbl` file: lines HEX=TEXT. `*HEX` is a line end, and `/HEX=TEXT` ends a text; blank lines and those that
+ * begin with `;` or `#` say nothing. Throws a TextFault that names the line.
+ * @param {Uint8Array} bytes
+ * @returns {Encoding}
+ */
+export function tableOf(bytes) {
+    const table = new CharacterTable('the table');
+    textOfFile(bytes).split(/\r?\n/).forEach((line, i) => {
+        if (/^([;#]|$)/.test(line)) return;
+        const found = /^([*/]?)((?:[0-9A-Fa-f]{2})+)(?:=(.+))?$/u.exec(line);
+        const text = found && (found[3] || (found[1] === '*' ? '\n' : ''));
+        if (!found || !text) throw new TextFault(`line ${i + 1} of the table is not HEX=TEXT`, i + 1);
+        const key = found[2].match(/../g) || [];
+        const fresh = table.add(Uint8Array.from(key, pair => parseInt(pair, 16)), text);
+        if (!fresh) throw new TextFault(`line ${i + 1} of the table: ${found[2]} stands twice`, i + 1);
+    });
+    return table;
+}
