@@ -1,9 +1,9 @@
 # `make` proves and builds the program and libcdpatch and leaves them as ./cdpatch and in ./library, with `CPU=x86-64-v3` for that
 # processor, and with `SIMPLE=1` by the toolchain's own means; if wasm-opt is there it makes the WebAssembly modules too, as `make
-# wasm` does by itself; `make check` runs all tests of what it left and of the pages, and
+# wasm` does by itself, and of them ./cdscript and ./cdpatch.html, as `make web` does; `make check` runs all tests of what it left and of the pages, and
 # skips what wants a command that is not there, which `WHOLE=1` makes a failure; `make quick` is both; `make test` runs the merge
 # gate; `make bench` builds what measures speed, in bench/; `make install` and `make uninstall` are those of install.mk.
-.PHONY: all check quick test test-outside bench wasm clean
+.PHONY: all check quick test test-outside bench wasm web clean
 
 # Goals come one after the other, as they are given. Crates are proved side by side, at most as many as `make -j N` says.
 .NOTPARALLEL:
@@ -23,6 +23,7 @@ include install.mk
 
 # tools/prove.sh knows how the toolchain works inside, and is faster. rt by itself proves and builds the same.
 cdpatch: FORCE
+	@bash tools/toolchain.sh || true
 ifeq ($(SIMPLE),1)
 	cd crates/cdpatch && rt run $(CPU:%=--cpu %) < /dev/null > /dev/null
 	for crate in $(LIBRARY_CRATES); do \
@@ -35,13 +36,18 @@ else
 endif
 	cp crates/cdpatch/out/cdpatch cdpatch
 	bash tools/library.sh library
-	@[ -n '$(MODULES)' ] || echo 'library/cdpatch.wasm was not made: that wants wasm-opt (Debian package binaryen)'
+	@if [ -n '$(MODULES)' ]; then bash tools/web.sh library .; else \
+	    echo 'library/cdpatch.wasm, cdscript and cdpatch.html were not made: they want wasm-opt (Debian package binaryen)'; fi
 
 FORCE:
 
 wasm:
 	@[ -n '$(MODULES)' ] || { echo 'library/cdpatch.wasm wants wasm-opt (Debian package binaryen).' >&2; exit 1; }
 	@bash tools/prove.sh wasm '$(AT_ONCE)'
+
+web: wasm
+	bash tools/notices.sh library/NOTICES
+	bash tools/web.sh library .
 
 check:
 	@test -x '$(PROGRAM)' || { echo 'There is no $(PROGRAM) to test: run make first.' >&2; exit 1; }
@@ -60,12 +66,14 @@ test-outside:
 bench:
 	bash bench/build '$(CPU)'
 
-# A tarball of what `make` left and the pages, with its checksum, in which `make install` works without the toolchain.
+# A tarball of what `make` left and the pages, with its checksum, in which `make install` works without the toolchain. Beside it stand
+# cdscript.js and cdpatch.html, which need nothing else.
 .PHONY: dist
 dist:
 	@test -x '$(PROGRAM)' || { echo 'There is no $(PROGRAM) to pack: run make first.' >&2; exit 1; }
 	@test -f '$(LIBRARY)/libcdpatch.a' || { echo 'There is no $(LIBRARY) to pack: run make first.' >&2; exit 1; }
-	@bash tools/dist.sh '$(PROGRAM)' '$(LIBRARY)' '$(distdir)'
+	@bash tools/dist.sh '$(PROGRAM)' '$(LIBRARY)' '$(JOINED)' '$(distdir)'
 
 clean:
-	rm -rf cdpatch library bench/cd_bench cdpatch-*.tar.gz cdpatch-*.tar.gz.sha256 crates/*/out
+	rm -rf cdpatch cdscript cdpatch.html library bench/cd_bench crates/*/out
+	rm -f cdpatch-*.tar.gz cdscript.js cdpatch-*.tar.gz.sha256 cdscript.js.sha256 cdpatch.html.sha256

@@ -1,9 +1,12 @@
-# `make install` installs the program, the library, the man pages, the completions, the recipes, the pages for users and the examples,
-# and `make uninstall` removes the files that it installed. In a release's tarball this file is the Makefile.
-.PHONY: install uninstall
+# `make install` installs the program, the library, cdscript and cdpatch.html if they were made, the Python package, the man pages,
+# the completions, the pages for users and the examples, and `make uninstall` removes the files that it installed. In a release's
+# tarball this file is the Makefile.
+.PHONY: install install-joined uninstall
 
 PROGRAM = cdpatch
 LIBRARY = library
+# The directory of cdscript and cdpatch.html.
+JOINED = .
 VERSION = $(shell sed -n 's/^\#\# \([0-9.]*\) .*/\1/p' CHANGELOG.md | head -n 1)
 
 PREFIX = /usr/local
@@ -17,15 +20,18 @@ man3dir = $(mandir)/man3
 libdir = $(exec_prefix)/lib
 includedir = $(prefix)/include
 pkgconfigdir = $(libdir)/pkgconfig
+cmakedir = $(libdir)/cmake/cdpatch
 fastdir = $(libdir)/glibc-hwcaps/x86-64-v3
 bashcompdir = $(datarootdir)/bash-completion/completions
 zshcompdir = $(datarootdir)/zsh/site-functions
 fishcompdir = $(datarootdir)/fish/vendor_completions.d
 docdir = $(datarootdir)/doc/cdpatch
-recipesdir = $(datarootdir)/cdpatch
-# The pages for users, and the examples in C and Python; the other pages are for those who change the sources.
-PAGES = CHANGELOG.md $(addprefix docs/,SCRIPTS.md TRANSLATE.md REPAIR.md TRUST.md sector.svg apply.svg) \
-    $(addprefix examples/,audit.c cdpatch.py patch.py)
+pagedir = $(datarootdir)/cdpatch
+pythondir = $(datarootdir)/cdpatch/python
+# The pages for users, and the examples; the other pages are for those who change the sources.
+PAGES = CHANGELOG.md $(addprefix docs/,SCRIPTS.md TRANSLATE.md REPAIR.md TRUST.md parts.svg sector.svg apply.svg page.png) \
+    $(addprefix examples/,audit.c patch_pipe.c damaged.rs)
+PYTHON = $(patsubst python/%,%,$(wildcard python/*.toml python/*.py python/cdpatch/*.py python/cdpatch/py.typed))
 
 INSTALL = install
 INSTALL_PROGRAM = $(INSTALL) -m 755
@@ -36,30 +42,50 @@ install:
 	@test -f '$(LIBRARY)/libcdpatch.a' || { echo 'There is no $(LIBRARY) to install: run make first.' >&2; exit 1; }
 	$(INSTALL) -d '$(DESTDIR)$(bindir)' '$(DESTDIR)$(man1dir)' '$(DESTDIR)$(bashcompdir)' '$(DESTDIR)$(zshcompdir)' \
 	    '$(DESTDIR)$(fishcompdir)' '$(DESTDIR)$(docdir)/docs' '$(DESTDIR)$(docdir)/examples' '$(DESTDIR)$(man3dir)' '$(DESTDIR)$(includedir)' \
-	    '$(DESTDIR)$(pkgconfigdir)' '$(DESTDIR)$(fastdir)' '$(DESTDIR)$(recipesdir)'
+	    '$(DESTDIR)$(pkgconfigdir)' '$(DESTDIR)$(cmakedir)' '$(DESTDIR)$(fastdir)' \
+	    '$(DESTDIR)$(pagedir)' '$(DESTDIR)$(pythondir)/cdpatch'
 	$(INSTALL_PROGRAM) '$(PROGRAM)' '$(DESTDIR)$(bindir)/cdpatch'
 	$(INSTALL_DATA) man/cdpatch.1 '$(DESTDIR)$(man1dir)/cdpatch.1'
 	$(INSTALL_DATA) completions/cdpatch.bash '$(DESTDIR)$(bashcompdir)/cdpatch'
 	$(INSTALL_DATA) completions/_cdpatch '$(DESTDIR)$(zshcompdir)/_cdpatch'
 	$(INSTALL_DATA) completions/cdpatch.fish '$(DESTDIR)$(fishcompdir)/cdpatch.fish'
+	@test ! -f '$(JOINED)/cdscript' || $(MAKE) install-joined
 	$(INSTALL_DATA) man/libcdpatch.3 '$(DESTDIR)$(man3dir)/libcdpatch.3'
 	$(INSTALL_DATA) include/cdpatch.h '$(DESTDIR)$(includedir)/cdpatch.h'
 	$(INSTALL_DATA) '$(LIBRARY)/libcdpatch.a' '$(LIBRARY)/libcdpatch.so.1' '$(DESTDIR)$(libdir)'
 	ln -sf libcdpatch.so.1 '$(DESTDIR)$(libdir)/libcdpatch.so'
 	$(INSTALL_DATA) '$(LIBRARY)/x86-64-v3/libcdpatch.so.1' '$(DESTDIR)$(fastdir)/libcdpatch.so.1'
-	sed -e 's|@libdir@|$(libdir)|' -e 's|@includedir@|$(includedir)|' -e 's|@version@|$(VERSION)|' include/cdpatch.pc.in \
-	    > '$(DESTDIR)$(pkgconfigdir)/cdpatch.pc'
-	chmod 644 '$(DESTDIR)$(pkgconfigdir)/cdpatch.pc'
-	$(INSTALL_DATA) share/recipes.sh '$(DESTDIR)$(recipesdir)/recipes.sh'
+	sed -e 's|@prefix@|$(prefix)|' -e 's|@libdir@|$(libdir)|' -e 's|@includedir@|$(includedir)|' -e 's|@version@|$(VERSION)|' \
+	    -e '/^prefix=/!s|=$(prefix)/|=$${prefix}/|' include/cdpatch.pc.in > '$(DESTDIR)$(pkgconfigdir)/cdpatch.pc'
+	sed -e "s|@libraries@|$$(realpath -ms --relative-to='$(cmakedir)' '$(libdir)')|" \
+	    -e "s|@includes@|$$(realpath -ms --relative-to='$(cmakedir)' '$(includedir)')|" \
+	    include/cdpatch-config.cmake.in > '$(DESTDIR)$(cmakedir)/cdpatch-config.cmake'
+	sed 's|@version@|$(VERSION)|' include/cdpatch-config-version.cmake.in > '$(DESTDIR)$(cmakedir)/cdpatch-config-version.cmake'
+	chmod 644 '$(DESTDIR)$(pkgconfigdir)/cdpatch.pc' '$(DESTDIR)$(cmakedir)/cdpatch-config.cmake' \
+	    '$(DESTDIR)$(cmakedir)/cdpatch-config-version.cmake'
+	for file in $(PYTHON); do $(INSTALL_DATA) python/$$file '$(DESTDIR)$(pythondir)'/$$file || exit; done
+	$(INSTALL_DATA) '$(LIBRARY)/NOTICES' '$(DESTDIR)$(docdir)/NOTICES'
 	for page in $(PAGES); do $(INSTALL_DATA) $$page '$(DESTDIR)$(docdir)'/$$page || exit; done
 	for page in README.md docs/INSTALL.md; do \
 	    sed '/^<!-- sources -->$$/,/^<!-- end of sources -->$$/d' $$page > '$(DESTDIR)$(docdir)'/$$page && \
 	    chmod 644 '$(DESTDIR)$(docdir)'/$$page || exit; done
 
+install-joined:
+	$(INSTALL_PROGRAM) '$(JOINED)/cdscript' '$(DESTDIR)$(bindir)/cdscript'
+	$(INSTALL_DATA) '$(JOINED)/cdpatch.html' '$(DESTDIR)$(pagedir)/cdpatch.html'
+	$(INSTALL_DATA) man/cdscript.1 '$(DESTDIR)$(man1dir)/cdscript.1'
+	$(INSTALL_DATA) completions/cdscript.bash '$(DESTDIR)$(bashcompdir)/cdscript'
+	$(INSTALL_DATA) completions/_cdscript '$(DESTDIR)$(zshcompdir)/_cdscript'
+	$(INSTALL_DATA) completions/cdscript.fish '$(DESTDIR)$(fishcompdir)/cdscript.fish'
+
 uninstall:
 	rm -f '$(DESTDIR)$(bindir)/cdpatch' '$(DESTDIR)$(man1dir)/cdpatch.1' '$(DESTDIR)$(bashcompdir)/cdpatch' \
 	    '$(DESTDIR)$(zshcompdir)/_cdpatch' '$(DESTDIR)$(fishcompdir)/cdpatch.fish' '$(DESTDIR)$(man3dir)/libcdpatch.3' \
 	    '$(DESTDIR)$(includedir)/cdpatch.h' '$(DESTDIR)$(libdir)/libcdpatch.a' '$(DESTDIR)$(libdir)/libcdpatch.so' \
-	    '$(DESTDIR)$(libdir)/libcdpatch.so.1' '$(DESTDIR)$(fastdir)/libcdpatch.so.1' '$(DESTDIR)$(pkgconfigdir)/cdpatch.pc'
-	for page in README.md docs/INSTALL.md $(PAGES); do rm -f '$(DESTDIR)$(docdir)'/$$page; done
-	rm -f '$(DESTDIR)$(recipesdir)/recipes.sh'
+	    '$(DESTDIR)$(libdir)/libcdpatch.so.1' '$(DESTDIR)$(fastdir)/libcdpatch.so.1' '$(DESTDIR)$(pkgconfigdir)/cdpatch.pc' \
+	    '$(DESTDIR)$(cmakedir)/cdpatch-config.cmake' '$(DESTDIR)$(cmakedir)/cdpatch-config-version.cmake'
+	for page in NOTICES README.md docs/INSTALL.md $(PAGES); do rm -f '$(DESTDIR)$(docdir)'/$$page; done
+	for file in $(PYTHON); do rm -f '$(DESTDIR)$(pythondir)'/$$file; done
+	rm -rf '$(DESTDIR)$(pythondir)/cdpatch/__pycache__'
+	rm -f '$(DESTDIR)$(bindir)/cdscript' '$(DESTDIR)$(pagedir)/cdpatch.html' '$(DESTDIR)$(man1dir)/cdscript.1' \
+	    '$(DESTDIR)$(bashcompdir)/cdscript' '$(DESTDIR)$(zshcompdir)/_cdscript' '$(DESTDIR)$(fishcompdir)/cdscript.fish'

@@ -8,23 +8,38 @@
 #include <sys/stat.h>
 #include <unistd.h>
 
-int main(int count, char **arguments) {
+static const uint8_t nothing[1];
+
+/* Maps a file, and returns its bytes, or NULL if that fails. An empty file has no map. */
+static const uint8_t *mapped(const char *name, size_t *size) {
+    int file = open(name, O_RDONLY);
     struct stat about;
-    int file = count == 2 ? open(arguments[1], O_RDONLY) : -1;
-    if (file < 0 || fstat(file, &about) != 0 || about.st_size == 0) {
-        fputs("usage: audit IMAGE, a file that is not empty\n", stderr);
+    if (file < 0 || fstat(file, &about) != 0)
+        return NULL;
+    *size = (size_t)about.st_size;
+    void *image = *size == 0 ? (void *)nothing : mmap(NULL, *size, PROT_READ, MAP_PRIVATE, file, 0);
+    close(file);
+    return image == MAP_FAILED ? NULL : image;
+}
+
+int main(int count, char **arguments) {
+    size_t size, length;
+    if (count != 2) {
+        fputs("usage: audit IMAGE\n", stderr);
         return CDPATCH_FAILED;
     }
-    size_t size = (size_t)about.st_size, room = size / CDPATCH_SECTOR_SIZE * 40 + 100, length;
-    const uint8_t *image = mmap(NULL, size, PROT_READ, MAP_PRIVATE, file, 0);
+    const uint8_t *image = mapped(arguments[1], &size);
+    size_t room = image ? size / CDPATCH_SECTOR_SIZE * 40 + 100 : 0;
     uint8_t *text = malloc(room);
-    if (image == MAP_FAILED || !text) {
+    if (!image || !text) {
         perror("audit");
         return CDPATCH_FAILED;
     }
     enum cdpatch_status status = cdpatch_audit(image, size, 0, text, room, &length);
-    fwrite(text, 1, length, stdout);
+    if (fwrite(text, 1, length, stdout) != length || fflush(stdout) != 0) {
+        perror("audit");
+        status = CDPATCH_FAILED;
+    }
     free(text);
-    close(file);
     return (int)status;
 }

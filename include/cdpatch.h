@@ -3,7 +3,11 @@
  * sector is 2352 bytes, an address three: minute, second and frame in BCD. The caller makes sure that no pointer is null, even for
  * a size of 0, that each is valid for the size given here, and that what a call writes overlaps none of its other arguments. Any
  * bytes may stand in what it points to, and a number may be any. Nothing is kept between calls: threads may make calls at the same
- * time, each on its own memory. Only cdpatch_check and cdpatch_apply allocate memory, and they free it. */
+ * time, each on its own memory. Only cdpatch_check and cdpatch_apply allocate memory, and they free it.
+ *
+ * The library needs a processor of x86-64-v2 (2009 and later). On an older one the loader (glibc 2.33 or later) refuses the shared
+ * library, and a call of the static one ends the program with SIGILL. A program that was compiled with this header runs with every
+ * later libcdpatch.so.1; libcdpatch(3) says under COMPATIBILITY what stays. */
 #ifndef CDPATCH_H
 #define CDPATCH_H
 
@@ -84,7 +88,9 @@ bool cdpatch_survey(const uint8_t *sectors, size_t count, uint32_t block, struct
 
 /* Makes the sector the one consistent sector with its header and its user data. */
 enum cdpatch_result cdpatch_rebuild(uint8_t *sector);
-/* Writes `length` bytes into the 2048 of user data, beginning at `offset`, and updates EDC and parity; refuses a damaged sector. */
+/* Writes `length` bytes into the 2048 of user data, beginning at `offset`, and updates EDC and parity; refuses a damaged sector. All
+ * 2048 bytes take 12800 instructions, 4800 of them to look for damage. If the sector is known to be sound, cdpatch_encode with its
+ * address makes the same in 5400. */
 enum cdpatch_result cdpatch_change_user(uint8_t *sector, size_t offset, const uint8_t *bytes, size_t length);
 /* The same in a sector that may be damaged: its damage stays, and none is added; never CDPATCH_DAMAGED. */
 enum cdpatch_result cdpatch_carry_user(uint8_t *sector, size_t offset, const uint8_t *bytes, size_t length);

@@ -122,6 +122,15 @@ image_refused() {
 
 # ---- the script
 
+# A read that moves no byte ends the script too, although the next one would give more.
+script_cut() {
+    local struck_status=$status
+    head -c "$(moved_before)" large.script > cut_script
+    mv log log.struck
+    run "$2" image cut_script
+    cmp -s log log.struck && [ "$status" = "$struck_status" ] && [ ! -s errors ]
+}
+
 script_failed() {
     ended_at_fault && [ ! -e out ] && [ "$(cat log)" = "$no_script" ]
 }
@@ -197,6 +206,7 @@ commands_fail() {
     done
     each read image "$errors" image_failed check "$image" "$script"
     each read image retval=0 image_cut check "$image" "$script"
+    each read large.script retval=0 script_cut check "$image" "$script"
     each read image "$errors" image_failed apply "$image" "$script" "$out"
     each read image retval=0 image_cut apply "$image" "$script" "$out"
     for command in check apply; do

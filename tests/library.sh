@@ -1,8 +1,10 @@
 #!/usr/bin/env bash
-# libcdpatch from C and from Python, as tools/prove.sh has built it of the crates of tools/library_crates.sh:
-# `bash tests/library.sh [PROGRAM]`. The last line is 'N passed, M failed'.
+# libcdpatch from C and from Python, as tools/prove.sh has built it of the crates of tools/library_crates.sh, its examples, and
+# clients of an installed tarball: `bash tests/library.sh [PROGRAM]`. The last line is 'N passed, M failed'.
 set -u
 . "$(dirname "$0")/helpers.sh"
+. "$tests/library/examples.sh"
+. "$tests/library/installed.sh"
 read -ra crates < <(bash "$top/tools/library_crates.sh")
 sources=()
 for crate in "${crates[@]}"; do
@@ -33,14 +35,33 @@ refuses() { ! { "$@" > log; } 2> errors; }
 
 exported() { sed -n 's/^pub extern "C" fn \([a-z0-9_]*\).*/\1/p' "${sources[@]}" | sort; }
 
-shows_the_calls() { nm -D --defined-only "$1" | sed 's/.* //' | sort | cmp -s - <(exported); }
+shows_the_calls() { nm -D --defined-only "$1" | sed -e '/ A CDPATCH_/d' -e 's/.* //' -e 's/@@.*//' | sort | cmp -s - <(exported); }
+
+# The calls of release 1.1.0, as its header had them.
+first_calls='address apply audit carry_address carry_user change_address change_user check edc encode fill_parity find_defect
+    is_consistent kind list rebuild'
+
+# has_versions LIBRARY: whether the calls of 1.1.0 have its version, each other call a later one, and no call a second.
+has_versions() {
+    nm -D --defined-only "$1" | sed -n 's/.* T //p' | sort > versions
+    [ "$(sed -n 's/^cdpatch_\(.*\)@@CDPATCH_1\.1$/\1/p' versions | paste -sd ' ')" = "$(xargs <<< "$first_calls")" ] &&
+        [ "$(grep -vc '@@CDPATCH_1\.1$' versions)" = "$(grep -cE '^[a-z0-9_]+@@CDPATCH_1\.([2-9]|[1-9][0-9])$' versions)" ]
+}
+
+# names_its_processor LIBRARY LEVELS: whether its note names these levels, without which the loader refuses it.
+names_its_processor() { readelf -nW "$1" | grep -q "x86 ISA needed: x86-64-baseline, $2\$"; }
+
+# The library with a note of a level that no processor has.
+is_refused_by_the_loader() {
+    python3 -B "$tests/library/note.py" "$1" too_new.so &&
+        { LD_PRELOAD=$PWD/too_new.so /bin/true 2>&1 | grep -q 'CPU ISA level is lower than required'; }
+}
 
 needs_only_libc() {
     readelf -d "$1" > dynamic &&
         [ "$(sed -n 's/.*(NEEDED).*\[\(.*\)\]/\1/p' dynamic)" = libc.so.6 ] &&
         [ "$(sed -n 's/.*(SONAME).*\[\(.*\)\]/\1/p' dynamic)" = libcdpatch.so.1 ] &&
-        [ -z "$(nm -D --undefined-only "$1" | sed -e 's/.* //' -e 's/@.*//' |
-            grep -vxE 'mem(cpy|set|move|cmp)|malloc|realloc|free')" ]
+        ! nm -D --undefined-only "$1" | sed -e 's/.* //' -e 's/@.*//' | grep -qvxE 'mem(cpy|set|move|cmp)|malloc|realloc|free'
 }
 
 in_archive() { nm --extern-only --defined-only library/libcdpatch.a 2> /dev/null | sed -n 's/^[0-9a-f]* [^ ]* //p' | sort; }
@@ -50,7 +71,12 @@ test_symbols() {
     for library in library/libcdpatch.so.1 library/x86-64-v3/libcdpatch.so.1; do
         judge "$library shows the calls and no more" shows_the_calls "$library"
         judge "$library needs only the C library" needs_only_libc "$library"
+        judge "$library has the versions of its calls" has_versions "$library"
     done
+    judge 'it names the processor that it needs' names_its_processor library/libcdpatch.so.1 x86-64-v2
+    judge 'that for x86-64-v3 too' names_its_processor library/x86-64-v3/libcdpatch.so.1 'x86-64-v2, x86-64-v3'
+    missing python3 python3 'a library for a later processor' ||
+        judge 'the loader refuses a library for a processor of a later level' is_refused_by_the_loader library/libcdpatch.so.1
     judge 'the archive shows the calls, and of its memory these three functions' test "$(in_archive | paste -sd ' ')" = \
         "$({ exported; printf '%s\n' cdpatchalloc cdpatchdealloc cdpatchrealloc; } | sort | paste -sd ' ')"
     echo 'void another(void) {}' > another.c
@@ -65,6 +91,8 @@ test_symbols() {
         gcc -shared -fPIC another.c -Wl,--whole-archive library/libcdpatch.a -Wl,--no-whole-archive -o another.so
         judge 'a library that shows more is refused' refuses shows_the_calls another.so
         judge 'a library with no name is refused' refuses needs_only_libc another.so
+        judge 'a library without versions is refused' refuses has_versions another.so
+        judge 'one without a note is refused' refuses names_its_processor another.so x86-64-v2
     fi
 }
 
@@ -234,47 +262,6 @@ test_in_python() {
             ./wrong_lines.so 300
     fi
     judge 'the worked cases by the library' holds bash "$tests/cases/run" model --without-model --library "./${builds[0]}"
-}
-
-# ---- the examples, and an installed tree
-
-test_examples() {
-    cp "$vectors" image
-    if compiler gcc 'gcc and libc6-dev'; then
-        gcc -O2 "${strict[@]}" "$top/examples/audit.c" library/libcdpatch.a -o audit 2> errors
-        judge 'examples/audit.c has no finding in a sound image' holds ./audit image
-        printf '\001' | dd of=image bs=1 seek=$((2352 + 2351)) conv=notrunc status=none
-        printf '\001' | dd of=image bs=1 seek=$((3 * 2352 + 13)) conv=notrunc status=none
-        ./audit image > log
-        judge 'it has findings in a damaged one' test $? = 1
-        judge 'it prints what `cdpatch audit` does' cmp -s log <("$program" audit image)
-    fi
-    missing python3 python3 'the examples in Python' && return
-    ln -sf libcdpatch.so.1 library/libcdpatch.so
-    printf 'cdpatch 1\nset 1 16 48454C4C4F\nset 8 0 41\n' > script
-    "$program" apply "$vectors" script wanted > wanted.log
-    LD_LIBRARY_PATH=library python3 -B "$top/examples/patch.py" "$vectors" script out > log
-    judge 'examples/patch.py, of whose patches one is refused' test $? = 1
-    judge 'it prints what `cdpatch apply` does' cmp -s log wanted.log
-    judge 'it makes what `cdpatch apply` makes' cmp -s out wanted
-    LD_LIBRARY_PATH=library python3 -B "$tests/library/examples.py" "$top/examples" > log 2>&1
-    judge "examples/cdpatch.py: $(tail -n 1 log)" test "$(tail -n 1 log)" = right
-}
-
-test_installed() {
-    missing make make 'an installed library' && return
-    make --no-print-directory -s -C "$top" PROGRAM="$program" LIBRARY="$PWD/library" install DESTDIR="$PWD/root" PREFIX=/usr
-    if ! compiler gcc 'gcc and libc6-dev' || missing pkg-config pkg-config 'pkg-config of an installed library'; then return; fi
-    local found
-    read -ra found < <(PKG_CONFIG_SYSROOT_DIR=$PWD/root PKG_CONFIG_PATH=$PWD/root/usr/lib/pkgconfig PKG_CONFIG_ALLOW_SYSTEM_CFLAGS=1 \
-        PKG_CONFIG_ALLOW_SYSTEM_LIBS=1 pkg-config --cflags --libs cdpatch)
-    gcc -std=c99 "$tests/library/ten_lines.c" "${found[@]}" -o ten_lines 2> errors
-    # The EDC as tests/model has it.
-    judge 'ten lines by pkg-config' test "$(LD_LIBRARY_PATH=root/usr/lib ./ten_lines)" = '5F0017BC 1'
-    judge 'its version is that of the program' test "$(PKG_CONFIG_PATH=root/usr/lib/pkgconfig pkg-config --modversion cdpatch)" = \
-        "$("$program" --help | sed -n '$s/cdpatch //p')"
-    [ ${#builds[@]} = 1 ] || judge 'the loader takes the build for x86-64-v3' \
-        grep -q '/glibc-hwcaps/x86-64-v3/' <(LD_TRACE_LOADED_OBJECTS=1 LD_LIBRARY_PATH=$PWD/root/usr/lib ./ten_lines)
 }
 
 if ! missing nm binutils 'what the library shows'; then

@@ -6,7 +6,8 @@ top=$(cd "$(dirname "$0")/.." && pwd)
 . "$top/tests/judging.sh"
 cd "$scratch" || exit 1
 
-# A repository whose rt, tools/prove.sh, tools/library.sh, tools/wasm.sh and tests/run write into `called` what they are called for.
+# A repository whose rt, tools/prove.sh, tools/library.sh, tools/wasm.sh and tests/run write into `called` what they are called for,
+# and of whose toolchain tools/toolchain.sh says that its logic is another.
 mkdir -p crates/cdpatch crates/cd_c crates/cd_c_images tools tests bin
 cp "$top/Makefile" "$top/install.mk" .
 cp "$top/tools/library_crates.sh" tools
@@ -33,7 +34,10 @@ echo 'by prove.sh' > crates/cdpatch/out/cdpatch
 chmod +x crates/cdpatch/out/cdpatch
 EOF_PROVE
 echo 'echo "library.sh: $*" >> "$CALLED"' > tools/library.sh
+echo 'echo "another logic"; exit 1' > tools/toolchain.sh
 echo 'echo "wasm.sh: $*" >> "$CALLED"' > tools/wasm.sh
+echo 'echo "web.sh: $*" >> "$CALLED"' > tools/web.sh
+echo 'echo "notices.sh: $*" >> "$CALLED"' > tools/notices.sh
 echo 'echo "tests: $* ${WHOLE-}" >> "$CALLED"' > tests/run
 export CALLED=$scratch/called PATH="$scratch/bin:$PATH"
 
@@ -57,7 +61,7 @@ if ! missing make make 'what the Makefile does'; then
     judge 'make SIMPLE=1' test "$status" = 0
     judge 'proves by runs of rt, where the program and the library stand' called 'rt in cdpatch: run' "${libraries[@]}"
     judge 'each part of the library is built for both processors' test \
-        "$(ls crates/cd_c/out crates/cd_c_images/out | grep -c '^libcd_c.*\.a$')" = 4
+        "$(printf '%s\n' crates/cd_c{,_images}/out/libcd_c*.a | wc -l)" = 4
     judge 'the program gets nothing to list' test ! -s called.input
     judge 'and what it prints is not shown' eval '! grep -q "what the program prints" log'
     judge 'the program is what rt built' test "$(cat cdpatch)" = 'by rt'
@@ -77,22 +81,26 @@ if ! missing make make 'what the Makefile does'; then
     makes
     judge 'without SIMPLE tools/prove.sh proves' called 'prove.sh: cdpatch cd_c cd_c_images  ' 'library.sh: library'
     judge 'the program is what it built' test "$(cat cdpatch)" = 'by prove.sh'
+    judge 'another logic is said in the first line' test "$(head -n 1 log)" = 'another logic'
     makes SIMPLE=
     judge 'an empty SIMPLE is none' called 'prove.sh: cdpatch cd_c cd_c_images  ' 'library.sh: library'
     makes -j 3 CPU=x86-64-v3
     judge 'it gets the number and the processor' called 'prove.sh: cdpatch cd_c cd_c_images 3 x86-64-v3' 'library.sh: library'
-    judge 'the modules that were not made are named, with the package' grep -q 'cdpatch.wasm was not made.*package binaryen' log
+    judge 'the modules that were not made are named, with the package' grep -q 'cdpatch.wasm, cdscript and cdpatch.html were not made.*package binaryen' log
     makes wasm
     judge 'make wasm without wasm-opt' test "$status" = 2 -a ! -s called
     judge 'names the package too' grep -q 'package binaryen' log
     MODULES=wasm makes
-    judge 'the modules are one more goal' called 'prove.sh: cdpatch cd_c cd_c_images wasm  ' 'library.sh: library'
+    judge 'the modules are one more goal' called 'prove.sh: cdpatch cd_c cd_c_images wasm  ' 'library.sh: library' \
+        'web.sh: library .'
     judge 'of which nothing is said then' eval '! grep -q binaryen log'
     MODULES=wasm makes SIMPLE=1
     judge 'with SIMPLE they come after the libraries' called 'rt in cdpatch: run' "${libraries[@]:0:4}" 'wasm.sh: library' \
-        'library.sh: library'
+        'library.sh: library' 'web.sh: library .'
     MODULES=wasm makes wasm
     judge 'make wasm makes only the modules' called 'prove.sh: wasm '
+    MODULES=wasm makes web
+    judge 'make web joins what they are for too' called 'prove.sh: wasm ' 'notices.sh: library/NOTICES' 'web.sh: library .'
     makes check
     judge 'make check tests what make left' called 'tests: cdpatch '
     makes check WHOLE=1
@@ -119,4 +127,17 @@ if ! missing make make 'what the Makefile does'; then
     makes bench
     judge 'so does one that names other works' test "$status" = 2 -a ! -e bench/cd_bench
 fi
+# identity RELEASE LOGIC: what tools/toolchain.sh says of an rt with this identity, and its status.
+identity() {
+    printf '#!/bin/sh\necho "%s logic %s"\n' "$1" "$2" > bin/rt
+    printf '%s\n' 'The logic is `0123456789abcdef`, tried in `kit-1` and `kit-2`.' > page
+    bash "$top/tools/toolchain.sh" page > said
+    echo "$? $(cut -d ' ' -f 1-2 said)"
+}
+judge 'a toolchain that was tried is nothing to speak of' test "$(identity kit-2 0123456789abcdef)" = '0 '
+judge 'another release with the same logic is a warning' test "$(identity kit-3 0123456789abcdef)" = "0 warning: the"
+judge 'another logic has status 1' test "$(identity kit-1 fedcba9876543210)" = '1 The toolchain'
+judge 'a part of the logic is another' test "$(identity kit-1 0123456789)" = '1 The toolchain'
+judge 'no identity is another logic' test "$(identity '' '')" = '1 The toolchain'
+
 finish

@@ -30,7 +30,7 @@ done
 # A static library is built each time, whatever was kept of the work.
 if grep -q "^$name staticlib" ../../crates.txt; then
     echo "$name begins: $*" | tee -a "$CALLS" > "out/lib$name.a"
-    exit
+    exec "$kit/bin/rattle" build --crate-name "$name" --incremental out/incremental -o out/it
 fi
 if [ -e out/rlib/built ] || [ -e out/rlib/stamp ]; then
     [ "$1" = lib ] || printf '%s\n' 'rt: nothing has changed since the last proved build' "rt: running out/$name" >&2
@@ -125,6 +125,7 @@ judge 'a program and a static library' test "$status" = 0 -a "$(grep -c '^proved
 judge 'are both named' grep -q '^proved and built program for_c in ' log
 judge 'the library is built for any processor and for a newer one' cmp -s <(cat crates/for_c/out/libfor_c{,-x86-64-v3}.a) \
     <(printf '%s\n' 'for_c begins: lib' 'for_c begins: lib --cpu x86-64-v3')
+judge 'with the work of the first kept for the second' in_calls 'for_c build --incremental out/incremental -o out/it '
 judge 'it comes after those below it' not_in_calls lacks
 rm -r crates/*/out
 goals=for_c prove 2

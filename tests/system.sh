@@ -16,7 +16,11 @@ prepare_wrong_programs 'the wrong programs' && has_wrong_programs=1
 has_strace=
 if ! missing strace strace 'calls of the system'; then
     strace -qq -o trace -e inject=read:error=EIO:when=1 true 2> /dev/null
-    [ -s trace ] && has_strace=1 || skip 'calls of the system, which want a strace that may trace'
+    if [ -s trace ]; then
+        has_strace=1
+    else
+        skip 'calls of the system, which want a strace that may trace'
+    fi
 fi
 
 # row NAME CHECK WRONG..: counts whether a check holds of the program, and whether it refuses each of these wrong programs. That it
@@ -307,7 +311,42 @@ second_fault_in_a_sync() {
     two_faults log write:error=ENOSPC:when=1 fdatasync:error=EIO:when=1+ && [ ! -s log ]
 }
 
+# A read that gives no byte is the end of IMAGE and of SCRIPT, although the next one would give more.
+first_end_is_the_end() {
+    strace -qq -o trace -P "$here/image" -e inject=read:retval=0:when=2 "$program" list "$here/image" > log 2> errors &&
+        [ "$(tail -n 1 log)" = 'sectors 28 tail 0' ] || return
+    strace -qq -o trace -P "$here/large.script" -e inject=read:retval=0:when=1 "$program" check image "$here/large.script" > log 2> errors
+    [ $? = 2 ] && [ "$(wc -l < log)" = 1 ]
+}
+traced 'a read of no byte is the end' first_end_is_the_end reads_on_after_the_end
+
+# synced STATUS SYNCS SCRIPT FAULT..: in a run of `apply` with this status and these faults OUT is synced so often, and nothing
+# is written to it after that.
+synced() {
+    local fault injected=()
+    for fault in "${@:4}"; do
+        injected+=(-e "inject=$fault")
+    done
+    rm -f out
+    strace -qq -y -s 0 -o calls -P "$here/image" -P "$here/log" -P "$here/out" -e trace=read,write,fsync,fdatasync \
+        "${injected[@]}" "$program" apply "$here/image" "$here/$3" "$here/out" > log 2> errors < /dev/null
+    [ $? = "$1" ] && [ ! -s errors ] || return
+    grep '/out>' calls > trace
+    [ "$(grep -c 'sync(' trace)" = "$2" ] && { [ "$2" = 0 ] || [[ $(tail -n 1 trace) == fdatasync* ]]; }
+}
+
+# No contract sees a sync: to it a flush is a call of `finish`.
+syncs_of_each_status() {
+    synced 0 1 large.script && synced 1 1 refused.script || return
+    # The image fails, or the log: what was sent is synced. OUT itself fails: nothing is.
+    synced 2 1 large.script read:error=EIO:when=3 && synced 2 1 long.script write:error=ENOSPC:when=1 || return
+    synced 2 0 large.script write:error=ENOSPC:when=1
+}
+
+{ echo 'cdpatch 1'; echo 'set 1000000 0 41'; } > refused.script
 { echo 'cdpatch 1'; yes 'rebuild 3' | head -n 9000; } > long.script
+traced 'OUT is synced once, after the last write, with each status' syncs_of_each_status syncs_nothing syncs_twice \
+    syncs_each_write syncs_before_it_writes
 traced 'a fault, and then one of a write to OUT' second_fault_in_a_write repeats_a_write_of_out drops_what_is_held
 traced 'a fault, and then one of a sync' second_fault_in_a_sync repeats_a_sync syncs_nothing
 states docs/TRUST.md 'After a failed write to OUT or a failed sync, nothing more is written, and OUT has what it took before.'
@@ -439,7 +478,7 @@ ends_by() {
     local run
     rm -f out feed
     mkfifo feed
-    env --default-signal=INT "$program" apply - large.script out > log 2> errors < feed &
+    env --default-signal=HUP,INT,TERM "$program" apply - large.script out > log 2> errors < feed &
     run=$!
     exec 6> feed
     cat image >&6

@@ -1,34 +1,50 @@
 #!/usr/bin/env bash
-# `tools/dist.sh PROGRAM LIBRARY DIRECTORY` makes the tarball of a release in DIRECTORY, and its checksum: the program, the
-# library with its header, the man pages, the completions, the recipes, the pages for users, the examples, and a Makefile that only
-# installs them. The pages lack what only works in the sources. The bytes follow from those of these files only.
+# `tools/dist.sh PROGRAM LIBRARY JOINED DIRECTORY` makes the tarball of a release in DIRECTORY: the program, the library with its header,
+# the notices of the crates in them, cdscript and cdpatch.html if they are in JOINED, the Python package, the man pages, the
+# completions, the pages for users, the examples, and a Makefile that only installs them. The pages lack what only works in the sources.
+# The bytes follow from those of these files only. Beside the tarball stand the command as cdscript.js, which node takes on any system,
+# and the page; and the checksum of each.
 set -euo pipefail
 program=$(realpath "$1")
 library=$(realpath "$2")
-directory=$(realpath "$3")
+joined=$(realpath "$3")
+directory=$(realpath "$4")
 cd "$(dirname "$0")/.."
 version=$("$program" --help | tail -n 1)
 name=cdpatch-${version#cdpatch }-x86_64-linux
 scratch=$(mktemp -d)
 trap 'rm -rf "$scratch"' EXIT
-mkdir -p "$scratch/$name"/{docs,man,completions,examples,include,share,library/x86-64-v3}
+mkdir -p "$scratch/$name"/{docs,man,completions,examples,include,python/cdpatch,library/x86-64-v3}
 cp "$program" "$scratch/$name/cdpatch"
 { printf '%s\n' 'all:' "	@echo 'Everything is built: make install installs it.'" ''; cat install.mk; } > "$scratch/$name/Makefile"
 cp CHANGELOG.md "$scratch/$name"
-cp docs/{SCRIPTS,TRANSLATE,REPAIR,TRUST}.md docs/{sector,apply}.svg "$scratch/$name/docs"
+cp docs/{SCRIPTS,TRANSLATE,REPAIR,TRUST}.md docs/{parts,sector,apply}.svg docs/page.png "$scratch/$name/docs"
 for page in README.md docs/INSTALL.md; do
     sed '/^<!-- sources -->$/,/^<!-- end of sources -->$/d' "$page" > "$scratch/$name/$page"
 done
-cp share/recipes.sh "$scratch/$name/share"
-cp examples/{audit.c,cdpatch.py,patch.py} "$scratch/$name/examples"
+cp examples/{audit.c,patch_pipe.c,damaged.rs} "$scratch/$name/examples"
+cp python/pyproject.toml python/backend.py "$scratch/$name/python"
+cp python/cdpatch/*.py python/cdpatch/py.typed "$scratch/$name/python/cdpatch"
 cp man/cdpatch.1 man/libcdpatch.3 "$scratch/$name/man"
-cp include/cdpatch.h include/cdpatch.pc.in "$scratch/$name/include"
-cp "$library"/libcdpatch.{a,so.1} "$scratch/$name/library"
+cp include/cdpatch.h include/*.in "$scratch/$name/include"
+cp "$library"/libcdpatch.{a,so.1} "$library/NOTICES" "$scratch/$name/library"
 cp "$library/x86-64-v3/libcdpatch.so.1" "$scratch/$name/library/x86-64-v3"
 cp completions/_cdpatch completions/cdpatch.bash completions/cdpatch.fish "$scratch/$name/completions"
+made=("$name.tar.gz")
+if [ -f "$joined/cdscript" ]; then
+    cp "$joined/cdscript" "$joined/cdpatch.html" "$scratch/$name"
+    cp man/cdscript.1 "$scratch/$name/man"
+    cp completions/_cdscript completions/cdscript.bash completions/cdscript.fish "$scratch/$name/completions"
+    install -m 644 "$joined/cdscript" "$directory/cdscript.js"
+    [ "$joined" = "$directory" ] || install -m 644 "$joined/cdpatch.html" "$directory"
+    made+=(cdpatch.html cdscript.js)
+else
+    echo 'cdscript and cdpatch.html were not made, so they are not packed.' >&2
+fi
 chmod -R u=rwX,go=rX "$scratch/$name"
 tar -C "$scratch" --format=ustar --sort=name --mtime="@${SOURCE_DATE_EPOCH:-0}" --owner=0 --group=0 --numeric-owner -cf - "$name" |
     gzip -9n > "$directory/$name.tar.gz"
 cd "$directory"
-sha256sum "$name.tar.gz" > "$name.tar.gz.sha256"
-cat "$name.tar.gz.sha256"
+for file in "${made[@]}"; do
+    sha256sum "$file" | tee "$file.sha256"
+done

@@ -1,7 +1,7 @@
 #!/usr/bin/env bash
 # `tools/library.sh DIRECTORY` makes libcdpatch from what tools/prove.sh has built of the crates of tools/library_crates.sh: in DIRECTORY
-# libcdpatch.a and libcdpatch.so.1, and in x86-64-v3/ there the shared library for that processor. It uses the toolchain's own
-# archiver, linker and C library.
+# libcdpatch.a, libcdpatch.so.1 and NOTICES, and in x86-64-v3/ there the shared library for that processor. It uses the toolchain's
+# own archiver, linker and C library.
 set -euo pipefail
 mkdir -p "$1/x86-64-v3"
 directory=$(realpath "$1")
@@ -11,7 +11,6 @@ kit=$(rt doc)
 kit=$(dirname "$kit")
 scratch=$(mktemp -d)
 trap 'rm -rf "$scratch"' EXIT
-echo '{ global: cdpatch_*; local: *; };' > "$scratch/shown"
 
 # archive SUFFIX FILE: the crates as they were built with this suffix, and the toolchain's three functions for memory, over
 # malloc. Every library of this toolchain has these three by the same names. Here they get others, of the same length, so that a
@@ -30,14 +29,23 @@ archive() {
     chmod 644 "$2"
 }
 
-# link ARCHIVE FILE: a shared library that shows only the calls.
+# note LEVELS FILE: an object with the note by which the loader (glibc 2.33 or later) refuses a library that needs more than the
+# processor has: a bit for each of the levels from x86-64 on. The linker drops the note from a section of the usual name.
+note() {
+    printf '%s\n' '.section .note.processor, "a", @note' '.balign 8' '.long 4, 16, 5' '.asciz "GNU"' '.long 0xc0008002, 4' \
+        ".long $1" '.long 0' | "$kit/toolchain/bin/clang" -c -x assembler - -o "$2"
+}
+
+# link ARCHIVE LEVELS FILE: a shared library that shows only the calls.
 link() {
-    "$kit/toolchain/bin/ld.lld" -shared -soname libcdpatch.so.1 --version-script="$scratch/shown" -z now -z noexecstack \
-        --build-id=none --no-undefined --whole-archive "$1" --no-whole-archive "$kit/toolchain/lib/libc.so.6" -o "$2"
-    chmod 644 "$2"
+    note "$2" "$scratch/note.o"
+    "$kit/toolchain/bin/ld.lld" -shared -soname libcdpatch.so.1 --version-script=tools/libcdpatch.map -z now -z noexecstack \
+        --build-id=none --no-undefined "$scratch/note.o" --whole-archive "$1" --no-whole-archive "$kit/toolchain/lib/libc.so.6" -o "$3"
+    chmod 644 "$3"
 }
 
 archive '' "$directory/libcdpatch.a"
 archive -x86-64-v3 "$scratch/x86-64-v3.a"
-link "$directory/libcdpatch.a" "$directory/libcdpatch.so.1"
-link "$scratch/x86-64-v3.a" "$directory/x86-64-v3/libcdpatch.so.1"
+link "$directory/libcdpatch.a" 3 "$directory/libcdpatch.so.1"
+link "$scratch/x86-64-v3.a" 7 "$directory/x86-64-v3/libcdpatch.so.1"
+bash tools/notices.sh "$directory/NOTICES"

@@ -203,8 +203,8 @@ prove_library() {
         grep -E "^${below}[ :]" crates.txt >> "$room/crates.txt"
     done
     move_kept "$out" "$room/crates/$name/out"
-    # What `rt check` has kept of its work is not proved again.
-    [ ! -d "$room/crates/$name/out/incremental" ] || rt=rt
+    # What `rt check` has kept of its work is not proved again, nor is a static library for its second processor.
+    [ ! -d "$room/crates/$name/out/incremental" ] && [[ ! -v static[$name] ]] || rt=rt
     if [[ -v static[$name] ]]; then
         build_static "$rt" "$name" "$room/crates/$name" "$out"
     else

@@ -39,8 +39,8 @@ test('the limits are those of the man page', () => {
 
 test('each call of cdpatch.h that takes no memory has a method', () => {
     const names = header.match(/\bcdpatch_\w+(?=\()/g).filter(name => !/^cdpatch_(check|apply)$/.test(name));
-    const code = readFileSync(join(process.env.CORE ?? join(top, 'web/core'), 'codes.js'), 'utf8');
-    for (const name of names) assert.ok(code.includes(name), name);
+    const code = ['codes.js', 'patch_calls.js'].map(file => readFileSync(join(process.env.CORE ?? join(top, 'web/core'), file), 'utf8')).join('');
+    for (const name of names) assert.match(code, new RegExp(`\\b${name}\\b`));
 });
 
 test('sectors of another encoder', () => {

@@ -12,7 +12,7 @@ const folder = process.env.CORE ?? join(top, 'web/core');
 export const core = name => import(pathToFileURL(join(folder, name)).href);
 
 const { Calls } = await core('codes.js');
-const module = new WebAssembly.Module(readFileSync(process.env.MODULE ?? join(top, 'library/cdpatch.wasm')));
+export const module = new WebAssembly.Module(readFileSync(process.env.MODULE ?? join(top, 'library/cdpatch.wasm')));
 
 /** Calls with a memory of their own. */
 export const newCalls = () => new Calls(module);

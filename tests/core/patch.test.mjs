@@ -159,3 +159,13 @@ test('the bytes of pieces', async () => {
     sameBytes(Buffer.concat(parts), joinedPieces(image, pieces), 'the image');
     assert.ok(parts.every(bytes => bytes.length <= 1 << 22));
 });
+
+test('several patchings at the same time by the same calls', async () => {
+    const scripts = await Promise.all([20, 21, 22].map(seed => patchesOf(calls, [someScript(diceOf(seed), 300, BASE, 2600)])));
+    const due = scripts.map(patches => plainly(patches, image, BASE, true));
+    const came = await Promise.all(scripts.map(patches => applyPatches(calls, readerOf(image), patches, BASE, true)));
+    came.forEach(({ text, pieces }, i) => {
+        assert.equal(decoded(text), due[i].text);
+        sameBytes(joinedPieces(image, pieces), due[i].out, 'the image');
+    });
+});

@@ -82,6 +82,16 @@ test('CP932 is written as Python writes it, but for 373 kanji with IBM\'s codes 
     assert.deepStrictEqual(more, ['—']);
 });
 
+test('CP932 is written as iconv writes it, but for two signs that iconv makes others of', t => {
+    const wide = CHARACTERS.filter(it => it >= '\x80');
+    const run = spawnSync('iconv', ['-c', '-f', 'UTF-8', '-t', 'CP932'], { input: `${wide.join('\n')}\n`, maxBuffer: 1 << 24 });
+    if (run.error) return t.skip('no iconv');
+    const lines = run.stdout.toString('latin1').split('\n').map(line => hex(Buffer.from(line, 'latin1')));
+    const own = allEncoded('CP932').slice(CHARACTERS.length - wide.length);
+    assert.strictEqual(wide.filter((_, i) => own[i] !== lines[i]).join(''), '\u00A5\u203E');
+    assert.ok(own.filter(it => it !== '').length > 7000);
+});
+
 test('of two spellings Windows\' comes first, and the other is kept', () => {
     assert.strictEqual(encoded('CP932', '∵Ⅱ￢ⅰ髙①～－'), '81E6' + '8755' + '81CA' + 'FA40' + 'FBFC' + '8740' + '8160' + '817C');
     assert.deepStrictEqual(encodingOf('CP932').units('ⅰ髙A').map(unit => unit.map(hex)), [['FA40', 'EEEF'], ['FBFC', 'EEE0'], ['41']]);

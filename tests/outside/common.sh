@@ -3,13 +3,18 @@
 . "$top/tests/judging.sh"
 mkdir "$scratch/bin"
 ln -s "$program" "$scratch/bin/cdpatch"
-# Where the pages look for the functions that come with the program.
-mkdir -p "$scratch/share/cdpatch"
-ln -s "$top/share/recipes.sh" "$scratch/share/cdpatch/recipes.sh"
 PATH=$scratch/bin:$PATH
 export HOME=$scratch
 library=$top/library
 [ -e "$library/libcdpatch.a" ] || { library=$scratch/library && bash "$top/tools/library.sh" "$library"; }
+# Where cdscript and cdpatch.html are, if there is a module to make them of.
+joined=$top
+if [ ! -e "$joined/cdscript" ] && [ -e "$top/library/cdpatch.wasm" ]; then
+    joined=$scratch/joined
+    mkdir "$joined"
+    bash "$top/tools/web.sh" "$top/library" "$joined"
+fi
+[ ! -e "$joined/cdscript" ] || ln -s "$joined/cdscript" "$scratch/bin/cdscript"
 
 # same NAME WANTED GOT: counts whether two files are equal, and shows how they differ.
 same() {

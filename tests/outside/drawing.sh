@@ -43,7 +43,7 @@ for n in $place "${column_pair[@]}" "${diagonal_pairs[@]}"; do
 done
 
 # For those who cannot see them.
-for drawing in sector apply; do
+for drawing in parts sector apply; do
     for part in title desc; do
         judge "$drawing.svg has its $part" grep -qE "^<$part id=\"[a-z]*\">.{40,}</$part>\$" "$top/docs/$drawing.svg"
     done

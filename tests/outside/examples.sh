@@ -43,6 +43,7 @@ blocks_of() {
 packaged() {
     case $1 in
         chdman) echo mame-tools ;;
+        node) echo nodejs ;;
         *) echo "$1" ;;
     esac
 }
@@ -57,7 +58,7 @@ page() {
     judge "$name has blocks" test "$(blocks_of "$2")" -gt 0
     for needs in *.needs; do
         [ -e "$needs" ] || continue
-        for command in $(cat "$needs"); do
+        for command in $(< "$needs"); do
             if missing "$command" "$(packaged "$command")" "$name, block ${needs%.needs}"; then
                 rm "${needs%.needs}.sh"
                 break
@@ -107,7 +108,7 @@ while IFS= read -r command <&3; do
     judge "docs/SPEED.md: $command" test $? = 0
 done 3< <(sed -n 's/^| `\([^`]*\)`.*/\1/p' "$top/docs/SPEED.md")
 judge 'docs/SPEED.md has at most 40 lines' test "$(wc -l < "$top/docs/SPEED.md")" -le 40
-for drawing in sector apply; do
+for drawing in parts sector apply; do
     judge "the README shows $drawing.svg" grep -q "](docs/$drawing.svg)$" "$top/README.md"
     judge "$drawing.svg is there" grep -q '^</svg>$' "$top/docs/$drawing.svg"
 done
@@ -116,9 +117,9 @@ done
 if ! missing make make 'the pages of the tarball'; then
     mkdir "$scratch/from_tarball"
     cd "$scratch/from_tarball" || exit 1
-    bash "$top/tools/dist.sh" "$program" "$library" . > checksum
+    bash "$top/tools/dist.sh" "$program" "$library" "$joined" . > checksum
     tar -xzf ./*.tar.gz
-    rm ./*.tar.gz*
+    rm ./*.tar.gz* cdscript.js* cdpatch.html*
     make --no-print-directory -s -C cdpatch-* > said
     judge 'make in the tarball installs nothing' test "$(cat said)" = 'Everything is built: make install installs it.'
     make --no-print-directory -s -C cdpatch-* install PREFIX="$PWD/prefix"
@@ -128,7 +129,7 @@ if ! missing make make 'the pages of the tarball'; then
     # The tools that the pages name, those that every system has, and the shell.
     mkdir "$scratch/named"
     for name in awk bash cat cmp cp cut dash date dd diff dirname find grep gunzip gzip head iconv ls ln mkdir mktemp mv od rm sed sh \
-        sha256sum sort tail test touch tr uniq wc xargs yes bchunk chdman genisoimage isoinfo perl pv xdelta3; do
+        sha256sum sort tail test touch tr uniq wc yes genisoimage node perl; do
         ! command -v "$name" > /dev/null || ln -s "$(command -v "$name")" "$scratch/named/$name"
     done
     PATH=$installed/bin:$scratch/named

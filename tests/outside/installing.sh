@@ -1,34 +1,52 @@
 # `make install` and `make uninstall`: for a package, below other directories, and of nothing.
 
-built() { make --no-print-directory -s -C "$top" PROGRAM="$program" LIBRARY="$library" "$@"; }
+built() { make --no-print-directory -s -C "$top" PROGRAM="$program" LIBRARY="$library" JOINED="$joined" "$@"; }
 files() { (cd "$1" && find . ! -type d | sort); }
 
 installed_for_a_package() {
     judge 'make install' built install DESTDIR="$PWD/root" PREFIX=/usr
     : > wanted
-    printf '%s\n' libdir=/usr/lib includedir=/usr/include '' 'Name: cdpatch' \
+    printf '%s\n' prefix=/usr 'libdir=${prefix}/lib' 'includedir=${prefix}/include' '' 'Name: cdpatch' \
         'Description: EDC and P/Q parity of CD-ROM sectors, and patches of CD images' \
         "Version: $(cdpatch --help | sed -n '$s/cdpatch //p')" 'Libs: -L${libdir} -lcdpatch' 'Cflags: -I${includedir}' > cdpatch.pc
+    sed -e 's|@libraries@|../..|' -e 's|@includes@|../../../include|' "$top/include/cdpatch-config.cmake.in" > cdpatch-config.cmake
+    sed "s|@version@|$(cdpatch --help | sed -n '$s/cdpatch //p')|" "$top/include/cdpatch-config-version.cmake.in" \
+        > cdpatch-config-version.cmake
     while read -r path source <&3; do
         judge "$path is $source" cmp -s "$source" "root/$path"
         echo "$path" >> wanted
     done 3<< EOF
 ./usr/bin/cdpatch $program
 ./usr/include/cdpatch.h $top/include/cdpatch.h
+./usr/lib/cmake/cdpatch/cdpatch-config-version.cmake $PWD/cdpatch-config-version.cmake
+./usr/lib/cmake/cdpatch/cdpatch-config.cmake $PWD/cdpatch-config.cmake
 ./usr/lib/glibc-hwcaps/x86-64-v3/libcdpatch.so.1 $library/x86-64-v3/libcdpatch.so.1
 ./usr/lib/libcdpatch.a $library/libcdpatch.a
 ./usr/lib/libcdpatch.so $library/libcdpatch.so.1
 ./usr/lib/libcdpatch.so.1 $library/libcdpatch.so.1
 ./usr/lib/pkgconfig/cdpatch.pc $PWD/cdpatch.pc
 ./usr/share/bash-completion/completions/cdpatch $top/completions/cdpatch.bash
-./usr/share/cdpatch/recipes.sh $top/share/recipes.sh
-$(for page in CHANGELOG.md docs/{REPAIR,SCRIPTS,TRANSLATE,TRUST}.md docs/{apply,sector}.svg \
-    examples/{audit.c,{cdpatch,patch}.py}; do echo "./usr/share/doc/cdpatch/$page $top/$page"; done)
+$(cd "$top/python" && for file in {backend.py,pyproject.toml} cdpatch/{*.py,py.typed}; do
+    echo "./usr/share/cdpatch/python/$file $top/python/$file"; done)
+./usr/share/doc/cdpatch/NOTICES $library/NOTICES
+$(for page in CHANGELOG.md docs/{REPAIR,SCRIPTS,TRANSLATE,TRUST}.md docs/{apply,parts,sector}.svg docs/page.png \
+    examples/{audit.c,damaged.rs,patch_pipe.c}; do echo "./usr/share/doc/cdpatch/$page $top/$page"; done)
 $(for page in README.md docs/INSTALL.md; do echo "./usr/share/doc/cdpatch/$page $PWD/$page"; done)
 ./usr/share/fish/vendor_completions.d/cdpatch.fish $top/completions/cdpatch.fish
 ./usr/share/man/man1/cdpatch.1 $top/man/cdpatch.1
 ./usr/share/man/man3/libcdpatch.3 $top/man/libcdpatch.3
 ./usr/share/zsh/site-functions/_cdpatch $top/completions/_cdpatch
+EOF
+    [ ! -e "$joined/cdscript" ] || while read -r path source <&3; do
+        judge "$path is $source" cmp -s "$source" "root/$path"
+        echo "$path" >> wanted
+    done 3<< EOF
+./usr/bin/cdscript $joined/cdscript
+./usr/share/cdpatch/cdpatch.html $joined/cdpatch.html
+./usr/share/bash-completion/completions/cdscript $top/completions/cdscript.bash
+./usr/share/fish/vendor_completions.d/cdscript.fish $top/completions/cdscript.fish
+./usr/share/man/man1/cdscript.1 $top/man/cdscript.1
+./usr/share/zsh/site-functions/_cdscript $top/completions/_cdscript
 EOF
     files root > got
     sort -o wanted wanted
@@ -37,7 +55,12 @@ EOF
     judge 'the program may be run by all' test "$(stat -c %a root/usr/bin/cdpatch)" = 755
     judge 'the link of the library stands next to it' test "$(readlink root/usr/lib/libcdpatch.so)" = libcdpatch.so.1
     judge 'the man page may be read by all' test "$(stat -c %a root/usr/share/man/man1/cdpatch.1)" = 644
-    touch root/usr/bin/another
+    for crate in arrayvec bstr byteorder clap hex itoa memchr sha1 thiserror; do
+        judge "the notices have $crate's" \
+            test "$(sed -n "/^== $crate ==\$/,/^== /p" root/usr/share/doc/cdpatch/NOTICES | grep -c '^Permission is hereby granted')" -gt 0
+    done
+    mkdir root/usr/share/cdpatch/python/cdpatch/__pycache__
+    touch root/usr/bin/another root/usr/share/cdpatch/python/cdpatch/__pycache__/_library.cpython-311.pyc
     judge 'make uninstall' built uninstall DESTDIR="$PWD/root" PREFIX=/usr
     judge 'it leaves what others installed, and no more' test "$(files root)" = ./usr/bin/another
     judge 'make uninstall of nothing' built uninstall DESTDIR="$PWD/root" PREFIX=/usr

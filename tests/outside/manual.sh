@@ -8,8 +8,8 @@ judge 'the README has the version' grep -q "^The version is $version " "$top/REA
 judge 'the man page has the version' grep -qxF "This page is of version $version." "$top/man/cdpatch.1"
 if ! missing mandoc mandoc; then
     # Which other pages this machine has is no matter of this one.
-    mandoc -T lint "$top/man/cdpatch.1" 2> /dev/null | grep -v 'STYLE: referenced manual not found' > lint
-    judge 'mandoc has no word on the man page' test ! -s lint
+    mandoc -T lint "$top/man/cdpatch.1" 2> /dev/null | grep -v 'STYLE: referenced manual not found' > linted
+    judge 'mandoc has no word on the man page' test ! -s linted
     mandoc -T ascii -O width=80 "$top/man/cdpatch.1" | sed 's/.\x08//g' > text
     judge 'the man page is at most 80 columns wide' test -z "$(awk 'length > 80' text)"
     for section in DESCRIPTION 'EXIT STATUS' EXAMPLES DIAGNOSTICS AUTHORS CAVEATS; do

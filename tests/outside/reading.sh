@@ -63,6 +63,7 @@ for goal in check test-outside; do
         case $goal:$command in
             *:python3) command='Python 3' ;;
             test-outside:node | test-outside:tsc | test-outside:eslint | test-outside:strace | test-outside:valgrind | test-outside:setpriv | test-outside:objcopy | test-outside:pkg-config) continue ;;
+            test-outside:cmake | test-outside:rustc | test-outside:chromium | test-outside:chromedriver | test-outside:pytest-3 | test-outside:hypothesis | test-outside:mypy) continue ;;
         esac
         [[ $row == *" $command"[,\ ]* ]] || unknown+=" $command"
     done < skipping
@@ -82,7 +83,7 @@ for crate in cd_code cd_sector cd_delta cd_script cd_patch cd_stream cd_read cd_
 done
 
 # The pages' links lead to files, and to headings that are there.
-heading() { tr 'A-Z' 'a-z' <<< "$1" | sed -e 's/[^a-z0-9 -]//g' -e 's/ /-/g'; }
+heading() { tr '[:upper:]' '[:lower:]' <<< "$1" | sed -e 's/[^a-z0-9 -]//g' -e 's/ /-/g'; }
 while IFS=: read -r page link <&3; do
     file=${link%%#*}
     target=$(dirname "$top/$page")/$file

@@ -3,9 +3,10 @@
 # pack DIRECTORY: a tarball of the program, of a copy of the sources in this directory, into `made` there.
 pack() {
     mkdir -p "$1/made"
-    (cd "$top" && cp -r --parents Makefile install.mk share README.md CHANGELOG.md docs man completions examples include tools "$OLDPWD/$1")
+    (cd "$top" && cp -r --parents Makefile install.mk README.md CHANGELOG.md docs man completions examples include python tools "$OLDPWD/$1")
     cp -r "$library" "$1/library"
     cp "$program" "$1/cdpatch"
+    [ ! -e "$joined/cdscript" ] || cp "$joined/cdscript" "$joined/cdpatch.html" "$1"
     make --no-print-directory -s -C "$1" dist distdir=made > "$1/printed"
 }
 
@@ -21,13 +22,17 @@ released() {
     judge 'the tarball has the version in its name' test "$name" = "./cdpatch-$(cdpatch --help | sed -n '$s/cdpatch //p')-x86_64-linux.tar.gz"
     judge 'two directories give the same bytes' cmp "one/made/$name" "another place/made/$name"
     judge 'the checksum is that of the tarball' eval "(cd one/made && sha256sum --status -c ./*.sha256)"
-    judge 'the checksum is printed' test "$(cat one/printed)" = "$(cat one/made/*.sha256)"
+    judge 'the checksums are printed' test "$(cat one/printed)" = "$(cat one/made/*.sha256)"
+    if [ -e "$joined/cdscript" ]; then
+        judge 'cdscript.js lies beside the tarball' cmp -s "$joined/cdscript" one/made/cdscript.js
+        judge 'cdpatch.html lies beside the tarball' cmp -s "$joined/cdpatch.html" one/made/cdpatch.html
+    fi
     mkdir unpacked
     tar -C unpacked -xzf "one/made/$name"
     judge 'it unpacks into one directory of its own name' test "./$(ls unpacked).tar.gz" = "$name"
     # Neither the toolchain nor the program of these tests is on the path.
     PATH=/usr/bin:/bin make --no-print-directory -s -C unpacked/* install DESTDIR="$PWD/root" PREFIX=/usr
-    make --no-print-directory -s -C "$top" PROGRAM="$program" LIBRARY="$library" install DESTDIR="$PWD/wanted" PREFIX=/usr
+    make --no-print-directory -s -C "$top" PROGRAM="$program" LIBRARY="$library" JOINED="$joined" install DESTDIR="$PWD/wanted" PREFIX=/usr
     judge 'make install in it installs what make install in the sources does' diff -r wanted root
     judge 'the program is as it was' cmp -s "$program" root/usr/bin/cdpatch
     judge 'the tarball has no file that is not installed, but the Makefile' test \

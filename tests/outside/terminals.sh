@@ -45,9 +45,9 @@ in_terminal() {
     local shell=$1 typed wanted got
     mkdir "$scratch/typing_$shell"
     cd "$scratch/typing_$shell" || exit 1
-    mkdir folder ../load_$shell
+    mkdir folder "../load_$shell"
     touch image 'an image' script ./-dash.bin
-    cp "$2" ../load_$shell/
+    cp "$2" "../load_$shell/"
     sed 's/|.*//' ../typed > lines
     python3 "$top/tests/outside/terminals.py" "$shell" "$scratch/load_$shell/${2##*/}" < lines > ../became 2> ../errors
     judge "$shell answers on a terminal: $(tail -n 1 ../errors)" test $? = 0

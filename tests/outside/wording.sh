@@ -8,7 +8,7 @@ judge "at most 600 of them on proofs, not $proofs" test "$proofs" -gt 0 -a "$pro
 # The README's figures.
 edits=$(find "$top"/crates/*/must-fail -name '*.edit' | wc -l)
 figure() { tr '\n' ' ' < "$top/README.md" | grep -oE "$1" | grep -oE '[0-9][0-9,]*' | tr -d ,; }
-wrong=$(figure 'More than [0-9]+ deliberately wrong function bodies')
+wrong=$(figure 'more than [0-9]+ wrong function bodies')
 judge "more than ${wrong:-no} wrong bodies, which are $edits" test "${wrong:-0}" -gt 0 -a "$edits" -ge "${wrong:-0}" -a "$edits" -lt $((${wrong:-0} + 100))
 judge 'as many random cases as a run of the model has' \
     grep -qE "'--cases', type=int, default=$(figure 'on [0-9]+ random cases')\)" "$top/tests/model/compare.py"

@@ -9,6 +9,7 @@ import { Room, Size } from './calls.mjs';
 export const SECTOR = 2352;
 const PATCH_SIZE = 4096;
 const LINE_SIZE = 96;
+const PIECE = 256;
 const RECORD_SIZE = 6;
 const MOST_IN_HAND = 3;
 const KINDS = ['nosync', 'mode0', 'mode1', 'mode2', 'other'];
@@ -36,17 +37,23 @@ function lineBy(calls, name, ...given) {
 }
 
 /**
- * The lines of a text.
+ * The lines of a text. A call gets only a piece of it, since what it gets is copied.
  * @param {Calls} calls
  * @param {Uint8Array} text
  */
 function* linesOf(calls, text) {
-    for (let rest = text; ;) {
+    for (let rest = text, most = PIECE; ;) {
+        const piece = rest.subarray(0, most);
         const found = new Room(16);
-        if (!calls.call('cdpatch_first_line', rest, new Size(rest.length), found)) return;
+        if (!calls.call('cdpatch_first_line', piece, new Size(piece.length), found)) return;
         const [size, taken] = [0, 8].map(at => Number(fields(found.bytes).getBigUint64(at, true)));
+        if (taken === piece.length && taken < rest.length) {
+            most *= 2; // The line may go on after the piece.
+            continue;
+        }
         yield rest.subarray(0, size);
         rest = rest.subarray(taken);
+        most = PIECE;
     }
 }
 

@@ -15,6 +15,7 @@
 
 static int output = -1;     /* the descriptor of OUT */
 static int read_has_failed;
+static int has_synced;
 
 static int is(const char *name)
 {
@@ -196,6 +197,8 @@ ssize_t read(int file, void *bytes, size_t count)
     ssize_t got = next_read(file, bytes, is("reads_a_sector_at_a_time") && count > 2352 ? 2352 : count);
     if (got < 0)
         read_has_failed = 1;
+    if (got == 0 && is("reads_on_after_the_end"))
+        return next_read(file, bytes, count);
     if (got > 0 && is("keeps_the_image")) {
         void *kept = malloc(got);
         if (!kept)
@@ -217,9 +220,19 @@ static ssize_t next_write(int file, const void *bytes, size_t count)
     return next(file, bytes, count);
 }
 
+static int next_fdatasync(int file)
+{
+    static int (*next)(int);
+    if (!next)
+        next = dlsym(RTLD_NEXT, "fdatasync");
+    return next(file);
+}
+
 ssize_t write(int file, const void *bytes, size_t count)
 {
     ssize_t taken;
+    if (file == output && is("syncs_before_it_writes") && !has_synced++)
+        next_fdatasync(file);
     if (is("drops_what_is_held") && file == output && read_has_failed)
         return count;
     if (is("is_silent_without_memory") && file == 1 && count == 19 && !memcmp(bytes, "cdpatch: no memory\n", 19))
@@ -227,6 +240,8 @@ ssize_t write(int file, const void *bytes, size_t count)
     if (is("says_more_than_was_taken") && file == output && count > 1)
         return next_write(file, bytes, count - 1) + 1;
     taken = next_write(file, bytes, count);
+    if (taken > 0 && file == output && is("syncs_each_write"))
+        next_fdatasync(file);
     if (taken < 0 && file == output && is("repeats_a_write_of_out"))
         return next_write(file, bytes, count);
     if (taken < 0 && file == 1 && is("prints_again"))
@@ -243,17 +258,16 @@ ssize_t __write(int file, const void *bytes, size_t count)
 
 int fdatasync(int file)
 {
-    static int (*next)(int);
     int answer;
-    if (!next)
-        next = dlsym(RTLD_NEXT, "fdatasync");
-    if (is("syncs_nothing"))
+    if (is("syncs_nothing") || is("syncs_before_it_writes"))
         return 0;
-    answer = next(file);
+    answer = next_fdatasync(file);
+    if (answer == 0 && is("syncs_twice"))
+        answer = next_fdatasync(file);
     if (answer < 0 && is("passes_over_a_sync_that_is_not_known") && (errno == EOPNOTSUPP || errno == ENOSYS || errno == EINVAL))
         return 0;
     if (answer < 0 && is("repeats_a_sync"))
-        return next(file);
+        return next_fdatasync(file);
     return answer;
 }
 

@@ -8,12 +8,21 @@ scratch=$(mktemp -d)
 trap 'rm -rf "$scratch"' EXIT
 mkfifo "$scratch/image"
 
+# descendants PROCESS: the processes that it started, and theirs.
+descendants() {
+    local process
+    for process in $(pgrep -P "$1"); do
+        echo "$process"
+        descendants "$process"
+    done
+}
+
 # The path of the program that lists the image, if it runs by now.
 waiting_program() {
     local process words
-    for process in $(pgrep -f -- " list $scratch/image\$"); do
+    for process in $(descendants "$trying"); do
         words=$(tr '\0' '\n' < "/proc/$process/cmdline" 2> /dev/null)
-        grep -m 1 '^/.*/program$' <<< "$words"
+        grep -qxF "$scratch/image" <<< "$words" && grep -m 1 '^/.*/program$' <<< "$words"
     done
 }
 

@@ -38,17 +38,18 @@ export class Arena {
     }
 
     /**
-     * Copies bytes to the arena, and answers where each stands.
-     * @param {...Uint8Array} pieces
+     * Copies bytes to the arena, and returns where each piece stands. A number is room for as many bytes, whatever they are.
+     * @param {...(Uint8Array | number)} pieces
      */
     put(...pieces) {
+        const sizes = pieces.map(piece => typeof piece === 'number' ? piece : piece.length);
         this.heldSize = 0;
-        this.reserve(pieces.reduce((sum, piece) => sum + aligned(piece.length), 0));
+        this.reserve(sizes.reduce((sum, size) => sum + aligned(size), 0));
         let end = this.arena;
-        return pieces.map(piece => {
+        return pieces.map((piece, i) => {
             const at = end;
-            this.memory.set(piece, at);
-            end += aligned(piece.length);
+            if (typeof piece !== 'number') this.memory.set(piece, at);
+            end += aligned(sizes[i]);
             return BigInt(at);
         });
     }
@@ -62,10 +63,17 @@ export class Arena {
         return this.memory.slice(Number(at), Number(at) + Number(size));
     }
 
-    /** @param {Uint8Array} bytes a text, or sectors, for the calls that take a place in what is held */
-    hold(bytes) {
-        this.put(bytes);
-        this.heldSize = bytes.length;
+    /** @param {...Uint8Array} pieces texts, or sectors, one after the other, for the calls that take a place in what is held */
+    hold(...pieces) {
+        this.heldSize = 0;
+        const size = pieces.reduce((sum, piece) => sum + piece.length, 0);
+        this.reserve(size);
+        let at = this.arena;
+        for (const piece of pieces) {
+            this.memory.set(piece, at);
+            at += piece.length;
+        }
+        this.heldSize = size;
     }
 
     /**

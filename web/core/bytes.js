@@ -70,14 +70,23 @@ export class ByteList {
 
     /** @param {Uint8Array} bytes what is appended, copied */
     push(bytes) {
-        const size = this.size + bytes.length;
-        if (size > this.room.length) {
-            const room = new Uint8Array(Math.max(size, 2 * this.room.length));
-            room.set(this.bytes());
+        const at = this.grow(bytes.length);
+        this.room.set(bytes, at);
+    }
+
+    /**
+     * Makes room for more bytes, and returns where in `room` they begin.
+     * @param {number} count
+     */
+    grow(count) {
+        const at = this.size;
+        this.size += count;
+        if (this.size > this.room.length) {
+            const room = new Uint8Array(Math.max(this.size, 2 * this.room.length));
+            room.set(this.room.subarray(0, at));
             this.room = room;
         }
-        this.room.set(bytes, this.size);
-        this.size = size;
+        return at;
     }
 
     /** The bytes, not copied: they stay until the list changes. */

@@ -1,7 +1,8 @@
-// The calls of the module of libcdpatch, over bytes and numbers of JavaScript. cdpatch.h says what each does.
+// The calls of the module of libcdpatch, over bytes and numbers of JavaScript: those on sectors and images, and SHA-1. cdpatch.h says
+// what each does.
 
-import { Arena } from './arena.js';
-import { PATCH_RECORD_SIZE, RECORD_SIZE, freshSize } from './records.js';
+import { PatchCalls } from './patch_calls.js';
+import { RECORD_SIZE } from './records.js';
 import { SECTOR_SIZE, USER_SIZE, sectorCount } from './sector.js';
 
 const COLUMN_COUNT = 86;
@@ -20,7 +21,7 @@ function sized(bytes, size) {
 }
 
 /** One method for each call. What it is given is copied to the arena; its answers are copies. */
-export class Calls extends Arena {
+export class Calls extends PatchCalls {
     version() {
         return this.exports.cdpatch_version() >>> 0;
     }
@@ -49,9 +50,24 @@ export class Calls extends Arena {
      * @param {Uint8Array} user
      */
     encode(address, user) {
-        const [from, data, sector] = this.put(sized(address, 3), sized(user, USER_SIZE), new Uint8Array(SECTOR_SIZE));
+        const [from, data, sector] = this.put(sized(address, 3), sized(user, USER_SIZE), SECTOR_SIZE);
         this.exports.cdpatch_encode(from, data, sector);
         return this.copied(sector, SECTOR_SIZE);
+    }
+
+    /**
+     * The consistent sectors of neighbouring blocks.
+     * @param {number} block the first one
+     * @param {Uint8Array} user 2048 bytes for each
+     */
+    encodeBlocks(block, user) {
+        const count = Math.floor(user.length / USER_SIZE);
+        const [from, sectors] = this.put(sized(user, count * USER_SIZE), count * SECTOR_SIZE);
+        for (let i = 0; i < count; i++) {
+            if (!this.exports.cdpatch_address(block + i, this.places.answer)) throw new RangeError(`block ${block + i} has no address`);
+            this.exports.cdpatch_encode(this.places.answer, from + BigInt(i * USER_SIZE), sectors + BigInt(i * SECTOR_SIZE));
+        }
+        return this.copied(sectors, count * SECTOR_SIZE);
     }
 
     /** @param {Uint8Array} sector */
@@ -80,7 +96,7 @@ export class Calls extends Arena {
      */
     survey(sectors, block) {
         const count = Math.floor(sectors.length / SECTOR_SIZE);
-        const [from, records] = this.put(sized(sectors, count * SECTOR_SIZE), new Uint8Array(RECORD_SIZE * count));
+        const [from, records] = this.put(sized(sectors, count * SECTOR_SIZE), RECORD_SIZE * count);
         const known = block === block >>> 0 && this.exports.cdpatch_survey(from, BigInt(count), block, records, BigInt(count));
         if (!known) throw new RangeError(`${count} sectors from block ${block} on`);
         return this.copied(records, RECORD_SIZE * count);
@@ -133,88 +149,6 @@ export class Calls extends Arena {
     }
 
     /**
-     * The bytes of the first line of the held text from a place on, without its end and with it; null if there is none.
-     * @param {number} from
-     */
-    firstLine(from) {
-        const size = BigInt(this.heldSize - this.within(from));
-        if (!this.exports.cdpatch_first_line(BigInt(this.arena + from), size, this.places.answer)) return null;
-        return { size: this.view.getUint32(this.answer, true), taken: this.view.getUint32(this.answer + 8, true) };
-    }
-
-    /**
-     * Reads a line of the held text, and returns its CONTENT. `patchRead` has the patch of a line that has one.
-     * @param {number} version
-     * @param {number} number
-     * @param {number} earlier
-     * @param {number} from
-     * @param {number} size
-     * @returns {number}
-     */
-    readLine(version, number, earlier, from, size) {
-        const { patch, fresh, old } = this.places;
-        const at = BigInt(this.arena + this.within(from + size) - size);
-        return this.exports.cdpatch_read_line(version, number, BigInt(earlier), at, BigInt(size), patch, fresh, old);
-    }
-
-    /** The patch of the line that was read: its first block; and its record, then its new and its old bytes. */
-    patchRead() {
-        const size = freshSize(this.memory, this.patch);
-        const hasOld = this.memory[this.patch + 9] !== 0;
-        const bytes = this.memory.slice(this.patch, this.fresh + (hasOld ? 2 * size : size));
-        if (hasOld) bytes.set(this.memory.subarray(this.old, this.old + size), PATCH_RECORD_SIZE + size);
-        return { block: this.view.getUint32(this.patch, true), bytes };
-    }
-
-    /**
-     * Makes a patch on held sectors, and returns the result with its place.
-     * @param {Uint8Array} patch
-     * @param {number} from the byte at which the first of the sectors begins
-     * @param {number} count of sectors
-     * @param {boolean} carry
-     */
-    applyPatch(patch, from, count, carry) {
-        this.within(from + count * SECTOR_SIZE);
-        this.memory.set(patch, this.patch);
-        const { patch: record, fresh, answer } = this.places;
-        const old = BigInt(this.fresh + freshSize(patch, 0));
-        const at = BigInt(this.arena + from);
-        const result = this.exports.cdpatch_apply_patch(record, fresh, old, at, BigInt(count), Number(carry), answer);
-        return { result, block: this.view.getUint32(this.answer, true), offset: this.view.getUint16(this.answer + 4, true) };
-    }
-
-    /** @param {number} result */
-    resultText(result) {
-        return this.line('cdpatch_result_text', result);
-    }
-
-    /**
-     * @param {number} number
-     * @param {number} result
-     * @param {number} block
-     * @param {number} offset
-     */
-    outcomeLine(number, result, block, offset) {
-        return this.line('cdpatch_outcome_line', number, result, block, offset);
-    }
-
-    /**
-     * @param {number} applied
-     * @param {number} refused
-     */
-    lastLine(applied, refused) {
-        return this.line('cdpatch_last_line', applied, refused);
-    }
-
-    /**
-     * @param {number} number
-     * @param {number} fault
-     */
-    faultLine(number, fault) {
-        return this.line('cdpatch_fault_line', number, fault);
-    }
-
-    /**
      * What a call reports on an image, and its status.
      * @param {string} name
      * @param {Uint8Array} image
@@ -222,7 +156,7 @@ export class Calls extends Arena {
      */
     report(name, image, base) {
         const room = 100 + 40 * sectorCount(image.length);
-        const [at, text] = this.put(image, new Uint8Array(room));
+        const [at, text] = this.put(image, room);
         const status = Number(this.exports[name](at, BigInt(image.length), base, text, BigInt(room), this.places.answer));
         return { status, text: this.copied(text, this.view.getUint32(this.answer, true)) };
     }
@@ -245,7 +179,7 @@ export class Calls extends Arena {
 
     /** The state of a SHA-1 of nothing, for sha1Add. */
     sha1Begin() {
-        const [state] = this.put(new Uint8Array(DIGEST_STATE_SIZE));
+        const [state] = this.put(DIGEST_STATE_SIZE);
         this.exports.cdpatch_sha1_begin(state);
         return this.copied(state, DIGEST_STATE_SIZE);
     }

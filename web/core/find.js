@@ -1,10 +1,10 @@
 // Search over the user data of sectors, of any kind. A hit may lie over borders of sectors, and of the ranges that workers share.
 
-import { SECTOR_SIZE, USER_SIZE, userOf } from './sector.js';
+import { USER_SIZE, joinedUser } from './sector.js';
 import { joinedBytes } from './text.js';
 
 /** How many bytes of a range are counted to know which are rare, and how many of the wanted ones are weighed. */
-const SAMPLES = 20000;
+const SAMPLES = 4000;
 const MOST_OPENINGS = 64;
 
 /**
@@ -34,7 +34,7 @@ export function sectorsBeyond(wanted) {
  */
 export function findIn(_calls, bytes, firstBlock, { wanted, count, limit }) {
     const parts = joinedParts(wanted);
-    const user = userBytes(bytes);
+    const user = joinedUser(bytes);
     const end = parts.length > 0 ? Math.min(user.length, count * USER_SIZE) : 0;
     const anchor = anchorOf(parts, user);
     /** @type {Found} */
@@ -73,18 +73,7 @@ function hitAt(firstBlock, at, stop) {
 }
 
 /**
- * The user data of sectors in one piece.
- * @param {Uint8Array} bytes
- */
-function userBytes(bytes) {
-    const count = Math.floor(bytes.length / SECTOR_SIZE);
-    const user = new Uint8Array(USER_SIZE * count);
-    for (let i = 0; i < count; i++) user.set(userOf(bytes, i), USER_SIZE * i);
-    return user;
-}
-
-/**
- * The same, with neighbours of one spelling each as one part.
+ * What is wanted, with neighbours of one spelling each as one part.
  * @param {Wanted} wanted
  */
 function joinedParts(wanted) {

@@ -26,7 +26,7 @@ import { Refusal } from './script.js';
  */
 
 /** A patch looks at so many sectors from its block on, if the image has them. */
-const SECTORS_IN_HAND = 3;
+export const SECTORS_IN_HAND = 3;
 
 /** Patches with fewer sectors than these between them are read for together, but no more sectors at a time than those. */
 const NEAR = 32;
@@ -111,12 +111,20 @@ class PatchedImage {
     }
 
     /**
-     * Holds sectors as the patches so far have left them.
-     * @param {Calls} calls
+     * The sectors of a stretch, as the image has them.
      * @param {Stretch} stretch
      */
-    async hold(calls, { first, end }) {
-        const bytes = await readBytes(this.reader, first * SECTOR_SIZE, (end - first) * SECTOR_SIZE);
+    read({ first, end }) {
+        return readBytes(this.reader, first * SECTOR_SIZE, (end - first) * SECTOR_SIZE);
+    }
+
+    /**
+     * Holds sectors as the patches so far have left them. Nothing may be awaited before they are used.
+     * @param {Calls} calls
+     * @param {Stretch} stretch
+     * @param {Uint8Array} bytes
+     */
+    hold(calls, { first }, bytes) {
         calls.hold(bytes);
         for (const [i, sector] of this.waiting) calls.held((i - first) * SECTOR_SIZE, (i - first + 1) * SECTOR_SIZE).set(sector);
     }
@@ -197,7 +205,8 @@ export async function passPatched(calls, reader, patches, base, carry, take) {
     const count = sectorCount(reader.size);
     for (const stretch of stretchesOf(patches, base, count)) {
         await image.passBefore(stretch.first);
-        await image.hold(calls, stretch);
+        const bytes = await image.read(stretch);
+        image.hold(calls, stretch, bytes);
         for (const [i, sector] of patchStretch(calls, patches, stretch, { base, count, carry }, log)) image.waiting.set(i, sector);
     }
     await image.end();

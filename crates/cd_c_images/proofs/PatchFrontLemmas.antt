@@ -62,6 +62,7 @@ module _ (n m : ℕ) (old new : Streams) where
       flushes = Flushed-without a.out_flushes 0 a.flushes;
       once = a.once;
       at_end = a.at_end;
+      cut = a.cut;
       within = a.within;
       begins = a.begins;
       between_sinks = a.between_sinks;
@@ -77,6 +78,7 @@ module _ (n m : ℕ) (old new : Streams) where
       between_sinks = a.between_sinks;
       flushed = a.flushed;
       at_end = a.at_end;
+      cut = a.cut;
     }
     AppliesBy-without (Err TooLong) a = record {
       failed = Failed-without 0 0 0 a.failed;

@@ -1,10 +1,15 @@
 -- The clauses of the calls: the plain ones follow from the whole one.
-use Rattle.std.proofs.Common.{◌≡◌, ◌≢◌, ℕ, ◌⊎◌, Bool, List, [], length, inl, inr, refl, ap}
-use Rattle.std.proofs.Common.{◌∙◌}
+use Rattle.std.proofs.Common.{◌≡◌, ◌≢◌, ℕ, ◌+◌, ◌<◌, ◌⊎◌, Bool, false, List, [], length, Result, Ok, Err}
+use Rattle.std.proofs.Common.{inl, inr, refl, ap, ◌∙◌, arith}
 use Rattle.cd_args.specs.Fault.{failed_status}
-use Rattle.cd_program.specs.Commands.{IsTooLong}
+use Rattle.cd_program.specs.Commands.{Ends, script_status}
+use Rattle.cd_image.specs.Applying.{Applies, null_outgoing, streams}
+use Rattle.cd_image.specs.declared.patch_log.Tally.{Tally}
+use Rattle.cd_read.specs.Image.{image_limit}
+use Rattle.cd_read.specs.declared.fault.Fault.{Fault}
+use Rattle.cd_read.specs.declared.fault.Fault.TheVariants.{Log, Read, TooLong, Write}
+use Rattle.std.proofs.lemmas.Bool.{cases_lt}
 use Rattle.cd_memory.specs.Memory.{fresh_incoming, fresh_outgoing}
-use Rattle.cd_rooms.proofs.ReportLemmas.{too-long}
 use Rattle.cd_rooms.proofs.RoomLemmas.{fills-counted, holds-text, same-text}
 use Rattle.cd_rooms.specs.Rooms.{FillsCounted, FillsRoom, Holds, lent_to, room_outgoing}
 use Rattle.cd_rooms.specs.declared.room.Room.{Room}
@@ -12,7 +17,7 @@ use Rattle.cd_stream.specs.Adapters.{slice_incoming}
 use Rattle.cd_stream.specs.Stream.{Outgoing}
 use Rattle.cd_c_images.specs.Images.{AppliesInMemory, ChecksInMemory}
 use Rattle.cd_c_images.specs.Plain.{ApplyFails, CheckFails, TakesPatches, WritesLines}
-use Rattle.cd_c_images.proofs.StopLemmas.{apply-fails}
+use Rattle.cd_c_images.proofs.StopLemmas.{apply-fails, beyond-limit, not-failed, short-log}
 
 module _ {carry : Bool} {base : ℕ} {image text log log' : List ℕ} {size status : ℕ}
     (all : FillsCounted (λ lines lines'. ChecksInMemory carry base image text lines lines' status) log
@@ -38,22 +43,46 @@ module _ {carry : Bool} {base : ℕ} {image text log log' : List ℕ} {size stat
             };
       }
 
-  check-fails : status ≡ failed_status → CheckFails base image text log size
+  check-fails : status ≡ failed_status → CheckFails carry base image text log size
   check-fails failed = go all.room_filled.does
     where
-      go : ChecksInMemory carry base image text fresh_outgoing all.room_filled.after status
-          → CheckFails base image text log size
-      go (ChecksInMemory.outside above is same) = inl (inl above)
-      go (ChecksInMemory.without_script within line none fails) = inr (line, none)
-      go (ChecksInMemory.checked within patches reads r) = why (r.failed failed)
+      after : Outgoing
+      after = all.room_filled.after
+
+      go : ChecksInMemory carry base image text fresh_outgoing after status
+          → CheckFails carry base image text log size
+      go (ChecksInMemory.outside above is same) = inl above
+      go (ChecksInMemory.without_script within line none fails) = inr (inr (inl (line, none)))
+      go (ChecksInMemory.checked within patches reads r) =
+          stops r.runs.result r.runs.does.3 r.runs.ends
         where
-          why : ((slice_incoming r.left).failures ≢ 0)
-              ⊎ (all.room_filled.after.failures ≢ 0)
-              ⊎ IsTooLong (fresh_incoming image) (slice_incoming r.left)
-              → CheckFails base image text log size
-          why (inl none) = absurd (none refl)
-          why (inr (inl full)) = inl (inr (inr (all.counted ∙ all.room_filled.fills.full full)))
-          why (inr (inr long)) = inl (inr (inl (too-long image r.left long)))
+          middle : Outgoing
+          middle = r.runs.middle
+
+          made : Outgoing
+          made = null_outgoing r.runs.does.0 r.runs.does.1 r.runs.does.2
+
+          stops : (result : Result Tally Fault)
+              → Applies carry patches base
+              (streams (fresh_incoming image) (null_outgoing 0 0 false) fresh_outgoing)
+              (streams (slice_incoming r.left) made middle) result
+              → Ends Log script_status result middle after status
+              → CheckFails carry base image text log size
+          stops (Ok tally) a ends = absurd (not-failed tally status ends.1 failed)
+          stops (Err Read) a ends = absurd (omega (arith, a.answers.failed.reads))
+          stops (Err Write) a ends = absurd (omega (arith, a.answers.failed.writes))
+          stops (Err Log) a ends = elim (cases_lt image_limit (length image)) [
+            | inl long ↦ inr (inl long)
+            | inr small ↦ inr (inr (inr (
+              patches,
+              reads,
+              short-log carry patches base image r.left
+                  (null_outgoing 0 0 false) made middle after log log' size (ends.0.0 refl)
+                  all.room_filled.fills all.counted a small,
+            )))
+          ]
+          stops (Err TooLong) a ends =
+              inr (inl (beyond-limit image a.read r.left.rest.now a.consumes a.answers.beyond))
 
 writes-image : {carry : Bool} {base : ℕ} {image text out out' log log' : List ℕ}
     {size status : ℕ}
@@ -99,7 +128,7 @@ module _ (before : Outgoing) (room : Room) (held held' : List ℕ) (fresh : befo
         text : status ≢ failed_status → TakesPatches carry base image script
             (λ patches outcomes last.
             WritesLines patches image outcomes held held' room.used status);
-        failed : status ≡ failed_status → CheckFails base image script held room.used;
+        failed : status ≡ failed_status → CheckFails carry base image script held room.used;
       }
   check-clauses {carry = carry} {base = base} {image = image} {script = script} {status = status}
       does =

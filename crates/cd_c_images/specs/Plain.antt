@@ -5,7 +5,6 @@ use Rattle.cd_image.specs.Patched.{EachPatching}
 use Rattle.cd_program.specs.Commands.{script_status}
 use Rattle.cd_patch.specs.declared.outcome.Outcome.{Outcome}
 use Rattle.cd_read.specs.Image.{base_limit, image_limit}
-use Rattle.cd_rooms.specs.Reports.{ReportFails}
 use Rattle.cd_rooms.specs.Rooms.{Holds}
 use Rattle.cd_script.specs.PatchForm.{Patch}
 use Rattle.cd_stream.specs.Stream.{IsBeginning}
@@ -25,10 +24,20 @@ pub record TakesPatches (carry : Bool) (base : ℕ) (image text : List ℕ)
   pub script : HasScript text patches
   pub each : EachPatching carry patches base image (Does patches)
 
--- why a check fails: as a report, or the text is no script
-abbrev pub CheckFails : ℕ → List ℕ → List ℕ → List ℕ → ℕ → Type 0
-CheckFails base image text log size =
-    ReportFails base image log size ⊎ ((line : List ℕ) × HasNoScript text line)
+-- the memory for the log is full, and the log of the patches is longer than it
+pub record HasShortLog (carry : Bool) (patches : List Patch) (base : ℕ) (image log : List ℕ)
+    (size : ℕ) : Type 0 where
+  pub full : size ≡ length log
+  pub longer : EachPatching carry patches base image
+      (λ outcomes last. length log < length (log_text patches outcomes))
+
+-- why a check fails: no image has its base, the image is too long, the text is no script, or the
+-- log of its patches is too long
+abbrev pub CheckFails : Bool → ℕ → List ℕ → List ℕ → List ℕ → ℕ → Type 0
+CheckFails carry base image text log size =
+    (base_limit < base) ⊎ (image_limit < length image) ⊎ ((line : List ℕ) × HasNoScript text line)
+    ⊎ ((patches : List Patch) × HasScript text patches
+    × HasShortLog carry patches base image log size)
 
 -- what was sent to an output begins the patched image, in each way to patch the image, cut at the
 -- largest size
@@ -40,7 +49,8 @@ pub record SendsFront (carry : Bool) (patches : List Patch) (base : ℕ) (image 
       (λ outcomes last. IsBeginning sent last)
 
 -- why an `apply` fails: no image has its base, or the text is no script, and then nothing was sent;
--- or the image is too long, or the output or the log is full
+-- or the image is too long, or the output is full, and the image is longer than it, or the log of
+-- the patches is too long
 pub data ApplyFails (carry : Bool) (base : ℕ) (image text out out' log : List ℕ) (size : ℕ)
     : Type 0 where
   outside : base_limit < base → out' ≡ out → ApplyFails carry base image text out out' log size
@@ -48,5 +58,7 @@ pub data ApplyFails (carry : Bool) (base : ℕ) (image text out out' log : List 
       → ApplyFails carry base image text out out' log size
   stopped : (patches : List Patch) → HasScript text patches
       → (front : SendsFront carry patches base image out out')
-      → (image_limit < length image) ⊎ (length front.sent ≡ length out) ⊎ (size ≡ length log)
+      → (image_limit < length image)
+      ⊎ ((length front.sent ≡ length out) × (length out < length image))
+      ⊎ HasShortLog carry patches base image log size
       → ApplyFails carry base image text out out' log size

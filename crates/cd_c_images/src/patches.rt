@@ -29,7 +29,7 @@ pub extern "C" fn cdpatch_check(
         (λ patches outcomes last.
         WritesLines patches image.now outcomes log.old log.new length.new result) }
     ensures failed { result ≡ failed_status
-        → CheckFails base image.now script.now log.old length.new }
+        → CheckFails carry base image.now script.now log.old length.new }
 {
     let mut lines = Room::new(log);
     let status = check_image(alloc, image, script, base, carry, &mut lines);

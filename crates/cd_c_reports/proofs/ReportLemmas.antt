@@ -1,16 +1,65 @@
 -- The clauses of a call that reports: the plain ones follow from the whole one.
-use Rattle.std.proofs.Common.{◌≡◌, ◌≢◌, ℕ, ◌⊎◌, List, [], length, inl, inr, refl, ap, ◌∙◌}
+use Rattle.std.proofs.Common.{◌≡◌, ◌≢◌, ℕ, ◌<◌, ◌⊎◌, List, [], length, Result, Ok, Err, inl, inr}
+use Rattle.std.proofs.Common.{refl, sym, ap, ◌∙◌, arith, length-append}
+use Rattle.std.proofs.lemmas.Bool.{cases_lt}
 use Rattle.cd_args.specs.Fault.{failed_status}
+use Rattle.cd_memory.proofs.KnownLemmas.{Appends-Some, Some-injective}
 use Rattle.cd_memory.specs.Memory.{fresh_incoming, fresh_outgoing}
-use Rattle.cd_program.specs.Commands.{IsTooLong}
-use Rattle.cd_report.specs.Report.{ReportSpec}
-use Rattle.cd_rooms.proofs.ReportLemmas.{too-long}
+use Rattle.cd_program.specs.Commands.{Ends, IsTooLong}
+use Rattle.cd_read.specs.Image.{image_limit}
+use Rattle.cd_read.specs.declared.fault.Fault.{Fault}
+use Rattle.cd_read.specs.declared.fault.Fault.TheVariants.{Log, Read, TooLong, Write}
+use Rattle.cd_report.specs.Report.{Reports, ReportSpec}
+use Rattle.cd_rooms.proofs.ReportLemmas.{may-be, too-long}
 use Rattle.cd_rooms.proofs.RoomLemmas.{fills-counted, holds-text, same-text}
 use Rattle.cd_rooms.specs.Reports.{ReportFails, ReportsInMemory, WritesReport}
-use Rattle.cd_rooms.specs.Rooms.{FillsCounted, lent_to, room_outgoing}
+use Rattle.cd_rooms.specs.Rooms.{FillsCounted, FillsFront, lent_to, room_outgoing}
 use Rattle.cd_rooms.specs.declared.room.Room.{Room}
 use Rattle.cd_stream.specs.Adapters.{slice_incoming}
-use Rattle.cd_stream.specs.Stream.{Outgoing}
+use Rattle.cd_stream.specs.Stream.{Incoming, Outgoing}
+use Rattle.cd_stream.specs.declared.adapters.slice_source.SliceSource.{SliceSource}
+
+-- a call of the sink has failed: the memory is full, and if the image is not too long, some of its
+-- text did not go out
+module _ {T : Type 0} (spec : ReportSpec T) (status_of : T → ℕ) (image : List ℕ)
+    (left : SliceSource) (after : Outgoing) (status : ℕ) where
+  full-room : (result : Result T Fault) (middle : Outgoing)
+      → (r : Reports spec (fresh_incoming image) (slice_incoming left) fresh_outgoing middle result)
+      → Ends Write status_of result middle after status → (room room' : List ℕ)
+      → (fills : FillsFront after room room') (size : ℕ) → size ≡ length fills.text
+      → after.failures ≢ 0 → (image_limit < length image)
+      ⊎ ((size ≡ length room) × (length room < length (spec.text image)))
+  full-room (Ok tally) middle r ends room room' fills size counted failed =
+      absurd (failed (ap (λ o. o.failures) ends.0 ∙ r.answers.writes))
+  full-room (Err Read) middle r ends room room' fills size counted failed =
+      absurd (omega (arith, r.answers.reads))
+  full-room (Err Log) middle r ends room room' fills size counted failed = absurd r.answers
+  full-room (Err TooLong) middle r ends room room' fills size counted failed =
+      inl (omega (
+        arith,
+        ap length r.gives.consumes,
+        length-append r.read left.rest.now,
+        r.answers.beyond,
+      ))
+  full-room (Err Write) middle r ends room room' fills size counted failed =
+      elim (cases_lt image_limit (length image)) [
+        | inl long ↦ inl long
+        | inr small ↦ inr (
+          counted ∙ fills.full failed,
+          omega (
+            arith,
+            fills.full failed,
+            ap length same,
+            r.answers.cut refl image
+                (may-be image r.read left.rest.now r.gives.consumes r.answers.within small),
+          ),
+        )
+      ]
+    where
+      same : fills.text ≡ r.sent
+      same =
+          Some-injective (sym fills.written ∙ ap (λ o. o.written) (ends.0.0 refl)
+          ∙ Appends-Some fresh_outgoing.written middle.written [] r.sent refl r.takes.appends)
 
 module _ {T : Type 0} {spec : ReportSpec T} {status_of : T → ℕ} {base : ℕ}
     {image room room' : List ℕ} {size status : ℕ}
@@ -31,20 +80,26 @@ module _ {T : Type 0} {spec : ReportSpec T} {status_of : T → ℕ} {base : ℕ}
             tally = text.2;
           }
 
-  report-fails : status ≡ failed_status → ReportFails base image room size
+  report-fails : status ≡ failed_status → ReportFails spec base image room size
   report-fails failed = go all.room_filled.does
     where
-      go : ReportsInMemory spec status_of base image fresh_outgoing all.room_filled.after status
-          → ReportFails base image room size
+      after : Outgoing
+      after = all.room_filled.after
+
+      go : ReportsInMemory spec status_of base image fresh_outgoing after status
+          → ReportFails spec base image room size
       go (ReportsInMemory.outside above is same) = inl above
       go (ReportsInMemory.reported within r) = why (r.failed failed)
         where
-          why : ((slice_incoming r.left).failures ≢ 0)
-              ⊎ (all.room_filled.after.failures ≢ 0)
-              ⊎ IsTooLong (fresh_incoming image) (slice_incoming r.left)
-              → ReportFails base image room size
+          left : Incoming
+          left = slice_incoming r.left
+
+          why : (left.failures ≢ 0) ⊎ (after.failures ≢ 0) ⊎ IsTooLong (fresh_incoming image) left
+              → ReportFails spec base image room size
           why (inl none) = absurd (none refl)
-          why (inr (inl full)) = inr (inr (all.counted ∙ all.room_filled.fills.full full))
+          why (inr (inl full)) =
+              inr (full-room spec status_of image r.left after status r.runs.result r.runs.middle
+              r.runs.does r.runs.ends room room' all.room_filled.fills size all.counted full)
           why (inr (inr long)) = inr (inl (too-long image r.left long))
 
 -- of the room that it has filled
@@ -58,7 +113,7 @@ module _ (before : Outgoing) (room : Room) (held held' : List ℕ) (fresh : befo
             held held' room.used;
         text : status ≢ failed_status
             → WritesReport spec status_of image held held' room.used status;
-        failed : status ≡ failed_status → ReportFails base image held room.used;
+        failed : status ≡ failed_status → ReportFails spec base image held room.used;
       }
   report-clauses {spec = spec} {status_of = status_of} {base = base} {image = image}
       {status = status} does =

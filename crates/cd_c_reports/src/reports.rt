@@ -20,7 +20,8 @@ pub extern "C" fn cdpatch_list(image: &[u8], base: u32, text: &mut [u8], length:
         text.old text.new length.new }
     ensures text { result ≢ failed_status → WritesReport (list_report base) (λ _. done_status)
         image.now text.old text.new length.new result }
-    ensures failed { result ≡ failed_status → ReportFails base image.now text.old length.new }
+    ensures failed { result ≡ failed_status → ReportFails (list_report base) base image.now
+        text.old length.new }
 {
     let mut listing = Room::new(text);
     let status = list_image(image, base, &mut listing);
@@ -39,7 +40,8 @@ pub extern "C" fn cdpatch_audit(image: &[u8], base: u32, text: &mut [u8], length
         text.old text.new length.new }
     ensures text { result ≢ failed_status → WritesReport (audit_report base) audit_status
         image.now text.old text.new length.new result }
-    ensures failed { result ≡ failed_status → ReportFails base image.now text.old length.new }
+    ensures failed { result ≡ failed_status → ReportFails (audit_report base) base image.now
+        text.old length.new }
 {
     let mut findings = Room::new(text);
     let status = audit_image(image, base, &mut findings);

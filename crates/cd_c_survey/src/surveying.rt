@@ -34,10 +34,10 @@ pub struct SectorRecord {
 }
 
 /// The number of a kind.
-fn kind_number(sector: &Sector) -> u8
-    ensures { result ≡ kind_number (kind_of sector.now) }
+fn kind_number(kind: SectorKind) -> u8
+    ensures { result ≡ kind_number kind }
 {
-    match kind(sector) {
+    match kind {
         SectorKind::NoSync => 0,
         SectorKind::Mode0 => 1,
         SectorKind::Mode1 => MODE1,
@@ -54,12 +54,13 @@ fn report_of(sector: &Sector) -> DefectReport
     defect(sector)
 }
 
-/// What is found of the sector of a block; None if it is not of Mode 1.
+/// What is found of the sector of a block, which is of this kind; None if it is not of Mode 1.
 #[tactic(auto, unfolding(cd_report::specs::AuditText::findings_of))]
-fn findings_of(sector: &Sector, block: u32) -> Option<Findings>
+fn findings_of(sector: &Sector, kind: SectorKind, block: u32) -> Option<Findings>
+    requires { kind ≡ kind_of sector.now }
     ensures { result ≡ findings_of block sector.now }
 {
-    if kind(sector) != SectorKind::Mode1 {
+    if kind != SectorKind::Mode1 {
         return None;
     }
     Some(Findings {
@@ -73,8 +74,9 @@ fn findings_of(sector: &Sector, block: u32) -> Option<Findings>
 fn record_of(sector: &Sector, block: u32) -> SectorRecord
     ensures { result ≡ record_of block sector.now }
 {
-    let kind = kind_number(sector);
-    match findings_of(sector, block) {
+    let found = kind(sector);
+    let kind = kind_number(found);
+    match findings_of(sector, found, block) {
         None => SectorRecord {
             kind,
             address: 0,

@@ -140,6 +140,7 @@ module _ (carry : Bool) (taken left : List Patch) (base : ℕ) (start now : Stre
         flushes = record { outs = fails.flushes ∙ g.unflushed.outs; logs = g.unflushed.logs };
         once = omega arith;
         at_end = λ less. refl;
+        cut = λ sure. omega (arith, length_read, length_sent, fails.taken.1, size, g.held, g.count);
         within = omega (arith, length_read, g.within);
         begins = λ whole fits os last patched.
             let k = knows whole fits os last patched in (

@@ -4,6 +4,7 @@ use Rattle.std.specs.Prelude.{All}
 use Rattle.std.proofs.KnownBytes.{Consumes-nil}
 use Rattle.cd_sector.specs.declared.sector.TheConstants.{SECTOR_SIZE}
 use Rattle.std.proofs.Math.Nat.{add-zero, le_of_eq}
+use Rattle.std.proofs.lemmas.Bool.{true≢false}
 use Rattle.std.proofs.lemmas.List.{length-drop, length-take-le}
 use Rattle.cd_stream.specs.Stream.{IsBeginning, Outgoing}
 use Rattle.cd_stream.specs.Transfer.{Flushes, Gives, Sends, Takes}
@@ -229,6 +230,7 @@ module _ {carry : Bool} (ps : List Patch) {base : ℕ} {start now : Streams} {pa
         flushes = omega arith;
         once = omega arith;
         at_end = λ less. refl;
+        cut = λ sure. inside.1;
         within = r.within;
         begins = by_run _ ((drop n end, rw (append_assoc, take-append-drop)), (_, r.whole_log));
         between_sinks = by_run _ (sym (r.log_at_tail (length sent) inside));
@@ -278,6 +280,7 @@ module _ {carry : Bool} (ps : List Patch) {base : ℕ} {start now : Streams} {pa
             flushes = omega arith;
             once = omega arith;
             at_end = λ less. absurd (omega (arith, r.size));
+            cut = λ sure. absurd (true≢false (sym fails.fails ∙ all_sent.flush_may_fail ∙ sure));
             within = r.within;
             begins = by_run _ (([], sym (append-nil _)), ([], r.whole_log ∙ sym (append-nil _)));
             between_sinks = by_run _ (sym (log_when_out_fails-end _ _ _ _ _ r.size ∙ r.whole_log));
@@ -300,6 +303,7 @@ module _ {carry : Bool} (ps : List Patch) {base : ℕ} {start now : Streams} {pa
             between_sinks = by_run _ (r.size ∙ sym (rw length-append (r.sent_at_log _)));
             flushed = by_run _ (λ all. flushed.finished);
             at_end = by_run _ (λ all. refl, λ once. sym r.whole_log);
+            cut = λ sure. absurd (true≢false (sym fails.fails ∙ all_logged.flush_may_fail ∙ sure));
           })
 
       -- all has gone well

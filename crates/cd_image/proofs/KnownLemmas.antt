@@ -1,5 +1,5 @@
 -- What a pass knows of each run on an image that may be the one that is being read.
-use Rattle.std.proofs.Common.{◌≡◌, ◌≢◌, ℕ, ◌+◌, ◌<◌, ◌≤◌, Bool, List, [], ◌++◌, length, take, drop, Option, None, Some, Result, Ok, Err, IsErrAnd, refl, sym, ap, ◌∙◌, subst, arith, append_assoc, append-nil, length-append, take-append-drop}
+use Rattle.std.proofs.Common.{◌≡◌, ◌≢◌, ℕ, ◌+◌, ◌<◌, ◌≤◌, Bool, List, [], ◌∷◌, ◌++◌, length, take, drop, Option, None, Some, Result, Ok, Err, IsErrAnd, refl, sym, ap, ◌∙◌, subst, arith, append_assoc, append-nil, length-append, take-append-drop}
 use Rattle.std.specs.Prelude.{All, IsSome}
 use Rattle.std.specs.Io.KnownBytes.{IsAtEnd}
 use Rattle.cd_script.specs.PatchForm.{Patch}
@@ -122,6 +122,13 @@ Applies-fault {result = Ok tally} is applies = elim is [ ]
 Applies-fault {carry} {patches} {base} {old} {new} {result = Err f} is applies =
     subst (λ f. Applies carry patches base old new (Err f)) (sym is) applies
 
+-- a beginning that is not the whole is shorter
+shorter : (front whole more : List ℕ) → whole ≡ front ++ more → front ≢ whole
+    → length front < length whole
+shorter front whole [] is other = absurd (other (sym (append-nil front) ∙ sym is))
+shorter front whole (x ∷ xs) is other =
+    omega (arith, ap length is, length-append front (x ∷ xs))
+
 -- a log that fails before its end: no sink was flushed
 module _ {carry : Bool} {patches : List Patch} {base : ℕ} {read sent log_bytes : List ℕ}
     {old new : Streams} where
@@ -149,6 +156,10 @@ module _ {carry : Bool} {patches : List Patch} {base : ℕ} {read sent log_bytes
           λ all. absurd (unfinished whole fits os last patched all),
           λ once. absurd (omega (arith, once)),
         );
+    cut = λ sure whole fits os last patched.
+        let begun = (begins whole fits os last patched).1 in
+        shorter log_bytes (log_text patches os) begun.0 begun.1
+        (unfinished whole fits os last patched);
   }
 
 -- an image that may be the one that is being read: the sectors after those that were seen

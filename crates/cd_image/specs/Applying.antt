@@ -72,7 +72,8 @@ pub record StopsAtRead (carry : Bool) (patches : List Patch) (base : ℕ)
 
 -- a write to the output failed, or its flush: the log has got just the lines that belong before
 -- what went out. If the source has nothing left, or its bytes are not known, the image is taken to
--- end with the bytes read. The output was flushed once at most, after all of these, the log never
+-- end with the bytes read. The output was flushed once at most, after all of these, the log never.
+-- If the output's flush can't fail, not all of these went out
 pub record StopsAtWrite (carry : Bool) (patches : List Patch) (base : ℕ)
     (read sent log_bytes : List ℕ)
     (old new : Streams) : Type 0 where
@@ -81,6 +82,7 @@ pub record StopsAtWrite (carry : Bool) (patches : List Patch) (base : ℕ)
   pub flushes : Flushed old new out_flushes 0
   pub once : out_flushes ≤ 1
   pub at_end : length sent < length read → out_flushes ≡ 0
+  pub cut : old.out.flush_may_fail ≡ false → length sent < length read
   pub within : length read ≤ image_limit
   pub begins : (whole : List ℕ) → MayBeImageAtEnd new.image.rest read whole
       → EachPatching carry patches base whole (Begins patches sent log_bytes)
@@ -91,7 +93,8 @@ pub record StopsAtWrite (carry : Bool) (patches : List Patch) (base : ℕ)
 
 -- a write to the log failed, or its flush: just the bytes that belong before the line it failed in
 -- went out, and if the whole log was written, the output is finished. Only then was the output
--- flushed, just once, and the log at most once
+-- flushed, just once, and the log at most once. If the log's flush can't fail, not all of it was
+-- written
 pub record StopsAtLog (carry : Bool) (patches : List Patch) (base : ℕ)
     (read sent log_bytes : List ℕ)
     (old new : Streams) : Type 0 where
@@ -113,6 +116,10 @@ pub record StopsAtLog (carry : Bool) (patches : List Patch) (base : ℕ)
   pub at_end : (whole : List ℕ) → MayBeImageAtEnd new.image.rest read whole
       → EachPatching carry patches base whole
       (λ outcomes last. (log_bytes ≡ log_text patches outcomes) ↔ (out_flushes ≡ 1))
+  pub cut : old.log.flush_may_fail ≡ false → (whole : List ℕ)
+      → MayBeImageAtEnd new.image.rest read whole
+      → EachPatching carry patches base whole
+      (λ outcomes last. length log_bytes < length (log_text patches outcomes))
 
 -- just one byte was read after the millionth sector. No clause names the patches that reach past
 -- the last sector: their lines wait for the end. No sink was flushed
@@ -168,6 +175,7 @@ null_outgoing taken flushes finished = record {
   flushes = flushes;
   failures = 0;
   finished = finished;
+  flush_may_fail = false;
 }
 
 -- the whole contract of `check`: that of `apply` with an output that keeps nothing

@@ -16,7 +16,14 @@ impl NullSink {
     /// A sink that has got no byte.
     pub(crate) fn new() -> Self
         ensures seen { ⟦<NullSink as Sink>⟧.seen result
-            ≡ record { written = None; taken = 0; flushes = 0; failures = 0; finished = false } }
+            ≡ record {
+              written = None;
+              taken = 0;
+              flushes = 0;
+              failures = 0;
+              finished = false;
+              flush_may_fail = false;
+            } }
     {
         NullSink {
             taken: Count::zero(),
@@ -27,7 +34,7 @@ impl NullSink {
 }
 
 impl Sink for NullSink {
-    ghost use Rattle.std.specs.Prelude.{None};
+    ghost use Rattle.std.specs.Prelude.{None, false};
 
     ghost seen = { λ s. record {
       written = None;
@@ -35,6 +42,7 @@ impl Sink for NullSink {
       flushes = s.flushes;
       failures = 0;
       finished = s.finished;
+      flush_may_fail = false;
     } };
 
     fn write(&mut self, bytes: &[u8]) -> Result<usize, SinkFailed> {

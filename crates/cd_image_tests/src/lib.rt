@@ -2,7 +2,7 @@
 //!
 //! Rows that are applied: `applied`, `addresses`, `many_patches`, `noise`; refused: `refused`, `cut_images`; with damage carried:
 //! `carried`. Failures at each byte: `failing_patches`, `order`, `windows`, `failing_listings`, `writers`. Reports: `listings`,
-//! `audits`. The largest images and those with no end: `bounds`, `long_images`, `endless`.
+//! `audits`. The largest images and those with no end: `bounds`, `long_images`, `endless`; readers that go on after their end: `resumed`.
 #![tactic(auto)]
 
 #[cfg(test)]

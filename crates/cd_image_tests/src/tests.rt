@@ -18,6 +18,7 @@ mod many_patches;
 mod patching;
 mod random_sectors;
 mod refused;
+mod resumed;
 mod streams;
 mod windows;
 mod writers;

@@ -15,7 +15,7 @@ use Rattle.cd_program.specs.Messages.{fault_line}
 use Rattle.cd_program.specs.Commands.{Ends, PrintsLine, script_status}
 use Rattle.cd_program.specs.declared.jobs.Settings.{Settings}
 use Rattle.cd_memory.specs.Memory.{fresh_incoming, fresh_outgoing}
-use Rattle.cd_memory.specs.Whole.{Environment, Opened, Patches, Prints, ProgramResult, StopsPatching, WhyStopped}
+use Rattle.cd_memory.specs.Whole.{Environment, Opened, Patches, Prints, ProgramResult, StopsPatching, WhyPatchingStopped}
 use Rattle.cd_memory.proofs.KnownLemmas.{Appends-Some, Appends-known, Consumes-known, Fits-beyond, Fits-within, MayBeImageAtEnd-within, Some-injective, cut-by-failure, read-whole, whole-by-none}
 use Rattle.cd_memory.proofs.PrintLemmas.{Leaves, Prints-line}
 
@@ -27,12 +27,13 @@ pub data Took (settings : Settings) {before : Environment} {image name : List �
   stopped : StopsPatching settings after files sent → Took settings after files sent
 
 -- the streams of a call on an image in memory: all of its bytes are known, and no read of it fails;
--- the log had got nothing
+-- the log had got nothing, and no flush fails
 pub record InMemory (bytes rest : List ℕ) (old new : Streams) : Type 0 where
   pub before : old.image.rest ≡ Some bytes
   pub after : new.image.rest ≡ Some rest
   pub reads : new.image.failures ≡ old.image.failures
   pub log : old.log ≡ fresh_outgoing
+  pub out : old.out.flush_may_fail ≡ false
 
 module _ (settings : Settings) {before : Environment} {image name : List ℕ} (after : ProgramResult)
     (files : Opened before image name) (rest : List ℕ) (old new : Streams) (log : Outgoing)
@@ -107,12 +108,18 @@ module _ (settings : Settings) {before : Environment} {image name : List ℕ} (a
   takes (Err Write) a ends =
       let read = parts a.read a.consumes in
       Took.stopped (record {
+        read = a.read;
+        read_begins = (rest, read);
+        in_hand = a.in_hand;
         printed_before = a.log_bytes;
         begins =
             a.answers.begins (take image_limit files.bytes)
             (fits-left a.read read a.answers.within);
-        why = WhyStopped.no_room
+        why = WhyPatchingStopped.no_room
             (made (λ same. let more = a.answers.failed.writes in omega (arith, same, more)))
+            a.answers.within (a.answers.cut memory.out)
+            (a.answers.between_sinks (take image_limit files.bytes)
+            (fits-left a.read read a.answers.within))
             (line-after (fault_line Write) a.log_bytes a.logs a.answers.failed.logs
             (ends.0.1 (λ is. cc)));
         status = ends.1;
@@ -121,13 +128,23 @@ module _ (settings : Settings) {before : Environment} {image name : List ℕ} (a
       let read = parts a.read a.consumes in
       let same : log ≡ new.log = ends.0.0 refl in
       Took.stopped (record {
+        read = a.read;
+        read_begins = (rest, read);
+        in_hand = a.in_hand;
         printed_before = a.log_bytes;
         begins =
             a.answers.begins (take image_limit files.bytes)
             (fits-left a.read read a.answers.within);
-        why = WhyStopped.no_text
+        why = WhyPatchingStopped.no_text
             (cut-by-failure after.complete log.failures leaves.complete
             (ap (λ o. o.failures) same ∙ failed-log 1 a.answers.failed.logs))
+            a.answers.within
+            (λ outcomes last patched.
+            let fits = fits-left a.read read a.answers.within in (
+              a.answers.cut (ap (λ o. o.flush_may_fail) memory.log) (take image_limit files.bytes)
+                  fits outcomes last patched,
+              a.answers.between_sinks (take image_limit files.bytes) fits outcomes last patched,
+            ))
             (text-of a.log_bytes a.logs same);
         status = ends.1;
       })
@@ -136,10 +153,13 @@ module _ (settings : Settings) {before : Environment} {image name : List ℕ} (a
       let beyond = a.answers.beyond in
       let size : length files.bytes ≡ length (a.read ++ rest) = ap length read in
       Took.stopped (record {
+        read = a.read;
+        read_begins = (rest, read);
+        in_hand = a.in_hand;
         printed_before = a.log_bytes;
         begins = a.answers.begins (take image_limit files.bytes)
             (fits-beyond a.read read (omega (arith, beyond)));
-        why = WhyStopped.too_long (omega (arith, size, beyond, length-append a.read rest))
+        why = WhyPatchingStopped.too_long (omega (arith, size, beyond, length-append a.read rest)) beyond
             (line-after (fault_line TooLong) a.log_bytes a.logs a.answers.failed.logs
             (ends.0.1 (λ is. cc)));
         status = ends.1;

@@ -56,14 +56,15 @@ module _ {T : Type 0} (spec : ReportSpec T) (status_of : T → ℕ) (before : En
       let cut : after.complete ≡ false =
       cut-by-failure after.complete log.failures leaves.complete
       (ap (λ o. o.failures) same ∙ c.writes ∙ ap (λ n. n + 1) none) in
-      ReportsOn.stopped bytes r.sent there
-      (c.beginning (take image_limit bytes)
-      (subst (λ o. MayBeImageAtEnd o r.read (take image_limit bytes)) (sym left)
+      let fits : MayBeImageAtEnd image'.rest r.read (take image_limit bytes) =
+      subst (λ o. MayBeImageAtEnd o r.read (take image_limit bytes)) (sym left)
       (subst (λ b. MayBeImageAtEnd (Some rest) r.read (take image_limit b)) (sym read)
-      (MayBeImageAtEnd-within r.read rest c.within))))
+      (MayBeImageAtEnd-within r.read rest c.within)) in
+      ReportsOn.stopped bytes r.sent there (c.beginning (take image_limit bytes) fits)
       (λ all. let no : true ≡ false = sym all ∙ cut in cc)
       (WhyStopped.no_text cut
-      (text-of r.sent r.takes.appends same))
+      (text-of r.sent r.takes.appends same)
+      (c.cut (ap (λ o. o.flush_may_fail) fresh) (take image_limit bytes) fits))
       ends.1 none_made
   reports (Err TooLong) r ends =
       let c = r.answers in

@@ -181,12 +181,12 @@ module _ {O : Type 0} (gone : O → Outgoing) (host host' : Memory) (log : Outgo
       (image left : SliceSource)
       (third : Memory) (both : OpenedBoth name script patches image third)
       (out out' printed_log middle : Outgoing) → printed_log ≡ fresh_outgoing
-      → (out'.failures ≢ out.failures → after.made ≢ []) → (result : Result Tally Fault)
+      → out.flush_may_fail ≡ false → (out'.failures ≢ out.failures → after.made ≢ []) → (result : Result Tally Fault)
       → (a : Applies settings.carry patches settings.base (streams (slice_incoming image) out printed_log)
       (streams (slice_incoming left) out' middle) result)
       → Ends Log script_status result middle log after.status
       → Took settings after both.files a.sent
-  took settings name script patches image left third both out out' printed_log middle silent made
+  took settings name script patches image left third both out out' printed_log middle silent sure made
       result =
       subst
       (λ ps. (a : Applies settings.carry ps settings.base (streams (slice_incoming image) out printed_log)
@@ -196,7 +196,7 @@ module _ {O : Type 0} (gone : O → Outgoing) (host host' : Memory) (log : Outgo
       both.same_patches
       (takes settings after both.files left.rest.now (streams (slice_incoming image) out printed_log)
       (streams (slice_incoming left) out' middle) log
-      (record { before = ap (λ i. i.rest) both.fresh; after = refl; reads = refl; log = silent })
+      (record { before = ap (λ i. i.rest) both.fresh; after = refl; reads = refl; log = silent; out = sure })
       leaves made result)
 
   pub checks-on : (settings : Settings) (name script : List ℕ)
@@ -217,7 +217,7 @@ module _ {O : Type 0} (gone : O → Outgoing) (host host' : Memory) (log : Outgo
       go both (took settings name script patches image checks.left host' both
       (null_outgoing 0 0 false)
       (null_outgoing checks.runs.does.0 checks.runs.does.1 checks.runs.does.2) printed_log
-      checks.runs.middle read.silent (λ more none. more refl)
+      checks.runs.middle read.silent refl (λ more none. more refl)
       checks.runs.result checks.runs.does.3 checks.runs.ends)
     where
       go : (both : OpenedBoth name script patches image host') {sent : List ℕ}
@@ -310,7 +310,7 @@ module _ {O : Type 0} (gone : O → Outgoing) (host host' : Memory) (log : Outgo
       go both file back
       (took settings name script patches image applies.left third both (gone out)
       (gone applies.made)
-      printed_log applies.runs.middle read.silent
+      printed_log applies.runs.middle read.silent (ap (λ o. o.flush_may_fail) file.fresh)
       (λ more none. let no : named_file path a.sent ∷ [] ≡ [] = sym back ∙ none in cc)
       applies.runs.result a applies.runs.ends)
     where

@@ -9,6 +9,7 @@ use Rattle.cd_program.specs.Hosting.{Hosting}
 use Rattle.cd_program.specs.declared.host.OpenFault.{OpenFault}
 use Rattle.cd_program.specs.declared.host.OpenFault.TheVariants.{NoMemory, Refused}
 use Rattle.cd_memory.specs.Files.{NamedFile, file_bytes, named_file, with_bytes}
+use Rattle.cd_memory.specs.declared.growing.Growing.{Growing}
 use Rattle.cd_memory.specs.declared.memory.Memory.{Memory}
 
 -- the files that were there
@@ -36,7 +37,7 @@ pub record Stays (h h' : Memory) : Type 0 where
 abbrev pub fresh_incoming : List ℕ → Incoming
 fresh_incoming bytes = record { rest = Some bytes; given = 0; failures = 0; ended = false }
 
--- a sink that has got nothing yet
+-- a sink in memory that has got nothing yet; its flush never fails
 abbrev pub fresh_outgoing : Outgoing
 fresh_outgoing = record {
   written = Some [];
@@ -44,6 +45,18 @@ fresh_outgoing = record {
   flushes = 0;
   failures = 0;
   finished = false;
+  flush_may_fail = false;
+}
+
+-- what a contract sees of memory that grows: all bytes that it has got; its flush never fails
+abbrev pub growing_outgoing : Growing → Outgoing
+growing_outgoing g = record {
+  written = Some g.octets.items;
+  taken = length g.octets.items;
+  flushes = g.flushes;
+  failures = g.failures;
+  finished = g.finished;
+  flush_may_fail = false;
 }
 
 -- the bytes, or a refusal if there are none

@@ -22,8 +22,8 @@ use Rattle.cd_report.specs.AuditText.{audit_report}
 use Rattle.cd_report.specs.Lines.{text_of}
 use Rattle.cd_report.specs.ListText.{list_report}
 use Rattle.cd_report.specs.Report.{ReportSpec}
-use Rattle.cd_image.specs.Applying.{Begins}
-use Rattle.cd_image.specs.PatchLog.{log_text, patch_tally}
+use Rattle.cd_image.specs.Applying.{Begins, bytes_in_hand}
+use Rattle.cd_image.specs.PatchLog.{log_text, log_when_out_fails, patch_tally, sent_when_log_fails}
 use Rattle.cd_image.specs.Patched.{EachPatching, IsPatched}
 use Rattle.cd_program.specs.Messages.{fault_line, load_fault_line, no_image, no_output, no_script, script_fault_line}
 use Rattle.cd_program.specs.Commands.{audit_status, script_status}
@@ -109,15 +109,13 @@ pub record FailsWith (after : ProgramResult) (line : List ℕ) : Type 0 where
   pub prints : Prints after [] line
   pub none_made : after.made ≡ []
 
--- why a call on an image of these bytes ended with status 2 after it had printed a text: the image
--- is too long, the new file, if one was made, found no memory, or the text found none
-pub data WhyStopped (after : ProgramResult) (bytes printed_before : List ℕ) : Type 0 where
+-- why a report on an image of these bytes ended with status 2 after it had printed a front of its
+-- text: the image is too long, or the text found no memory, and some of it is missing
+pub data WhyStopped (after : ProgramResult) (bytes text printed_before : List ℕ) : Type 0 where
   too_long : image_limit < length bytes → Prints after printed_before (fault_line TooLong)
-      → WhyStopped after bytes printed_before
-  no_room : after.made ≢ [] → Prints after printed_before (fault_line Write)
-      → WhyStopped after bytes printed_before
+      → WhyStopped after bytes text printed_before
   no_text : after.complete ≡ false → after.text ≡ printed_before
-      → WhyStopped after bytes printed_before
+      → length printed_before < length text → WhyStopped after bytes text printed_before
 
 -- ---- the commands
 
@@ -135,7 +133,7 @@ pub data ReportsOn {T : Type 0} (spec : ReportSpec T) (status_of : T → ℕ) (i
       → IsBeginning printed_before (spec.text (take image_limit bytes))
       → (after.complete ≡ true
       → printed_before ≡ text_of (spec.due (take (image_limit + 1) bytes)))
-      → WhyStopped after bytes printed_before
+      → WhyStopped after bytes (spec.text (take image_limit bytes)) printed_before
       → after.status ≡ failed_status → after.made ≡ [] → ReportsOn spec status_of image before after
 
 module _ (settings : Settings) {before : Environment} {image script_name : List ℕ}
@@ -151,14 +149,39 @@ module _ (settings : Settings) {before : Environment} {image script_name : List 
     pub complete : after.complete ≡ true
     pub status : after.status ≡ script_status (patch_tally files.bytes outcomes)
 
-  -- the call was stopped: what was sent begins the patched image, and what was printed its log, in
-  -- each way to patch the image, cut at the largest size
+  -- why the patching ended with status 2, and how far the image, the new file and the log were then:
+  -- one byte too many was read; or the new file found no memory, it lacks some of what was read, and
+  -- the log has just the lines that belong before what was sent; or the text found none, some of the
+  -- log is missing, and just the bytes that belong before the line that it was cut in were sent
+  pub data WhyPatchingStopped (read sent printed_before : List ℕ) : Type 0 where
+    too_long : image_limit < length files.bytes → length read ≡ image_limit + 1
+        → Prints after printed_before (fault_line TooLong)
+        → WhyPatchingStopped read sent printed_before
+    no_room : after.made ≢ [] → length read ≤ image_limit → length sent < length read
+        → EachPatching settings.carry files.patches settings.base (take image_limit files.bytes)
+        (λ outcomes last. printed_before ≡ log_when_out_fails files.patches outcomes settings.base
+        (length read) (length sent))
+        → Prints after printed_before (fault_line Write)
+        → WhyPatchingStopped read sent printed_before
+    no_text : after.complete ≡ false → length read ≤ image_limit
+        → EachPatching settings.carry files.patches settings.base (take image_limit files.bytes)
+        (λ outcomes last. (length printed_before < length (log_text files.patches outcomes))
+        × (length sent ≡ sent_when_log_fails files.patches outcomes settings.base
+        (take image_limit files.bytes) (length printed_before)))
+        → after.text ≡ printed_before → WhyPatchingStopped read sent printed_before
+
+  -- the call was stopped: a front of the image was read, and at most `bytes_in_hand` more than was
+  -- sent; what was sent begins the patched image, and what was printed its log, in each way to patch
+  -- the image, cut at the largest size
   pub record StopsPatching (sent : List ℕ) : Type 0 where
+    pub read : List ℕ
+    pub read_begins : IsBeginning read files.bytes
+    pub in_hand : length read ≤ length sent + bytes_in_hand
     pub printed_before : List ℕ
     pub begins : EachPatching settings.carry files.patches settings.base
         (take image_limit files.bytes)
         (Begins files.patches sent printed_before)
-    pub why : WhyStopped after files.bytes printed_before
+    pub why : WhyPatchingStopped read sent printed_before
     pub status : after.status ≡ failed_status
 
 -- `check`

@@ -24,9 +24,11 @@
 #![tactic(auto)]
 
 mod file;
+mod growing;
 mod memory;
 mod run;
 
 pub use file::File;
+pub use growing::Growing;
 pub use memory::Memory;
 pub use run::{Ended, run_on_files};

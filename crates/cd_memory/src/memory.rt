@@ -3,8 +3,9 @@
 ghost use Rattle.std.specs.Prelude.{◌≡◌};
 
 use crate::file::{File, bytes_at, set_bytes_at};
+use crate::growing::Growing;
 use cd_program::{Host, OpenFault};
-use cd_stream::{Sink, SliceSource, ToWrite};
+use cd_stream::SliceSource;
 use std::alloc::Global;
 
 /// A host of files in memory, and of a standard input. The files are lent, so the type keeps them
@@ -58,11 +59,11 @@ impl<'a> Memory<'a> {
 impl<'a> Host for Memory<'a> {
     type Input = SliceSource<'a>;
 
-    type Output = ToWrite<Vec<u8>>;
+    type Output = Growing;
 
-    ghost use Rattle.cd_memory.specs.Memory.{memory_hosting};
+    ghost use Rattle.cd_memory.specs.Memory.{growing_outgoing, memory_hosting};
 
-    ghost hosting = { memory_hosting ⟦<ToWrite<Vec<u8>> as Sink>⟧.seen };
+    ghost hosting = { memory_hosting growing_outgoing };
 
     fn input_at(&mut self, path: &str) -> Result<SliceSource<'a>, OpenFault> {
         match bytes_at(self.files, path) {
@@ -75,7 +76,7 @@ impl<'a> Host for Memory<'a> {
         Ok(SliceSource::new(self.input))
     }
 
-    fn output_at(&mut self, path: &str) -> Result<ToWrite<Vec<u8>>, OpenFault> {
+    fn output_at(&mut self, path: &str) -> Result<Growing, OpenFault> {
         if bytes_at(self.files, path).is_some() || bytes_at(self.made.as_slice(), path).is_some() {
             return Err(OpenFault::Refused);
         }
@@ -83,12 +84,12 @@ impl<'a> Host for Memory<'a> {
             return Err(OpenFault::NoMemory);
         };
         match self.made.push(File::new(name, Vec::new(self.alloc))) {
-            Ok(()) => Ok(ToWrite::new(Vec::new(self.alloc))),
+            Ok(()) => Ok(Growing::new(self.alloc)),
             Err(_) => Err(OpenFault::NoMemory),
         }
     }
 
-    fn take_back(&mut self, path: &str, file: ToWrite<Vec<u8>>) {
-        set_bytes_at(self.made.as_mut_slice(), path, file.into_inner());
+    fn take_back(&mut self, path: &str, file: Growing) {
+        set_bytes_at(self.made.as_mut_slice(), path, file.into_bytes());
     }
 }

@@ -4,9 +4,10 @@ ghost use Rattle.std.specs.Prelude.{◌≡◌, map, string_bytes};
 ghost use Rattle.cd_memory.specs.Whole.{RunsOn, environment, result_of};
 
 use crate::file::File;
+use crate::growing::Growing;
 use crate::memory::Memory;
 use cd_program::run_args;
-use cd_stream::{Sink, ToWrite};
+use cd_stream::Sink;
 use std::alloc::Global;
 
 /// What the program leaves.
@@ -45,12 +46,12 @@ pub fn run_on_files(alloc: Global, args: Vec<String>, files: &[File], input: &[u
         (result_of result) }
 {
     let mut host = Memory::new(alloc, files, input);
-    let mut out = ToWrite::new(Vec::new(alloc));
+    let mut out = Growing::new(alloc);
     let status = run_args(alloc, &mut host, args, &mut out);
     let complete = out.failures() == 0;
     Ended {
         status,
-        text: out.into_inner(),
+        text: out.into_bytes(),
         complete,
         made: host.into_made(),
     }

@@ -180,6 +180,7 @@ module _ (base : ℕ) (tally : AuditTally) (sector : List ℕ) (out out' : Outgo
         takes =
             subst (λ t. Takes out out' (take went.0 t))
             (ap text_of one.1 ∙ append-nil one.0) went.2;
+        cut = subst (λ t. went.0 < length t) (ap text_of one.1 ∙ append-nil one.0) went.1;
         lines = λ others. ap (λ ls. ls ++ audit_lines (block + 1) others) one.1;
         last = refl;
       }

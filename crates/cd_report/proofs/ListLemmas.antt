@@ -43,6 +43,7 @@ module _ (base : ℕ) (run : Option OpenRun) (count : ℕ) (sector : List ℕ) (
     count = failed.count;
     after = λ others. ended_lines (base + count) (kind_of sector ∷ map kind_of others);
     takes = failed.takes;
+    cut = failed.cut;
     lines = λ others. failed.lines (map kind_of others);
     last = refl;
   }

@@ -132,6 +132,7 @@ module _ (run : OpenRun) (block : ℕ) (kind : SectorKind) (ends : EndsBefore (S
         line = line_of run;
         count = went.0;
         takes = went.2;
+        cut = went.1;
         lines = λ others. ended-other other others;
       }
 

@@ -1,5 +1,7 @@
 -- Beginnings of texts and of images, and how the end of a text goes out.
-use Rattle.std.proofs.Common.{◌≡◌, ℕ, ◌<◌, List, [], ◌++◌, length, drop, take, Err, sym, ap, ◌∙◌, arith, append_assoc, append-nil, take-append-drop}
+use Rattle.std.proofs.Common.{◌≡◌, ℕ, ◌<◌, List, [], ◌++◌, length, drop, take, Err, sym, ap, ◌∙◌, arith, append_assoc, append-nil, length-append, take-append-drop}
+use Rattle.std.proofs.lemmas.Bool.{true≢false}
+use Rattle.std.proofs.lemmas.List.{length-take-le}
 use Rattle.cd_report.specs.Scanning.{Finishes}
 use Rattle.cd_stream.specs.Stream.{IsBeginning, Outgoing}
 use Rattle.cd_stream.specs.Transfer.{Flushes, Takes}
@@ -19,8 +21,13 @@ module _ (X : Type 0) (rest last : List ℕ) (out out' : Outgoing) (e : SinkFail
   -- the write of what was left failed
   pub Finishes-at_rest : (n : ℕ) × (n < length rest) × Takes out out' (take n rest)
       → Finishes {X = X} (rest ++ last) out out' (Err e)
-  Finishes-at_rest went =
-      (take went.0 rest, went.2, IsBeginning-take went.0 rest last, λ short. unflushed)
+  Finishes-at_rest went = (
+    take went.0 rest,
+    went.2,
+    IsBeginning-take went.0 rest last,
+    λ short. unflushed,
+    λ sure. omega (arith, went.1, length-take-le went.0 rest (omega (arith, went.1)), length-append rest last),
+  )
 
   -- the write of the last line failed
   pub Finishes-at_last : (middle : Outgoing) → Takes out middle rest
@@ -37,6 +44,13 @@ module _ (X : Type 0) (rest last : List ℕ) (out out' : Outgoing) (e : SinkFail
               ∙ sym (append_assoc rest front left),
         ),
         λ short. unflushed,
+        λ sure. omega (
+          arith,
+          went.1,
+          length-take-le went.0 last (omega (arith, went.1)),
+          length-append rest front,
+          length-append rest last,
+        ),
       )
 
 -- the flush failed
@@ -49,6 +63,7 @@ Finishes-at_flush X rest last out middle late out' e line end flush = (
       (Takes-trans out middle late rest last line end) flush,
   ([], sym (append-nil _)),
   λ short. absurd (omega (arith, short)),
+  λ sure. absurd (true≢false (sym flush.fails ∙ end.flush_may_fail ∙ line.flush_may_fail ∙ sure)),
 )
 
 -- a beginning of what comes after

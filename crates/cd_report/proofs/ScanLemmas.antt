@@ -3,6 +3,7 @@ use Rattle.std.proofs.Common.{◌≡◌, ℕ, ◌+◌, ◌*◌, ◌<◌, ◌≤�
 use Rattle.std.specs.Io.KnownBytes.{IsAtEnd}
 use Rattle.std.proofs.KnownBytes.{Consumes-nil}
 use Rattle.std.proofs.lemmas.Grind.{flat_map-append}
+use Rattle.std.proofs.lemmas.List.{length-take-le}
 use Rattle.cd_read.specs.Image.{image_limit, sectors, tail}
 use Rattle.cd_report.specs.Lines.{all_but_last, text_of}
 use Rattle.cd_read.specs.Reading.{ReadsSector}
@@ -241,6 +242,12 @@ module _ {T : Type 0} (first now : Remaining T) (image before after : Incoming)
                 (omega (arith, length_read)) fits in
                 subst (λ w. IsBeginning (text_of reported.sent ++ part) ((spec_of first).text w))
                 (sym (begins.1 ∙ append_assoc reported.read came begins.0)) (part_begins begins.0);
+            cut = λ sure whole fits.
+                let begins =
+                MayBeImageAtEnd-begins after.rest (reported.read ++ came) whole
+                (omega (arith, length_read)) fits in
+                subst (λ w. length (text_of reported.sent ++ part) < length ((spec_of first).text w))
+                (sym (begins.1 ∙ append_assoc reported.read came begins.0)) (part_short begins.0);
           };
         }
           where
@@ -260,23 +267,46 @@ module _ {T : Type 0} (first now : Remaining T) (image before after : Incoming)
                 ∙ ap (λ ls. reported.sent ++ ls)
                 (failed.lines [] ∙ ap (λ ls. failed.line ∷ ls) failed.last)
 
+            -- the line that failed, and what follows it
+            text_more : (more : List ℕ)
+                → (others : List ℕ) × ((spec_of first).text (reported.read ++ (came ++ more))
+                ≡ text_of reported.sent ++ (failed.line ++ others))
+            text_more more =
+                let ss = sectors more in
+                let left = length (tail (reported.read ++ (came ++ more))) in
+                let after = text_of (failed.after ss) in
+                let rest = now.end (came ∷ ss) left in (
+                  after ++ rest,
+                  known (came ++ more)
+                      ∙ ap (λ all. text_of reported.sent
+                      ++ (text_of (now.lines all) ++ now.end all left)) (with_came more)
+                      ∙ ap (λ ls. text_of reported.sent ++ (text_of ls ++ rest)) (failed.lines ss)
+                      ∙ ap (λ t. text_of reported.sent ++ t) (append_assoc failed.line after rest),
+                )
+
             part_begins : (more : List ℕ)
                 → IsBeginning (text_of reported.sent ++ part)
                 ((spec_of first).text (reported.read ++ (came ++ more)))
             part_begins more =
-                let ss = sectors more in
-                let left = length (tail (reported.read ++ (came ++ more))) in
-                let after = text_of (failed.after ss) in
-                let rest = now.end (came ∷ ss) left in
-                let is =
-                known (came ++ more)
-                ∙ ap (λ all. text_of reported.sent ++ (text_of (now.lines all) ++ now.end all left))
-                (with_came more)
-                ∙ ap (λ ls. text_of reported.sent ++ (text_of ls ++ rest)) (failed.lines ss)
-                ∙ ap (λ t. text_of reported.sent ++ t) (append_assoc failed.line after rest) in
-                subst (IsBeginning (text_of reported.sent ++ part)) (sym is)
-                (IsBeginning-after (text_of reported.sent) part (failed.line ++ (after ++ rest))
-                (IsBeginning-take failed.count failed.line (after ++ rest)))
+                let text = text_more more in
+                subst (IsBeginning (text_of reported.sent ++ part)) (sym text.1)
+                (IsBeginning-after (text_of reported.sent) part (failed.line ++ text.0)
+                (IsBeginning-take failed.count failed.line text.0))
+
+            part_short : (more : List ℕ)
+                → length (text_of reported.sent ++ part)
+                < length ((spec_of first).text (reported.read ++ (came ++ more)))
+            part_short more =
+                let text = text_more more in
+                omega (
+                  arith,
+                  failed.cut,
+                  ap length text.1,
+                  length-append (text_of reported.sent) part,
+                  length-append (text_of reported.sent) (failed.line ++ text.0),
+                  length-append failed.line text.0,
+                  length-take-le failed.count failed.line (omega (arith, failed.cut)),
+                )
 
       module _ (short : length came < 2352) (few : 2352 * count + length came ≤ image_limit)
           (end : IsAtEnd after.rest) (ended : after.ended ≡ true) (left : ℕ)
@@ -356,6 +386,17 @@ module _ {T : Type 0} (first now : Remaining T) (image before after : Incoming)
                 (sym (MayBeImageAtEnd-end after.rest (reported.read ++ came) whole end fits))
                 (subst (IsBeginning (text_of reported.sent ++ finished.0)) (sym text_is)
                 (IsBeginning-after (text_of reported.sent) finished.0 (now.end [] left) finished.2));
+            cut = λ sure whole fits.
+                subst (λ w. length (text_of reported.sent ++ finished.0)
+                < length ((spec_of first).text w))
+                (sym (MayBeImageAtEnd-end after.rest (reported.read ++ came) whole end fits))
+                (omega (
+                  arith,
+                  finished.4 (reported.takes.flush_may_fail ∙ sure),
+                  ap length text_is,
+                  length-append (text_of reported.sent) finished.0,
+                  length-append (text_of reported.sent) (now.end [] left),
+                ));
           };
         }
 
@@ -415,6 +456,7 @@ module _ {T : Type 0} (a b : ReportSpec T) (text : (image : List ℕ) → a.text
     within = r.within;
     due_sent = subst (λ ls. IsBeginning (text_of (all_but_last ls)) sent) (due read) r.due_sent;
     beginning = begins_same sent r.beginning;
+    cut = λ sure whole fits. subst (λ t. length sent < length t) (text whole) (r.cut sure whole fits);
   }
   answers_same read sent image image' out out' (Err Log) r = absurd r
   answers_same read sent image image' out out' (Err TooLong) r = record {

@@ -43,7 +43,8 @@ pub record StopsReading {T : Type 0} (spec : ReportSpec T) (read sent : List ℕ
   pub beginning : (whole : List ℕ) → MayBeImage read whole → IsBeginning sent (spec.text whole)
 
 -- a write failed, or the flush: the lines that were due went out, but for the last one. No flush
--- was made before the whole text went out
+-- was made before the whole text went out. If the sink's flush can't fail, some of the text did not
+-- go out
 pub record StopsWriting {T : Type 0} (spec : ReportSpec T) (read sent : List ℕ)
     (image image' : Incoming) (out out' : Outgoing) : Type 0 where
   pub reads : image'.failures ≡ image.failures
@@ -53,6 +54,8 @@ pub record StopsWriting {T : Type 0} (spec : ReportSpec T) (read sent : List ℕ
   pub due_sent : IsBeginning (text_of (all_but_last (spec.due read))) sent
   pub beginning : (whole : List ℕ) → MayBeImageAtEnd image'.rest read whole
       → IsBeginning sent (spec.text whole)
+  pub cut : out.flush_may_fail ≡ false → (whole : List ℕ) → MayBeImageAtEnd image'.rest read whole
+      → length sent < length (spec.text whole)
 
 -- just one byte was read after the millionth sector; no flush was made
 pub record StopsTooLong {T : Type 0} (spec : ReportSpec T) (read sent : List ℕ)

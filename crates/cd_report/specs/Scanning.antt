@@ -1,5 +1,5 @@
 -- Plumbing of `list` and `audit`: what is still to be written of an image, sector by sector.
-use Rattle.std.specs.Prelude.{◌≡◌, ℕ, ◌+◌, ◌<◌, ◌≤◌, true, List, [], ◌∷◌, ◌++◌, length, take}
+use Rattle.std.specs.Prelude.{◌≡◌, ℕ, ◌+◌, ◌<◌, ◌≤◌, false, true, List, [], ◌∷◌, ◌++◌, length, take}
 use Rattle.std.specs.Prelude.{count_by, map, if◌then◌else◌, Option, None, Some, Result, Ok, Err}
 use Rattle.cd_sector.specs.Consistent.{is_mode1}
 use Rattle.cd_sector.specs.Kind.{kind_of}
@@ -55,6 +55,7 @@ pub record HasFailed {T : Type 0} (old : Remaining T) (sector : List ℕ)
   pub count : ℕ
   pub after : List (List ℕ) → List (List ℕ)
   pub takes : Takes out out' (take count line)
+  pub cut : count < length line
   pub lines : (others : List (List ℕ)) → old.lines (sector ∷ others) ≡ line ∷ after others
   pub last : after [] ≡ []
 
@@ -65,11 +66,12 @@ Visits old new sector out out' (Ok x) = HasVisited old new sector out out'
 Visits old new sector out out' (Err e) = HasFailed old sector out out'
 
 -- the end of a text goes out, and the sink is finished; at Err a front of it, and no flush was made
--- before all of it
+-- before all of it, nor does all go out if the sink's flush can't fail
 abbrev pub Finishes : {X E : Type 0} → List ℕ → Outgoing → Outgoing → Result X E → Type 0
 Finishes text out out' (Ok x) = (out'.finished ≡ true) × Takes out out' text
 Finishes text out out' (Err e) = (sent : List ℕ) × Takes out out' sent × IsBeginning sent text
     × (length sent < length text → out'.flushes ≡ out.flushes)
+    × (out.flush_may_fail ≡ false → length sent < length text)
 
 -- ---- a listing
 
@@ -112,6 +114,7 @@ pub record FailsToExtend (run : Option OpenRun) (block : ℕ) (kind : SectorKind
   pub line : List ℕ
   pub count : ℕ
   pub takes : Takes out out' (take count line)
+  pub cut : count < length line
   pub lines : (others : List SectorKind)
       → ended_lines (open_first run block) (open_kinds run ++ kind ∷ others)
       ≡ line ∷ ended_lines block (kind ∷ others)

@@ -49,6 +49,7 @@ pub Takes-without : (n : ℕ) (old new : Outgoing) (sent : List ℕ) → Has n o
 Takes-without n old new sent has takes = record {
   appends = Appends-without n old new sent has takes.appends;
   counted = takes.counted;
+  flush_may_fail = takes.flush_may_fail;
 }
 
 -- what is known to have come after all that there was
@@ -131,6 +132,7 @@ module _ {T : Type 0} (spec : ReportSpec T) (image image' : Incoming) (n : ℕ) 
       within = a.within;
       due_sent = a.due_sent;
       beginning = a.beginning;
+      cut = a.cut;
     }
     Answers-without read sent (Err Log) a = a
     Answers-without read sent (Err TooLong) a = record {

@@ -1,7 +1,11 @@
 -- `list` and `audit` on an image in memory, to a room.
-use Rattle.std.proofs.Common.{◌≡◌, ℕ, ◌<◌, ◌≤◌, List, length, refl, subst, arith}
+use Rattle.std.proofs.Common.{◌≡◌, ℕ, ◌<◌, ◌≤◌, List, ◌++◌, length, take, Some, refl, sym, ap}
+use Rattle.std.proofs.Common.{◌∙◌, subst, arith}
+use Rattle.std.proofs.lemmas.List.{take_all}
+use Rattle.cd_memory.proofs.KnownLemmas.{MayBeImageAtEnd-within}
 use Rattle.cd_memory.specs.Memory.{fresh_incoming}
 use Rattle.cd_program.specs.Commands.{IsTooLong}
+use Rattle.cd_read.specs.Ends.{MayBeImageAtEnd}
 use Rattle.cd_read.specs.Image.{base_limit, image_limit}
 use Rattle.cd_report.specs.Report.{ReportSpec}
 use Rattle.cd_stream.specs.Adapters.{slice_incoming}
@@ -18,6 +22,14 @@ use Rattle.cd_rooms.proofs.RoomLemmas.{SameRoom, bare, found, named-has}
 pub too-long : (image : List ℕ) (left : SliceSource)
     → IsTooLong (fresh_incoming image) (slice_incoming left) → image_limit < length image
 too-long image left is = omega (arith, is.beyond image left.rest.now refl refl)
+
+-- one of no more than the largest size may be the one that was being read
+pub may-be : (image read left : List ℕ) → image ≡ read ++ left → length read ≤ image_limit
+    → length image ≤ image_limit → MayBeImageAtEnd (Some left) read image
+may-be image read left is within small =
+    subst (MayBeImageAtEnd (Some left) read)
+    (ap (take image_limit) (sym is) ∙ take_all image_limit image small)
+    (MayBeImageAtEnd-within read left within)
 
 pub reports-on : {T : Type 0} {spec : ReportSpec T} {status_of : T → ℕ} {base : ℕ} {image : List ℕ}
     {out out' : Outgoing} {status : ℕ} → base ≤ base_limit → (source : Incoming)

@@ -46,7 +46,8 @@ pub record WritesReport {T : Type 0} (spec : ReportSpec T) (status_of : T → �
   pub tally : status ≡ status_of (spec.tally image)
 
 -- why a call fails that takes no script: no image has its base, the image is too long, or the
--- memory is full
-abbrev pub ReportFails : ℕ → List ℕ → List ℕ → ℕ → Type 0
-ReportFails base image room size =
-    (base_limit < base) ⊎ (image_limit < length image) ⊎ (size ≡ length room)
+-- memory is full, and the text is longer than it
+abbrev pub ReportFails : {T : Type 0} → ReportSpec T → ℕ → List ℕ → List ℕ → ℕ → Type 0
+ReportFails spec base image room size =
+    (base_limit < base) ⊎ (image_limit < length image)
+    ⊎ ((size ≡ length room) × (length room < length (spec.text image)))

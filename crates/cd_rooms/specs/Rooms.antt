@@ -1,5 +1,5 @@
 -- What a call leaves in memory that was lent for a text: a room.
-use Rattle.std.specs.Prelude.{◌≡◌, ◌≢◌, ℕ, ◌≤◌, List, ◌∷◌, ◌++◌, length, drop, take, Some}
+use Rattle.std.specs.Prelude.{◌≡◌, ◌≢◌, ℕ, ◌≤◌, false, List, ◌∷◌, ◌++◌, length, drop, take, Some}
 use Rattle.std.specs.Borrow.{MutBor}
 use Rattle.std.specs.Mem.{manually_drop_value}
 use Rattle.cd_stream.specs.Stream.{Outgoing}
@@ -38,7 +38,7 @@ pub record FillsCounted (Does : Outgoing → Outgoing → Type 0) (room room' : 
 abbrev pub room_written : Room → List ℕ
 room_written r = take r.used r.space.now
 
--- what a room has got
+-- what a room has got; its flush never fails
 abbrev pub room_outgoing : Room → Outgoing
 room_outgoing r = record {
   written = Some (room_written r);
@@ -46,6 +46,7 @@ room_outgoing r = record {
   flushes = r.flushes;
   failures = r.failures;
   finished = r.finished;
+  flush_may_fail = false;
 }
 
 -- the slice as it was lent

@@ -1,5 +1,5 @@
 -- Bytes that come or go in several calls, and how they are counted.
-use Rattle.std.proofs.Common.{◌≡◌, ℕ, ◌+◌, ◌-◌, ◌≤◌, List, ◌++◌, [], length, length-append, take, drop, Option, Result, sym, ap, ◌∙◌, subst, arith}
+use Rattle.std.proofs.Common.{◌≡◌, ℕ, ◌+◌, ◌-◌, ◌≤◌, List, ◌++◌, [], length, length-append, take, drop, Option, Result, refl, sym, ap, ◌∙◌, subst, arith}
 use Rattle.std.proofs.Math.ListN.{length-take}
 use Rattle.std.proofs.Math.Seq.{take-add, take-append-add}
 use Rattle.std.proofs.lemmas.List.{length-take-le, take-append-le, take-take}
@@ -21,17 +21,18 @@ Gives-front old new n buffer few came count =
 
 pub Takes-front : (old new : Outgoing) (n : ℕ) (bytes : List ℕ) → n ≤ length bytes
     → Appends old.written new.written (take n bytes) → new.taken ≡ old.taken + n
-    → Takes old new (take n bytes)
-Takes-front old new n bytes few went count =
+    → new.flush_may_fail ≡ old.flush_may_fail → Takes old new (take n bytes)
+Takes-front old new n bytes few went count same =
     record {
       appends = went;
       counted =
           count ∙ ap (λ k. old.taken + k) (sym (length-take-le n bytes few));
+      flush_may_fail = same;
     }
 
 -- none
 pub Takes-nil : (a : Outgoing) → Takes a a []
-Takes-nil a = record { appends = Appends-nil a.written; counted = omega arith }
+Takes-nil a = record { appends = Appends-nil a.written; counted = omega arith; flush_may_fail = refl }
 
 -- one after the other
 pub Gives-trans : (a b c : Incoming) (bs cs : List ℕ) → Gives a b bs → Gives b c cs
@@ -46,6 +47,7 @@ pub Takes-trans : (a b c : Outgoing) (bs cs : List ℕ) → Takes a b bs → Tak
 Takes-trans a b c bs cs p q = record {
   appends = Appends-trans a.written b.written c.written bs cs p.appends q.appends;
   counted = omega (arith, p.counted, q.counted, length-append bs cs);
+  flush_may_fail = q.flush_may_fail ∙ p.flush_may_fail;
 }
 
 -- a flush moves no byte
@@ -54,6 +56,7 @@ pub Takes-flushed : {E : Type 0} (a b c : Outgoing) (bs : List ℕ) (result : Re
 Takes-flushed a b c bs result went flush = record {
   appends = Appends-kept a.written b.written c.written bs went.appends flush.bytes;
   counted = flush.taken ∙ went.counted;
+  flush_may_fail = flush.flush_may_fail ∙ went.flush_may_fail;
 }
 
 -- the front of a buffer, after n bytes more were read into what follows it

@@ -1,5 +1,5 @@
 -- What the adapters show besides what every source and sink does.
-use Rattle.std.specs.Prelude.{ℕ, ◌+◌, ◌-◌, Bool, ◌&&◌, Some, length, min, nat_eq, replicate, take}
+use Rattle.std.specs.Prelude.{ℕ, ◌+◌, ◌-◌, Bool, ◌&&◌, false, true, Some, length, min, nat_eq, replicate, take}
 use Rattle.std.specs.Prelude.{List, drop}
 use Rattle.std.specs.Borrow.{GName}
 use Rattle.cd_stream.specs.Stream.{Incoming, Outgoing}
@@ -31,7 +31,7 @@ zeros_incoming s = record {
 
 -- ---- a slice as a sink
 
--- what a contract sees of a slice as a sink: the bytes at its front
+-- what a contract sees of a slice as a sink: the bytes at its front; its flush never fails
 abbrev pub slice_outgoing : SliceSink → Outgoing
 slice_outgoing s = record {
   written = Some (take s.used s.space.now);
@@ -39,6 +39,7 @@ slice_outgoing s = record {
   flushes = s.flushes;
   failures = s.failures;
   finished = s.finished;
+  flush_may_fail = false;
 }
 
 -- what was written, at the front of the slice
@@ -106,7 +107,7 @@ failing_incoming seen f = record (seen f.inner) {
   ended = (seen f.inner).ended && nat_eq f.own 0;
 }
 
--- what a contract sees of it as a sink: as the sink inside, with its own failures
+-- what a contract sees of it as a sink: as the sink inside, with its own failures, also in a flush
 abbrev pub failing_outgoing : {S : Type 0} → (S → Outgoing) → FailAfter S → Outgoing
 failing_outgoing seen f = record {
   written = (seen f.inner).written;
@@ -114,4 +115,5 @@ failing_outgoing seen f = record {
   flushes = (seen f.inner).flushes;
   failures = failures_with (seen f.inner).failures f;
   finished = f.finished;
+  flush_may_fail = true;
 }

@@ -31,7 +31,8 @@ abbrev pub is_finished : {S : Type 0} → Buffered S → Bool
 is_finished b = b.finished
 
 -- what the sink below has got, and then what it holds, and a number of bytes; the flushes and failures
--- are those below; it is finished only if the sink below is finished too, and nothing is held
+-- are those below; it is finished only if the sink below is finished too, and nothing is held; and
+-- its flush may fail, since it passes on what is held
 abbrev pub buffered_outgoing : {S : Type 0} → (S → Outgoing) → Buffered S → Outgoing
 buffered_outgoing seen b = record {
   written = append_known (seen b.inner).written (held_bytes b);
@@ -39,6 +40,7 @@ buffered_outgoing seen b = record {
   flushes = (seen b.inner).flushes;
   failures = (seen b.inner).failures;
   finished = b.finished && (seen b.inner).finished && nat_eq b.start b.end;
+  flush_may_fail = true;
 }
 
 -- all that it has got has reached the sink below, and that one is finished

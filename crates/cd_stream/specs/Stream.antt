@@ -11,14 +11,16 @@ pub record Incoming : Type 0 where
   pub ended : Bool
 
 -- of a sink: the bytes that it has got, if they are known; how many its writes have taken, known or
--- not; how many flushes were made; how many of its writes and flushes have failed; and whether the
--- last call of `write` and `finish` was a `finish` that succeeded
+-- not; how many flushes were made; how many of its writes and flushes have failed; whether the last
+-- call of `write` and `finish` was a `finish` that succeeded; and whether a flush of it may fail at
+-- all, which no call changes
 pub record Outgoing : Type 0 where
   pub written : Option (List ℕ)
   pub taken : ℕ
   pub flushes : ℕ
   pub failures : ℕ
   pub finished : Bool
+  pub flush_may_fail : Bool
 
 -- how many failures a source or a sink can count
 abbrev pub failure_limit : ℕ

@@ -1,6 +1,6 @@
 -- What one read and one write do to a source and a sink, and what reading and writing all does.
 use Rattle.std.specs.Prelude.{◌≡◌, ℕ, ◌+◌, ◌<◌, ◌≤◌, Bool, false, true, nat_eq, List, length, take}
-use Rattle.std.specs.Prelude.{Result, Ok, Err, is_ok}
+use Rattle.std.specs.Prelude.{Result, Ok, Err, is_ok, OnErr}
 use Rattle.std.specs.Io.KnownBytes.{Appends, Consumes, IsAtEnd, Keeps}
 use Rattle.cd_stream.specs.Stream.{Incoming, Outgoing}
 
@@ -24,10 +24,11 @@ pub record Gives (old new : Incoming) (bytes : List ℕ) : Type 0 where
   pub consumes : Consumes old.rest new.rest bytes
   pub counted : new.given ≡ old.given + length bytes
 
--- the sink has taken these bytes, and counts them
+-- the sink has taken these bytes, and counts them; its flushes may fail, or can't, as before
 pub record Takes (old new : Outgoing) (bytes : List ℕ) : Type 0 where
   pub appends : Appends old.written new.written bytes
   pub counted : new.taken ≡ old.taken + length bytes
+  pub flush_may_fail : new.flush_may_fail ≡ old.flush_may_fail
 
 -- at Ok(n) the first n bytes of the buffer have come, none only at the end; at Err none has come
 abbrev pub GotSome : {E : Type 0} → Incoming → Incoming → List ℕ → Result ℕ E → Type 0
@@ -62,15 +63,18 @@ pub record Writes {E : Type 0} (old new : Outgoing) (given : List ℕ)
   pub flushes : new.flushes ≡ old.flushes
   pub count : Counts old.failures new.failures result
   pub unfinished : new.finished ≡ false
+  pub flush_may_fail : new.flush_may_fail ≡ old.flush_may_fail
 
 -- one flush: it moves no byte, and the sink is finished if it succeeds. At Err it may be that what
--- had to go first has failed, and no flush was made
+-- had to go first has failed, and no flush was made. Err comes only from a sink whose flush may fail
 pub record Flushes {E : Type 0} (old new : Outgoing) (result : Result (Unit {0}) E) : Type 0 where
   pub bytes : Keeps old.written new.written
   pub taken : new.taken ≡ old.taken
   pub flushes : CountsFlush old.flushes new.flushes result
   pub count : Counts old.failures new.failures result
   pub finished : new.finished ≡ is_ok result
+  pub flush_may_fail : new.flush_may_fail ≡ old.flush_may_fail
+  pub fails : OnErr result (old.flush_may_fail ≡ true)
 
 -- at Ok(n) the first n bytes of the buffer have come, fewer than it holds only at the end; at Err
 -- the bytes of some front

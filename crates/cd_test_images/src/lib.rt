@@ -5,6 +5,7 @@
 mod answers;
 mod calls;
 mod cases;
+mod readers;
 mod reports;
 mod samples;
 mod scripts;
@@ -19,6 +20,7 @@ pub use calls::{
     check_within, passing,
 };
 pub use cases::{CARRYING, Case, PLAIN, Row, Way, done, expect, expect_row, expect_rows};
+pub use readers::Resuming;
 pub use reports::{Reported, Reporting, report_of, report_within};
 pub use samples::{Sample, cut_image, image_of, sector_of, sectors_of};
 pub use scripts::script_of;

@@ -1,6 +1,6 @@
 //! The 86 columns, eight at a time.
 
-ghost use Rattle.std.specs.Prelude.{ℕ, ◌+◌, ◌≤◌};
+ghost use Rattle.std.specs.Prelude.{ℕ, ◌+◌, ◌%◌, ◌≤◌};
 ghost use Rattle.cd_sector.specs.CodeWords.{SumsOf, column_of};
 ghost use Rattle.cd_words.specs.Words.{SumsOfEight};
 
@@ -11,7 +11,7 @@ use cd_sector::{COLUMNS, HEADER, ROWS, SECTOR_SIZE};
 /// Both syndromes of the eight columns from `at` on.
 fn column_sums_at(bytes: &[u8; SECTOR_SIZE], at: usize) -> WordSums
     requires { at + 8 ≤ 86 }
-    ensures { SumsOfEight (λ i. column_of bytes.now (at + i)) result }
+    ensures { SumsOfEight (λ i. column_of bytes.now (at + i % 8)) result }
 {
     let mut sums = WordSums::zero();
     for m in 0..ROWS {

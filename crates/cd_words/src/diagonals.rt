@@ -1,85 +1,55 @@
 //! The 52 diagonals, eight at a time.
 
-ghost use Rattle.std.specs.Prelude.{◌≡◌, ℕ, ◌+◌, ◌-◌, ◌*◌, ◌/◌, ◌%◌, ◌<◌, ◌≤◌, slice_index};
+ghost use Rattle.std.specs.Prelude.{ℕ, ◌+◌, ◌*◌, ◌%◌, ◌<◌, ◌≤◌, slice_index};
 ghost use Rattle.cd_sector.specs.CodeWords.{SumsOf, diagonal_of};
 ghost use Rattle.cd_words.specs.Words.{IsWord, SumsOfEight};
 
-use crate::words::{WordSums, are_bytes, put_sums, word_at};
-use cd_sector::{DIAGONALS, FIRST_Q, HEADER, PLANE_COLUMNS, ROWS, SECOND_Q, SECTOR_SIZE};
+use crate::words::{WordSums, put_sums, word_at};
+use cd_sector::{COLUMNS, DIAGONALS, FIRST_Q, HEADER, PLANE_COLUMNS, ROWS, SECOND_Q, SECTOR_SIZE};
 
-/// The place of byte m of diagonal n of plane 0.
-#[inline(always)]
-fn place(m: usize, n: usize) -> usize
-    requires column { m < 43 }
-    requires diagonal { n < 26 }
-    ensures { result ≡ 12 + 2 * ((44 * m + 43 * n) % 1118) }
-{
-    let number = 44 * m + PLANE_COLUMNS * n;
-    // Faster than a division, and three turns are never reached.
-    let turns = if number < FIRST_Q {
-        0
-    } else if number < 2 * FIRST_Q {
-        FIRST_Q
-    } else {
-        2 * FIRST_Q
-    };
-    HEADER + 2 * (number - turns)
-}
+/// FF for each byte of a row, and 00 for those of three columns before it and after it.
+static ROW: [u8; 98] = [
+    0, 0, 0, 0, 0, 0, 255, 255, 255, 255, 255, 255, 255, 255, 255, 255, 255, 255, 255, 255, 255,
+    255, 255, 255, 255, 255, 255, 255, 255, 255, 255, 255, 255, 255, 255, 255, 255, 255, 255, 255,
+    255, 255, 255, 255, 255, 255, 255, 255, 255, 255, 255, 255, 255, 255, 255, 255, 255, 255, 255,
+    255, 255, 255, 255, 255, 255, 255, 255, 255, 255, 255, 255, 255, 255, 255, 255, 255, 255, 255,
+    255, 255, 255, 255, 255, 255, 255, 255, 255, 255, 255, 255, 255, 255, 0, 0, 0, 0, 0, 0,
+];
 
-/// The place of the byte of the next diagonal.
+/// The bytes that the diagonals n + 3 to n have in step k, of both planes. They stand side by side in
+/// one row, in this order: diagonal n + 3 is three columns behind diagonal n. In the first and last
+/// three steps some of the eight stand before column 0 or after column 42, and are none of theirs.
 #[inline(always)]
-fn place_after(place: usize) -> usize
-    requires from { 12 ≤ place }
-    requires below { place < 2248 }
-    requires even { place % 2 ≡ 0 }
-    ensures { result ≡ 12 + 2 * (((place - 12) / 2 + 43) % 1118) }
-{
-    if place < 2162 {
-        place + 86
-    } else {
-        place - 2150
-    }
-}
-
-/// Two bytes from a place on, the first of the lower worth.
-#[inline(always)]
-fn pair_at(bytes: &[u8; SECTOR_SIZE], at: usize) -> u64
-    requires { at + 2 ≤ 2352 }
-    ensures value { result ≡ slice_index bytes.now at + slice_index bytes.now (at + 1) * 256 }
-    ensures small { result < 65536 }
-{
-    u64::from(u16::from_le_bytes([bytes[at], bytes[at + 1]]))
-}
-
-/// Byte m of the four diagonals from n on, of both planes.
-#[inline(always)]
-fn pairs_at(bytes: &[u8; SECTOR_SIZE], m: usize, n: usize) -> u64
-    requires column { m < 43 }
+fn row_word(bytes: &[u8; SECTOR_SIZE], n: usize, k: usize) -> u64
     requires diagonal { n + 4 ≤ 26 }
-    ensures { IsWord (λ i. slice_index bytes.now
-        (12 + 2 * ((44 * m + 43 * (n + i / 2)) % 1118) + i % 2)) result }
+    requires step { k < 46 }
+    ensures { IsWord (λ i. slice_index bytes.now (6 + 86 * ((n + k) % 26) + 2 * k + i % 8)) result }
 {
-    let first = place(m, n);
-    let second = place_after(first);
-    let third = place_after(second);
-    let fourth = place_after(third);
-    are_bytes(bytes);
-    pair_at(bytes, first)
-        + (pair_at(bytes, second) << 16)
-        + (pair_at(bytes, third) << 32)
-        + (pair_at(bytes, fourth) << 48)
+    let number = n + k;
+    // Faster than a division, and three turns are never reached.
+    let row = if number < ROWS {
+        number
+    } else if number < 2 * ROWS {
+        number - ROWS
+    } else {
+        number - 2 * ROWS
+    };
+    word_at(bytes, HEADER - 6 + COLUMNS * row + 2 * k)
 }
 
-/// Both syndromes of the four diagonals from n on, of both planes.
+/// Both syndromes of the four diagonals from n on, of both planes. A diagonal that has not begun, or
+/// has ended, keeps its sums in a step.
 fn diagonal_sums_at(bytes: &[u8; SECTOR_SIZE], n: usize) -> WordSums
     requires { n + 4 ≤ 26 }
-    ensures { SumsOfEight (λ i. diagonal_of bytes.now (2 * n + i)) result }
+    ensures { SumsOfEight (λ i. diagonal_of bytes.now (2 * n + i % 8)) result }
 {
     let mut sums = WordSums::zero();
-    for m in 0..PLANE_COLUMNS {
-        sums = sums.with_word(pairs_at(bytes, m, n));
+    for k in 0..PLANE_COLUMNS + 3 {
+        let next = sums.with_word(row_word(bytes, n, k));
+        sums = sums.or_next(next, word_at(&ROW, 2 * k));
     }
-    let longer = sums.with_word(word_at(bytes, HEADER + 2 * FIRST_Q + 2 * n));
+    let upwards = sums.reversed();
+    let longer = upwards.with_word(word_at(bytes, HEADER + 2 * FIRST_Q + 2 * n));
     longer.with_word(word_at(bytes, HEADER + 2 * SECOND_Q + 2 * n))
 }
 

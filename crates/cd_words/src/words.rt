@@ -1,6 +1,6 @@
 //! Eight bytes in a word, the first of the lowest worth, and eight code words side by side.
 
-ghost use Rattle.std.specs.Prelude.{◌≡◌, ℕ, ◌+◌, ◌<◌, ◌≤◌, ◌⊎◌, List, [], ◌∷◌, ◌++◌, length, slice_index};
+ghost use Rattle.std.specs.Prelude.{◌≡◌, ℕ, ◌+◌, ◌-◌, ◌*◌, ◌/◌, ◌%◌, ◌<◌, ◌≤◌, ◌⊎◌, List, [], ◌∷◌, ◌++◌, length, slice_index};
 ghost use Rattle.cd_code.specs.Field.{AreBytes, double};
 ghost use Rattle.cd_sector.specs.CodeWords.{SumsOf};
 ghost use Rattle.cd_words.specs.Words.{IsWord, SumsOfEight};
@@ -18,11 +18,30 @@ fn doubled_word(x: u64) -> u64
     (low << 1) ^ high.wrapping_mul(0x1D)
 }
 
+/// Four pairs of bytes, the last pair first.
+#[inline(always)]
+fn reversed_word(x: u64) -> u64
+    ensures { (f : ℕ → ℕ) → IsWord f x → IsWord (λ i. f (2 * (3 - i % 8 / 2) + i % 2)) result }
+{
+    let [a, b, c, d, e, f, g, h] = x.to_le_bytes();
+    u64::from_le_bytes([g, h, e, f, c, d, a, b])
+}
+
+/// Of each byte that of `y` if the byte of `mask` is FF, and that of `x` if it is 00.
+#[inline(always)]
+fn chosen_word(x: u64, y: u64, mask: u64) -> u64
+    ensures { (f g on choice : ℕ → ℕ) → IsWord f x → IsWord g y → IsWord on mask
+        → ((i : ℕ) → ((on i ≡ 255) × (choice i ≡ g i)) ⊎ ((on i ≡ 0) × (choice i ≡ f i)))
+        → IsWord choice result }
+{
+    x ^ ((x ^ y) & mask)
+}
+
 /// Eight bytes from place `at` on.
 #[inline(always)]
 pub(crate) fn word_at(bytes: &[u8], at: usize) -> u64
     requires { at + 8 ≤ length bytes.now }
-    ensures { IsWord (λ i. slice_index bytes.now (at + i)) result }
+    ensures { IsWord (λ i. slice_index bytes.now (at + i % 8)) result }
 {
     are_bytes(bytes);
     u64::from_le_bytes([
@@ -95,6 +114,32 @@ impl WordSums {
             weighted: doubled_word(self.weighted) ^ word,
         }
     }
+
+    /// The sums in `next` of the words whose byte of `mask` is FF, and these of those with 00.
+    #[inline(always)]
+    pub(crate) fn or_next(self, next: Self, mask: u64) -> Self
+        ensures { (code longer choice : ℕ → List ℕ) (on : ℕ → ℕ) → SumsOfEight code self
+            → SumsOfEight longer next → IsWord on mask
+            → ((i : ℕ) → ((on i ≡ 255) × (choice i ≡ longer i))
+            ⊎ ((on i ≡ 0) × (choice i ≡ code i))) → SumsOfEight choice result }
+    {
+        WordSums {
+            plain: chosen_word(self.plain, next.plain, mask),
+            weighted: chosen_word(self.weighted, next.weighted, mask),
+        }
+    }
+
+    /// Of four pairs of words the last pair first.
+    #[inline(always)]
+    pub(crate) fn reversed(self) -> Self
+        ensures { (code : ℕ → List ℕ) → SumsOfEight code self
+            → SumsOfEight (λ i. code (2 * (3 - i % 8 / 2) + i % 2)) result }
+    {
+        WordSums {
+            plain: reversed_word(self.plain),
+            weighted: reversed_word(self.weighted),
+        }
+    }
 }
 
 /// Writes the sums of eight code words at the places from `at` on; some may stand there already.
@@ -103,7 +148,7 @@ pub(crate) fn put_sums(plain: &mut [u8], weighted: &mut [u8], at: usize, sums: W
     requires within_plain { at + 8 ≤ length plain.old }
     requires within_weighted { at + 8 ≤ length weighted.old }
     ensures { (code : ℕ → List ℕ) (count : ℕ) → at ≤ count
-        → SumsOf code count plain.old weighted.old → SumsOfEight (λ i. code (at + i)) sums
+        → SumsOf code count plain.old weighted.old → SumsOfEight (λ i. code (at + i % 8)) sums
         → SumsOf code (at + 8) plain.new weighted.new }
 {
     put_word(plain, at, sums.plain);

@@ -5,10 +5,10 @@ ghost use Rattle.cd_stream.specs.Stream.{CanCountFailure};
 
 use super::calls::expect_text;
 use super::messages::{LONG_SCRIPT, NO_SCRIPT};
-use cd_image::{FailAfter, Short, Sink, SliceSink, SliceSource, Source, ZeroSource};
+use cd_image::{FailAfter, FromRead, Short, Sink, SliceSink, SliceSource, Source, ZeroSource};
 use cd_program::{load_script, read_script};
 use cd_script::{MAX_BYTES, MAX_PATCHES, MAX_TEXT, Patch};
-use cd_test_images::{ALL, UNTOUCHED, is_front, is_text, repeated, written_in};
+use cd_test_images::{ALL, Resuming, UNTOUCHED, is_front, is_text, repeated, written_in};
 use std::alloc::{AllocError, Global};
 use std::process::Abort;
 
@@ -373,4 +373,17 @@ fn a_file_that_fails_and_a_full_log(rt: HostRuntime) {
     let status = load_script(rt.alloc(), &mut file, &mut log).err();
     let failures = log.failures();
     expect_failed_log(&rt, status, failures, &space, "cdpatch: c", 10);
+}
+
+/// The file of a script that gives bytes again after its end is read to that end, which no contract says.
+#[test]
+fn a_file_that_goes_on_after_its_end(rt: HostRuntime) {
+    for count in [0, 1, 16_384, 16_385] {
+        let mut space = [UNTOUCHED; 64];
+        let mut log = SliceSink::new(&mut space);
+        let mut file = FromRead::new(Resuming::new(count));
+        let read = load_script(rt.alloc(), &mut file, &mut log).map(|text| text.len());
+        assert_eq!(rt; (read, file.failures()), (Ok(count), 0));
+        assert!(rt; log.written().is_empty());
+    }
 }

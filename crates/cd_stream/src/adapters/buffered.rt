@@ -28,7 +28,7 @@ pub struct Buffered<S> {
 }
 
 impl<S: Sink> Buffered<S> {
-    ghost use Rattle.std.specs.Prelude.{◌≡◌, ◌+◌, ◌<◌, ◌≤◌, [], ◌++◌, IfOk, false, length};
+    ghost use Rattle.std.specs.Prelude.{◌≡◌, ◌+◌, ◌<◌, ◌≤◌, [], ◌++◌, IfOk, false, length, true};
     ghost use Rattle.cd_stream.specs.Buffering.{Drains, buffered_inner, buffered_outgoing, held_bytes};
     ghost use Rattle.cd_stream.specs.Buffering.{held_count, held_only, is_finished, room_after};
     ghost use Rattle.cd_stream.specs.Buffering.{space_of};
@@ -46,7 +46,7 @@ impl<S: Sink> Buffered<S> {
     /// ```
     pub fn new(inner: S, space: Vec<u8>) -> Self
         ensures seen { ⟦<Buffered<S> as Sink>⟧.seen result
-            ≡ record (S.seen inner) { finished = false } }
+            ≡ record (S.seen inner) { finished = false; flush_may_fail = true } }
         ensures over { buffered_inner result ≡ inner }
         ensures space { space_of result ≡ length space.items }
         ensures room { room_after result ≡ length space.items }
@@ -139,6 +139,7 @@ impl<S: Sink> Sink for Buffered<S> {
       flushes = (S.seen s.inner).flushes;
       failures = (S.seen s.inner).failures;
       finished = s.finished && (S.seen s.inner).finished && nat_eq s.start s.end;
+      flush_may_fail = true;
     } };
 
     fn write(&mut self, bytes: &[u8]) -> Result<usize, SinkFailed>

@@ -101,7 +101,7 @@ impl<S: Source> Source for FailAfter<S> {
 }
 
 impl<S: Sink> Sink for FailAfter<S> {
-    ghost use Rattle.std.specs.Prelude.{◌≡◌, ◌+◌, ◌<◌, IfOk, IsErr, OnErr, length, min};
+    ghost use Rattle.std.specs.Prelude.{◌≡◌, ◌+◌, ◌<◌, IfOk, IsErr, OnErr, length, min, true};
     ghost use Rattle.cd_stream.specs.Adapters.{fail_after_inner, failing_outgoing, still_passes};
     ghost use Rattle.cd_stream.specs.Transfer.{Counts, Flushes, Writes};
 
@@ -111,6 +111,7 @@ impl<S: Sink> Sink for FailAfter<S> {
       flushes = (S.seen s.inner).flushes;
       failures = min ((S.seen s.inner).failures + s.own) 4294967295;
       finished = s.finished;
+      flush_may_fail = true;
     } };
 
     fn write(&mut self, bytes: &[u8]) -> Result<usize, SinkFailed>

@@ -88,6 +88,7 @@ impl<S: Sink> Sink for Short<S> {
       flushes = (S.seen s.inner).flushes;
       failures = (S.seen s.inner).failures;
       finished = s.finished;
+      flush_may_fail = (S.seen s.inner).flush_may_fail;
     } };
 
     fn write(&mut self, bytes: &[u8]) -> Result<usize, SinkFailed>

@@ -43,6 +43,7 @@ impl<'a> SliceSink<'a> {
               flushes = 0;
               failures = 0;
               finished = false;
+              flush_may_fail = false;
             } }
         ensures room { room_of result ≡ length space.entry.now }
         ensures rest { rest_of_slice result ≡ space.entry.now }
@@ -79,6 +80,7 @@ impl Sink for SliceSink<'_> {
       flushes = s.flushes;
       failures = s.failures;
       finished = s.finished;
+      flush_may_fail = false;
     } };
 
     fn write(&mut self, bytes: &[u8]) -> Result<usize, SinkFailed>

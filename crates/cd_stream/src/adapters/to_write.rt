@@ -1,6 +1,6 @@
 //! A std writer as a sink.
 
-ghost use Rattle.std.specs.Prelude.{◌≡◌, false};
+ghost use Rattle.std.specs.Prelude.{◌≡◌, false, true};
 
 use crate::count::Count;
 use crate::sink::{Sink, SinkFailed};
@@ -40,6 +40,7 @@ impl<W: Write> ToWrite<W> {
               flushes = 0;
               failures = 0;
               finished = false;
+              flush_may_fail = true;
             } }
     {
         ToWrite {
@@ -74,6 +75,7 @@ impl<W: Write> Sink for ToWrite<W> {
       flushes = s.flushes;
       failures = s.failures;
       finished = s.finished;
+      flush_may_fail = true;
     } };
 
     fn write(&mut self, bytes: &[u8]) -> Result<usize, SinkFailed> {

@@ -1,8 +1,7 @@
-use Rattle.std.proofs.Common.{◌≡◌, ap, arith, map, ◌∙◌}
-use Rattle.cd_report.specs.AuditText.{audit_lines}
+use Rattle.std.proofs.Common.{ap, arith, map, ◌∙◌}
 use Rattle.cd_report.specs.ListText.{run_lines}
 use Rattle.cd_report.specs.Runs.{runs}
-use Rattle.cd_c_survey.specs.Survey.{kind_in, lines_in, survey}
+use Rattle.cd_c_survey.specs.Survey.{kind_in, lines_in}
 use Rattle.cd_c_survey.proofs.SurveyLemmas.{kind_in-survey, kinds-survey, lines_in-survey, survey-all, survey-more}
 use Rattle.cd_c_survey.proofs.surveying.cdpatch_survey.Goals as goal
 

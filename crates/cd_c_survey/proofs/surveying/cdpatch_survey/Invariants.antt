@@ -1,4 +1,4 @@
-use Rattle.std.proofs.Common.{◌≡◌, length}
+use Rattle.std.proofs.Common.{◌≡◌}
 use Rattle.std.specs.Prelude.{◌++◌, take, drop}
 use Rattle.cd_c_survey.specs.Survey.{survey}
 use Rattle.cd_c_survey.proofs.surveying.cdpatch_survey.Given as goal

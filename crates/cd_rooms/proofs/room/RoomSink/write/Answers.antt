@@ -20,6 +20,7 @@ returns c =
       flushes = refl;
       count = search rules;
       unfinished = search rules;
+      flush_may_fail = refl;
     }
 
 pub invariant_of-self-2-clause-rest : goal.invariant_of-self-2-clause-rest

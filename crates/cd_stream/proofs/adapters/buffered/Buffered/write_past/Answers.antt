@@ -23,6 +23,7 @@ returns-then-bytes-len-clause-writes g c =
           c.write.ensures.count;
       unfinished = ap (λ own. own && past.finished && nat_eq now.start now.end)
           (c.drain.ensures.finished ∙ c.requires.unfinished);
+      flush_may_fail = refl;
     }
 
 pub returns-then-bytes-len-clause-held : goal.returns-then-bytes-len-clause-held

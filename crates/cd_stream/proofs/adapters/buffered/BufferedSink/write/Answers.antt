@@ -1,4 +1,4 @@
-use Rattle.std.proofs.Common.{ap, arith, length, rules, subst, sym}
+use Rattle.std.proofs.Common.{ap, arith, length, refl, rules, subst, sym}
 use Rattle.std.proofs.KnownBytes.{Keeps-refl, append_known-grown}
 use Rattle.std.proofs.lemmas.List.{take_all}
 use Rattle.std.specs.Io.KnownBytes.{Appends, Keeps, append_known}
@@ -37,4 +37,5 @@ returns-clause-writes g c =
       flushes = ap (λ s. (seen s).flushes) c.hold.ensures.inner;
       count = ap (λ s. (seen s).failures) c.hold.ensures.inner;
       unfinished = search rules;
+      flush_may_fail = refl;
     }

@@ -14,6 +14,7 @@ returns-clause-writes c = record {
   flushes = refl;
   count = search rules;
   unfinished = search rules;
+  flush_may_fail = refl;
 }
 
 pub returns-clause-room_left : goal.returns-clause-room_left

@@ -8,4 +8,6 @@ returns g c = record {
   flushes = c.add.ensures;
   count = refl;
   finished = cc;
+  flush_may_fail = refl;
+  fails = tt;
 }

@@ -8,6 +8,7 @@ returns-in-Ok g c = record {
   flushes = refl;
   count = refl;
   unfinished = refl;
+  flush_may_fail = refl;
 }
 
 pub returns-in_default : goal.returns-in_default
@@ -17,4 +18,5 @@ returns-in_default g c = record {
   flushes = refl;
   count = refl;
   unfinished = refl;
+  flush_may_fail = refl;
 }

@@ -1,0 +1,94 @@
+// Times the core's jobs in node: `node bench/core.mjs THREADS JOB IMAGE [IMAGE..]`, THREADS 0 for this thread. Prints seconds and the
+// most memory of the process.
+
+import { fstatSync, openSync, readFileSync, readSync, writeSync } from 'node:fs';
+import { Worker } from 'node:worker_threads';
+import { Calls } from '../web/core/codes.js';
+import { compareImages } from '../web/core/compare.js';
+import { openDisc } from '../web/core/disc.js';
+import { joinFound, sectorsBeyond } from '../web/core/find.js';
+import { joinBases } from '../web/core/image.js';
+import { filesOf } from '../web/core/iso.js';
+import { Crew, LocalHand } from '../web/core/jobs.js';
+import { mergeImages } from '../web/core/merge.js';
+import { auditText, joinSurveys } from '../web/core/survey.js';
+import { encodingOf } from '../web/core/text.js';
+
+const [threads, job, ...paths] = process.argv.slice(2);
+const module = new WebAssembly.Module(readFileSync(new URL('../library/cdpatch.wasm', import.meta.url)));
+const calls = new Calls(module);
+
+/** A reader of a file. */
+function readerOf(path) {
+    const descriptor = openSync(path);
+    return {
+        size: fstatSync(descriptor).size,
+        async read(at, length) {
+            const bytes = new Uint8Array(length);
+            const count = readSync(descriptor, bytes, 0, length, at);
+            return count === length ? bytes : bytes.subarray(0, count);
+        },
+    };
+}
+
+/** A worker of node as a hand. */
+function threadHand() {
+    const worker = new Worker(new URL('core_worker.mjs', import.meta.url), { workerData: module });
+    const hand = { post: (message, transfer) => worker.postMessage(message, transfer), onreply: () => {}, onfault: () => {} };
+    worker.on('message', reply => hand.onreply(reply));
+    worker.on('error', error => hand.onfault(error));
+    return hand;
+}
+
+const step = Number(process.env.STEP || 1024);
+const disc = () => Promise.all(paths.map(async path => (await openDisc(calls, [{ name: path, reader: readerOf(path) }])).tracks[0].image));
+const out = process.env.OUT ? openSync(process.env.OUT, 'w') : null;
+const write = bytes => { if (out !== null) writeSync(out, bytes); };
+
+/** @type {Record<string, (crew: Crew, images: any[]) => Promise<unknown>>} */
+const JOBS_TIMED = {
+    async files(crew, [image]) {
+        return (await filesOf(image.reader, image.base)).files.length;
+    },
+    async find(crew, [image]) {
+        const wanted = encodingOf('CP932').units(process.env.TEXT || 'number 004242');
+        const parts = [];
+        const how = { base: image.base, step, beyond: sectorsBeyond(wanted) };
+        await crew.share('find', [image.reader], { wanted, limit: 100 }, how, answer => { parts.push(answer); });
+        return joinFound(parts, 100).count;
+    },
+    async survey(crew, [image]) {
+        const parts = [];
+        await crew.share('survey', [image.reader], {}, { base: image.base, step }, answer => { parts.push(answer); });
+        return auditText(calls, joinSurveys(parts, image.base), image.tail).text.length;
+    },
+    async bases(crew, [image]) {
+        const parts = [];
+        await crew.share('bases', [image.reader], {}, { step }, answer => { parts.push(answer); });
+        return joinBases(parts).base;
+    },
+    async diff(crew, [old, fresh]) {
+        const { script, left, changed } = await compareImages(calls, crew, old.reader, fresh.reader, { base: old.base, step });
+        if (script) script.pieces.forEach(write);
+        return { changed, left: left.length, bytes: script && script.size, patches: script && script.patches, long: script && script.long };
+    },
+    async merge(crew, [old, ...others]) {
+        const { taken, damaged, disputed, different, pieces } = await mergeImages(crew, old, others, { step });
+        return { taken: taken.length, damaged: damaged.length, disputed: disputed.length, different, pieces: pieces && pieces.length };
+    },
+    async user(crew, [image]) {
+        await crew.share('user', [image.reader], {}, { base: image.base, step }, answer => { write(answer.user); });
+    },
+    async raw(crew, [image]) {
+        await crew.share('raw', [image.reader], {}, { step, units: [2048] }, answer => { write(answer); });
+    },
+};
+
+const images = job === 'raw' ? paths.map(path => ({ reader: readerOf(path) })) : await disc();
+const begin = process.hrtime.bigint();
+const crew = new Crew(Number(threads) === 0 ? [new LocalHand(calls)] : Array.from({ length: Number(threads) }, threadHand));
+const result = await JOBS_TIMED[job](crew, images);
+const seconds = Number(process.hrtime.bigint() - begin) / 1e9;
+const { user, system } = process.cpuUsage();
+console.log(`${job} ${threads} threads: ${seconds.toFixed(2)} s, ${((user + system) / 1e6).toFixed(2)} s of the processor (${(system / 1e6).toFixed(2)} of the system), ${Math.round(process.resourceUsage().maxRSS / 1024)} MB`, JSON.stringify(result) ?? '');
+if (Number(threads) > 0) process.exit();

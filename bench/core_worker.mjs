@@ -1,0 +1,11 @@
+// A worker of bench/core.mjs.
+
+import { parentPort, workerData } from 'node:worker_threads';
+import { Calls } from '../web/core/codes.js';
+import { serving, transfersOf } from '../web/core/jobs.js';
+
+const serve = serving(new Calls(workerData));
+parentPort.on('message', message => {
+    const reply = serve(message);
+    parentPort.postMessage(reply, transfersOf(reply));
+});

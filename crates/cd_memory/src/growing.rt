@@ -1,0 +1,69 @@
+//! Memory that grows, as a sink.
+
+ghost use Rattle.std.specs.Prelude.{◌≡◌, Some};
+ghost use Rattle.cd_memory.specs.Memory.{fresh_outgoing, growing_outgoing};
+
+use cd_stream::{Count, Sink, SinkFailed};
+use std::alloc::Global;
+
+/// Appends to a vector. A write fails only if the vector does, for want of memory; its flush never
+/// fails, and contracts know it.
+#[derive(Debug, Drop)]
+pub struct Growing {
+    octets: Vec<u8>,
+    flushes: Count,
+    failures: u32,
+    finished: bool,
+}
+
+impl Growing {
+    /// A sink that has got no byte.
+    pub(crate) fn new(alloc: Global) -> Self
+        ensures { growing_outgoing result ≡ fresh_outgoing }
+    {
+        Growing {
+            octets: Vec::new(alloc),
+            flushes: Count::zero(),
+            failures: 0,
+            finished: false,
+        }
+    }
+
+    /// The bytes that it has got.
+    pub(crate) fn into_bytes(self) -> Vec<u8>
+        ensures { Some result.items ≡ (growing_outgoing self).written }
+    {
+        self.octets
+    }
+}
+
+impl Sink for Growing {
+    ghost use Rattle.cd_memory.specs.Memory.{growing_outgoing};
+
+    ghost seen = { growing_outgoing };
+
+    fn write(&mut self, bytes: &[u8]) -> Result<usize, SinkFailed> {
+        self.finished = false;
+        match self.octets.extend_from_slice(bytes) {
+            Ok(()) => Ok(bytes.len()),
+            Err(_) => {
+                self.failures += 1;
+                Err(SinkFailed)
+            }
+        }
+    }
+
+    fn finish(&mut self) -> Result<(), SinkFailed> {
+        self.flushes.add(1);
+        self.finished = true;
+        Ok(())
+    }
+
+    fn finished(&self) -> bool {
+        self.finished
+    }
+
+    fn failures(&self) -> u32 {
+        self.failures
+    }
+}

@@ -1,0 +1,148 @@
+"""The codes of CD-ROM sectors, and sectors one by one. No call changes what it is given."""
+
+from __future__ import annotations
+
+import ctypes
+from typing import TYPE_CHECKING, Callable, NamedTuple, Optional, Union
+
+from . import _library
+from ._errors import refusal
+from ._library import ADDRESS_SIZE, SECTOR_SIZE, USER_SIZE, Record, library
+from ._memory import Held, lent, lent_whole
+
+if TYPE_CHECKING:
+    from _typeshed import ReadableBuffer
+
+KINDS = ('nosync', 'mode0', 'mode1', 'mode2', 'other')
+
+_LARGEST_NUMBER = 2 ** 32 - 1
+_LARGEST_SIZE = 2 ** 64 - 1
+
+Argument = Union[int, bytes, Held]
+_Sector = ctypes.c_char * SECTOR_SIZE
+
+
+class Defect(NamedTuple):
+    """What is wrong with a sector: whether a byte of the Intermediate field is not 00, whether the EDC is wrong, and how many of 86 P
+    columns and of 52 Q diagonals are not code words."""
+    zeros: bool
+    edc: bool
+    p: int
+    q: int
+
+
+class Broken(NamedTuple):
+    """Which code words are broken: a byte for each of 86 P columns and of 52 Q diagonals, 1 if it is not a code word, else 0."""
+    columns: bytes
+    diagonals: bytes
+
+
+def _copied(sector: ReadableBuffer) -> ctypes.Array[ctypes.c_char]:
+    lent(sector, SECTOR_SIZE)  # Raises ValueError for another size.
+    return _Sector.from_buffer_copy(sector)
+
+
+def _changed(call: Callable[..., int], sector: ReadableBuffer, *arguments: Argument) -> tuple[int, bytes]:
+    """The result of a change, and the sector that it leaves."""
+    made = _copied(sector)
+    return call(made, *arguments), made.raw
+
+
+def _accepted(result: int, sector: bytes) -> bytes:
+    """The sector, unless the change was refused. What was held for it is let go by then, as an error keeps what its frames have."""
+    if result:
+        raise refusal(result)
+    return sector
+
+
+def edc(data: ReadableBuffer) -> int:
+    """Returns the EDC word of any bytes. A sector stores that of its bytes 0 to 2063 at 2064, the least significant byte first."""
+    word: int = library.cdpatch_edc(*lent_whole(data))
+    return word
+
+
+def kind(sector: ReadableBuffer) -> str:
+    """Returns the kind of a sector of 2352 bytes, one of KINDS. Raises ValueError for another size."""
+    return KINDS[library.cdpatch_kind(lent(sector, SECTOR_SIZE))]
+
+
+def address(block: int) -> Optional[bytes]:
+    """Returns the 3 bytes of the address of a block, 0 to 449849 (block 0 is 00:02:00), or None for any other number."""
+    made = ctypes.create_string_buffer(ADDRESS_SIZE)
+    has_one = 0 <= block <= _LARGEST_NUMBER and library.cdpatch_address(block, made)
+    return made.raw if has_one else None
+
+
+def encode(address: ReadableBuffer, user: ReadableBuffer) -> bytes:
+    """Returns the one consistent Mode 1 sector, 2352 bytes, with 3 bytes of address, any, and 2048 bytes of user data. Raises
+    ValueError for other sizes."""
+    made = _Sector()
+    library.cdpatch_encode(lent(address, ADDRESS_SIZE), lent(user, USER_SIZE), made)
+    return made.raw
+
+
+def with_parity(sector: ReadableBuffer) -> bytes:
+    """Returns a sector of any kind, 2352 bytes, with P and Q parity recalculated. Raises ValueError for another size."""
+    made = _copied(sector)
+    library.cdpatch_fill_parity(made)
+    return made.raw
+
+
+def is_consistent(sector: ReadableBuffer) -> bool:
+    """Returns whether a sector of 2352 bytes is a Mode 1 sector with nothing wrong in it. Raises ValueError for another size."""
+    sound: bool = library.cdpatch_is_consistent(lent(sector, SECTOR_SIZE))
+    return sound
+
+
+def defect(sector: ReadableBuffer) -> Defect:
+    """Returns what is wrong with a sector of 2352 bytes, read as a Mode 1 sector. Raises ValueError for another size."""
+    found = _library.Defect()
+    library.cdpatch_find_defect(lent(sector, SECTOR_SIZE), ctypes.byref(found))
+    return Defect(found.zeros, found.edc, found.p, found.q)
+
+
+def broken(sector: ReadableBuffer) -> Broken:
+    """Returns which code words of a sector of any kind, 2352 bytes, are broken. A single wrong byte lies where the broken column and
+    the broken diagonal cross; libcdpatch(3) says which bytes each has. Raises ValueError for another size."""
+    columns, diagonals = ctypes.create_string_buffer(86), ctypes.create_string_buffer(52)
+    library.cdpatch_find_broken(lent(sector, SECTOR_SIZE), columns, diagonals)
+    return Broken(columns.raw, diagonals.raw)
+
+
+def survey(sectors: ReadableBuffer, block: int = 0) -> ctypes.Array[Record]:
+    """Returns a Record for each whole sector of the given bytes, of which the first is block `block`: an array of six bytes for each,
+    which makes an object of one only when it is read. Bytes after the last whole sector are not looked at.
+
+    Raises ValueError if a block is not 0 to 4294967295."""
+    with Held(sectors) as held:
+        count = held.size // SECTOR_SIZE
+        if not 0 <= block <= _LARGEST_NUMBER or block + count > _LARGEST_NUMBER + 1:
+            raise ValueError(f'{count} sectors from block {block} on, and not blocks 0 to {_LARGEST_NUMBER}')
+        records = (Record * count)()
+        library.cdpatch_survey(held.place, count, block, records, count)
+    return records
+
+
+def rebuild(sector: ReadableBuffer) -> bytes:
+    """Returns the one consistent sector with the header and the user data of a Mode 1 sector of 2352 bytes. Raises NotMode1, or
+    ValueError for another size."""
+    return _accepted(*_changed(library.cdpatch_rebuild, sector))
+
+
+def with_user(sector: ReadableBuffer, offset: int, new: ReadableBuffer, carry: bool = False) -> bytes:
+    """Returns a Mode 1 sector of 2352 bytes with all bytes of `new` in its 2048 of user data, beginning at `offset`, with EDC and parity
+    updated. With `carry` the sector may be damaged: its damage stays, and none is added.
+
+    Raises NotMode1; Damaged, but not with `carry`; OutOfRange if the bytes are not within the user data; ValueError for another size
+    of the sector. To replace all 2048 bytes of a sector that is known to be sound, `encode` takes less than half the time."""
+    call = library.cdpatch_carry_user if carry else library.cdpatch_change_user
+    place = offset if 0 <= offset <= _LARGEST_SIZE else _LARGEST_SIZE
+    return _accepted(*_changed(call, sector, place, *lent_whole(new)))
+
+
+def with_address(sector: ReadableBuffer, address: ReadableBuffer, carry: bool = False) -> bytes:
+    """Returns a Mode 1 sector of 2352 bytes with 3 bytes of address in its header, with EDC and parity updated. With `carry` the sector
+    may be damaged: its damage stays, and none is added. Raises NotMode1; Damaged, but not with `carry`; ValueError for other
+    sizes."""
+    call = library.cdpatch_carry_address if carry else library.cdpatch_change_address
+    return _accepted(*_changed(call, sector, lent(address, ADDRESS_SIZE)))

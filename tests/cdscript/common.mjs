@@ -1,0 +1,108 @@
+// What the tests of cdscript share: the joined command, which COMMAND names, as a process and in this one; directories; and images.
+
+import assert from 'node:assert/strict';
+import { spawnSync } from 'node:child_process';
+import { closeSync, mkdtempSync, openSync, readFileSync, rmSync, writeFileSync } from 'node:fs';
+import { createRequire } from 'node:module';
+import { tmpdir } from 'node:os';
+import { join } from 'node:path';
+import { fileURLToPath } from 'node:url';
+
+export const top = fileURLToPath(new URL('../..', import.meta.url));
+export const command = process.env.COMMAND ?? join(top, 'cdscript');
+export const vectors = readFileSync(join(top, 'crates/cd_vectors/data/cdrkit-8.bin'));
+const { main } = createRequire(import.meta.url)(command);
+
+/** What a process or a call has left: its status, and the bytes of its standard streams. */
+const ended = (status, out, errors) => ({ status, out: out.toString(), errors: errors.toString(), bytes: out });
+
+/** Runs cdscript as a process. */
+export function runProcess(words, { cwd = '.', input } = {}) {
+    const done = spawnSync(process.execPath, [command, ...words], { cwd, input, maxBuffer: 1 << 28 });
+    return ended(done.signal ?? done.status, done.stdout, done.stderr);
+}
+
+/** Runs what another command does, which has to be done with status 0. Null if there is no such command. */
+export function tool(name, words, { cwd = '.', input } = {}) {
+    const done = spawnSync(name, words, { cwd, input, maxBuffer: 1 << 28, env: { ...process.env, LC_ALL: 'C.UTF-8' } });
+    if (done.error) return null;
+    assert.equal(done.status, 0, `${name} ${words.join(' ')}: ${done.stderr}`);
+    return done.stdout;
+}
+
+/** Calls `main` in this process, with files of a directory as its standard streams, and something before and after it. */
+export async function call(directory, words, before = () => {}, after = () => {}) {
+    const names = ['stdout', 'stderr'].map(name => join(directory, name));
+    const streams = { input: openSync('/dev/null', 'r'), output: openSync(names[0], 'w'), errors: openSync(names[1], 'w') };
+    before();
+    const status = await main(words, streams);
+    after();
+    // What still reads files that are closed now ends before others are opened.
+    for (let i = 0; i < 3; i++) await new Promise(resolve => setImmediate(resolve));
+    Object.values(streams).forEach(closeSync);
+    return ended(status, ...names.map(name => readFileSync(name)));
+}
+
+/** What cdscript does in a directory, by a call in this process. */
+export async function run(words, { cwd = '.' } = {}) {
+    const home = process.cwd();
+    process.chdir(cwd);
+    try {
+        return await inDirectory(streams => call(streams, words));
+    } finally {
+        process.chdir(home);
+    }
+}
+
+/** Uses a directory that is gone afterwards. */
+export async function inDirectory(use) {
+    const directory = mkdtempSync(join(tmpdir(), 'cdscript-'));
+    try {
+        return await use(directory);
+    } finally {
+        rmSync(directory, { recursive: true, force: true });
+    }
+}
+
+/** Writes files to a directory. */
+export function write(directory, files) {
+    for (const [name, bytes] of Object.entries(files)) writeFileSync(join(directory, name), bytes);
+}
+
+/** The bytes of a file, or null if there is none. */
+export function read(directory, name) {
+    try {
+        return readFileSync(join(directory, name));
+    } catch {
+        return null;
+    }
+}
+
+/** Whether two files have the same bytes; if not, where they differ. */
+export function sameFile(came, due, name) {
+    assert.ok(came !== null && due !== null, `${name}: came ${came && came.length}, due ${due && due.length}`);
+    assert.equal(came.length, due.length, `${name}: sizes`);
+    assert.equal(Buffer.compare(came, due), 0, `${name}: bytes`);
+}
+
+/** The image of the eight sectors of other software, over and over, with the addresses of the blocks from a base on by the program. */
+export function imageOf(directory, count, base = 0) {
+    const program = process.env.PROGRAM ?? join(top, 'cdpatch');
+    const image = Buffer.concat(Array.from({ length: count }, (_, i) => vectors.subarray(2352 * (i % 8), 2352 * (i % 8 + 1))));
+    const digits = number => String(number).padStart(2, '0');
+    const lines = Array.from({ length: count }, (_, i) => {
+        const frame = base + i + 150;
+        return `address ${base + i} ${digits(Math.floor(frame / 4500))}:${digits(Math.floor(frame / 75) % 60)}:${digits(frame % 75)}`;
+    });
+    write(directory, { 'made.bin': image, 'made.txt': `cdpatch 2\n${lines.join('\n')}\n` });
+    rmSync(join(directory, 'made.out'), { force: true });
+    tool(program, ['apply', '--base', String(base), 'made.bin', 'made.txt', 'made.out'], { cwd: directory });
+    return read(directory, 'made.out');
+}
+
+/** A copy of an image in which some bytes are others: `[block, byte of the sector]`. */
+export function damaged(image, base, ...places) {
+    const copy = Buffer.from(image);
+    for (const [block, at] of places) copy[2352 * (block - base) + at] ^= 0xA5;
+    return copy;
+}

@@ -1,0 +1,44 @@
+// A disc of files with texts, by genisoimage: its ISO image and its raw image.
+
+import { mkdirSync, writeFileSync } from 'node:fs';
+import { join } from 'node:path';
+import { read, run, tool } from './common.mjs';
+
+/** The texts of the disc, by their encodings as iconv names them. */
+export const TEXTS = { CP932: '勇者は旅に出た', 'EUC-JP': '魔王の城', 'UTF-16LE': '王様', 'UTF-8': '村人' };
+
+/** A text in an encoding of iconv. */
+export const encoded = (text, encoding) => tool('iconv', ['-t', encoding], { input: text });
+
+/** Bytes that have no text of the disc in them, the same for the same seed. */
+export function noise(size, seed) {
+    let state = seed;
+    return Buffer.from(Uint8Array.from({ length: size }, () => {
+        state = (Math.imul(state, 1103515245) + 12345) >>> 0;
+        return state >>> 24 & 0x7F;
+    }));
+}
+
+/** The files of the disc. One text stands over the border of two blocks, one twice. */
+export function files() {
+    const border = noise(3 * 2048, 2);
+    encoded(TEXTS.CP932, 'CP932').copy(border, 2048 - 5);
+    const twice = noise(5000, 3);
+    [100, 3000].forEach(at => encoded(TEXTS['EUC-JP'], 'EUC-JP').copy(twice, at));
+    return {
+        'DATA/BORDER.DAT': border, 'DATA/TWICE.DAT': twice, 'DATA/WIDE.TXT': encoded(TEXTS['UTF-16LE'], 'UTF-16LE'),
+        'DATA/DEEP/PLAIN.TXT': Buffer.from(`${TEXTS['UTF-8']} HELLO`), 'BIG.BIN': noise(300000, 4), 'EMPTY.DAT': Buffer.alloc(0),
+    };
+}
+
+/** Makes `disc.iso` and, with its first sector as a block, `disc.bin`; false if there is no genisoimage. */
+export async function makeDisc(directory, { first = 0, options = [] } = {}) {
+    for (const [path, bytes] of Object.entries(files())) {
+        mkdirSync(join(directory, 'tree', path, '..'), { recursive: true });
+        writeFileSync(join(directory, 'tree', path), bytes);
+    }
+    if (tool('genisoimage', ['-quiet', '-R', '-J', ...options, '-o', 'disc.iso', 'tree'], { cwd: directory }) === null) return false;
+    const made = await run(['raw', 'disc.iso', 'disc.bin', '--first', String(first)], { cwd: directory });
+    if (made.status !== 0) throw new Error(made.errors);
+    return read(directory, 'disc.bin') !== null;
+}

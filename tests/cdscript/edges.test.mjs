@@ -1,0 +1,113 @@
+// What stands at the edge of the jobs: a terminal, a cue sheet from a pipe, texts that a table or a disc writes in another way.
+
+import assert from 'node:assert/strict';
+import { spawn, spawnSync } from 'node:child_process';
+import { test } from 'node:test';
+import { command, damaged, imageOf, inDirectory, read, run, tool, write } from './common.mjs';
+import { files, makeDisc } from './discs.mjs';
+
+const hasDisc = tool('genisoimage', ['--version']) !== null;
+const hasPython = tool('python3', ['--version']) !== null;
+const hasTerminal = tool('script', ['--version']) !== null;
+
+/** What a job shows on a terminal, in which a line that is taken back is gone. */
+function shownOnTerminal(room, words) {
+    const shown = tool('script', ['-qec', `"${process.execPath}" "${command}" ${words.join(' ')}`, '/dev/null'], { cwd: room });
+    return shown.toString().replaceAll('\r\n', '\n').replace(/\r[^\r\n]*\r\x1b\[K/g, '');
+}
+
+test('progress on a terminal is gone before anything else is shown', { skip: !hasTerminal && 'no terminal' }, () => inDirectory(room => {
+    write(room, { image: imageOf(room, 16) });
+    for (const [words, due] of [[['audit', 'image'], 'sectors 16 mode1 16 damaged 0 tail 0\n'], [['user', 'image', 'out'], ''],
+        [['diff', '--fields', 'image', 'image'], 'sectors 16 differ 0\n'], [['rebuilds', 'image', '-o', 'script'], 'cdscript: the script has no patch\n']]) {
+        assert.equal(shownOnTerminal(room, words), due, words.join(' '));
+    }
+    assert.equal(read(room, 'out').length, 16 * 2048);
+}));
+
+test('a cue sheet comes from standard input too', () => inDirectory(room => {
+    const sheet = 'FILE "image" BINARY\n  TRACK 01 MODE1/2352\n    INDEX 01 00:00:00\n';
+    write(room, { image: imageOf(room, 3, 75), sheet });
+    const out = tool(process.execPath, [command, 'info', '-'], { cwd: room, input: sheet }).toString();
+    assert.match(out, /^-: a cue sheet\n.*\ntrack 1 MODE1\/2352 blocks 75-77 in image\n/);
+    assert.equal(tool('sh', ['-c', `"${process.execPath}" "${command}" info - < sheet`], { cwd: room }).toString(), out);
+}));
+
+test('an address that no script can name is said by undo, and not taken for damage', () => inDirectory(async room => {
+    write(room, { hurt: damaged(imageOf(room, 8), 0, [3, 14]), fix: 'cdpatch 1\nrebuild 3\n', edit: 'cdpatch 2\naddress 3 00:02:03\n' });
+    tool(process.env.PROGRAM, ['apply', 'hurt', 'fix', 'odd'], { cwd: room });
+    const { status, out, errors } = await run(['undo', 'odd', 'edit'], { cwd: room });
+    assert.deepEqual([status, out], [1, 'cdpatch 1\n']);
+    assert.match(errors, /^cdscript: block 3: its address in odd is none that a script can name\n/);
+}));
+
+test('a signal ends what waits for its reader', () => inDirectory(async room => {
+    write(room, { image: imageOf(room, 60), zeros: `cdpatch 1\n${Array.from({ length: 60 }, (_, i) => `fill ${i} 0 2048 00\n`).join('')}` });
+    tool(process.env.PROGRAM, ['apply', 'image', 'zeros', 'empty'], { cwd: room });
+    const words = ['find', 'empty', '00', '--encoding', 'hex', '--limit', '100000'];
+    const child = spawn(process.execPath, [command, ...words], { cwd: room, stdio: ['ignore', 'pipe', 'ignore'] });
+    const ended = new Promise(resolve => child.on('exit', (_, by) => resolve(by)));
+    await new Promise(resolve => child.stdout.once('readable', resolve));
+    // Nothing is read any more, so the pipe is full soon.
+    await new Promise(resolve => setTimeout(resolve, 1500));
+    child.kill('SIGTERM');
+    const late = setTimeout(() => child.kill('SIGKILL'), 5000);
+    assert.equal(await ended, 'SIGTERM');
+    clearTimeout(late);
+}));
+
+test('a text is replaced in the spelling that the disc has, at its place and at all', () => inDirectory(async room => {
+    // Row 13 of NEC and IBM's rows have kanji twice: ED40 and FA5C are both 纊.
+    write(room, { plain: imageOf(room, 8), edit: 'cdpatch 1\nset 2 10 ED408261\nset 3 2047 FA5C8261\n' });
+    tool(process.env.PROGRAM, ['apply', 'plain', 'edit', 'image'], { cwd: room });
+    const [one, two] = ['set 2 10 889F8261 was ED408261', 'set 3 2047 889F8261 was FA5C8261'];
+    for (const [words, lines] of [[['2', '10', '纊Ｂ', '亜Ｂ'], [one]], [['3', '2047', '纊Ｂ', '亜Ｂ'], [two]], [['纊Ｂ', '亜Ｂ', '--all'], [one, two]]]) {
+        const { status, out } = await run(['replace', 'image', ...words], { cwd: room });
+        assert.deepEqual([status, out], [0, ['cdpatch 1', ...lines, ''].join('\n')], words.join(' '));
+    }
+    const other = await run(['replace', 'image', '2', '12', '纊', '亜'], { cwd: room });
+    assert.deepEqual([other.status, other.out, other.errors], [2, '', 'cdscript: old bytes differ at block 2 offset 12\n']);
+}));
+
+test('a table without a space asks for --fill', () => inDirectory(async room => {
+    write(room, { plain: imageOf(room, 8), edit: 'cdpatch 1\nset 2 10 414243\n', table: '41=a\n4243=b\n' });
+    tool(process.env.PROGRAM, ['apply', 'plain', 'edit', 'image'], { cwd: room });
+    const words = ['replace', 'image', '2', '10', 'ab', 'a', '--table', 'table'];
+    const { status, out, errors } = await run(words, { cwd: room });
+    assert.deepEqual([status, out, errors], [2, '', 'cdscript: the table has no space to fill up with: give --fill\n']);
+    assert.equal((await run([...words, '--fill', '41'], { cwd: room })).out, 'cdpatch 1\nset 2 10 414141 was 414243\n');
+}));
+
+test('a pipe that has nothing yet, and does not wait, is waited for', { skip: !hasPython && 'no python3' }, () => inDirectory(room => {
+    write(room, { image: imageOf(room, 3) });
+    const unblock = 'python3 -c "import os; os.set_blocking(0, False)"';
+    const came = tool('sh', ['-c', `{ sleep 5; cat image; } | { ${unblock}; "${process.execPath}" "${command}" list -; }`], { cwd: room });
+    assert.equal(came.toString(), '0-2 mode1\nsectors 3 tail 0\n');
+}));
+
+test('a file that is taken out with sectors that are not Mode 1 is not passed off as whole', { skip: !hasDisc && 'no genisoimage' }, () =>
+    inDirectory(async room => {
+        await makeDisc(room);
+        const [place] = (await run(['files', 'disc.bin'], { cwd: room })).out.split('\n').filter(line => line.endsWith('\t/BIG.BIN'));
+        const block = Number(place.split('\t')[0]);
+        write(room, { hurt: damaged(read(room, 'disc.bin'), 0, [block + 3, 15], [block + 4, 0]) });
+        const { status, errors } = await run(['extract', 'hurt', '/BIG.BIN', 'out'], { cwd: room });
+        const text = 'in which other bytes may stand where mode1 has user data';
+        assert.deepEqual([status, errors], [1, `cdscript: block ${block + 3}: other, ${text}\ncdscript: block ${block + 4}: nosync, ${text}\n`]);
+        assert.equal(Buffer.compare(read(room, 'out'), files()['BIG.BIN']), 0);
+    }));
+
+test('fields that differ, and a tail that does', () => inDirectory(async room => {
+    const image = imageOf(room, 4);
+    write(room, { one: Buffer.concat([image, Buffer.from('a')]), two: Buffer.concat([image, Buffer.from('b')]) });
+    const { status, out, errors } = await run(['diff', '--fields', 'one', 'two'], { cwd: room });
+    assert.deepEqual([status, out, errors], [1, 'sectors 4 differ 0\n', 'cdscript: the bytes after the last sector differ\n']);
+    assert.equal((await run(['diff', '--fields', 'one', 'one'], { cwd: room })).status, 0);
+}));
+
+test('what fails at the very end is no finding', () => inDirectory(room => {
+    write(room, { image: imageOf(room, 3), 'close.cjs': "require('node:fs').closeSync = () => { throw new Error('EIO'); };" });
+    const { status, stderr } = spawnSync(process.execPath, ['-r', './close.cjs', command, 'list', 'image'], { cwd: room, encoding: 'utf8' });
+    assert.equal(status, 2);
+    assert.match(stderr, /^cdscript: a fault in cdscript itself: Error: EIO\n/);
+}));

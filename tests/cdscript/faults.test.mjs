@@ -1,0 +1,179 @@
+// Fault by fault: each read, write and other call fails once, is short, or finds an image that has shrunk; full disks, closed streams, and
+// signals. Whatever fails, the status is 2 with a message, no file is left, and nothing that was printed is wrong.
+
+import assert from 'node:assert/strict';
+import { spawn, spawnSync } from 'node:child_process';
+import { existsSync, readdirSync, rmSync, truncateSync } from 'node:fs';
+import { createRequire } from 'node:module';
+import { join } from 'node:path';
+import { test } from 'node:test';
+import { fileURLToPath } from 'node:url';
+
+// Before cdscript is loaded, which takes the calls as they are then.
+const faults = createRequire(import.meta.url)('./faulty.cjs');
+const { call, command, damaged, imageOf, inDirectory, read, sameFile, tool, write } = await import('./common.mjs');
+const { makeDisc } = await import('./discs.mjs');
+
+const preload = fileURLToPath(new URL('./faulty.cjs', import.meta.url));
+const hasDisc = tool('genisoimage', ['--version']) !== null;
+
+/** The jobs, with their files in a room; those that write a file have OUT for its name. */
+const JOBS = [
+    ['info', 'disc.cue'], ['list', 'disc.bin'], ['audit', 'hurt.bin'], ['check', 'disc.bin', 'script'], ['apply', 'disc.bin', 'script', 'OUT'],
+    ['files', 'disc.bin'], ['find', 'disc.bin', 'HELLO', '-o', 'OUT'], ['show', 'disc.bin', '16', '0'],
+    ['extract', 'disc.bin', '/BIG.BIN', 'OUT'], ['replace', 'disc.bin', 'HELLO', 'WORLD'], ['replace-file', 'disc.bin', '/BIG.BIN', 'script'],
+    ['diff', 'disc.bin', 'other.bin', '-o', 'OUT'], ['diff', 'disc.bin', 'other.bin', '--fields'], ['merge', 'hurt.bin', 'disc.bin', 'OUT'],
+    ['rebuilds', 'hurt.bin'], ['undo', 'disc.bin', 'script', '-o', 'OUT'], ['raw', 'disc.iso', 'OUT'], ['user', 'disc.cue', 'OUT'],
+];
+
+async function makeRoom(room) {
+    await makeDisc(room);
+    const image = read(room, 'disc.bin');
+    write(room, { 'hurt.bin': damaged(image, 0, [18, 100]), 'disc.cue': 'FILE "disc.bin" BINARY\n TRACK 01 MODE1/2352\n INDEX 01 00:00:00\n',
+        'script': 'cdpatch 1\nset 20 5 414243\nfill 100 0 4096 00\nset 16 1 00 was 00\n' });
+    tool('sh', ['-c', `"${process.env.PROGRAM}" apply disc.bin script other.bin > log || true; rm log`], { cwd: room });
+}
+
+/** Calls main with what is named in a room, while `hit` says which calls fail. */
+async function faultyCall(room, streams, words, hit) {
+    const named = words.map(word => existsSync(join(room, word)) && word !== '' ? join(room, word) : word === 'OUT' ? join(room, 'out') : word);
+    const there = new Set(readdirSync(room));
+    const came = await call(streams, named, () => { faults.hit = hit; }, () => { faults.hit = () => null; });
+    const left = readdirSync(room).filter(name => !there.has(name));
+    const file = read(room, 'out');
+    rmSync(join(room, 'out'), { force: true });
+    return { ...came, left, file };
+}
+
+/** The calls that a job makes on files, in their order; not those on its own streams. */
+async function callsOf(room, streams, words) {
+    const made = [];
+    const right = await faultyCall(room, streams, words, (name, given) => { made.push([name, given[0]]); return null; });
+    return { made, right };
+}
+
+/** All jobs begin with the reads by which an image is known. Only of the first each of them fails, of the others one in so many. */
+const SPARSELY = 12;
+
+test('each call that fails once is a message and status 2', { skip: !hasDisc && 'no genisoimage' }, () => inDirectory(room =>
+    inDirectory(async streams => {
+        await makeRoom(room);
+        for (const words of JOBS) {
+            const { made, right } = await callsOf(room, streams, words);
+            assert.ok(made.length > 3 && right.status < 2, `${words.join(' ')}: ${right.errors}`);
+            const every = words === JOBS[0] ? 1 : SPARSELY;
+            const chosen = made.map((_, at) => at).filter(at => at % every === 0 || made[at][0] !== 'readSync' || at >= made.length - 4);
+            for (const at of chosen) {
+                let number = 0;
+                const came = await faultyCall(room, streams, words, () => number++ === at ? faults.errorOf('EIO') : null);
+                const what = `${words.join(' ')}: call ${at} (${made[at].join()})`;
+                // Where a message itself can't be written, there is only the status.
+                const silent = made[at][0] === 'writeSync' && came.status === right.status;
+                if (silent) continue;
+                assert.equal(came.status, 2, `${what}: ${came.out}${came.errors}`);
+                assert.ok(/^(cdscript|cdpatch): .+$/m.test(came.errors + came.out), `${what}: ${came.out}${came.errors}`);
+                assert.ok(!came.errors.includes('a fault in cdscript'), `${what}: ${came.errors}`);
+                assert.deepEqual(came.left, [], what);
+            }
+        }
+    })));
+
+test('short reads and writes change nothing', { skip: !hasDisc && 'no genisoimage' }, () => inDirectory(room =>
+    inDirectory(async streams => {
+        await makeRoom(room);
+        for (const words of JOBS) {
+            const due = await faultyCall(room, streams, words, () => null);
+            const came = await faultyCall(room, streams, words, (name, [descriptor]) =>
+                (name === 'readSync' || name === 'writeSync') && descriptor > 2 ? 'short' : null);
+            assert.deepEqual([came.status, came.out, came.errors], [due.status, due.out, due.errors], words.join(' '));
+            if (due.file !== null) sameFile(came.file, due.file, words.join(' '));
+        }
+    })));
+
+test('an image that shrinks is no shorter answer', { skip: !hasDisc && 'no genisoimage' }, () => inDirectory(room =>
+    inDirectory(async streams => {
+        await makeRoom(room);
+        const whole = read(room, 'disc.bin');
+        const last = Math.floor(whole.length / 2352) - 1;
+        const jobs = [['list', 'disc.bin'], ['audit', 'disc.bin'], ['find', 'disc.bin', 'HELLO'], ['info', 'disc.bin'], ['user', 'disc.bin', 'OUT'],
+            ['apply', 'disc.bin', 'script', 'OUT'], ['merge', 'disc.bin', 'hurt.bin', 'OUT'], ['diff', 'disc.bin', 'other.bin']];
+        for (const words of jobs) {
+            write(room, { 'disc.bin': whole });
+            let [isSized, isCut] = [false, false];
+            const hit = name => {
+                if (isSized && !isCut && name === 'readSync') {
+                    isCut = true;
+                    truncateSync(join(room, 'disc.bin'), last * 2352 + 100);
+                }
+                isSized = isSized || name === 'fstatSync';
+                return null;
+            };
+            const came = await faultyCall(room, streams, words, hit);
+            assert.equal(came.status, 2, `${words.join(' ')}: ${came.out}`);
+            assert.deepEqual(came.left, []);
+            const message = ['list', 'audit', 'apply'].includes(words[0]) ? came.out : came.errors;
+            assert.match(message, /^(cdpatch: reading the image failed|cdscript: the image ends at byte \d+)\n$/);
+        }
+    })));
+
+/** Runs a shell with COMMAND and the words. */
+const shell = (text, cwd, env = {}) => spawnSync('sh', ['-c', text], { cwd, env: { ...process.env, ...env }, encoding: 'utf8' });
+
+test('a full or closed output is a message and status 2', () => inDirectory(room => {
+    const sector = imageOf(room, 1);
+    write(room, { image: imageOf(room, 30), script: 'cdpatch 1\nset 3 0 00\n', many: Buffer.concat(Array.from({ length: 20000 }, () => sector)) });
+    for (const words of ['audit image', 'apply image script out', 'info image', '--help', 'find image A --encoding hex']) {
+        const full = shell(`"$COMMAND" ${words.replace('find image A', 'find image 00')} > /dev/full`, room);
+        assert.deepEqual([full.status, full.stderr.split('\n').at(-2)], [2, 'cdscript: cannot write to standard output: the disk is full'], words);
+        const closed = shell(`"$COMMAND" ${words} >&-`, room);
+        assert.deepEqual([closed.status, closed.stderr], [2, 'cdscript: standard output is closed\n'], words);
+        assert.equal(existsSync(join(room, 'out')), false);
+    }
+    const pipe = shell('{ "$COMMAND" audit many; echo $? > status; } | head -n 1', room);
+    assert.equal(read(room, 'status').toString(), '2\n');
+    assert.match(pipe.stderr, /^cdscript: cannot write to standard output: its reader has ended\n$/);
+    assert.equal(shell('"$COMMAND" audit - <&-', room).stdout, 'cdpatch: reading the image failed\n');
+    assert.equal(shell('"$COMMAND" raw image out 2>&-', room).status, 2);
+}));
+
+test('a full pipe is waited for', () => inDirectory(room => {
+    const sector = imageOf(room, 1);
+    write(room, { image: Buffer.concat(Array.from({ length: 20000 }, () => sector)) });
+    const { status, stdout } = shell('{ "$COMMAND" audit image; echo $? > status; } | { sleep 1; md5sum; }', room);
+    assert.equal(status, 0);
+    assert.equal(read(room, 'status').toString(), '1\n');
+    assert.equal(stdout, shell('"$PROGRAM" audit image | md5sum', room).stdout);
+}));
+
+test('a full disk leaves no file', t => inDirectory(room => {
+    const made = shell('mkdir small && mount -t tmpfs -o size=200k none small', room);
+    if (made.status !== 0) return t.skip('no right to mount');
+    try {
+        write(room, { image: imageOf(room, 300), script: 'cdpatch 1\nset 3 0 00\n' });
+        for (const words of [['apply', 'image', 'script', 'small/out'], ['user', 'image', 'small/out'], ['merge', 'image', 'image', 'small/out']]) {
+            const { status, stdout, stderr } = shell(`"$COMMAND" ${words.join(' ')}`, room);
+            assert.equal(status, 2);
+            assert.match(stdout + stderr, /^(cdpatch: writing the output failed|cdscript: cannot write small\/out: the disk is full)\n$/);
+            assert.deepEqual(readdirSync(join(room, 'small')), []);
+        }
+    } finally {
+        shell('umount small', room);
+    }
+}));
+
+test('a signal leaves no half file', () => inDirectory(async room => {
+    const image = imageOf(room, 3000);
+    write(room, { image: Buffer.concat([image, image, image, image]), script: 'cdpatch 1\n' });
+    for (const [signal, words] of [['SIGINT', ['apply', 'image', 'script', 'out']], ['SIGTERM', ['user', 'image', 'out']],
+        ['SIGHUP', ['merge', 'image', 'image', 'out']]]) {
+        const child = spawn(process.execPath, ['-r', preload, command, ...words], { cwd: room, env: { ...process.env, SLOW: '300' }, stdio: 'ignore' });
+        const ended = new Promise(resolve => child.on('exit', (_, by) => resolve(by)));
+        for (let i = 0; i < 400 && !(existsSync(join(room, 'out')) && read(room, 'out').length > 0); i++) {
+            await new Promise(resolve => setTimeout(resolve, 20));
+        }
+        assert.ok(existsSync(join(room, 'out')), 'the file is begun');
+        child.kill(signal);
+        assert.equal(await ended, signal);
+        assert.equal(existsSync(join(room, 'out')), false, signal);
+    }
+}));

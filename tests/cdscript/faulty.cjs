@@ -1,0 +1,32 @@
+// Makes calls of node's `fs` fail: `hit` is asked before each, by its name and what it is given, and may return an error, or 'short' for a
+// read or a write of only half of the bytes.
+
+const fs = require('node:fs');
+
+const faults = { hit: () => null };
+
+for (const name of ['openSync', 'fstatSync', 'readSync', 'writeSync', 'fsyncSync', 'readdirSync']) {
+    const right = fs[name];
+    fs[name] = (...given) => {
+        const fault = faults.hit(name, given);
+        if (fault instanceof Error) throw fault;
+        if (fault !== 'short') return right(...given);
+        const [descriptor, bytes, at, ...rest] = given;
+        const size = Math.max(1, Math.floor((name === 'readSync' ? rest[0] : bytes.length - at) / 2));
+        return right(descriptor, bytes, at, size, ...(name === 'readSync' ? [rest[1]] : []));
+    };
+}
+
+/** An error of the system with a code. */
+faults.errorOf = code => Object.assign(new Error(code), { code });
+
+// As a preload of a process: each write to a file takes that many milliseconds, or a file shrinks once it is read.
+if (process.env.SLOW !== undefined) {
+    const pausing = new Int32Array(new SharedArrayBuffer(4));
+    faults.hit = (name, [descriptor]) => {
+        if (name === 'writeSync' && descriptor > 2) Atomics.wait(pausing, 0, 0, Number(process.env.SLOW));
+        return null;
+    };
+}
+
+module.exports = faults;

@@ -1,0 +1,198 @@
+// The jobs that write images, `info` and cue sheets, against other software.
+
+import assert from 'node:assert/strict';
+import { createHash } from 'node:crypto';
+import { existsSync } from 'node:fs';
+import { join } from 'node:path';
+import { test } from 'node:test';
+import { damaged, imageOf, inDirectory, read, run, sameFile, tool, write } from './common.mjs';
+import { files, makeDisc } from './discs.mjs';
+
+const program = process.env.PROGRAM;
+const skip = tool('genisoimage', ['--version']) === null && 'no genisoimage';
+const sheet = (name, type = 'MODE1/2352') => `FILE "${name}" BINARY\n  TRACK 01 ${type}\n    INDEX 01 00:00:00\n`;
+
+/** That a run has failed with just this message, and has made no file. */
+async function fails(words, message, cwd, out = 'out') {
+    const { status, out: printed, errors } = await run(words, { cwd });
+    assert.deepEqual([status, printed, errors], [2, '', `cdscript: ${message}\n`], words.join(' '));
+    assert.equal(existsSync(join(cwd, out)), false, `${words.join(' ')} left a file`);
+}
+
+test('an ISO image made raw is sound, and its user data are the ISO image', { skip }, () => inDirectory(async room => {
+    await makeDisc(room);
+    const count = read(room, 'disc.iso').length / 2048;
+    assert.equal(tool(program, ['audit', 'disc.bin'], { cwd: room }).toString(), `sectors ${count} mode1 ${count} damaged 0 tail 0\n`);
+    assert.deepEqual((await run(['user', 'disc.bin', 'user.iso'], { cwd: room })).status, 0);
+    sameFile(read(room, 'user.iso'), read(room, 'disc.iso'), 'the user data');
+    write(room, { 'disc.cue': sheet('disc.bin') });
+    if (tool('bchunk', ['disc.bin', 'disc.cue', 'track'], { cwd: room }) === null) return;
+    sameFile(read(room, 'track01.iso'), read(room, 'disc.iso'), 'what bchunk finds');
+}));
+
+test('a raw image that begins with another block', { skip }, () => inDirectory(async room => {
+    await makeDisc(room, { first: 4500 });
+    assert.match(tool(program, ['audit', '--base', '4500', 'disc.bin'], { cwd: room }).toString(), / damaged 0 tail 0\n$/);
+    assert.match((await run(['info', 'disc.bin'], { cwd: room })).out, /^base 4500$/m);
+    await fails(['raw', 'disc.iso', 'out', '--first', '449800'], 'disc.iso goes on after block 449849, the last one with an address', room);
+}));
+
+test('what can not be made raw, or has no user data', { skip }, () => inDirectory(async room => {
+    await makeDisc(room);
+    await fails(['raw', 'disc.bin', 'out'], 'disc.bin is a raw image, 2352 bytes a sector, and no ISO image', room);
+    write(room, { 'cut.iso': read(room, 'disc.iso').subarray(0, 100000) });
+    await fails(['raw', 'cut.iso', 'out'], 'cut.iso has 100000 bytes, not 2048 for each sector', room);
+    await fails(['user', 'disc.iso', 'out'], 'disc.iso is an ISO image, 2048 bytes a sector. Make a raw image of it, patch that, and make ' +
+        'an ISO image of its user data.', room);
+    await fails(['raw', 'nothing.iso', 'out'], 'cannot open nothing.iso: there is no such file or directory', room);
+}));
+
+test('the user data of sectors that are not Mode 1 are named, and a tail is', () => inDirectory(async room => {
+    const image = imageOf(room, 8);
+    image[3 * 2352 + 15] = 2;
+    write(room, { 'image.bin': Buffer.concat([image, Buffer.from('tail')]) });
+    const { status, errors } = await run(['user', 'image.bin', 'out'], { cwd: room });
+    assert.deepEqual([status, errors], [1, 'cdscript: block 3: mode2, in which other bytes may stand where mode1 has user data\n' +
+        'cdscript: the 4 bytes after the last sector are left out\n']);
+    sameFile(read(room, 'out'), Buffer.concat(Array.from({ length: 8 }, (_, i) => image.subarray(2352 * i + 16, 2352 * i + 2064))), 'user data');
+}));
+
+test('files of a disc are taken out', { skip }, () => inDirectory(async room => {
+    await makeDisc(room);
+    for (const [path, bytes] of Object.entries(files())) {
+        const { status } = await run(['extract', 'disc.bin', `/${path}`, 'out'], { cwd: room });
+        assert.equal(status, 0, path);
+        sameFile(read(room, 'out'), bytes, path);
+        tool('rm', ['out'], { cwd: room });
+    }
+    await fails(['extract', 'disc.bin', '/NO.BIN', 'out'], 'there is no file /NO.BIN; cdscript files lists them', room);
+}));
+
+test('info of a disc', () => inDirectory(async room => {
+    const image = damaged(imageOf(room, 40, 75), 75, [80, 100], [81, 2200]);
+    image[2352 * 20] = 1;
+    write(room, { 'image.bin': image });
+    const hash = createHash('sha1').update(image).digest('hex');
+    const { status, out, errors } = await run(['info', 'image.bin'], { cwd: room });
+    assert.deepEqual([status, errors], [1, '']);
+    assert.equal(out, ['image.bin: a raw image, 2352 bytes a sector', `file image.bin bytes ${image.length} sha1 ${hash}`,
+        'track 1 data blocks 75-114 in image.bin', 'base 75', '75-94 mode1', '95-95 nosync', '96-114 mode1', 'sectors 40 tail 0',
+        'mode1 39 damaged 2 address 0', ''].join('\n'));
+}));
+
+test('info of what is no raw image', () => inDirectory(async room => {
+    write(room, { 'a.zip': Buffer.from('PK\x03\x04 and so on'), 'a.chd': Buffer.from('MComprHD'.padEnd(3000)), empty: '' });
+    for (const [name, what] of [['a.zip', 'an archive'], ['a.chd', 'a CHD file'], ['empty', 'an empty file']]) {
+        const { status, out } = await run(['info', name], { cwd: room });
+        assert.equal(status, 1);
+        assert.ok(out.startsWith(`${name}: ${what}\n`) && out.split('\n').length === 3, out);
+    }
+}));
+
+test('a cue sheet gives tracks, files and bases', () => inDirectory(async room => {
+    write(room, { 'one.bin': imageOf(room, 30), 'Two.BIN': Buffer.alloc(2352 * 150, 5), 'three.bin': imageOf(room, 20, 180) });
+    write(room, { 'disc.cue': `${sheet('one.bin')}FILE "two.bin" BINARY\n  TRACK 02 AUDIO\n    INDEX 01 00:00:00\n` +
+        'FILE "C:\\discs\\three.bin" BINARY\n  TRACK 03 MODE1/2352\n    INDEX 01 00:00:00\n' });
+    const { status, out } = await run(['info', 'disc.cue', '--track', '3'], { cwd: room });
+    assert.equal(status, 0);
+    assert.match(out, /^track 2 AUDIO blocks 30-179 in Two.BIN\ntrack 3 MODE1\/2352 blocks 180-199 in three.bin\nbase 180\n180-199 mode1$/m);
+    assert.deepEqual((await run(['audit', 'disc.cue'], { cwd: room })).out, 'sectors 30 mode1 30 damaged 0 tail 0\n');
+    await fails(['user', 'disc.cue', 'out', '--track', '2'], 'Track 2 is no track of data with 2352 bytes a sector. Choose one that is.', room);
+    tool('rm', ['three.bin'], { cwd: room });
+    assert.match((await run(['info', 'disc.cue'], { cwd: room })).errors, /^cdscript: disc.cue names C:\\discs\\three.bin\. /);
+}));
+
+test('a repair takes sound sectors only, of the first image that has one', () => inDirectory(async room => {
+    const good = imageOf(room, 60, 30);
+    const tail = Buffer.from('the tail');
+    const withTail = image => Buffer.concat([image, tail]);
+    write(room, {
+        old: withTail(damaged(good, 30, [31, 500], [40, 16], [41, 2100], [50, 1000])),
+        first: withTail(damaged(good, 30, [40, 17], [50, 77])), second: withTail(damaged(good, 30, [50, 2300], [60, 100])),
+    });
+    const { status, out, errors } = await run(['merge', 'old', 'first', 'second', 'out'], { cwd: room });
+    assert.deepEqual([status, errors], [1, '']);
+    assert.equal(out, '31-31 from first\n40-40 from second\n41-41 from first\n50-50 damaged in all\ntaken 3 damaged 1 disputed 0 different 0\n');
+    sameFile(read(room, 'out'), withTail(damaged(good, 30, [50, 1000])), 'the repaired image');
+    write(room, { sound: withTail(good) });
+    assert.equal((await run(['merge', 'old', 'sound', 'whole'], { cwd: room })).status, 0);
+    sameFile(read(room, 'whole'), withTail(good), 'the repaired image');
+}));
+
+test('what no repair takes', () => inDirectory(async room => {
+    const good = imageOf(room, 300, 30);
+    write(room, { old: damaged(good, 30, [40, 100]), long: Buffer.concat([good, Buffer.alloc(1)]), later: imageOf(room, 300, 31) });
+    await fails(['merge', 'old', 'long', 'out'], `old has ${good.length} bytes and long ${good.length + 1}: they are not dumps of one disc`, room);
+    await fails(['merge', 'old', 'later', 'out'], 'old begins with block 30, later with block 31: they are not the same part of a disc', room);
+    const other = Buffer.concat([good.subarray(2352 * 8), good.subarray(0, 2352 * 8)]);
+    write(room, { other, edited: Buffer.concat([other.subarray(0, 3 * 2352), good.subarray(3 * 2352)]) });
+    const { status, errors } = await run(['merge', 'old', 'other', 'out', '--base', '30'], { cwd: room });
+    assert.equal(status, 2);
+    assert.match(errors, /^cdscript: 29\d of 300 sectors are sound in old and in other, and differ: one of them is of another disc, or shifted\n$/);
+    assert.equal(existsSync(join(room, 'out')), false);
+    assert.match((await run(['merge', 'old', 'edited', 'out'], { cwd: room })).out, /\ntaken 1 damaged 0 disputed 0 different 3\n$/);
+}));
+
+test('threads give what one thread gives', () => inDirectory(async room => {
+    const image = imageOf(room, 9000);
+    const hurt = damaged(image, 0, [3, 100], [1023, 2000], [1024, 16], [4500, 77], [8999, 2300]);
+    write(room, { image, hurt });
+    for (const job of ['list', 'audit']) {
+        assert.equal((await run([job, 'hurt'], { cwd: room })).out, tool('sh', ['-c', `"${program}" ${job} hurt || true`], { cwd: room }).toString());
+    }
+    assert.equal((await run(['merge', 'hurt', 'image', 'out'], { cwd: room })).status, 0);
+    sameFile(read(room, 'out'), image, 'the repaired image');
+    assert.equal((await run(['rebuilds', 'hurt'], { cwd: room })).out, 'cdpatch 1\nrebuild 3\nrebuild 1023\nrebuild 1024\nrebuild 4500\nrebuild 8999\n');
+}));
+
+test('a file that exists stays', () => inDirectory(async room => {
+    write(room, { image: imageOf(room, 10), out: 'kept', script: 'cdpatch 1\n' });
+    for (const words of [['user', 'image', 'out'], ['merge', 'image', 'image', 'out'], ['diff', 'image', 'image', '-o', 'out']]) {
+        const { status, errors } = await run(words, { cwd: room });
+        assert.deepEqual([status, errors, read(room, 'out').toString()], [2, 'cdscript: cannot make out: it exists\n', 'kept']);
+    }
+    assert.deepEqual([(await run(['apply', 'image', 'script', 'out'], { cwd: room })).out, read(room, 'out').toString()],
+        ['cdpatch: cannot make the output file\n', 'kept']);
+}));
+
+/** Wrong command lines, and what is said of each. */
+const WRONG_WORDS = {
+    '': 'a job is missing; see cdscript --help',
+    'frob': "there is no job 'frob'; see cdscript --help",
+    'list': 'list wants IMAGE; see cdscript list --help',
+    'apply a b': 'apply wants IMAGE SCRIPT OUT; see cdscript apply --help',
+    'list a b': 'list wants IMAGE; see cdscript list --help',
+    'replace a 1 b c': 'replace wants IMAGE [BLOCK OFFSET] OLD NEW; see cdscript replace --help',
+    'merge a b': 'merge wants OLD OTHER.. OUT; see cdscript merge --help',
+    'list --frob a': 'there is no option --frob; a name that begins with - stands after --',
+    'list --carry a': 'list has no option --carry; see cdscript list --help',
+    'list --base': '--base wants N',
+    'list --base 449850 a': "--base is a number from 0 to 449849, not '449850'",
+    'list --base=x a': "--base is a number from 0 to 449849, not 'x'",
+    'list --base 1 --base 1 a': '--base stands there twice',
+    'check --carry=1 a b': '--carry takes no value',
+    'find a b --encoding latin': "there is no encoding 'latin' here",
+    'find a b --encoding hex --table t': '--encoding and --table exclude each other',
+    'replace a 1 0 b c --all': '--all and a place exclude each other',
+    'replace a b c --fill 2': "--fill is two hexadecimal digits for each byte, not '2'",
+    'show a x': "a block is a number from 0 to 999999999, not 'x'",
+    'show a 1 2048': "an offset is a number from 0 to 2047, not '2048'",
+};
+
+test('wrong arguments are one line and status 2', () => inDirectory(async room => {
+    for (const [words, message] of Object.entries(WRONG_WORDS)) {
+        const { status, out, errors } = await run(words.split(' ').filter(Boolean), { cwd: room });
+        assert.deepEqual([status, out, errors], [2, '', `cdscript: ${message}\n`], words);
+    }
+}));
+
+test('options in any place, and names that begin with -', () => inDirectory(async room => {
+    write(room, { '-image': imageOf(room, 3, 75), image: imageOf(room, 3, 75) });
+    const due = 'sectors 3 mode1 3 damaged 0 tail 0\n';
+    for (const words of [['--base', '75', 'audit', 'image'], ['audit', 'image', '--base=75'], ['audit', '--base=75', '--', '-image']]) {
+        assert.deepEqual((await run(words, { cwd: room })).out, due);
+    }
+    assert.match((await run(['--version'])).out, /^cdscript \d+\.\d+\.\d+\n$/);
+    assert.match((await run(['--notices'])).out, /\n/);
+    assert.equal((await run(['list', '-h'])).out, (await run(['list', '--help'])).out);
+}));

@@ -1,0 +1,201 @@
+// The jobs that look into a disc or write scripts: what they find against other software and a naive search, and what their scripts do by
+// the program.
+
+import assert from 'node:assert/strict';
+import { existsSync } from 'node:fs';
+import { join } from 'node:path';
+import { test } from 'node:test';
+import { damaged, imageOf, inDirectory, read, run, sameFile, tool, write } from './common.mjs';
+import { TEXTS, encoded, files, makeDisc, noise } from './discs.mjs';
+
+const program = process.env.PROGRAM;
+const skip = tool('genisoimage', ['--version']) === null && 'no genisoimage';
+
+/** What a job has printed, as lines of words between tabs. */
+const rows = text => text.split('\n').slice(0, -1).map(line => line.split('\t'));
+
+/** The user data of a raw image. */
+const userOf = image => Buffer.concat(Array.from({ length: image.length / 2352 }, (_, i) => image.subarray(2352 * i + 16, 2352 * i + 2064)));
+
+/** Where a text stands in the user data, by a naive search: block and offset. */
+function places(image, wanted, base = 0) {
+    const user = userOf(image);
+    const found = [];
+    for (let at = user.indexOf(wanted); at >= 0; at = user.indexOf(wanted, at + 1)) found.push([base + Math.floor(at / 2048), at % 2048]);
+    return found;
+}
+
+/** The image that the program makes of an image by a script, all of whose patches are applied. */
+function applied(room, image, script, ...options) {
+    tool('rm', ['-f', 'applied.bin'], { cwd: room });
+    tool(program, ['apply', ...options, image, script, 'applied.bin'], { cwd: room });
+    return read(room, 'applied.bin');
+}
+
+/** That a job fails with a message that ends so, prints nothing and makes no file. */
+async function refuses(room, words, message) {
+    const { status, out, errors } = await run([...words, '-o', 'refused'], { cwd: room });
+    assert.deepEqual([status, out], [2, ''], words.join(' '));
+    assert.ok(errors.endsWith(`cdscript: ${message}\n`), errors);
+    assert.equal(existsSync(join(room, 'refused')), false);
+    assert.equal((await run(words, { cwd: room })).out, '', 'nothing is printed');
+}
+
+test('files as isoinfo lists them', { skip }, () => inDirectory(async room => {
+    await makeDisc(room);
+    const { status, out, errors } = await run(['files', 'disc.bin'], { cwd: room });
+    assert.deepEqual([status, errors], [0, '']);
+    let directory = '';
+    const due = [];
+    for (const line of tool('isoinfo', ['-R', '-l', '-i', 'disc.iso'], { cwd: room }).toString().split('\n')) {
+        const found = /^-.{9}(?: +\d+){3} +(\d+) .*\[ *(\d+) [0-9a-fA-F]+\] +(.*?) *$/.exec(line);
+        if (line.startsWith('Directory listing of ')) directory = line.slice(21);
+        else if (found) due.push(`${found[2]}\t${found[1]}\t${directory}${found[3]}`);
+    }
+    assert.equal(due.length, Object.keys(files()).length);
+    assert.deepEqual(out.trim().split('\n').sort(), due.sort());
+}));
+
+test('texts are found in their encodings, over borders of blocks too', { skip }, () => inDirectory(async room => {
+    await makeDisc(room, { first: 300 });
+    const image = read(room, 'disc.bin');
+    for (const [encoding, text] of Object.entries(TEXTS)) {
+        const due = places(image, encoded(text, encoding), 300);
+        assert.equal(due.length, encoding === 'EUC-JP' ? 2 : 1);
+        for (const words of [['--encoding', encoding], []]) {
+            const { status, out, errors } = await run(['find', 'disc.bin', text, ...words], { cwd: room });
+            assert.equal(status, 0);
+            assert.deepEqual(rows(out).map(row => [Number(row[0]), Number(row[1])]), due, encoding);
+            assert.match(errors, new RegExp(`${words.length === 0 ? `^cdscript: the text stands there in ${encoding}\n` : '^'}` +
+                `cdscript: hits ${due.length} printed ${due.length}\n$`));
+        }
+    }
+    const [block, offset, size, place, around] = rows((await run(['find', 'disc.bin', TEXTS.CP932], { cwd: room })).out)[0];
+    assert.deepEqual([Number(offset), Number(size), place], [2043, 14, '/DATA/BORDER.DAT+2043']);
+    assert.ok(around.includes(TEXTS.CP932));
+    assert.match((await run(['show', 'disc.bin', block, offset], { cwd: room })).out, /^block \d+ address \S+ mode1 edc \w{8}\nfile \/DATA\/BORDER.DAT\+2043\n/);
+}));
+
+test('what is not found, and more hits than are printed', { skip }, () => inDirectory(async room => {
+    await makeDisc(room);
+    const none = await run(['find', 'disc.bin', 'ABSENT TEXT'], { cwd: room });
+    assert.deepEqual([none.status, none.out, none.errors], [1, '', 'cdscript: hits 0 printed 0\n']);
+    const zeros = places(read(room, 'disc.bin'), Buffer.alloc(1)).length;
+    const { status, out, errors } = await run(['find', 'disc.bin', '00', '--encoding', 'hex', '--limit', '7'], { cwd: room });
+    assert.deepEqual([status, rows(out).length], [0, 7]);
+    assert.equal(errors, `cdscript: hits ${zeros} printed 7\n`);
+}));
+
+test('a table of characters', { skip }, () => inDirectory(async room => {
+    await makeDisc(room);
+    write(room, { 'game.tbl': '48=A\n454C=B\n' });
+    const { out } = await run(['find', 'disc.bin', 'AB', '--table', 'game.tbl'], { cwd: room });
+    assert.deepEqual(rows(out).map(row => row[3].replace(/\+.*/, '')), ['/DATA/DEEP/PLAIN.TXT']);
+}));
+
+test('a text is replaced at its place, filled up', { skip }, () => inDirectory(async room => {
+    await makeDisc(room);
+    const image = read(room, 'disc.bin');
+    const old = encoded(TEXTS.CP932, 'CP932');
+    const [[block, offset]] = places(image, old);
+    const fresh = encoded('姫は旅', 'CP932');
+    for (const [words, fill] of [[[], '20'], [['--fill', '8140'], '8140']]) {
+        const due = Buffer.concat([fresh, Buffer.from(fill.repeat((old.length - fresh.length) * 2 / fill.length), 'hex')]);
+        const found = await run(['replace', 'disc.bin', TEXTS.CP932, '姫は旅', ...words], { cwd: room });
+        const placed = await run(['replace', 'disc.bin', String(block), String(offset), TEXTS.CP932, '姫は旅', ...words], { cwd: room });
+        assert.deepEqual([found.status, found.out], [0, placed.out]);
+        assert.equal(found.out, `cdpatch 1\nset ${block} ${offset} ${due.toString('hex').toUpperCase()} was ${old.toString('hex').toUpperCase()}\n`);
+        write(room, { script: found.bytes });
+        const user = userOf(image);
+        due.copy(user, block * 2048 + offset);
+        sameFile(userOf(applied(room, 'disc.bin', 'script')), user, 'the user data');
+    }
+    await refuses(room, ['replace', 'disc.bin', '村人', '村人たち'], 'the new bytes are 12, the old ones 6');
+    await refuses(room, ['replace', 'disc.bin', '16', '1', 'CD002', 'CD003'], 'old bytes differ at block 16 offset 5');
+    await refuses(room, ['replace', 'disc.bin', 'ABSENT TEXT', 'X'], 'the text is not found');
+}));
+
+test('a text that stands at several places', { skip }, () => inDirectory(async room => {
+    await makeDisc(room);
+    const old = encoded(TEXTS['EUC-JP'], 'EUC-JP');
+    const due = places(read(room, 'disc.bin'), old);
+    await refuses(room, ['replace', 'disc.bin', TEXTS['EUC-JP'], '城'], 'the text stands at 2 places: give BLOCK and OFFSET of one, or --all');
+    assert.equal((await run(['replace', 'disc.bin', TEXTS['EUC-JP'], '神の国の城', '--all', '-o', 'all'], { cwd: room })).status, 2);
+    assert.equal((await run(['replace', 'disc.bin', TEXTS['EUC-JP'], '神の城', '--all', '-o', 'all'], { cwd: room })).status, 0);
+    assert.equal(read(room, 'all').toString().split('\n').length, 4);
+    assert.deepEqual(places(applied(room, 'disc.bin', 'all'), encoded('神の城', 'EUC-JP')), due);
+}));
+
+test('a file is replaced', { skip }, () => inDirectory(async room => {
+    await makeDisc(room);
+    const fresh = noise(299000, 9);
+    write(room, { fresh, longer: Buffer.alloc(300001) });
+    const { status, errors } = await run(['replace-file', 'disc.bin', '/BIG.BIN', 'fresh', '-o', 'script'], { cwd: room });
+    assert.deepEqual([status, errors], [0, 'cdscript: bytes filled up with 00: 1000\n']);
+    write(room, { 'new.bin': applied(room, 'disc.bin', 'script') });
+    tool('sh', ['-c', `"${process.execPath}" "${process.env.COMMAND}" user new.bin new.iso`], { cwd: room });
+    sameFile(tool('isoinfo', ['-R', '-x', '/BIG.BIN', '-i', 'new.iso'], { cwd: room }), Buffer.concat([fresh, Buffer.alloc(1000)]), 'the file');
+    await refuses(room, ['replace-file', 'disc.bin', '/BIG.BIN', 'longer'], '/BIG.BIN has 300000 bytes, the new file 300001');
+    write(room, { 'hurt.bin': damaged(read(room, 'disc.bin'), 0, [read(room, 'disc.bin').length / 2352 - 170, 2100]) });
+}));
+
+/** Two images with these differences in sectors of the old one: user bytes, addresses, damage that the new one has not. */
+function twoImages(room, base) {
+    const fresh = imageOf(room, 400, base);
+    const old = damaged(fresh, base, [base + 7, 2100], [base + 8, 30]);
+    write(room, { 'old.bin': fresh, 'edit.txt': `cdpatch 2\nset ${base + 3} 2040 ${'41'.repeat(16)}\nfill ${base + 100} 0 2048 00\n` +
+        `address ${base + 200} 00:02:00\nfill ${base + 200} 5 1 07\n` });
+    write(room, { 'edited.bin': applied(room, 'old.bin', 'edit.txt', '--base', String(base)), 'old.bin': old });
+}
+
+test('a script of the difference leads from the one image to the other, and its undo back', () => inDirectory(async room => {
+    twoImages(room, 5000);
+    const made = await run(['diff', 'old.bin', 'edited.bin', '-o', 'diff.txt'], { cwd: room });
+    assert.deepEqual([made.status, made.errors], [0, '']);
+    assert.match(read(room, 'diff.txt').toString(), /^cdpatch 2\nset 5003 /);
+    sameFile(applied(room, 'old.bin', 'diff.txt', '--base', '5000'), read(room, 'edited.bin'), 'the new image');
+    const undo = await run(['undo', 'old.bin', 'diff.txt', '-o', 'undo.txt'], { cwd: room });
+    assert.equal(undo.status, 1);
+    assert.equal(undo.errors, 'cdscript: blocks 5007 to 5008: its damage does not come back; its address and its user data do\n');
+    assert.equal((await run(['undo', 'edited.bin', 'edit.txt'], { cwd: room })).status, 0);
+    write(room, { 'sound.bin': imageOf(room, 400, 5000) });
+    assert.equal((await run(['undo', 'sound.bin', 'edit.txt', '-o', 'back.txt'], { cwd: room })).status, 0);
+    sameFile(applied(room, 'edited.bin', 'back.txt', '--base', '5000'), read(room, 'sound.bin'), 'the image before');
+    const fields = await run(['diff', '--fields', 'sound.bin', 'edited.bin'], { cwd: room });
+    assert.equal(fields.status, 1);
+    assert.match(fields.out, /^5003 user=\d+ edc=4 parity=\d+\n5004 .*\n5100 .*\n5200 header=3 user=1 edc=4 parity=\d+\nsectors 400 differ 4\n$/);
+}));
+
+test('what no script can say is named, and nothing is written', () => inDirectory(async room => {
+    const image = imageOf(room, 20);
+    const other = damaged(image, 0, [3, 100], [4, 2000], [9, 15], [11, 5]);
+    write(room, { image, other, tail: Buffer.concat([image, Buffer.from('a')]), tail2: Buffer.concat([image, Buffer.from('b')]) });
+    const named = 'cdscript: blocks 3 to 4: damaged in other\ncdscript: block 9: mode1 and other: a script changes only mode1\n' +
+        'cdscript: block 11: mode1 and nosync: a script changes only mode1\n';
+    await refuses(room, ['diff', 'image', 'other'], 'no script leads to that image, so none is written');
+    assert.ok((await run(['diff', 'image', 'other'], { cwd: room })).errors.startsWith(named));
+    assert.equal((await run(['diff', 'image', 'other', '--skip-damaged'], { cwd: room })).status, 2);
+    await refuses(room, ['diff', 'tail', 'tail2'], 'no script leads to that image, so none is written');
+    await refuses(room, ['diff', 'image', 'tail'], `the images have ${image.length} and ${image.length + 1} bytes, and no script changes a length`);
+    write(room, { hurt: damaged(image, 0, [3, 100]) });
+    const left = await run(['diff', 'image', 'hurt', '--skip-damaged'], { cwd: room });
+    assert.deepEqual([left.status, left.out], [1, 'cdpatch 1\n']);
+    assert.ok(left.errors.startsWith('cdscript: block 3: damaged in hurt\n'));
+}));
+
+test('a script of more patches than cdpatch takes', () => inDirectory(async room => {
+    const lines = Array.from({ length: 65536 }, (_, i) => `set ${i % 300} ${i % 2048} ${(i % 251 + 1).toString(16).padStart(2, '0')}`);
+    write(room, { image: imageOf(room, 300), script: `cdpatch 1\n${lines.join('\n')}\n` });
+    const short = await run(['apply', 'image', 'script', 'out'], { cwd: room });
+    assert.deepEqual([short.status, short.out], [2, 'script line 65537: more than 65535 patches\n']);
+    assert.equal((await run(['apply', '--long', 'image', 'script', 'out'], { cwd: room })).status, 0);
+    write(room, { one: `cdpatch 1\n${lines.slice(0, 40000).join('\n')}\n`, two: `cdpatch 1\n${lines.slice(40000).join('\n')}\n` });
+    write(room, { half: applied(room, 'image', 'one') });
+    // In order of blocks, and in one block by lines, as both halves have them.
+    sameFile(read(room, 'out'), applied(room, 'half', 'two'), 'the image');
+}));
+
+test('replace names a damaged block', () => inDirectory(async room => {
+    write(room, { image: damaged(imageOf(room, 10), 0, [4, 2100]) });
+    await refuses(room, ['replace', 'image', '4', '0', '00', '01', '--encoding', 'hex'], 'block 4 is damaged: repair it first');
+}));

@@ -1,0 +1,204 @@
+// The script between two images.
+
+import assert from 'node:assert/strict';
+import { test } from 'node:test';
+import { calls, core, diceOf, readerOf, sameBytes, someImage } from './common.mjs';
+import { localCrew, withThreads } from './crews.mjs';
+import { CHANGES, RAW, blocksOf, changedImage, countOf, patchedBy, sectorAt, sound, soundImage, textOf } from './pairs.mjs';
+
+const { compareImages, diffRange } = await core('compare.js');
+const { ScriptParts } = await core('output.js');
+
+const BASE = 33;
+const SAID = ['bytes', 'run', 'whole', 'address', 'both', 'sound'];
+
+const compared = (old, fresh, how = {}, crew = localCrew()) => compareImages(calls, crew, readerOf(old), readerOf(fresh), { base: BASE, ...how });
+
+/** Why no script makes a sector another, by the definitions; undefined if one does. */
+function whyNot(old, fresh) {
+    if (Buffer.compare(old, fresh) === 0) return undefined;
+    const kinds = [calls.kind(old), calls.kind(fresh)];
+    if (kinds.some(kind => kind !== 2)) return { why: 'kind', kinds };
+    const [minute, second, frame] = Array.from(fresh.subarray(12, 15), byte => byte.toString(16).padStart(2, '0'));
+    const named = /^\d\d$/.test(minute) && /^[0-5]\d$/.test(second) && /^([0-6]\d|7[0-4])$/.test(frame);
+    if (!named && Buffer.compare(old.subarray(12, 15), fresh.subarray(12, 15)) !== 0) return { why: 'address', kinds: [] };
+    return calls.isConsistent(fresh) ? undefined : { why: 'damaged', kinds: [] };
+}
+
+/** What has to be named, block by block. */
+const dueLeft = (old, fresh) => Array.from({ length: countOf(old) }, (_, i) => i)
+    .map(i => ({ block: BASE + i, ...whyNot(sectorAt(old, i), sectorAt(fresh, i)) })).filter(it => it.why !== undefined);
+
+async function givesNew(start) {
+    for (let seed = 0; seed < 25; seed++) {
+        const dice = diceOf(100 + seed);
+        const old = start(dice, 40, BASE, seed);
+        const whole = Array.from({ length: 40 }, (_, i) => i).filter(i => calls.kind(sectorAt(old, i)) === 2);
+        const fresh = old.slice();
+        for (const i of whole.filter(() => dice(3) === 0)) fresh.set(CHANGES[SAID[dice(SAID.length)]](sectorAt(old, i), dice), RAW * i);
+        const { script, left, changed, tail } = await compared(old, fresh);
+        assert.deepEqual([left, tail], [[], false]);
+        assert.equal(changed, whole.filter(i => Buffer.compare(sectorAt(old, i), sectorAt(fresh, i)) !== 0).length);
+        sameBytes(await patchedBy(script, old, BASE), fresh, `seed ${seed}`);
+        assert.match(textOf(script), textOf(script).includes('\naddress ') ? /^cdpatch 2\n/ : /^cdpatch 1\n/);
+        assert.equal(script.size, textOf(script).length);
+        assert.equal(script.patches, textOf(script).split('\n').length - 2);
+    }
+}
+
+async function namesTheRest(start) {
+    for (let seed = 0; seed < 25; seed++) {
+        const dice = diceOf(200 + seed);
+        const old = start(dice, 40, BASE);
+        const fresh = changedImage(dice, old, Object.keys(CHANGES));
+        const { script, left } = await compared(old, fresh);
+        const due = dueLeft(old, fresh);
+        assert.ok(due.length > 0);
+        assert.deepEqual(blocksOf(left), due);
+        assert.equal(script, null);
+    }
+}
+
+async function leavesOut(start) {
+    for (let seed = 0; seed < 25; seed++) {
+        const dice = diceOf(300 + seed);
+        const old = start(dice, 40, BASE);
+        const whole = Array.from({ length: 40 }, (_, i) => i).filter(i => calls.kind(sectorAt(old, i)) === 2);
+        const fresh = old.slice();
+        for (const i of whole.filter(() => dice(2) === 0)) {
+            fresh.set(CHANGES[[...SAID, 'damaged', 'damaged'][dice(SAID.length + 2)]](sectorAt(old, i), dice), RAW * i);
+        }
+        const due = dueLeft(old, fresh);
+        assert.ok(due.length > 0 && due.every(it => it.why === 'damaged'));
+        const { script, left } = await compared(old, fresh, { skipDamaged: true });
+        assert.deepEqual(blocksOf(left), due);
+        const wanted = fresh.slice();
+        for (const { block } of due) wanted.set(sectorAt(old, block - BASE), (block - BASE) * RAW);
+        sameBytes(await patchedBy(script, old, BASE), wanted, `seed ${seed}`);
+    }
+}
+
+test('from a sound image the script gives NEW byte for byte', () => givesNew(soundImage));
+test('from a damaged image the script gives NEW byte for byte', () => givesNew(someImage));
+test('from a sound image: what no script can say is named, and there is no script', () => namesTheRest(soundImage));
+test('from a damaged image: what no script can say is named, and there is no script', () => namesTheRest(someImage));
+test('from a sound image: damaged sectors of NEW are left out if that is asked for, and stay as they are', () => leavesOut(soundImage));
+test('from a damaged image: damaged sectors of NEW are left out if that is asked for, and stay as they are', () => leavesOut(someImage));
+
+test('damage of NEW is never written into good sectors of OLD', async () => {
+    const dice = diceOf(7);
+    const old = soundImage(dice, 50, BASE);
+    const fresh = old.slice();
+    for (let i = 0; i < 50; i += 2) fresh.set(CHANGES.damaged(sectorAt(old, i), dice), RAW * i);
+    assert.equal((await compared(old, fresh)).script, null);
+    const { script } = await compared(old, fresh, { skipDamaged: true });
+    assert.equal(textOf(script), 'cdpatch 1\n');
+    sameBytes(await patchedBy(script, old, BASE), old, 'OLD');
+});
+
+test('the same damage in both is no difference', async () => {
+    const dice = diceOf(8);
+    const old = someImage(dice, 40, BASE);
+    const { script, left, changed } = await compared(old, old.slice());
+    assert.deepEqual([textOf(script), left, changed], ['cdpatch 1\n', [], 0]);
+});
+
+test('a damaged sector of OLD is rebuilt first, and nothing more if only its damage goes', async () => {
+    const user = Uint8Array.from({ length: 2048 }, (_, i) => i);
+    const old = sound(BASE, user);
+    old[2100] ^= 5;
+    assert.equal(textOf((await compared(old, sound(BASE, user))).script), `cdpatch 1\nrebuild ${BASE}\n`);
+    const other = user.slice();
+    other[5] = 0xAB;
+    const both = calls.encode(Uint8Array.of(0x11, 0x22, 0x33), other);
+    assert.equal(textOf((await compared(old, both)).script), `cdpatch 2\nrebuild ${BASE}\naddress ${BASE} 11:22:33\nset ${BASE} 5 AB was 05\n`);
+});
+
+test('runs with at most eight equal bytes between them are one patch', async () => {
+    const linesFor = async (...places) => {
+        const user = new Uint8Array(2048);
+        for (const place of places) user[place] = 0xA5;
+        return textOf((await compared(sound(BASE, new Uint8Array(2048)), sound(BASE, user))).script).split('\n').slice(1, -1);
+    };
+    assert.deepEqual(await linesFor(0), [`set ${BASE} 0 A5 was 00`]);
+    assert.deepEqual(await linesFor(2047), [`set ${BASE} 2047 A5 was 00`]);
+    assert.deepEqual(await linesFor(3, 12), [`set ${BASE} 3 A5${'00'.repeat(8)}A5 was ${'00'.repeat(10)}`]);
+    assert.deepEqual(await linesFor(3, 13), [`set ${BASE} 3 A5 was 00`, `set ${BASE} 13 A5 was 00`]);
+    assert.deepEqual(await linesFor(3, 12, 2046, 2047), [`set ${BASE} 3 A5${'00'.repeat(8)}A5 was ${'00'.repeat(10)}`, `set ${BASE} 2046 A5A5 was 0000`]);
+});
+
+test('another tail and another length', async () => {
+    const old = soundImage(diceOf(9), 5, BASE, 20);
+    const fresh = old.slice();
+    fresh[5 * RAW + 19] ^= 1;
+    const { script, left, tail, changed } = await compared(old, fresh, { skipDamaged: true });
+    assert.deepEqual([script, left, tail, changed], [null, [], true, 0]);
+    const fault = { name: 'LengthFault', message: `the images have ${old.length} and ${old.length - 1} bytes, and no script changes a length` };
+    await assert.rejects(compared(old, old.subarray(0, old.length - 1)), fault);
+});
+
+test('ranges of 1 to 4096 sectors agree, and threads agree with one process', async () => {
+    const dice = diceOf(10);
+    const old = someImage(dice, 300, BASE);
+    const fresh = changedImage(dice, old, [...SAID, 'damaged'], 2);
+    const due = await compared(old, fresh, { skipDamaged: true, step: 300 });
+    const joined = ({ script, ...rest }) => ({ ...rest, ...script, pieces: script && textOf(script) });
+    for (const step of [1, 2, 7, 128, 299, 4096]) assert.deepEqual(joined(await compared(old, fresh, { skipDamaged: true, step })), joined(due));
+    await withThreads(3, async crew => {
+        for (const step of [1, 50, 4096]) assert.deepEqual(joined(await compared(old, fresh, { skipDamaged: true, step }, crew)), joined(due));
+    });
+});
+
+test('more patches than cdpatch takes need --long', async () => {
+    const old = soundImage(diceOf(11), 350, BASE);
+    const fresh = old.slice();
+    let patches = 0;
+    for (let i = 0; patches < 65536; i++) {
+        const user = sectorAt(old, i).slice(16, 2064);
+        for (let at = 0; at < 2048 && patches < 65536; at += 10, patches++) user[at] ^= 1;
+        fresh.set(sound(BASE + i, user), RAW * i);
+    }
+    const more = await compared(old, fresh);
+    assert.deepEqual([more.script.patches, more.script.long], [65536, true]);
+    const scriptOf = count => {
+        const parts = new ScriptParts();
+        parts.push({ text: new Uint8Array(1), patches: count, version: 1 });
+        return parts.script(calls);
+    };
+    assert.deepEqual([0, 1, 65535, 65536].map(count => scriptOf(count).long), [false, false, false, true]);
+});
+
+test('a script of more bytes than cdpatch takes needs --long', () => {
+    const sizedScript = size => {
+        const parts = new ScriptParts();
+        parts.push({ text: new Uint8Array(size - 'cdpatch 1\n'.length), patches: 1, version: 1 });
+        return parts.script(calls);
+    };
+    assert.equal(sizedScript(67108864).size, 67108864);
+    assert.deepEqual([67108863, 67108864, 67108865].map(size => sizedScript(size).long), [false, false, true]);
+});
+
+test('a script that would not fit in memory is refused', () => {
+    const parts = new ScriptParts();
+    const text = new Uint8Array(1 << 20);
+    for (let i = 0; i < 1024; i++) parts.push({ text, patches: 1, version: 1 });
+    assert.throws(() => parts.push({ text: text.subarray(0, 1), patches: 1, version: 1 }),
+        { name: 'LengthFault', message: 'the script would have more than 1073741824 bytes: too much differs' });
+});
+
+test('lines that the module does not take, or that give other sectors, are not given out', async () => {
+    const dice = diceOf(13);
+    const old = soundImage(dice, 6, BASE);
+    const fresh = changedImage(dice, old, ['bytes'], 1);
+    const wrongs = [
+        { applyRead: () => ({ result: 0, block: 0, offset: 0 }) },
+        { applyRead: () => ({ result: 5, block: 0, offset: 0 }) },
+        { readLine: () => 5 },
+        { blockRead: () => BASE + 6 },
+    ];
+    for (const wrong of wrongs) {
+        const broken = Object.assign(Object.create(calls), wrong);
+        assert.throws(() => diffRange(broken, old, fresh, BASE), { name: 'WrongLines' });
+    }
+    assert.ok(diffRange(calls, old, fresh, BASE).text.length > 0);
+});

@@ -1,0 +1,33 @@
+// What the tests of jobs share: crews of this thread and of others, and answers of jobs.
+
+import { Worker } from 'node:worker_threads';
+import { calls, core, module } from './common.mjs';
+
+const { Crew, LocalHand } = await core('jobs.js');
+
+/** A crew of this thread. */
+export const localCrew = () => new Crew([new LocalHand(calls)]);
+
+/** A crew of threads, which `use` has until it ends. */
+export async function withThreads(count, use) {
+    const workers = Array.from({ length: count }, () => new Worker(new URL('worker.mjs', import.meta.url), { workerData: module }));
+    try {
+        return await use(new Crew(workers.map(threadHand)));
+    } finally {
+        await Promise.all(workers.map(worker => worker.terminate()));
+    }
+}
+
+function threadHand(worker) {
+    const hand = { post: (message, transfer) => worker.postMessage(message, transfer) };
+    worker.on('message', reply => hand.onreply(reply));
+    worker.on('error', error => hand.onfault(error));
+    return hand;
+}
+
+/** The answers of a job, in the order in which they are taken. */
+export async function answersOf(crew, job, readers, args, how) {
+    const answers = [];
+    await crew.share(job, readers, args, how, answer => { answers.push(answer); });
+    return answers;
+}

@@ -1,0 +1,195 @@
+// How jobs are shared out: ranges, hands, threads, order, what ends a job.
+
+import assert from 'node:assert/strict';
+import { test } from 'node:test';
+import { calls, core, diceOf, readerOf, sameBytes, someImage } from './common.mjs';
+import { answersOf, localCrew, withThreads } from './crews.mjs';
+
+const { Crew, JOBS, LocalHand, serving, transfersOf } = await core('jobs.js');
+const { joinSurveys, surveyRange } = await core('survey.js');
+const { joinBases } = await core('image.js');
+const { addToRuns } = await core('runs.js');
+const { findIn, joinFound, sectorsBeyond } = await core('find.js');
+
+const BASE = 40;
+const image = someImage(diceOf(21), 4200, BASE, 9);
+const small = image.subarray(0, 50 * 2352 + 9);
+const bytesOf = digits => Uint8Array.from(Buffer.from(digits, 'hex'));
+const wanted = [[bytesOf('07'), bytesOf('ff')], [bytesOf('ff'), bytesOf('00')]];
+
+/** What every job gives by ranges of so many sectors, joined. */
+async function joined(crew, bytes, step) {
+    const how = { base: BASE, step };
+    const parts = await answersOf(crew, 'user', [readerOf(bytes)], {}, how);
+    const user = parts.flatMap(part => [...part.user]);
+    const others = [];
+    for (const run of parts.flatMap(part => part.others)) addToRuns(others, run);
+    const iso = readerOf(Uint8Array.from(user));
+    const found = await answersOf(crew, 'find', [readerOf(bytes)], { wanted, limit: 50 }, { ...how, beyond: sectorsBeyond(wanted) });
+    return {
+        survey: joinSurveys(await answersOf(crew, 'survey', [readerOf(bytes)], {}, how), BASE),
+        bases: joinBases(await answersOf(crew, 'bases', [readerOf(bytes)], {}, { step })),
+        found: joinFound(found, 50),
+        user,
+        others,
+        raw: (await answersOf(crew, 'raw', [iso], {}, { ...how, units: [2048] })).flatMap(part => [...part]),
+    };
+}
+
+test('ranges of 1 to 4096 sectors agree in every job', async () => {
+    const due = await joined(localCrew(), small, 50);
+    assert.deepEqual(due.survey, surveyRange(calls, small, BASE));
+    assert.deepEqual(due.found, findIn(null, small, BASE, { wanted, count: 50, limit: 50 }));
+    assert.ok(due.found.count > 3 && due.bases.base === BASE);
+    for (const step of [1, 2, 7, 49, 51, 4096]) assert.deepEqual(await joined(localCrew(), small, step), due, `${step}`);
+    const [whole, ...parts] = await Promise.all([4096, 1, 1024].map(step => answersOf(localCrew(), 'survey', [readerOf(image)], {}, { base: BASE, step })));
+    for (const part of parts) sameBytes(joinSurveys(part, BASE).records, joinSurveys(whole, BASE).records, 'records');
+});
+
+test('threads agree with one process', async () => {
+    const due = await joined(localCrew(), small, 50);
+    await withThreads(3, async crew => {
+        for (const step of [1, 3, 16, 4096]) assert.deepEqual(await joined(crew, small, step), due, `${step}`);
+        const found = await Promise.all([2, 5].map(step => joined(crew, small, step)));
+        assert.deepEqual(found, [due, due], 'two jobs at the same time');
+    });
+});
+
+test('user data and raw sectors are those of the program', async () => {
+    const [{ user, others }] = await answersOf(localCrew(), 'user', [readerOf(small)], {}, { base: BASE, step: 50 });
+    for (let i = 0; i < 50; i++) sameBytes(user.subarray(2048 * i, 2048 * i + 2048), small.subarray(2352 * i + 16, 2352 * i + 2064), `${i}`);
+    const kinds = Array.from({ length: 50 }, (_, i) => calls.kind(small.subarray(2352 * i, 2352 * i + 2352)));
+    const due = kinds.flatMap((kind, i) => kind === 2 ? [] : [[BASE + i, kind]]);
+    assert.ok(due.length > 1);
+    assert.deepEqual(others.flatMap(({ first, last, kind }) => Array.from({ length: last - first + 1 }, (_, i) => [first + i, kind])), due);
+    const [raw] = await answersOf(localCrew(), 'raw', [readerOf(user)], {}, { base: 4300, units: [2048] });
+    for (let i = 0; i < 50; i++) {
+        const sector = calls.encode(calls.address(4300 + i), user.subarray(2048 * i, 2048 * i + 2048));
+        sameBytes(raw.subarray(2352 * i, 2352 * i + 2352), sector, `sector ${i}`);
+    }
+    await assert.rejects(answersOf(localCrew(), 'raw', [readerOf(user)], {}, { base: 449849, units: [2048] }), /block 449850 has no address/);
+});
+
+/** A hand that replies when it is told to, to the last range that it has first. */
+class SlowHand {
+    constructor() {
+        this.messages = [];
+        this.serve = serving(calls);
+    }
+
+    post(message) {
+        this.messages.push(message);
+    }
+
+    reply() {
+        this.onreply(this.serve(this.messages.pop()));
+    }
+}
+
+const turn = () => new Promise(resolve => { setImmediate(resolve); });
+
+test('answers are taken in the order of the ranges, and at most two ranges a hand are on their way', async () => {
+    const hands = [new SlowHand(), new SlowHand()];
+    const dice = diceOf(22);
+    const [taken, done] = [[], []];
+    let most = 0;
+    const job = new Crew(hands).share('survey', [readerOf(small)], {}, { base: BASE, step: 3, progress: (n, all) => done.push([n, all]) },
+        async answer => { taken.push(answer.block); await turn(); });
+    let ended = false;
+    job.then(() => { ended = true; });
+    for (let i = 0; !ended; i++) {
+        assert.ok(i < 10000);
+        await turn();
+        most = Math.max(most, ...hands.map(hand => hand.messages.length));
+        const busy = hands.filter(hand => hand.messages.length > 0);
+        if (busy.length > 0 && dice(3) > 0) busy[dice(busy.length)].reply();
+    }
+    assert.equal(most, 2);
+    assert.deepEqual(taken, Array.from({ length: 17 }, (_, i) => BASE + 3 * i));
+    assert.deepEqual(done, Array.from({ length: 17 }, (_, i) => [Math.min(3 * i + 3, 50), 50]));
+});
+
+test('a job that is ended says so, and the crew goes on with the next one', async () => {
+    const crew = localCrew();
+    const signal = { aborted: false };
+    const taken = [];
+    const job = crew.share('survey', [readerOf(small)], {}, { step: 2, signal }, answer => { signal.aborted = taken.push(answer) === 3; });
+    await assert.rejects(job, { name: 'JobAborted' });
+    assert.equal(taken.length, 3);
+    await withThreads(2, async threads => {
+        const first = threads.share('survey', [readerOf(small)], {}, { step: 1, signal: { get aborted() { return taken.length > 5; } } }, it => { taken.push(it); });
+        await assert.rejects(first, { name: 'JobAborted' });
+        assert.deepEqual(joinSurveys(await answersOf(threads, 'survey', [readerOf(small)], {}, { base: BASE, step: 4 }), BASE), surveyRange(calls, small, BASE));
+    });
+});
+
+test('a read that fails ends the job, whichever it is', async () => {
+    const reads = 17;
+    for (let fault = 0; fault < reads; fault++) {
+        const reader = readerOf(small);
+        const failing = { size: small.length, read: (at, length) => {
+            if (reader.reads.length === fault) throw new Error(`no read ${fault}`);
+            return reader.read(at, length);
+        } };
+        let taken = 0;
+        await assert.rejects(localCrew().share('survey', [failing], {}, { step: 3 }, () => { taken += 1; }), { message: `no read ${fault}` });
+        assert.ok(taken <= fault);
+    }
+});
+
+test('an image that is shorter than its size is an error, and short reads are none', async () => {
+    const due = await answersOf(localCrew(), 'survey', [readerOf(small)], {}, { step: 9 });
+    assert.deepEqual(await answersOf(localCrew(), 'survey', [readerOf(small, 1000)], {}, { step: 9 }), due);
+    for (const end of [0, 1, 2352 * 9, 2352 * 50 - 1]) {
+        const shrunk = { ...readerOf(small.subarray(0, end)), size: small.length };
+        await assert.rejects(answersOf(localCrew(), 'survey', [shrunk], {}, { step: 9 }), { name: 'ImageEnded', message: `the image ends at byte ${end}` });
+    }
+    await assert.rejects(answersOf(localCrew(), 'survey', [readerOf(small), readerOf(image)], {}, {}), /different lengths/);
+});
+
+test('what a job or its taker throws ends it', async () => {
+    JOBS.throwing = (_, [bytes], first) => { if (first === 6) throw new RangeError(`at ${first}, ${bytes.length}`); };
+    await assert.rejects(answersOf(localCrew(), 'throwing', [readerOf(small)], {}, { step: 3 }), { name: 'RangeError', message: 'at 6, 7056' });
+    delete JOBS.throwing;
+    await assert.rejects(answersOf(localCrew(), 'throwing', [readerOf(small)], {}, {}), { name: 'TypeError' });
+    await withThreads(1, async crew => {
+        await assert.rejects(answersOf(crew, 'throwing', [readerOf(small)], {}, {}), { name: 'TypeError' });
+        await assert.rejects(crew.share('user', [readerOf(small)], {}, { step: 1 }, () => Promise.reject(new Error('disk full'))), /disk full/);
+    });
+});
+
+test('a worker that ends is an error of this job and of the next', async () => {
+    const hand = new SlowHand();
+    const crew = new Crew([hand, new LocalHand(calls)]);
+    const job = answersOf(crew, 'user', [readerOf(small)], {}, { step: 3 });
+    await turn();
+    hand.onfault(new Error('the worker has ended'));
+    await assert.rejects(job, /the worker has ended/);
+    await assert.rejects(answersOf(crew, 'user', [readerOf(small)], {}, {}), /the worker has ended/);
+});
+
+test('ranges that can not be posted are an error of the job', async () => {
+    const hand = { post: () => { throw new TypeError('no such memory'); } };
+    await assert.rejects(answersOf(new Crew([hand]), 'user', [readerOf(small)], {}, { step: 3 }), { name: 'TypeError', message: 'no such memory' });
+    await turn();
+});
+
+test('bytes are given to a worker with their memory, or else copied', async () => {
+    const given = [];
+    const hand = { post: (message, transfer) => { given.push([message.pieces[0], ...transfer]); hand.onreply({ number: message.number, answer: 1 }); } };
+    const own = image.slice(0, 2352);
+    await answersOf(new Crew([hand]), 'user', [{ size: own.length, read: async () => own }], {}, {});
+    await answersOf(new Crew([hand]), 'user', [readerOf(small)], {}, { step: 50 });
+    assert.equal(given[0][1], own.buffer);
+    assert.equal(given[1][1], given[1][0].buffer);
+    assert.notEqual(given[1][1], small.buffer);
+    sameBytes(given[1][0], small.subarray(0, 50 * 2352), 'the copy');
+    const views = [new Uint8Array(3), new Float64Array(2)];
+    assert.deepEqual(transfersOf({ answer: views[0] }), [views[0].buffer]);
+    assert.deepEqual(transfersOf({ answer: { a: views, b: views[0], c: 5, d: [{ e: views[1] }] } }), views.map(it => it.buffer));
+    assert.deepEqual(transfersOf({ fault: { name: 'Error', message: '' } }), []);
+});
+
+test('an image without sectors has no answer', async () => {
+    assert.deepEqual(await answersOf(localCrew(), 'survey', [readerOf(small.subarray(0, 2351))], {}, {}), []);
+});

@@ -1,0 +1,161 @@
+// The repair of an image by other dumps.
+
+import assert from 'node:assert/strict';
+import { test } from 'node:test';
+import { calls, core, diceOf, joinedPieces, readerOf, sameBytes } from './common.mjs';
+import { localCrew, withThreads } from './crews.mjs';
+import { CHANGES, RAW, blocksOf, changedImage, countOf, sectorAt, sound, soundImage } from './pairs.mjs';
+
+const { mergeImages } = await core('merge.js');
+
+const BASE = 500;
+const imageOf = (bytes, base = BASE) => ({ name: 'image.bin', reader: readerOf(bytes), base, addressed: base, sectors: countOf(bytes), tail: bytes.length % RAW });
+const merged = (images, how = {}, crew = localCrew()) => mergeImages(crew, imageOf(images[0]), images.slice(1).map(it => imageOf(it)), how);
+
+const ownAddress = (sector, block) => Buffer.compare(sector.subarray(12, 15), calls.address(block)) === 0;
+
+/** What has to come of images, sector by sector. */
+function due([old, ...others]) {
+    const out = old.slice();
+    const found = { taken: [], damaged: [], disputed: [], different: others.map(() => 0) };
+    for (let i = 0; i < countOf(old); i++) {
+        const [here, there] = [sectorAt(old, i), others.map(other => sectorAt(other, i))];
+        if (calls.isConsistent(here)) {
+            there.forEach((it, k) => { found.different[k] += Number(calls.isConsistent(it) && Buffer.compare(it, here) !== 0); });
+            continue;
+        }
+        const fit = there.map((_, k) => k).filter(k => calls.isConsistent(there[k]) && ownAddress(there[k], BASE + i));
+        if (fit.length > 0) {
+            out.set(there[fit[0]], RAW * i);
+            found.taken.push({ block: BASE + i, other: fit[0] });
+            if (fit.some(k => Buffer.compare(there[k], there[fit[0]]) !== 0)) found.disputed.push({ block: BASE + i });
+        } else if ([here, ...there].some(it => calls.kind(it) === 2)) {
+            found.damaged.push({ block: BASE + i });
+        }
+    }
+    return { out, found };
+}
+
+const foundOf = ({ taken, damaged, disputed, different }) =>
+    ({ taken: blocksOf(taken), damaged: blocksOf(damaged), disputed: blocksOf(disputed), different });
+
+/** Dumps of one disc: each damaged in its own places, and in some that all share; with sectors that lost their sync, and audio. */
+function someDumps(dice, count, sectors) {
+    const disc = soundImage(dice, sectors, BASE, 50);
+    for (let i = 0; i < sectors; i++) {
+        if (dice(15) === 0) disc.set(CHANGES[['audio', 'damaged', 'mode'][dice(3)]](sectorAt(disc, i), dice), RAW * i);
+    }
+    return Array.from({ length: count }, () => changedImage(dice, disc, ['damaged', 'damaged', 'sync', 'mode', 'audio'], 4));
+}
+
+test('merge takes what is consistent with its own address, and never changes a sound sector', async () => {
+    let [taken, damaged] = [0, 0];
+    for (let seed = 0; seed < 40; seed++) {
+        const images = someDumps(diceOf(seed), 2 + seed % 3, 60);
+        const { pieces, sectors, ...rest } = await merged(images);
+        const { out, found } = due(images);
+        assert.deepEqual(foundOf(rest), found);
+        assert.equal(sectors, 60);
+        const made = joinedPieces(images[0], pieces);
+        sameBytes(made, out, `seed ${seed}`);
+        for (let i = 0; i < 60; i++) {
+            if (calls.isConsistent(sectorAt(images[0], i))) sameBytes(sectorAt(made, i), sectorAt(images[0], i), `a sound sector, ${i}`);
+        }
+        [taken, damaged] = [taken + found.taken.length, damaged + found.damaged.length];
+    }
+    assert.ok(taken > 300 && damaged > 50, `${taken} ${damaged}`);
+});
+
+test('a sector that is consistent but has the address of another block is not taken', async () => {
+    const image = soundImage(diceOf(50), 4, BASE);
+    const old = image.slice();
+    for (const i of [1, 2]) old.set(CHANGES.damaged(sectorAt(image, i), diceOf(i)), RAW * i);
+    const other = image.slice();
+    other.set(sound(BASE + 1, new Uint8Array(2048)), RAW * 2);
+    const { pieces, taken, damaged } = await merged([old, other]);
+    assert.deepEqual([blocksOf(taken), blocksOf(damaged)], [[{ block: BASE + 1, other: 0 }], [{ block: BASE + 2 }]]);
+    const due2 = old.slice();
+    due2.set(sectorAt(image, 1), RAW);
+    sameBytes(joinedPieces(old, pieces), due2, 'the repaired image');
+});
+
+test('no sector of a damaged other image is taken, and the same damage in all is counted', async () => {
+    const image = soundImage(diceOf(51), 6, BASE);
+    const old = image.slice();
+    for (const i of [1, 3, 4]) old.set(CHANGES.damaged(sectorAt(image, i), diceOf(i)), RAW * i);
+    const other = old.slice();
+    other.set(CHANGES.damaged(sectorAt(image, 3), diceOf(99)), RAW * 3);
+    const { pieces, taken, damaged } = await merged([old, other]);
+    assert.deepEqual([taken, damaged], [[], [{ first: BASE + 1, last: BASE + 1 }, { first: BASE + 3, last: BASE + 4 }]]);
+    assert.deepEqual(pieces, [{ from: 0, to: old.length }]);
+});
+
+test('two other images that are sound and differ: the first is taken, and the block named', async () => {
+    const image = soundImage(diceOf(52), 3, BASE);
+    const old = image.slice();
+    old.set(CHANGES.damaged(sectorAt(image, 1), diceOf(1)), RAW);
+    const [one, two] = [1, 2].map(value => { const it = image.slice(); it.set(sound(BASE + 1, new Uint8Array(2048).fill(value)), RAW); return it; });
+    const { pieces, taken, disputed } = await merged([old, one, two, one]);
+    assert.deepEqual([taken, disputed], [[{ first: BASE + 1, last: BASE + 1, other: 0 }], [{ first: BASE + 1, last: BASE + 1 }]]);
+    sameBytes(joinedPieces(old, pieces), one, 'the first');
+    assert.deepEqual((await merged([old, one, one])).disputed, []);
+});
+
+test('sound sectors that differ are counted, and above a hundredth of all the image is refused', async () => {
+    const image = soundImage(diceOf(53), 300, BASE);
+    const other = image.slice();
+    for (let i = 0; i < 3; i++) other.set(CHANGES.bytes(sectorAt(image, 50 * i), diceOf(i)), RAW * 50 * i);
+    const few = await merged([image, image, other], { step: 100 });
+    assert.deepEqual([few.different, few.pieces], [[0, 3], [{ from: 0, to: image.length }]]);
+    other.set(CHANGES.bytes(sectorAt(image, 299), diceOf(9)), RAW * 299);
+    const many = await merged([image, image, other], { step: 100 });
+    assert.deepEqual([many.different, many.pieces, many.sectors], [[0, 4], null, 300]);
+});
+
+test('a shifted dump is refused', async () => {
+    const image = soundImage(diceOf(54), 301, BASE);
+    const old = changedImage(diceOf(55), image.slice(0, 300 * RAW), ['damaged'], 9);
+    const { pieces, taken, different } = await merged([old, image.slice(RAW)]);
+    assert.deepEqual([pieces, taken], [null, []]);
+    assert.ok(different[0] > 200);
+});
+
+test('another length and another base are refused', async () => {
+    const image = soundImage(diceOf(56), 5, BASE);
+    const lengths = `image.bin has ${5 * RAW} bytes and image.bin ${4 * RAW}: they are not dumps of one disc`;
+    await assert.rejects(merged([image, image, image.slice(0, 4 * RAW)]), { name: 'LengthFault', message: lengths });
+    const other = { ...imageOf(image), name: 'other.bin', base: BASE + 1 };
+    const message = `image.bin begins with block ${BASE}, other.bin with block ${BASE + 1}: they are not the same part of a disc`;
+    await assert.rejects(mergeImages(localCrew(), imageOf(image), [other], {}), { name: 'BaseFault', message });
+});
+
+test('merge by ranges of 1 to 4096 sectors, and by threads, is the same', async () => {
+    const images = someDumps(diceOf(57), 3, 200);
+    const shown = ({ pieces, ...rest }) => ({ ...rest, out: Buffer.compare(joinedPieces(images[0], pieces), due(images).out) });
+    const one = shown(await merged(images));
+    assert.equal(one.out, 0);
+    for (const step of [1, 2, 13, 199, 4096]) assert.deepEqual(shown(await merged(images, { step })), one);
+    await withThreads(3, async crew => {
+        for (const step of [1, 30, 4096]) assert.deepEqual(shown(await merged(images, { step }, crew)), one);
+    });
+});
+
+test('blocks above the last address are not repaired', async () => {
+    const image = soundImage(diceOf(58), 2, 449849);
+    const old = image.slice();
+    for (const i of [0, 1]) old.set(CHANGES.damaged(sectorAt(image, i), diceOf(i)), RAW * i);
+    const { taken, damaged } = await mergeImages(localCrew(), imageOf(old, 449849), [imageOf(image, 449849)], {});
+    assert.deepEqual([taken, damaged], [[{ first: 449849, last: 449849, other: 0 }], [{ first: 449850, last: 449850 }]]);
+});
+
+test('an image that begins before block 0 is repaired by the addresses that it has', async () => {
+    const image = Uint8Array.from([...soundImage(diceOf(59), 2, 7000), ...soundImage(diceOf(60), 4, 0)]);
+    const old = image.slice();
+    for (const i of [0, 3]) old.set(CHANGES.damaged(sectorAt(image, i), diceOf(i)), RAW * i);
+    const early = bytes => ({ ...imageOf(bytes, 0), addressed: -2 });
+    const { pieces, taken, damaged } = await mergeImages(localCrew(), early(old), [early(image)], {});
+    assert.deepEqual([taken, damaged], [[{ first: 3, last: 3, other: 0 }], [{ first: 0, last: 0 }]]);
+    const due3 = old.slice();
+    due3.set(sectorAt(image, 3), RAW * 3);
+    sameBytes(joinedPieces(old, pieces), due3, 'the repaired image');
+});

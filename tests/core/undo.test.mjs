@@ -1,0 +1,144 @@
+// The script that takes another one back.
+
+import assert from 'node:assert/strict';
+import { test } from 'node:test';
+import { calls, core, decoded, diceOf, encoded, joinedPieces, readerOf, sameBytes, someImage } from './common.mjs';
+import { localCrew } from './crews.mjs';
+import { RAW, blocksOf, changedImage, countOf, patchedBy, sectorAt, sound, soundImage, textOf } from './pairs.mjs';
+
+const { undoScript } = await core('undo.js');
+const { compareImages } = await core('compare.js');
+const { Refusal, patchesOf } = await core('script.js');
+const { applyPatches } = await core('patch.js');
+
+const BASE = 60;
+const undone = (image, script, how = {}) => undoScript(calls, readerOf(image), Array.isArray(script) ? script : [encoded(script)], { base: BASE, ...how });
+
+/** The image after a script, with what was refused. */
+async function after(image, script, carry) {
+    const patches = await patchesOf(calls, [encoded(script)]);
+    const made = await applyPatches(calls, readerOf(image), patches, BASE, carry);
+    return { image: joinedPieces(image, made.pieces), text: decoded(made.text) };
+}
+
+/** Patches of every verb that overlap, with `was` or not, on blocks that are there or not. */
+function someScript(dice, count, blocks) {
+    const hex = size => Buffer.from(Uint8Array.from({ length: size }, () => dice(256))).toString('hex');
+    const lines = Array.from({ length: count }, () => {
+        const [block, offset] = [BASE - 1 + dice(blocks + 2), dice(2048)];
+        const verb = dice(8);
+        if (verb % 7 === 0) return `rebuild ${block}`;
+        if (verb === 1) return `address ${block} 0${dice(10)}:${dice(6)}${dice(10)}:0${dice(10)}`;
+        if (verb === 2) return `fill ${block} ${offset} ${1 + dice(4096)} ${hex(1)}`;
+        if (verb === 3) return `set ${block} ${offset} ${hex(2)} was 0000`;
+        return `set ${block} ${offset} ${hex(1 + dice(dice(4) === 0 ? 4096 : 20))}`;
+    });
+    return `cdpatch 2\n${lines.join('\n')}\n`;
+}
+
+/** The blocks in which images differ. */
+const differing = (a, b) => Array.from({ length: countOf(a) }, (_, i) => i)
+    .filter(i => Buffer.compare(sectorAt(a, i), sectorAt(b, i)) !== 0).map(i => BASE + i);
+
+for (const carry of [false, true]) {
+    test(`any script on any image ${carry ? 'with' : 'without'} carry: undo gives the image back, but for the damage that it names`, async () => {
+        let [back, named] = [0, 0];
+        for (let seed = 0; seed < 60; seed++) {
+            const dice = diceOf(seed);
+            const image = someImage(dice, 25, BASE, 7);
+            const script = someScript(dice, 12, 25);
+            const patched = await after(image, script, carry);
+            const { script: undo, patched: { text }, left } = await undone(image, script, { carry });
+            assert.equal(decoded(text), patched.text);
+            const restored = await patchedBy(undo, patched.image, BASE, carry);
+            const lost = differing(image, restored);
+            assert.deepEqual(blocksOf(left).map(it => it.block), lost);
+            for (const { block, why } of blocksOf(left)) {
+                const [before, now] = [image, restored].map(it => sectorAt(it, block - BASE));
+                assert.ok(!calls.isConsistent(before) && why === 'damaged');
+                sameBytes(now.subarray(0, 2064), before.subarray(0, 2064), `header and user data of block ${block}`);
+            }
+            back += differing(image, patched.image).length;
+            named += lost.length;
+        }
+        assert.ok(back > 200 && named >= 8, `${back} ${named}`);
+    });
+}
+
+test('carried damage comes back to the byte', async () => {
+    const image = sound(BASE, new Uint8Array(2048).fill(3));
+    image[700] ^= 4;
+    image[2200] ^= 9;
+    const script = `cdpatch 2\nset ${BASE} 10 414243\naddress ${BASE} 00:00:01\nfill ${BASE} 2000 48 FF\n`;
+    const patched = await after(image, script, true);
+    assert.equal(patched.text.split('\n')[3], 'applied 3 refused 0');
+    const { script: undo, left } = await undone(image, script, { carry: true });
+    assert.deepEqual(left, []);
+    sameBytes(await patchedBy(undo, patched.image, BASE, true), image, 'the image');
+});
+
+test('a rebuild of damage is named, and one of a sound sector is nothing', async () => {
+    const image = soundImage(diceOf(3), 3, BASE);
+    image[2300] ^= 1;
+    const { script, left } = await undone(image, `cdpatch 1\nrebuild ${BASE}\nrebuild ${BASE + 1}\nset ${BASE} 0 55\n`);
+    assert.deepEqual(left, [{ first: BASE, last: BASE, why: 'damaged', kinds: [] }]);
+    assert.equal(textOf(script), `cdpatch 1\nset ${BASE} 0 ${Buffer.from(image.subarray(16, 17)).toString('hex').toUpperCase()} was 55\n`);
+});
+
+test('patches of one byte after the other are taken back to the first old byte', async () => {
+    const image = Buffer.concat([0, 1].map(i => sound(BASE + i, new Uint8Array(2048).fill(0x10 + i))));
+    const script = `cdpatch 1\nset ${BASE} 2047 AABB\nset ${BASE} 2047 CC was AA\nset ${BASE + 1} 0 DD\nset ${BASE} 2046 EE\nset ${BASE} 2046 EF\n`;
+    const { script: undo, patched } = await undone(image, script);
+    assert.equal(textOf(undo), `cdpatch 1\nset ${BASE} 2046 1010 was EFCC\nset ${BASE + 1} 0 11 was DD\n`);
+    assert.equal(patched.status, 0);
+});
+
+test('patches that overlap are taken back from the last to the first', async () => {
+    const image = sound(BASE, new Uint8Array(2048));
+    const script = `cdpatch 1\nset ${BASE} 0 AAAA was 0000\nset ${BASE} 1 BBBB was AA00\nset ${BASE} 0 CC was AA\n`;
+    const patched = await after(image, script, false);
+    const { script: undo, left } = await undone(image, script);
+    assert.deepEqual(left, []);
+    sameBytes(await patchedBy(undo, patched.image, BASE), image, 'the image');
+});
+
+test('undo takes back only what was applied', async () => {
+    const image = soundImage(diceOf(4), 2, BASE);
+    const { script, patched } = await undone(image, `cdpatch 1\nset ${BASE} 0 01 was 77\nset ${BASE + 9} 0 01\nset ${BASE + 1} 7 99\n`);
+    assert.equal(patched.status, 1);
+    assert.equal(decoded(patched.text).split('\n').slice(-2)[0], 'applied 1 refused 2');
+    assert.equal(script.patches, 1);
+});
+
+test('undo of diff gives OLD', async () => {
+    for (let seed = 0; seed < 20; seed++) {
+        const dice = diceOf(700 + seed);
+        const old = soundImage(dice, 40, BASE);
+        const fresh = changedImage(dice, old, ['bytes', 'run', 'whole', 'address', 'both']);
+        const { script } = await compareImages(calls, localCrew(), readerOf(old), readerOf(fresh), { base: BASE });
+        const { script: undo, left } = await undone(old, script.pieces, { long: true });
+        assert.deepEqual(left, []);
+        sameBytes(await patchedBy(undo, fresh, BASE), old, `seed ${seed}`);
+    }
+});
+
+test('a script with a fault, a long one, and a read that fails', async () => {
+    const image = soundImage(diceOf(5), 4, BASE);
+    const refusal = await undone(image, 'cdpatch 1\nput 1\n');
+    assert.ok(refusal instanceof Refusal && decoded(refusal.text) === 'script line 2: unknown verb\n', decoded(refusal.text));
+    const long = `cdpatch 1\n${`rebuild ${BASE}\n`.repeat(65536)}`;
+    assert.ok(await undone(image, long) instanceof Refusal);
+    assert.equal(textOf((await undone(image, long, { long: true })).script), 'cdpatch 1\n');
+    const script = `cdpatch 1\nset ${BASE} 0 01\nset ${BASE + 3} 0 01\n`;
+    const { reads } = await (async () => { const it = readerOf(image); await undoScript(calls, it, [encoded(script)], { base: BASE }); return it; })();
+    for (let fault = 0; fault < reads.length; fault++) {
+        const reader = readerOf(image);
+        const failing = { size: image.length, read: async (at, length) => {
+            if (reader.reads.length === fault) throw new Error(`no read ${fault}`);
+            return reader.read(at, length);
+        } };
+        await assert.rejects(undoScript(calls, failing, [encoded(script)], { base: BASE }), { message: `no read ${fault}` });
+    }
+    const shrunk = { ...readerOf(image.subarray(0, 3 * RAW)), size: image.length };
+    await assert.rejects(undoScript(calls, shrunk, [encoded(script)], { base: BASE }), { name: 'ImageEnded' });
+});

@@ -1,0 +1,12 @@
+// A worker of the tests: the core's jobs in a thread of node.
+
+import { parentPort, workerData } from 'node:worker_threads';
+import { core } from './common.mjs';
+
+const { Calls } = await core('codes.js');
+const { serving, transfersOf } = await core('jobs.js');
+const serve = serving(new Calls(workerData));
+parentPort.on('message', message => {
+    const reply = serve(message);
+    parentPort.postMessage(reply, transfersOf(reply));
+});

@@ -1,0 +1,35 @@
+"""A client with types, for mypy. Each line that is ignored is one that the types of the package have to refuse."""
+
+import mmap
+import sys
+from typing import BinaryIO, List, Optional
+
+import cdpatch
+
+
+def on_sectors(sector: memoryview, user: bytearray) -> List[bytes]:
+    place: Optional[bytes] = cdpatch.address(16)
+    sectors: List[bytes] = [cdpatch.encode(place or b'123', user), cdpatch.rebuild(sector), cdpatch.with_parity(sector),
+                            cdpatch.with_user(sector, 0, user, carry=True), cdpatch.with_address(sector, b'123')]
+    sound: bool = cdpatch.is_consistent(sector) and cdpatch.defect(sector).zeros
+    number: int = cdpatch.edc(sector) + cdpatch.defect(sector).p + len(cdpatch.broken(sector).columns)
+    cdpatch.with_user(sector, b'', 0)  # type: ignore[arg-type]
+    cdpatch.kind('sector')  # type: ignore[arg-type]
+    return sectors if sound and number and cdpatch.kind(sector) in cdpatch.KINDS else []
+
+
+def on_images(image: mmap.mmap, script: bytes, out: mmap.mmap) -> bytearray:
+    made: cdpatch.Patched = cdpatch.apply(image, script, 16, carry=True)
+    report: cdpatch.Report = cdpatch.apply(image, script, out=out)
+    text: str = cdpatch.listing(image) + report.text + cdpatch.audit(image).text + cdpatch.check(image, script).text
+    found: bool = cdpatch.survey(image)[0].address or report.found
+    cdpatch.apply(image, script, out=out).image  # type: ignore[attr-defined]
+    cdpatch.apply(image, script, out=7)  # type: ignore[call-overload]
+    return made.image if found else bytearray(text.encode())
+
+
+def on_streams(script: mmap.mmap, reader: BinaryIO, writer: BinaryIO) -> cdpatch.Report:
+    with open('image', 'rb', buffering=0) as raw:
+        cdpatch.patch(raw, script, sys.stdout.buffer)
+    cdpatch.patch(reader, script, sys.stdout)  # type: ignore[arg-type]
+    return cdpatch.patch(reader, script, writer, base=16, carry=True)

@@ -1,0 +1,104 @@
+"""The commands on images in memory, by the package and by the model of tests/model."""
+
+import mmap
+
+import cdpatch
+import pytest
+from cases import some_case, wanted
+from forms import in_each_form
+from hypothesis import given
+from hypothesis import strategies as st
+
+SECTOR = cdpatch.encode(cdpatch.address(0), bytes(2048))
+SCRIPT = b'cdpatch 1\nset 0 0 41\n'
+NOT_BASES = [-1, -2 ** 32, 449850, 2 ** 32, 2 ** 32 + 1, 2 ** 64]
+
+
+def answer_of(case, image, script):
+    """The status, the text, and the new image of `apply`, or None."""
+    try:
+        if case.command == 'list':
+            return 0, cdpatch.listing(image, case.base).encode(), None
+        if case.command == 'audit':
+            text, found = cdpatch.audit(image, case.base)
+            return int(found), text.encode(), None
+        if case.command == 'check':
+            text, found = cdpatch.check(image, script, case.base, case.carry)
+            return int(found), text.encode(), None
+        made, text, found = cdpatch.apply(image, script, case.base, case.carry)
+        return int(found), text.encode(), bytes(made)
+    except cdpatch.Failed as fault:
+        return 2, f'{fault}\n'.encode(), None
+
+
+@given(st.integers(0, 10 ** 9))
+def test_commands_agree_with_the_model(number):
+    case = some_case('images', number)
+    forms, scripts = in_each_form(case.image), in_each_form(case.script)
+    assert answer_of(case, forms[number % len(forms)], scripts[number % len(scripts)]) == wanted(case)
+
+
+@given(st.integers(0, 10 ** 9), st.integers(0, 40))
+def test_apply_writes_into_a_given_buffer_and_leaves_the_rest(number, more):
+    case = some_case('out', number)
+    made = wanted(case)
+    if case.command != 'apply' or made[2] is None:
+        return
+    out = bytearray(b'\xA5' * (len(case.image) + more))
+    text, found = cdpatch.apply(case.image, case.script, case.base, case.carry, out=out)
+    assert (int(found), text.encode(), out) == (made[0], made[1], made[2] + b'\xA5' * more)
+
+
+def test_apply_writes_into_the_map_of_a_new_file(tmp_path):
+    image, path = SECTOR * 20 + b'tail', tmp_path / 'out'
+    with open(path, 'x+b') as file:
+        file.truncate(len(image))
+        with mmap.mmap(file.fileno(), 0) as out:
+            report = cdpatch.apply(image, SCRIPT, out=out)
+    made = cdpatch.apply(image, SCRIPT)
+    assert path.read_bytes() == made.image and report == (made.text, made.found)
+
+
+def test_an_output_that_is_too_small_or_read_only_is_refused():
+    for size in (0, 1, len(SECTOR) - 1):
+        with pytest.raises(ValueError, match=f'out has {size} bytes, and the image 2352'):
+            cdpatch.apply(SECTOR, SCRIPT, out=bytearray(size))
+    with pytest.raises(BufferError):
+        cdpatch.apply(SECTOR, SCRIPT, out=bytes(2352))
+
+
+def test_an_output_that_shares_bytes_is_refused():
+    room = bytearray(SECTOR + SECTOR + SCRIPT)
+    image, script = memoryview(room)[:2352], memoryview(room)[4704:]
+    for out in (image, memoryview(room)[1:2353], memoryview(room)[2351:4703], memoryview(room)):
+        with pytest.raises(ValueError, match='shares'):
+            cdpatch.apply(image, SCRIPT, out=out)
+    with pytest.raises(ValueError, match='shares'):
+        cdpatch.apply(image, script, out=memoryview(room)[2352 + len(SCRIPT):])
+    assert room == SECTOR + SECTOR + SCRIPT
+    assert cdpatch.apply(image, script, out=memoryview(room)[2352:4704]) == ('line 2: applied\napplied 1 refused 0\n', False)
+    assert room[2352:4704] == cdpatch.with_user(SECTOR, 0, b'\x41')
+
+
+@pytest.mark.parametrize('base', NOT_BASES)
+def test_a_base_that_no_image_has_is_refused(base):
+    out = bytearray(2352)
+    for call in (lambda: cdpatch.listing(SECTOR, base), lambda: cdpatch.audit(SECTOR, base), lambda: cdpatch.check(SECTOR, SCRIPT, base),
+                 lambda: cdpatch.apply(SECTOR, SCRIPT, base), lambda: cdpatch.apply(SECTOR, SCRIPT, base, out=out)):
+        with pytest.raises(cdpatch.Failed, match=f'^base {base} is not 0 to 449849$'):
+            call()
+    assert out == bytes(2352)
+
+
+def test_the_message_of_a_failure_is_one_line():
+    for script, text in [(b'', 'script line 1: no cdpatch 1 line'), (b'cdpatch 1\nput\n', 'script line 2: unknown verb')]:
+        for call in (cdpatch.check, cdpatch.apply):
+            with pytest.raises(cdpatch.Failed) as failed:
+                call(SECTOR, script)
+            assert str(failed.value) == text
+
+
+def test_an_empty_image():
+    assert cdpatch.listing(b'') == 'sectors 0 tail 0\n'
+    assert cdpatch.audit(b'') == ('sectors 0 mode1 0 damaged 0 tail 0\n', False)
+    assert cdpatch.apply(b'', b'cdpatch 1') == (b'', 'applied 0 refused 0\n', False)

@@ -1,0 +1,104 @@
+"""Which library the package loads, what it says if there is none, and what it shows. Each runs a Python of its own."""
+
+import builtins
+import inspect
+import os
+import re
+import shutil
+import subprocess
+import sys
+from pathlib import Path
+
+import cdpatch
+import pytest
+
+PACKAGE = Path(cdpatch.__file__).parent
+LIBRARY = Path(os.environ['CDPATCH_LIBRARY'])
+SHOW = 'import cdpatch; print([line.split()[-1] for line in open("/proc/self/maps") if "libcdpatch" in line][0])'
+
+
+def ran(package, code=SHOW, **more):
+    """A Python with the package in a directory, and with more variables of the environment."""
+    kept = {name: value for name, value in os.environ.items() if name not in ('CDPATCH_LIBRARY', 'LD_LIBRARY_PATH', 'PYTHONPATH')}
+    return subprocess.run([sys.executable, '-B', '-c', code], capture_output=True, text=True,
+                          env={**kept, 'PYTHONPATH': str(package), **more})
+
+
+def loads(package, library, **more):
+    ended = ran(package, **more)
+    assert (ended.returncode, ended.stdout, ended.stderr) == (0, f'{library}\n', '')
+
+
+@pytest.fixture
+def copy(tmp_path):
+    """The directory of a copy of the package, four below a prefix that has no library."""
+    package = tmp_path / 'prefix' / 'share' / 'cdpatch' / 'python' / 'cdpatch'
+    shutil.copytree(PACKAGE, package, ignore=shutil.ignore_patterns('__pycache__', '*.so.1'))
+    return package
+
+
+def with_library(directory):
+    directory.mkdir(exist_ok=True)
+    return Path(shutil.copy(LIBRARY, directory / 'libcdpatch.so.1'))
+
+
+def test_the_library_that_is_named_comes_first(copy, tmp_path):
+    with_library(copy)
+    named = shutil.copy(LIBRARY, tmp_path / 'libcdpatch-named.so')
+    loads(copy.parent, named, CDPATCH_LIBRARY=str(named), LD_LIBRARY_PATH=str(with_library(tmp_path / 'lib').parent))
+
+
+def test_then_the_one_in_the_package(copy, tmp_path):
+    loads(copy.parent, with_library(copy), LD_LIBRARY_PATH=str(with_library(tmp_path / 'lib').parent))
+
+
+def test_then_that_of_the_loader(copy, tmp_path):
+    with_library(tmp_path / 'prefix' / 'lib')
+    found = with_library(tmp_path / 'lib')
+    loads(copy.parent, found, LD_LIBRARY_PATH=str(found.parent))
+
+
+def test_then_that_of_the_prefix(copy, tmp_path):
+    loads(copy.parent, with_library(tmp_path / 'prefix' / 'lib'))
+
+
+@pytest.mark.parametrize('named', [None, '/nowhere/libcdpatch.so.1', __file__])
+def test_if_there_is_none_one_line_says_what_to_do(copy, named):
+    ended = ran(copy.parent, 'import cdpatch', **{'CDPATCH_LIBRARY': named} if named else {})
+    last = ended.stderr.splitlines()[-1]
+    assert ended.returncode == 1 and last.startswith('ImportError: cdpatch cannot load its library: ')
+    assert (named or 'libcdpatch.so.1') in last and 'make install' in last and 'CDPATCH_LIBRARY' in last
+
+
+def test_a_library_that_lacks_a_call_is_refused_in_one_line(copy):
+    ended = ran(copy.parent, 'import cdpatch', CDPATCH_LIBRARY='libc.so.6')
+    last = ended.stderr.splitlines()[-1]
+    assert ended.returncode == 1 and last.startswith('ImportError: cdpatch has loaded an older library, without cdpatch_version. ')
+    assert 'CDPATCH_LIBRARY' in last
+
+
+def test_importing_all_hides_no_builtin():
+    names = {}
+    exec('from cdpatch import *', names)
+    assert not {*names} & {*dir(builtins)} - {'__builtins__', '__name__', '__doc__'}
+    assert {*names} - {'__builtins__'} == {*cdpatch.__all__} and len({*cdpatch.__all__}) == len(cdpatch.__all__)
+
+
+def test_versions():
+    program = subprocess.run([os.environ['CDPATCH_PROGRAM'], '--help'], capture_output=True, text=True).stdout
+    assert f'cdpatch {cdpatch.__version__}' == program.splitlines()[-1] == f'cdpatch {cdpatch.library_version()}'
+
+
+def test_each_name_says_what_it_is():
+    for name in cdpatch.__all__:
+        value = getattr(cdpatch, name)
+        assert name.isupper() or value.__doc__.strip().endswith('.'), name
+        if inspect.isfunction(value):
+            hints = value.__annotations__
+            assert 'return' in hints and {*hints} - {'return'} == {*inspect.signature(value).parameters}, name
+    assert (PACKAGE / 'py.typed').exists()
+
+
+def test_a_call_with_a_size_names_it_and_its_error():
+    for name in ('kind', 'encode', 'with_parity', 'is_consistent', 'defect', 'broken', 'rebuild', 'with_user', 'with_address'):
+        assert re.search(r'2352.*ValueError', getattr(cdpatch, name).__doc__, re.DOTALL), name

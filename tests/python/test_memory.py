@@ -1,0 +1,76 @@
+"""How much memory a call takes for a large image that is mapped: each in a Python of its own, which may take no more than half the
+image beside its maps. A map of a file that is shared or only read is not counted."""
+
+import os
+import subprocess
+import sys
+from pathlib import Path
+
+import cdpatch
+import pytest
+
+COUNT = 60000
+ROOM = COUNT * 2352 // 2
+BEGIN = f'''
+import mmap, resource, sys
+import cdpatch
+with open(sys.argv[1], 'rb') as file:
+    image = mmap.mmap(file.fileno(), 0, access=mmap.ACCESS_READ)
+resource.setrlimit(resource.RLIMIT_DATA, ({ROOM}, {ROOM}))
+script = b'cdpatch 1\\nset 59999 0 41\\n'
+log = 'line 2: refused: block 59999 is not mode 1\\napplied 0 refused 1\\n'
+'''
+
+
+@pytest.fixture(scope='module')
+def image(tmp_path_factory):
+    path = tmp_path_factory.mktemp('memory') / 'image'
+    with open(path, 'wb') as file:
+        file.truncate(COUNT * 2352 + 5)
+    return path
+
+
+def run(image, code):
+    ended = subprocess.run([sys.executable, '-B', '-c', BEGIN + code, str(image)], capture_output=True, text=True,
+                           env={**os.environ, 'PYTHONPATH': str(Path(cdpatch.__file__).parent.parent)})
+    assert (ended.returncode, ended.stderr) == (0, '')
+
+
+@pytest.mark.parametrize('form', ['image', 'memoryview(image)', 'memoryview(image)[:-5].cast("I")'])
+def test_a_mapped_image_is_not_copied(image, form):
+    run(image, f'''
+form = {form}
+assert cdpatch.audit(form).text.startswith('sectors 60000 mode1 0 damaged 0 tail ')
+assert cdpatch.listing(form).startswith('0-59999 nosync')
+assert cdpatch.check(form, script) == (log, True)
+assert len(cdpatch.survey(form)) == 60000
+assert cdpatch.edc(form) == 0
+''')
+
+
+def test_a_new_image_is_made_in_the_map_that_is_given(image):
+    run(image, '''
+import os
+with open(sys.argv[1] + '.out', 'x+b') as file:
+    file.truncate(len(image))
+    out = mmap.mmap(file.fileno(), 0)
+assert cdpatch.apply(image, script, out=out) == (log, True)
+os.unlink(sys.argv[1] + '.out')
+''')
+
+
+def test_a_copy_would_be_refused(image):
+    run(image, '''
+try:
+    bytes(image)
+except MemoryError:
+    sys.exit(0)
+sys.exit(1)
+''')
+
+
+def test_an_image_is_patched_in_little_memory(image):
+    run(image, '''
+import os
+assert cdpatch.patch(open(sys.argv[1], 'rb'), script, open(os.devnull, 'wb')) == (log, True)
+''')

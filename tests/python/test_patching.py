@@ -1,0 +1,257 @@
+"""An image patched sector by sector, from a reader to a writer."""
+
+import io
+import os
+import subprocess
+import threading
+
+import cdpatch
+import pytest
+from cases import some_case, wanted
+from hypothesis import given
+from hypothesis import strategies as st
+
+SECTOR = cdpatch.encode(cdpatch.address(0), bytes(2048))
+IMAGE = SECTOR * 9 + b'tail'
+SCRIPT = b'cdpatch 1\nset 5 2000 ' + b'41' * 4096 + b'\nset 5 1 4243 was 0000\nset 2 0 41\nset 7 0 41\n'
+PATCHED = cdpatch.apply(IMAGE, SCRIPT)
+PIECES = st.lists(st.integers(1, 5000), min_size=1, max_size=8)
+
+
+class InPieces:
+    """A reader that gives no more than these sizes in turn, or a writer that takes no more."""
+
+    def __init__(self, data, sizes):
+        self.inner, self.sizes, self.turn = io.BytesIO(data), sizes, 0
+
+    def size(self, most):
+        self.turn += 1
+        return min(most, self.sizes[self.turn % len(self.sizes)])
+
+    def read(self, size):
+        return self.inner.read(self.size(size))
+
+    def write(self, data):
+        return self.inner.write(data[:self.size(len(data))])
+
+
+class Counting:
+    """A reader and writer that know how many bytes are between them, and the most that ever were."""
+
+    def __init__(self, data):
+        self.inner, self.held, self.most = io.BytesIO(data), 0, 0
+
+    def read(self, size):
+        data = self.inner.read(size)
+        self.held += len(data)
+        self.most = max(self.most, self.held)
+        return data
+
+    def write(self, data):
+        self.held -= len(data)
+        return len(data)
+
+
+class Answering:
+    """A reader or writer whose calls answer as they are told after so many; the reader ends after one."""
+
+    def __init__(self, data, first, answer):
+        self.inner, self.left, self.answer = io.BytesIO(data), first, answer
+
+    def read(self, size):
+        self.left -= 1
+        if self.left == -1:
+            return self.answer(size)
+        return self.inner.read(size) if self.left >= 0 else b''
+
+    def write(self, data):
+        self.left -= 1
+        return self.inner.write(data) if self.left >= 0 else self.answer(data)
+
+
+def raising(error):
+    def answer(_):
+        raise error
+    return answer
+
+
+def patched(image, script, base=0, carry=False):
+    """What `patch` makes of an image in memory."""
+    writer = io.BytesIO()
+    report = cdpatch.patch(io.BytesIO(image), script, writer, base, carry)
+    return (writer.getvalue(), *report)
+
+
+@given(st.integers(0, 10 ** 9), PIECES, PIECES)
+def test_patch_agrees_with_the_model_for_any_reader_and_writer(number, read, written):
+    case = some_case('patching', number)
+    if case.command not in ('check', 'apply'):
+        return
+    status, text, _ = wanted(case)
+    writer = InPieces(b'', written)
+    try:
+        report = cdpatch.patch(InPieces(case.image, read), case.script, writer, case.base, case.carry)
+    except cdpatch.Failed as fault:
+        assert (status, text, writer.inner.getvalue()) == (2, f'{fault}\n'.encode(), b'')
+        return
+    out = wanted(case._replace(command='apply'))[2]
+    assert (int(report.found), report.text.encode(), writer.inner.getvalue()) == (status, text, out)
+
+
+@pytest.mark.parametrize('patches', [b'', b'set 3 0 41\n', b'set 3 2047 ' + b'41' * 4096 + b'\nset 4 0 42\nset 5 0 42\nset 99 0 41\n'])
+def test_no_more_than_three_sectors_are_held(patches):
+    between = Counting(IMAGE)
+    cdpatch.patch(between, b'cdpatch 1\n' + patches, between)
+    assert between.most <= 3 * 2352 and between.held == 0
+
+
+def test_a_patch_meets_three_sectors():
+    script = b'cdpatch 1\nset 6 2047 ' + b'41' * 2050 + b'\nset 7 2047 ' + b'41' * 2050 + b'\n'
+    made = patched(IMAGE, script)
+    assert made[1] == 'line 2: applied\nline 3: refused: no block 9\napplied 1 refused 1\n'
+    assert made[0][8 * 2352:9 * 2352] == cdpatch.with_user(SECTOR, 0, b'\x41')
+
+
+def test_patches_of_equal_blocks_stay_in_the_order_of_their_lines():
+    script = b'cdpatch 1\nset 3 0 41\nset 1 0 44\nset 3 0 42 was 41\nset 1 0 45 was 44\nset 3 0 43 was 42\n'
+    log = 'line 3: applied\nline 5: applied\nline 2: applied\nline 4: applied\nline 6: applied\napplied 5 refused 0\n'
+    assert patched(IMAGE, script)[1:] == (log, False)
+    assert patched(IMAGE, script)[0] == cdpatch.apply(IMAGE, script).image
+
+
+def test_damage_refuses_a_patch_or_is_carried():
+    damaged = SECTOR[:-1] + bytes([SECTOR[-1] ^ 1])
+    script = b'cdpatch 1\nset 1 0 41\n'
+    refused = 'line 2: refused: block 1 is damaged\napplied 0 refused 1\n'
+    assert patched(SECTOR + damaged, script) == (SECTOR + damaged, refused, True)
+    carried = SECTOR + cdpatch.with_user(damaged, 0, b'\x41', carry=True)
+    assert patched(SECTOR + damaged, script, carry=True) == (carried, 'line 2: applied\napplied 1 refused 0\n', False)
+
+
+def test_blocks_before_and_after_the_image_are_refused():
+    script = b'cdpatch 1\nset 99 2047 4141\nset 120 0 41\nset 109 0 41\nset 100 0 41\n'
+    log = ('line 2: refused: no block 99\nline 5: applied\nline 4: refused: no block 109\nline 3: refused: no block 120\n'
+           'applied 1 refused 3\n')
+    assert patched(IMAGE, script, 100)[1:] == (log, True)
+
+
+@pytest.mark.parametrize('script, text', [
+    (b'', 'script line 1: no cdpatch 1 line'), (b'# none\n\n', 'script line 3: no cdpatch 1 line'),
+    (b'# none', 'script line 2: no cdpatch 1 line'), (b'cdpatch 1\nset 0 0 4\n', 'script line 2: bad hex')])
+def test_an_invalid_script_is_refused_before_a_byte_is_read(script, text):
+    nothing = Answering(b'', 0, raising(AssertionError('read or written')))
+    with pytest.raises(cdpatch.Failed) as failed:
+        cdpatch.patch(nothing, script, nothing)
+    assert str(failed.value) == text
+
+
+def test_a_script_that_is_too_long_is_refused_as_by_check():
+    script = b'#' * 67108865
+    with pytest.raises(cdpatch.Failed) as wanted_fault:
+        cdpatch.check(b'', script)
+    with pytest.raises(cdpatch.Failed) as fault:
+        patched(b'', script)
+    assert str(fault.value) == str(wanted_fault.value)
+    with pytest.raises(cdpatch.Failed, match='line 2: no cdpatch 1 line'):
+        patched(b'', script[1:])
+
+
+def test_a_script_of_too_many_patches_is_refused():
+    script = b'cdpatch 1\n' + 65535 * b'rebuild 0\n'
+    assert patched(b'', script)[1].endswith('applied 0 refused 65535\n')
+    with pytest.raises(cdpatch.Failed, match='^script line 65537: more than 65535 patches$'):
+        patched(b'', script + b'rebuild 0\n')
+
+
+class Endless:
+    """A million blank sectors, and then as many bytes more as are given."""
+
+    def __init__(self, more):
+        self.left, self.more, self.sector = 1000000, more, bytes(2352)
+
+    def read(self, size):
+        self.left -= 1
+        if self.left >= 0:
+            assert size == 2352
+            return self.sector
+        more, self.more = self.more, b''
+        return more
+
+    def write(self, data):
+        return len(data)
+
+
+def test_a_byte_after_the_millionth_sector_is_refused():
+    script = b'cdpatch 1\nset 999999 0 41\n'
+    refused = 'line 2: refused: block 999999 is not mode 1\napplied 0 refused 1\n'
+    assert cdpatch.patch(Endless(b''), script, Endless(b'')) == (refused, True)
+    with pytest.raises(cdpatch.Failed, match='^cdpatch: the image has more than 1000000 sectors$'):
+        cdpatch.patch(Endless(b'x'), script, Endless(b''))
+
+
+@pytest.mark.parametrize('base', [-1, 449850, 2 ** 32, 2 ** 64])
+def test_a_base_that_no_image_has_is_refused_by_patch(base):
+    nothing = Answering(b'', 0, raising(AssertionError('read or written')))
+    with pytest.raises(cdpatch.Failed, match=f'^base {base} is not 0 to 449849$'):
+        cdpatch.patch(nothing, SCRIPT, nothing, base)
+
+
+@pytest.mark.parametrize('first', [0, 3, 8])
+@pytest.mark.parametrize('answer, error', [
+    (lambda size: bytes(size + 1), ValueError), (lambda size: None, BlockingIOError), (lambda size: 'text', TypeError),
+    (lambda size: 5, TypeError), (raising(KeyError('mine')), KeyError)])
+def test_a_reader_that_fails_leaves_a_prefix(first, answer, error):
+    writer = io.BytesIO()
+    with pytest.raises(error):
+        cdpatch.patch(Answering(IMAGE, first, answer), SCRIPT, writer)
+    assert bytes(PATCHED.image).startswith(writer.getvalue())
+
+
+@pytest.mark.parametrize('first', [0, 3, 8])
+@pytest.mark.parametrize('answer, error', [
+    (lambda data: 0, OSError), (lambda data: None, OSError), (lambda data: -1, OSError), (lambda data: len(data) + 1, OSError),
+    (raising(KeyError('mine')), KeyError)])
+def test_a_writer_that_fails_leaves_a_prefix(first, answer, error):
+    writer = Answering(b'', first, answer)
+    with pytest.raises(error):
+        cdpatch.patch(io.BytesIO(IMAGE), SCRIPT, writer)
+    assert writer.inner.getvalue() == PATCHED.image[:2352 * first]
+
+
+def test_a_reader_may_use_its_memory_again():
+    room, inner = bytearray(2352), io.BytesIO(IMAGE)
+
+    class Again:
+        def read(self, size):
+            return memoryview(room)[:inner.readinto(memoryview(room)[:size])]
+
+    writer = io.BytesIO()
+    assert cdpatch.patch(Again(), SCRIPT, writer) == PATCHED[1:]
+    assert writer.getvalue() == PATCHED.image
+
+
+def test_a_pipe_is_patched():
+    copy = subprocess.Popen(['cat'], stdin=subprocess.PIPE, stdout=subprocess.PIPE, bufsize=0)
+    image = SECTOR * 200 + b'tail'
+    ours, theirs = os.pipe()
+    made = []
+
+    def feed():
+        with copy.stdin as to:
+            to.write(image)
+
+    def drain():
+        with open(ours, 'rb') as file:
+            made.append(file.read())
+
+    threads = [threading.Thread(target=work) for work in (feed, drain)]
+    for thread in threads:
+        thread.start()
+    with open(theirs, 'wb', buffering=0) as out:
+        report = cdpatch.patch(copy.stdout, SCRIPT, out)
+    for thread in threads:
+        thread.join()
+    copy.stdout.close()
+    copy.wait()
+    wanted_image = cdpatch.apply(image, SCRIPT)
+    assert made == [wanted_image.image] and report == wanted_image[1:]

@@ -1,0 +1,132 @@
+"""Sectors by the package and by the model of tests/model."""
+
+import tracemalloc
+from random import Random
+
+import cdpatch
+import pytest
+from cases import some_case
+from hypothesis import example, given
+from hypothesis import strategies as st
+from model import DAMAGED, NOT_MODE1, OK, OUT_OF_RANGE, broken, changed, content_with, parity_of, some_sector
+from sector import NO_DEFECT, SYNC, address_of, consistent, damage, edc_bytes, kind, sector_with
+
+ERRORS = {NOT_MODE1: cdpatch.NotMode1, DAMAGED: cdpatch.Damaged, OUT_OF_RANGE: cdpatch.OutOfRange}
+SECTOR = cdpatch.encode(cdpatch.address(0), bytes(range(256)) * 8)
+DAMAGED_SECTOR = SECTOR[:-1] + bytes([SECTOR[-1] ^ 1])
+FAR = [-1, -2048, -2 ** 63, 1 - 2 ** 64, -2 ** 64, 2048, 2 ** 31, 2 ** 32, 2 ** 63, 2 ** 64 - 1, 2 ** 64, 2 ** 64 + 16, 2 ** 200]
+
+
+def result_of(call, *arguments, **named):
+    """What a change answers, and the sector that it leaves."""
+    try:
+        return OK, call(*arguments, **named)
+    except tuple(ERRORS.values()) as error:
+        return next(result for result, kind_of_error in ERRORS.items() if isinstance(error, kind_of_error)), arguments[0]
+
+
+def finding(found):
+    """As `audit` says it."""
+    return (found.zeros * ' zeros' + found.edc * ' edc' + (found.p > 0) * f' p={found.p}' + (found.q > 0) * f' q={found.q}')
+
+
+@given(st.integers(0, 10 ** 9))
+def test_each_call_agrees_with_the_model(seed):
+    random = Random(seed)
+    sector, address = some_sector(random), random.randbytes(3)
+    assert cdpatch.edc(sector) == int.from_bytes(edc_bytes(sector, 0), 'little')
+    assert cdpatch.kind(sector) == kind(sector)
+    assert cdpatch.encode(address, sector[16:2064]) == sector_with(SYNC + address + b'\1' + sector[16:2064], NO_DEFECT)
+    assert cdpatch.is_consistent(sector) == consistent(sector)
+    assert finding(cdpatch.defect(sector)) == damage(sector)
+    assert cdpatch.broken(sector) == broken(sector)
+    assert cdpatch.with_parity(sector) == parity_of(sector)
+    rebuilt = (OK, sector_with(sector[:2064], NO_DEFECT)) if kind(sector) == 'mode1' else (NOT_MODE1, sector)
+    assert result_of(cdpatch.rebuild, sector) == rebuilt
+    for carry in (False, True):
+        readdressed = content_with(sector, 12, address)
+        assert result_of(cdpatch.with_address, sector, address, carry=carry) == changed(sector, readdressed, not carry)
+
+
+@given(st.integers(0, 10 ** 9), st.one_of(st.integers(0, 2048), st.sampled_from(FAR)), st.binary(max_size=2050), st.booleans())
+@example(0, 0, bytes(2048), False)
+@example(0, 2047, b'\1', True)
+@example(0, 2048, b'', False)
+def test_user_bytes_agree_with_the_model(seed, offset, new, carry):
+    sector = some_sector(Random(seed))
+    inside = 0 <= offset and offset + len(new) <= 2048
+    content = content_with(sector, 16 + offset, new) if inside else b''
+    assert result_of(cdpatch.with_user, sector, offset, new, carry=carry) == changed(sector, content, not carry, inside)
+
+
+@pytest.mark.parametrize('offset', FAR)
+def test_an_offset_of_any_size_is_out_of_range(offset):
+    for new in (b'', b'Z', b'ZZ') if offset != 2048 else (b'Z', b'ZZ'):
+        for carry in (False, True):
+            with pytest.raises(cdpatch.OutOfRange):
+                cdpatch.with_user(SECTOR, offset, new, carry=carry)
+    with pytest.raises(cdpatch.Damaged):
+        cdpatch.with_user(DAMAGED_SECTOR, offset, b'ZZ')
+    with pytest.raises(cdpatch.NotMode1):
+        cdpatch.with_user(bytes(2352), offset, b'ZZ')
+
+
+@pytest.mark.parametrize('block', [-2 ** 64, -2 ** 32, -1, 0, 4349, 4350, 449849, 449850, 2 ** 32 - 1, 2 ** 32, 2 ** 64, 2 ** 64 + 1])
+def test_addresses(block):
+    assert cdpatch.address(block) == (address_of(block) if block >= 0 else None)
+
+
+@pytest.mark.parametrize('size', [0, 1, 2351, 2353, 4704])
+def test_a_sector_of_another_size_is_refused(size):
+    sector = (SECTOR + SECTOR + SECTOR)[:size]
+    calls = [(call, ()) for call in (cdpatch.kind, cdpatch.is_consistent, cdpatch.defect, cdpatch.broken, cdpatch.with_parity,
+                                     cdpatch.rebuild)]
+    for call, more in [*calls, (cdpatch.with_user, (0, b'A')), (cdpatch.with_address, (bytes(3),))]:
+        with pytest.raises(ValueError, match=f'^{size} bytes and not 2352$'):
+            call(sector, *more)
+
+
+def test_an_address_or_user_data_of_another_size_is_refused():
+    for address, user in [(b'', bytes(2048)), (bytes(4), bytes(2048)), (bytes(3), bytes(2047)), (bytes(3), bytes(2049)), (bytes(3), b'')]:
+        with pytest.raises(ValueError, match='bytes and not'):
+            cdpatch.encode(address, user)
+    for address in (b'', bytes(2), bytes(4)):
+        with pytest.raises(ValueError, match='bytes and not 3'):
+            cdpatch.with_address(SECTOR, address)
+
+
+def test_numbers_of_other_types_are_refused():
+    for call in (lambda: cdpatch.with_user(SECTOR, 1.0, b'A'), lambda: cdpatch.with_user(SECTOR, '1', b'A'), lambda: cdpatch.address(1.5),
+                 lambda: cdpatch.survey(SECTOR, 0.0), lambda: cdpatch.audit(SECTOR, 0.5)):
+        with pytest.raises((TypeError, __import__('ctypes').ArgumentError)):
+            call()
+
+
+@given(st.integers(0, 10 ** 9))
+def test_a_survey_agrees_with_the_model(number):
+    case = some_case('survey', number)
+    records = cdpatch.survey(case.image, case.base)
+    assert len(records) == len(case.image) // 2352
+    for i, record in enumerate(records):
+        sector = case.image[2352 * i:2352 * i + 2352]
+        mode1 = kind(sector) == 'mode1'
+        assert cdpatch.KINDS[record.kind] == kind(sector)
+        assert record.address == (mode1 and address_of(case.base + i) not in (None, sector[12:15]))
+        assert finding(record) == (damage(sector) if mode1 else '')
+
+
+def test_the_blocks_of_a_survey():
+    for block in (-1, 2 ** 32 - 1, 2 ** 32, 2 ** 64, 2 ** 64 + 7, -2 ** 32):
+        with pytest.raises(ValueError):
+            cdpatch.survey(SECTOR + SECTOR, block)
+    assert [record.address for record in cdpatch.survey(SECTOR + SECTOR, 2 ** 32 - 2)] == [False, False]
+    assert len(cdpatch.survey(b'', 2 ** 32 - 1)) == 0
+
+
+def test_a_survey_takes_six_bytes_for_each_sector():
+    sectors = bytes(2352) * 5000
+    tracemalloc.start()
+    records = cdpatch.survey(sectors)
+    peak = tracemalloc.get_traced_memory()[1]
+    tracemalloc.stop()
+    assert memoryview(records).nbytes == 6 * 5000 and peak < 7 * 5000

@@ -1,0 +1,19 @@
+// What the join gives the page, and what browsers have and this TypeScript does not know.
+
+declare const JOINED: { module: string, notices: string, worker: () => string, source: () => string };
+
+declare class DecompressionStream {
+    constructor(format: string);
+    readable: ReadableStream<Uint8Array>;
+    writable: WritableStream<Uint8Array>;
+}
+
+declare class CompressionStream {
+    constructor(format: string);
+    readable: ReadableStream<Uint8Array>;
+    writable: WritableStream<Uint8Array>;
+}
+
+declare const trustedTypes: {
+    createPolicy(name: string, rules: { createScriptURL: (given: string) => string }): { createScriptURL: (given: string) => string };
+};

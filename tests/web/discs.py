@@ -1,0 +1,86 @@
+"""Discs for the tests of the page: a game with Japanese texts, and what is done with it."""
+
+import functools
+from pathlib import Path
+
+from common import damaged, folder, image_of, iso_of, run_program
+from sector import SYNC, address_of
+
+START = 'スタート'.encode('cp932')
+TEXTS = ['つづきから', 'はじめから', '設定', 'ゲームをスタートします', 'セーブしますか？', 'はい', 'いいえ', 'もう一度スタートに戻りますか？']
+
+
+def messages() -> bytes:
+    """A file of texts, each with a zero byte at its end, in which スタート stands over the border of two blocks too."""
+    data = START + b'\0' + b'\0'.join(text.encode('cp932') for text in TEXTS) + b'\0'
+    return data.ljust(2048 - 4, b'.') + START + b'\0' + b'.' * 900 + START + b'\0'
+
+
+@functools.cache
+def game() -> bytes:
+    """A sound image of some 180 sectors with files."""
+    return image_of(iso_of({'DATA/MSG00.DAT': messages(), 'DATA/STAGE.DAT': bytes(range(256)) * 32, 'README.TXT': b'Start of the game\n' * 20}))
+
+
+@functools.cache
+def first_block() -> int:
+    """The block of DATA/MSG00.DAT."""
+    return game().find(messages()[:200]) // 2352
+
+
+def script() -> str:
+    """A script in which all patches fit the game."""
+    block, message = first_block(), messages()
+    lines = ['cdpatch 1', '# Starlit Detective: English', '# title screen', f'set {block} 0 5374617274202020 was {START.hex().upper()}']
+    for text, new in zip(TEXTS[:3], ('Continue', 'New game', 'Set.')):
+        old = text.encode('cp932')
+        lines.append(f"set {block} {message.index(old)} {new.ljust(len(old)).encode().hex().upper()} was {old.hex().upper()}")
+    return '\n'.join([*lines, f'fill {block + 1} 1000 16 20', f'rebuild {block + 2}', ''])
+
+
+def refused() -> str:
+    """A script of which two patches are refused: old bytes differ, and a block that the image has not."""
+    return script() + f'# two that do not fit\nset {first_block()} 600 4142 was 4344\nset 99999 0 41\n'
+
+
+def written(**files: bytes | str) -> dict[str, Path]:
+    """Files in a new directory, by their stems: game='..' is game.bin, script='..' is script.txt."""
+    place = folder('files')
+    paths = {}
+    for stem, data in files.items():
+        path = place / f"{stem}.{'txt' if isinstance(data, str) else 'bin'}"
+        path.write_bytes(data.encode() if isinstance(data, str) else data)
+        paths[stem] = path
+    return paths
+
+
+def scratched() -> bytes:
+    """The game with a damaged sector."""
+    return damaged(game(), first_block() + 1)
+
+
+
+SCRATCHED_SECTORS = 21000
+
+
+@functools.cache
+def long_disc() -> bytes:
+    """The game, more data after it, and audio. The program makes their codes, for the model is slow: only for pictures."""
+    files = written(long=game(), script='cdpatch 1\n')
+    first, end = len(game()) // 2352, SCRATCHED_SECTORS - 2000
+    more = b''.join(SYNC + address_of(block) + b'\1' + bytes([block % 251]) * 2048 + bytes(288) for block in range(first, end))
+    files['long'].write_bytes(game() + more)
+    files['script'].write_text('cdpatch 1\n' + ''.join(f'rebuild {block}\n' for block in range(first, end)))
+    out = files['long'].with_name('out.bin')
+    run_program('apply', files['long'], files['script'], out)
+    return out.read_bytes() + bytes(range(256)) * (2000 * 2352 // 256)
+
+
+def scratches(other: bool = False) -> bytes:
+    """That disc with two scratches; the other dump of it is damaged elsewhere, and in some sectors too."""
+    image = bytearray(long_disc())
+    here = [*range(150, 160, 3), *range(316, 400, 23), *range(3000, 9000, 17), *range(14000, 14400, 5)]
+    for block in range(40, 900, 23) if other else here:
+        at = block * 2352 + (2100 if block % 7 == 0 else 300)
+        image[at:at + 3] = bytes(byte ^ 0x5A for byte in image[at:at + 3])
+    return bytes(image)

@@ -1,0 +1,141 @@
+"""What the tests of the page do with it: opening files, pressing buttons, choosing a file to save by a stub, patchers of their own."""
+
+import base64
+import hashlib
+import json
+import unittest
+import zlib
+from pathlib import Path
+from typing import Any
+
+import chromium
+import common
+
+NO_PICKER = 'delete window.showSaveFilePicker'
+
+# A chosen file that is written in memory: `failing` is the write that fails, from 0, or -1; `slow` makes each write take so long.
+PICKER = '''
+globalThis.chosen = { writes: [], state: 'none', failing: -1, slow: 0, own: null, removed: false, asked: 0 };
+globalThis.showSaveFilePicker = async ({ suggestedName }) => {
+    chosen.asked += 1;
+    if (chosen.none) throw new DOMException('nothing was chosen', 'AbortError');
+    return {
+        name: suggestedName,
+        getFile: async () => chosen.own || new File(chosen.state === 'closed' ? chosen.writes : [], suggestedName),
+        remove: async () => { chosen.removed = true; },
+        createWritable: async () => ({
+            async write(bytes) {
+                if (chosen.slow) await new Promise(resolve => setTimeout(resolve, chosen.slow));
+                if (chosen.writes.length === chosen.failing) throw new DOMException('no room', 'QuotaExceededError');
+                chosen.writes.push(bytes.slice());
+            },
+            async close() {
+                if (chosen.failing === 'close') throw new DOMException('no room', 'QuotaExceededError');
+                chosen.state = 'closed';
+            },
+            async abort() { chosen.state = 'aborted'; },
+        }),
+    };
+};
+'''
+
+# Reads wait until the gate is opened: so many, of so many bytes at least.
+GATE = '''const { arrayBuffer } = Blob.prototype;
+const gate = new Promise(done => { globalThis.openGate = done; });
+Object.assign(globalThis, { held: Infinity, least: 0, reads: 0 });
+Blob.prototype.arrayBuffer = async function () {
+    globalThis.reads += Number(this.size >= globalThis.least);
+    if (this.size >= globalThis.least && globalThis.reads <= globalThis.held) await gate;
+    return arrayBuffer.call(this);
+};'''
+
+BUTTON = '''return [...document.querySelectorAll('button, summary')].find(it =>
+    it.checkVisibility() && it.innerText.trim().startsWith(arguments[0]))'''
+
+
+class PageTest(unittest.TestCase):
+    """Tests in one window of Chromium, which opens the page anew for each."""
+    stub = NO_PICKER
+    browser: chromium.Chromium
+
+    @classmethod
+    def setUpClass(cls) -> None:
+        cls.browser = chromium.Chromium()
+        cls.browser.before_pages(cls.stub)
+
+    @classmethod
+    def tearDownClass(cls) -> None:
+        cls.browser.quit()
+
+    def setUp(self) -> None:
+        for path in self.browser.downloads.iterdir():
+            path.unlink()
+        self.browser.open(common.PAGE)
+        self.browser.wait('#start h1')
+        self.browser.attempts()
+
+    def open_files(self, *files: Path) -> None:
+        self.browser.give('#files', files)
+
+    def open_image(self, file: Path) -> None:
+        """Opens an image, and waits until all of it is read."""
+        self.open_files(file)
+        self.browser.wait('#disc-line', file.name)
+        self.wait_for_hash()
+
+    def wait_for_hash(self) -> None:
+        self.browser.wait('#disc-line .sha1')
+
+    def open_script(self, file: Path) -> None:
+        self.open_files(file)
+        self.browser.wait('#panel-script header', file.name)
+
+    def press(self, text: str) -> None:
+        """Presses the first button that is shown and begins with this text."""
+        found = common.waited(lambda: self.browser.run(BUTTON, text), f'no button {text}')
+        self.browser.run('arguments[0].scrollIntoView({ block: "center" })', found)
+        found.click()
+
+    def is_off(self, text: str) -> bool:
+        return bool(self.browser.run(f'{BUTTON}.getAttribute("aria-disabled") === "true"', text))
+
+    def rows(self) -> list[str]:
+        """The lines of the editor that are drawn, with what is said of them."""
+        script = '''return [...document.querySelectorAll('.editor li:not(.why)')].map(it => {
+            const area = it.querySelector('textarea');
+            return [it.querySelector('.ln').innerText, area ? area.value : it.querySelector('.src').innerText,
+                it.querySelector('.out').innerText].join('|') })'''
+        return list(self.browser.run(script))
+
+    def script_text(self) -> str:
+        """The script, as the page saves it."""
+        self.press('Save script')
+        name = self.browser.text('#panel-script header h2')
+        path = self.browser.downloaded('script.txt' if name == 'New script' else name)
+        text = path.read_text()
+        path.unlink()
+        return text
+
+    def chosen_bytes(self) -> bytes:
+        """What was written to the chosen file."""
+        script = '''const bytes = new Uint8Array(await new Blob(chosen.writes).arrayBuffer());
+            let text = '';
+            for (let at = 0; at < bytes.length; at += 8192) text += String.fromCharCode(...bytes.subarray(at, at + 8192));
+            return btoa(text)'''
+        return base64.b64decode(self.browser.run(f'return (async () => {{ {script} }})()'))
+
+
+def applied(image: Path, script: Path, *options: str) -> tuple[int, str, bytes]:
+    """What the program prints and writes."""
+    out = common.folder('out') / 'out.bin'
+    status, text = common.run_program('apply', *options, image, script, out)
+    return status, text, out.read_bytes()
+
+
+def patcher(image: bytes, made: bytes, script: str, **other: Any) -> bytes:
+    """A patcher as the format is described: the page, a line with version, size and SHA-256, and base64 of what is deflated."""
+    head = {'title': 'Starlit Detective in English', 'author': 'Team Comet', 'note': 'All menus.\nChapter 1.', 'name': 'Starlit (English).bin',
+            'cue': '', 'carry': False, 'base': 0, 'image': {'size': len(image), 'sha1': common.sha1(image)}, 'result': common.sha1(made)}
+    packed = zlib.compress(json.dumps({**head, **other}).encode() + b'\n' + script.encode())
+    text = f'cdpatch-data 1 {len(packed)} {hashlib.sha256(packed).hexdigest()}\n{base64.b64encode(packed).decode()}\n'
+    return common.PAGE.read_bytes() + text.encode()

@@ -1,0 +1,10 @@
+// Starts the page from its modules as they are, which a loopback server gives with the repository as its root.
+
+import { startPage } from '/web/page/main.js';
+
+async function servedParts() {
+    const module = await WebAssembly.compile(await (await fetch('/library/cdpatch.wasm')).arrayBuffer());
+    return { module, newWorker: () => new Worker('/web/page/worker.js', { type: 'module' }) };
+}
+
+startPage(servedParts()).then(app => { Object.assign(globalThis, { app }); });

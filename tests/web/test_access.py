@@ -1,0 +1,79 @@
+"""For everyone: each control has a name, tab stops are counted, and no panel is wider than a phone."""
+
+from collections.abc import Callable
+
+import common
+import discs
+from pages import PageTest, applied, patcher
+
+# How many stops of the Tab key a panel has at most, the bar and the footer among them.
+MOST_STOPS = {'start': 12, 'script': 34, 'text': 34, 'publish': 28, 'player': 14}
+
+
+class Access(PageTest):
+    def states(self) -> dict[str, Callable[[], None]]:
+        """How each state is reached."""
+        return {'start': lambda: None, 'script': self.to_script, 'text': self.to_text, 'publish': self.to_publish, 'player': self.to_player}
+
+    def to_script(self) -> None:
+        files = discs.written(game=discs.scratched(), english=discs.refused())
+        self.open_image(files['game'])
+        self.open_script(files['english'])
+        self.press('Check')
+        self.browser.wait('.tally', 'refused')
+
+    def to_text(self) -> None:
+        self.open_image(discs.written(game=discs.game())['game'])
+        self.browser.click('#tab-text')
+        self.browser.type('#find-text', 'スタート')
+        self.press('Find')
+        self.browser.wait('#panel-text .hits mark')
+        self.browser.type('#new-text', 'Start')
+
+    def to_publish(self) -> None:
+        files = discs.written(game=discs.game(), english=discs.script())
+        self.open_image(files['game'])
+        self.open_script(files['english'])
+        self.browser.click('#tab-publish')
+        self.browser.wait('#panel-publish', 'tried on this image')
+
+    def to_player(self) -> None:
+        files = discs.written(game=discs.game(), english=discs.script())
+        path = common.folder('patcher') / 'patcher.html'
+        path.write_bytes(patcher(discs.game(), applied(files['game'], files['english'])[2], discs.script()))
+        self.browser.open(path)
+        self.browser.wait('#player h1')
+        self.browser.give('#player-files', [files['game']])
+        self.browser.wait('#verdict')
+
+    def reach(self, name: str) -> None:
+        self.browser.open(common.PAGE)
+        self.browser.wait('#start h1')
+        self.states()[name]()
+
+    def test_each_control_has_a_name(self) -> None:
+        for name in self.states():
+            with self.subTest(name):
+                self.reach(name)
+                self.assertEqual(self.browser.nameless(), [])
+
+    def test_tab_stops_are_few_and_come_round(self) -> None:
+        for name, most in MOST_STOPS.items():
+            with self.subTest(name):
+                self.reach(name)
+                stops = self.browser.tab_stops()
+                self.assertLessEqual(len(stops), most, stops)
+                self.assertGreater(len(stops), 4, stops)
+
+    def test_no_state_is_wider_than_its_window(self) -> None:
+        for name in self.states():
+            self.reach(name)
+            for width in (360, 900, 1280, 1600):
+                with self.subTest(name=name, width=width):
+                    self.assertLessEqual(self.browser.wider(width), 0)
+
+    def test_the_focus_stays_on_what_is_shown(self) -> None:
+        self.reach('text')
+        self.browser.press('\ue007')
+        self.browser.wait('.hits', 'in the script, line 2')
+        self.assertEqual(self.browser.run('return document.activeElement.id'), 'new-text')

@@ -1,0 +1,64 @@
+"""Firefox and WebKit, once each: the page from file://, audit, apply, and a patcher."""
+
+import unittest
+from pathlib import Path
+
+import common
+import discs
+import marionette
+import webkit
+from pages import BUTTON, NO_PICKER, applied, patcher
+
+Browser = marionette.Firefox | webkit.WebKit
+
+# WebKit of 2022 has no checkVisibility.
+PRESS = f'{BUTTON.replace("it.checkVisibility()", "it.offsetParent !== null")}.click()'
+
+
+class Browsers(unittest.TestCase):
+    def press(self, browser: Browser, text: str) -> None:
+        script = f'const it = [...document.querySelectorAll("button")].find(it => it.offsetParent !== null && it.innerText.trim().startsWith(arguments[0]));' \
+                 'if (it) it.click(); return it !== undefined'
+        common.waited(lambda: bool(browser.run(script, text)), f'no button {text}')
+
+    def whole(self, browser: Browser) -> None:
+        """Opens, audits, applies; and a patcher, which is a player's."""
+        self.addCleanup(browser.quit)
+        files = discs.written(game=discs.scratched(), english=discs.refused())
+        out = applied(files['game'], files['english'])[2]
+        browser.open(common.PAGE)
+        browser.run(NO_PICKER)
+        browser.give('#files', [files['game']])
+        browser.wait('#disc-line', 'game.bin')
+        browser.wait('#count-disc', '1')
+        self.press(browser, 'As text')
+        _, audit = common.run_program('audit', files['game'])
+        common.waited(lambda: audit.strip() in str(browser.run('return document.querySelector("#panel-disc").innerText')), audit)
+        browser.give('#files', [files['english']])
+        browser.wait('#panel-script header', 'english.txt')
+        self.press(browser, 'Apply and save')
+        self.assertEqual(browser.downloaded('game (patched).bin').read_bytes(), out)
+        self.play(browser)
+
+    def play(self, browser: Browser) -> None:
+        files = discs.written(game=discs.game(), english=discs.script())
+        out = applied(files['game'], files['english'])[2]
+        path: Path = common.folder('patcher') / 'patcher.html'
+        path.write_bytes(patcher(discs.game(), out, discs.script()))
+        browser.run('addEventListener("beforeunload", event => event.stopImmediatePropagation(), true)')
+        browser.open(path)
+        browser.run(NO_PICKER)
+        browser.wait('#player h1', 'Starlit Detective in English')
+        browser.give('#player-files', [files['game']])
+        browser.wait('#verdict', 'This is the right disc.')
+        self.press(browser, 'Patch and save')
+        self.assertEqual(browser.downloaded('Starlit (English).bin').read_bytes(), out)
+
+    @common.wants('firefox-esr', 'firefox-esr')
+    def test_firefox_opens_audits_applies_and_plays(self) -> None:
+        self.whole(marionette.Firefox())
+
+    @common.wants('WebKitWebDriver', 'webkit2gtk-driver')
+    @common.wants('Xvfb', 'xvfb')
+    def test_webkit_opens_audits_applies_and_plays(self) -> None:
+        self.whole(webkit.WebKit())

@@ -1,0 +1,110 @@
+"""That the harness does what the tests of the page rely on, with a page of its own."""
+
+import unittest
+from pathlib import Path
+
+import chromium
+import common
+import marionette
+import webkit
+
+HTML = '''<!doctype html><meta charset="utf-8"><meta name="viewport" content="width=device-width, initial-scale=1"><title>harness</title>
+<input type="file" id="choose" multiple aria-label="Files"><button id="save">Save</button><input id="nameless">
+<style>body { margin: 0 }</style><p id="got">nothing</p><div id="field" style="width: 800px; height: 200px">Drop here</div>
+<script>
+const list = async files => {
+    const rows = await Promise.all([...files].map(async it => `${it.name}:${await it.text()}`));
+    document.querySelector('#got').textContent = rows.join(' ');
+};
+choose.onchange = () => list(choose.files);
+addEventListener('dragover', event => event.preventDefault());
+addEventListener('drop', event => { event.preventDefault(); list(event.dataTransfer.files); });
+save.onclick = () => {
+    const link = document.createElement('a');
+    link.download = 'saved.bin';
+    link.href = URL.createObjectURL(new Blob(['saved bytes']));
+    link.click();
+};
+</script>'''
+
+
+def files() -> tuple[Path, list[Path]]:
+    """The page, and two files."""
+    place = common.folder('harness')
+    page = place / 'harness.html'
+    page.write_text(HTML)
+    chosen = [place / 'one.txt', place / 'two.txt']
+    for path in chosen:
+        path.write_text(path.stem.upper())
+    return page, chosen
+
+
+Browser = chromium.Chromium | marionette.Firefox | webkit.WebKit
+
+
+class Harness(unittest.TestCase):
+    def choose_and_save(self, browser: Browser, page: Path, chosen: list[Path]) -> None:
+        browser.open(page)
+        browser.give('#choose', chosen)
+        browser.wait('#got', 'one.txt:ONE two.txt:TWO')
+        browser.click('#save')
+        self.assertEqual(browser.downloaded('saved.bin').read_bytes(), b'saved bytes')
+
+    def test_chromium_takes_chosen_files_and_saves(self) -> None:
+        browser = chromium.Chromium()
+        self.addCleanup(browser.quit)
+        page, chosen = files()
+        self.choose_and_save(browser, page, chosen)
+        browser.open(page)
+        browser.drop('#field', chosen)
+        browser.wait('#got', 'one.txt:ONE two.txt:TWO')
+        self.assertEqual(browser.attempts(), [])
+        self.assertEqual(browser.nameless(), ['textbox'])
+        self.assertEqual(browser.tab_stops(), ['choose', 'save', 'nameless'])
+
+    def test_chromium_serves_pictures_of_every_width_and_scheme(self) -> None:
+        browser = chromium.Chromium()
+        self.addCleanup(browser.quit)
+        page, _ = files()
+        browser.open(page)
+        paths = browser.pictures(page.parent, 'state')
+        self.assertEqual([path.read_bytes()[16:20] for path in paths], [w.to_bytes(4, 'big') for w in (360, 360, 900, 900, 1280, 1280)])
+        self.assertEqual((browser.wider(900), browser.wider(600)), (0, 200))
+
+    def test_chromium_sees_what_a_page_tries_to_reach(self) -> None:
+        browser = chromium.Chromium()
+        self.addCleanup(browser.quit)
+        page, _ = files()
+        tries = {'fetch': 'fetch("http://127.0.0.1:9/").catch(() => 0)', 'image': 'new Image().src = "http://127.0.0.1:9/"',
+                 'navigation': 'location = "http://127.0.0.1:9/"', 'RTCPeerConnection': 'new RTCPeerConnection()',
+                 'socket': 'new WebSocket("ws://127.0.0.1:9/")', 'beacon': 'navigator.sendBeacon("http://127.0.0.1:9/")'}
+        for name, script in tries.items():
+            with self.subTest(name):
+                browser.open(page)
+                self.assertEqual(browser.attempts(), [])
+                browser.run(script)
+                common.waited(browser.attempts, f'{name} was not seen', 10)
+
+    def test_a_server_knows_what_it_was_asked_for(self) -> None:
+        browser = chromium.Chromium()
+        self.addCleanup(browser.quit)
+        page, _ = files()
+        server = common.Server(page.parent)
+        self.addCleanup(server.close)
+        browser.open(f'{server.url}/harness.html')
+        browser.wait('#got', 'nothing')
+        self.assertEqual(browser.run('return isSecureContext'), True)
+        self.assertIn('GET /harness.html HTTP/1.1', server.requests)
+
+    @common.wants('firefox-esr', 'firefox-esr')
+    def test_firefox_takes_chosen_files_and_saves(self) -> None:
+        browser = marionette.Firefox()
+        self.addCleanup(browser.quit)
+        self.choose_and_save(browser, *files())
+
+    @common.wants('WebKitWebDriver', 'webkit2gtk-driver')
+    @common.wants('Xvfb', 'xvfb')
+    def test_webkit_takes_chosen_files_and_saves(self) -> None:
+        browser = webkit.WebKit()
+        self.addCleanup(browser.quit)
+        self.choose_and_save(browser, *files())

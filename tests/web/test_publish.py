@@ -1,0 +1,252 @@
+"""Publish, and the patcher as players have it: its bytes, the four answers, what is saved, and what hostile or broken ones do."""
+
+import base64
+import zlib
+
+import common
+import discs
+from pages import GATE, PICKER, PageTest, applied, patcher
+
+CUE = 'FILE "game.bin" BINARY\n  TRACK 01 MODE1/2352\n    INDEX 01 00:00:00\n'
+HOSTILE = '<img src=x onerror=alert(1)>'
+
+
+def result() -> bytes:
+    """What the author's script makes of the game."""
+    files = discs.written(game=discs.game(), english=discs.script())
+    return applied(files['game'], files['english'])[2]
+
+
+class Publish(PageTest):
+    def publish(self, *files: str) -> None:
+        """Opens the game with a script, and writes the title."""
+        paths = discs.written(game=discs.game(), english=discs.script())
+        cue = paths['game'].with_suffix('.cue')
+        cue.write_text(CUE)
+        self.open_files(*([cue] if files else []), paths['game'])
+        self.wait_for_hash()
+        self.open_script(paths['english'])
+        self.browser.click('#tab-publish')
+        self.browser.wait('#panel-publish', 'tried on this image: 6 applied, 0 refused')
+        self.browser.type('#patcher-title', HOSTILE)
+
+    def test_a_patcher_is_the_page_byte_for_byte_and_data_after_it(self) -> None:
+        self.publish()
+        self.browser.type('#patcher-note', 'All menus.')
+        self.press('Save as a patcher')
+        saved = self.browser.downloaded('img src=x onerror=alert(1).html').read_bytes()
+        page = common.PAGE.read_bytes()
+        self.assertEqual(saved[:len(page)], page)
+        self.assertEqual(saved[len(page):len(page) + 15], b'cdpatch-data 1 ')
+        self.assertEqual(set(saved[len(page):]) & set(b'<>&"\''), set())
+        self.browser.wait('#panel-publish .say.good', 'is saved.')
+        self.assertEqual(self.browser.attempts(), [])
+
+    def test_the_published_copy_is_a_player_with_a_cue_sheet(self) -> None:
+        self.publish('cue')
+        self.browser.type('#patcher-name', 'Starlit.bin')
+        self.press('Save as a patcher')
+        saved = self.browser.downloaded('img src=x onerror=alert(1).html')
+        self.browser.open(saved)
+        self.browser.wait('#player h1', HOSTILE)
+        self.browser.give('#player-files', [discs.written(game=discs.game())['game']])
+        self.browser.wait('#verdict', 'This is the right disc.')
+        self.press('Patch and save')
+        self.assertEqual(self.browser.downloaded('Starlit.bin').read_bytes(), result())
+        self.browser.wait('#player', 'It is exactly the image that the author made: the SHA-1 is the same.')
+        self.press('Save the cue sheet')
+        self.assertEqual(self.browser.downloaded('Starlit.cue').read_text(), CUE.replace('game.bin', 'Starlit.bin'))
+        self.assertEqual(self.browser.run('return document.images.length'), 0)
+        self.assertEqual(self.browser.attempts(), [])
+
+    def test_a_patcher_has_the_script_that_was_tried(self) -> None:
+        self.publish()
+        self.browser.run(GATE)
+        self.press('Save as a patcher')
+        self.browser.wait('#panel-publish .progress')
+        self.press('Save as a patcher')
+        self.browser.click('#tab-script')
+        self.browser.click('.editor textarea')
+        self.browser.press('# later')
+        self.browser.run('openGate()')
+        saved = self.browser.downloaded('img src=x onerror=alert(1).html').read_bytes()
+        data = zlib.decompress(base64.b64decode(saved[len(common.PAGE.read_bytes()):].split(b'\n')[1]))
+        self.assertEqual(data.split(b'\n', 1)[1].decode(), discs.script())
+        self.assertEqual([it.name for it in self.browser.downloads.iterdir()], ['img src=x onerror=alert(1).html'])
+
+    def test_it_is_refused_while_a_patch_is_refused(self) -> None:
+        files = discs.written(game=discs.game(), english=discs.refused())
+        self.open_image(files['game'])
+        self.open_script(files['english'])
+        self.browser.click('#tab-publish')
+        self.browser.wait('#panel-publish', 'tried on this image: 6 applied, 2 refused')
+        self.browser.type('#patcher-title', 'Title')
+        self.assertTrue(self.is_off('Save as a patcher') and self.is_off('See it as a player'))
+
+    def test_no_licence_is_said_beside_the_button(self) -> None:
+        self.publish()
+        self.assertIn('No licence has been chosen for cdpatch yet.', self.browser.text('#no-licence'))
+        self.assertIn('The old bytes come from the game (32 bytes).', self.browser.text('#panel-publish'))
+
+    def test_an_author_sees_it_as_a_player_and_goes_back(self) -> None:
+        self.publish()
+        self.press('See it as a player')
+        self.browser.wait('#player h1', HOSTILE)
+        self.press('Back to Publish')
+        self.browser.wait('#panel-publish h2', 'A patcher for your players')
+        self.assertEqual(self.browser.text('#home'), 'cdpatch')
+
+
+class Player(PageTest):
+    def play(self, image: bytes, script: str = '', **other: object) -> None:
+        """Opens a patcher and gives it an image."""
+        self.open_patcher(patcher(discs.game(), result(), script or discs.script(), **other))
+        self.browser.drop('#player', [discs.written(mine=image)['mine']])
+
+    def open_patcher(self, data: bytes) -> None:
+        self.path = common.folder('patcher') / 'starlit.html'
+        self.path.write_bytes(data)
+        self.browser.open(self.path)
+
+    def test_the_right_disc(self) -> None:
+        self.play(discs.game())
+        self.browser.wait('#verdict', 'This is the right disc.')
+        self.assertEqual(self.browser.run('return document.activeElement.innerText'), 'Patch and save…')
+        self.press('Patch and save')
+        self.assertEqual(self.browser.downloaded('Starlit (English).bin').read_bytes(), result())
+        self.browser.wait('#player', 'the SHA-1 is the same')
+        self.browser.wait('#player', f'It must have {len(discs.game()):,} bytes.')
+
+    def test_another_dump_that_the_patch_fits(self) -> None:
+        other = common.damaged(discs.game(), 150)
+        self.play(other)
+        self.browser.wait('#verdict', 'This is another dump, but the patch fits it.')
+        self.press('Patch and save')
+        files = discs.written(other=other, english=discs.script())
+        self.assertEqual(self.browser.downloaded('Starlit (English).bin').read_bytes(), applied(files['other'], files['english'])[2])
+        self.assertNotIn('the SHA-1 is the same', self.browser.text('#player'))
+
+    def test_another_dump_that_the_patch_does_not_fit(self) -> None:
+        block = discs.first_block()
+        user = bytearray(discs.game()[block * 2352 + 16:block * 2352 + 2064])
+        user[0:2] = b'XX'
+        other = discs.game()[:block * 2352] + common.sector(block, bytes(user)) + discs.game()[(block + 1) * 2352:]
+        self.play(other)
+        self.browser.wait('#verdict', 'This is another dump, and the patch does not fit it.')
+        self.assertIn('1 of 6 places hold other bytes.', self.browser.text('#player'))
+        self.press('Details')
+        self.browser.wait('.hashes', f'refused: old bytes differ at block {block} offset 0')
+        self.assertEqual(list(self.browser.downloads.iterdir()), [])
+        self.press('Save with the 5 changes that fit')
+        files = discs.written(other=other, english=discs.script())
+        self.assertEqual(self.browser.downloaded('Starlit (English).bin').read_bytes(), applied(files['other'], files['english'])[2])
+
+    def test_an_image_that_is_patched_already(self) -> None:
+        self.play(result())
+        self.browser.wait('#verdict', 'This image is patched already.')
+        self.assertIn('There is nothing to do.', self.browser.text('#player'))
+
+    def test_patched_already_is_known_by_the_hash_too(self) -> None:
+        script = f'cdpatch 1\nset {discs.first_block()} 0 5374617274202020\n'
+        files = discs.written(game=discs.game(), script=script)
+        made = applied(files['game'], files['script'])[2]
+        self.open_patcher(patcher(discs.game(), made, script))
+        self.browser.drop('#player', [discs.written(made=made)['made']])
+        self.browser.wait('#verdict', 'This image is patched already.')
+
+    def test_the_right_disc_is_patched_with_the_base_of_the_author(self) -> None:
+        script = f'cdpatch 1\nset {discs.first_block() + 100} 0 41\n'
+        files = discs.written(game=discs.game(), script=script)
+        made = applied(files['game'], files['script'], '--base', '100')[2]
+        self.open_patcher(patcher(discs.game(), made, script, base=100))
+        for image, said in ((discs.game(), 'This is the right disc.'), (made, 'This image is patched already.')):
+            self.browser.drop('#player', [discs.written(mine=image)['mine']])
+            self.browser.wait('#verdict', said)
+
+    def test_the_track_is_the_one_that_the_patch_was_made_for(self) -> None:
+        self.open_patcher(patcher(discs.game(), result(), discs.script()))
+        files = discs.written(first=common.image_of([b'first'] * 20), game=discs.game())
+        sheet = files['game'].with_suffix('.cue')
+        sheet.write_text(''.join(f'FILE "{name}.bin" BINARY\n  TRACK 0{i + 1} MODE1/2352\n    INDEX 01 00:00:00\n'
+                                 for i, name in enumerate(files)))
+        self.browser.drop('#player', [sheet, *files.values()])
+        self.browser.wait('#verdict', 'This is the right disc.')
+
+    def test_the_image_that_was_dropped_last_is_judged(self) -> None:
+        self.open_patcher(patcher(discs.game(), result(), discs.script()))
+        self.browser.run(f'{GATE} Object.assign(globalThis, {{ held: 1, least: {len(discs.game())} }})')
+        files = discs.written(other=common.damaged(discs.game(), 150), mine=discs.game())
+        self.browser.drop('#player', [files['other']])
+        self.browser.wait('#player .progress')
+        common.waited(lambda: self.browser.run('return globalThis.reads') == 1, 'the first image is not read')
+        self.browser.drop('#player', [files['mine']])
+        self.browser.wait('#verdict', 'This is the right disc.')
+        self.browser.run('openGate(); return new Promise(done => setTimeout(done, 500))')
+        self.assertEqual(self.browser.text('#verdict'), 'This is the right disc.')
+        self.assertIn('mine.bin', self.browser.text('#player'))
+
+    def test_a_result_that_is_not_the_authors_is_not_saved(self) -> None:
+        self.play(discs.game(), result='0' * 40)
+        self.browser.wait('#verdict', 'This is the right disc.')
+        self.press('Patch and save')
+        self.browser.wait('#player .say.bad', 'The patched image is not the one that the author made')
+        self.assertEqual(list(self.browser.downloads.iterdir()), [])
+
+    def test_a_hostile_title_note_and_script_stay_texts(self) -> None:
+        hostile = f'{HOSTILE}</plaintext><script>caught.push("ran")</script>'
+        self.play(discs.game(), title=hostile, note=hostile, author=hostile, script=f'cdpatch 1\n# {hostile}\nrebuild 0\n')
+        self.browser.wait('#player h1', hostile)
+        self.press('Read the script')
+        self.browser.wait('#player-script pre', f'# {hostile}')
+        self.assertEqual(self.browser.run('return [document.images.length, document.scripts.length]'), [0, 1])
+        self.assertEqual(self.browser.attempts(), [])
+
+    def test_a_cut_patcher_is_refused(self) -> None:
+        self.open_patcher(patcher(discs.game(), result(), discs.script())[:-100])
+        self.browser.wait('#messages .say.bad, #start-message .say.bad', 'This patcher cannot be used.')
+        self.assertEqual(self.browser.text('#player'), '')
+
+    def test_an_altered_program_does_not_start(self) -> None:
+        data = patcher(discs.game(), result(), discs.script())
+        self.open_patcher(data.replace(b"'use strict';", b"'use strict' ;", 1))
+        self.browser.wait('#not-started', 'cdpatch has not started.')
+        self.assertEqual(self.browser.text('#player'), '')
+
+    def test_a_patcher_that_is_dropped_on_ones_own_page_is_compared_with_it(self) -> None:
+        good = patcher(discs.game(), result(), discs.script())
+        for data, said in ((good, 'is this cdpatch, byte for byte.'), (good.replace(b'<title>', b'<title >', 1), 'is not this cdpatch.')):
+            self.browser.open(common.PAGE)
+            path = common.folder('patcher') / 'starlit.html'
+            path.write_bytes(data)
+            self.browser.drop('#drop', [path])
+            self.browser.wait('#compared', said)
+            self.browser.wait('#player h1', 'Starlit Detective in English')
+            self.assertEqual(self.browser.run('return location.href'), common.PAGE.as_uri())
+        self.browser.drop('#player', [discs.written(mine=discs.game())['mine']])
+        self.browser.wait('#verdict', 'This is the right disc.')
+
+    def test_the_full_page_opens_from_a_patcher(self) -> None:
+        self.play(discs.game())
+        self.browser.wait('#verdict', 'This is the right disc.')
+        self.press('Open this in the full cdpatch')
+        self.browser.wait('#panel-script header .tag', '6 patches, version 1')
+        self.browser.wait('#disc-line .name', 'mine.bin')
+
+
+class Streamed(PageTest):
+    stub = PICKER
+
+    def test_a_player_streams_what_the_author_made_and_nothing_else(self) -> None:
+        for wanted, state in ((common.sha1(result()), 'closed'), ('0' * 40, 'aborted')):
+            path = common.folder('patcher') / 'starlit.html'
+            path.write_bytes(patcher(discs.game(), result(), discs.script(), result=wanted))
+            self.browser.open(path)
+            self.browser.give('#player-files', [discs.written(mine=discs.game())['mine']])
+            self.browser.wait('#verdict', 'This is the right disc.')
+            self.press('Patch and save')
+            common.waited(lambda: self.browser.run('return chosen.state') == state, f'not {state}')
+            if state == 'closed':
+                self.browser.wait('#saved', 'Saved: Starlit (English).bin')
+                self.assertEqual(self.chosen_bytes(), result())
+            else:
+                self.browser.wait('#player .say.bad', 'is not the one that the author made')

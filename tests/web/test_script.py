@@ -1,0 +1,237 @@
+"""The panel Script: what is typed, faults, Check, Apply and save, and the undo script, beside what the program prints and writes."""
+
+from pathlib import Path
+
+import common
+import discs
+from pages import GATE, PICKER, PageTest, applied
+from selenium.webdriver.common.keys import Keys
+
+
+class Script(PageTest):
+    def test_check_says_what_the_program_prints(self) -> None:
+        files = discs.written(game=discs.scratched(), english=discs.refused())
+        self.open_image(files['game'])
+        self.open_script(files['english'])
+        self.press('Check')
+        self.browser.wait('.tally', 'refused')
+        status, text = common.run_program('check', files['game'], files['english'])
+        self.assertEqual(self.browser.run('return document.querySelector("pre.log").textContent'), text)
+        self.assertIn(f'status {status}', self.browser.text('#panel-script .side'))
+        said = {line.split(': ', 1)[0]: line.split(': ', 1)[1] for line in text.split('\n')[:-2]}
+        shown = {f"line {row.split('|')[0]}": row.split('|')[2] for row in self.rows() if row.split('|')[2]}
+        self.assertEqual(shown, said)
+        self.assertIn('5 of 8 patches fit this image. The 3 others would be left out.', self.browser.text('#panel-script .side'))
+
+    def test_apply_saves_what_the_program_writes(self) -> None:
+        files = discs.written(game=discs.scratched() + b'tail', english=discs.refused())
+        self.open_image(files['game'])
+        self.open_script(files['english'])
+        self.press('Apply and save')
+        saved = self.browser.downloaded('game (patched).bin')
+        status, text, out = applied(files['game'], files['english'])
+        self.assertEqual(saved.read_bytes(), out)
+        self.browser.wait('#panel-script .side', 'without 3 of 8 patches')
+        self.assertEqual(self.browser.run('return document.querySelector("pre.log").textContent'), text)
+        self.browser.wait('#saved-sha1', common.sha1(out))
+        self.assertEqual((status, self.browser.attempts()), (1, []))
+
+    def test_carry_patches_damaged_sectors_too(self) -> None:
+        files = discs.written(game=discs.scratched(), english=discs.script())
+        self.open_image(files['game'])
+        self.open_script(files['english'])
+        self.press('Check')
+        self.browser.wait('.tally', '1\nrefused')
+        self.browser.click('#panel-script input[type=checkbox]')
+        self.press('Apply and save')
+        saved = self.browser.downloaded('game (patched).bin')
+        status, _, out = applied(files['game'], files['english'], '--carry')
+        self.assertEqual((status, saved.read_bytes()), (0, out))
+
+    def test_a_saved_file_that_is_dropped_again_is_checked(self) -> None:
+        files = discs.written(game=discs.game(), english=discs.script())
+        self.open_image(files['game'])
+        self.open_script(files['english'])
+        self.press('Apply and save')
+        saved = self.browser.downloaded('game (patched).bin')
+        self.browser.wait('#saved-sha1', common.sha1(saved.read_bytes()))
+        self.browser.drop('#panel-script', [saved])
+        self.browser.wait('#panel-script .say', 'game (patched).bin is right.')
+        saved.write_bytes(saved.read_bytes()[:-1])
+        self.browser.drop('#panel-script', [saved])
+        self.browser.wait('#panel-script .say', 'it was not saved to its end')
+
+    def test_a_saved_file_is_not_judged_before_the_sum_of_the_image_is_known(self) -> None:
+        files = discs.written(game=discs.game(), english=discs.script())
+        self.open_image(files['game'])
+        self.open_script(files['english'])
+        self.browser.run(f'{GATE} Object.assign(globalThis, {{ held: 1, least: {len(discs.game())} }})')
+        self.press('Apply and save')
+        self.browser.drop('#panel-script', [self.browser.downloaded('game (patched).bin')])
+        common.waited(lambda: self.browser.run('return globalThis.reads') == 2, 'the dropped file is not read')
+        self.browser.run('openGate()')
+        self.browser.wait('#panel-script [role=status] .say', 'game (patched).bin is right.')
+
+    def test_a_fault_is_said_in_the_words_of_the_program_with_help(self) -> None:
+        script = 'cdpatch 1\nset 26 0 537 was 8358\nset 26 2105 41 was 42\nreplace 26 0 41\n'
+        files = discs.written(game=discs.game(), faulty=script)
+        self.open_image(files['game'])
+        self.open_script(files['faulty'])
+        self.assertEqual([row.split('|')[2] for row in self.rows()], ['', 'bad hex', 'offset over 2047', 'unknown verb', ''])
+        _, text = common.run_program('check', files['game'], files['faulty'])
+        self.assertIn('bad hex', text)
+        self.assertIn('An odd number of digits: 3. Two digits make one byte.', self.browser.text('.editor'))
+        self.assertIn('3 lines have a fault', self.browser.text('#panel-script .side'))
+        self.assertIn('The lines are 2, 3 and 4.', self.browser.text('#panel-script .side'))
+        self.assertTrue(self.is_off('Check') and self.is_off('Apply and save'))
+        self.press('Block 27 offset 57?')
+        self.browser.wait('#panel-script header .tag', '2 faults')
+        self.assertIn('set 27 57 41 was 42', self.script_text())
+
+    def test_keys_edit_lines_and_undo_takes_back(self) -> None:
+        self.open_image(discs.written(game=discs.game())['game'])
+        self.browser.click('#tab-script')
+        self.browser.click('.editor textarea')
+        self.browser.press(Keys.ARROW_DOWN, 'rebuild 1', Keys.ENTER, 'rebuild 2', Keys.ENTER, '# end')
+        self.assertEqual([row.split('|')[1] for row in self.rows()], ['cdpatch 1', 'rebuild 1', 'rebuild 2', '# end'])
+        self.browser.press(Keys.HOME, Keys.BACKSPACE)
+        self.assertEqual([row.split('|')[1] for row in self.rows()][2:], ['rebuild 2# end'])
+        self.browser.press('z', held=Keys.CONTROL)
+        self.assertEqual([row.split('|')[1] for row in self.rows()][2:], ['rebuild 2', '# end'])
+        self.browser.press(Keys.ARROW_UP, Keys.ARROW_UP, held=Keys.SHIFT)
+        self.browser.press(Keys.DELETE)
+        self.assertEqual([row.split('|')[1] for row in self.rows()], ['# end'])
+        self.browser.press('z', held=Keys.CONTROL)
+        self.browser.press(Keys.ENTER, held=Keys.CONTROL)
+        self.browser.wait('.tally', '2\napplied')
+        self.assertEqual(self.script_text(), 'cdpatch 1\nrebuild 1\nrebuild 2\n# end')
+
+    def test_f8_goes_from_one_wrong_line_to_the_next(self) -> None:
+        self.open_script(discs.written(faulty='cdpatch 1\nrebuild x\n# note\nrebuild 2\nrebuild y\n')['faulty'])
+        self.browser.click('.editor textarea')
+        where = []
+        for held in ('', '', '', Keys.SHIFT):
+            self.browser.press(Keys.F8, held=held)
+            where.append(self.browser.run('return document.activeElement.getAttribute("aria-label")').split(':')[0])
+        self.assertEqual(where, [f'Script, line {i} of 6' for i in (2, 5, 2, 5)])
+
+    def test_the_line_with_the_caret_is_explained(self) -> None:
+        files = discs.written(game=discs.game(), english=discs.script())
+        self.open_image(files['game'])
+        self.open_script(files['english'])
+        self.browser.click('.editor textarea')
+        self.browser.press(Keys.ARROW_DOWN, Keys.ARROW_DOWN, Keys.ARROW_DOWN)
+        self.browser.wait('.explain', f'Line 4: write 8 bytes at offset 0 of block {discs.first_block()}, in /DATA/MSG00.DAT')
+        self.browser.wait('.explain', 'Start␣␣␣')
+        self.browser.wait('.explain', 'スタート')
+
+    def test_only_visible_lines_of_65535_are_drawn(self) -> None:
+        script = 'cdpatch 1\n' + ''.join(f'set {i} 0 {"4A" * (4096 if i == 9 else 8)}\n' for i in range(65535))
+        self.open_script(discs.written(large=script)['large'])
+        self.browser.wait('#panel-script header .tag', '65,535 patches')
+        self.assertLess(len(self.rows()), 80)
+        self.browser.click('.editor textarea')
+        self.browser.press(Keys.END, held=Keys.CONTROL)
+        self.assertEqual(self.rows()[-2].split('|')[:2], ['65536', 'set 65534 0 4A4A4A4A4A4A4A4A'])
+        self.browser.press('rebuild 7')
+        self.browser.wait('#panel-script header .tag', '1 fault')
+        self.assertEqual(self.rows()[-1], '65537|rebuild 7|more than 65535 patches')
+        self.assertEqual(self.browser.attempts(), [])
+
+    def test_the_undo_script_makes_the_old_image_again(self) -> None:
+        files = discs.written(game=discs.game(), english=discs.script())
+        self.open_image(files['game'])
+        self.open_script(files['english'])
+        self.press('Make the undo script')
+        undo = self.browser.downloaded('english (undo).txt')
+        _, _, patched = applied(files['game'], files['english'])
+        self.assertNotEqual(patched, discs.game())
+        status, _, again = applied(discs.written(patched=patched)['patched'], undo)
+        self.assertEqual((status, again), (0, discs.game()))
+
+    def test_the_undo_script_can_be_made_of_an_image_that_is_opened_later(self) -> None:
+        files = discs.written(game=discs.game(), english=discs.script())
+        self.open_script(files['english'])
+        self.assertTrue(self.is_off('Make the undo script'))
+        self.open_image(files['game'])
+        self.browser.click('#tab-script')
+        self.assertFalse(self.is_off('Make the undo script'))
+
+    def test_a_file_that_shrinks_saves_nothing(self) -> None:
+        files = discs.written(game=discs.game(), english=discs.script())
+        self.open_image(files['game'])
+        self.open_script(files['english'])
+        files['game'].write_bytes(discs.game()[:100000])
+        self.press('Apply and save')
+        self.browser.wait('#panel-script .say.bad', 'cannot be read any more')
+        self.assertIn('No image was kept', self.browser.text('#panel-script .side'))
+        self.assertEqual(list(self.browser.downloads.glob('game*')), [])
+
+    def test_a_base_that_is_not_0_is_that_of_the_image(self) -> None:
+        image = common.image_of([b'one', b'two', b'three'], 1000)
+        files = discs.written(track=image, later='cdpatch 1\nset 1001 0 54574F was 74776F\nrebuild 5\n')
+        self.open_image(files['track'])
+        self.open_script(files['later'])
+        self.press('Check')
+        self.browser.wait('.tally', '1\nrefused')
+        _, text = common.run_program('check', '--base', '1000', files['track'], files['later'])
+        self.assertEqual(self.browser.run('return document.querySelector("pre.log").textContent'), text)
+
+
+class Streaming(PageTest):
+    stub = PICKER
+
+    def begin(self) -> dict[str, Path]:
+        """Opens a game and its script."""
+        files = discs.written(game=discs.game(), english=discs.script())
+        self.open_image(files['game'])
+        self.open_script(files['english'])
+        return files
+
+    def test_what_is_streamed_is_what_the_program_writes(self) -> None:
+        files = self.begin()
+        self.press('Apply and save')
+        self.browser.wait('#panel-script .say.good', 'game (patched).bin is saved.')
+        self.assertEqual(self.browser.run('return chosen.state'), 'closed')
+        self.assertEqual(self.chosen_bytes(), applied(files['game'], files['english'])[2])
+
+    def test_a_failure_at_each_write_keeps_no_image(self) -> None:
+        self.begin()
+        self.press('Apply and save')
+        self.browser.wait('#panel-script .say.good')
+        count = int(self.browser.run('return chosen.writes.length'))
+        self.assertGreater(count, 2)
+        for failing in [*range(count), 'close']:
+            self.press('Back')
+            self.browser.run('Object.assign(chosen, { writes: [], state: "none", failing: arguments[0], removed: false })', failing)
+            self.press('Apply and save')
+            self.browser.wait('#panel-script .say.bad', 'The disk is full')
+            self.assertIn('No image was kept', self.browser.text('#panel-script .side'))
+            self.assertEqual(self.browser.run('return [chosen.state, chosen.removed]'), ['aborted', True], f'write {failing}')
+
+    def test_cancel_in_the_middle_keeps_no_image(self) -> None:
+        self.begin()
+        self.browser.run('chosen.slow = 400')
+        self.press('Apply and save')
+        common.waited(lambda: self.browser.run('return chosen.writes.length > 0'), 'nothing was written')
+        self.press('Cancel')
+        self.browser.wait('#panel-script .say', 'Cancelled.')
+        self.assertIn('No image was kept', self.browser.text('#panel-script .side'))
+        self.assertEqual(self.browser.run('return [chosen.state, chosen.removed]'), ['aborted', True])
+
+    def test_the_open_image_is_never_written_over(self) -> None:
+        game = self.begin()['game']
+        self.browser.run("document.body.insertAdjacentElement('beforeend', Object.assign(document.createElement('input'), { type: 'file', id: 'own' }))")
+        self.browser.give('#own', [game])
+        self.browser.run('chosen.own = document.querySelector("#own").files[0]')
+        self.press('Apply and save')
+        self.browser.wait('#panel-script .say.bad', 'is the open image itself')
+        self.assertEqual(self.browser.run('return [chosen.state, chosen.writes.length]'), ['none', 0])
+
+    def test_who_chooses_no_file_is_back_at_check(self) -> None:
+        self.begin()
+        self.browser.run('chosen.none = true')
+        self.press('Apply and save')
+        common.waited(lambda: self.browser.run('return chosen.asked') == 1, 'nobody was asked')
+        self.browser.wait('#panel-script .side h2', 'Check')
+        self.assertEqual(self.browser.run('return chosen.state'), 'none')

@@ -1,0 +1,174 @@
+"""A second image: repair from it, compare with it, or open it instead. What is saved is compared with what the program says of it."""
+
+import random
+import unittest
+from pathlib import Path
+
+import chromium
+import discs
+from common import PAGE, SECTOR_SIZE, damaged, folder, run_program, sector, waited
+
+AUDIO = random.Random(8).randbytes(30 * SECTOR_SIZE)
+SECTORS = len(discs.game()) // SECTOR_SIZE + 30
+BUTTON = "[...document.querySelectorAll('#panel-disc button')].find(it => it.checkVisibility() && it.innerText.startsWith(arguments[0]))"
+
+
+def with_faults(*faults: tuple[int, int]) -> bytes:
+    """The game with audio after it, and a wrong byte at each of these offsets of blocks."""
+    image = discs.game()
+    for block, offset in faults:
+        image = damaged(image, block, offset)
+    return image + AUDIO
+
+
+def audited(path: Path) -> set[int]:
+    """The blocks that the program's audit names."""
+    return {int(line.split()[0]) for line in run_program('audit', path)[1].splitlines()[:-1]}
+
+
+class Second(unittest.TestCase):
+    browser: chromium.Chromium
+
+    @classmethod
+    def setUpClass(cls) -> None:
+        cls.browser = chromium.Chromium()
+        # So that files are saved as downloads, which a test can read.
+        cls.browser.before_pages('delete window.showSaveFilePicker')
+
+    @classmethod
+    def tearDownClass(cls) -> None:
+        cls.browser.quit()
+
+    def setUp(self) -> None:
+        self.browser.open(PAGE)
+        self.browser.wait('#open-files')
+        self.browser.attempts()
+
+    def pair(self, first: bytes, second: bytes) -> tuple[Path, Path]:
+        """Two files, which are opened one after the other."""
+        place = folder('pair')
+        paths = place / 'game.bin', place / 'other.bin'
+        for path, data in zip(paths, (first, second)):
+            path.write_bytes(data)
+        browser = self.browser
+        browser.open(PAGE)
+        browser.wait('#open-files')
+        browser.give('#files', paths[:1])
+        browser.wait('#disc-line .lead', 'Mode 1')
+        browser.give('#files', paths[1:])
+        browser.wait('#second-title', 'other.bin')
+        return paths
+
+    def press(self, label: str) -> None:
+        waited(lambda: self.browser.run(f'return Boolean({BUTTON})', label), f'no button {label}')
+        self.browser.run(f'{BUTTON}.click()', label)
+
+    def tally(self) -> list[int]:
+        self.browser.wait('.tally')
+        counts = self.browser.run("return [...document.querySelectorAll('.tally b')].map(it => it.innerText)")
+        return [int(count.replace(',', '')) for count in counts]
+
+    def legend(self, name: str) -> int:
+        script = '''return [...document.querySelectorAll('.legend button')].find(it => it.innerText.includes(arguments[0]))
+            .querySelector('.n').innerText'''
+        return int(self.browser.run(script, name).replace(',', ''))
+
+    def test_a_repair_takes_what_is_damaged_here_and_sound_there_and_nothing_else(self) -> None:
+        first = bytearray(with_faults((40, 9), (60, 9), (80, 9)))
+        first[100 * SECTOR_SIZE:100 * SECTOR_SIZE + 12] = bytes(12)
+        second = with_faults((60, 500), (90, 7))
+        path, _ = self.pair(bytes(first), second)
+        self.assertEqual(self.tally(), [3, 1, 0])
+        self.assertEqual([self.legend('can be repaired'), self.legend('damaged in both')], [3, 1])
+        self.press('Save repaired image')
+        saved = self.browser.downloaded('game (repaired).bin')
+        due = bytearray(first)
+        for block in (40, 80, 100):
+            due[block * SECTOR_SIZE:(block + 1) * SECTOR_SIZE] = second[block * SECTOR_SIZE:(block + 1) * SECTOR_SIZE]
+        self.assertEqual(saved.read_bytes(), bytes(due))
+        self.assertEqual(audited(saved), {60})
+        saved.unlink()
+        self.browser.wait('[aria-label="Damaged in both: 1"]', '60')
+
+    def test_a_repair_as_a_script_gives_the_same_image(self) -> None:
+        first, second = with_faults((40, 9), (60, 9)), with_faults()
+        path, _ = self.pair(first, second)
+        self.press('Write it as a script')
+        self.press('Save the script')
+        script = self.browser.downloaded('game (repair).txt')
+        out = path.parent / 'repaired.bin'
+        self.assertEqual(run_program('apply', '--carry', path, script, out)[0], 0)
+        self.assertEqual(out.read_bytes(), second)
+        script.unlink()
+
+    def test_another_disc_is_not_taken_for_a_dump_of_the_same(self) -> None:
+        other = b''.join(sector(block, b'%d other' % block) for block in range(SECTORS - 30)) + AUDIO
+        self.pair(with_faults((40, 9)), other)
+        self.browser.wait('#second-body .say.bad', 'no dump of the same disc')
+        self.assertFalse(self.browser.run(f'return Boolean({BUTTON})', 'Save repaired image'))
+
+    def test_a_comparison_is_a_script_that_the_program_applies(self) -> None:
+        first = with_faults()
+        second = bytearray(first)
+        for block in (20, 21, 70):
+            user = bytearray(first[block * SECTOR_SIZE + 16:][:2048])
+            user[5:9] = b'new!'
+            second[block * SECTOR_SIZE:(block + 1) * SECTOR_SIZE] = sector(block, bytes(user))
+        path, _ = self.pair(first, bytes(second))
+        self.browser.wait('#second-body .tally')
+        self.assertEqual(self.tally(), [3, 0, 0])
+        self.assertEqual(self.legend('differ'), 3)
+        self.browser.wait('[aria-label="Bytes that differ, by field"]', '70')
+        self.press('Write the script')
+        self.press('Save the script')
+        script = self.browser.downloaded('other (changes).txt')
+        out = path.parent / 'new.bin'
+        self.assertEqual(run_program('apply', path, script, out)[0], 0)
+        self.assertEqual(out.read_bytes(), bytes(second))
+        self.press('Put it into the panel Script')
+        self.browser.wait('#panel-script', 'other (changes).txt')
+        script.unlink()
+
+    def test_damage_of_the_second_is_named_and_left_out_only_if_asked(self) -> None:
+        first = with_faults()
+        path, _ = self.pair(first, with_faults((33, 5), (44, 5)))
+        self.assertEqual(self.tally(), [2, 0, 2])
+        self.press('Write the script')
+        self.browser.wait('#second-body .say.bad', 'the second image is damaged in blocks 33 and 44')
+        self.assertFalse(self.browser.run(f'return Boolean({BUTTON})', 'Save the script'))
+        self.press('Leave these 2 out')
+        self.press('Save the script')
+        script = self.browser.downloaded('other (changes).txt')
+        self.assertEqual(script.read_text(), 'cdpatch 1\n')
+        script.unlink()
+
+    def test_audio_that_differs_is_no_script(self) -> None:
+        self.pair(with_faults(), discs.game() + AUDIO[:-1] + bytes([AUDIO[-1] ^ 1]))
+        self.assertEqual(self.tally(), [1, 1, 0])
+        self.press('Write the script')
+        self.browser.wait('#second-body .say.bad', f'block {SECTORS - 1} differ, and a script changes only Mode 1 sectors')
+
+    def test_another_length_can_only_be_opened_instead(self) -> None:
+        _, other = self.pair(with_faults(), with_faults() + AUDIO[:2 * SECTOR_SIZE])
+        self.browser.wait('#second-body .say', 'The second image has 2 sectors more')
+        self.press('Repair from it')
+        self.browser.wait('#second-body .say', 'Repair and Compare need the same length')
+        self.press('Open it instead')
+        self.browser.run("document.querySelector('#second-body .btn.main').click()")
+        self.browser.wait('#disc-line .name', other.name)
+        self.assertFalse(self.browser.run("return document.querySelector('#second-title').checkVisibility()"))
+
+    def test_an_image_of_another_part_of_the_disc_is_said_to_be_that(self) -> None:
+        first = b''.join(sector(block, b'%d' % block) for block in range(40))
+        second = b''.join(sector(1000 + block, b'%d' % block) for block in range(40))
+        self.pair(damaged(first, 5), second)
+        self.browser.wait('#messages .say.bad', 'they are not the same part of a disc')
+        self.browser.wait('#second-body', 'Nothing was found out.')
+
+    def test_every_control_has_a_name_and_nothing_is_sent(self) -> None:
+        self.pair(with_faults((40, 9), (60, 9)), with_faults((60, 500)))
+        self.browser.wait('[aria-label="Damaged in both: 1"]')
+        self.assertEqual(self.browser.nameless(), [])
+        for width in (360, 620, 900, 1180, 1600):
+            self.assertLessEqual(self.browser.wider(width), 0, width)
+        self.assertEqual(self.browser.attempts(), [])

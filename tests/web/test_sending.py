@@ -1,0 +1,108 @@
+"""That the page sends nothing: what the browser saw of a whole walk through it, its policy, and the words of its text."""
+
+import base64
+import hashlib
+import re
+
+import chromium
+import common
+import discs
+from pages import NO_PICKER, PageTest, patcher
+
+POLICY = ("default-src 'none'; script-src 'sha256-{script}' 'wasm-unsafe-eval'; style-src 'sha256-{style}'; worker-src blob:; "
+          "img-src data: blob:; connect-src 'none'; form-action 'none'; base-uri 'none'; require-trusted-types-for 'script'; "
+          "trusted-types cdpatch")
+
+# What the policy does not stop, or what nothing here needs. The page's own text has none of it.
+SENDING = [r'\bfetch\s*\(', 'XMLHttpRequest', 'WebSocket', 'EventSource', 'WebTransport', 'RTCPeerConnection', 'sendBeacon', 'importScripts',
+           r'\blocation\s*=', r'location\.(href|replace|assign)\b', r'window\.open\b', r'\.submit\s*\(', r'\.src\s*=', r'\.action\s*=',
+           'serviceWorker', r'\beval\s*\(', r'new Function\b', 'innerHTML', 'outerHTML', 'insertAdjacentHTML', r'document\.write\b',
+           r"\bhref:\s*['\"`](?!blob|#)", r'\bimport\s*\(']
+MARKUP = [r'<iframe', r'<form', r'<object', r'<embed', r'<base\b', r'http-equiv="refresh"', r'<link(?! rel="icon" href="data:)', r'\son\w+=', r'\sstyle="',
+          r'\shref="(?!#|data:)', r'\ssrc="']
+
+
+def page() -> str:
+    return common.PAGE.read_text(encoding='utf-8')
+
+
+def part(tag: str) -> str:
+    """What stands in the page's one script, or style."""
+    found = re.findall(rf'<{tag}>(.*?)</{tag}>', page(), re.DOTALL)
+    assert len(found) == 1, f'{len(found)} of {tag}'
+    return str(found[0])
+
+
+def hash_of(text: str) -> str:
+    return base64.b64encode(hashlib.sha256(text.encode()).digest()).decode()
+
+
+class Sending(PageTest):
+    stub = NO_PICKER
+
+    def walk(self) -> None:
+        """Opens, searches, replaces, checks, saves and publishes."""
+        self.open_image(discs.written(game=discs.game())['game'])
+        self.browser.click('#tab-text')
+        self.browser.type('#find-text', 'スタート')
+        self.press('Find')
+        self.browser.wait('#panel-text .hits mark')
+        self.browser.type('#new-text', 'Start')
+        self.press('Add for all')
+        self.browser.click('#tab-script')
+        self.press('Check')
+        self.browser.wait('.tally', '5\napplied')
+        self.press('Apply and save')
+        self.browser.downloaded('game (patched).bin')
+        self.browser.click('#tab-publish')
+        self.browser.wait('#panel-publish', '0 refused')
+        self.browser.type('#patcher-title', 'Title')
+        self.press('Save as a patcher')
+        self.browser.downloaded('Title.html')
+
+    def test_a_whole_walk_reaches_nothing(self) -> None:
+        self.walk()
+        self.assertEqual(self.browser.attempts(), [])
+        self.browser.open(self.browser.downloads / 'Title.html')
+        self.browser.give('#player-files', [discs.written(game=discs.game())['game']])
+        self.browser.wait('#verdict', 'This is the right disc.')
+        self.assertEqual(self.browser.attempts(), [])
+
+    def test_a_server_is_asked_only_for_the_page(self) -> None:
+        server = common.Server(common.PAGE.parent)
+        self.addCleanup(server.close)
+        self.browser.open(f'{server.url}/{common.PAGE.name}')
+        self.walk()
+        self.assertEqual(self.browser.attempts(), [])
+        self.assertEqual(server.requests, [f'GET /{common.PAGE.name} HTTP/1.1'])
+
+    def test_the_text_of_the_page_has_no_word_that_sends(self) -> None:
+        script = re.sub(r"module: '[^']*'", '', part('script'))
+        found = [match.group() for form in SENDING for match in re.finditer(form, script)]
+        markup = page().replace(part('script'), '').replace(part('style'), '')
+        found += [match.group() for form in MARKUP for match in re.finditer(form, markup.split('</head>')[1])]
+        found += re.findall(r'https?://[^\'"` )]*', script + markup)
+        self.assertEqual([it for it in found if it != 'http://www.w3.org/2000/svg'], [])
+
+    def test_the_policy_has_the_hashes_of_the_script_and_the_style(self) -> None:
+        found = re.findall(r'<meta http-equiv="Content-Security-Policy" content="([^"]*)">', page())
+        self.assertEqual(found, [POLICY.format(script=hash_of(part('script')), style=hash_of(part('style')))])
+
+    def test_the_page_has_at_most_400_kilobytes_and_ends_where_data_begin(self) -> None:
+        self.assertLessEqual(common.PAGE.stat().st_size, 400000)
+        self.assertTrue(page().endswith('</script>\n<plaintext hidden id="data">\n'))
+
+
+class Policy(PageTest):
+    def test_it_stops_what_an_altered_page_would_send(self) -> None:
+        """A copy whose script may not run makes no request, whatever it says."""
+        tries = b'fetch("http://127.0.0.1:9/");new Image().src="http://127.0.0.1:9/";new RTCPeerConnection();location="http://127.0.0.1:9/";'
+        path = common.folder('altered') / 'altered.html'
+        path.write_bytes(patcher(discs.game(), b'', 'cdpatch 1\nrebuild 0\n').replace(b"'use strict';", tries + b"'use strict';", 1))
+        browser = chromium.Chromium()
+        self.addCleanup(browser.quit)
+        browser.open(path)
+        browser.wait('#not-started', 'cdpatch has not started.')
+        found = browser.attempts()
+        self.assertEqual([it for it in found if it.startswith('request') or it == 'RTCPeerConnection'], [])
+        self.assertTrue(any('script-src' in it for it in found), found)

@@ -1,0 +1,137 @@
+"""The panel Text: hits, their tags, the length gauge, and replacing into the script."""
+
+import re
+
+import common
+import discs
+from pages import PageTest, applied
+from selenium.webdriver.common.keys import Keys
+
+
+def places(text: bytes) -> list[str]:
+    """Where some bytes stand in the user data of the game, as 'block offset'."""
+    user = b''.join(discs.game()[at + 16:at + 2064] for at in range(0, len(discs.game()), 2352))
+    found = [match.start() for match in re.finditer(b'(?=' + re.escape(text) + b')', user)]
+    return [f'{at // 2048} {at % 2048}' for at in found]
+
+
+class Text(PageTest):
+    def find(self, text: str) -> None:
+        """Opens the game and finds a text by the keyboard."""
+        self.files = discs.written(game=discs.game())
+        self.open_image(self.files['game'])
+        self.browser.click('#tab-text')
+        self.browser.click('#find-text')
+        self.search(text)
+
+    def search(self, text: str) -> None:
+        """Types a text, presses Enter, and waits until the new text can be typed."""
+        self.browser.press(text, Keys.ENTER)
+        self.browser.wait('#panel-text .hits tbody mark')
+        common.waited(lambda: self.browser.run('return document.activeElement.id === "new-text"'), 'the new text has no focus')
+
+    def hits(self) -> list[str]:
+        cells = 'return [...document.querySelectorAll(".hits tbody tr")].map(row => [...row.cells].slice(0, 2).map(it => it.innerText.split(",")[0].trim()).join(" "))'
+        return list(self.browser.run(cells))
+
+    def row(self, number: int) -> str:
+        return self.browser.text(f'.hits tbody tr:nth-child({number})')
+
+    def test_each_hit_is_found_with_its_file_and_what_stands_round_it(self) -> None:
+        self.find('スタート')
+        self.assertEqual(self.hits(), places(discs.START))
+        self.assertEqual(len(self.hits()), 5)
+        common.waited(lambda: 'もう一度スタートに戻りますか？' in self.row(3), self.row(3))
+        self.assertIn('/DATA/MSG00.DAT', self.row(3))
+        self.assertIn('over a border of blocks', self.row(4))
+
+    def test_find_replace_check_and_apply_give_what_the_program_writes(self) -> None:
+        self.find('スタート')
+        self.browser.press('Start', Keys.ENTER)
+        self.browser.wait('.hits tbody tr:nth-child(1)', 'in the script, line 2')
+        self.browser.wait('#panel-text .side h2', f'Replace: block {discs.first_block()} offset')
+        self.press('Add for all 4 left')
+        self.browser.wait('#panel-text .say.good', '4 lines added to the script.')
+        self.browser.click('#tab-script')
+        script = self.script_text()
+        new = 'Start'.encode().ljust(8).hex().upper()
+        self.assertEqual(script, 'cdpatch 1\n' + ''.join(f'set {place} {new} was {discs.START.hex().upper()}\n' for place in places(discs.START)))
+        self.press('Check')
+        self.browser.wait('.tally', '5\napplied')
+        self.press('Apply and save')
+        saved = self.browser.downloaded('game (patched).bin').read_bytes()
+        self.assertEqual(saved, applied(self.files['game'], discs.written(script=script)['script'])[2])
+        self.assertEqual(self.browser.attempts(), [])
+
+    def test_a_text_that_is_too_long_is_not_added(self) -> None:
+        self.find('スタート')
+        self.browser.press('Start game')
+        self.browser.wait('#new-length', '10 bytes, 2 too many for the 8 of the old text')
+        self.assertEqual(self.browser.run('return document.querySelectorAll(".gauge .over").length'), 2)
+        self.assertTrue(self.is_off('Add to the script') and self.is_off('Add for all'))
+        self.browser.press(Keys.ENTER)
+        self.press('Add to the script')
+        self.assertTrue(self.browser.run('return document.querySelector("#count-script").hidden'))
+
+    def test_a_wide_space_fills_only_what_it_fits(self) -> None:
+        self.find('スタート')
+        self.browser.press('Star')
+        self.browser.run('document.querySelector("#panel-text select.short").value = "8140"; '
+                         'document.querySelector("#panel-text select.short").dispatchEvent(new Event("change"))')
+        self.browser.wait('.line-out', f'was {discs.START.hex().upper()}')
+        self.assertIn('53746172' + '8140' * 2, self.browser.text('.line-out'))
+        self.browser.click('#new-text')
+        self.browser.press('t')
+        self.browser.wait('#panel-text .say.bad', '3 bytes cannot be filled with that')
+        self.assertTrue(self.is_off('Add to the script'))
+
+    def test_a_hit_may_begin_inside_a_character(self) -> None:
+        user = [bytes([0x2E] * 20) + '海Xスタ'.encode('cp932'), b'\0' + bytes([0x83, 0x83]) + b'X']
+        self.open_image(discs.written(inside=common.image_of(user))['inside'])
+        self.browser.click('#tab-text')
+        self.browser.run('document.querySelector("#find-encoding").value = "hex"; '
+                         'document.querySelector("#find-encoding").dispatchEvent(new Event("change"))')
+        self.browser.type('#find-text', '43 58')
+        self.browser.press(Keys.ENTER)
+        self.browser.wait('#panel-text .hits tbody mark')
+        self.browser.run('document.querySelector("#find-encoding").value = "CP932"; '
+                         'document.querySelector("#find-encoding").dispatchEvent(new Event("change"))')
+        self.browser.wait('.hits tbody tr', 'may begin inside a character')
+
+    def test_a_table_of_the_game_is_an_encoding(self) -> None:
+        image = common.image_of([b'\x10\x11\x12\x10\xFF', b'', b''])
+        place = common.folder('table')
+        (place / 'game.tbl').write_text('10=あ\n11=い\n12=う\n20=A\n21=B\nFF=<end>\n')
+        self.open_image(discs.written(table=image)['table'])
+        self.browser.click('#tab-text')
+        self.browser.give('#panel-text input[type=file]', [place / 'game.tbl'])
+        self.browser.wait('#panel-text .say.good', 'game.tbl is loaded.')
+        self.browser.click('#find-text')
+        self.search('いう')
+        self.browser.press('AB', Keys.ENTER)
+        self.browser.wait('#count-script', '1')
+        self.browser.click('#tab-script')
+        self.assertEqual(self.script_text(), 'cdpatch 1\nset 0 1 2021 was 1112\n')
+        (place / 'bad.tbl').write_text('10=あ\nno line\n')
+        self.browser.drop('#main', [place / 'bad.tbl'])
+        self.browser.wait('#panel-text .say.bad', 'line 2 of the table is not HEX=TEXT')
+
+    def test_a_damaged_sector_is_not_replaced(self) -> None:
+        self.open_image(discs.written(game=discs.scratched())['game'])
+        self.browser.click('#tab-text')
+        self.browser.click('#find-text')
+        self.search('スタート')
+        self.browser.press('Start')
+        self.press('Add for all 5 left')
+        self.browser.wait('#panel-text .say.warn', f'Block {discs.first_block() + 1} is damaged: repair it first')
+        self.assertEqual(self.browser.text('#count-script').split()[0], '3')
+
+    def test_no_hit_says_what_was_searched(self) -> None:
+        self.open_image(discs.written(game=discs.game())['game'])
+        self.browser.click('#tab-text')
+        self.browser.click('#find-text')
+        self.browser.press('存在しない', Keys.ENTER)
+        self.browser.wait('#panel-text .say', 'No hit in Shift-JIS (CP932).')
+        self.browser.wait('#panel-text .say', f'The user data of {len(discs.game()) // 2352} sectors were searched to the end.')
+        self.browser.type('#find-text', '한')
+        self.browser.wait('.hint', "CP932 has no '한' (U+D55C), character 1 of the text")

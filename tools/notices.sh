@@ -1,0 +1,38 @@
+#!/usr/bin/env bash
+# `tools/notices.sh OUT` writes the notices of the crates of the toolchain that the program, the library and the modules contain,
+# whose licences ask for them in each copy. It reads crates.txt, and the licences beside the crates' sources.
+set -euo pipefail
+crates=$(dirname "$(rt doc)")/rattle
+cd "$(dirname "$0")/.."
+
+# The crates that crates.txt names and does not define.
+ported_crates() {
+    local name words word own=' ' named=''
+    while IFS=: read -r name words; do
+        own+="${name%% *} "
+        named+=" $words"
+    done < <(sed 's/#.*//' crates.txt)
+    for word in $named; do
+        [[ $own == *" $word "* ]] || echo "$word"
+    done | sort -u
+}
+
+# The licence of a crate: MIT, if it may be chosen, and what else has to go along.
+licence_of() {
+    local file found=''
+    for file in "$crates/$1"/LICENSE-MIT "$crates/$1"/LICENSE "$crates/$1"/LICENSE-UNICODE; do
+        [ -f "$file" ] || continue
+        [ -z "$found" ] || echo
+        found=yes
+        cat "$file"
+    done
+    [ -n "$found" ] || { echo "tools/notices.sh: $1 has no licence" >&2; return 1; }
+}
+
+{
+    echo 'cdpatch contains these crates. The notices are those of their authors.'
+    for crate in $(ported_crates); do
+        text=$(licence_of "$crate")
+        printf '\n== %s ==\n\n%s\n' "$crate" "$text"
+    done
+} > "$1"

@@ -1,0 +1,9 @@
+#!/usr/bin/env bash
+# `tools/web.sh LIBRARY DIRECTORY` joins the core, a door and the module of LIBRARY into one file each in DIRECTORY: the command cdscript,
+# and the page cdpatch.html.
+set -euo pipefail
+library=$(realpath "$1")
+directory=$(realpath "$2")
+cd "$(dirname "$0")/.."
+python3 -B tools/join.py command "$library/cdpatch.wasm" "$directory/cdscript"
+python3 -B tools/join.py page "$library/cdpatch.wasm" "$directory/cdpatch.html"

@@ -1,0 +1,150 @@
+// The arguments of the command line.
+
+import { encodingOf } from '../core/text.js';
+import { WrongArguments } from './failures.js';
+import { FORMS, OPTION_FORMS } from './forms.js';
+
+/**
+ * The options that were given, by their names in OPTION_FORMS.
+ * @typedef {{ base?: number, track?: number, limit?: number, first?: number, fill?: Uint8Array, encoding?: string, table?: string,
+ *     output?: string, carry?: boolean, long?: boolean, skipDamaged?: boolean, all?: boolean, fields?: boolean, help?: boolean,
+ *     version?: boolean, notices?: boolean }} Options
+ */
+/** @typedef {{ job: string, names: string[], options: Options }} Given */
+
+const LAST_BASE = 449849;
+const LAST_TRACK = 99;
+const MOST_BLOCKS = 999999999;
+
+/**
+ * A number of one to nine decimal digits within its limits.
+ * @param {string} text
+ * @param {string} name of what it is
+ * @param {number} least
+ * @param {number} most
+ */
+export function numberOf(text, name, least, most) {
+    const number = /^[0-9]{1,9}$/.test(text) ? Number(text) : NaN;
+    if (number >= least && number <= most) return number;
+    throw new WrongArguments(`${name} is a number from ${least} to ${most}, not '${text}'`);
+}
+
+/** @param {string} text */
+function fillOf(text) {
+    if (!/^([0-9A-Fa-f]{2})+$/.test(text)) throw new WrongArguments(`--fill is two hexadecimal digits for each byte, not '${text}'`);
+    return Uint8Array.from(text.match(/../g) || [], pair => parseInt(pair, 16));
+}
+
+/** @param {string} name */
+function knownEncoding(name) {
+    if (encodingOf(name) === null) throw new WrongArguments(`there is no encoding '${name}' here`);
+    return name;
+}
+
+/** @type {Record<string, (text: string) => string | number | Uint8Array>} how the values of options are read; the others are texts */
+const VALUES = {
+    base: text => numberOf(text, '--base', 0, LAST_BASE),
+    track: text => numberOf(text, '--track', 1, LAST_TRACK),
+    limit: text => numberOf(text, '--limit', 0, MOST_BLOCKS),
+    first: text => numberOf(text, '--first', 0, LAST_BASE),
+    fill: fillOf,
+    encoding: knownEncoding,
+};
+
+/**
+ * The option that a word begins, if it is one, and its value after `=`.
+ * @param {string} word
+ */
+function optionIn(word) {
+    if (!word.startsWith('-') || word === '-') return null;
+    const [, spelled, value] = /^(--?[^=]*)(?:=(.*))?$/s.exec(word) || ['', word, undefined];
+    const meant = spelled === '-h' ? '--help' : spelled;
+    const name = Object.keys(OPTION_FORMS).find(key => OPTION_FORMS[key].word === meant);
+    if (!name) throw new WrongArguments(`there is no option ${spelled}; a name that begins with - stands after --`);
+    if (value !== undefined && OPTION_FORMS[name].value === '') throw new WrongArguments(`${spelled} takes no value`);
+    return { name, value };
+}
+
+/**
+ * Cuts the words of the command line into options and names.
+ * @param {string[]} words
+ */
+function sorted(words) {
+    /** @type {Record<string, any>} */
+    const options = {};
+    const names = [];
+    const left = [...words];
+    while (left.length > 0) {
+        const word = left.shift() || '';
+        const option = word === '--' ? null : optionIn(word);
+        if (word === '--') names.push(...left.splice(0));
+        else if (option === null) names.push(word);
+        else takeOption(options, option, left);
+    }
+    return { options, names };
+}
+
+/**
+ * @param {Record<string, any>} options
+ * @param {{ name: string, value: string | undefined }} option
+ * @param {string[]} left the words after it
+ */
+function takeOption(options, { name, value }, left) {
+    const form = OPTION_FORMS[name];
+    if (name in options) throw new WrongArguments(`${form.word} stands there twice`);
+    if (form.value === '') {
+        options[name] = true;
+        return;
+    }
+    const text = value === undefined ? left.shift() : value;
+    if (text === undefined) throw new WrongArguments(`${form.word} wants ${form.value}`);
+    options[name] = name in VALUES ? VALUES[name](text) : text;
+}
+
+/**
+ * @param {string} job
+ * @param {string[]} names
+ */
+function checkNames(job, names) {
+    const { takes } = FORMS[job];
+    const together = takes.filter(name => name.startsWith('[')).flatMap(name => name.split(' ').slice(1)).length;
+    const least = takes.filter(name => !/^\[|\?$/.test(name)).length;
+    const most = takes.some(name => name.endsWith('..')) ? Infinity : takes.length + together;
+    if (names.length >= least && names.length <= most && (names.length - least) % (together + 1) === 0) return;
+    throw new WrongArguments(`${job} wants ${usageOf(job)}; see cdscript ${job} --help`);
+}
+
+/**
+ * What a job takes, as help shows it.
+ * @param {string} job
+ */
+export function usageOf(job) {
+    return FORMS[job].takes.map(name => name.endsWith('?') ? `[${name.slice(0, -1)}]` : name).join(' ');
+}
+
+/**
+ * What a command line asks for. Throws WrongArguments.
+ * @param {string[]} words
+ * @returns {Given}
+ */
+export function argumentsOf(words) {
+    const { options, names: [job = '', ...names] } = sorted(words);
+    if (options.version || options.notices || (options.help && job === '')) return { job: '', names: [], options };
+    if (job === '') throw new WrongArguments('a job is missing; see cdscript --help');
+    if (!Object.keys(FORMS).includes(job)) throw new WrongArguments(`there is no job '${job}'; see cdscript --help`);
+    const foreign = Object.keys(options).find(name => name !== 'help' && !FORMS[job].options.includes(name));
+    if (foreign) throw new WrongArguments(`${job} has no option ${OPTION_FORMS[foreign].word}; see cdscript ${job} --help`);
+    if (options.encoding !== undefined && options.table) throw new WrongArguments('--encoding and --table exclude each other');
+    if (!options.help) checkNames(job, names);
+    return { job, names, options };
+}
+
+/** @param {string} text */
+export function blockOf(text) {
+    return numberOf(text, 'a block', 0, MOST_BLOCKS);
+}
+
+/** @param {string} text */
+export function offsetOf(text) {
+    return numberOf(text, 'an offset', 0, 2047);
+}

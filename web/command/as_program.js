@@ -1,0 +1,131 @@
+// The jobs that are the program's: `list`, `audit`, `check` and `apply`, with its texts, statuses and limits.
+
+import { ImageEnded, bytesOfPieces } from '../core/bytes.js';
+import { passPatched } from '../core/patch.js';
+import { Refusal, patchesOf } from '../core/script.js';
+import { SECTOR_SIZE, imageTooLong, sectorCount } from '../core/sector.js';
+import { auditText, joinSurveys, listText } from '../core/survey.js';
+import { Failure, FileFailure } from './failures.js';
+import { MESSAGES } from './messages.js';
+import { openTrack } from './opening.js';
+
+/** @typedef {import('../core/bytes.js').Piece} Piece */
+/** @typedef {import('../core/bytes.js').Reader} Reader */
+/** @typedef {import('../core/script.js').Patch} Patch */
+/** @typedef {import('../core/survey.js').Survey} Survey */
+/** @typedef {import('./run.js').Run} Run */
+
+/** What the program says, on standard output as it does. */
+export class ProgramFailure extends Failure {
+    /** @param {string | Uint8Array} text a line without its end, or lines */
+    constructor(text) {
+        super(typeof text === 'string' ? `${text}\n` : new TextDecoder().decode(text));
+    }
+}
+
+/** What the program says if an image can't be opened, read or written. */
+const OF_IMAGES = { open: MESSAGES.no_image, read: MESSAGES.read_failed, make: MESSAGES.no_output, write: MESSAGES.write_failed };
+
+/** What it says of a script. */
+const OF_SCRIPTS = { ...OF_IMAGES, open: MESSAGES.no_script, read: MESSAGES.no_script };
+
+/**
+ * What is tried, with the program's message if a file fails.
+ * @template T
+ * @param {typeof OF_IMAGES} messages
+ * @param {() => T | Promise<T>} tried
+ * @returns {Promise<T>}
+ */
+async function orSay(messages, tried) {
+    try {
+        return await tried();
+    } catch (error) {
+        if (error instanceof ImageEnded) throw new ProgramFailure(messages.read);
+        throw error instanceof FileFailure ? new ProgramFailure(messages[error.attempt]) : error;
+    }
+}
+
+/**
+ * The image of a job and its base: a file as the program takes it, or the image of a cue sheet.
+ * @param {Run} run
+ * @returns {Promise<{ reader: Reader, base: number }>}
+ */
+async function openImage(run) {
+    const [name] = run.names;
+    const isSheet = /\.cue$/i.test(name);
+    if (isSheet) return (await openTrack(run, name)).image;
+    const { reader } = await orSay(OF_IMAGES, () => run.files.image(name));
+    return { reader, base: run.options.base || 0 };
+}
+
+/**
+ * @param {Run} run
+ * @param {typeof listText} textOf
+ */
+async function report(run, textOf) {
+    const { reader, base } = await openImage(run);
+    if (imageTooLong(reader.size)) throw new ProgramFailure(MESSAGES.long_image);
+    /** @type {Survey[]} */
+    const parts = [];
+    const { crew, how } = run.sharing(sectorCount(reader.size));
+    await orSay(OF_IMAGES, () => crew.share('survey', [reader], {}, { ...how, base }, part => { parts.push(part); }));
+    const { status, text } = textOf(run.calls, joinSurveys(parts, base), reader.size % SECTOR_SIZE);
+    await run.output.write(text);
+    return status;
+}
+
+/** @param {Run} run */
+export function listJob(run) {
+    return report(run, listText);
+}
+
+/** @param {Run} run */
+export function auditJob(run) {
+    return report(run, auditText);
+}
+
+/**
+ * The patches of the script that a job names.
+ * @param {Run} run
+ * @returns {Promise<Patch[]>}
+ */
+export async function patchesOfScript(run) {
+    const pieces = run.files.piecesOf(run.names[1]);
+    const patches = await orSay(OF_SCRIPTS, () => patchesOf(run.calls, pieces, run.options.long));
+    if (!(patches instanceof Refusal)) return patches;
+    throw new ProgramFailure(patches.reason === 'script-too-long' ? MESSAGES.long_script : patches.text);
+}
+
+/**
+ * Applies the patches of the script, and prints what became of them.
+ * @param {Run} run
+ * @param {{ reader: Reader, base: number }} image
+ * @param {Patch[]} patches
+ * @param {(piece: Piece) => void | Promise<void>} take
+ */
+async function patch(run, { reader, base }, patches, take) {
+    const { carry = false } = run.options;
+    const made = await orSay(OF_IMAGES, () => passPatched(run.calls, reader, patches, base, carry, take));
+    if (made instanceof Refusal) throw new ProgramFailure(MESSAGES.long_image);
+    await run.output.write(made.text);
+    run.output.finish();
+    return made.status;
+}
+
+/** @param {Run} run */
+export async function checkJob(run) {
+    const patches = await patchesOfScript(run);
+    return patch(run, await openImage(run), patches, () => {});
+}
+
+/** @param {Run} run */
+export async function applyJob(run) {
+    const patches = await patchesOfScript(run);
+    const image = await openImage(run);
+    const out = await orSay(OF_IMAGES, () => run.files.make(run.names[2]));
+    const status = await patch(run, image, patches, async piece => {
+        for await (const bytes of bytesOfPieces(image.reader, [piece])) await out.write(bytes);
+    });
+    await orSay(OF_IMAGES, () => out.finish());
+    return status;
+}

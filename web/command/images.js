@@ -1,0 +1,119 @@
+// The jobs that write images: `merge`, `raw`, `user` and `extract`.
+
+import { bytesOfPieces } from '../core/bytes.js';
+import { natureOf, sliceOf } from '../core/image.js';
+import { mergeImages } from '../core/merge.js';
+import { addToRuns, blocksIn } from '../core/runs.js';
+import { SECTOR_SIZE, USER_SIZE, sectorCount } from '../core/sector.js';
+import { Failure } from './failures.js';
+import { fileNamed } from './looking.js';
+import { openTrack } from './opening.js';
+import { bytesOfLines, kindName, sayOfBlocks } from './words.js';
+
+/** @typedef {import('../core/merge.js').Repair} Repair */
+/** @typedef {import('../core/disc.js').DiscImage} DiscImage */
+/** @typedef {import('../core/convert.js').KindRun} KindRun */
+/** @typedef {import('../core/bytes.js').Reader} Reader */
+/** @typedef {import('./run.js').Run} Run */
+/** @typedef {import('./run.js').Target} Target */
+
+const BLOCKS_WITH_ADDRESS = 449850;
+
+/**
+ * What was taken, and what could not be repaired, in lines.
+ * @param {Repair} repair
+ * @param {DiscImage[]} others
+ */
+function repairLines({ taken, damaged, disputed, different }, others) {
+    const numbers = [taken, damaged, disputed].map(blocksIn).concat(different.reduce((sum, count) => sum + count, 0));
+    return [
+        ...taken.map(({ first, last, other }) => `${first}-${last} from ${others[other].name}`),
+        ...damaged.map(({ first, last }) => `${first}-${last} damaged in all`),
+        ...disputed.map(({ first, last }) => `${first}-${last} sound in several, but different there`),
+        `taken ${numbers[0]} damaged ${numbers[1]} disputed ${numbers[2]} different ${numbers[3]}`,
+    ];
+}
+
+/** @param {Run} run */
+export async function mergeJob(run) {
+    const [name, ...more] = run.names;
+    const out = run.files.make(more.pop() || '');
+    const { image } = await openTrack(run, name);
+    const others = [];
+    for (const other of more) others.push((await openTrack(run, other)).image);
+    const { crew, how } = run.sharing(image.sectors);
+    const { pieces, ...repair } = await mergeImages(crew, image, others, how);
+    if (pieces === null) {
+        const i = repair.different.indexOf(Math.max(...repair.different));
+        const sound = `${repair.different[i]} of ${repair.sectors} sectors are sound in ${name} and in ${others[i].name}`;
+        throw new Failure(`${sound}, and differ: one of them is of another disc, or shifted`);
+    }
+    for await (const bytes of bytesOfPieces(image.reader, pieces)) await out.write(bytes);
+    await run.output.write(bytesOfLines(repairLines({ pieces, ...repair }, others)));
+    run.output.finish();
+    out.finish();
+    return Number(repair.damaged.length > 0);
+}
+
+/** @param {Run} run */
+export async function rawJob(run) {
+    const { first = 0 } = run.options;
+    const out = run.files.make(run.names[1]);
+    const { name, reader } = await run.files.image(run.names[0]);
+    const { kind, what } = await natureOf(run.calls, reader);
+    const count = reader.size / USER_SIZE;
+    if (!['iso', 'audio', 'unknown'].includes(kind)) throw new Failure(`${name} is ${what}, and no ISO image`);
+    if (!Number.isInteger(count)) throw new Failure(`${name} has ${reader.size} bytes, not 2048 for each sector`);
+    if (first + count > BLOCKS_WITH_ADDRESS) {
+        throw new Failure(`${name} goes on after block ${BLOCKS_WITH_ADDRESS - 1}, the last one with an address`);
+    }
+    const { crew, how } = run.sharing(count);
+    await crew.share('raw', [reader], {}, { ...how, base: first, units: [USER_SIZE] }, bytes => out.write(bytes));
+    out.finish();
+    return 0;
+}
+
+/**
+ * Writes user data of sectors, and says which of these are not Mode 1. Returns whether there are any.
+ * @param {Run} run
+ * @param {Target} out
+ * @param {Reader} reader of the sectors
+ * @param {number} base
+ * @param {number} size how many bytes are written at most
+ */
+async function writeUser(run, out, reader, base, size) {
+    /** @type {KindRun[]} */
+    const others = [];
+    let left = size;
+    const { crew, how } = run.sharing(sectorCount(reader.size));
+    await crew.share('user', [reader], {}, { ...how, base }, async answer => {
+        for (const it of answer.others) addToRuns(others, it);
+        const user = answer.user.subarray(0, left);
+        left -= answer.user.length;
+        await out.write(user);
+    });
+    sayOfBlocks(run, others, ({ kind }) => `${kindName(kind)}, in which other bytes may stand where mode1 has user data`);
+    return others.length > 0;
+}
+
+/** @param {Run} run */
+export async function userJob(run) {
+    const out = run.files.make(run.names[1]);
+    const { part } = await openTrack(run, run.names[0]);
+    const has = await writeUser(run, out, part.reader, part.base, part.sectors * USER_SIZE);
+    if (part.tail > 0) run.messages.say(`the ${part.tail} bytes after the last sector are left out`);
+    out.finish();
+    return Number(has || part.tail > 0);
+}
+
+/** @param {Run} run */
+export async function extractJob(run) {
+    const out = run.files.make(run.names[2]);
+    const { part } = await openTrack(run, run.names[0]);
+    const { path, block, size, fault } = await fileNamed(part, run.names[1]);
+    if (fault !== '') throw new Failure(`${path}: ${fault}`);
+    const [first, count] = [block - part.base, Math.ceil(size / USER_SIZE)];
+    const has = await writeUser(run, out, sliceOf(part.reader, first * SECTOR_SIZE, (first + count) * SECTOR_SIZE), block, size);
+    out.finish();
+    return Number(has);
+}

@@ -1,0 +1,177 @@
+// The jobs that look into a data track: `files`, `find` and `show`.
+
+import { readBytes } from '../core/bytes.js';
+import { VolumeFault, filesAt, filesOf } from '../core/iso.js';
+import { SECTOR_SIZE, USER_OFFSET, USER_SIZE, addressIn, addressText, joinedUser } from '../core/sector.js';
+import { blockOf, offsetOf } from './arguments.js';
+import { Failure } from './failures.js';
+import { openTrack } from './opening.js';
+import { encodingsOf, hitsOf } from './searching.js';
+import { bytesOfLines, hexByte, kindName } from './words.js';
+
+/** @typedef {import('../core/disc.js').DiscImage} DiscImage */
+/** @typedef {import('../core/edit.js').Place} Place */
+/** @typedef {import('../core/find.js').Hit} Hit */
+/** @typedef {import('../core/iso.js').FileEntry} FileEntry */
+/** @typedef {import('../core/text.js').Encoding} Encoding */
+/** @typedef {import('./run.js').Run} Run */
+
+const DEFAULT_LIMIT = 1000;
+
+/** So many bytes around a hit are shown, before it and after it. */
+const AROUND = 24;
+
+/** The bytes of a row of `show`, and how many are shown from an offset on. */
+const ROW = 16;
+const SHOWN = 128;
+
+/**
+ * User bytes from a place on: so many, or those up to the end of the image.
+ * @param {DiscImage} image
+ * @param {Place} place
+ * @param {number} size
+ */
+export async function userBytes({ reader, base, sectors }, { block, offset }, size) {
+    const first = block - base;
+    const count = Math.min(Math.ceil((offset + size) / USER_SIZE), sectors - first);
+    const bytes = await readBytes(reader, first * SECTOR_SIZE, count * SECTOR_SIZE);
+    return joinedUser(bytes).subarray(offset, offset + size);
+}
+
+/**
+ * The file of a path. Throws Failure if there is none.
+ * @param {DiscImage} part
+ * @param {string} path
+ */
+export async function fileNamed(part, path) {
+    const { files } = await filesOf(part.reader, part.base);
+    const wanted = `/${path}`.replace(/^\/+/, '/');
+    const named = files.filter(file => `/${file.path}`.replace(/^\/+/, '/') === wanted);
+    if (named.length === 1) return named[0];
+    throw new Failure(named.length === 0 ? `there is no file ${path}; cdscript files lists them` : `${path} has ${named.length} parts`);
+}
+
+/** @param {Run} run */
+export async function filesJob(run) {
+    const target = run.target();
+    const { part } = await openTrack(run, run.names[0]);
+    const { files, faults } = await filesOf(part.reader, part.base);
+    const lines = files.map(({ block, size, path, fault }) => [block, size, path, ...fault === '' ? [] : [fault]].join('\t'));
+    await target.write(bytesOfLines(lines));
+    target.finish();
+    faults.forEach(fault => run.messages.say(fault));
+    return Number(faults.length > 0 || files.some(({ fault }) => fault !== ''));
+}
+
+/**
+ * The files of a part, or none where it has no volume that can be listed.
+ * @param {Run} run
+ * @param {DiscImage} part
+ * @returns {Promise<FileEntry[]>}
+ */
+async function filesIfAny(run, part) {
+    try {
+        return (await filesOf(part.reader, part.base)).files;
+    } catch (error) {
+        if (!(error instanceof VolumeFault)) throw error;
+        run.messages.say(`no file is named: ${error.message}`);
+        return [];
+    }
+}
+
+/**
+ * A text with a dot for each character that moves the cursor or is none.
+ * @param {string} text
+ */
+function visible(text) {
+    return text.replace(/[\p{C}\uFFFD\u2028\u2029]/gu, '.');
+}
+
+/**
+ * The text around a hit.
+ * @param {DiscImage} part
+ * @param {Encoding} encoding
+ * @param {Hit} hit
+ */
+async function around(part, encoding, { block, offset, size }) {
+    const before = Math.min(AROUND, (block - part.base) * USER_SIZE + offset);
+    const from = block * USER_SIZE + offset - before;
+    const place = { block: Math.floor(from / USER_SIZE), offset: from % USER_SIZE };
+    const bytes = await userBytes(part, place, before + size + AROUND);
+    const parts = [bytes.subarray(0, before), bytes.subarray(before, before + size), bytes.subarray(before + size)];
+    return parts.map(it => visible(encoding.text(it))).join('');
+}
+
+/**
+ * The files in which a place lies, with how many of their bytes are before it.
+ * @param {FileEntry[]} files
+ * @param {Place} place
+ */
+function filesText(files, { block, offset }) {
+    const found = filesAt(files, block, offset).map(file => `${file.path}+${(block - file.block) * USER_SIZE + offset}`);
+    return found.join(' ') || '-';
+}
+
+/** @param {Run} run */
+export async function findJob(run) {
+    const { limit = DEFAULT_LIMIT } = run.options;
+    const target = run.target();
+    const { part } = await openTrack(run, run.names[0]);
+    const { count, hits, encoding } = await hitsOf(run, part, run.names[1], limit);
+    const files = hits.length > 0 ? await filesIfAny(run, part) : [];
+    for (const hit of hits) {
+        const text = await around(part, encoding, hit);
+        await target.write(bytesOfLines([[hit.block, hit.offset, hit.size, filesText(files, hit), text].join('\t')]));
+    }
+    target.finish();
+    run.messages.say(`hits ${count} printed ${hits.length}`);
+    return Number(count === 0);
+}
+
+/**
+ * A row of bytes in digits and as text.
+ * @param {Uint8Array} user
+ * @param {number} at
+ * @param {Encoding} encoding
+ */
+function rowText(user, at, encoding) {
+    const bytes = user.subarray(at, at + ROW);
+    const text = encoding.name === 'hex' ? '' : visible(encoding.text(bytes));
+    return `${String(at).padStart(4)}  ${Array.from(bytes, hexByte).join(' ')}  ${text}`.trimEnd();
+}
+
+/**
+ * What is known of a sector: its kind and address, what is wrong with it, its EDC, and the file in which a byte of it lies.
+ * @param {Run} run
+ * @param {DiscImage} part
+ * @param {Uint8Array} sector
+ * @param {Place} place
+ */
+async function sectorLines(run, part, sector, place) {
+    const [found] = new TextDecoder().decode(run.calls.audit(sector, place.block).text).split('\n');
+    const edc = Array.from(sector.subarray(USER_OFFSET + USER_SIZE, USER_OFFSET + USER_SIZE + 4), hexByte).join('');
+    return [
+        `block ${place.block} address ${addressText(addressIn(sector, 0))} ${kindName(run.calls.kind(sector))} edc ${edc}`,
+        ...found.startsWith('sectors ') ? [] : [`wrong: ${found.replace(/^\d+ /, '')}`],
+        `file ${filesText(await filesIfAny(run, part), place)}`,
+    ];
+}
+
+/** @param {Run} run */
+export async function showJob(run) {
+    const [name, blockText, offsetText = '0'] = run.names;
+    const place = { block: blockOf(blockText), offset: offsetOf(offsetText) };
+    const [encoding] = await encodingsOf(run);
+    const first = Math.floor(place.offset / ROW) * ROW;
+    const end = run.names.length < 3 ? USER_SIZE : Math.min(first + SHOWN, USER_SIZE);
+    const target = run.target();
+    const { image, part } = await openTrack(run, name);
+    const last = image.base + image.sectors - 1;
+    if (place.block < image.base || place.block > last) throw new Failure(`the image has the blocks ${image.base} to ${last}`);
+    const sector = await readBytes(image.reader, (place.block - image.base) * SECTOR_SIZE, SECTOR_SIZE);
+    const lines = await sectorLines(run, part, sector, place);
+    for (let at = first; at < end; at += ROW) lines.push(rowText(joinedUser(sector), at, encoding));
+    await target.write(bytesOfLines(lines));
+    target.finish();
+    return 0;
+}

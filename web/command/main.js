@@ -1,0 +1,167 @@
+// cdscript: reads the command line, does the job, and says what failed.
+
+import { isMainThread } from 'node:worker_threads';
+import { gunzipSync } from 'node:zlib';
+import { ImageEnded } from '../core/bytes.js';
+import { TextFault } from '../core/characters.js';
+import { SheetFault } from '../core/cue.js';
+import { DiscFault } from '../core/disc.js';
+import { EditFault } from '../core/edit.js';
+import { VolumeFault } from '../core/iso.js';
+import { WrongLines } from '../core/lines.js';
+import { BaseFault } from '../core/merge.js';
+import { LengthFault } from '../core/output.js';
+import { argumentsOf } from './arguments.js';
+import { ProgramFailure, applyJob, auditJob, checkJob, listJob } from './as_program.js';
+import { Failure, WrongArguments } from './failures.js';
+import { Files } from './files.js';
+import { helpText } from './help.js';
+import { extractJob, mergeJob, rawJob, userJob } from './images.js';
+import { infoJob } from './informing.js';
+import { filesJob, findJob, showJob } from './looking.js';
+import { MESSAGES } from './messages.js';
+import { Messages } from './output.js';
+import { Run } from './run.js';
+import { replaceFileJob, replaceJob } from './replacing.js';
+import { diffJob, rebuildsJob, undoJob } from './scripts.js';
+import { serveThread } from './threads.js';
+
+/** @typedef {import('./arguments.js').Given} Given */
+/** @typedef {import('./run.js').Streams} Streams */
+
+const DONE = 0;
+const FAILED = 2;
+const STANDARD = { input: 0, output: 1, errors: 2 };
+/** @type {('SIGHUP' | 'SIGINT' | 'SIGTERM')[]} */
+const ENDING = ['SIGHUP', 'SIGINT', 'SIGTERM'];
+
+/** @type {Record<string, (run: Run) => Promise<number>>} the jobs, which return the status */
+const JOB_TABLE = {
+    'info': infoJob,
+    'list': listJob,
+    'audit': auditJob,
+    'check': checkJob,
+    'apply': applyJob,
+    'files': filesJob,
+    'find': findJob,
+    'show': showJob,
+    'extract': extractJob,
+    'replace': replaceJob,
+    'replace-file': replaceFileJob,
+    'diff': diffJob,
+    'merge': mergeJob,
+    'rebuilds': rebuildsJob,
+    'undo': undoJob,
+    'raw': rawJob,
+    'user': userJob,
+};
+
+/** What the core throws for a person to read. */
+const SAID = [BaseFault, DiscFault, EditFault, ImageEnded, LengthFault, SheetFault, TextFault, VolumeFault, WrongLines];
+
+/** @param {number} number of a version, as 10100 */
+function versionText(number) {
+    return [10000, 100, 1].map(unit => Math.floor(number / unit) % 100).join('.');
+}
+
+/**
+ * Prints help, the version or the notices.
+ * @param {Given} given
+ * @param {Run} run
+ */
+async function printHelp({ job, options }, run) {
+    const version = `cdscript ${versionText(run.calls.version())}`;
+    const text = options.version ? `${version}\n` : helpText(job, version);
+    await run.output.write(options.notices ? gunzipSync(Buffer.from(JOINED.notices, 'base64')) : new TextEncoder().encode(text));
+    return DONE;
+}
+
+/**
+ * Says why a job failed, on the stream that its messages go to.
+ * @param {unknown} error
+ * @param {Run} run
+ */
+async function say(error, run) {
+    if (error instanceof ProgramFailure) {
+        await run.output.write(new TextEncoder().encode(error.message));
+        run.output.finish();
+    } else {
+        run.messages.say(messageOf(error));
+    }
+}
+
+/** @param {unknown} error */
+function messageOf(error) {
+    if (!(error instanceof Error)) return String(error);
+    if (error instanceof Failure || SAID.some(kind => error instanceof kind || error.name === kind.name)) return error.message;
+    if (error instanceof RangeError && /allocation|memory/i.test(error.message)) return 'no memory';
+    return `a fault in cdscript itself: ${error.stack}`;
+}
+
+/**
+ * Does a job and returns the status.
+ * @param {Given} given
+ * @param {Run} run
+ */
+async function statusOf(given, run) {
+    try {
+        const { help, version, notices } = given.options;
+        const status = help || version || notices ? await printHelp(given, run) : await JOB_TABLE[given.job](run);
+        run.output.finish();
+        return status;
+    } catch (error) {
+        await say(error, run);
+        return FAILED;
+    }
+}
+
+/**
+ * The whole command: what these arguments ask for. Returns the status.
+ * @param {string[]} words
+ * @param {Streams} [streams]
+ * @param {Files} [files]
+ */
+export async function main(words, streams = STANDARD, files = new Files(streams.input)) {
+    const messages = new Messages(streams.errors);
+    let run = null;
+    try {
+        if (words.some(word => word.includes('\uFFFD'))) throw new WrongArguments(MESSAGES.no_text.replace(/^cdpatch: /, ''));
+        const given = argumentsOf(words);
+        run = new Run(given, streams, files);
+        return await statusOf(given, run);
+    } catch (error) {
+        messages.say(messageOf(error));
+        return FAILED;
+    } finally {
+        files.close();
+        if (run !== null) run.close();
+    }
+}
+
+/**
+ * Ends the process by a signal that comes, after the files that are not complete are removed.
+ * @param {Files} files
+ */
+function endOnSignals(files) {
+    for (const signal of ENDING) {
+        process.once(signal, () => {
+            files.removeUnfinished();
+            process.kill(process.pid, signal);
+        });
+    }
+}
+
+/** Runs the command, or serves it in a thread. */
+export function start() {
+    if (!isMainThread) {
+        serveThread();
+        return;
+    }
+    // Before a file is made, a signal ends the process by itself, even while that waits for who reads its output.
+    /** @type {Files} */
+    const files = new Files(STANDARD.input, () => endOnSignals(files));
+    main(process.argv.slice(2), STANDARD, files).catch(error => {
+        new Messages(STANDARD.errors).say(messageOf(error));
+        return FAILED;
+    }).then(status => process.exit(status));
+}

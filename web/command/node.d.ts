@@ -1,0 +1,66 @@
+// What the command uses of node, for the compiler: Debian has no package of node's types.
+
+declare const Buffer: {
+    allocUnsafeSlow(size: number): Uint8Array;
+    concat(parts: Uint8Array[]): Uint8Array;
+    from(text: string, encoding: 'base64'): Uint8Array;
+};
+
+declare const process: {
+    argv: string[];
+    pid: number;
+    exit(status: number): never;
+    kill(pid: number, signal: string): void;
+    once(signal: string, listener: () => void): void;
+};
+
+declare function setImmediate(callback: (value: unknown) => void): void;
+
+declare module 'node:crypto' {
+    export function createHash(name: 'sha1'): { update(bytes: Uint8Array): void, digest(form: 'hex'): string };
+}
+
+declare module 'node:fs' {
+    export function closeSync(descriptor: number): void;
+    export function fstatSync(descriptor: number): { size: number, isFile(): boolean };
+    export function fsyncSync(descriptor: number): void;
+    export function openSync(name: string, flags: string): number;
+    export function readFileSync(name: string, encoding: 'latin1'): string;
+    export function readSync(descriptor: number, bytes: Uint8Array, at: number, length: number, place: number | null): number;
+    export function readdirSync(name: string): string[];
+    export function unlinkSync(name: string): void;
+    export function writeSync(descriptor: number, bytes: Uint8Array, at: number): number;
+}
+
+declare module 'node:os' {
+    export function cpus(): unknown[];
+}
+
+declare module 'node:path' {
+    export function basename(path: string): string;
+    export function dirname(path: string): string;
+    export function join(...parts: string[]): string;
+}
+
+declare module 'node:tty' {
+    export function isatty(descriptor: number): boolean;
+}
+
+declare module 'node:worker_threads' {
+    export class Worker {
+        constructor(file: string, options: { workerData: unknown });
+        on(event: 'message' | 'error', listener: (value: any) => void): void;
+        postMessage(message: unknown, transfer: ArrayBufferLike[]): void;
+        terminate(): Promise<number>;
+    }
+    export const isMainThread: boolean;
+    export const parentPort: {
+        on(event: 'message', listener: (value: any) => void): void;
+        postMessage(message: unknown, transfer: ArrayBufferLike[]): void;
+    } | null;
+    export const workerData: any;
+}
+
+declare module 'node:zlib' {
+    export function gunzipSync(bytes: Uint8Array): Uint8Array;
+}

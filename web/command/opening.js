@@ -1,0 +1,79 @@
+// Opens what the first argument of a job names: a raw image, or a cue sheet and the files that it names.
+
+import { basename, dirname, join } from 'node:path';
+import { readBytes } from '../core/bytes.js';
+import { sheetOf } from '../core/cue.js';
+import { dataTrack, openDisc } from '../core/disc.js';
+import { natureOf } from '../core/image.js';
+import { imageTooLong } from '../core/sector.js';
+import { textOfFile } from '../core/text.js';
+import { Failure } from './failures.js';
+import { MESSAGES } from './messages.js';
+
+/** @typedef {import('../core/disc.js').Disc} Disc */
+/** @typedef {import('../core/disc.js').DiscFile} DiscFile */
+/** @typedef {import('../core/disc.js').DiscImage} DiscImage */
+/** @typedef {import('./run.js').Run} Run */
+
+/**
+ * The disc of a raw image or of a cue sheet. Throws what `openDisc` throws.
+ * @param {Run} run
+ * @param {string} name
+ */
+export async function openDiscOf(run, name) {
+    const file = await run.files.image(name);
+    const { kind } = await natureOf(run.calls, file.reader);
+    const others = kind === 'cue' ? await filesOfSheet(run, file) : [];
+    const disc = await openDisc(run.calls, [file, ...others]);
+    const long = disc.files.find(({ reader }) => imageTooLong(reader.size));
+    if (long) throw new Failure(`${long.name}: ${MESSAGES.long_image.replace(/^cdpatch: /, '')}`);
+    return disc;
+}
+
+/**
+ * The files that a cue sheet names, as far as they are there: beside it, if need be in capitals or not.
+ * @param {Run} run
+ * @param {DiscFile} sheet
+ */
+async function filesOfSheet(run, { name, reader }) {
+    const { files } = sheetOf(textOfFile(await readBytes(reader, 0, reader.size)));
+    const there = run.files.namesIn(dirname(name));
+    const opened = [];
+    for (const file of files) {
+        const last = basename(file.name.replace(/\\/g, '/'));
+        const found = there.find(it => it === last) || there.find(it => it.toLowerCase() === last.toLowerCase());
+        if (found !== undefined) opened.push(await run.files.image(join(dirname(name), found)));
+    }
+    return opened;
+}
+
+/**
+ * An image with another base.
+ * @param {DiscImage} image
+ * @param {number} shift how many blocks later it begins
+ * @returns {DiscImage}
+ */
+function shifted(image, shift) {
+    return { ...image, base: image.base + shift, addressed: null };
+}
+
+/**
+ * The data track that a job means, its part of an image, and that whole image, which scripts are for. The base is that of `--base`, or
+ * else what the addresses of the sectors say.
+ * @param {Run} run
+ * @param {string} name
+ */
+export async function openTrack(run, name) {
+    const { base, track: number = null } = run.options;
+    const disc = await openDiscOf(run, name);
+    const { image, part, ...track } = dataTrack(disc, number);
+    if (base !== undefined) {
+        const shift = base - image.base;
+        return { disc, track, image: shifted(image, shift), part: shifted(part, shift) };
+    }
+    if (image.addressed !== image.base) {
+        const why = image.addressed === null ? 'do not say its first block' : 'begin before block 0';
+        run.messages.say(`the addresses in ${image.name} ${why}; its first block counts as ${image.base} here, see --base`);
+    }
+    return { disc, track, image, part };
+}

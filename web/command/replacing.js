@@ -1,0 +1,170 @@
+// The jobs that write scripts for a text or a file: `replace` and `replace-file`. The core has applied each before it is written.
+
+import { readBytes } from '../core/bytes.js';
+import { TextFault } from '../core/characters.js';
+import { filledUp, replaceBytes, replaceFile } from '../core/edit.js';
+import { findIn, sectorsBeyond } from '../core/find.js';
+import { ScriptParts } from '../core/output.js';
+import { checkPatches } from '../core/patch.js';
+import { Refusal, patchesOf } from '../core/script.js';
+import { SECTOR_SIZE, USER_SIZE } from '../core/sector.js';
+import { encodeText } from '../core/text.js';
+import { blockOf, offsetOf } from './arguments.js';
+import { Failure, WrongArguments } from './failures.js';
+import { fileNamed, userBytes } from './looking.js';
+import { openTrack } from './opening.js';
+import { writeScript } from './scripts.js';
+import { encodingsOf, encodingsWith, hitsOf } from './searching.js';
+import { hexByte, leftText, sayOfBlocks } from './words.js';
+
+/** @typedef {import('../core/disc.js').DiscImage} DiscImage */
+/** @typedef {import('../core/edit.js').Place} Place */
+/** @typedef {import('../core/output.js').Script} Script */
+/** @typedef {import('../core/text.js').Encoding} Encoding */
+/** @typedef {import('./run.js').Run} Run */
+/**
+ * Where a text stands, in any of its spellings. A place at which it does not stand has no size.
+ * @typedef {{ encoding: Encoding, places: (Place & { size?: number })[] }} Places
+ */
+
+/** So many places are listed if there are more than the one that was wanted. */
+const LISTED = 20;
+const MOST_PLACES = 1000000;
+
+/**
+ * A place with the size of a text there, and its encoding; if it stands there in none, the first one that has it.
+ * @param {Run} run
+ * @param {DiscImage} image
+ * @param {Place} place
+ * @param {string} text
+ * @returns {Promise<Places>}
+ */
+async function placeOfText(run, image, place, text) {
+    const encodings = encodingsWith(await encodingsOf(run), text);
+    const after = image.base + image.sectors - place.block;
+    for (const encoding of place.block >= image.base && after > 0 ? encodings : []) {
+        const wanted = encoding.units(text);
+        const count = Math.min(1 + sectorsBeyond(wanted), after);
+        const bytes = await readBytes(image.reader, (place.block - image.base) * SECTOR_SIZE, count * SECTOR_SIZE);
+        const { hits } = findIn(run.calls, bytes, place.block, { wanted, count: 1, limit: USER_SIZE });
+        const hit = hits.find(({ offset }) => offset === place.offset);
+        if (hit) return { encoding, places: [hit] };
+    }
+    return { encoding: encodings[0], places: [place] };
+}
+
+/**
+ * The places at which a text stands: the one, or all if that is asked for. Throws Failure if there is none, or are several.
+ * @param {Run} run
+ * @param {DiscImage} part
+ * @param {string} text
+ * @returns {Promise<Places>}
+ */
+async function placesOf(run, part, text) {
+    const { count, hits, encoding } = await hitsOf(run, part, text, run.options.all ? MOST_PLACES : LISTED);
+    if (count === 0) throw new Failure('the text is not found');
+    if (count === 1 || (run.options.all && count === hits.length)) return { encoding, places: hits };
+    if (run.options.all) throw new Failure(`the text stands at ${count} places, and no more than ${MOST_PLACES} are replaced`);
+    hits.forEach(({ block, offset }) => run.messages.say(`it stands at block ${block} offset ${offset}`));
+    throw new Failure(`the text stands at ${count} places: give BLOCK and OFFSET of one, or --all`);
+}
+
+/**
+ * What fills up if it is not given. Throws Failure if the encoding has no space.
+ * @param {Encoding} encoding
+ */
+function spaceIn(encoding) {
+    if (encoding.name === 'hex') return Uint8Array.of(0);
+    try {
+        return encodeText(encoding, ' ');
+    } catch (error) {
+        if (error instanceof TextFault) throw new Failure(`${encoding.name} has no space to fill up with: give --fill`);
+        throw error;
+    }
+}
+
+/**
+ * The new bytes, filled up to as many as the old ones.
+ * @param {Run} run
+ * @param {Encoding} encoding
+ * @param {string} text
+ * @param {number} size
+ */
+function freshBytes({ options, messages }, encoding, text, size) {
+    const bytes = encodeText(encoding, text);
+    const fill = bytes.length < size ? options.fill || spaceIn(encoding) : null;
+    const filled = filledUp(bytes, size, fill);
+    if (fill !== null) messages.say(`bytes filled up with ${Array.from(fill, hexByte).join('')}: ${size - bytes.length}`);
+    return filled;
+}
+
+/**
+ * The script that replaces a text at places, in their order, which has been applied. Throws Failure if one overlaps another.
+ * @param {Run} run
+ * @param {DiscImage} image
+ * @param {Places} where
+ * @param {string} before
+ * @param {string} after
+ */
+async function replacedEverywhere(run, image, { encoding, places }, before, after) {
+    const parts = new ScriptParts();
+    const usual = encodeText(encoding, before);
+    /** @type {Map<number, Uint8Array>} the new bytes by their number */
+    const known = new Map();
+    let end = 0;
+    for (const place of places) {
+        const at = place.block * USER_SIZE + place.offset;
+        if (at < end) throw new Failure(`the text at block ${place.block} offset ${place.offset} overlaps the one before it`);
+        const old = place.size === undefined ? usual : await userBytes(image, place, place.size);
+        const fresh = known.get(old.length) || freshBytes(run, encoding, after, old.length);
+        known.set(old.length, fresh);
+        end = at + old.length;
+        const { pieces: [, ...pieces], patches } = await replaceBytes(run.calls, image, place, old, fresh);
+        pieces.forEach((text, i) => parts.push({ text, patches: i === 0 ? patches : 0, version: 1 }));
+    }
+    const script = parts.script(run.calls);
+    await assertFits(run, image, script);
+    return script;
+}
+
+/**
+ * Throws Failure if a patch of a script is refused.
+ * @param {Run} run
+ * @param {DiscImage} image
+ * @param {Script} script
+ */
+async function assertFits(run, image, script) {
+    const patches = await patchesOf(run.calls, script.pieces, true);
+    const checked = patches instanceof Refusal ? patches : await checkPatches(run.calls, image.reader, patches, image.base, false);
+    if (checked instanceof Refusal || checked.status !== 0) throw new Failure('the patches do not fit together, so no script is written');
+}
+
+/** @param {Run} run */
+export async function replaceJob(run) {
+    const [name, ...more] = run.names;
+    const [after, before, offset, block] = more.reverse();
+    const given = block === undefined ? null : { block: blockOf(block), offset: offsetOf(offset) };
+    if (given !== null && run.options.all) throw new WrongArguments('--all and a place exclude each other');
+    const target = run.target();
+    const { image, part } = await openTrack(run, name);
+    const where = given === null ? await placesOf(run, part, before) : await placeOfText(run, image, given, before);
+    await writeScript(run, target, await replacedEverywhere(run, image, where, before, after));
+    return 0;
+}
+
+/** @param {Run} run */
+export async function replaceFileJob(run) {
+    const { fill = Uint8Array.of(0) } = run.options;
+    if (fill.length !== 1) throw new WrongArguments('--fill is one byte here');
+    const target = run.target();
+    const { part } = await openTrack(run, run.names[0]);
+    const file = await fileNamed(part, run.names[1]);
+    const { reader } = await run.files.image(run.names[2]);
+    const { crew, how } = run.sharing(Math.ceil(file.size / USER_SIZE));
+    const made = await replaceFile(run.calls, crew, part, file, reader, { ...how, fill: fill[0] });
+    sayOfBlocks(run, made.left, left => leftText(left, part.name));
+    if (made.script === null) throw new Failure('these blocks of the file can not be patched, so no script is written');
+    if (reader.size < file.size) run.messages.say(`bytes filled up with ${hexByte(fill[0])}: ${file.size - reader.size}`);
+    await writeScript(run, target, made.script);
+    return 0;
+}

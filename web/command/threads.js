@@ -1,0 +1,76 @@
+// Threads of node as the hands of a crew.
+
+import { cpus } from 'node:os';
+import { Worker, parentPort, workerData } from 'node:worker_threads';
+import { Calls } from '../core/codes.js';
+import { Crew, LocalHand, serving, transfersOf } from '../core/jobs.js';
+
+/** @typedef {import('../core/jobs.js').Hand} Hand */
+/** @typedef {import('../core/jobs.js').Message} Message */
+/** @typedef {import('../core/jobs.js').Reply} Reply */
+
+/** Fewer sectors are done sooner than threads have begun. */
+const SECTORS_FOR_THREADS = 8000;
+const MOST_THREADS = 8;
+
+/**
+ * A thread that does what it is given.
+ * @implements {Hand}
+ */
+class Thread {
+    /** @param {WebAssembly.Module} module */
+    constructor(module) {
+        /** @type {(reply: Reply) => void} */
+        this.onreply = () => {};
+        /** @type {(error: Error) => void} */
+        this.onfault = () => {};
+        this.worker = new Worker(JOINED.file, { workerData: module });
+        this.worker.on('message', reply => this.onreply(reply));
+        this.worker.on('error', error => this.onfault(error));
+    }
+
+    /**
+     * @param {Message} message
+     * @param {ArrayBuffer[]} transfer
+     */
+    post(message, transfer) {
+        this.worker.postMessage(message, transfer);
+    }
+}
+
+/** What a thread does: it serves the main thread. */
+export function serveThread() {
+    const serve = serving(new Calls(workerData));
+    if (parentPort === null) return;
+    const port = parentPort;
+    port.on('message', message => {
+        const reply = serve(message);
+        port.postMessage(reply, transfersOf(reply));
+    });
+}
+
+/** A crew: threads for many sectors, and for a few this thread. */
+export class Threads {
+    /**
+     * @param {WebAssembly.Module} module
+     * @param {Calls} calls
+     */
+    constructor(module, calls) {
+        this.module = module;
+        this.calls = calls;
+        /** @type {Thread[]} */
+        this.threads = [];
+    }
+
+    /** @param {number} sectors how many there are to do */
+    crew(sectors) {
+        if (sectors < SECTORS_FOR_THREADS) return new Crew([new LocalHand(this.calls)]);
+        const count = Math.min(cpus().length || 1, MOST_THREADS); // where the system does not say it, there are none
+        while (this.threads.length < count) this.threads.push(new Thread(this.module));
+        return new Crew(this.threads);
+    }
+
+    close() {
+        this.threads.splice(0).forEach(({ worker }) => void worker.terminate());
+    }
+}

@@ -1,0 +1,220 @@
+// Scripts that replace bytes at a place, or a file.
+
+import { readBytes } from './bytes.js';
+import { sectorsAt } from './compare.js';
+import { sliceOf } from './image.js';
+import { LineList, WrongLines, firstWrong, linesBetween } from './lines.js';
+import { ScriptParts } from './output.js';
+import { RESULT, SECTOR_KIND } from './records.js';
+import { addToRuns } from './runs.js';
+import { SECTOR_SIZE, USER_SIZE, addressIn, joinedUser, sectorCount, sectorOf, userOf } from './sector.js';
+import { joinedBytes } from './text.js';
+
+/** @typedef {import('./codes.js').Calls} Calls */
+/** @typedef {import('./bytes.js').Reader} Reader */
+/** @typedef {import('./disc.js').DiscImage} DiscImage */
+/** @typedef {import('./iso.js').FileEntry} FileEntry */
+/** @typedef {import('./jobs.js').Crew} Crew */
+/** @typedef {import('./jobs.js').Sharing} Sharing */
+/** @typedef {import('./lines.js').Left} Left */
+/** @typedef {import('./lines.js').Lines} Lines */
+/** @typedef {import('./output.js').Script} Script */
+/** @typedef {{ block: number, offset: number }} Place a user byte */
+/** @typedef {{ script: Script | null, left: Left[] }} Replacement without a script if a sector is left, which is not consistent */
+
+/** The most bytes of a patch. The module refuses more. */
+const MOST_REPLACED = 4096;
+
+/** Why bytes can't be replaced. */
+export class EditFault extends Error {}
+
+/**
+ * Bytes filled up to a size with others, over and over.
+ * @param {Uint8Array} bytes
+ * @param {number} size
+ * @param {Uint8Array | null} fill if there is none, the size has to be right
+ */
+export function filledUp(bytes, size, fill) {
+    const missing = size - bytes.length;
+    if (missing === 0) return bytes;
+    if (missing < 0 || fill === null) throw new EditFault(`the new bytes are ${bytes.length}, the old ones ${size}`);
+    if (missing % fill.length !== 0) throw new EditFault(`${missing} bytes are to be filled up, ${fill.length} at a time`);
+    const filled = new Uint8Array(size);
+    filled.set(bytes);
+    for (let at = bytes.length; at < size; at += fill.length) filled.set(fill, at);
+    return filled;
+}
+
+/**
+ * The script that replaces user bytes from a place on, of an image in which the old ones stand there. Throws EditFault if they do not,
+ * or if a sector is not consistent.
+ * @param {Calls} calls
+ * @param {DiscImage} image
+ * @param {Place} place
+ * @param {Uint8Array} old
+ * @param {Uint8Array} fresh as many
+ * @returns {Promise<Script>}
+ */
+export async function replaceBytes(calls, image, place, old, fresh) {
+    const sectors = await sectorsOfRange(image, place, old.length);
+    const blocks = Array.from({ length: sectorCount(sectors.length) }, (_, i) => place.block + i);
+    const user = joinedUser(sectors);
+    for (const [i, block] of blocks.entries()) assertConsistent(calls, sectorOf(sectors, i), block);
+    const other = old.findIndex((byte, i) => byte !== user[place.offset + i]);
+    if (other >= 0) throw new EditFault(differsText(calls, placeAfter(place, other)));
+    user.set(filledUp(fresh, old.length, null), place.offset);
+    const lines = setLines(place, old, fresh);
+    const wrong = firstWrong(calls, lines, { blocks, old: sectors, fresh: encodedUser(calls, sectors, user) }, false);
+    if (wrong >= 0) throw new WrongLines(blocks[wrong]);
+    const parts = new ScriptParts();
+    parts.push({ text: lines.bytes(), patches: lines.patches, version: lines.version });
+    return parts.script(calls);
+}
+
+/**
+ * @param {Place} place
+ * @param {number} count
+ */
+function placeAfter({ block, offset }, count) {
+    return { block: block + Math.floor((offset + count) / USER_SIZE), offset: (offset + count) % USER_SIZE };
+}
+
+/**
+ * What the program says of old bytes that differ.
+ * @param {Calls} calls
+ * @param {Place} place
+ */
+function differsText(calls, { block, offset }) {
+    const line = new TextDecoder().decode(calls.outcomeLine(1, RESULT.DIFFERS, block, offset));
+    return line.slice(line.indexOf('refused: ') + 'refused: '.length).trim();
+}
+
+/**
+ * The sectors in which a range of user bytes lies.
+ * @param {DiscImage} image
+ * @param {Place} place
+ * @param {number} size
+ */
+function sectorsOfRange({ reader, base }, { block, offset }, size) {
+    const first = block - base;
+    const count = Math.ceil((offset + size) / USER_SIZE);
+    const end = base + sectorCount(reader.size);
+    if (size === 0) throw new EditFault('there are no old bytes');
+    if (offset < 0 || offset >= USER_SIZE) throw new EditFault(`an offset is 0 to ${USER_SIZE - 1}`);
+    if (first < 0 || block + count > end) throw new EditFault(`the image has the blocks ${base} to ${end - 1}`);
+    return readBytes(reader, first * SECTOR_SIZE, count * SECTOR_SIZE);
+}
+
+/**
+ * The consistent sectors with the addresses of others, and with user data of their own.
+ * @param {Calls} calls
+ * @param {Uint8Array} sectors
+ * @param {Uint8Array} user
+ */
+function encodedUser(calls, sectors, user) {
+    const encoded = new Uint8Array(sectors.length);
+    for (let i = 0; i < sectorCount(sectors.length); i++) {
+        encoded.set(calls.encode(addressIn(sectors, i), user.subarray(USER_SIZE * i, USER_SIZE * (i + 1))), SECTOR_SIZE * i);
+    }
+    return encoded;
+}
+
+/**
+ * @param {Calls} calls
+ * @param {Uint8Array} sector
+ * @param {number} block
+ */
+function assertConsistent(calls, sector, block) {
+    if (calls.isConsistent(sector)) return;
+    const what = calls.kind(sector) === SECTOR_KIND.MODE1 ? 'is damaged: repair it first' : 'is not Mode 1';
+    throw new EditFault(`block ${block} ${what}`);
+}
+
+/**
+ * @param {Place} place
+ * @param {Uint8Array} old
+ * @param {Uint8Array} fresh
+ */
+function setLines(place, old, fresh) {
+    const lines = new LineList();
+    for (let done = 0; done < old.length; done += MOST_REPLACED) {
+        const { block, offset } = placeAfter(place, done);
+        const [from, to] = [old, fresh].map(bytes => bytes.subarray(done, done + MOST_REPLACED));
+        lines.set(block, offset, to, from);
+    }
+    return lines;
+}
+
+/**
+ * The lines that give a range of a file's sectors other user data. A job for a worker. A sector that is not consistent is left.
+ * @param {Calls} calls
+ * @param {Uint8Array} sectors
+ * @param {Uint8Array} wanted 2048 bytes for each
+ * @param {number} first
+ * @param {{ end: number }} args how many user bytes from block 0 to the file's end there would be
+ * @returns {Lines}
+ */
+export function replaceRange(calls, sectors, wanted, first, { end }) {
+    const user = joinedUser(sectors);
+    user.set(wanted.subarray(0, Math.max(end - first * USER_SIZE, 0)));
+    /** @type {Left[]} */
+    const left = [];
+    const changed = [];
+    for (let i = 0; i < sectorCount(sectors.length); i++) {
+        const sector = sectorOf(sectors, i);
+        if (userOf(sector, 0).every((byte, k) => byte === user[USER_SIZE * i + k])) continue;
+        const kind = calls.kind(sector);
+        if (calls.isConsistent(sector)) changed.push(i);
+        else addToRuns(left, { first: first + i, last: first + i, why: kind === SECTOR_KIND.MODE1 ? 'damaged' : 'kind', kinds: [kind] });
+    }
+    const old = sectorsAt(sectors, changed);
+    const fresh = encodedUser(calls, old, joinedBytes(changed.map(i => user.subarray(USER_SIZE * i, USER_SIZE * (i + 1)))));
+    return { ...linesBetween(calls, { blocks: changed.map(i => first + i), old, fresh }), left };
+}
+
+/**
+ * The script that replaces a file of a disc. Throws EditFault.
+ * @param {Calls} calls
+ * @param {Crew} crew
+ * @param {DiscImage} image the track's
+ * @param {FileEntry} file
+ * @param {Reader} wanted
+ * @param {Sharing & { fill?: number | null }} how with a byte to fill up with
+ * @returns {Promise<Replacement>}
+ */
+export async function replaceFile(calls, crew, image, file, wanted, { fill = null, ...how } = {}) {
+    if (file.fault !== '') throw new EditFault(`${file.path}: ${file.fault}`);
+    if (wanted.size > file.size || (wanted.size < file.size && fill === null)) {
+        throw new EditFault(`${file.path} has ${file.size} bytes, the new file ${wanted.size}`);
+    }
+    const count = Math.ceil(file.size / USER_SIZE);
+    const first = file.block - image.base;
+    const sectors = sliceOf(image.reader, first * SECTOR_SIZE, (first + count) * SECTOR_SIZE);
+    const parts = new ScriptParts();
+    /** @type {Left[]} */
+    const left = [];
+    const args = { end: file.block * USER_SIZE + file.size };
+    const sharing = { ...how, base: file.block, units: [SECTOR_SIZE, USER_SIZE] };
+    await crew.share('replace', [sectors, filledReader(wanted, count * USER_SIZE, fill || 0)], args, sharing, answer => {
+        parts.push(answer);
+        for (const run of answer.left) addToRuns(left, run);
+    });
+    return { script: left.length > 0 ? null : parts.script(calls), left };
+}
+
+/**
+ * A file followed by one byte over and over.
+ * @param {Reader} reader
+ * @param {number} size
+ * @param {number} fill
+ * @returns {Reader}
+ */
+function filledReader(reader, size, fill) {
+    return {
+        size,
+        async read(at, length) {
+            if (at < reader.size) return reader.read(at, Math.min(length, reader.size - at));
+            return new Uint8Array(Math.min(length, size - at)).fill(fill);
+        },
+    };
+}

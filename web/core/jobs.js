@@ -1,0 +1,246 @@
+// Jobs over ranges of sectors, and how they are shared out to workers.
+
+import { readBytes } from './bytes.js';
+import { diffRange } from './compare.js';
+import { userRange } from './convert.js';
+import { replaceRange } from './edit.js';
+import { findIn } from './find.js';
+import { basesIn } from './image.js';
+import { mergeRange } from './merge.js';
+import { SECTOR_SIZE } from './sector.js';
+import { surveyRange } from './survey.js';
+
+/** @typedef {import('./codes.js').Calls} Calls */
+/** @typedef {import('./bytes.js').Reader} Reader */
+
+/**
+ * A pure function of a range of sectors. It is given the range of each image, its first block, and plain data, in which `count` is
+ * how many sectors the range has; the bytes may have more, if borders count. What it returns can be posted.
+ * @typedef {(calls: Calls, pieces: Uint8Array[], first: number, args: any) => any} Job
+ */
+/** @typedef {{ number: number, job: string, pieces: Uint8Array[], first: number, args: any }} Message */
+/** @typedef {{ number: number, answer?: any, fault?: { name: string, message: string } }} Reply */
+/**
+ * Who works: a worker, or this thread. The door calls `onreply` with what `serving` has returned, and `onfault` if the worker itself
+ * fails.
+ * @typedef {{ post(message: Message, transfer: ArrayBuffer[]): void, onreply: (reply: Reply) => void,
+ *     onfault: (error: Error) => void }} Hand
+ */
+/**
+ * The block of the first sector; how many sectors a range has, and how many after it a job sees; the bytes of a sector in each image, if
+ * they are not 2352 in all; who is told of sectors that are done; and what ends the job.
+ * @typedef {{ base?: number, step?: number, beyond?: number, units?: number[], progress?: (done: number, all: number) => void,
+ *     signal?: { aborted: boolean } }} Sharing
+ */
+
+/** @type {Record<string, Job>} */
+export const JOBS = {
+    survey: (calls, [bytes], first) => surveyRange(calls, bytes, first),
+    bases: (calls, [bytes], first) => basesIn(calls, bytes, first),
+    find: (calls, [bytes], first, args) => findIn(calls, bytes, first, args),
+    diff: (calls, [old, fresh], first) => diffRange(calls, old, fresh, first),
+    merge: (calls, pieces, first, args) => mergeRange(calls, pieces, first, args),
+    replace: (calls, [sectors, wanted], first, args) => replaceRange(calls, sectors, wanted, first, args),
+    user: (calls, [bytes], first) => userRange(calls, bytes, first),
+    raw: (calls, [user], first) => calls.encodeBlocks(first, user),
+};
+
+/** So many sectors are a range. */
+const SHARED_STEP = 1024;
+
+/** So many ranges are on their way for each hand. */
+const RANGES_A_HAND = 2;
+
+/** A job that `signal` has ended. */
+export class JobAborted extends Error {
+    constructor() {
+        super('cancelled');
+        this.name = 'JobAborted';
+    }
+}
+
+/**
+ * What a worker does.
+ * @param {Calls} calls
+ * @returns {(message: Message) => Reply}
+ */
+export function serving(calls) {
+    return ({ number, job, pieces, first, args }) => {
+        try {
+            return { number, answer: JOBS[job](calls, pieces, first, args) };
+        } catch (error) {
+            return { number, fault: errorFault(error) };
+        }
+    };
+}
+
+/**
+ * An error as it can be posted.
+ * @param {unknown} error
+ */
+function errorFault(error) {
+    const { name, message } = error instanceof Error ? error : new Error(String(error));
+    return { name, message };
+}
+
+/**
+ * The memory of a reply that its thread gives away: that of the bytes that stand in the answer or in a list of it.
+ * @param {Reply} reply
+ */
+export function transfersOf({ answer }) {
+    const held = new Set();
+    for (const value of ArrayBuffer.isView(answer) ? [answer] : Object.values(answer || {})) {
+        for (const view of Array.isArray(value) ? value : [value]) {
+            if (!ArrayBuffer.isView(view)) break;
+            held.add(view.buffer);
+        }
+    }
+    return [...held];
+}
+
+/**
+ * A hand that works at once, in this thread.
+ * @implements {Hand}
+ */
+export class LocalHand {
+    /** @param {Calls} calls */
+    constructor(calls) {
+        this.serve = serving(calls);
+        /** @type {(reply: Reply) => void} */
+        this.onreply = () => {};
+        this.onfault = () => {};
+    }
+
+    /** @param {Message} message */
+    post(message) {
+        this.onreply(this.serve(message));
+    }
+}
+
+/**
+ * Bytes whose memory is theirs alone.
+ * @param {Uint8Array} bytes
+ */
+function ownBytes(bytes) {
+    return bytes.length === bytes.buffer.byteLength ? bytes : bytes.slice();
+}
+
+/** Hands, among which ranges of sectors are shared out. Several jobs may be under way. */
+export class Crew {
+    /** @param {Hand[]} hands one at least */
+    constructor(hands) {
+        this.number = 0;
+        /** @type {Error | null} */
+        this.fault = null;
+        /** @type {Map<Hand, number>} how many ranges each has */
+        this.loads = new Map(hands.map(hand => [hand, 0]));
+        /** @type {Map<number, (reply: Reply) => void>} who waits for the reply of a number */
+        this.waiting = new Map();
+        for (const hand of hands) {
+            hand.onreply = reply => this.settle(hand, reply);
+            hand.onfault = error => this.fail(error);
+        }
+    }
+
+    /**
+     * @param {Hand} hand
+     * @param {Reply} reply
+     */
+    settle(hand, reply) {
+        this.loads.set(hand, (this.loads.get(hand) || 0) - 1);
+        const settle = this.waiting.get(reply.number);
+        this.waiting.delete(reply.number);
+        if (settle) settle(reply);
+    }
+
+    /** @param {Error} error with which a worker ended */
+    fail(error) {
+        this.fault = error;
+        for (const [number, settle] of this.waiting) settle({ number, fault: error });
+        this.waiting.clear();
+    }
+
+    /**
+     * Hands a range to the hand that has fewest, and returns its reply.
+     * @param {Omit<Message, 'number'>} range
+     * @returns {Promise<Reply>}
+     */
+    reply(range) {
+        const number = this.number++;
+        if (this.fault) return Promise.resolve({ number, fault: this.fault });
+        const [[hand, load]] = [...this.loads].sort(([, a], [, b]) => a - b);
+        this.loads.set(hand, load + 1);
+        const pieces = range.pieces.map(ownBytes);
+        return new Promise(resolve => {
+            this.waiting.set(number, resolve);
+            try {
+                hand.post({ ...range, number, pieces }, pieces.map(bytes => /** @type {ArrayBuffer} */ (bytes.buffer)));
+            } catch (error) {
+                this.settle(hand, { number, fault: errorFault(error) });
+            }
+        });
+    }
+
+    /**
+     * Does a job on images that have the same number of sectors, and gives its answers to `take` in the order of the ranges. Throws
+     * what a reader throws, ImageEnded if an image shrinks, JobAborted, and an error by the name of what a job throws.
+     * @param {string} job
+     * @param {Reader[]} readers what they read is given away
+     * @param {Record<string, any>} args
+     * @param {Sharing} how
+     * @param {(answer: any) => void | Promise<void>} take
+     */
+    async share(job, readers, args, { base = 0, step = SHARED_STEP, beyond = 0, units = [], progress, signal }, take) {
+        const [all, ...others] = readers.map(({ size }, i) => Math.floor(size / (units[i] || SECTOR_SIZE)));
+        if (others.some(count => count !== all)) throw new RangeError('images of different lengths');
+        const most = RANGES_A_HAND * this.loads.size;
+        /** @type {Promise<Reply>[]} */
+        const replies = [];
+        let done = 0;
+        const takeNext = async () => {
+            await take(answerOf(await replies[0], signal));
+            replies.shift();
+            done = Math.min(done + step, all);
+            if (progress) progress(done, all);
+        };
+        for (let first = 0; first < all; first += step) {
+            if (replies.length === most) await takeNext();
+            assertWanted(signal);
+            const count = Math.min(step, all - first);
+            const pieces = await readRange(readers, first, Math.min(count + beyond, all - first), units);
+            replies.push(this.reply({ job, pieces, first: base + first, args: { ...args, count } }));
+        }
+        while (replies.length > 0) await takeNext();
+    }
+}
+
+/**
+ * The same sectors of several images.
+ * @param {Reader[]} readers
+ * @param {number} first
+ * @param {number} count
+ * @param {number[]} units the bytes of a sector in each
+ */
+async function readRange(readers, first, count, units) {
+    const pieces = [];
+    for (const [i, reader] of readers.entries()) {
+        const unit = units[i] || SECTOR_SIZE;
+        pieces.push(await readBytes(reader, first * unit, count * unit));
+    }
+    return pieces;
+}
+
+/**
+ * @param {Reply} reply
+ * @param {{ aborted: boolean }} [signal]
+ */
+function answerOf({ answer, fault }, signal) {
+    assertWanted(signal);
+    if (!fault) return answer;
+    throw Object.assign(new Error(fault.message), { name: fault.name });
+}
+
+/** @param {{ aborted: boolean }} [signal] */
+function assertWanted(signal) {
+    if (signal && signal.aborted) throw new JobAborted();
+}

@@ -1,0 +1,267 @@
+// Lines of a script that make sectors others. They are applied by the calls before they are given out.
+
+import { ByteList } from './bytes.js';
+import { SECTORS_IN_HAND } from './patch.js';
+import { CONTENT, RECORD, RECORD_SIZE, RESULT, SECTOR_KIND } from './records.js';
+import { addToRuns } from './runs.js';
+import { SECTOR_SIZE, USER_SIZE, addressIn, addressText, differingSectors, sectorOf, userOf } from './sector.js';
+import { isDamaged } from './survey.js';
+
+/** @typedef {import('./codes.js').Calls} Calls */
+
+/**
+ * Sectors, one after the other, in the order of their blocks: what they are, and what they have to become.
+ * @typedef {{ blocks: number[], old: Uint8Array, fresh: Uint8Array }} Pairs
+ */
+/**
+ * Why no line makes the sectors of neighbouring blocks what they have to become: they would be damaged, their kinds are not Mode 1
+ * (`kinds`, before and after), or their address is none that a script can name.
+ * @typedef {{ first: number, last: number, why: 'damaged' | 'kind' | 'address', kinds: number[] }} Left
+ */
+/** @typedef {{ text: Uint8Array, patches: number, version: number, left: Left[] }} Lines */
+/**
+ * With `carry` the lines are for a patched image whose damage was carried. With `heal` a sector that has to become a damaged one becomes
+ * it but for its damage, and is named too.
+ * @typedef {{ carry?: boolean, heal?: boolean }} How
+ */
+
+/** Bytes that differ are in one patch if at most so many equal ones stand between them: a patch of their own costs more. */
+const JOINED_BYTES = 8;
+
+/** The two digits of each byte. */
+const DIGITS = Uint8Array.from({ length: 512 }, (_, i) => '0123456789ABCDEF'.charCodeAt(i % 2 ? (i >> 1) % 16 : i >> 5));
+
+/** Lines that do not do what they are for: a defect of this core. Nothing of them is given out. */
+export class WrongLines extends Error {
+    /** @param {number} block */
+    constructor(block) {
+        super(`the script for block ${block} would not give the right sector, so it is not written`);
+        this.name = 'WrongLines';
+    }
+}
+
+/** Lines of a script, as bytes. */
+export class LineList extends ByteList {
+    constructor() {
+        super();
+        this.patches = 0;
+        this.version = 1;
+    }
+
+    /** @param {string} text in ASCII */
+    text(text) {
+        const at = this.grow(text.length);
+        for (let i = 0; i < text.length; i++) this.room[at + i] = text.charCodeAt(i);
+    }
+
+    /** @param {Uint8Array} bytes as digits */
+    hex(bytes) {
+        const at = this.grow(2 * bytes.length);
+        const { room } = this;
+        for (let i = 0; i < bytes.length; i++) {
+            room[at + 2 * i] = DIGITS[2 * bytes[i]];
+            room[at + 2 * i + 1] = DIGITS[2 * bytes[i] + 1];
+        }
+    }
+
+    /**
+     * @param {number} block
+     * @param {number} offset
+     * @param {Uint8Array} fresh
+     * @param {Uint8Array} old
+     */
+    set(block, offset, fresh, old) {
+        this.text(`set ${block} ${offset} `);
+        this.hex(fresh);
+        this.text(' was ');
+        this.hex(old);
+        this.text('\n');
+        this.patches += 1;
+    }
+
+    /** @param {number} block */
+    rebuild(block) {
+        this.text(`rebuild ${block}\n`);
+        this.patches += 1;
+    }
+
+    /**
+     * @param {number} block
+     * @param {Uint8Array} address
+     */
+    address(block, address) {
+        this.text(`address ${block} ${addressText(address)}\n`);
+        this.patches += 1;
+        this.version = 2;
+    }
+}
+
+/**
+ * The runs of user bytes that differ, those that are near one another joined.
+ * @param {Uint8Array} old
+ * @param {Uint8Array} fresh
+ */
+function* differingRuns(old, fresh) {
+    for (let at = 0; at < USER_SIZE;) {
+        while (at < USER_SIZE && old[at] === fresh[at]) at += 1;
+        if (at === USER_SIZE) return;
+        const from = at;
+        let end = at + 1;
+        for (at = end; at < USER_SIZE && at - end <= JOINED_BYTES; at++) {
+            if (old[at] !== fresh[at]) end = at + 1;
+        }
+        at = end;
+        yield { from, end };
+    }
+}
+
+/**
+ * Whether an address is one that a script can name, by the module.
+ * @param {Calls} calls
+ * @param {Uint8Array} address
+ */
+function canBeNamed(calls, address) {
+    const line = new LineList();
+    line.address(0, address);
+    calls.hold(line.bytes());
+    return calls.readLine(2, 2, 0, 0, line.size - 1) === CONTENT.PATCH;
+}
+
+/**
+ * The lines that make sectors others, applied before they are given out; and what no line can do.
+ * @param {Calls} calls
+ * @param {Pairs} pairs
+ * @param {How} [how]
+ * @returns {Lines}
+ */
+export function linesBetween(calls, pairs, how = {}) {
+    const writing = new Writing(calls, pairs, how);
+    pairs.blocks.forEach((_, i) => writing.add(i));
+    writing.assertLeads();
+    const { lines: { patches, version }, left } = writing;
+    return { text: writing.lines.bytes().slice(), patches, version, left };
+}
+
+/** The lines so far, and the sectors that they give. */
+class Writing {
+    /**
+     * @param {Calls} calls
+     * @param {Pairs} pairs
+     * @param {How} how
+     */
+    constructor(calls, pairs, { carry = false, heal = false }) {
+        this.calls = calls;
+        this.pairs = pairs;
+        this.carry = carry;
+        this.heal = heal;
+        this.states = [pairs.old, pairs.fresh].map(sectors => calls.survey(sectors, 0));
+        this.lines = new LineList();
+        /** @type {Left[]} */
+        this.left = [];
+        /** What the sectors become: as they are if they are left. */
+        this.due = pairs.old.slice();
+    }
+
+    /** @param {number} i */
+    add(i) {
+        const [old, fresh] = [this.pairs.old, this.pairs.fresh].map(bytes => sectorOf(bytes, i));
+        const kinds = this.states.map(records => records[RECORD_SIZE * i + RECORD.KIND]);
+        const [damaged, toBeDamaged] = this.states.map(records => isDamaged(records, RECORD_SIZE * i));
+        if (kinds.some(kind => kind !== SECTOR_KIND.MODE1)) return this.leave(i, 'kind', kinds);
+        if (differ(addressIn(old, 0), addressIn(fresh, 0)) && !canBeNamed(this.calls, addressIn(fresh, 0))) return this.leave(i, 'address');
+        if (!toBeDamaged) return this.lead(i, old, fresh, damaged);
+        if (damaged && this.carry && this.carries(i, old, fresh)) return this.lead(i, old, fresh, false);
+        this.leave(i, 'damaged');
+        if (!this.heal) return;
+        const healed = fresh.slice();
+        this.calls.rebuild(healed);
+        this.lead(i, old, healed, damaged);
+    }
+
+    /**
+     * @param {number} i
+     * @param {'damaged' | 'kind' | 'address'} why
+     * @param {number[]} kinds
+     */
+    leave(i, why, kinds = []) {
+        addToRuns(this.left, { first: this.pairs.blocks[i], last: this.pairs.blocks[i], why, kinds });
+    }
+
+    /**
+     * Writes the lines of a sector.
+     * @param {number} i
+     * @param {Uint8Array} old
+     * @param {Uint8Array} fresh
+     * @param {boolean} rebuild whether its damage goes first
+     */
+    lead(i, old, fresh, rebuild) {
+        writeSector(this.lines, this.pairs.blocks[i], old, fresh, rebuild);
+        sectorOf(this.due, i).set(fresh);
+    }
+
+    /**
+     * Whether patches that carry damage make a sector another.
+     * @param {number} i
+     * @param {Uint8Array} old
+     * @param {Uint8Array} fresh
+     */
+    carries(i, old, fresh) {
+        const lines = new LineList();
+        writeSector(lines, this.pairs.blocks[i], old, fresh, false);
+        return firstWrong(this.calls, lines, { blocks: [this.pairs.blocks[i]], old, fresh }, true) < 0;
+    }
+
+    /** Applies the lines. Throws WrongLines if they do not make the sectors what they have to become. */
+    assertLeads() {
+        const { blocks, old } = this.pairs;
+        const wrong = firstWrong(this.calls, this.lines, { blocks, old, fresh: this.due }, this.carry);
+        if (wrong >= 0) throw new WrongLines(blocks[wrong]);
+    }
+}
+
+/**
+ * @param {LineList} lines
+ * @param {number} block
+ * @param {Uint8Array} old
+ * @param {Uint8Array} fresh
+ * @param {boolean} rebuild
+ */
+function writeSector(lines, block, old, fresh, rebuild) {
+    if (rebuild) lines.rebuild(block);
+    if (differ(addressIn(old, 0), addressIn(fresh, 0))) lines.address(block, addressIn(fresh, 0));
+    const [before, after] = [userOf(old, 0), userOf(fresh, 0)];
+    for (const { from, end } of differingRuns(before, after)) lines.set(block, from, after.subarray(from, end), before.subarray(from, end));
+}
+
+/**
+ * @param {Uint8Array} a
+ * @param {Uint8Array} b
+ */
+function differ(a, b) {
+    return a.some((byte, i) => byte !== b[i]);
+}
+
+/**
+ * Which sector lines in the order of their blocks do not make what it has to become, by the module; -1 if there is none. A patch that
+ * goes on in other blocks needs their sectors too.
+ * @param {Calls} calls
+ * @param {LineList} lines
+ * @param {Pairs} pairs
+ * @param {boolean} carry
+ */
+export function firstWrong(calls, lines, { blocks, old, fresh }, carry) {
+    calls.hold(old, lines.bytes());
+    let [i, number] = [0, 1];
+    for (let at = old.length; at < calls.heldSize;) {
+        const line = calls.firstLine(at) || { size: 0, taken: 0 };
+        number += 1;
+        if (calls.readLine(lines.version, number, 0, at, line.size) !== CONTENT.PATCH) return i;
+        while (blocks[i] < calls.blockRead()) i += 1;
+        if (blocks[i] !== calls.blockRead()) return Math.min(i, blocks.length - 1);
+        const there = Math.min(SECTORS_IN_HAND, blocks.length - i);
+        if (calls.applyRead(i * SECTOR_SIZE, there, carry).result !== RESULT.OK) return i;
+        at += line.taken;
+    }
+    const wrong = differingSectors(calls.held(0, old.length), fresh);
+    return wrong.length > 0 ? wrong[0] : -1;
+}

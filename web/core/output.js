@@ -1,0 +1,66 @@
+// A script that this core has written, in pieces, and what it asks of who reads it.
+
+import { CONTENT } from './records.js';
+import { MOST_SCRIPT_BYTES } from './script.js';
+
+/** @typedef {import('./codes.js').Calls} Calls */
+/**
+ * A script: its bytes in pieces, how many they are, how many patches it has, and whether it has more of either than cdpatch takes.
+ * @typedef {{ pieces: Uint8Array[], size: number, patches: number, long: boolean }} Script
+ */
+
+/** So many bytes of a script are held in memory. */
+const MOST_WRITTEN = 1 << 30;
+
+/** Images of different lengths, or with so many differences that no script is made of them. */
+export class LengthFault extends Error {
+    /** @param {string} message */
+    constructor(message) {
+        super(message);
+        this.name = 'LengthFault';
+    }
+}
+
+/**
+ * Whether a script may have so many patches, by the module.
+ * @param {Calls} calls
+ * @param {number} patches
+ */
+function tooManyPatches(calls, patches) {
+    if (patches === 0) return false;
+    const line = new TextEncoder().encode('rebuild 0');
+    calls.hold(line);
+    return calls.readLine(1, 2, patches - 1, 0, line.length) !== CONTENT.PATCH;
+}
+
+/** The parts of a script, in order. */
+export class ScriptParts {
+    constructor() {
+        /** @type {Uint8Array[]} */
+        this.pieces = [];
+        this.size = 0;
+        this.patches = 0;
+        this.version = 1;
+    }
+
+    /** @param {{ text: Uint8Array, patches: number, version: number }} lines */
+    push({ text, patches, version }) {
+        if (text.length > 0) this.pieces.push(text);
+        this.size += text.length;
+        this.patches += patches;
+        this.version = Math.max(this.version, version);
+        if (this.size > MOST_WRITTEN) throw new LengthFault(`the script would have more than ${MOST_WRITTEN} bytes: too much differs`);
+    }
+
+    /**
+     * The whole script, with its head line.
+     * @param {Calls} calls
+     * @returns {Script}
+     */
+    script(calls) {
+        const head = new TextEncoder().encode(`cdpatch ${this.version}\n`);
+        const size = head.length + this.size;
+        const long = size > MOST_SCRIPT_BYTES || tooManyPatches(calls, this.patches);
+        return { pieces: [head, ...this.pieces], size, patches: this.patches, long };
+    }
+}

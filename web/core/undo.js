@@ -1,0 +1,47 @@
+// The script that takes another one back.
+
+import { readBytes } from './bytes.js';
+import { diffRange } from './compare.js';
+import { ScriptParts } from './output.js';
+import { passPatched } from './patch.js';
+import { addToRuns } from './runs.js';
+import { Refusal, patchesOf } from './script.js';
+import { SECTOR_SIZE } from './sector.js';
+
+/** @typedef {import('./codes.js').Calls} Calls */
+/** @typedef {import('./bytes.js').Piece} Piece */
+/** @typedef {import('./bytes.js').Reader} Reader */
+/** @typedef {import('./lines.js').Left} Left */
+/** @typedef {import('./output.js').Script} Script */
+/** @typedef {import('./patch.js').Patched} Patched */
+/** @typedef {import('./script.js').Pieces} Pieces */
+/**
+ * The script that takes another one back, what becomes of that one's patches, and the blocks whose damage can't come back: they get
+ * their address and user data again.
+ * @typedef {{ script: Script, patched: Patched, left: Left[] }} Undo
+ */
+
+/**
+ * The script that takes back what a script does to an image.
+ * @param {Calls} calls
+ * @param {Reader} reader of the image before it
+ * @param {Pieces} script
+ * @param {{ base: number, carry?: boolean, long?: boolean }} how
+ * @returns {Promise<Undo | Refusal>}
+ */
+export async function undoScript(calls, reader, script, { base, carry = false, long = false }) {
+    const patches = await patchesOf(calls, script, long);
+    if (patches instanceof Refusal) return patches;
+    const parts = new ScriptParts();
+    /** @type {Left[]} */
+    const left = [];
+    const takeBack = async (/** @type {Piece} */ piece) => {
+        if (!('bytes' in piece)) return;
+        const before = await readBytes(reader, piece.at, piece.bytes.length);
+        const lines = diffRange(calls, piece.bytes, before, base + piece.at / SECTOR_SIZE, { carry, heal: true });
+        parts.push(lines);
+        for (const run of lines.left) addToRuns(left, run);
+    };
+    const patched = await passPatched(calls, reader, patches, base, carry, takeBack);
+    return patched instanceof Refusal ? patched : { script: parts.script(calls), patched, left };
+}

@@ -1,0 +1,185 @@
+// The card beside the editor: Check, what came of it, carry, and Apply and save.
+
+import { RESULT } from '../core/records.js';
+import { button, countOf, counted, element, fill, setDisabled, term } from './dom.js';
+import { WorkRefused, checkWork } from './patch_job.js';
+import { jobBar } from './progress.js';
+import { isCancelled, notice } from './say.js';
+import { SaveCard } from './save_card.js';
+
+/** @typedef {import('./state.js').App} App */
+/** @typedef {import('./script_lines.js').ScriptLines} ScriptLines */
+/** @typedef {import('../core/patch.js').Patched} Patched */
+/** @typedef {import('./dom.js').Child} Child */
+/**
+ * What the card asks of the panel: the lines; to draw them anew; and to go to a line.
+ * @typedef {{ lines: ScriptLines, redraw: () => void, goTo: (line: number) => void, log: (text: Uint8Array | null) => void }} CheckOwner
+ */
+
+const MOST_NAMED = 12;
+
+/** The card. `patched` is what Check said, null if that is old. */
+export class CheckCard {
+    /**
+     * @param {App} app
+     * @param {CheckOwner} owner
+     */
+    constructor(app, owner) {
+        this.app = app;
+        this.owner = owner;
+        this.patched = /** @type {Patched | null} */ (null);
+        this.seconds = 0;
+        this.busy = false;
+        this.failure = /** @type {Child} */ (null);
+        this.body = element('div', { class: 'pad stack' });
+        this.head = element('header', {}, element('h2', {}, 'Check'));
+        this.card = element('section', { class: 'card', 'aria-label': 'Check' }, this.head, this.body);
+        this.carry = element('input', { type: 'checkbox', change: () => this.forget() });
+        this.saving = new SaveCard(app, () => this.draw());
+    }
+
+    /** Forgets what Check said, for the script, the image or carry is another one. */
+    forget() {
+        this.patched = null;
+        this.failure = null;
+        this.owner.lines.setOutcomes([]);
+        this.owner.log(null);
+        this.owner.redraw();
+        this.draw();
+    }
+
+    draw() {
+        if (this.busy) return;
+        if (this.saving.shown()) return fill(this.card, ...this.saving.parts());
+        const { lines } = this.owner;
+        fill(this.head, element('h2', {}, 'Check'), this.patched && element('span', { class: 'tag' },
+            `${this.seconds.toFixed(1)} s, status ${this.patched.status}`));
+        fill(this.card, this.head, this.body);
+        if (this.app.image === null) return fill(this.body,
+            element('p', {}, 'Open the image that this script patches: then Check says what fits.'));
+        const ready = lines.faults === 0 && lines.head >= 0;
+        const check = button(this.patched ? '' : 'main', () => this.check(), this.patched ? 'Check again' : 'Check');
+        const apply = button(this.patched ? 'main' : '', () => this.apply(), 'Apply and save…');
+        for (const it of [check, apply]) setDisabled(it, !ready);
+        return fill(this.body, this.failure, ...lines.faults > 0 ? [this.faults()] : this.outcomes(), this.carryBox(),
+            element('div', { class: 'row' }, check, apply), element('p', { class: 'small quiet' }, ...this.footnote(ready)));
+    }
+
+    carryBox() {
+        return element('label', { class: 'check' }, this.carry, element('span', {}, 'Patch damaged sectors too (',
+            term('carry', 'carry'), ')',
+            element('br'), element('span', { class: 'small quiet' }, 'They keep their damage.')));
+    }
+
+    faults() {
+        const { lines, goTo } = this.owner;
+        const wrong = lines.lines.map((_, i) => i).filter(i => lines.isWrong(i));
+        const named = wrong.slice(0, MOST_NAMED).map(i => String(i + 1));
+        const more = wrong.length - named.length;
+        const list = more > 0 ? `${named.join(', ')} and ${counted(more)} more` : named.join(', ').replace(/, (\d+)$/, ' and $1');
+        const one = wrong.length === 1;
+        return notice('bad', one ? 'A line has a fault' : `${counted(wrong.length)} lines have a fault`,
+            `A script with a fault is not applied at all. The ${one ? 'line is' : 'lines are'} ${list}.`,
+            element('div', { class: 'row' }, button('slim', () => goTo(wrong[0]), `Go to line ${wrong[0] + 1}`)));
+    }
+
+    /** @returns {Child[]} */
+    outcomes() {
+        const { lines } = this.owner;
+        if (this.patched === null) {
+            return [element('p', {}, lines.patches === 0 ? 'The script has no patch yet.' :
+                `Check says which of the ${countOf(lines.patches, 'patch', 'patches')} fit this image. Nothing is changed.`)];
+        }
+        const { outcomes } = this.patched;
+        const applied = outcomes.filter(it => it.result === RESULT.OK).length;
+        const refused = outcomes.length - applied;
+        const tally = (/** @type {string} */ tone, /** @type {number} */ count, /** @type {string} */ word) =>
+            element('div', { class: count > 0 ? tone : '' }, element('b', {}, counted(count)), word);
+        const first = lines.nextWrong(lines.lines.length - 1, 1);
+        return [element('div', { class: 'tally' }, tally('good-ink', applied, 'applied'), tally('bad-ink', refused, 'refused')),
+            element('p', {}, sentenceOf(applied, refused)),
+            first < 0 ? null : element('div', { class: 'row' }, button('slim', () => this.owner.goTo(first), `Go to line ${first + 1}`))];
+    }
+
+    /**
+     * @param {boolean} ready
+     * @returns {Child[]}
+     */
+    footnote(ready) {
+        if (!ready) return ['Ready as soon as no line has a fault.'];
+        const applied = this.patched ? this.patched.outcomes.filter(it => it.result === RESULT.OK).length : -1;
+        const name = this.app.image ? this.app.image.name : '';
+        return [applied < 0 ? 'Saves a new image. ' : `Saves a new image with the ${counted(applied)}. `, element('b', {}, name),
+            ' stays as it is.'];
+    }
+
+    /** Checks the script on the image. */
+    async check() {
+        const { image } = this.app;
+        const { lines } = this.owner;
+        if (image === null || this.busy || lines.faults > 0 || lines.head < 0) return;
+        this.busy = true;
+        const began = performance.now();
+        try {
+            await this.app.run(async (signal, cancel) => {
+                const bar = jobBar('Checking', cancel);
+                fill(this.body, ...bar.parts);
+                const work = { reader: image.reader, base: image.base, script: lines.text(), carry: this.carry.checked };
+                const patched = await checkWork(this.app, work, { signal, progress: bar.at });
+                if (this.app.image === image && work.script === lines.text()) this.take(patched, (performance.now() - began) / 1000);
+            });
+        } catch (error) {
+            this.failure = isCancelled(error) ? null : failureOf(error);
+        } finally {
+            this.busy = false;
+            this.draw();
+        }
+    }
+
+    /**
+     * @param {Patched} patched
+     * @param {number} seconds
+     */
+    take(patched, seconds) {
+        this.patched = patched;
+        this.seconds = seconds;
+        this.failure = null;
+        this.owner.lines.setOutcomes(patched.outcomes);
+        this.owner.log(patched.text);
+        this.owner.redraw();
+    }
+
+    /** Saves the patched image. */
+    async apply() {
+        const { image } = this.app;
+        const { lines } = this.owner;
+        if (image === null || this.busy || lines.faults > 0 || lines.head < 0) return;
+        const work = { reader: image.reader, base: image.base, script: lines.text(), carry: this.carry.checked };
+        const made = await this.saving.save(image, work);
+        if (made && this.app.image === image && work.script === lines.text()) this.take(made, this.seconds);
+        this.draw();
+    }
+}
+
+/**
+ * @param {number} applied
+ * @param {number} refused
+ */
+function sentenceOf(applied, refused) {
+    const all = applied + refused;
+    if (all === 0) return 'The script has no patch: the saved image would be a copy.';
+    if (refused === 0) return all === 1 ? 'The patch fits this image.' : `All ${counted(all)} patches fit this image.`;
+    const others = refused === 1 ? 'The other would be left out.' : `The ${counted(refused)} others would be left out.`;
+    return applied === 0 ? 'No patch fits this image. Another release, another disc, or another base?' :
+        `${counted(applied)} of ${counted(all)} patches fit this image. ${others}`;
+}
+
+/**
+ * A notice on a failure, which says that nothing was done.
+ * @param {unknown} error
+ */
+export function failureOf(error) {
+    const { message, name } = error instanceof Error ? error : new Error(String(error));
+    const advice = error instanceof WorkRefused ? error.advice : 'Nothing was saved. Open it again.';
+    return notice('bad', name === 'ImageEnded' ? 'The file is shorter than it was when it was opened.' : message, advice);
+}

@@ -1,0 +1,221 @@
+// The line with the open image, which stands over every panel; and on the Disc panel the verdict, or how far reading has come.
+
+import { SECTOR_SIZE } from '../core/sector.js';
+import { button, byId, countOf, counted, element, fill, redraw, term } from './dom.js';
+import { MARK } from './marks.js';
+import { imageOfTrack } from './open.js';
+import { placesOf } from './places.js';
+import { copyText } from './say.js';
+import { changeBase, readImage } from './survey_image.js';
+
+/** @typedef {import('./state.js').App} App */
+/** @typedef {import('./state.js').Image} Image */
+/** @typedef {import('./state.js').Surveyed} Surveyed */
+/** @typedef {import('./dom.js').Child} Child */
+
+const LAST_BASE = 449849;
+
+/** @param {App} app */
+export function mountDiscLine(app) {
+    const line = byId('disc-line');
+    const top = element('div', { class: 'disc-line' });
+    const lead = element('div', { class: 'lead' });
+    line.append(top, lead);
+    const drawn = { waiting: 0, hashed: 0, changing: false };
+    const draw = () => {
+        drawn.waiting = 0;
+        if (app.image === null) return;
+        const { image } = app;
+        if (!drawn.changing) redraw(top, () => fill(top, ...facts(app, image, drawn)));
+        lead.hidden = app.panel !== 'disc';
+        redraw(lead, () => fill(lead, ...leadOf(app)));
+        drawCounts(app);
+    };
+    const soon = () => { drawn.waiting = drawn.waiting || requestAnimationFrame(draw); };
+    for (const name of /** @type {const} */ (['survey', 'surveyed', 'panel'])) app.on(name, soon);
+    app.on('image', () => {
+        document.title = app.image === null ? 'cdpatch' : `${app.image.name}: cdpatch`;
+        Object.assign(drawn, { hashed: 0, changing: false });
+        soon();
+    });
+    app.on('hash', done => {
+        drawn.hashed = Number(done);
+        const waits = line.querySelector('.sha-wait');
+        if (waits && app.image && app.image.sha1 === '') waits.textContent = shaWaits(app.image, drawn);
+        else soon();
+    });
+}
+
+/** @param {App} app */
+function drawCounts({ survey }) {
+    const findings = survey ? survey.marks.findings() : 0;
+    const count = byId('count-disc');
+    count.hidden = findings === 0;
+    fill(count, counted(findings), element('span', { class: 'hide' }, ' findings'));
+}
+
+/**
+ * @param {App} app
+ * @param {Image} image
+ * @param {{ hashed: number, changing: boolean }} drawn
+ * @returns {Child[]}
+ */
+function facts(app, image, drawn) {
+    const { survey, panel } = app;
+    const counts = survey ? survey.marks.counts : new Uint32Array(16);
+    const findings = survey ? survey.marks.findings() : 0;
+    const over = survey !== null && survey.over && survey.known === image.sectors;
+    const tone = findings > 0 ? 'bad-ink' : over ? 'good-ink' : 'quiet';
+    const cell = (/** @type {string} */ name, /** @type {Child[]} */ ...value) => element('div', {}, element('dt', {}, name),
+        element('dd', {}, ...value));
+    const own = [cell('Base', term('base', String(image.base)), ' ', button('slim bare tiny', () => askBase(app, drawn), 'Change'))];
+    const mode1 = survey ? survey.marks.mode1() : 0;
+    own.push(cell('Mode 1', counted(mode1)));
+    if (counts[MARK.MODE2] > 0 || mode1 === 0) own.push(cell('Mode 2', counted(counts[MARK.MODE2])));
+    if (counts[MARK.NOSYNC] > 0 || panel === 'disc') own.push(cell('Audio, no sync', counted(counts[MARK.NOSYNC])));
+    own.push(cell('Findings', element('b', { class: tone }, counted(findings))));
+    if (panel !== 'disc') own.push(cell('SHA-1', ...shaOf(image, drawn, 12)));
+    return [element('div', {}, element('p', { class: 'name' }, image.name), ...lineParts(app, image),
+        panel === 'disc' && element('p', { class: 'small quiet' }, 'SHA-1 ', ...shaOf(image, drawn, 40))), element('dl', {}, ...own)];
+}
+
+/**
+ * @param {App} app
+ * @param {Image} image
+ * @returns {Child[]}
+ */
+function lineParts(app, image) {
+    const tail = image.tail === 0 ? 'no tail' : `a tail of ${countOf(image.tail, 'byte')}`;
+    const parts = `${counted(image.reader.size)} bytes · ${countOf(image.sectors, 'sector')} · ${tail}`;
+    const from = image.from === '' ? [] : [' · from ', element('span', { class: 'mono' }, image.from)];
+    const tracks = image.disc.tracks.filter(track => track.image !== null);
+    return [element('p', { class: 'small quiet num' }, parts, ...from), tracks.length > 1 && trackChoice(app, image)];
+}
+
+/**
+ * A choice among the data tracks of a disc.
+ * @param {App} app
+ * @param {Image} image
+ */
+function trackChoice(app, image) {
+    const choice = element('select', { class: 'slim' });
+    for (const { number, type, image: own } of image.disc.tracks) {
+        if (own === null) continue;
+        choice.append(element('option', { value: number, selected: number === image.number }, `track ${number}, ${type}`));
+    }
+    choice.addEventListener('change', () => readImage(app, imageOfTrack(image.disc, image.sheet, Number(choice.value))));
+    return element('label', { class: 'row small quiet' }, 'Data track ', choice);
+}
+
+/**
+ * @param {Image} image
+ * @param {{ hashed: number }} drawn
+ */
+function shaWaits({ reader }, { hashed }) {
+    return hashed === 0 ? '(after reading)' : `(${Math.floor(100 * hashed / reader.size)} %)`;
+}
+
+/**
+ * @param {Image} image
+ * @param {{ hashed: number }} drawn
+ * @param {number} length how many digits are shown
+ * @returns {Child[]}
+ */
+function shaOf(image, drawn, length) {
+    const { sha1 } = image;
+    if (sha1 === '') return [element('span', { class: 'mono quiet sha-wait' }, shaWaits(image, drawn))];
+    const shown = length < sha1.length ? `${sha1.slice(0, length)}…` : sha1;
+    return [element('span', { class: 'mono sha1' }, shown), ' ', button('slim bare tiny', () => copyText(sha1), 'Copy',
+        element('span', { class: 'hide' }, ' the SHA-1'))];
+}
+
+/**
+ * Asks for another base, in place of the facts.
+ * @param {App} app
+ * @param {{ changing: boolean }} drawn
+ */
+function askBase(app, drawn) {
+    if (app.image === null) return;
+    drawn.changing = true;
+    const limits = { min: 0, max: LAST_BASE, step: 1, required: true };
+    const input = element('input', { type: 'number', id: 'base', class: 'num', value: app.image.base, ...limits });
+    const close = () => {
+        drawn.changing = false;
+        app.emit('survey');
+    };
+    const form = element('form', { class: 'row', submit: (/** @type {Event} */ event) => {
+        event.preventDefault();
+        drawn.changing = false;
+        changeBase(app, Number(input.value));
+    } }, element('label', { for: 'base' }, 'The block of the first sector'), input, element('button', { class: 'btn slim main' }, 'Set'),
+    button('slim bare', close, 'Leave it'));
+    fill(/** @type {Element} */ (byId('disc-line').firstElementChild), form);
+    input.focus();
+}
+
+/**
+ * @param {App} app
+ * @returns {Child[]}
+ */
+function leadOf(app) {
+    const { survey, image } = app;
+    if (survey === null || image === null) return [];
+    if (survey.over && survey.known < image.sectors) {
+        return [element('b', { class: 'warn-ink' }, `Read to ${Math.floor(100 * survey.known / image.sectors)} %, and no further.`),
+            button('slim', () => readImage(app, { ...image }), 'Read it again')];
+    }
+    return survey.over ? verdict(app, image, survey) : progressOf(app, image, survey);
+}
+
+/**
+ * @param {App} app
+ * @param {Image} image
+ * @param {Surveyed} survey
+ * @returns {Child[]}
+ */
+function progressOf(app, { sectors, reader }, { known, began }) {
+    const part = sectors === 0 ? 1 : known / sectors;
+    const seconds = (performance.now() - began) / 1000;
+    const megabytes = known * SECTOR_SIZE / 1e6;
+    const bar = element('i');
+    bar.style.width = `${100 * part}%`;
+    const fact = (/** @type {string} */ strong, /** @type {string} */ rest) => element('span', {}, element('b', {}, strong), rest);
+    const [percent, all] = [Math.floor(100 * part), counted(Math.round(reader.size / 1e6))];
+    const values = { 'aria-valuemin': 0, 'aria-valuemax': 100, 'aria-valuenow': percent };
+    return [element('b', {}, `Reading the disc: ${percent} %`),
+        element('div', { class: 'progress', role: 'progressbar', 'aria-label': 'Reading the disc', ...values }, bar),
+        element('p', { class: 'facts' }, fact(counted(Math.round(megabytes)), ` of ${all} MB`),
+            fact(counted(Math.round(megabytes / Math.max(seconds, 0.001))), ' MB/s'),
+            part > 0 && fact(`${Math.ceil(seconds / part - seconds)} s`, ' left')),
+        button('slim', () => app.reading.abort(), 'Cancel')];
+}
+
+/**
+ * What was found, in one sentence.
+ * @param {App} app
+ * @param {Image} image
+ * @param {Surveyed} survey
+ * @returns {Child[]}
+ */
+function verdict(app, image, { marks }) {
+    const [mode1, damaged, lost, elsewhere] = [marks.mode1(), marks.damaged(), marks.counts[MARK.LOST], marks.counts[MARK.ADDRESS]];
+    if (mode1 === 0) {
+        return [element('span', {}, element('b', { class: 'warn-ink' }, 'There is no Mode 1 sector here:'),
+            ' audio, or Mode 2 as on a PlayStation disc. It can be looked at, not patched.')];
+    }
+    const others = [];
+    if (lost > 0) others.push(`${counted(lost)} lost ${lost === 1 ? 'its' : 'their'} sync field or mode`);
+    if (elsewhere > 0) others.push(`${counted(elsewhere)} ${elsewhere === 1 ? 'has' : 'have'} another address`);
+    if (damaged + others.length === 0) {
+        return [element('span', {}, element('b', { class: 'good-ink' }, `All ${counted(mode1)} Mode 1 sectors are sound:`),
+            ' their EDC and parity fit.')];
+    }
+    const places = placesOf(marks);
+    const head = damaged === 0 ? element('b', { class: 'good-ink' }, `The EDC and parity of all ${counted(mode1)} Mode 1 sectors fit`)
+        : element('b', { class: 'bad-ink' }, `${counted(damaged)} of ${counted(mode1)} Mode 1 sectors are damaged,`);
+    const hurt = places.filter(it => it.counts[MARK.EDC] + it.counts[MARK.PARITY] > 0).length;
+    const where = damaged === 0 ? '' : ` in ${countOf(hurt, 'place')}`;
+    const rest = [where, ...others].join('; ');
+    return [element('span', {}, head, `${rest}.${damaged > 0 ? ' The rest is sound.' : ''}`),
+        button('slim bare', () => app.goTo(image.base + places[0].first, -1, true), 'Go to the first place')];
+}

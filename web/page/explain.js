@@ -1,0 +1,73 @@
+// The strip under the editor: the line with the caret in plain words, with its old and new bytes as text.
+
+import { CONTENT } from '../core/records.js';
+import { filesAt } from '../core/iso.js';
+import { encodingOf } from '../core/text.js';
+import { element, fill, term } from './dom.js';
+import { HEAD_IN_WORDS, helpOfFault, patchInWords } from './script_words.js';
+
+/** @typedef {import('./state.js').App} App */
+/** @typedef {import('./script_lines.js').ScriptLines} ScriptLines */
+/** @typedef {import('./dom.js').Child} Child */
+
+const MOST_SHOWN = 400;
+
+/**
+ * Fills the strip.
+ * @param {App} app
+ * @param {ScriptLines} lines
+ * @param {number} i
+ * @param {Element} strip
+ */
+export function explainLine(app, lines, i, strip) {
+    fill(strip, element('b', {}, `Line ${i + 1}: `), ...meaningOf(app, lines, i));
+}
+
+/**
+ * @param {App} app
+ * @param {ScriptLines} lines
+ * @param {number} i
+ * @returns {Child[]}
+ */
+function meaningOf(app, lines, i) {
+    const content = lines.contents[i];
+    if (content > CONTENT.PATCH) return withTerms(helpOfFault(lines.wordsAt(i), lines.lines[i], lines.version).text);
+    if (content === CONTENT.NOTHING) return [lines.lines[i].trim() === '' ? 'an empty line.' : 'a comment. It changes nothing.'];
+    const patch = lines.patchAt(i);
+    if (patch === null) {
+        return [`${HEAD_IN_WORDS} `, element('span', { class: 'mono' }, 'set 4711 26 5374617274 was 8358835E81'), element('br'),
+            ...withTerms('which writes 5 bytes at [offset] 26 of [block] 4711, if the old ones are there.')];
+    }
+    const paths = app.files ? filesAt(app.files.files, patch.block, patch.offset).map(file => file.path) : [];
+    return [...withTerms(patchInWords(patch, paths.join(' and '))), pairOf(app, patch)];
+}
+
+/**
+ * A text in which words in brackets open their notes.
+ * @param {string} text
+ * @returns {Child[]}
+ */
+function withTerms(text) {
+    return text.split(/\[(\w+)\]/).map((part, k) => k % 2 === 1 ? term(part, part) : part);
+}
+
+/**
+ * The new and the old bytes as text.
+ * @param {App} app
+ * @param {{ fresh: Uint8Array, old: Uint8Array | null }} patch
+ */
+function pairOf(app, { fresh, old }) {
+    const encoding = app.tables.get(app.encoding) || encodingOf(app.encoding);
+    if (fresh.length === 0 || encoding === null) return null;
+    const row = (/** @type {string} */ name, /** @type {Uint8Array} */ bytes) => [element('span', { class: 'quiet' }, name),
+        element('span', { class: 'mono' }, visible(encoding.text(bytes.subarray(0, MOST_SHOWN))))];
+    return element('div', { class: 'pair' }, ...row('new', fresh), ...old ? row('old', old) : []);
+}
+
+/**
+ * A text in which spaces at the end and bytes without a sign can be seen.
+ * @param {string} text
+ */
+export function visible(text) {
+    return text.replace(/ +$/, spaces => '␣'.repeat(spaces.length)).replace(/[\p{Cc}\uFFFD]/gu, '·');
+}

@@ -1,0 +1,141 @@
+// Hits of a search: their bytes, what stands round them, and the lines that replace them.
+
+import { readBytes } from '../core/bytes.js';
+import { filledUp, replaceBytes } from '../core/edit.js';
+import { SECTOR_SIZE, USER_SIZE, userOf } from '../core/sector.js';
+import { hexOf } from './dom.js';
+import { charactersOf } from './encodings.js';
+
+/** @typedef {import('../core/bytes.js').Reader} Reader */
+/** @typedef {import('../core/find.js').Hit} Hit */
+/** @typedef {import('../core/text.js').Encoding} Encoding */
+/** @typedef {import('../core/codes.js').Calls} Calls */
+/** @typedef {import('../core/disc.js').DiscImage} DiscImage */
+/** What is before a hit, the hit, and what is after it, as texts; and whether it may begin inside a character. */
+/** @typedef {{ before: string, hit: string, after: string, inside: boolean }} Context */
+
+const BEFORE = 24;
+const AFTER = 48;
+const ALIGNING = 64;
+
+/**
+ * The user bytes round a hit: `at` is where the hit begins in them.
+ * @param {{ reader: Reader, base: number, sectors: number }} image
+ * @param {Hit} hit
+ * @param {number} before at least so many bytes before it, if its block has them
+ * @param {number} after
+ */
+export async function userAround({ reader, base, sectors }, { block, offset, size }, before, after) {
+    const first = Math.max(block - base - (offset < before ? 1 : 0), 0);
+    const end = Math.min(block - base + Math.ceil((offset + size + after) / USER_SIZE), sectors);
+    const raw = await readBytes(reader, first * SECTOR_SIZE, (end - first) * SECTOR_SIZE);
+    const user = new Uint8Array((end - first) * USER_SIZE);
+    for (let i = 0; i < end - first; i++) user.set(userOf(raw, i), i * USER_SIZE);
+    return { user, at: (block - base - first) * USER_SIZE + offset, first: base + first };
+}
+
+/**
+ * What stands round a hit.
+ * @param {Encoding} encoding
+ * @param {boolean} table whether the encoding is a game's own table
+ * @param {Uint8Array} user
+ * @param {number} at
+ * @param {number} size
+ * @returns {Context}
+ */
+export function contextOf(encoding, table, user, at, size) {
+    const start = alignedStart(encoding.name, user, at);
+    const head = charactersOf(encoding, user.subarray(start, at + 1), table).filter(it => start + it.at < at);
+    const last = head[head.length - 1];
+    const inside = last !== undefined && start + last.at + last.size > at;
+    const near = head.filter(it => start + it.at >= at - BEFORE && start + it.at + it.size <= at);
+    const tail = charactersOf(encoding, user.subarray(at + size, at + size + AFTER), table);
+    const text = (/** @type {{ text: string }[]} */ list) => list.map(it => shownText(it.text)).join('');
+    return { before: text(near), hit: encoding.text(user.subarray(at, at + size)), after: text(tail).slice(0, BEFORE), inside };
+}
+
+/**
+ * Where characters are read from, so that they are cut as they were written: after the last byte that ends one for certain.
+ * @param {string} name of the encoding
+ * @param {Uint8Array} user
+ * @param {number} at
+ */
+function alignedStart(name, user, at) {
+    const limit = Math.max(at - ALIGNING, 0);
+    if (name.startsWith('UTF-16')) return at - 2 * Math.floor((at - limit) / 2);
+    const most = name === 'CP932' ? 0x40 : 0x80;
+    for (let start = at; start > limit; start--) {
+        if (user[start - 1] < most) return start > at - BEFORE ? Math.max(backFrom(user, start, most, limit), 0) : start;
+    }
+    return limit;
+}
+
+/**
+ * The same place further ahead, so that there is more to show.
+ * @param {Uint8Array} user
+ * @param {number} start
+ * @param {number} most
+ * @param {number} limit
+ */
+function backFrom(user, start, most, limit) {
+    for (let next = start - BEFORE; next > limit; next--) {
+        if (user[next - 1] < most) return next;
+    }
+    return start;
+}
+
+/** @param {string} text */
+function shownText(text) {
+    return text === '' || /[\p{Cc}\uFFFD]/u.test(text) ? '·' : text;
+}
+
+/**
+ * The lines of a script that begin at a user byte: the number of the last one, by block and offset as 'B O'.
+ * @param {string} script
+ * @returns {Map<string, number>}
+ */
+export function placesInScript(script) {
+    const places = new Map();
+    script.split('\n').forEach((line, i) => {
+        const found = /^\s*(?:set|fill)\s+0*(\d+)\s+0*(\d+)\s/.exec(line);
+        if (found) places.set(`${found[1]} ${found[2]}`, i + 1);
+    });
+    return places;
+}
+
+/**
+ * The line that would replace a hit, as it is shown before it is made.
+ * @param {Hit} hit
+ * @param {Uint8Array} fresh
+ * @param {Uint8Array} old
+ */
+export function replacingLine({ block, offset }, fresh, old) {
+    return `set ${block} ${offset} ${hexOf(fresh)} was ${hexOf(old)}`;
+}
+
+/**
+ * New bytes filled up to the size of the old ones, or null if they do not fit.
+ * @param {Uint8Array} fresh
+ * @param {number} size
+ * @param {Uint8Array} fill
+ */
+export function filledTo(fresh, size, fill) {
+    try {
+        return filledUp(fresh, size, fill);
+    } catch {
+        return null;
+    }
+}
+
+/**
+ * The lines that replace a hit, which the core has tried on its sectors. Throws EditFault if a sector is damaged, or no Mode 1.
+ * @param {Calls} calls
+ * @param {DiscImage} image
+ * @param {Hit} hit
+ * @param {Uint8Array} fresh
+ * @param {Uint8Array} old
+ */
+export async function linesReplacing(calls, image, hit, fresh, old) {
+    const { pieces } = await replaceBytes(calls, image, hit, old, fresh);
+    return pieces.slice(1).map(bytes => new TextDecoder().decode(bytes).trimEnd()).join('\n').split('\n');
+}

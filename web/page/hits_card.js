@@ -1,0 +1,137 @@
+// The table of hits, with the file and what stands round each.
+
+import { filesAt } from '../core/iso.js';
+import { button, counted, element, fill, term } from './dom.js';
+import { chosenEncoding } from './encodings.js';
+import { contextOf, userAround } from './hits.js';
+import { copyText } from './say.js';
+
+/** @typedef {import('./state.js').App} App */
+/** @typedef {import('./state.js').Image} Image */
+/** @typedef {import('../core/find.js').Hit} Hit */
+/** @typedef {import('./hits.js').Context} Context */
+/** @typedef {import('./dom.js').Child} Child */
+/** What a search has found: all hits are counted, `hits` are those that are kept. */
+/** @typedef {{ text: string, count: number, hits: Hit[], seconds: number }} Search */
+
+const SHOWN = 200;
+
+/** The card with the hits. */
+export class HitsCard {
+    /**
+     * @param {App} app
+     * @param {(index: number) => void} choose
+     */
+    constructor(app, choose) {
+        this.app = app;
+        this.choose = choose;
+        this.search = /** @type {Search | null} */ (null);
+        this.chosen = -1;
+        this.shown = SHOWN;
+        /** @type {Map<string, number>} */
+        this.places = new Map();
+        /** @type {Map<number, Context>} */
+        this.contexts = new Map();
+        this.body = element('tbody', {});
+        this.card = element('section', { class: 'card', 'aria-label': 'Hits' });
+    }
+
+    /** @param {Search} search */
+    take(search) {
+        this.search = search;
+        this.shown = SHOWN;
+        this.contexts = new Map();
+        const head = element('header', {}, element('h2', {}, search.count === 1 ? '1 hit' : `${counted(search.count)} hits`),
+            element('span', { class: 'small quiet' }, `in ${search.seconds.toFixed(1)} s`),
+            search.count > search.hits.length && element('span', { class: 'tag warn' },
+                `only the first ${counted(search.hits.length)} are listed`),
+            button('slim bare', () => this.copy(), 'Copy', element('span', { class: 'hide' }, ' the hits')));
+        const column = (/** @type {string} */ name, /** @type {Child} */ shown) => element('th',
+            { scope: 'col', class: name === 'n' ? 'n' : '' }, shown);
+        const table = element('table', { class: 'hits' }, element('thead', {}, element('tr', {}, column('n', term('block', 'Block')),
+            column('n', term('offset', 'Offset')), column('', 'File'), column('', 'Context'))), this.body);
+        fill(this.card, head, element('div', { class: 'scroll fit' }, table), this.more());
+        this.draw(new Map());
+    }
+
+    more() {
+        const { search } = this;
+        if (search === null || search.hits.length <= this.shown) return null;
+        const next = button('', () => {
+            this.shown += SHOWN;
+            next.remove();
+            this.draw(this.places);
+            this.card.append(...[this.more()].filter(it => it !== null).map(it => /** @type {Node} */ (it)));
+        }, `Show ${counted(Math.min(SHOWN, search.hits.length - this.shown))} more`);
+        return element('div', { class: 'pad' }, next);
+    }
+
+    /**
+     * Draws the rows. `places` says which hits are in the script, and in which line.
+     * @param {Map<string, number>} places
+     */
+    draw(places) {
+        const { search } = this;
+        this.places = places;
+        if (search === null) return;
+        fill(this.body, ...search.hits.slice(0, this.shown).map((hit, i) => this.row(hit, i, places.get(`${hit.block} ${hit.offset}`))));
+        this.readContexts(search);
+    }
+
+    /**
+     * @param {Hit} hit
+     * @param {number} i
+     * @param {number | undefined} line
+     */
+    row(hit, i, line) {
+        const { app } = this;
+        const paths = app.files ? filesAt(app.files.files, hit.block, hit.offset).map(file => file.path) : [];
+        const tags = [line !== undefined && element('span', { class: 'tag good' }, `in the script, line ${line}`),
+            hit.offset + hit.size > 2048 && element('span', { class: 'tag' }, 'over a border of blocks'),
+            app.files !== null && paths.length === 0 && element('span', { class: 'tag' }, 'in no file')];
+        const place = element('td', { class: 'wide' }, ...this.context(i), ...tags);
+        const choose = button('plain', () => this.choose(i), hit.block, element('span', { class: 'hide' }, `, hit ${i + 1}`));
+        const made = element('tr', { class: i === this.chosen ? 'on' : '', click: () => this.choose(i) },
+            element('td', { class: 'n', 'data-l': 'block' }, choose), element('td', { class: 'n', 'data-l': 'offset' }, hit.offset),
+            element('td', { class: 'mono small' }, paths.join(' ') || '–'), place);
+        if (i === this.chosen) made.setAttribute('aria-current', 'true');
+        return made;
+    }
+
+    /**
+     * @param {number} i
+     * @returns {Child[]}
+     */
+    context(i) {
+        const context = this.contexts.get(i);
+        if (context === undefined) return [element('span', { class: 'ctx' }, '…')];
+        const { before, hit, after, inside } = context;
+        return [element('span', { class: 'ctx' }, element('em', {}, before.slice(-14)), element('mark', {}, hit), element('em', {}, after)),
+            inside && element('span', { class: 'tag warn' }, 'may begin inside a character')];
+    }
+
+    /**
+     * Reads what stands round the hits that are shown, and draws their rows again.
+     * @param {Search} search
+     */
+    async readContexts(search) {
+        const { app } = this;
+        const { image } = app;
+        for (let i = 0; i < Math.min(this.shown, search.hits.length) && image !== null; i++) {
+            if (this.contexts.has(i)) continue;
+            const hit = search.hits[i];
+            const { user, at } = await userAround(image, hit, 96, 48);
+            if (this.search !== search) return;
+            this.contexts.set(i, contextOf(chosenEncoding(app), app.tables.has(app.encoding), user, at, hit.size));
+            const row = this.body.rows[i];
+            const cell = row && row.cells[3];
+            const waiting = cell && cell.querySelector('.ctx');
+            if (waiting) waiting.replaceWith(...this.context(i).filter(it => it instanceof Node).map(it => /** @type {Node} */ (it)));
+        }
+    }
+
+    copy() {
+        const { search } = this;
+        if (search !== null) copyText(search.hits.map(({ block, offset }) => `${block} ${offset}\n`).join(''));
+    }
+}

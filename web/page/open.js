@@ -1,0 +1,172 @@
+// Opening files: by the button, or dropped on the page. What each file is decides what becomes of it.
+
+import { readBytes } from '../core/bytes.js';
+import { DiscFault, dataTrack, openDisc } from '../core/disc.js';
+import { natureOf } from '../core/image.js';
+import { CONTENT } from '../core/records.js';
+import { MOST_SCRIPT_BYTES } from '../core/script.js';
+import { MOST_SECTORS, imageTooLong } from '../core/sector.js';
+import { textOfFile } from '../core/text.js';
+import { byId, counted } from './dom.js';
+import { exampleFile } from './example.js';
+import { fileReader } from './reading.js';
+import { clearNotices, copyable, showFailure, showNotice } from './say.js';
+import { readImage } from './survey_image.js';
+
+/** @typedef {import('../core/disc.js').Disc} Disc */
+/** @typedef {import('./state.js').App} App */
+/** @typedef {import('./state.js').Image} Image */
+
+const SCRIPT_START = 1 << 16;
+
+/** @param {App} app */
+export function mountOpening(app) {
+    app.open = files => openFiles(app, files);
+    const input = /** @type {HTMLInputElement} */ (byId('files'));
+    const choose = () => input.click();
+    byId('open-files').addEventListener('click', choose);
+    byId('open-other').addEventListener('click', choose);
+    byId('open-example').addEventListener('click', () => app.open([exampleFile(app.calls)]));
+    input.addEventListener('change', () => {
+        const files = [...input.files || []];
+        input.value = '';
+        app.open(files);
+    });
+    listenForDrops(app);
+}
+
+/** @param {App} app */
+function listenForDrops(app) {
+    const over = (/** @type {boolean} */ is) => { document.body.classList.toggle('over', is); };
+    document.addEventListener('dragover', event => {
+        event.preventDefault();
+        over(true);
+    });
+    document.addEventListener('dragleave', event => over(event.relatedTarget !== null));
+    document.addEventListener('drop', event => {
+        event.preventDefault();
+        over(false);
+        app.open([...(event.dataTransfer && event.dataTransfer.files) || []]);
+    });
+}
+
+/**
+ * @param {App} app
+ * @param {File[]} files
+ */
+async function openFiles(app, files) {
+    if (files.length === 0) return;
+    clearNotices();
+    try {
+        const others = [];
+        for (const file of files) {
+            if (!await isTaken(app, file)) others.push(file);
+        }
+        if (others.length > 0) await openImages(app, others);
+    } catch (error) {
+        await showOpeningFailure(app, files, error);
+    }
+}
+
+/**
+ * Whether a file is a script, or something else than an image that a panel takes.
+ * @param {App} app
+ * @param {File} file
+ */
+async function isTaken(app, file) {
+    for (const take of app.takers) {
+        if (await take(file)) return true;
+    }
+    if (file.size > MOST_SCRIPT_BYTES || !isScript(app, await fileReader(file).read(0, SCRIPT_START))) return false;
+    app.setScript(textOfFile(await readBytes(fileReader(file), 0, file.size)), file.name, 'file');
+    app.showPanel('script');
+    return true;
+}
+
+/**
+ * Whether a text is a script: the first of its lines that says something is a head.
+ * @param {App} app
+ * @param {Uint8Array} text
+ */
+function isScript({ calls }, text) {
+    calls.hold(text);
+    let content = /** @type {number} */ (CONTENT.NOTHING);
+    for (let from = 0, number = 1; content === CONTENT.NOTHING; number += 1) {
+        const line = calls.firstLine(from);
+        if (line === null) return false;
+        content = calls.readLine(0, number, 0, from, line.size);
+        from += line.taken;
+    }
+    return content === CONTENT.VERSION_1 || content === CONTENT.VERSION_2;
+}
+
+/**
+ * Opens an image, or two; as the second image if one is open.
+ * @param {App} app
+ * @param {File[]} files
+ */
+async function openImages(app, files) {
+    const names = files.map(file => file.name.toLowerCase());
+    if (new Set(names).size < names.length) throw new DiscFault('Two of these files have one name. Open one of them.');
+    const two = files.length === 2 && (await Promise.all(files.map(file => isRaw(app, file)))).every(it => it);
+    const images = [];
+    for (const group of two ? [[files[0]], [files[1]]] : [files]) images.push(await imageOf(app, group));
+    if (app.image === null) {
+        readImage(app, images.shift() || null);
+        app.showPanel('disc');
+        byId('map').focus();
+    }
+    if (images.length > 0) {
+        app.second = images[0];
+        app.emit('second');
+        app.showPanel('disc');
+    }
+}
+
+/**
+ * @param {App} app
+ * @param {File} file
+ */
+async function isRaw({ calls }, file) {
+    return (await natureOf(calls, fileReader(file))).kind === 'raw';
+}
+
+/**
+ * @param {App} app
+ * @param {File[]} files
+ */
+async function imageOf(app, files) {
+    const disc = await openDisc(app.calls, files.map(file => ({ name: file.name, reader: fileReader(file) })));
+    const sheet = files.find(file => file.name === disc.sheet);
+    return imageOfTrack(disc, sheet ? textOfFile(await readBytes(fileReader(sheet), 0, sheet.size)) : '', null);
+}
+
+/**
+ * The image in which a track of a disc lies: the one of a number, or the first with data.
+ * @param {Disc} disc
+ * @param {string} sheet
+ * @param {number | null} number
+ * @returns {Image}
+ */
+export function imageOfTrack(disc, sheet, number) {
+    const { image, part, number: own } = dataTrack(disc, number);
+    if (imageTooLong(image.reader.size)) {
+        throw new DiscFault(`${image.name} is too long. An image has at most ${counted(MOST_SECTORS)} sectors.`);
+    }
+    return { ...image, part, from: disc.sheet || '', sheet, disc, number: own, sha1: '' };
+}
+
+/**
+ * Says why files were not opened, with the command that makes a raw image of a CHD.
+ * @param {App} app
+ * @param {File[]} files
+ * @param {unknown} error
+ */
+async function showOpeningFailure(app, files, error) {
+    const [first] = files;
+    const kind = error instanceof DiscFault ? (await natureOf(app.calls, fileReader(first))).kind : 'unknown';
+    if (kind !== 'chd') return showFailure(error);
+    return showNotice('bad', `${first.name} is a CHD, a compressed image. cdpatch cannot read it.`,
+        'Make a raw image of it first, in a terminal. Then open the new .cue and .bin here.',
+        ...copyable(`chdman extractcd -i "${first.name}" -o disc.cue -ob disc.bin`));
+}

@@ -1,0 +1,177 @@
+// What is done with a script and an image: checking, and saving the patched image.
+
+import { JobAborted } from '../core/jobs.js';
+import { checkPatches, applyPatches, passPatched } from '../core/patch.js';
+import { Refusal, patchesOf } from '../core/script.js';
+import { RunningHash, sha1Of } from './crew.js';
+import { canStream, chosenFile, download } from './files_out.js';
+import { fileOf, fileReader } from './reading.js';
+import { blobOfPieces, saveToSink } from './save.js';
+
+/** @typedef {import('./state.js').App} App */
+/** @typedef {import('../core/bytes.js').Reader} Reader */
+/** @typedef {import('../core/patch.js').Patched} Patched */
+/** @typedef {import('../core/script.js').Patch} Patch */
+/** An image, the block of its first sector, and what is to be made of it. */
+/** @typedef {{ reader: Reader, base: number, script: string, carry: boolean }} PatchWork */
+/** @typedef {{ signal: { aborted: boolean }, progress: (done: number, all: number) => void }} PatchWatch */
+/**
+ * What became of a saving: what the program prints, the file's name, and its size; `streamed` if it was written to its end, else the
+ * browser is still at it, and `blob` is what it saves. `sha1` is that of what was saved, if it was asked for.
+ * @typedef {{ made: Patched, name: string, size: number, streamed: boolean, blob: Blob | null, file: File | null, sha1: string }} Saved
+ */
+
+/** Why a script or an image can't be worked on: the program's words, and what to do. */
+export class WorkRefused extends Error {
+    /**
+     * @param {string} text
+     * @param {string} advice
+     */
+    constructor(text, advice) {
+        super(text);
+        this.advice = advice;
+    }
+}
+
+/**
+ * The patches of a script. Throws WorkRefused.
+ * @param {App} app
+ * @param {string} script
+ */
+export async function readPatches({ calls }, script) {
+    return accepted(await patchesOf(calls, [new TextEncoder().encode(script)]));
+}
+
+/**
+ * @template Value
+ * @param {Value | Refusal} value
+ * @returns {Value}
+ */
+function accepted(value) {
+    if (!(value instanceof Refusal)) return value;
+    if (value.reason === 'script-fault') throw new WorkRefused(new TextDecoder().decode(value.text).trimEnd(),
+        'Nothing was done. Mend the line first.');
+    if (value.reason === 'script-too-long') throw new WorkRefused('The script is too long.',
+        'It may have 67,108,864 bytes. Cut it into two.');
+    throw new WorkRefused('The image is too long.', 'It may have 1,000,000 sectors.');
+}
+
+/**
+ * A reader that ends a job which was cancelled, and says how far it has come.
+ * @param {Reader} reader
+ * @param {PatchWatch} watch
+ * @returns {Reader}
+ */
+function watched(reader, { signal, progress }) {
+    return {
+        size: reader.size,
+        async read(at, length) {
+            if (signal.aborted) throw new JobAborted();
+            progress(at, reader.size);
+            return reader.read(at, length);
+        },
+    };
+}
+
+/**
+ * What would become of each patch.
+ * @param {App} app
+ * @param {PatchWork} work
+ * @param {PatchWatch} watch
+ * @returns {Promise<Patched>}
+ */
+export async function checkWork(app, { reader, base, script, carry }, watch) {
+    const patches = await readPatches(app, script);
+    return accepted(await checkPatches(app.calls, watched(reader, watch), patches, base, carry));
+}
+
+/**
+ * Saves the patched image. Returns null if the user chose no file, or the open one, which `refused` says. `wanted` is the SHA-1 that the
+ * result must have, or '' if any is right.
+ * @param {App} app
+ * @param {PatchWork} work
+ * @param {string} name that is proposed
+ * @param {string} wanted
+ * @param {PatchWatch} watch
+ * @returns {Promise<Saved | null>}
+ */
+export async function saveWork(app, work, name, wanted, watch) {
+    const patches = await readPatches(app, work.script);
+    return canStream() ? streamWork(app, work, patches, name, wanted, watch) : downloadWork(app, work, patches, name, wanted, watch);
+}
+
+/**
+ * Refuses a chosen file if it is an open image.
+ * @param {File} chosen
+ * @param {Reader} reader of the image
+ */
+export function assertOther(chosen, reader) {
+    const own = fileOf(reader);
+    if (own && chosen.name === own.name && chosen.size === own.size && chosen.lastModified === own.lastModified) {
+        throw new WorkRefused(`${own.name} is the open image itself.`, 'cdpatch never writes over it. Choose another name.');
+    }
+}
+
+/**
+ * @param {App} app
+ * @param {PatchWork} work
+ * @param {Patch[]} patches
+ * @param {string} name
+ * @param {string} wanted
+ * @param {PatchWatch} watch
+ * @returns {Promise<Saved | null>}
+ */
+async function streamWork(app, { reader, base, carry }, patches, name, wanted, { signal, progress }) {
+    const chosen = await chosenFile(name);
+    if (chosen === null) return null;
+    const before = await chosen.getFile();
+    assertOther(before, reader);
+    const hash = wanted === '' ? null : new RunningHash(app.parts);
+    /** @type {Patched | Refusal | null} */
+    let made = null;
+    try {
+        const sink = await chosen.createWritable();
+        await saveToSink(sink, reader, async take => {
+            made = await passPatched(app.calls, reader, patches, base, carry, take);
+            if (hash !== null && await hash.end() !== wanted) throw new WrongResult();
+            return !(made instanceof Refusal);
+        }, { signal, progress: done => progress(done, reader.size), seen: hash ? bytes => hash.add(bytes.slice()) : undefined });
+    } catch (error) {
+        if (before.size === 0 && chosen.remove) await chosen.remove().catch(() => {});
+        throw error;
+    } finally {
+        if (hash !== null) hash.close();
+    }
+    const done = accepted(/** @type {Patched | Refusal} */ (/** @type {unknown} */ (made)));
+    return { made: done, name: chosen.name, size: reader.size, streamed: true, blob: null, file: await chosen.getFile(), sha1: wanted };
+}
+
+/** The result is not the one that it should be, so nothing was kept. */
+export class WrongResult extends Error {
+    constructor() {
+        super('The patched image is not the one that the author made: its SHA-1 is another one.');
+        this.name = 'WrongResult';
+    }
+}
+
+/**
+ * @param {App} app
+ * @param {PatchWork} work
+ * @param {Patch[]} patches
+ * @param {string} name
+ * @param {string} wanted
+ * @param {PatchWatch} watch
+ * @returns {Promise<Saved>}
+ */
+async function downloadWork(app, { reader, base, carry }, patches, name, wanted, watch) {
+    const file = fileOf(reader);
+    if (file === null) throw new Error('this image is no file');
+    const { pieces, ...made } = accepted(await applyPatches(app.calls, watched(reader, watch), patches, base, carry));
+    const blob = blobOfPieces(file, pieces);
+    const progress = (/** @type {number} */ done) => watch.progress(done, blob.size);
+    const result = fileReader(new File([blob], name));
+    if (wanted !== '' && await sha1Of(app.parts, result, watch.signal, progress) !== wanted) throw new WrongResult();
+    if (watch.signal.aborted) throw new JobAborted();
+    download(blob, name);
+    return { made, name, size: blob.size, streamed: false, blob, file: null, sha1: wanted };
+}

@@ -1,0 +1,294 @@
+// The page of a patcher, for players: three steps with one button each.
+
+import { RESULT } from '../core/records.js';
+import { openDisc } from '../core/disc.js';
+import { readBytes } from '../core/bytes.js';
+import { textOfFile } from '../core/text.js';
+import { button, byId, countOf, counted, element, fill, icon } from './dom.js';
+import { downloadText } from './files_out.js';
+import { saveWork } from './patch_job.js';
+import { moreOf } from './player_more.js';
+import { imageOfSize, judgeImage } from './player_verdict.js';
+import { jobBar } from './progress.js';
+import { fileReader } from './reading.js';
+import { failureOfSaving } from './save_card.js';
+import { isCancelled, notice } from './say.js';
+import { sheetNaming } from './sheet.js';
+
+/** @typedef {import('./state.js').App} App */
+/** @typedef {import('../core/disc.js').DiscImage} DiscImage */
+/** @typedef {import('./patcher.js').PatcherData} PatcherData */
+/** @typedef {import('./player_verdict.js').Judged} Judged */
+/** @typedef {import('./patch_job.js').Saved} Saved */
+/** @typedef {import('./dom.js').Child} Child */
+/** What is said of the file that the patcher came in, and how one goes back to the page that showed it, if one can. */
+/** @typedef {{ note: Child, back: (() => void) | null }} PlayerHow */
+/** @typedef {'now' | 'done' | 'later'} StepState */
+
+/** @type {Record<string, ['good' | 'warn' | 'bad', string]>} */
+const VERDICTS = {
+    right: ['good', 'This is the right disc.'],
+    fits: ['warn', 'This is another dump, but the patch fits it.'],
+    other: ['bad', 'This is another dump, and the patch does not fit it.'],
+    patched: ['good', 'This image is patched already.'],
+};
+
+/** The page of a patcher. */
+class Player {
+    /**
+     * @param {App} app
+     * @param {PatcherData} data
+     * @param {PlayerHow} how
+     * @param {HTMLElement} place
+     */
+    constructor(app, data, how, place) {
+        this.app = app;
+        this.data = data;
+        this.how = how;
+        this.image = /** @type {DiscImage | null} */ (null);
+        this.files = /** @type {File[]} */ ([]);
+        this.sheet = '';
+        this.leaving = false;
+        this.saving = false;
+        this.number = 0;
+        /** Ends the job that runs. */
+        this.stop = () => {};
+        window.addEventListener('beforeunload', event => {
+            if (this.leaving) event.preventDefault();
+        });
+        /** @type {HTMLInputElement} */
+        this.input = element('input', { type: 'file', id: 'player-files', class: 'hide', multiple: true, tabindex: -1,
+            'aria-label': 'Your disc image',
+            change: () => this.open([...this.input.files || []]) });
+        this.steps = element('ol', { class: 'steps' });
+        const by = data.author === '' ? '' : `by ${data.author}`;
+        fill(place, how.note, element('div', {}, element('h1', {}, data.title), element('p', { class: 'by' }, by)),
+            element('p', { class: 'author' }, data.note),
+            this.steps, element('p', { class: 'safe left' }, icon('lock'),
+                element('span', {}, element('b', {}, 'Nothing leaves your computer.'),
+                ' Your image is not changed; a new file is saved.')), moreOf(data), this.input);
+        this.start();
+    }
+
+    /**
+     * @param {string} number
+     * @param {StepState} state
+     * @param {string} title
+     * @param {...Child} body
+     */
+    step(number, state, title, ...body) {
+        const made = element('li', { class: `step ${state}`, 'aria-current': state === 'now' ? 'step' : null },
+            element('span', { class: 'no', 'aria-hidden': 'true' }, state === 'done' ? '✓' : number), element('h2', {}, title));
+        if (body.length > 0) made.append(element('div', { class: 'stack' }, ...body.filter(it => it !== null && it !== false).map(it =>
+            it instanceof Node ? it : String(it))));
+        return made;
+    }
+
+    /**
+     * @param {HTMLElement} first
+     * @param {HTMLElement} [second]
+     * @param {HTMLElement} [third]
+     */
+    show(first, second = this.step('2', 'later', 'Patch it'), third = this.step('3', 'later', 'Play')) {
+        fill(this.steps, first, second, third);
+    }
+
+    /** @param {Child} [fault] */
+    start(fault = null) {
+        const choose = button('main big', () => this.input.click(), 'Choose the image…');
+        this.show(this.step('1', 'now', 'Your disc', fault, element('div', { class: 'drop' }, icon('disc'),
+            element('p', { class: 'what if-mouse' }, 'Drop your disc image here'), choose,
+            element('p', { class: 'small quiet' }, 'The .bin file, or the .cue and all .bin files together'))));
+    }
+
+    /** @param {File[]} files */
+    async open(files) {
+        this.input.value = '';
+        if (files.length === 0 || this.saving) return;
+        this.stop();
+        const number = ++this.number;
+        try {
+            const disc = await openDisc(this.app.calls, files.map(file => ({ name: file.name, reader: fileReader(file) })));
+            const sheet = files.find(file => file.name === disc.sheet);
+            const text = sheet ? textOfFile(await readBytes(fileReader(sheet), 0, sheet.size)) : '';
+            if (number !== this.number) return;
+            Object.assign(this, { sheet: text, files, image: imageOfSize(disc, this.data.image.size) });
+            if (this.image) await this.judge(this.image);
+        } catch (error) {
+            if (number !== this.number) return;
+            const { message } = error instanceof Error ? error : new Error(String(error));
+            this.start(isCancelled(error) ? null : notice('bad', message));
+        }
+    }
+
+    /** @param {DiscImage} image */
+    async judge(image) {
+        await this.app.run(async (signal, cancel) => {
+            const bar = jobBar('Checking your image', cancel);
+            this.show(this.step('1', 'now', 'Checking your image', element('p', { class: 'mono' }, image.name), ...bar.parts));
+            this.stop = cancel;
+            const judged = await judgeImage(this.app, this.data, image, { signal, progress: bar.at });
+            if (!signal.aborted) this.judged(image, judged);
+        });
+    }
+
+    /**
+     * @param {DiscImage} image
+     * @param {Judged} judged
+     */
+    judged(image, judged) {
+        const { verdict } = judged;
+        const [tone, head] = VERDICTS[verdict];
+        const said = element('p', { class: `verdict ${tone}-ink`, role: 'status', id: 'verdict' },
+            icon(tone === 'good' ? 'tick' : 'warn'), element('span', {}, head));
+        const name = element('p', {}, element('span', { class: 'mono' }, image.name), ' ',
+            verdict !== 'other' && button('slim bare tiny', () => this.input.click(), 'Choose another'));
+        if (verdict === 'other') return this.showOther(name, said, image, judged);
+        const first = this.step('1', 'done', 'Your disc', name, said, this.reason(judged), this.details(image, judged));
+        if (verdict === 'patched') return this.show(first, this.step('2', 'done', 'Patched', 'There is nothing to do.'),
+            this.playStep(image.name, ''));
+        const patch = button('main big', () => this.patch(image, judged, first), 'Patch and save…');
+        this.show(first, this.step('2', 'now', 'Patch it', patch));
+        return patch.focus();
+    }
+
+    /**
+     * @param {Element} name
+     * @param {Element} said
+     * @param {DiscImage} image
+     * @param {Judged} judged
+     */
+    showOther(name, said, image, judged) {
+        const { patches, refused } = judged;
+        const why = `${counted(refused)} of ${countOf(patches, 'place')} hold other bytes. It is probably another release of the game. ` +
+            'Nothing was saved.';
+        const box = element('div', { class: 'say bad' }, said, element('p', {}, why), element('div', { class: 'row' },
+            button('main', () => this.input.click(), 'Choose another image…')));
+        const fitting = patches - refused;
+        const some = button('slim bare', () => this.patch(image, judged, this.step('1', 'done', 'Your disc', name)),
+            `Save with the ${counted(fitting)} changes that fit…`);
+        const details = this.details(image, judged);
+        if (fitting > 0) details.append(element('p', { class: 'small' }, some, ' The game may then show both languages, or stop.'));
+        this.show(this.step('1', 'now', 'Your disc', name, box, details));
+    }
+
+    /** @param {Judged} judged */
+    reason({ verdict, patches }) {
+        if (verdict !== 'fits') return null;
+        return element('p', {}, `All ${countOf(patches, 'place')} hold the bytes that the author saw. The rest of the disc differs ` +
+            'from the author’s: perhaps its music is shifted, or a sector is damaged.');
+    }
+
+    /**
+     * @param {DiscImage} image
+     * @param {Judged} judged
+     */
+    details({ reader }, { sha1, words }) {
+        const { image } = this.data;
+        const row = (/** @type {string} */ name, /** @type {string} */ value) => value === '' ? [] : [element('dt', {}, name),
+            element('dd', {}, value)];
+        const size = reader.size === image.size ? `${counted(reader.size)} bytes, as expected`
+            : `${counted(reader.size)} bytes, the author’s has ${counted(image.size)}`;
+        return element('details', {}, element('summary', {}, 'Details'), element('dl', { class: 'hashes' }, ...row('made for', image.sha1),
+            ...row('your image', sha1), ...row('size', size), ...row('first place', words)));
+    }
+
+    /**
+     * @param {DiscImage} image
+     * @param {Judged} judged
+     * @param {HTMLElement} first
+     */
+    async patch(image, { work, verdict }, first) {
+        const { app, data } = this;
+        try {
+            const saved = await app.run((signal, cancel) => {
+                const bar = jobBar('Saving', cancel);
+                this.show(first, this.step('2', 'now', `Saving ${data.name}`, ...bar.parts));
+                this.leaving = this.saving = true;
+                this.stop = cancel;
+                return saveWork(app, work, data.name, verdict === 'right' ? data.result : '', { signal, progress: bar.at });
+            });
+            this.saving = false;
+            this.leaving = saved !== null && !saved.streamed;
+            if (saved !== null) return this.saved(saved, first);
+            return this.show(first, this.again(image, { work, verdict }, first,
+                notice('plain', 'No file was chosen.', 'Nothing was saved.')));
+        } catch (error) {
+            this.leaving = this.saving = false;
+            return this.show(first, this.again(image, { work, verdict }, first, failureOfSaving(error, work.reader.size)));
+        }
+    }
+
+    /**
+     * @param {DiscImage} image
+     * @param {Pick<Judged, 'work' | 'verdict'>} judged
+     * @param {HTMLElement} first
+     * @param {Child} said
+     */
+    again(image, judged, first, said) {
+        const again = button('main big', () => this.patch(image, /** @type {Judged} */ (judged), first), 'Patch and save…');
+        return this.step('2', 'now', 'Patch it', said, again);
+    }
+
+    /**
+     * @param {Saved} saved
+     * @param {HTMLElement} first
+     */
+    saved({ made, name, size, streamed, sha1 }, first) {
+        const refused = made.outcomes.filter(it => it.result !== RESULT.OK).length;
+        const head = streamed ? `Saved: ${name}` : `Your browser is saving ${name}`;
+        const same = sha1 !== '' && 'It is exactly the image that the author made: the SHA-1 is the same.';
+        const wait = !streamed && `It must have ${counted(size)} bytes. Keep this page open until it has.`;
+        const left = refused > 0 && `${countOf(refused, 'change')} left out.`;
+        const tone = refused > 0 ? 'warn' : 'good';
+        const said = element('p', { class: `verdict ${tone}-ink`, role: 'status', id: 'saved' },
+            icon(tone === 'good' ? 'tick' : 'warn'), element('span', {}, head));
+        const rest = [same, wait, left].map(text => text && element('p', {}, text));
+        const { cue, name: own } = this.data;
+        const sheet = sheetNaming(this.sheet, this.image ? this.image.name : '', name) || sheetNaming(cue, own, name);
+        this.show(first, this.step('2', 'done', 'Patched', said, ...rest), this.playStep(name, sheet));
+    }
+
+    /**
+     * @param {string} name of the image to play
+     * @param {string} sheet
+     */
+    playStep(name, sheet) {
+        if (sheet === '') return this.step('3', 'now', 'Play', element('p', {}, 'Open ', element('b', {}, name), ' in your emulator.'));
+        const save = button('main big', () => downloadText(sheet, name.replace(/(\.[^.]*)?$/, '.cue')), 'Save the cue sheet…');
+        return this.step('3', 'now', 'Play',
+            element('p', {}, 'Your emulator opens a cue sheet. This one names the new image. Save it in the same folder.'), save);
+    }
+}
+
+/**
+ * Shows a patcher as players see it, in place of the panels.
+ * @param {App} app
+ * @param {PatcherData} data
+ * @param {PlayerHow} how
+ */
+export function showPlayer(app, data, how) {
+    const { open } = app;
+    const place = byId('player');
+    const home = /** @type {Text} */ (byId('home').lastChild);
+    document.body.classList.add('player');
+    home.data = 'A patcher made with cdpatch';
+    const player = new Player(app, data, how, place);
+    app.open = files => player.open(files);
+    const leave = (/** @type {boolean} */ full) => {
+        player.stop();
+        app.open = open;
+        document.body.classList.remove('player');
+        home.data = 'cdpatch';
+        document.title = 'cdpatch';
+        fill(place);
+        if (!full && how.back) return how.back();
+        app.setScript(data.script, `${data.title}.txt`, 'file');
+        app.showPanel('script');
+        return player.files.length > 0 ? app.open(player.files) : undefined;
+    };
+    document.title = data.title;
+    place.append(element('p', { class: 'row center' }, how.back && button('slim', () => leave(false), 'Back to Publish'),
+        button('slim bare', () => leave(true), 'Open this in the full cdpatch')));
+    window.scrollTo(0, 0);
+}

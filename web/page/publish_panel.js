@@ -1,0 +1,247 @@
+// The panel Publish: a copy of this page with the script, for players.
+
+import { RESULT, VERB, patchFields } from '../core/records.js';
+import { applyPatches } from '../core/patch.js';
+import { Refusal } from '../core/script.js';
+import { sha1Of } from './crew.js';
+import { button, countOf, element, fill, isDisabled, setDisabled } from './dom.js';
+import { download } from './files_out.js';
+import { readPatches } from './patch_job.js';
+import { pageSource } from './parts.js';
+import { headFault, patcherText } from './patcher.js';
+import { showPlayer } from './player.js';
+import { jobBar } from './progress.js';
+import { fileOf, fileReader } from './reading.js';
+import { blobOfPieces } from './save.js';
+import { isCancelled, notice } from './say.js';
+import { sheetFor } from './sheet.js';
+
+/** @typedef {import('./state.js').App} App */
+/** @typedef {import('./state.js').Image} Image */
+/** @typedef {import('./patcher.js').PatcherData} PatcherData */
+/** @typedef {import('./dom.js').Child} Child */
+/**
+ * What is known of a script on the image: how many patches fit, how many are without old bytes, and how many old bytes there are.
+ * @typedef {{ script: string, patches: number, refused: number, without: number, old: number, result: Blob }} Tried
+ */
+
+/** The panel. */
+class PublishPanel {
+    /**
+     * @param {App} app
+     * @param {HTMLElement} panel
+     */
+    constructor(app, panel) {
+        this.app = app;
+        this.tried = /** @type {Tried | null} */ (null);
+        this.fault = '';
+        this.number = 0;
+        this.trying = false;
+        this.busy = false;
+        const text = (/** @type {string} */ id) => element('input', { type: 'text', id, maxlength: 200, autocomplete: 'off',
+            input: () => this.draw() });
+        this.title = text('patcher-title');
+        this.author = text('patcher-author');
+        this.note = element('textarea', { id: 'patcher-note', rows: 5, maxlength: 20000 });
+        this.name = text('patcher-name');
+        this.sheet = element('input', { type: 'checkbox', id: 'patcher-cue', checked: true });
+        this.list = element('div', { class: 'stack tight', role: 'status' });
+        this.state = element('div', { class: 'stack' });
+        this.save = button('main', () => this.publish(true), 'Save as a patcher…');
+        this.see = button('', () => this.publish(false), 'See it as a player');
+        panel.append(element('div', { class: 'two even' }, this.form(), element('div', { class: 'side' }, this.savingCard())));
+        app.on('panel', () => this.shown());
+        for (const name of /** @type {const} */ (['image', 'script'])) app.on(name, () => this.forget());
+        for (const name of /** @type {const} */ (['hash', 'surveyed'])) app.on(name, () => this.shown());
+    }
+
+    form() {
+        const row = (/** @type {string} */ label, /** @type {HTMLElement} */ field) => element('div', {},
+            element('label', { for: field.id }, label), field);
+        this.cueRow = element('label', { class: 'check' }, this.sheet,
+            element('span', {}, 'Offer a cue sheet that names the patched image'));
+        return element('section', { class: 'card', 'aria-label': 'A patcher for your players' },
+            element('header', {}, element('h2', {}, 'A patcher for your players')),
+            element('div', { class: 'pad stack' }, row('Title', this.title), row('By', this.author), row('Note for players', this.note),
+                row('Name of the patched image', this.name), this.cueRow));
+    }
+
+    savingCard() {
+        return element('section', { class: 'card', 'aria-label': 'Before you save' },
+            element('header', {}, element('h2', {}, 'Before you save')),
+            element('div', { class: 'pad stack' }, this.list, this.state, element('div', { class: 'row' }, this.save, this.see),
+                element('p', { class: 'small quiet' },
+                    'One .html file. It holds this page, your script, the texts and the hashes. It holds no image.'),
+                element('p', { class: 'say warn thin', id: 'no-licence' }, element('b', {}, 'No licence has been chosen for cdpatch yet.'),
+                    'Until its owner has chosen one, nobody may pass copies of this page on.'),
+                element('p', { class: 'small quiet' }, 'The script itself can be saved under Script.')));
+    }
+
+    forget() {
+        this.tried = null;
+        this.fault = '';
+        this.trying = false;
+        this.number += 1;
+        this.shown();
+    }
+
+    /** Tries the script on the image as soon as the panel is shown. */
+    shown() {
+        if (this.app.panel !== 'publish') return;
+        const { image } = this.app;
+        if (this.name.value === '' && image) this.name.value = image.name.replace(/(\.[^.]*)?$/, ' (patched)$1');
+        this.draw();
+        if (this.tried === null && this.fault === '' && !this.trying && image !== null) this.tryScript(image);
+    }
+
+    /** @param {Image} image */
+    async tryScript(image) {
+        const { number } = this;
+        this.trying = true;
+        try {
+            const tried = await triedOn(this.app, image);
+            if (number === this.number) this.tried = tried;
+        } catch (error) {
+            if (number === this.number) this.fault = error instanceof Error ? error.message : String(error);
+        }
+        if (number === this.number) this.trying = false;
+        this.draw();
+    }
+
+    draw() {
+        const rows = this.rows();
+        fill(this.list, ...rows.map(([tone, ...words]) => element('p', { class: 'mark-row' },
+            element('b', { class: `${tone}-ink` }, SIGNS[tone]), ' ', ...words)));
+        const ready = rows.every(([tone]) => tone === 'good' || tone === 'warn');
+        for (const it of [this.save, this.see]) setDisabled(it, !ready);
+        if (this.cueRow) this.cueRow.hidden = this.app.image === null || sheetFor(this.app.image, 'x') === '';
+    }
+
+    /** @returns {[('good' | 'bad' | 'warn' | 'quiet'), ...Child[]][]} what is ready, and what is not */
+    rows() {
+        const { app, tried, fault } = this;
+        const { image, survey } = app;
+        if (image === null) return [['bad', 'Open the image that the script is made for.']];
+        if (fault !== '') return [['bad', fault]];
+        if (tried === null) return [['quiet', 'Trying the script on this image…']];
+        const findings = survey ? survey.marks.findings() : 0;
+        const read = survey !== null && survey.ended > 0;
+        const mono = (/** @type {string} */ text) => element('span', { class: 'mono small' }, text);
+        return [
+            tried.patches > 0 ? ['good', `${countOf(tried.patches, 'patch', 'patches')}, no faults`]
+                : ['bad', 'The script has no patch yet.'],
+            [tried.refused === 0 ? 'good' : 'bad',
+                `tried on this image: ${tried.patches - tried.refused} applied, ${tried.refused} refused`],
+            tried.without === 0 ? ['good', 'each ', mono('set'), ' has its old bytes (', mono('was'), ')']
+                : ['warn', `${countOf(tried.without, 'line')} without `, mono('was'),
+                    ': another release would be patched there too, and break.'],
+            !read && survey !== null && survey.over ? ['bad', 'The image was not read to its end. Read it again under Disc.']
+                : !read ? ['quiet', 'reading the image…'] : findings === 0 ? ['good', 'the image is sound: 0 findings']
+                : ['warn', `the image has ${countOf(findings, 'finding')}: players with a sound disc have another hash.`],
+            image.sha1 === '' ? ['quiet', 'calculating the SHA-1 of the image…'] : ['good', 'made for SHA-1 ', mono(image.sha1)],
+            this.title.value.trim() === '' ? ['bad', 'a title is missing'] : ['good', `title: ${this.title.value}`],
+            ...nameRow(this.name.value),
+            ...oldRow(tried.old),
+        ];
+    }
+
+    /** @param {boolean} saving whether the patcher is saved, or shown as a player sees it */
+    async publish(saving) {
+        const { app, tried } = this;
+        const { image } = app;
+        if (image === null || tried === null || this.busy || isDisabled(this.save)) return;
+        this.busy = true;
+        try {
+            await app.run(async (signal, cancel) => {
+                const bar = jobBar('Calculating the SHA-1 of the result', cancel);
+                fill(this.state, element('p', {}, 'Calculating the SHA-1 of the patched image, so that players can compare theirs.'),
+                    ...bar.parts);
+                const size = tried.result.size;
+                const result = await sha1Of(app.parts, fileReader(new File([tried.result], 'result')), signal, done => bar.at(done, size));
+                const data = this.data(image, tried.script, result);
+                fill(this.state);
+                if (saving) await this.saveAs(data);
+                else showPlayer(app, data, { note: '', back: () => app.showPanel('publish') });
+            });
+        } catch (error) {
+            fill(this.state, isCancelled(error) ? notice('plain', 'Cancelled.', 'No patcher was saved.')
+                : notice('bad', error instanceof Error ? error.message : String(error), 'No patcher was saved.'));
+        } finally {
+            this.busy = false;
+        }
+    }
+
+    /**
+     * @param {Image} image
+     * @param {string} script of which `result` is the result
+     * @param {string} result
+     * @returns {PatcherData}
+     */
+    data(image, script, result) {
+        const name = this.name.value.trim();
+        return { title: this.title.value.trim(), author: this.author.value.trim(), note: this.note.value, name, carry: false,
+            base: image.base,
+            cue: this.sheet.checked ? sheetFor(image, name) : '', image: { size: image.reader.size, sha1: image.sha1 }, result,
+            script };
+    }
+
+    /** @param {PatcherData} data */
+    async saveAs(data) {
+        const name = `${data.title.replace(/[\p{Cc}/\\:*?"<>|]+/gu, ' ').trim() || 'patcher'}.html`;
+        download(new Blob([pageSource(), await patcherText(data)], { type: 'text/html' }), name);
+        fill(this.state, notice('good', `${name} is saved.`, 'Players open it with a double click, and drop their image there.'));
+    }
+}
+
+/** @type {Record<string, string>} */
+const SIGNS = { good: '✓', bad: '✕', warn: '!', quiet: '…' };
+
+/**
+ * @param {number} count of old bytes
+ * @returns {['warn', string][]}
+ */
+function oldRow(count) {
+    return count === 0 ? []
+        : [['warn', `The old bytes come from the game (${countOf(count, 'byte')}). Check whether you may publish them.`]];
+}
+
+/**
+ * @param {string} name
+ * @returns {['bad', string][]}
+ */
+function nameRow(name) {
+    const right = { title: 'x', author: '', note: '', cue: '', carry: false, base: 0, image: { size: 0, sha1: '0'.repeat(40) },
+        result: '0'.repeat(40) };
+    return headFault({ ...right, name: name.trim() }) === '' ? [] : [['bad', 'the name of the patched image is no name of a file']];
+}
+
+/**
+ * Tries the script on the image.
+ * @param {App} app
+ * @param {Image} image
+ * @returns {Promise<Tried>}
+ */
+async function triedOn(app, image) {
+    const script = app.script.text || 'cdpatch 1\n';
+    const patches = await readPatches(app, script);
+    const made = await applyPatches(app.calls, image.reader, patches, image.base, false);
+    const file = fileOf(image.reader);
+    if (made instanceof Refusal || file === null) throw new Error('The image is too long.');
+    const fields = patches.map(({ bytes }) => patchFields(bytes));
+    return {
+        script,
+        patches: patches.length,
+        refused: made.outcomes.filter(it => it.result !== RESULT.OK).length,
+        without: fields.filter(({ verb, old }) => (verb === VERB.SET && old === null) || verb === VERB.FILL).length,
+        old: fields.reduce((sum, { old }) => sum + (old === null ? 0 : old.length), 0),
+        result: blobOfPieces(file, made.pieces),
+    };
+}
+
+/**
+ * @param {App} app
+ * @param {HTMLElement} panel
+ */
+export function mountPublish(app, panel) {
+    return new PublishPanel(app, panel);
+}

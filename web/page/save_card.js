@@ -1,0 +1,169 @@
+// Saving the patched image, as its card says it: progress, what was saved, and what is left after a cancel or a failure.
+
+import { RESULT } from '../core/records.js';
+import { sha1Of } from './crew.js';
+import { button, countOf, counted, element, fill } from './dom.js';
+import { downloadText } from './files_out.js';
+import { WorkRefused, saveWork } from './patch_job.js';
+import { jobBar } from './progress.js';
+import { fileReader } from './reading.js';
+import { patchedName } from './save.js';
+import { isCancelled, notice } from './say.js';
+import { sheetFor } from './sheet.js';
+
+/** @typedef {import('./state.js').App} App */
+/** @typedef {import('./state.js').Image} Image */
+/** @typedef {import('./patch_job.js').PatchWork} PatchWork */
+/** @typedef {import('./patch_job.js').Saved} Saved */
+/** @typedef {import('./save.js').SaveFault} SaveFault */
+/** @typedef {import('../core/patch.js').Patched} Patched */
+/** @typedef {import('./dom.js').Child} Child */
+
+/** What stands in the place of the card Check while an image is saved, and after that until it is closed. */
+export class SaveCard {
+    /**
+     * @param {App} app
+     * @param {() => void} redraw
+     */
+    constructor(app, redraw) {
+        this.app = app;
+        this.redraw = redraw;
+        this.title = '';
+        this.body = /** @type {Child[]} */ ([]);
+        window.addEventListener('beforeunload', event => {
+            if (this.leaving) event.preventDefault();
+        });
+        this.leaving = false;
+        app.takers.push(file => this.isSaved(file));
+        this.saved = /** @type {Saved | null} */ (null);
+        /** The SHA-1 of what was saved last. */
+        this.sum = Promise.resolve('');
+        this.checked = element('div', { role: 'status' });
+    }
+
+    shown() {
+        return this.title !== '';
+    }
+
+    parts() {
+        return [element('header', {}, element('h2', {}, this.title)), element('div', { class: 'pad stack' }, ...this.body)];
+    }
+
+    close() {
+        this.title = '';
+        this.leaving = false;
+        this.redraw();
+    }
+
+    /**
+     * @param {string} title
+     * @param {...Child} body
+     */
+    show(title, ...body) {
+        this.title = title;
+        this.body = body;
+        this.redraw();
+    }
+
+    /**
+     * Saves what is made of an image. Returns what was done with the patches, null if nothing was saved.
+     * @param {Image} image
+     * @param {PatchWork} work
+     * @returns {Promise<Patched | null>}
+     */
+    async save(image, work) {
+        const name = patchedName(image.name);
+        try {
+            const saved = await this.app.run((signal, cancel) => {
+                const bar = jobBar('Saving', cancel);
+                this.show(`Saving ${name}`, ...bar.parts, element('p', { class: 'small quiet' },
+                    'After Cancel no image is kept: the browser throws the unfinished file away.'));
+                this.leaving = true;
+                return saveWork(this.app, work, name, '', { signal, progress: bar.at });
+            });
+            if (saved === null) this.close();
+            else this.showSaved(image, saved);
+            return saved && saved.made;
+        } catch (error) {
+            this.leaving = false;
+            this.show('Not saved', failureOfSaving(error, work.reader.size),
+                element('div', { class: 'row' }, button('', () => this.close(), 'Back')));
+            return null;
+        }
+    }
+
+    /**
+     * @param {Image} image
+     * @param {Saved} saved
+     */
+    showSaved(image, saved) {
+        const { made, name, size, streamed } = saved;
+        this.saved = saved;
+        this.leaving = !streamed;
+        const refused = made.outcomes.filter(it => it.result !== RESULT.OK).length;
+        const without = refused === 0 ? '' : `, without ${refused} of ${countOf(made.outcomes.length, 'patch', 'patches')}`;
+        const rest = streamed ? 'All other bytes are as before.' : `It must have ${counted(size)} bytes. Keep this page open until it has.`;
+        const head = streamed ? `${name} is saved${without}.` : `Your browser is saving ${name}${without}.`;
+        const sheet = sheetFor(image, name);
+        fill(this.checked);
+        this.show(streamed ? 'Saved' : 'Saving by your browser', notice(refused === 0 ? 'good' : 'warn', head, rest),
+            element('dl', { class: 'hashes' }, element('dt', {}, 'size'), element('dd', {}, counted(size)), element('dt', {}, 'SHA-1'),
+                this.shaOf(saved)),
+            !streamed && element('p', { class: 'small quiet' }, 'To check what was saved, drop the file on this page.'), this.checked,
+            element('div', { class: 'row' }, sheet !== '' && button('', () => downloadText(sheet, name.replace(/\.[^.]*$/, '.cue')),
+                'Save a cue sheet…'),
+                button('', () => this.close(), 'Back to Check')));
+    }
+
+    /**
+     * The SHA-1 of what was saved, as soon as it is known.
+     * @param {Saved} saved
+     */
+    shaOf(saved) {
+        const place = element('dd', { id: 'saved-sha1' }, '…');
+        const file = saved.blob || saved.file;
+        if (file === null) return place;
+        this.sum = sha1Of(this.app.parts, fileReader(new File([file], saved.name)), { aborted: false }, done => {
+            place.textContent = `(${Math.floor(100 * done / saved.size)} %)`;
+        });
+        this.sum.then(sha1 => { place.textContent = sha1; }, error => { place.textContent = error.message; });
+        return place;
+    }
+
+    /**
+     * Whether a file that is dropped is the one that was saved last; then it is checked.
+     * @param {File} file
+     */
+    async isSaved(file) {
+        const { saved } = this;
+        if (saved === null || !this.shown() || file.name.replace(/ ?\(\d+\)(?=\.|$)/, '') !== saved.name) return false;
+        const wrong = file.size === saved.size ? ''
+            : `It has ${counted(file.size)} bytes and not ${counted(saved.size)}: it was not saved to its end.`;
+        const sha1 = wrong ? '' : await sha1Of(this.app.parts, fileReader(file), { aborted: false }, () => {});
+        const right = sha1 !== '' && sha1 === await this.sum;
+        if (this.saved !== saved) return true;
+        fill(this.checked, right ? notice('good', `${file.name} is right.`, 'Its size and SHA-1 are those of the patched image.')
+            : notice('bad', `${file.name} is not what it should be.`, wrong || 'Its SHA-1 is another one. Save it again.'));
+        this.leaving = this.leaving && !right;
+        return true;
+    }
+}
+
+/**
+ * What is said of a saving that ended early, with what is left.
+ * @param {unknown} error
+ * @param {number} size
+ */
+export function failureOfSaving(error, size) {
+    if (isCancelled(error)) return notice('plain', 'Cancelled.', 'No image was kept.');
+    const { message, name } = error instanceof Error ? error : new Error(String(error));
+    if (error instanceof Error && name === 'SaveFault') {
+        const { full, done } = /** @type {SaveFault} */ (error);
+        const percent = size === 0 ? 0 : Math.floor(100 * done / size);
+        return notice('bad', full ? `The disk is full at ${percent} %.` : `Writing failed at ${percent} %: ${message}`,
+            'No image was kept.');
+    }
+    if (name === 'ImageEnded') return notice('bad', 'The image is shorter than it was when it was opened.',
+        'No image was kept. Open it again.');
+    return notice('bad', message, error instanceof WorkRefused ? error.advice : 'No image was kept.');
+}

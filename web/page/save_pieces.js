@@ -1,0 +1,42 @@
+// Saving an image that is known in pieces: a repaired one.
+
+import { canStream, chosenFile, download } from './files_out.js';
+import { assertOther } from './patch_job.js';
+import { fileOf } from './reading.js';
+import { blobOfPieces, saveToSink } from './save.js';
+
+/** @typedef {import('../core/bytes.js').Reader} Reader */
+/** @typedef {import('../core/bytes.js').Piece} Piece */
+/** @typedef {import('./save.js').Watch} Watch */
+
+/**
+ * Saves the pieces of an image. Returns the file's name, and whether it was written to its end; null if the user chose no file.
+ * @param {Reader[]} readers of the image that slices are of, and of the others that must not be written over
+ * @param {Piece[]} pieces
+ * @param {string} name that is proposed
+ * @param {Watch} watch
+ */
+export async function savePieces(readers, pieces, name, watch) {
+    const [reader] = readers;
+    if (!canStream()) {
+        const file = fileOf(reader);
+        if (file === null) throw new Error('this image is no file');
+        download(blobOfPieces(file, pieces), name);
+        return { name, streamed: false };
+    }
+    const chosen = await chosenFile(name);
+    if (chosen === null) return null;
+    const before = await chosen.getFile();
+    for (const other of readers) assertOther(before, other);
+    const give = async (/** @type {(piece: Piece) => Promise<void>} */ take) => {
+        for (const piece of pieces) await take(piece);
+        return true;
+    };
+    try {
+        await saveToSink(await chosen.createWritable(), reader, give, watch);
+    } catch (error) {
+        if (before.size === 0 && chosen.remove) await chosen.remove().catch(() => {});
+        throw error;
+    }
+    return { name: chosen.name, streamed: true };
+}

@@ -1,0 +1,99 @@
+// What the page says of files and failures: first what it is, then what to do.
+
+import { button, byId, element, fill } from './dom.js';
+
+/** @typedef {import('./dom.js').Child} Child */
+/** @typedef {'good' | 'bad' | 'warn' | 'plain'} Tone */
+
+/**
+ * A notice.
+ * @param {Tone} tone
+ * @param {string} head
+ * @param {...Child} rest
+ */
+export function notice(tone, head, ...rest) {
+    return element('div', { class: `say ${tone}`, role: tone === 'bad' ? 'alert' : 'status' }, element('b', {}, head), ...rest);
+}
+
+/**
+ * Shows a notice over the panel, or at the drop area of the start, until it is closed or another one comes.
+ * @param {Tone} tone
+ * @param {string} head
+ * @param {...Child} rest
+ */
+export function showNotice(tone, head, ...rest) {
+    const place = byId('start').hidden ? byId('messages') : byId('start-message');
+    const close = button('slim bare', clearNotices, 'Close');
+    const made = notice(tone, head, ...rest);
+    const row = made.querySelector('.row') || element('div', { class: 'row' });
+    row.append(close);
+    made.append(row);
+    fill(place, made);
+    place.hidden = false;
+    made.scrollIntoView({ block: 'nearest' });
+}
+
+/** Takes away what showNotice has shown. */
+export function clearNotices() {
+    for (const place of [byId('messages'), byId('start-message')]) {
+        place.hidden = true;
+        fill(place);
+    }
+}
+
+/**
+ * Shows a failure. Errors of our own say themselves what to do.
+ * @param {unknown} error
+ * @param {string} [rest]
+ */
+export function showFailure(error, rest = '') {
+    const { message, name } = error instanceof Error ? error : new Error(String(error));
+    const text = name === 'ImageEnded' ? 'The file is shorter than it was when it was opened.' : message;
+    const [, first, after] = /^(.*?[.!?])\s+(.*)$/s.exec(text) || ['', text, ''];
+    showNotice('bad', first, [after, rest].filter(it => it !== '').join(' '));
+}
+
+/**
+ * What an error says, as a sentence begins.
+ * @param {unknown} error
+ */
+export function sentence(error) {
+    const text = error instanceof Error ? error.message : String(error);
+    return text.charAt(0).toUpperCase() + text.slice(1);
+}
+
+/** @param {unknown} error */
+export function isCancelled(error) {
+    return error instanceof Error && error.name === 'JobAborted';
+}
+
+/**
+ * A command or another text to copy.
+ * @param {string} text
+ */
+export function copyable(text) {
+    const label = 'Copy the command';
+    const copy = button('slim', async () => {
+        await copyText(text);
+        copy.textContent = 'Copied';
+        setTimeout(() => { copy.textContent = label; }, 2000);
+    }, label);
+    return [element('p', { class: 'line-out' }, text), element('div', { class: 'row' }, copy)];
+}
+
+/**
+ * Puts a text on the clipboard.
+ * @param {string} text
+ */
+export async function copyText(text) {
+    try {
+        await navigator.clipboard.writeText(text);
+    } catch {
+        const area = element('textarea', { class: 'hide', 'aria-hidden': 'true' });
+        area.value = text;
+        document.body.append(area);
+        area.select();
+        document.execCommand('copy');
+        area.remove();
+    }
+}

@@ -1,0 +1,210 @@
+// The lines of the script: what each of them has, edits that can be undone, and what Check has said of them.
+
+import { CONTENT, RESULT, patchFields } from '../core/records.js';
+
+/** @typedef {import('../core/codes.js').Calls} Calls */
+/** @typedef {import('../core/patch.js').Outcome} Outcome */
+/** An edit: from a line on, which lines went and which came. `typed` joins to the one before it if that was typed in the same line. */
+/** @typedef {{ at: number, gone: string[], come: string[], typed: boolean }} Edit */
+
+/** More patches than this are a fault of the script. */
+export const MOST_PATCHES = 65535;
+
+/**
+ * A line of the program without its number: 'line 4: applied' is 'applied'.
+ * @param {Uint8Array} bytes
+ */
+export function wordsOfLine(bytes) {
+    return new TextDecoder().decode(bytes).trimEnd().replace(/^.*?line \d+: /, '');
+}
+
+/** The text of a script by lines. There is always one. */
+export class ScriptLines {
+    /** @param {Calls} calls */
+    constructor(calls) {
+        this.calls = calls;
+        this.encoder = new TextEncoder();
+        this.lines = [''];
+        this.contents = [0];
+        this.head = -1;
+        this.version = 0;
+        this.patches = 0;
+        this.faults = 0;
+        /** @type {Map<number, Outcome>} by the number of the line, from 1 */
+        this.outcomes = new Map();
+        /** @type {Edit[]} */
+        this.done = [];
+        /** @type {Edit[]} */
+        this.undone = [];
+        this.cached = /** @type {string | null} */ ('');
+    }
+
+    /** The whole text. It is made again only after a change. */
+    text() {
+        if (this.cached === null) this.cached = this.lines.join('\n');
+        return this.cached;
+    }
+
+    /**
+     * Takes another text, with which nothing is to undo.
+     * @param {string} text
+     */
+    setText(text) {
+        this.lines = text.split(/\r?\n/);
+        this.cached = text;
+        this.done = [];
+        this.undone = [];
+        this.readAll();
+    }
+
+    /**
+     * Puts lines in place of others.
+     * @param {number} at
+     * @param {number} count
+     * @param {string[]} come
+     * @param {boolean} [typed] whether it goes on with what was typed in the same line before
+     */
+    edit(at, count, come, typed = false) {
+        const gone = this.lines.slice(at, at + count);
+        const last = this.done[this.done.length - 1];
+        if (typed && last && last.typed && last.at === at && count === 1 && come.length === 1) last.come = come;
+        else this.done.push({ at, gone, come, typed });
+        this.undone = [];
+        this.put(at, count, come);
+    }
+
+    /** Takes the last edit back, and returns the line to look at, or -1. */
+    undo() {
+        const edit = this.done.pop();
+        if (edit === undefined) return -1;
+        this.undone.push(edit);
+        this.put(edit.at, edit.come.length, edit.gone);
+        return edit.at;
+    }
+
+    /** Makes the edit again that was taken back last, and returns the line to look at, or -1. */
+    redo() {
+        const edit = this.undone.pop();
+        if (edit === undefined) return -1;
+        this.done.push(edit);
+        this.put(edit.at, edit.gone.length, edit.come);
+        return edit.at + edit.come.length - 1;
+    }
+
+    /**
+     * @param {number} at
+     * @param {number} count
+     * @param {string[]} come
+     */
+    put(at, count, come) {
+        const reread = this.head < 0 || at <= this.head || this.patches + this.faults + come.length > MOST_PATCHES;
+        this.lines = spliced(this.lines, at, count, come);
+        if (this.lines.length === 0) this.lines = [''];
+        this.cached = null;
+        this.outcomes = new Map();
+        if (reread) return this.readAll();
+        this.contents = spliced(this.contents, at, count, come.map(line => this.contentOf(line)));
+        return this.count();
+    }
+
+    /**
+     * What a line after the head line has, if no line before it has a patch.
+     * @param {string} line
+     */
+    contentOf(line) {
+        const bytes = this.encoder.encode(line);
+        this.calls.hold(bytes);
+        return this.calls.readLine(this.version, this.head + 2, 0, 0, bytes.length);
+    }
+
+    /** Reads all lines anew. Where no head line is first, the lines after that are read as those of version 1. */
+    readAll() {
+        const bytes = this.encoder.encode(`${this.lines.join('\n')}\n`);
+        this.calls.hold(bytes);
+        this.outcomes = new Map();
+        this.head = -1;
+        this.version = 0;
+        let [at, patches] = [0, 0];
+        this.contents = this.lines.map((_, i) => {
+            const { size, taken } = this.calls.firstLine(at) || { size: 0, taken: 0 };
+            const content = this.calls.readLine(this.version, i + 1, patches, at, size);
+            at += taken;
+            patches += Number(content === CONTENT.PATCH);
+            if (this.head < 0 && content !== CONTENT.NOTHING) {
+                this.head = i;
+                this.version = content === CONTENT.NO_HEAD ? CONTENT.VERSION_1 : content;
+            }
+            return content;
+        });
+        this.count();
+    }
+
+    count() {
+        [this.patches, this.faults] = [0, 0];
+        for (const content of this.contents) {
+            this.patches += Number(content === CONTENT.PATCH);
+            this.faults += Number(content > CONTENT.PATCH);
+        }
+    }
+
+    /** @param {Outcome[]} outcomes of Check */
+    setOutcomes(outcomes) {
+        this.outcomes = new Map(outcomes.map(outcome => [outcome.number, outcome]));
+    }
+
+    /**
+     * The patch of a line, as patchFields has it, or null.
+     * @param {number} i
+     */
+    patchAt(i) {
+        if (this.contents[i] !== CONTENT.PATCH) return null;
+        this.contentOf(this.lines[i]);
+        return patchFields(this.calls.patchRead().bytes);
+    }
+
+    /**
+     * Whether a line has a fault or a patch that is refused.
+     * @param {number} i
+     */
+    isWrong(i) {
+        const outcome = this.outcomes.get(i + 1);
+        return this.contents[i] > CONTENT.PATCH || (outcome !== undefined && outcome.result !== RESULT.OK);
+    }
+
+    /**
+     * The program's words on a line: its fault, or what became of its patch; '' if there is nothing to say.
+     * @param {number} i
+     */
+    wordsAt(i) {
+        if (this.contents[i] > CONTENT.PATCH) return wordsOfLine(this.calls.faultLine(i + 1, this.contents[i]));
+        const outcome = this.outcomes.get(i + 1);
+        if (outcome === undefined) return '';
+        return wordsOfLine(this.calls.outcomeLine(i + 1, outcome.result, outcome.block, outcome.offset));
+    }
+
+    /**
+     * The next line that is wrong, round the end, or -1.
+     * @param {number} from
+     * @param {number} step 1 or -1
+     */
+    nextWrong(from, step) {
+        const count = this.lines.length;
+        for (let k = 1; k <= count; k++) {
+            const i = (from + k * step + k * count) % count;
+            if (this.isWrong(i)) return i;
+        }
+        return -1;
+    }
+}
+
+/**
+ * A list with others in place of some of its members. A spread of many would be too many arguments.
+ * @template Member
+ * @param {Member[]} list
+ * @param {number} at
+ * @param {number} count
+ * @param {Member[]} come
+ */
+function spliced(list, at, count, come) {
+    return list.slice(0, at).concat(come, list.slice(at + count));
+}

@@ -1,0 +1,245 @@
+// The panel Script: the editor with what its line with the caret means, Check and Apply, and the log.
+
+import { Refusal } from '../core/script.js';
+import { undoScript } from '../core/undo.js';
+import { CheckCard } from './check_card.js';
+import { button, byId, countOf, counted, element, fill, isDisabled, setDisabled } from './dom.js';
+import { ScriptEditor } from './editor.js';
+import { listenToEditor } from './editor_input.js';
+import { explainLine } from './explain.js';
+import { downloadBytes, downloadText } from './files_out.js';
+import { copyText, showNotice, showFailure } from './say.js';
+import { ScriptLines } from './script_lines.js';
+import { helpOfFault, helpOfRefusal } from './script_words.js';
+
+/** @typedef {import('./state.js').App} App */
+/** @typedef {import('./editor.js').LineHelp} LineHelp */
+/** @typedef {import('./dom.js').Child} Child */
+
+const MOST_LOG = 200000;
+
+/** The script before anything is written. */
+const NEW_SCRIPT = 'cdpatch 1\n';
+
+/** The panel. */
+class ScriptPanel {
+    /**
+     * @param {App} app
+     * @param {HTMLElement} panel
+     */
+    constructor(app, panel) {
+        this.app = app;
+        this.lines = new ScriptLines(app.calls);
+        this.editor = new ScriptEditor(this.lines, {
+            help: line => this.help(line),
+            helpText: line => this.helpText(line),
+            moved: () => this.explain(),
+            changed: () => this.changed(),
+            check: () => void this.check.check(),
+        });
+        this.check = new CheckCard(app, {
+            lines: this.lines,
+            redraw: () => this.editor.draw(),
+            goTo: line => this.goTo(line),
+            log: text => this.showLog(text),
+        });
+        this.strip = element('div', { class: 'explain', 'aria-live': 'off' });
+        this.head = element('header', {});
+        this.log = element('section', { class: 'card', 'aria-label': 'Log', hidden: true });
+        this.side = element('div', { class: 'side' });
+        this.opening = element('input', { type: 'file', class: 'hide', tabindex: -1, 'aria-label': 'A script to open',
+            change: () => this.open() });
+        listenToEditor(this.editor);
+        panel.append(element('div', { class: 'two' }, element('section', { class: 'card', 'aria-label': 'Script' }, this.head,
+            this.editor.box, this.strip),
+            this.side), this.opening);
+        panel.addEventListener('keydown', event => this.pressed(event));
+        this.listen();
+        this.load();
+    }
+
+    listen() {
+        const { app } = this;
+        app.on('script', from => {
+            if (from !== 'editor') this.load();
+        });
+        app.on('image', () => {
+            this.check.forget();
+            this.drawHead();
+        });
+        for (const name of /** @type {const} */ (['files', 'encoding'])) app.on(name, () => this.explain());
+        app.on('panel', () => {
+            if (app.panel !== 'script') return;
+            this.editor.draw();
+            this.editor.goTo(this.editor.current);
+            this.explain();
+        });
+    }
+
+    /** Takes the script of the page, which somebody else has changed. */
+    load() {
+        const text = this.app.script.text || NEW_SCRIPT;
+        const own = this.lines.text();
+        if (text !== own && own.endsWith('\n') && text.startsWith(own)) {
+            this.lines.edit(this.lines.lines.length - 1, 1, text.slice(own.length).split('\n'));
+        } else if (text !== own) this.lines.setText(text);
+        this.editor.current = Math.min(this.editor.current, this.lines.lines.length - 1);
+        this.share();
+        this.drawAll();
+    }
+
+    /** The text of the page is that of the lines, which is joined only if somebody asks for it; '' if nothing was written yet. */
+    share() {
+        const { lines, app } = this;
+        const { name } = app.script;
+        app.script = { name, get text() { return lines.text() === NEW_SCRIPT ? '' : lines.text(); } };
+    }
+
+    changed() {
+        this.check.patched = null;
+        this.check.failure = null;
+        this.showLog(null);
+        this.drawHead();
+        this.drawSide();
+        this.app.emit('script', 'editor');
+    }
+
+    drawAll() {
+        this.check.patched = null;
+        this.showLog(null);
+        this.editor.draw();
+        this.drawHead();
+        this.drawSide();
+        this.explain();
+    }
+
+    drawHead() {
+        const { lines, app } = this;
+        const { name } = app.script;
+        const fault = lines.faults > 0;
+        const tag = fault ? countOf(lines.faults, 'fault')
+            : `${countOf(lines.patches, 'patch', 'patches')}${lines.version ? `, version ${lines.version}` : ''}`;
+        const undo = button('slim bare', () => this.makeUndo(undo), 'Make the undo script…');
+        setDisabled(undo, fault || app.image === null || lines.patches === 0);
+        fill(this.head, element('h2', { class: name ? 'mono' : '' }, name || 'New script'),
+            element('span', { class: `tag${fault ? ' bad' : ''}` }, tag),
+            button('slim bare', () => this.opening.click(), 'Open…'),
+            button('slim bare', () => downloadText(lines.text(), name || 'script.txt'), 'Save script…'), undo);
+        const count = byId('count-script');
+        count.hidden = !fault && lines.patches === 0;
+        count.className = `count${fault ? ' bad' : ''}`;
+        fill(count, counted(fault ? lines.faults : lines.patches), fault ? element('span', { class: 'long' }, ' faults') :
+            element('span', { class: 'hide' }, ' patches'));
+    }
+
+    drawSide() {
+        const none = this.lines.patches === 0 && this.lines.faults === 0 && !this.check.saving.shown();
+        if (none) return fill(this.side, this.emptyCard());
+        this.check.draw();
+        return fill(this.side, this.check.card, this.log);
+    }
+
+    emptyCard() {
+        const { app } = this;
+        return element('section', { class: 'card pad stack' }, element('h2', {}, 'No patches yet'),
+            element('p', {}, 'A script is the list of your changes. You rarely type it:'),
+            element('div', { class: 'stack tight start' }, button('', () => app.showPanel('text'), 'Find and replace a text'),
+                button('', () => app.showPanel('disc'), 'Change bytes of a sector'),
+                    button('', () => this.opening.click(), 'Open a script…')));
+    }
+
+    explain() {
+        explainLine(this.app, this.lines, this.editor.current, this.strip);
+    }
+
+    /** @param {number} line */
+    helpText(line) {
+        const outcome = this.lines.outcomes.get(line + 1);
+        if (outcome !== undefined && this.app.image) return helpOfRefusal(outcome.result, this.app.image).text;
+        return helpOfFault(this.lines.wordsAt(line), this.lines.lines[line], this.lines.version).text;
+    }
+
+    /**
+     * @param {number} line
+     * @returns {LineHelp}
+     */
+    help(line) {
+        const { lines, app } = this;
+        const outcome = lines.outcomes.get(line + 1);
+        if (outcome !== undefined && app.image) {
+            const { text, says } = helpOfRefusal(outcome.result, app.image);
+            return { text, buttons: says ? [button('slim bare', () => app.goTo(outcome.block, outcome.offset, true), says)] : [] };
+        }
+        const { text, fix } = helpOfFault(lines.wordsAt(line), lines.lines[line], lines.version);
+        const mend = () => this.editor.edit(line, 1, fix ? fix.lines : [], line, 0);
+        return { text, buttons: fix ? [button('slim bare', mend, fix.says)] : [] };
+    }
+
+    /** @param {number} line */
+    goTo(line) {
+        this.editor.anchor = -1;
+        this.editor.goTo(line, 0);
+        this.editor.focus();
+    }
+
+    /** @param {KeyboardEvent} event */
+    pressed(event) {
+        if (event.key === 'Enter' && (event.ctrlKey || event.metaKey)) this.check.check();
+        else if (event.key === 'F8') {
+            const line = this.lines.nextWrong(this.editor.current, event.shiftKey ? -1 : 1);
+            if (line >= 0) this.goTo(line);
+        } else return;
+        event.preventDefault();
+    }
+
+    open() {
+        const files = [...this.opening.files || []];
+        this.opening.value = '';
+        this.app.open(files);
+    }
+
+    /**
+     * Saves the script that takes this one back.
+     * @param {Element} from
+     */
+    async makeUndo(from) {
+        const { app, lines, check } = this;
+        const { image } = app;
+        if (isDisabled(from) || image === null) return;
+        const carry = check.carry.checked;
+        try {
+            const made = await undoScript(app.calls, image.reader, [new TextEncoder().encode(lines.text())], { base: image.base, carry });
+            if (made instanceof Refusal) throw new Error('The script has a fault.');
+            const stem = (app.script.name || 'script').replace(/\.[^.]*$/, '');
+            downloadBytes(made.script.pieces, `${stem} (undo).txt`);
+            const left = made.left.map(({ first, last }) => first === last ? `${first}` : `${first} to ${last}`).join(', ');
+            const but = left === '' ? '.' : `, but for the damage of ${left}: their address and user data come back.`;
+            showNotice(left ? 'warn' : 'good', 'The undo script is saved.', `On the patched image it makes the old one again${but}`);
+        } catch (error) {
+            showFailure(error, 'No undo script was made.');
+        }
+    }
+
+    /** @param {Uint8Array | null} bytes */
+    showLog(bytes) {
+        this.log.hidden = bytes === null;
+        if (bytes === null) return;
+        const text = new TextDecoder().decode(bytes);
+        const shown = text.length > MOST_LOG ? `${text.slice(0, text.lastIndexOf('\n', MOST_LOG))}\n…\n` : text;
+        const command = element('span', { class: 'mono' }, 'cdpatch check');
+        fill(this.log, element('header', {}, element('h2', {}, 'Log'), button('slim bare', () => copyText(text), 'Copy',
+            element('span', { class: 'hide' }, ' the log')),
+            button('slim bare', () => downloadText(text, 'log.txt'), 'Save…', element('span', { class: 'hide' }, ' the log'))),
+        element('div', { class: 'pad stack tight' }, element('pre', { class: 'log', tabindex: 0, 'aria-label': 'Log' }, shown),
+            element('p', { class: 'small quiet' }, 'The same text as ', command,
+                ' prints, in the order of application: by block, then by line.')));
+    }
+}
+
+/**
+ * @param {App} app
+ * @param {HTMLElement} panel
+ */
+export function mountScript(app, panel) {
+    return new ScriptPanel(app, panel);
+}

@@ -1,0 +1,126 @@
+// Compare with a second image: where both differ, and the script from one to the other.
+
+import { FIELD_COUNT, SECOND_STATE } from './differ.js';
+import { button, element, fill, counted, term } from './dom.js';
+import { jobBar } from './progress.js';
+import { notice } from './say.js';
+import { addDiffering, compareMarks } from './second_marks.js';
+import { patchedStem, writeScript } from './second_script.js';
+import { tableCard, tallyOf } from './tally.js';
+
+/** @typedef {import('./state.js').App} App */
+/** @typedef {import('./differ.js').Differing} Differing */
+/** @typedef {import('./second_marks.js').PairMarks} PairMarks */
+/** @typedef {{ block: number, fields: number[], state: number }} FieldRow */
+
+/** @typedef {{ rows: FieldRow[], onlyCodes: number }} Rows */
+
+const MOST_DIFFERING_ROWS = 400;
+
+export class SecondCompare {
+    /**
+     * @param {App} app
+     * @param {() => void} changed
+     */
+    constructor(app, changed) {
+        this.app = app;
+        this.changed = changed;
+        this.body = element('div', { class: 'stack' });
+        this.table = element('div');
+        this.place = element('div', { class: 'stack' });
+        this.marks = /** @type {PairMarks | null} */ (null);
+        this.begun = false;
+        /** @type {FieldRow[]} */
+        this.rows = [];
+        this.onlyCodes = 0;
+    }
+
+    model() {
+        return this.marks;
+    }
+
+    forget() {
+        Object.assign(this, { begun: false, marks: null, rows: [], onlyCodes: 0 });
+        fill(this.body);
+        fill(this.table);
+        fill(this.place);
+    }
+
+    async begin() {
+        const { app } = this;
+        const { image, second, survey } = app;
+        if (this.begun || image === null || second === null || survey === null) return;
+        this.forget();
+        this.begun = true;
+        const marks = compareMarks(survey.marks);
+        /** @type {Rows} */
+        const found = { rows: [], onlyCodes: 0 };
+        try {
+            await app.run((signal, cancel) => {
+                const bar = jobBar('Comparing both images', cancel);
+                fill(this.body, ...bar.parts);
+                const how = { base: image.base, signal, progress: bar.sectors };
+                return app.crew.share('differ', [image.reader, second.reader], {}, how, answer => addRows(marks, found, answer));
+            });
+        } catch (error) {
+            if (app.second !== second) return;
+            this.begun = false;
+            throw error;
+        }
+        if (app.second !== second) return;
+        Object.assign(this, found, { marks });
+        this.draw(marks);
+        this.changed();
+    }
+
+    /** @param {PairMarks} marks */
+    draw(marks) {
+        const [differ, damaged, others] = [0, 1, 2].map(which => marks.count(which));
+        const all = differ + damaged + others;
+        const tally = tallyOf([[all, 'sectors differ', ''], [this.onlyCodes, 'only in EDC or parity', ''],
+            [damaged, 'damaged in the second', damaged > 0 ? 'bad-ink' : '']]);
+        const write = button('main', () => this.write(), 'Write the script');
+        const same = notice('good', 'Both images are the same, sector for sector.');
+        fill(this.body, tally, all === 0 ? same : element('div', { class: 'row' }, write), this.place);
+        if (all > 0) this.drawTable(all);
+    }
+
+    write() {
+        const { image, second } = this.app;
+        if (image !== null && second !== null) {
+            writeScript(this.app, this.place, image, second.reader, patchedStem(second.name, 'changes', '.txt'));
+        }
+    }
+
+    /** @param {number} all */
+    drawTable(all) {
+        const { rows } = this;
+        const names = ['header', 'user data', 'EDC', 'parity'];
+        const head = element('tr', {}, element('th', { class: 'n' }, term('block', 'Block')), ...names.map(name =>
+            element('th', { class: 'n' }, name === 'EDC' ? term('edc', name) : name)));
+        const body = rows.map(({ block, fields, state }) => element('tr', {},
+            element('td', { class: 'n', 'data-l': 'block' },
+                state === SECOND_STATE.DAMAGED && element('span', { class: 'tag bad' }, 'damaged in the second'),
+                button('slim bare tiny', () => this.app.goTo(block), String(block))),
+            ...fields.map((count, i) => element('td', { class: 'n', 'data-l': names[i] }, count))));
+        const text = rows.map(({ block, fields }) => `${block}\t${fields.join('\t')}\n`).join('');
+        const left = all - rows.length;
+        const foot = left > 0 ? `${counted(left)} more blocks have no row here.`
+            : 'If the user data differ and the EDC does not, one of the two is damaged.';
+        fill(this.table, tableCard('Bytes that differ, by field', head, body, text, foot));
+    }
+}
+
+/**
+ * @param {PairMarks} marks
+ * @param {Rows} found
+ * @param {Differing} answer
+ */
+function addRows(marks, found, answer) {
+    addDiffering(marks, answer);
+    answer.blocks.forEach((block, i) => {
+        const fields = [...answer.fields.subarray(i * FIELD_COUNT, (i + 1) * FIELD_COUNT)];
+        found.onlyCodes += Number(fields[0] + fields[1] === 0);
+        if (found.rows.length < MOST_DIFFERING_ROWS) found.rows.push({ block, fields, state: answer.states[i] });
+    });
+}

@@ -1,0 +1,202 @@
+// Repair from a second image: what it would take, shown before anything is saved.
+
+import { filesAt } from '../core/iso.js';
+import { blocksIn } from '../core/runs.js';
+import { mergeImages } from '../core/merge.js';
+import { SECTOR_SIZE } from '../core/sector.js';
+import { readBytes } from '../core/bytes.js';
+import { button, counted, countOf, element, fill, term } from './dom.js';
+import { pieceReader } from './piece_reader.js';
+import { jobBar } from './progress.js';
+import { failureOfSaving } from './save_card.js';
+import { savePieces } from './save_pieces.js';
+import { notice } from './say.js';
+import { repairMarks } from './second_marks.js';
+import { patchedStem, writeScript } from './second_script.js';
+import { tableCard, tallyOf } from './tally.js';
+
+/** @typedef {import('./state.js').App} App */
+/** @typedef {import('../core/merge.js').Repair} Repair */
+/** @typedef {import('../core/bytes.js').Piece} Piece */
+/** @typedef {import('./second_marks.js').PairMarks} PairMarks */
+/** @typedef {{ block: number, here: string, there: string, file: string, same: boolean }} DamageRow */
+
+const MOST_DAMAGE_ROWS = 200;
+
+export class SecondRepair {
+    /**
+     * @param {App} app
+     * @param {() => void} changed
+     */
+    constructor(app, changed) {
+        this.app = app;
+        this.changed = changed;
+        this.body = element('div', { class: 'stack' });
+        this.table = element('div');
+        this.marks = /** @type {PairMarks | null} */ (null);
+        this.begun = false;
+    }
+
+    model() {
+        return this.marks;
+    }
+
+    forget() {
+        this.begun = false;
+        this.marks = null;
+        fill(this.body);
+        fill(this.table);
+    }
+
+    async begin() {
+        const { app } = this;
+        const { image, second } = app;
+        if (this.begun || image === null || second === null) return;
+        this.begun = true;
+        try {
+            const repair = await app.run((signal, cancel) => {
+                const bar = jobBar('Comparing both images', cancel);
+                fill(this.body, ...bar.parts);
+                return mergeImages(app.crew, image, [second], { signal, progress: bar.sectors });
+            });
+            if (app.second !== second || app.survey === null) return;
+            this.marks = repairMarks(app.survey.marks);
+            this.marks.setRuns(repair.taken, 0);
+            this.marks.setRuns(repair.damaged, 1);
+            this.draw(repair);
+            this.changed();
+            await this.drawTable(repair);
+        } catch (error) {
+            if (app.second !== second) return;
+            this.begun = false;
+            throw error;
+        }
+    }
+
+    /** @param {Repair} repair */
+    draw(repair) {
+        const [taken, damaged, different] = [blocksIn(repair.taken), blocksIn(repair.damaged), repair.different[0]];
+        const tally = tallyOf([[taken, 'can be repaired', 'good-ink'], [damaged, 'damaged in both', damaged > 0 ? 'bad-ink' : ''],
+            [different, 'sound in both, but different', '']]);
+        if (repair.pieces === null) {
+            fill(this.body, tally, notice('bad', 'This is no dump of the same disc, or it is shifted.',
+                `${countOf(different, 'sector')} are sound in both and differ: more than one in a hundred. Nothing is taken.`));
+            return;
+        }
+        const { pieces } = repair;
+        const save = button('main', () => void this.save(pieces), 'Save repaired image…');
+        const script = button('', () => void this.script(pieces), 'Write it as a script');
+        const none = taken === 0 ? [notice('plain', 'There is nothing to repair from it.', damaged === 0 ? 'No sector here is damaged.'
+            : 'No sector that is damaged here is sound there.')] : [];
+        const warning = different > 0 ? [notice('warn', `${countOf(different, 'sector')} are sound in both, and differ.`,
+            'Perhaps it is another release of the disc. They stay as they are here.')] : [];
+        this.place = element('div', { class: 'stack' });
+        fill(this.body, tally, ...none, ...warning, element('p', { class: 'small quiet' },
+            'Whole sectors are copied, and only those that are damaged here and sound there. A sound sector is never changed. ' +
+            'Your file stays as it is.'), taken > 0 && element('div', { class: 'row' }, save, script), this.place);
+    }
+
+    /** @param {Piece[]} pieces */
+    async save(pieces) {
+        const { app, place } = this;
+        const { image, second } = app;
+        if (image === null || second === null || !place) return;
+        try {
+            const saved = await app.run((signal, cancel) => {
+                const bar = jobBar('Saving', cancel);
+                fill(place, ...bar.parts);
+                const progress = (/** @type {number} */ done) => bar.at(done, image.reader.size);
+                const name = patchedStem(image.name, 'repaired');
+                return savePieces([image.reader, second.reader], pieces, name, { signal, progress });
+            });
+            fill(place, saved && savedWords(saved, image.reader.size));
+        } catch (error) {
+            fill(place, failureOfSaving(error, image.reader.size));
+        }
+    }
+
+    /** @param {Piece[]} pieces */
+    async script(pieces) {
+        const { image } = this.app;
+        if (image === null || !this.place) return;
+        await writeScript(this.app, this.place, image, pieceReader(image.reader, pieces), patchedStem(image.name, 'repair', '.txt'));
+    }
+
+    /** @param {Repair} repair */
+    async drawTable({ damaged }) {
+        const { second } = this.app;
+        const rows = await this.rows(blocksOf(damaged, MOST_DAMAGE_ROWS));
+        if (this.app.second !== second) return;
+        if (rows.length === 0) {
+            fill(this.table);
+            return;
+        }
+        const count = blocksIn(damaged);
+        const cells = rows.map(({ block, here, there, file }) => element('tr', {},
+            element('td', { class: 'n', 'data-l': 'block' }, button('slim bare tiny', () => this.app.goTo(block), String(block))),
+            element('td', { class: 'mono small', 'data-l': 'here' }, here),
+            element('td', { class: 'mono small', 'data-l': 'there' }, there), element('td', { class: 'mono small wide' }, file)));
+        const head = element('tr', {}, element('th', { class: 'n' }, term('block', 'Block')), element('th', {}, 'Here'),
+            element('th', {}, 'In the second image'), element('th', {}, 'File'));
+        const text = rows.map(({ block, here, there, file }) => `${block}\t${here}\t${there}\t${file}\n`).join('');
+        const same = rows.filter(row => row.same).map(row => row.block);
+        fill(this.table, tableCard(`Damaged in both: ${counted(count)}`, head, cells, text, footOf(same, count - rows.length)));
+    }
+
+    /**
+     * @param {number[]} blocks
+     * @returns {Promise<DamageRow[]>}
+     */
+    async rows(blocks) {
+        const { calls, image, second, files } = this.app;
+        if (image === null || second === null) return [];
+        const rows = [];
+        for (const block of blocks) {
+            const at = (block - image.base) * SECTOR_SIZE;
+            const [old, other] = await Promise.all([image, second].map(it => readBytes(it.reader, at, SECTOR_SIZE)));
+            const said = [old, other].map(sector => {
+                const lines = new TextDecoder().decode(calls.audit(sector, block).text).trim().split('\n');
+                return lines.length > 1 ? lines[0].slice(lines[0].indexOf(' ') + 1) : 'not of Mode 1';
+            });
+            const [file] = files === null ? [] : filesAt(files.files, block, 0);
+            const same = old.every((it, i) => it === other[i]);
+            rows.push({ block, here: said[0], there: said[1], file: file ? file.path : 'in no file', same });
+        }
+        return rows;
+    }
+}
+
+/**
+ * The first blocks of runs.
+ * @param {{ first: number, last: number }[]} runs
+ * @param {number} most
+ */
+function blocksOf(runs, most) {
+    const blocks = [];
+    for (const { first, last } of runs) {
+        for (let block = first; block <= last && blocks.length < most; block++) blocks.push(block);
+    }
+    return blocks;
+}
+
+/**
+ * @param {number[]} same the blocks in which both images hold the same bytes
+ * @param {number} left how many blocks have no row
+ */
+function footOf(same, left) {
+    const more = left > 0 ? `${counted(left)} more have no row here. ` : '';
+    if (same.length === 0) return `${more}In each of them the images differ.`;
+    const several = same.length < 4 ? `blocks ${same.join(', ')}` : `${same.length} of these blocks`;
+    const blocks = same.length === 1 ? `block ${same[0]}` : several;
+    return `${more}In ${blocks} both images hold the same bytes: perhaps the damage is on the disc itself, or on purpose. ` +
+        'A third dump would show it.';
+}
+
+/**
+ * @param {{ name: string, streamed: boolean }} saved
+ * @param {number} size
+ */
+function savedWords({ name, streamed }, size) {
+    if (streamed) return notice('good', `${name} is saved.`, 'All sectors that were not repaired are as before.');
+    return notice('good', `Your browser is saving ${name}.`, `It must have ${counted(size)} bytes. Keep this page open until it has.`);
+}

@@ -1,0 +1,109 @@
+// The script that leads from the open image to another one: it was applied by the proved calls before it is shown.
+
+import { compareImages } from '../core/compare.js';
+import { blocksIn } from '../core/runs.js';
+import { button, counted, countOf, element, fill } from './dom.js';
+import { download } from './files_out.js';
+import { jobBar } from './progress.js';
+import { isCancelled, notice } from './say.js';
+
+/** @typedef {import('./state.js').App} App */
+/** @typedef {import('./state.js').Image} Image */
+/** @typedef {import('../core/bytes.js').Reader} Reader */
+/** @typedef {import('../core/compare.js').Comparison} Comparison */
+/** @typedef {import('../core/output.js').Script} Script */
+/** @typedef {Comparison['left'][number]} Left */
+
+/** A longer script is only saved. */
+const LONGEST_SHOWN = 1 << 24;
+const MOST_LEFT_NAMED = 8;
+
+/**
+ * A name like that of an image, with what is new about it: 'game.bin' becomes 'game (repaired).bin'.
+ * @param {string} name
+ * @param {string} what
+ * @param {string} [ending] instead of its own
+ */
+export function patchedStem(name, what, ending) {
+    const [, stem, own] = /^(.*?)(\.[^.]*)?$/.exec(name) || ['', name, ''];
+    return `${stem} (${what})${ending || own || '.bin'}`;
+}
+
+/**
+ * Writes the script, and says in a place how it went.
+ * @param {App} app
+ * @param {HTMLElement} place
+ * @param {Image} image
+ * @param {Reader} fresh
+ * @param {string} name of the script's file
+ * @param {boolean} [skipDamaged]
+ */
+export async function writeScript(app, place, image, fresh, name, skipDamaged = false) {
+    try {
+        const compared = await app.run((signal, cancel) => {
+            const bar = jobBar('Writing the script', cancel);
+            fill(place, ...bar.parts);
+            const how = { base: image.base, signal, progress: bar.sectors, skipDamaged };
+            return compareImages(app.calls, app.crew, image.reader, fresh, how);
+        });
+        const again = () => void writeScript(app, place, image, fresh, name, true);
+        fill(place, compared.script === null ? refusal(compared, again) : written(app, compared.script, name, compared.left));
+    } catch (error) {
+        const message = error instanceof Error ? error.message : String(error);
+        const rest = 'No script was written.';
+        fill(place, isCancelled(error) ? notice('plain', 'Cancelled.', rest) : notice('bad', message, rest));
+    }
+}
+
+/**
+ * @param {App} app
+ * @param {Script} script
+ * @param {string} name
+ * @param {Left[]} left what the script does not say
+ */
+function written(app, { pieces, size, patches, long }, name, left) {
+    const blob = new Blob(pieces);
+    const take = button('main', async () => {
+        app.setScript(await blob.text(), name, 'file');
+        app.showPanel('script');
+    }, 'Put it into the panel Script');
+    const count = blocksIn(left);
+    const out = count === 0 ? '' : ` ${countOf(count, 'block')} ${count === 1 ? 'is' : 'are'} left out.`;
+    const rest = long ? ' This is more than cdpatch takes: cdscript applies it with --long.' : '';
+    const head = element('b', {}, `The script has ${countOf(patches, 'patch', 'patches')}.`);
+    return element('div', { class: 'say good', role: 'status' }, head,
+        `${counted(size)} bytes. It was applied by the proved code, and gives just this image.${out}${rest}`,
+        element('div', { class: 'row' }, size <= LONGEST_SHOWN && !long && take,
+            button('', () => download(blob, name), 'Save the script…')));
+}
+
+/**
+ * @param {Comparison} compared
+ * @param {() => void} again without the damaged ones
+ */
+function refusal({ left, tail }, again) {
+    const damaged = left.filter(it => it.why === 'damaged');
+    const others = left.filter(it => it.why !== 'damaged');
+    const head = 'The script is not written: ';
+    if (others.length === 0 && !tail) {
+        const count = blocksIn(damaged);
+        const where = element('b', {}, `${head}the second image is damaged in ${named(damaged)}.`);
+        return element('div', { class: 'say bad', role: 'alert' }, where,
+            'Their wrong bytes would get a correct EDC, and nobody could see the damage any more.',
+            element('div', { class: 'row' }, button('', again, count === 1 ? 'Leave this one out' : `Leave these ${counted(count)} out`)));
+    }
+    const kinds = others.some(it => it.why === 'kind');
+    const blocks = kinds ? `${named(others)} differ, and a script changes only Mode 1 sectors.`
+        : `the address of ${named(others)} is none that a script can write.`;
+    const why = tail ? 'the bytes after the last sector differ.' : blocks;
+    return notice('bad', head + why, 'Use the second image itself, or “Repair from it”, which copies whole sectors.');
+}
+
+/** @param {Left[]} runs */
+function named(runs) {
+    const texts = runs.slice(0, MOST_LEFT_NAMED).map(({ first, last }) => first === last ? String(first) : `${first} to ${last}`);
+    const more = runs.length > MOST_LEFT_NAMED ? ` and ${counted(blocksIn(runs.slice(MOST_LEFT_NAMED)))} more` : '';
+    const one = runs.length === 1 && runs[0].first === runs[0].last;
+    const list = more === '' && texts.length > 1 ? `${texts.slice(0, -1).join(', ')} and ${texts[texts.length - 1]}` : texts.join(', ');
+    return `${one ? 'block' : 'blocks'} ${list}${more}`;
+}

@@ -1,0 +1,260 @@
+// The card of one sector: what is wrong with it in words, its fields, its bytes, and the byte that is chosen.
+
+import { filesAt } from '../core/iso.js';
+import { SECTOR_KIND } from '../core/records.js';
+import { SECTOR_SIZE, USER_OFFSET, USER_SIZE } from '../core/sector.js';
+import { announce, byId, counted, element, fill, term } from './dom.js';
+import { bindEncodings, chosenEncoding, encodingLabel } from './encodings.js';
+import { crossingsOf } from './crossings.js';
+import { oneStop } from './groups.js';
+import { HexView, USER_END, placeName } from './hex_view.js';
+import { faultOf } from './sector_fault.js';
+import { sectorBytes } from './sector_bytes.js';
+import { showFailure } from './say.js';
+import { Typing } from './typing.js';
+
+/** @typedef {import('./state.js').App} App */
+/** @typedef {import('./hex_view.js').Field} Field */
+/** @typedef {import('./hex_view.js').Shown} Shown */
+
+/** @type {Field[]} */
+const MODE1_FIELDS = [
+    { name: 'sync', label: 'sync', from: 0, to: 12 }, { name: 'header', label: 'header', from: 12, to: 16 },
+    { name: 'user', label: 'user data', from: 16, to: 2064 }, { name: 'edc', label: 'EDC', from: 2064, to: 2068 },
+    { name: 'zeros', label: 'zeros', from: 2068, to: 2076 }, { name: 'p', label: 'P parity', from: 2076, to: 2248 },
+    { name: 'q', label: 'Q parity', from: 2248, to: 2352 },
+];
+
+/** @type {Field[]} */
+const DATA_FIELDS = [...MODE1_FIELDS.slice(0, 2), { name: 'user', label: 'all else', from: 16, to: SECTOR_SIZE }];
+
+/** @type {Field[]} */
+const PLAIN_FIELDS = [{ name: 'user', label: 'bytes', from: 0, to: SECTOR_SIZE }];
+
+/**
+ * The fields of a sector of a kind.
+ * @param {number} kind
+ */
+function fieldsOf(kind) {
+    if (kind === SECTOR_KIND.MODE1) return MODE1_FIELDS;
+    return kind === SECTOR_KIND.NOSYNC ? PLAIN_FIELDS : DATA_FIELDS;
+}
+
+export class SectorCard {
+    /** @param {App} app */
+    constructor(app) {
+        this.app = app;
+        this.typing = new Typing(app);
+        this.digit = '';
+        this.number = 0;
+        this.drawn = 0;
+        this.wantsFocus = false;
+        this.view = new HexView((at, event) => this.pressed(at, event));
+        this.title = element('h2', { id: 'sector-title' });
+        this.said = element('div');
+        this.fields = element('div', { class: 'fields', role: 'group', 'aria-label': 'Fields: press one to go there' });
+        this.foot = element('p', { class: 'foot', 'aria-live': 'polite' });
+        this.goTo = element('input', { type: 'text', id: 'go-to', class: 'num slim', inputmode: 'numeric', autocomplete: 'off' });
+        const form = element('form', { submit: (/** @type {Event} */ event) => this.goToBlock(event) },
+            element('label', { class: 'row small' }, 'Go to block', this.goTo));
+        this.choice = element('select', { class: 'slim' });
+        bindEncodings(app, this.choice, ['hex']);
+        const text = element('label', { class: 'row small' }, 'Text', this.choice);
+        this.body = element('div', {}, this.said, this.fields, this.view.part, this.foot);
+        this.empty = element('p', { class: 'pad quiet' }, 'Click the map, or a block in the findings. With the keyboard: ',
+            element('kbd', {}, 'Tab'), ' to the map, then the arrows and ', element('kbd', {}, 'Enter'), '.');
+        this.part = element('section', { class: 'card', 'aria-labelledby': 'sector-title' }, element('header', {}, this.title, form, text),
+            this.empty, this.body);
+        oneStop(this.fields, 'button');
+        this.view.hex.addEventListener('moved', () => {
+            this.digit = '';
+            this.drawFoot();
+        });
+        app.on('encoding', () => this.draw(false));
+        app.on('script', () => this.draw(false));
+        app.on('files', () => this.drawFoot());
+        this.close();
+    }
+
+    /** Takes the focus to the bytes, now or as soon as they are there. */
+    focus() {
+        this.wantsFocus = true;
+        if (!this.body.hidden && this.number === this.drawn) this.takeFocus();
+    }
+
+    takeFocus() {
+        this.wantsFocus = false;
+        this.view.hex.focus();
+        this.part.scrollIntoView({ block: 'nearest' });
+    }
+
+    close() {
+        fill(this.title, 'No sector is open');
+        this.empty.hidden = false;
+        this.body.hidden = true;
+    }
+
+    /**
+     * Shows the chosen place.
+     * @param {boolean} moved whether it is another one than before
+     */
+    async draw(moved) {
+        const { app } = this;
+        const { image, place } = app;
+        if (image === null || place.block < 0) return this.close();
+        const number = ++this.number;
+        try {
+            const { old, fresh } = await sectorBytes(app, image, place.block);
+            if (number !== this.number || image !== app.image) return undefined;
+            this.show(old, fresh, moved);
+            this.drawn = number;
+            if (this.wantsFocus) this.takeFocus();
+        } catch (error) {
+            showFailure(error);
+        }
+        return undefined;
+    }
+
+    /**
+     * @param {Uint8Array} old
+     * @param {Uint8Array} fresh
+     * @param {boolean} moved
+     */
+    show(old, fresh, moved) {
+        const { app } = this;
+        const { block, offset } = app.place;
+        const kind = app.calls.kind(old);
+        const mode1 = kind === SECTOR_KIND.MODE1;
+        const found = mode1 ? crossingsOf(app.calls, old) : null;
+        this.empty.hidden = true;
+        this.body.hidden = false;
+        fill(this.title, 'Sector of ', term('block', 'block'), ` ${block}`);
+        this.goTo.value = String(block);
+        fill(this.said, faultOf(app, block, old, found));
+        const fields = fieldsOf(kind);
+        if (moved) this.drawFields(fields);
+        this.view.show({
+            block, old, bytes: fresh, mode1, fields, crossings: new Set(found ? found.crossings : []), encoding: chosenEncoding(app),
+            label: encodingLabel(app.encoding), table: app.tables.has(app.encoding),
+        });
+        if (moved) {
+            this.view.moveTo(offset >= 0 ? USER_OFFSET + offset : found && found.crossings[0] || (mode1 ? USER_OFFSET : 0));
+            this.view.reveal(this.view.at, true);
+        }
+        this.drawFoot();
+    }
+
+    /** @param {Field[]} fields */
+    drawFields(fields) {
+        fill(this.fields, ...fields.map(({ name, label, from, to }) => element('button', {
+            type: 'button', class: `x-${name}`, click: () => {
+                this.view.moveTo(from);
+                this.view.reveal(from, true);
+            },
+        }, label, element('small', {}, `${from}–${to - 1}`))));
+    }
+
+    drawFoot() {
+        const { app, view } = this;
+        const { shown, at } = view;
+        if (shown === null || app.image === null) return;
+        const byte = shown.bytes[at];
+        const digits = byte.toString(16).toUpperCase().padStart(2, '0');
+        const isUser = shown.mode1 && at >= USER_OFFSET && at < USER_END;
+        const typed = this.digit === '' ? `${digits} = ${byte}` : `${this.digit}_`;
+        const parts = [element('b', {}, placeName(shown, at)), isUser && element('span', {}, `byte ${at} of the sector`),
+            element('span', { class: 'mono' }, typed), isUser && this.fileAt(at - USER_OFFSET)];
+        if (shown.bytes[at] !== shown.old[at]) {
+            parts.push(element('span', { class: 'good-ink' }, `changed by the script, ${hexByte(shown.old[at])} in the file`));
+        }
+        const hint = isUser ? 'Type to change bytes: each change becomes a line of the script, the file stays as it is.'
+            : shown.mode1 ? 'Only user data can be typed over. EDC and parity follow from them.' : 'Only Mode 1 sectors can be changed.';
+        fill(this.foot, ...parts, element('span', {}, hint));
+    }
+
+    /** @param {number} offset */
+    fileAt(offset) {
+        const { files, place } = this.app;
+        if (files === null) return false;
+        const [file] = filesAt(files.files, place.block, offset);
+        if (file === undefined) return element('span', {}, 'in no file');
+        const position = (place.block - file.block) * USER_SIZE + offset;
+        return element('span', {}, 'file ', element('span', { class: 'mono' }, file.path), ` at ${counted(position)}`);
+    }
+
+    /** @param {Event} event */
+    goToBlock(event) {
+        event.preventDefault();
+        const { image } = this.app;
+        const block = Number(this.goTo.value.trim().replace(/,/g, ''));
+        const isIn = image !== null && Number.isInteger(block) && block >= image.base && block < image.base + image.sectors;
+        this.goTo.setAttribute('aria-invalid', String(!isIn));
+        if (isIn) this.app.goTo(block);
+        else if (image !== null) announce(`The blocks of this image are ${image.base} to ${image.base + image.sectors - 1}.`);
+    }
+
+    /**
+     * What keys do that do not move within the sector.
+     * @param {number} at
+     * @param {KeyboardEvent} event
+     */
+    pressed(at, event) {
+        if (event.key === 'Escape') {
+            if (this.digit === '') byId('map').focus();
+            this.digit = '';
+            this.drawFoot();
+        } else if (event.key === 'PageDown' || event.key === 'PageUp') {
+            this.page(at, event.key === 'PageDown' ? 1 : -1);
+        } else if (/^[0-9a-fA-F]$/.test(event.key)) {
+            this.type(at, event.key.toUpperCase());
+        } else {
+            return;
+        }
+        event.preventDefault();
+    }
+
+    /**
+     * A screen on or back; past the end, the next sector.
+     * @param {number} at
+     * @param {number} step
+     */
+    page(at, step) {
+        const { app, view } = this;
+        const to = at + step * view.screen();
+        const ends = step > 0 ? at >= SECTOR_SIZE - view.columns : at < view.columns;
+        if (!ends) return view.moveTo(to);
+        const block = app.place.block + step;
+        if (app.image === null || block < app.image.base || block >= app.image.base + app.image.sectors) return undefined;
+        return app.goTo(block);
+    }
+
+    /**
+     * Types one digit of a byte.
+     * @param {number} at
+     * @param {string} digit
+     */
+    type(at, digit) {
+        const { shown } = this.view;
+        if (shown === null || !shown.mode1 || at < USER_OFFSET || at >= USER_END) {
+            announce('Only the user data of Mode 1 sectors can be typed over.');
+            return;
+        }
+        if (this.digit === '') {
+            this.digit = digit;
+            this.drawFoot();
+            return;
+        }
+        const byte = parseInt(this.digit + digit, 16);
+        this.digit = '';
+        const line = this.typing.type(shown.block, at - USER_OFFSET, byte, shown.bytes[at]);
+        announce(`In the script: ${line}`);
+        shown.bytes = shown.bytes.slice();
+        shown.bytes[at] = byte;
+        this.view.moveTo(Math.min(at + 1, USER_END - 1));
+    }
+}
+
+/** @param {number} byte */
+function hexByte(byte) {
+    return byte.toString(16).toUpperCase().padStart(2, '0');
+}

@@ -1,0 +1,164 @@
+// What the page knows, for all panels: the disc, what was found in it, the script, the second image, and who wants to hear of changes.
+
+/** @typedef {import('../core/codes.js').Calls} Calls */
+/** @typedef {import('../core/bytes.js').Reader} Reader */
+/** @typedef {import('../core/iso.js').VolumeFiles} VolumeFiles */
+/** @typedef {import('../core/text.js').Encoding} Encoding */
+/** @typedef {import('../core/jobs.js').Crew} Crew */
+
+/** What the page is made of, which the joined page and a served one get in different ways. */
+/** @typedef {{ module: WebAssembly.Module, newWorker: () => Worker }} Parts */
+
+/** @typedef {import('../core/disc.js').Disc} Disc */
+/** @typedef {import('../core/disc.js').DiscImage} DiscImage */
+/** @typedef {import('./marks.js').SurveyMarks} SurveyMarks */
+
+/**
+ * An image that was opened. `from` is the name of the cue sheet and `sheet` its text, or both are ''; `number` is that of the track
+ * which is meant, and `part` that track alone; `sha1` is '' until it is known.
+ * @typedef {DiscImage & { part: DiscImage, from: string, sheet: string, disc: Disc, number: number, sha1: string }} Image
+ */
+
+/**
+ * The records of an image's sectors, RECORD_SIZE bytes each, of which the first `known` were read so far; what the map shows of them;
+ * and when reading began and ended, 0 if it did not come to its end. `over` says that it goes on no more.
+ * @typedef {{ block: number, records: Uint8Array, known: number, marks: SurveyMarks, began: number, ended: number,
+ *     over: boolean }} Surveyed
+ */
+
+/**
+ * What happens: an image was opened or closed (`image`); more of it was surveyed (`survey`), or all (`surveyed`); its hash or its files
+ * are known (`hash`, `files`); there is a second image, or none any more (`second`); a place was chosen (`place`); the script has
+ * changed (`script`); the encoding was chosen, or a table is new (`encoding`); another panel is shown (`panel`).
+ * @typedef {'image' | 'survey' | 'surveyed' | 'hash' | 'files' | 'second' | 'place' | 'script' | 'encoding' | 'panel'} Happening
+ */
+
+/** @typedef {'disc' | 'text' | 'script' | 'publish'} PanelName */
+
+export const PANELS = Object.freeze(/** @type {PanelName[]} */ (['disc', 'text', 'script', 'publish']));
+
+/** The state of the page. Who changes it emits what has changed. */
+export class App {
+    /**
+     * @param {Calls} calls of a module for what the page does itself, which is short
+     * @param {Crew} crew of workers, for what takes longer
+     * @param {Parts} parts for a worker of another kind
+     */
+    constructor(calls, crew, parts) {
+        this.calls = calls;
+        this.crew = crew;
+        this.parts = parts;
+        this.image = /** @type {Image | null} */ (null);
+        this.second = /** @type {Image | null} */ (null);
+        this.survey = /** @type {Surveyed | null} */ (null);
+        this.files = /** @type {VolumeFiles | null} */ (null);
+        /** The block and the user byte, or -1, that the sector view shows. */
+        this.place = { block: -1, offset: -1 };
+        this.script = { name: '', text: '' };
+        this.encoding = 'CP932';
+        /** @type {Map<string, Encoding>} the tables that were loaded, by their files' names */
+        this.tables = new Map();
+        this.panel = /** @type {PanelName} */ ('disc');
+        /** @type {Map<string, ((detail: any) => void)[]>} */
+        this.listeners = new Map();
+        /** @type {AbortController[]} the jobs that Escape cancels, the last one first */
+        this.jobs = [];
+        /** Ends the reading of the open image. */
+        this.reading = new AbortController();
+        /** @type {(files: File[]) => Promise<void>} opens files, as if they were dropped; open.js sets it */
+        this.open = async () => {};
+        /** @type {((file: File) => Promise<boolean>)[]} asked of each file that is opened; true if the asked one has taken it */
+        this.takers = [];
+    }
+
+    /**
+     * @param {Happening} name
+     * @param {(detail: any) => void} listener
+     */
+    on(name, listener) {
+        this.listeners.set(name, [...this.listeners.get(name) || [], listener]);
+    }
+
+    /**
+     * @param {Happening} name
+     * @param {unknown} [detail]
+     */
+    emit(name, detail) {
+        for (const listener of this.listeners.get(name) || []) listener(detail);
+    }
+
+    /**
+     * Runs a job that Escape and Cancel buttons can end. The job looks at the signal.
+     * @template Result
+     * @param {(signal: AbortSignal, cancel: () => void) => Promise<Result>} job
+     */
+    async run(job) {
+        const controller = new AbortController();
+        this.jobs.push(controller);
+        try {
+            return await job(controller.signal, () => controller.abort());
+        } finally {
+            this.jobs.splice(this.jobs.indexOf(controller), 1);
+        }
+    }
+
+    /** Cancels the job that began last, or the reading of the image, and says whether there was one. */
+    cancel() {
+        const reads = this.survey !== null && !this.survey.over;
+        const last = this.jobs[this.jobs.length - 1] || (reads ? this.reading : undefined);
+        if (last) last.abort();
+        return last !== undefined;
+    }
+
+    /**
+     * Puts another text in place of the script.
+     * @param {string} text
+     * @param {string} [name] of its file
+     * @param {string} [from] who changed it, so that a listener knows its own change
+     */
+    setScript(text, name = this.script.name, from = '') {
+        this.script = { name, text };
+        this.emit('script', from);
+    }
+
+    /**
+     * Adds lines at the end of the script, after a head line if it has no text yet.
+     * @param {string[]} lines
+     */
+    addLines(lines) {
+        const { text } = this.script;
+        const before = text.trim() === '' ? 'cdpatch 1\n' : text.endsWith('\n') ? text : `${text}\n`;
+        this.setScript(`${before}${lines.join('\n')}\n`, this.script.name, 'lines');
+    }
+
+    /**
+     * Puts a line in place of another one, the last one of that text, or adds it if there is none.
+     * @param {string} old
+     * @param {string} line
+     */
+    replaceLine(old, line) {
+        const lines = this.script.text.split('\n');
+        const at = lines.lastIndexOf(old);
+        if (at < 0) return this.addLines([line]);
+        lines[at] = line;
+        return this.setScript(lines.join('\n'), this.script.name, 'lines');
+    }
+
+    /**
+     * Chooses a place of the image, and shows the Disc panel if it is asked to.
+     * @param {number} block
+     * @param {number} [offset] of a user byte
+     * @param {boolean} [show]
+     */
+    goTo(block, offset = -1, show = false) {
+        this.place = { block, offset };
+        if (show) this.showPanel('disc');
+        this.emit('place', { show });
+    }
+
+    /** @param {PanelName} name */
+    showPanel(name) {
+        this.panel = name;
+        this.emit('panel');
+    }
+}

@@ -1,0 +1,299 @@
+// The panel Text: find, the hits, and replacing them in the script.
+
+import { joinFound, sectorsBeyond } from '../core/find.js';
+import { tableOf } from '../core/text.js';
+import { showAround } from './around_card.js';
+import { announce, button, countOf, element, fill, hexOf, term } from './dom.js';
+import { bindEncodings, chosenEncoding, encodingLabel } from './encodings.js';
+import { HitsCard } from './hits_card.js';
+import { filledTo, linesReplacing, placesInScript, userAround } from './hits.js';
+import { jobBar } from './progress.js';
+import { ReplaceCard } from './replace_card.js';
+import { isCancelled, notice, sentence } from './say.js';
+
+/** @typedef {import('./state.js').App} App */
+/** @typedef {import('./state.js').Image} Image */
+/** @typedef {import('../core/find.js').Hit} Hit */
+/** @typedef {import('../core/find.js').Found} Found */
+/** @typedef {import('./hits_card.js').Search} Search */
+
+/** So many hits are kept: as many as a script has lines for. */
+const MOST_HITS = 65535;
+
+/** The panel. */
+class TextPanel {
+    /**
+     * @param {App} app
+     * @param {HTMLElement} panel
+     */
+    constructor(app, panel) {
+        this.app = app;
+        this.found = /** @type {Search | null} */ (null);
+        this.chosen = -1;
+        this.number = 0;
+        this.adding = false;
+        /** @type {HTMLInputElement} */
+        this.field = element('input', { type: 'text', id: 'find-text', autocomplete: 'off', spellcheck: 'false',
+            input: () => this.drawHint(),
+            keydown: event => {
+                if (event.key === 'Enter' && !event.isComposing) this.find();
+            } });
+        this.choice = element('select', { id: 'find-encoding' });
+        bindEncodings(app, this.choice, []);
+        this.table = element('input', { type: 'file', class: 'hide', tabindex: -1, accept: '.tbl,.txt', 'aria-label': 'A table to load',
+            change: () => this.load() });
+        this.hint = element('p', { class: 'small quiet hint' });
+        this.state = element('div', { class: 'stack', role: 'status' });
+        this.hits = new HitsCard(app, index => this.choose(index));
+        this.replace = new ReplaceCard(app, { add: (hit, fresh, old) => this.alone(() => this.add(hit, fresh, old)),
+            addAll: (fresh, byte) => this.alone(() => this.addAll(fresh, byte)), skip: () => this.next() });
+        this.around = element('section', { class: 'card', 'aria-label': 'The bytes around it', hidden: true });
+        this.results = element('div', { class: 'two even', hidden: true }, element('div', { class: 'side' }, this.hits.card),
+            element('div', { class: 'side' }, this.replace.card, this.around));
+        panel.append(this.askCard(), this.state, this.results, this.table);
+        app.takers.push(file => this.isTable(file));
+        this.listen();
+        this.drawHint();
+    }
+
+    listen() {
+        const { app } = this;
+        app.on('image', () => this.forget());
+        app.on('encoding', () => {
+            this.drawHint();
+            this.replace.draw();
+            this.hits.contexts.clear();
+            this.drawHits();
+        });
+        for (const name of /** @type {const} */ (['script', 'files'])) app.on(name, () => this.drawHits());
+    }
+
+    askCard() {
+        const label = (/** @type {string} */ target, /** @type {string} */ text) => element('label', { for: target }, text);
+        return element('section', { class: 'card pad stack tight', 'aria-label': 'Find' }, element('div', { class: 'ask' },
+            element('div', {}, label('find-text', 'Find this text'), this.field),
+                element('div', {}, label('find-encoding', 'In which encoding'), this.choice),
+            button('', () => this.table.click(), 'Load a table (.tbl)…'), button('main', () => this.find(), 'Find')), this.hint);
+    }
+
+    /** The bytes of the text that is searched for, or why it has none. */
+    drawHint() {
+        const where = ['searched in the ', term('user', 'user data'), ' of all sectors, over the borders of blocks'];
+        if (this.field.value === '') return fill(this.hint, 'A text is ', ...where, '.');
+        try {
+            const bytes = chosenEncoding(this.app).units(this.field.value).map(([usual]) => hexOf(usual).replace(/..(?=.)/g, '$& '));
+            const count = bytes.join(' ').split(' ').length;
+            this.field.setAttribute('aria-invalid', 'false');
+            return fill(this.hint, `${countOf(count, 'byte')}: `, element('span', { class: 'mono' }, bytes.slice(0, 24).join(' ')),
+                bytes.length > 24 ? '…' : '', ' · ', ...where);
+        } catch (error) {
+            this.field.setAttribute('aria-invalid', 'true');
+            return fill(this.hint, element('b', { class: 'bad-ink' }, error instanceof Error ? error.message : String(error)));
+        }
+    }
+
+    forget() {
+        this.found = null;
+        this.results.hidden = true;
+        this.replace.show(null);
+        fill(this.state);
+    }
+
+    async find() {
+        const { app } = this;
+        const { image } = app;
+        const text = this.field.value;
+        if (text === '') return this.field.focus();
+        if (image === null) return fill(this.state, notice('warn', 'No image is open.', 'Open the disc image first.'));
+        if (this.field.getAttribute('aria-invalid') === 'true') return this.field.focus();
+        this.forget();
+        const number = ++this.number;
+        try {
+            await app.run(async (signal, cancel) => {
+                const bar = jobBar('Searching', cancel);
+                fill(this.state, element('section', { class: 'card pad stack', 'aria-label': 'Searching' }, ...bar.parts));
+                const began = performance.now();
+                const found = await this.search(image, text, { signal, progress: bar.sectors });
+                if (app.image === image && number === this.number) await this.take({ text, count: found.count, hits: found.hits,
+                    seconds: (performance.now() - began) / 1000 }, image);
+            });
+        } catch (error) {
+            if (number !== this.number) return undefined;
+            fill(this.state, isCancelled(error) ? notice('plain', 'Cancelled.', 'The search has not come to its end.')
+                : notice('bad', error instanceof Error ? error.message : String(error)));
+        }
+        return undefined;
+    }
+
+    /**
+     * @param {Image} image
+     * @param {string} text
+     * @param {{ signal: AbortSignal, progress: (done: number, all: number) => void }} watch
+     * @returns {Promise<Found>}
+     */
+    async search({ reader, base }, text, watch) {
+        const wanted = chosenEncoding(this.app).units(text);
+        /** @type {Found[]} */
+        const parts = [];
+        let kept = 0;
+        await this.app.crew.share('find', [reader], { wanted, limit: MOST_HITS }, { base, beyond: sectorsBeyond(wanted), ...watch },
+            answer => {
+            parts.push({ ...answer, hits: kept < MOST_HITS ? answer.hits : [] });
+            kept += answer.hits.length;
+        });
+        return joinFound(parts, MOST_HITS);
+    }
+
+    /**
+     * @param {Search} found
+     * @param {Image} image
+     */
+    async take(found, image) {
+        const { app } = this;
+        fill(this.state);
+        if (found.count === 0) {
+            fill(this.state, notice('plain', `No hit in ${encodingLabel(app.encoding)}.`,
+                `The user data of ${countOf(image.sectors, 'sector')} were searched to the end. `,
+                'Another encoding? A game may also have its own table, or packed texts.'));
+            return announce('No hit.');
+        }
+        this.found = found;
+        this.results.hidden = false;
+        this.hits.take(found);
+        announce(countOf(found.count, 'hit'));
+        this.chosen = -1;
+        await this.next();
+        return this.replace.input.focus();
+    }
+
+    /** Draws the hits again, for the script or the files have changed. */
+    drawHits() {
+        if (this.found === null) return;
+        this.hits.draw(placesInScript(this.app.script.text));
+    }
+
+    /**
+     * Shows a hit, to be replaced.
+     * @param {number} index
+     */
+    async choose(index) {
+        const { app, found } = this;
+        const { image } = app;
+        if (found === null || image === null || index < 0) return;
+        this.chosen = index;
+        this.hits.chosen = index;
+        const hit = found.hits[index];
+        const around = await userAround(image, hit, 64, 160);
+        if (this.found !== found || this.chosen !== index) return;
+        const places = placesInScript(app.script.text);
+        this.hits.draw(places);
+        const left = found.hits.filter(it => !places.has(`${it.block} ${it.offset}`)).length;
+        const line = places.get(`${hit.block} ${hit.offset}`) || 0;
+        this.replace.show({ hit, number: index + 1, of: found.count, old: around.user.slice(around.at, around.at + hit.size), left, line });
+        this.around.hidden = false;
+        showAround(app, this.around, hit, around);
+    }
+
+    /** Goes to the next hit that is in no line of the script. */
+    async next() {
+        const { found } = this;
+        if (found === null) return;
+        const places = placesInScript(this.app.script.text);
+        const count = found.hits.length;
+        for (let k = 1; k <= count; k++) {
+            const index = (this.chosen + k) % count;
+            if (places.has(`${found.hits[index].block} ${found.hits[index].offset}`)) continue;
+            await this.choose(index);
+            return;
+        }
+        await this.choose(this.chosen < 0 ? 0 : this.chosen);
+        fill(this.state, notice('good', 'All hits are in the script.', 'Script and Check say whether they fit.'));
+    }
+
+    /** @param {() => Promise<void>} job that makes lines, of which one runs at a time */
+    async alone(job) {
+        if (this.adding) return;
+        this.adding = true;
+        await job().finally(() => { this.adding = false; });
+    }
+
+    /**
+     * @param {Hit} hit
+     * @param {Uint8Array} fresh
+     * @param {Uint8Array} old
+     */
+    async add(hit, fresh, old) {
+        const { app } = this;
+        if (app.image === null) return;
+        try {
+            app.addLines(await linesReplacing(app.calls, app.image, hit, fresh, old));
+            announce('Added to the script.');
+            fill(this.state);
+            await this.next();
+        } catch (error) {
+            fill(this.state, notice('bad', 'Nothing was added to the script.', sentence(error)));
+        }
+    }
+
+    /**
+     * Adds lines for each hit that is in no line of the script. Those that can't be replaced so are said.
+     * @param {Uint8Array} fresh
+     * @param {Uint8Array} filling
+     */
+    async addAll(fresh, filling) {
+        const { app, found } = this;
+        const { image } = app;
+        if (found === null || image === null) return;
+        const places = placesInScript(app.script.text);
+        const [lines, left] = [/** @type {string[]} */ ([]), /** @type {string[]} */ ([])];
+        for (const hit of found.hits) {
+            if (places.has(`${hit.block} ${hit.offset}`)) continue;
+            const { user, at } = await userAround(image, hit, 0, 0);
+            const filled = filledTo(fresh, hit.size, filling);
+            if (filled === null) left.push(`block ${hit.block} offset ${hit.offset} has another length`);
+            else await linesReplacing(app.calls, image, hit, filled, user.slice(at, at + hit.size)).then(made => lines.push(...made),
+                error => left.push(sentence(error)));
+        }
+        if (lines.length > 0) app.addLines(lines);
+        await this.next();
+        const rest = left.length === 0 ? 'Script and Check say whether they fit.'
+            : `${countOf(left.length, 'hit')} left: ${left.slice(0, 5).join('; ')}.`;
+        fill(this.state, notice(left.length > 0 ? 'warn' : 'good', `${countOf(lines.length, 'line')} added to the script.`, rest));
+    }
+
+    async load() {
+        const file = (this.table.files || [])[0];
+        this.table.value = '';
+        if (file) await this.takeTable(file);
+    }
+
+    /** @param {File} file */
+    async isTable(file) {
+        if (!/\.tbl$/i.test(file.name)) return false;
+        this.app.showPanel('text');
+        await this.takeTable(file);
+        return true;
+    }
+
+    /** @param {File} file */
+    async takeTable(file) {
+        const { app } = this;
+        try {
+            app.tables.set(file.name, tableOf(new Uint8Array(await file.arrayBuffer())));
+            app.encoding = file.name;
+            app.emit('encoding');
+            fill(this.state, notice('good', `${file.name} is loaded.`, 'It is the encoding now, here and where bytes are shown as text.'));
+        } catch (error) {
+            fill(this.state, notice('bad', `${file.name} is no table that can be read.`, error instanceof Error ? error.message
+                : String(error)));
+        }
+    }
+}
+
+/**
+ * @param {App} app
+ * @param {HTMLElement} panel
+ */
+export function mountText(app, panel) {
+    return new TextPanel(app, panel);
+}
