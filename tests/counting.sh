@@ -37,3 +37,8 @@ finish_counts() {
     echo "$passed passed, $failed failed"
     [ "$failed" = 0 ]
 }
+
+# spent FILE: the processor seconds of all that a shell has waited for, of what its `times` printed.
+spent() {
+    awk 'NR == 2 { for (i = 1; i <= NF; i++) { split($i, part, /[ms]/); sum += part[1] * 60 + part[2] } } END { print int(sum) }' "$1"
+}
