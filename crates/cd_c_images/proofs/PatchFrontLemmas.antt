@@ -86,6 +86,8 @@ module _ (n m : ℕ) (old new : Streams) where
       beyond = a.beyond;
       unended = a.unended;
       begins = a.begins;
+      between_sinks = a.between_sinks;
+      sent_before = a.sent_before;
     }
 
 module _ {carry : Bool} {patches : List Patch} {base : ℕ} {result : Result Tally Fault} where

@@ -1,10 +1,11 @@
 -- One step of a pass, by what its calls have done.
 use Rattle.std.proofs.Common.{◌≡◌, ◌≢◌, ℕ, suc, ◌+◌, ◌<◌, ◌≤◌, Bool, List, [], ◌∷◌, ◌++◌, length, take, drop, get_or, Option, None, Some, Ok, Err, sym, ap, ◌∙◌, subst, arith, add-one, add-zero, take-append-drop}
-use Rattle.std.specs.Prelude.{All}
+use Rattle.std.specs.Prelude.{All, IfNone, IfSome}
 use Rattle.std.specs.List.{slice_get}
 use Rattle.std.specs.List.Sorted.{IsNonDecreasingBy}
 use Rattle.std.proofs.Math.Seq.{drop-cons, take-suc}
 use Rattle.std.proofs.lemmas.List.{get_or-drop, length-drop}
+use Rattle.std.proofs.lemmas.List.Elements.{All-take}
 use Rattle.std.proofs.lemmas.Option.{get_or_from_slice_get, slice_get-get_or, slice_get_within}
 use Rattle.std.proofs.Math.ListN.{length-take}
 use Rattle.cd_stream.specs.Stream.{Incoming, Outgoing}
@@ -14,7 +15,7 @@ use Rattle.cd_script.specs.PatchForm.{Patch}
 use Rattle.cd_sector.specs.declared.sector.TheConstants.{SECTOR_SIZE}
 use Rattle.cd_image.specs.Applying.{Applies, Streams}
 use Rattle.cd_image.specs.Window.{GainsSector, GainsTail, WindowView}
-use Rattle.cd_image.specs.Passing.{HoldsInvariant, PassInvariant}
+use Rattle.cd_image.specs.Passing.{HoldsInvariant, PassInvariant, WantsMore}
 use Rattle.cd_read.specs.Reading.{ReadsSector}
 use Rattle.cd_read.specs.declared.fault.Fault.{Fault}
 use Rattle.cd_read.specs.declared.fault.Fault.TheVariants.{Log, Read, TooLong, Write}
@@ -22,8 +23,9 @@ use Rattle.cd_image.specs.declared.pass.Pass.{Pass}
 use Rattle.cd_image.proofs.ApplyLemmas.{Applies-beyond, Applies-read, Applies-write}
 use Rattle.cd_image.proofs.CloseLemmas.{Applies-below}
 use Rattle.std.proofs.lemmas.List.Sums.{count_by-le-length}
-use Rattle.cd_patch.specs.Blocks.{block_limit}
+use Rattle.cd_patch.specs.Blocks.{block_limit, blocks_met}
 use Rattle.cd_patch.specs.Outcome.{is_applied}
+use Rattle.cd_patch.proofs.RangeLemmas.{blocks_met-most}
 use Rattle.cd_image.proofs.KnownLemmas.{outcomes_length}
 use Rattle.cd_image.proofs.PatchLogLemmas.{missing_lines}
 use Rattle.cd_image.proofs.PassingLemmas.{Going-end, Going-read, Going-send, Going-start}
@@ -40,19 +42,20 @@ module _ (carry : Bool) (taken left : List Patch) (base : ℕ) (start now : Stre
       subst (λ t. PassInvariant carry taken left base start now pass.window.sectors pass.block pass.sectors
       pass.applied t) unended g
 
-  pub Steps-unread : (bytes : List ℕ) (fault : Fault)
+  pub Steps-unread : WantsMore left pass.block (length pass.window.sectors)
+      → (bytes : List ℕ) (fault : Fault)
       → ReadsSector pass.sectors bytes now.image image (Err fault)
       → Applies carry (taken ++ left) base start (record now { image = image }) (Err fault)
-  Steps-unread bytes Read r =
+  Steps-unread wants bytes Read r =
       Applies-read carry taken left base start now pass.window.sectors pass.block pass.sectors
       pass.applied begun image r.came (record { consumes = r.consumes; counted = r.counted }) room
       r.short r.within r.rose r.unended
-  Steps-unread bytes TooLong r =
+  Steps-unread wants bytes TooLong r =
       Applies-beyond carry taken left base start now pass.window.sectors pass.block pass.sectors
-      pass.applied begun image r.came (record { consumes = r.consumes; counted = r.counted }) room
-      r.one r.full r.kept r.unended
-  Steps-unread bytes Write r = elim r [ ]
-  Steps-unread bytes Log r = elim r [ ]
+      pass.applied begun image r.came (record { consumes = r.consumes; counted = r.counted }) wants
+      room r.one r.full r.kept r.unended
+  Steps-unread wants bytes Write r = elim r [ ]
+  Steps-unread wants bytes Log r = elim r [ ]
 
   pub Steps-read : (window : WindowView) → GainsSector pass.sectors pass.window window now.image image
       → PassInvariant carry taken left base start (record now { image = image }) window.sectors pass.block
@@ -208,6 +211,20 @@ strictly_ahead ps d block rising ahead other = λ k e inside.
       rises,
     )
 
+-- more sectors are wanted than are in hand
+pub wants_more : {R : Type 0} (now : R → Patch) (ps : List Patch) (d block count wanted : ℕ)
+    (patch : Option R) → IsNonDecreasingBy (λ p. p.block) ps
+    → All (λ p. block ≤ p.block) (drop d ps)
+    → IfSome patch (λ r. (slice_get ps d ≡ Some (now r)) × ((now r).block ≡ block))
+    → IfNone patch ((p : Patch) → slice_get ps d ≡ Some p → p.block ≢ block)
+    → IfSome patch (λ r. wanted ≡ blocks_met (now r)) → IfNone patch (wanted ≡ 1)
+    → count < wanted → WantsMore (drop d ps) block count
+wants_more now ps d block count wanted None rising ahead some none met one fewer =
+    WantsMore.none_held (omega (arith, one, fewer)) (strictly_ahead ps d block rising ahead none)
+wants_more now ps d block count wanted (Some r) rising ahead some none met one fewer =
+    WantsMore.patch_meets (now r) (drop (suc d) ps) (next_first ps d (now r) some.0) some.1
+    (omega (arith, met, fewer))
+
 -- ---- how large the numbers of a pass are
 
 pub record Bounds (start now : Streams) (pass : Pass) : Type 0 where
@@ -235,17 +252,27 @@ bounds carry ps base start now pass low g =
       applied = omega (arith, g.counted, few, lengths, taken);
     }
 
+-- all that the patches meet which begin below the image may be there
+below_reached : (ps : List Patch) (base below : ℕ) → All IsPatch ps
+    → All (λ p. p.block < base) (take below ps)
+    → All (λ p. p.block + blocks_met p ≤ base + sector_limit) (take below ps)
+below_reached ps base below patches under = λ k e inside.
+    let most =
+    blocks_met-most (get_or (take below ps) k e) (All-take IsPatch below ps patches k e inside) in
+    omega (arith, under k e inside, most)
+
 -- a new pass, after the patches that begin below the image
 pub begun_pass : {X E : Type 0} {x : X} (carry : Bool) (ps : List Patch) (base : ℕ)
     (start : Streams) (log : Outgoing) (below : ℕ) (pass : Pass) → pass.window.sectors ≡ []
     → pass.block ≡ base → pass.sectors ≡ 0 → pass.decided ≡ below → pass.applied ≡ 0
     → pass.window.tail ≡ None
+    → All IsPatch ps
     → All (λ p. p.block < base) (take below ps) → All (λ p. base ≤ p.block) (drop below ps)
     → Sends {X = X} {E = E} start.log log (missing_lines (take below ps)) (Ok x)
     → HoldsInvariant carry (take pass.decided ps) (drop pass.decided ps) base start
     (record start { log = log }) pass
 begun_pass carry ps base start log below pass window block sectors decided applied tail
-    under ahead log_bytes =
+    patches under ahead log_bytes =
     subst (λ n. HoldsInvariant carry (take n ps) (drop n ps) base start (record start { log = log }) pass)
     (sym decided)
     (subst (λ (ws : List (List ℕ)). PassInvariant carry (take below ps) (drop below ps) base start
@@ -259,7 +286,8 @@ begun_pass carry ps base start log below pass window block sectors decided appli
     (record start { log = log }) [] base 0 n pass.window.tail) (sym applied)
     (subst (λ t. PassInvariant carry (take below ps) (drop below ps) base start
     (record start { log = log }) [] base 0 0 t) (sym tail)
-    (Going-start carry (take below ps) (drop below ps) base start log under ahead log_bytes))))))
+    (Going-start carry (take below ps) (drop below ps) base start log under
+    (below_reached ps base below patches under) ahead log_bytes))))))
 
 -- the log fails before the first read
 pub Applies-first : {X E : Type 0} {e : E} (carry : Bool) (ps : List Patch) (base : ℕ)

@@ -15,17 +15,17 @@ use Rattle.cd_patch.specs.declared.outcome.Outcome.{Outcome}
 use Rattle.cd_patch.proofs.FrameLemmas.{outcome-frame}
 use Rattle.cd_patch.proofs.SequenceLemmas.{PatchSequence-determined, PatchSequence-split}
 use Rattle.cd_image.specs.Applying.{Applies, Streams, bytes_in_hand}
-use Rattle.cd_read.specs.Image.{image_limit, bytes_of, sectors}
+use Rattle.cd_read.specs.Image.{image_limit, bytes_of, sector_limit, sectors}
 use Rattle.cd_image.specs.Window.{tail_bytes}
-use Rattle.cd_image.specs.Passing.{PassInvariant}
+use Rattle.cd_image.specs.Passing.{PassInvariant, WantsMore}
 use Rattle.cd_image.specs.Patched.{IsPatched}
-use Rattle.cd_image.specs.PatchLog.{lines_below, log_line, log_lines, log_text, sent_when_log_fails}
-use Rattle.cd_read.specs.Ends.{MayBeImageAtEnd}
+use Rattle.cd_image.specs.PatchLog.{lines_below, lines_within, log_line, log_lines, log_text, sent_when_log_fails}
+use Rattle.cd_read.specs.Ends.{MayBeImage, MayBeImageAtEnd}
 use Rattle.cd_read.specs.declared.fault.Fault.TheVariants.{Log, Read, TooLong, Write}
-use Rattle.cd_image.proofs.KnownLemmas.{applies, Extends, Extends-begun, IsBeginning-front, Known, StopsAtLog-within, begins_now, extends_left, bytes_of-begins, known, lines-begin, lines-begin_within, outcomes_length, unfinished_lines}
+use Rattle.cd_image.proofs.KnownLemmas.{ahead_of_done, applies, Extends, Extends-begun, IsBeginning-front, Known, StopsAtLog-within, begins_now, extends_left, bytes_of-begins, known, lines-begin, lines-begin_within, outcomes_length, unfinished_lines}
 use Rattle.cd_read.proofs.EndLemmas.{Fits-begins}
 use Rattle.cd_image.proofs.PassingLemmas.{bytes_of-more, length-bytes_of}
-use Rattle.cd_image.proofs.PatchLogLemmas.{bytes_before-within, lines_below-cut, log_when_out_fails-sector, sent_when_log_fails-later, sent_when_log_fails-line}
+use Rattle.cd_image.proofs.PatchLogLemmas.{bytes_before-within, front_within-cut, front_within-front, lines_below-cut, lines_within-cut, lines_within-none, log_when_out_fails-sector, sent_when_log_fails-later, sent_when_log_fails-line}
 
 -- ---- the source fails, or gives too much
 
@@ -72,11 +72,12 @@ module _ (carry : Bool) (taken left : List Patch) (base : ℕ) (start now : Stre
             (begins.1 ∙ append_assoc (bytes_of g.seen) came begins.0));
       })
 
-  pub Applies-beyond : length window < block_limit → length came ≡ 1
+  pub Applies-beyond : WantsMore left block (length window) → length window < block_limit
+      → length came ≡ 1
       → SECTOR_SIZE * sectors_read ≡ image_limit → image.failures ≡ now.image.failures
       → image.ended ≡ false
       → Applies carry (taken ++ left) base start (record now { image = image }) (Err TooLong)
-  Applies-beyond room one full kept unended =
+  Applies-beyond wants room one full kept unended =
       applies all g.sends g.logs (in_hand room (omega arith))
       (record {
         failed =
@@ -88,14 +89,37 @@ module _ (carry : Bool) (taken left : List Patch) (base : ℕ) (start now : Stre
         flushes = record { outs = g.unflushed.outs; logs = g.unflushed.logs };
         beyond = omega (arith, length_read);
         unended = unended;
-        begins = λ whole fits.
-            let size : length (bytes_of g.seen) ≡ image_limit =
-            length-bytes_of g.seen g.seen_sizes ∙ ap (λ n. 2352 * n) (sym g.count) ∙ full in
-            let limited : take image_limit (bytes_of g.seen ++ came) ≡ bytes_of g.seen =
-            take_at (bytes_of g.seen) came image_limit size in
-            begins_now g whole (Extends-begun g.seen whole fits.begins.0 g.seen_sizes
-            (fits.begins.1 ∙ ap (λ l. l ++ fits.begins.0) limited));
+        begins = λ whole fits. begins_now g whole (extends whole fits);
+        between_sinks = λ whole fits os last patched.
+            let k =
+            known g whole (extends whole fits) g.done (λ more. window ++ more) (λ more. refl)
+            (ahead_of_done g) os last patched in
+            sym (subst (λ u. lines_within (base + sector_limit) (taken ++ left) u ≡ log_lines taken g.outcomes)
+            (sym k.all)
+            (lines_within-cut (base + sector_limit) taken left g.outcomes k.back (outcomes_length g) (g.reached refl)
+            (lines_within-none (base + sector_limit) left k.back block (length window) at_end wants)));
+        sent_before =
+            length-bytes_of g.done g.done_sizes
+            ∙ omega (
+              arith,
+              g.front,
+              front_within-cut (base + sector_limit) taken left (g.reached refl),
+              front_within-front (base + sector_limit) left block (length window) at_end wants,
+            );
       })
+    where
+      at_end : block + length window ≡ base + sector_limit
+      at_end = omega (arith, g.front, g.held, g.count, full)
+
+      extends : (whole : List ℕ) → MayBeImage (bytes_of g.seen ++ came) whole
+          → Extends g.seen None whole
+      extends whole fits =
+          let size : length (bytes_of g.seen) ≡ image_limit =
+          length-bytes_of g.seen g.seen_sizes ∙ ap (λ n. 2352 * n) (sym g.count) ∙ full in
+          let limited : take image_limit (bytes_of g.seen ++ came) ≡ bytes_of g.seen =
+          take_at (bytes_of g.seen) came image_limit size in
+          Extends-begun g.seen whole fits.begins.0 g.seen_sizes
+          (fits.begins.1 ∙ ap (λ l. l ++ fits.begins.0) limited)
 
 -- what was read, in any state of a pass
 module _ {carry : Bool} {taken left : List Patch} {base : ℕ} {start now : Streams}

@@ -55,10 +55,11 @@ AreSized-more whole sector each size =
 -- after the patches whose first block is below the image's
 pub Going-start : {X E : Type 0} {x : X} (carry : Bool) (taken left : List Patch) (base : ℕ)
     (start : Streams) (log : Outgoing) → All (λ p. p.block < base) taken
+    → All (λ p. p.block + blocks_met p ≤ base + sector_limit) taken
     → All (λ p. base ≤ p.block) left
     → Sends {X = X} {E = E} start.log log (log_lines taken (missing_outcomes taken)) (Ok x)
     → PassInvariant carry taken left base start (record start { log = log }) [] base 0 0 None
-Going-start carry taken left base start log below ahead log_bytes = record {
+Going-start carry taken left base start log below reached ahead log_bytes = record {
   seen = [];
   done = [];
   outcomes = missing_outcomes taken;
@@ -81,6 +82,7 @@ Going-start carry taken left base start log below ahead log_bytes = record {
   counted = sym (applied_count-missing_outcomes taken);
   due = λ k d inside. let h = below k d inside in (omega arith, omega arith);
   ahead = ahead;
+  reached = λ unended. reached;
 }
 
 module _ (carry : Bool) (taken left : List Patch) (base : ℕ) (start now : Streams)
@@ -132,6 +134,7 @@ module _ (carry : Bool) (taken left : List Patch) (base : ℕ) (start now : Stre
     counted = g.counted;
     due = λ k d inside. let h = g.due k d inside in (h.0, omega (arith, h.1));
     ahead = g.ahead;
+    reached = g.reached;
   }
 
   -- less than a sector has come, and nothing is left
@@ -171,6 +174,7 @@ module _ (carry : Bool) (taken left : List Patch) (base : ℕ) (start now : Stre
     counted = g.counted;
     due = g.due;
     ahead = g.ahead;
+    reached = λ never. cc;
   }
 
 -- the first sector of the window has gone out, with no patch left that begins there
@@ -215,6 +219,7 @@ Going-send carry taken left base start now sector window block sectors applied t
       counted = g.counted;
       due = λ k d inside. let h = g.due k d inside in (omega (arith, h.0), h.1);
       ahead = λ k d inside. let h = ahead k d inside in omega arith;
+      reached = g.reached;
     }
 
 -- all that the patch meets is in the window, or nothing follows
@@ -286,8 +291,20 @@ module _ (carry : Bool) (taken : List Patch) (p : Patch) (left : List Patch) (ba
         (omega arith, omega (arith, g.front, g.held, g.count))
         (All-nil (λ q. (q.block ≤ block) × (q.block < base + sectors))));
     ahead = All-tail (λ q. block ≤ q.block) p left g.ahead;
+    reached = λ unended.
+        All-append (λ q. q.block + blocks_met q ≤ base + sector_limit) taken (p ∷ [])
+        (g.reached unended)
+        (All-cons (λ q. q.block + blocks_met q ≤ base + sector_limit) p []
+        (omega (arith, held_whole tail reach unended, g.front, g.held, g.count, g.within))
+        (All-nil (λ q. q.block + blocks_met q ≤ base + sector_limit)));
   }
     where
+      held_whole : (end : Option (List ℕ))
+          → (block + blocks_met p ≤ block + length window) ⊎ IsSome end → end ≡ None
+          → block + blocks_met p ≤ block + length window
+      held_whole end (inl within) unended = within
+      held_whole end (inr some) unended = cc
+
       same_length : length window' ≡ length window
       same_length = Effect-length carry block p window window' effect
 

@@ -10,14 +10,15 @@ use Rattle.std.proofs.lemmas.Bool.{cases_lt, cond-true, cond-false, lt-ltb, le-l
 use Rattle.std.proofs.lemmas.List.Elements.{All-head, All-tail}
 use Rattle.cd_script.specs.PatchForm.{Patch}
 use Rattle.cd_sector.specs.declared.sector.TheConstants.{SECTOR_SIZE}
+use Rattle.cd_patch.specs.Blocks.{blocks_met}
 use Rattle.cd_patch.specs.Outcome.{is_applied}
 use Rattle.cd_patch.specs.Sequence.{PatchSequence}
 use Rattle.cd_patch.specs.declared.outcome.Outcome.{Outcome}
 use Rattle.cd_patch.specs.declared.outcome.Outcome.TheVariants.{NoBlock}
 use Rattle.cd_patch.proofs.FrameLemmas.{Effect-missing, outcome-missing}
 use Rattle.cd_read.specs.Image.{sectors}
-use Rattle.cd_image.specs.Passing.{missing_outcomes}
-use Rattle.cd_image.specs.PatchLog.{applied_count, bytes_before, lines_below, log_line, log_lines, log_text, log_when_out_fails, outcome_line, outcome_text, refused_count, sent_when_log_fails}
+use Rattle.cd_image.specs.Passing.{WantsMore, missing_outcomes}
+use Rattle.cd_image.specs.PatchLog.{applied_count, bytes_before, front_within, lines_below, lines_within, log_line, log_lines, log_text, log_when_out_fails, outcome_line, outcome_text, refused_count, sent_when_log_fails}
 use Rattle.cd_read.proofs.general.Counts.{count_by-cons}
 
 pub log_lines-append : (ps qs : List Patch) (os us : List Outcome) → length os ≡ length ps
@@ -99,6 +100,82 @@ module _ (ps : List Patch) (os : List Outcome) (base count sent : ℕ) where
   log_when_out_fails-end all =
       cond-false _ _ _ (le-ltb sent (SECTOR_SIZE * (count / SECTOR_SIZE)) (omega arith))
       ∙ cond-false _ _ _ (le-ltb sent count (omega arith))
+
+-- ---- when the image goes on after its largest size
+
+module _ (end : ℕ) where
+  -- the patches that do not reach past the end lead
+  pub lines_within-cut : (ps qs : List Patch) (os us : List Outcome) → length os ≡ length ps
+      → All (λ p. p.block + blocks_met p ≤ end) ps → lines_within end qs us ≡ []
+      → lines_within end (ps ++ qs) (os ++ us) ≡ log_lines ps os
+  lines_within-cut [] qs [] us same within none = none
+  lines_within-cut [] qs (o ∷ os) us same within none = absurd (omega arith)
+  lines_within-cut (p ∷ ps) qs [] us same within none = absurd (omega arith)
+  lines_within-cut (p ∷ ps) qs (o ∷ os) us same within none =
+      cond-false _ _ _
+      (le-ltb end (p.block + blocks_met p) (All-head (λ q. q.block + blocks_met q ≤ end) p ps within))
+      ∙ ap (λ l. log_line p o ++ l)
+      (lines_within-cut ps qs os us (omega arith)
+      (All-tail (λ q. q.block + blocks_met q ≤ end) p ps within) none)
+
+  pub front_within-cut : (ps qs : List Patch) → All (λ p. p.block + blocks_met p ≤ end) ps
+      → front_within end (ps ++ qs) ≡ front_within end qs
+  front_within-cut [] qs within = refl
+  front_within-cut (p ∷ ps) qs within =
+      cond-false _ _ _
+      (le-ltb end (p.block + blocks_met p) (All-head (λ q. q.block + blocks_met q ≤ end) p ps within))
+      ∙ front_within-cut ps qs (All-tail (λ q. q.block + blocks_met q ≤ end) p ps within)
+
+  -- the first patch reaches past the end
+  lines_within-past : (p : Patch) (qs : List Patch) (us : List Outcome)
+      → end < p.block + blocks_met p → lines_within end (p ∷ qs) us ≡ []
+  lines_within-past p qs [] past = refl
+  lines_within-past p qs (u ∷ us) past = cond-true _ _ _ (lt-ltb end (p.block + blocks_met p) past)
+
+  front_within-past : (p : Patch) (qs : List Patch) (front : ℕ) → end < p.block + blocks_met p
+      → front ≤ end → (p.block ≡ front) ⊎ ((front ≡ end) × (end ≤ p.block))
+      → front_within end (p ∷ qs) ≡ front
+  front_within-past p qs front past low at =
+      cond-true _ _ _ (lt-ltb end (p.block + blocks_met p) past)
+      ∙ elim (cases_lt p.block end) [
+        | inl below ↦ cond-true _ _ _ (lt-ltb p.block end below) ∙ begins_at below at
+        | inr after ↦ cond-false _ _ _ (le-ltb p.block end after) ∙ ends_at after at
+      ]
+    where
+      begins_at : p.block < end → (p.block ≡ front) ⊎ ((front ≡ end) × (end ≤ p.block))
+          → p.block ≡ front
+      begins_at below (inl same) = same
+      begins_at below (inr other) = omega (arith, other.1, below)
+
+      ends_at : end ≤ p.block → (p.block ≡ front) ⊎ ((front ≡ end) × (end ≤ p.block))
+          → end ≡ front
+      ends_at after (inl same) = omega (arith, same, after, low)
+      ends_at after (inr other) = sym other.0
+
+  -- a sector is wanted after the last
+  pub lines_within-none : (left : List Patch) (us : List Outcome) (block count : ℕ)
+      → block + count ≡ end → WantsMore left block count → lines_within end left us ≡ []
+  lines_within-none [] us block count last wants = refl
+  lines_within-none (p ∷ ps) us block count last (WantsMore.none_held none ahead) =
+      lines_within-past p ps us
+      (omega (arith, last, none, All-head (λ q. block < q.block) p ps ahead))
+  lines_within-none (p ∷ ps) us block count last (WantsMore.patch_meets q others is at more) =
+      subst (λ left. lines_within end left us ≡ []) (sym is)
+      (lines_within-past q others us (omega (arith, last, at, more)))
+
+  pub front_within-front : (left : List Patch) (block count : ℕ) → block + count ≡ end
+      → WantsMore left block count → front_within end left ≡ block
+  front_within-front [] block count last (WantsMore.none_held none ahead) =
+      omega (arith, last, none)
+  front_within-front [] block count last (WantsMore.patch_meets q others is at more) = cc
+  front_within-front (p ∷ ps) block count last (WantsMore.none_held none ahead) =
+      let after = All-head (λ q. block < q.block) p ps ahead in
+      front_within-past p ps block (omega (arith, last, none, after)) (omega (arith, last))
+      (inr (omega (arith, last, none), omega (arith, last, none, after)))
+  front_within-front (p ∷ ps) block count last (WantsMore.patch_meets q others is at more) =
+      subst (λ left. front_within end left ≡ block) (sym is)
+      (front_within-past q others block (omega (arith, last, at, more)) (omega (arith, last))
+      (inl at))
 
 -- ---- when the log has failed
 

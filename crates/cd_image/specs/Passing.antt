@@ -1,10 +1,11 @@
 -- Plumbing of `apply` and `check`: how far a pass over an image has come that applies patches on
 -- its way.
-use Rattle.std.specs.Prelude.{◌≡◌, ℕ, ◌+◌, ◌-◌, ◌*◌, ◌<◌, ◌≤◌, Bool, true, List, [], ◌++◌, All}
+use Rattle.std.specs.Prelude.{◌≡◌, ℕ, ◌+◌, ◌-◌, ◌*◌, ◌<◌, ◌≤◌, Bool, true, List, [], ◌∷◌, ◌++◌, All}
 use Rattle.std.specs.Prelude.{length, take, drop, map, Option, None, Some, IsSome, Result, Ok, Err}
 use Rattle.std.specs.Io.KnownBytes.{IsAtEnd}
 use Rattle.cd_script.specs.PatchForm.{Patch}
 use Rattle.cd_sector.specs.declared.sector.TheConstants.{SECTOR_SIZE}
+use Rattle.cd_patch.specs.Blocks.{blocks_met}
 use Rattle.cd_patch.specs.Sequence.{PatchSequence}
 use Rattle.cd_patch.specs.declared.outcome.Outcome.{Outcome}
 use Rattle.cd_patch.specs.declared.outcome.Outcome.TheVariants.{NoBlock}
@@ -55,6 +56,8 @@ pub record PassInvariant (carry : Bool) (taken left : List Patch) (base : ℕ) (
   -- front block
   pub due : All (λ p. (p.block ≤ block) × (p.block < base + sectors)) taken
   pub ahead : All (λ p. block ≤ p.block) left
+  -- while more may come, all that the patches taken meet may be there
+  pub reached : tail ≡ None → All (λ p. p.block + blocks_met p ≤ base + sector_limit) taken
 
 -- the pass as `PassInvariant` says, with the values of a `Pass`
 abbrev pub HoldsInvariant : Bool → List Patch → List Patch → ℕ → Streams → Streams → Pass → Type 0
@@ -62,6 +65,13 @@ HoldsInvariant carry taken left base start now pass =
     PassInvariant carry taken left base start now pass.window.sectors pass.block pass.sectors
     pass.applied
     pass.window.tail
+
+-- why a sector is read with `count` of them in hand from a block on: there is none, and no patch left
+-- begins there; or the first patch left does, and meets more
+pub data WantsMore (left : List Patch) (block count : ℕ) : Type 0 where
+  none_held : count ≡ 0 → All (λ p. block < p.block) left → WantsMore left block count
+  patch_meets : (p : Patch) (others : List Patch) → left ≡ p ∷ others → p.block ≡ block
+      → count < blocks_met p → WantsMore left block count
 
 -- a step has gone well and the pass goes on, or the call ends by its fault
 abbrev pub Steps : {X : Type 0} → Bool → List Patch → List Patch → List Patch → List Patch → ℕ

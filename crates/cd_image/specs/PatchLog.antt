@@ -3,6 +3,7 @@ use Rattle.std.specs.Prelude.{ℕ, ◌+◌, ◌-◌, ◌*◌, ◌/◌, nat_lt, n
 use Rattle.std.specs.Prelude.{◌++◌, length, count_by, codes, decimal}
 use Rattle.cd_script.specs.PatchForm.{Patch}
 use Rattle.cd_sector.specs.declared.sector.TheConstants.{SECTOR_SIZE}
+use Rattle.cd_patch.specs.Blocks.{blocks_met}
 use Rattle.cd_patch.specs.Outcome.{is_applied}
 use Rattle.cd_patch.specs.declared.outcome.Outcome.{Outcome}
 use Rattle.cd_patch.specs.declared.outcome.Outcome.TheVariants.{Applied, Damaged, Differs, NoBlock}
@@ -97,3 +98,19 @@ sent_when_log_fails (p ∷ ps) [] base image logged = length image
 sent_when_log_fails (p ∷ ps) (o ∷ os) base image logged =
     if nat_lt logged (length (log_line p o)) then bytes_before image base p.block
     else sent_when_log_fails ps os base image (logged - length (log_line p o))
+
+-- ---- how far both have come when the image goes on after its largest size
+
+-- the lines of the patches before the first that meets a block from `end` on
+abbrev pub lines_within : ℕ → List Patch → List Outcome → List ℕ
+lines_within end [] os = []
+lines_within end (p ∷ ps) [] = []
+lines_within end (p ∷ ps) (o ∷ os) =
+    if nat_lt end (p.block + blocks_met p) then [] else log_line p o ++ lines_within end ps os
+
+-- the block of that patch, or `end` if it does not begin below it or if there is none
+abbrev pub front_within : ℕ → List Patch → ℕ
+front_within end [] = end
+front_within end (p ∷ ps) =
+    if nat_lt end (p.block + blocks_met p) then (if nat_lt p.block end then p.block else end)
+    else front_within end ps

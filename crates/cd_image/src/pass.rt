@@ -11,7 +11,7 @@ ghost use Rattle.cd_patch.specs.Blocks.{block_limit, blocks_met};
 ghost use Rattle.cd_stream.specs.Stream.{CanCountFailure, Incoming, Outgoing};
 ghost use Rattle.cd_stream.specs.Transfer.{Flushes};
 ghost use Rattle.cd_image.specs.Applying.{Applies, Streams, streams};
-ghost use Rattle.cd_image.specs.Passing.{HoldsInvariant, IsEnded, Steps, Advances, left_to_do};
+ghost use Rattle.cd_image.specs.Passing.{Advances, HoldsInvariant, IsEnded, Steps, WantsMore, left_to_do};
 ghost use Rattle.cd_read.specs.Image.{sector_limit};
 
 use crate::patch_log::{Tally, finish_log, send_counts, send_missing, send_outcome};
@@ -65,6 +65,7 @@ impl Pass {
         requires unended { self.old.window.tail ≡ None }
         ensures goes { (carry : Bool) (taken left : List ThePatch) (base : ℕ) (start : Streams)
             (out log : Outgoing)
+            → WantsMore left self.old.block (length self.old.window.sectors)
             → HoldsInvariant carry taken left base start (streams (I.seen image.old) out log)
             self.old
             → Steps carry taken left taken left base start

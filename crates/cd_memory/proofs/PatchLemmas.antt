@@ -160,6 +160,9 @@ module _ (settings : Settings) {before : Environment} {image name : List ℕ} (a
         begins = a.answers.begins (take image_limit files.bytes)
             (fits-beyond a.read read (omega (arith, beyond)));
         why = WhyPatchingStopped.too_long (omega (arith, size, beyond, length-append a.read rest)) beyond
+            (a.answers.between_sinks (take image_limit files.bytes)
+            (fits-beyond a.read read (omega (arith, beyond))))
+            a.answers.sent_before
             (line-after (fault_line TooLong) a.log_bytes a.logs a.answers.failed.logs
             (ends.0.1 (λ is. cc)));
         status = ends.1;

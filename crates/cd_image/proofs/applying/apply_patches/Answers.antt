@@ -22,7 +22,7 @@ loop-more-init g c =
           (streams (g.I.Source.seen c.args.image.now) (g.O.Sink.seen c.args.out.now)
           (g.L.Sink.seen c.args.log.now)) (g.L.Sink.seen c.send_missing.new.log)
           c.count_below-below.result c.new-pass.result new.empty new.block new.sectors new.decided
-          new.applied new.unended
+          new.applied new.unended c.requires.patches.each
           c.count_below-below.ensures.below c.count_below-below.ensures.others
           c.in_ok-send_missing.ensures;
       known = omega (arith, new.decided, c.count_below-below.ensures.within);

@@ -2,7 +2,7 @@ use Rattle.std.proofs.Common.{suc, take, drop, length, arith, rules}
 use Rattle.std.proofs.lemmas.Option.{slice_get_within}
 use Rattle.std.proofs.lemmas.Result.{err_from_is_err_and}
 use Rattle.cd_image.specs.Applying.{streams}
-use Rattle.cd_image.proofs.AdvanceLemmas.{before_next, fault_same, fault_taken, goes_same, goes_taken, is_patch, strictly_ahead}
+use Rattle.cd_image.proofs.AdvanceLemmas.{before_next, fault_same, fault_taken, goes_same, goes_taken, is_patch, strictly_ahead, wants_more}
 use Rattle.cd_image.proofs.pass.Pass.advance.Goals as goal
 
 pub returns-in_err-read_next-clause-goes : goal.returns-in_err-read_next-clause-goes
@@ -16,7 +16,27 @@ returns-in_err-read_next-clause-goes g c =
     (λ base start going.
     fault_same c.args.carry ps d base start
     (streams (g.I.Source.seen c.read_next.new.image) out log) _
-    (c.in_err-read_next.ensures.goes c.args.carry (take d ps) (drop d ps) base start out log going))
+    (c.in_err-read_next.ensures.goes c.args.carry (take d ps) (drop d ps) base start out log
+    (wants_more (λ r. r.now) ps d c.args.self.now.block (length c.args.self.now.window.sectors)
+    c.sectors_wanted.result c.patch_at_front-patch.result c.requires.patches.rising going.ahead
+    c.patch_at_front-patch.ensures.some c.patch_at_front-patch.ensures.none
+    c.sectors_wanted.ensures.some c.sectors_wanted.ensures.none
+    (omega (arith, c.len.ensures, c.if-len-sectors_wanted.true))) going))
+
+pub returns-in_ok-read_next-clause-goes : goal.returns-in_ok-read_next-clause-goes
+returns-in_ok-read_next-clause-goes g c = λ base start going.
+    let ps = c.args.patches.now in
+    let d = c.args.self.now.decided in
+    let out = g.O.Sink.seen c.args.out.now in
+    let log = g.L.Sink.seen c.args.log.now in
+    goes_same c.args.carry ps d base start (streams (g.I.Source.seen c.read_next.new.image) out log)
+    c.read_next.new.self c.in_ok-read_next.ensures.decided
+    (c.in_ok-read_next.ensures.goes c.args.carry (take d ps) (drop d ps) base start out log
+    (wants_more (λ r. r.now) ps d c.args.self.now.block (length c.args.self.now.window.sectors)
+    c.sectors_wanted.result c.patch_at_front-patch.result c.requires.patches.rising going.ahead
+    c.patch_at_front-patch.ensures.some c.patch_at_front-patch.ensures.none
+    c.sectors_wanted.ensures.some c.sectors_wanted.ensures.none
+    (omega (arith, c.len.ensures, c.if-len-sectors_wanted.true))) going)
 
 pub apply_front-requires-clause-patch : goal.apply_front-requires-clause-patch
 apply_front-requires-clause-patch g c =

@@ -9,10 +9,10 @@ pub returns-in_err-read_next-clause-goes : goal.returns-in_err-read_next-clause-
 returns-in_err-read_next-clause-goes g c =
     let failed = err_from_is_err_and c.from_residual.result c.from_residual.ensures.1 in
     rw (failed.1, failed.2)
-    (λ carry taken left base start out log going.
+    (λ carry taken left base start out log wants going.
     Steps-unread carry taken left base start (streams (g.I.Source.seen c.args.image.now) out log)
     c.args.self.now (g.I.Source.seen c.read_next.new.image) c.requires.unended c.requires.room going
-    c.in_err-read_next.ensures.0 _ c.in_err-read_next.ensures.1)
+    wants c.in_err-read_next.ensures.0 _ c.in_err-read_next.ensures.1)
 
 pub returns-then-branch-clause-goes : goal.returns-then-branch-clause-goes
 returns-then-branch-clause-goes g c = grind (arith, common_steps)
