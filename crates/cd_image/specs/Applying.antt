@@ -1,6 +1,6 @@
 -- What `apply` and `check` have done, whatever they answer. Their plain clauses, at the end of this
 -- file, follow from `Applies`.
-use Rattle.std.specs.Prelude.{◌≡◌, ◌↔◌, ℕ, ◌+◌, ◌-◌, ◌*◌, ◌<◌, ◌≤◌, Bool, true, false, List, [], ◌++◌}
+use Rattle.std.specs.Prelude.{◌≡◌, ◌↔◌, ℕ, ◌+◌, ◌*◌, ◌<◌, ◌≤◌, Bool, true, false, List, [], ◌++◌}
 use Rattle.std.specs.Prelude.{length, Option, None, Some, Result, Ok, Err}
 use Rattle.std.specs.Io.KnownBytes.{Appends, Consumes, IsAtEnd}
 use Rattle.cd_code.specs.Field.{AreBytes}
@@ -8,9 +8,9 @@ use Rattle.cd_script.specs.PatchForm.{Patch}
 use Rattle.cd_sector.specs.declared.sector.TheConstants.{SECTOR_SIZE}
 use Rattle.cd_patch.specs.Blocks.{block_limit}
 use Rattle.cd_patch.specs.declared.outcome.Outcome.{Outcome}
-use Rattle.cd_read.specs.Image.{image_limit, sector_limit}
-use Rattle.cd_image.specs.PatchLog.{front_within, lines_within, log_text, log_when_out_fails, patch_tally}
-use Rattle.cd_image.specs.PatchLog.{sent_when_log_fails}
+use Rattle.cd_read.specs.Image.{image_limit}
+use Rattle.cd_image.specs.PatchLog.{log_text, log_when_out_fails, log_when_too_long, patch_tally}
+use Rattle.cd_image.specs.PatchLog.{sent_when_log_fails, sent_when_too_long}
 use Rattle.cd_image.specs.Patched.{CarriesDamage, EachPatching, IsPatched}
 use Rattle.cd_stream.specs.Stream.{Incoming, IsBeginning, Outgoing}
 use Rattle.cd_read.specs.Ends.{MayBeImage, MayBeImageAtEnd}
@@ -136,9 +136,8 @@ pub record StopsBeyond (carry : Bool) (patches : List Patch) (base : ℕ)
       → EachPatching carry patches base whole (Begins patches sent log_bytes)
   pub between_sinks : (whole : List ℕ) → MayBeImage read whole
       → EachPatching carry patches base whole
-      (λ outcomes last. log_bytes ≡ lines_within (base + sector_limit) patches outcomes)
-  pub sent_before : length sent
-      ≡ SECTOR_SIZE * (front_within (base + sector_limit) patches - base)
+      (λ outcomes last. log_bytes ≡ log_when_too_long patches outcomes base)
+  pub sent_before : length sent ≡ sent_when_too_long patches base
 
 -- what was read, sent and logged, by the answer: the whole patching, or what each fault leaves
 abbrev pub AppliesBy : Bool → List Patch → ℕ → List ℕ → List ℕ → List ℕ → Streams → Streams

@@ -8,7 +8,7 @@ use Rattle.cd_patch.specs.Outcome.{is_applied}
 use Rattle.cd_patch.specs.declared.outcome.Outcome.{Outcome}
 use Rattle.cd_patch.specs.declared.outcome.Outcome.TheVariants.{Applied, Damaged, Differs, NoBlock}
 use Rattle.cd_patch.specs.declared.outcome.Outcome.TheVariants.{NotMode1}
-use Rattle.cd_read.specs.Image.{sectors, tail}
+use Rattle.cd_read.specs.Image.{sector_limit, sectors, tail}
 use Rattle.cd_image.specs.declared.patch_log.Tally.{Tally}
 
 -- what a line says of an outcome
@@ -114,3 +114,11 @@ front_within end [] = end
 front_within end (p ∷ ps) =
     if nat_lt end (p.block + blocks_met p) then (if nat_lt p.block end then p.block else end)
     else front_within end ps
+
+-- the log then, of an image from block `base` on
+abbrev pub log_when_too_long : List Patch → List Outcome → ℕ → List ℕ
+log_when_too_long ps os base = lines_within (base + sector_limit) ps os
+
+-- how many bytes have gone to the output then
+abbrev pub sent_when_too_long : List Patch → ℕ → ℕ
+sent_when_too_long ps base = SECTOR_SIZE * (front_within (base + sector_limit) ps - base)

@@ -1,5 +1,5 @@
 -- What the program does over files in memory: its status, its text, and the file that it makes.
-use Rattle.std.specs.Prelude.{◌≡◌, ◌≢◌, ℕ, ◌+◌, ◌-◌, ◌*◌, ◌<◌, ◌≤◌, ◌⊎◌, Bool, true, false, List, [], ◌∷◌, ◌++◌, length, take}
+use Rattle.std.specs.Prelude.{◌≡◌, ◌≢◌, ℕ, ◌+◌, ◌<◌, ◌≤◌, ◌⊎◌, Bool, true, false, List, [], ◌∷◌, ◌++◌, length, take}
 use Rattle.std.specs.Prelude.{codes, if◌then◌else◌, Option, None, Some, Result, Ok, Err, string_bytes}
 use Rattle.std.specs.Str.{bytes_eq}
 use Rattle.cd_args.specs.CommandLine.{IsAccepted, IsJobOf}
@@ -14,9 +14,8 @@ use Rattle.cd_script.specs.Script.{script}
 use Rattle.cd_script.specs.declared.fault.ScriptFault.{ScriptFault}
 use Rattle.cd_script.specs.declared.fault.ScriptFault.TheVariants as script_fault
 use Rattle.cd_script.specs.PatchForm.{Patch}
-use Rattle.cd_sector.specs.declared.sector.TheConstants.{SECTOR_SIZE}
 use Rattle.cd_patch.specs.declared.outcome.Outcome.{Outcome}
-use Rattle.cd_read.specs.Image.{image_limit, sector_limit}
+use Rattle.cd_read.specs.Image.{image_limit}
 use Rattle.cd_read.specs.declared.fault.Fault.TheVariants.{TooLong, Write}
 use Rattle.cd_stream.specs.Stream.{IsBeginning}
 use Rattle.cd_report.specs.AuditText.{audit_report}
@@ -24,8 +23,8 @@ use Rattle.cd_report.specs.Lines.{text_of}
 use Rattle.cd_report.specs.ListText.{list_report}
 use Rattle.cd_report.specs.Report.{ReportSpec}
 use Rattle.cd_image.specs.Applying.{Begins, bytes_in_hand}
-use Rattle.cd_image.specs.PatchLog.{front_within, lines_within, log_text, log_when_out_fails, patch_tally}
-use Rattle.cd_image.specs.PatchLog.{sent_when_log_fails}
+use Rattle.cd_image.specs.PatchLog.{log_text, log_when_out_fails, log_when_too_long, patch_tally}
+use Rattle.cd_image.specs.PatchLog.{sent_when_log_fails, sent_when_too_long}
 use Rattle.cd_image.specs.Patched.{EachPatching, IsPatched}
 use Rattle.cd_program.specs.Messages.{fault_line, load_fault_line, no_image, no_output, no_script, script_fault_line}
 use Rattle.cd_program.specs.Commands.{audit_status, script_status}
@@ -159,10 +158,8 @@ module _ (settings : Settings) {before : Environment} {image script_name : List 
   pub data WhyPatchingStopped (read sent printed_before : List ℕ) : Type 0 where
     too_long : image_limit < length files.bytes → length read ≡ image_limit + 1
         → EachPatching settings.carry files.patches settings.base (take image_limit files.bytes)
-        (λ outcomes last. printed_before
-        ≡ lines_within (settings.base + sector_limit) files.patches outcomes)
-        → length sent
-        ≡ SECTOR_SIZE * (front_within (settings.base + sector_limit) files.patches - settings.base)
+        (λ outcomes last. printed_before ≡ log_when_too_long files.patches outcomes settings.base)
+        → length sent ≡ sent_when_too_long files.patches settings.base
         → Prints after printed_before (fault_line TooLong)
         → WhyPatchingStopped read sent printed_before
     no_room : after.made ≢ [] → length read ≤ image_limit → length sent < length read
