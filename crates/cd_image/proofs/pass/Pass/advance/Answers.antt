@@ -21,7 +21,7 @@ returns-in_err-read_next-clause-goes g c =
     c.sectors_wanted.result c.patch_at_front-patch.result c.requires.patches.rising going.ahead
     c.patch_at_front-patch.ensures.some c.patch_at_front-patch.ensures.none
     c.sectors_wanted.ensures.some c.sectors_wanted.ensures.none
-    (omega (arith, c.len.ensures, c.if-len-sectors_wanted.true))) going))
+    (search rules)) going))
 
 pub returns-in_ok-read_next-clause-goes : goal.returns-in_ok-read_next-clause-goes
 returns-in_ok-read_next-clause-goes g c = λ base start going.
@@ -36,7 +36,7 @@ returns-in_ok-read_next-clause-goes g c = λ base start going.
     c.sectors_wanted.result c.patch_at_front-patch.result c.requires.patches.rising going.ahead
     c.patch_at_front-patch.ensures.some c.patch_at_front-patch.ensures.none
     c.sectors_wanted.ensures.some c.sectors_wanted.ensures.none
-    (omega (arith, c.len.ensures, c.if-len-sectors_wanted.true))) going)
+    (search rules)) going)
 
 pub apply_front-requires-clause-patch : goal.apply_front-requires-clause-patch
 apply_front-requires-clause-patch g c =
