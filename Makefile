@@ -19,6 +19,7 @@ all: cdpatch
 # The WebAssembly modules, if they can be made.
 MODULES = $(if $(shell command -v wasm-opt),wasm)
 
+README = tools/README.tarball.md
 include install.mk
 
 # tools/prove.sh knows how the toolchain works inside, and is faster. rt by itself proves and builds the same.
