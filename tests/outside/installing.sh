@@ -83,7 +83,7 @@ installed_elsewhere() {
     judge 'no library that was built, nothing installed' test $? != 0 -a ! -e none
 }
 
-if ! missing make make; then
+if ! missing make make 'make install'; then
     enter installing
     # INSTALL is installed without the parts for the sources.
     sed '/^<!-- sources/,/^<!-- end/d' "$top/docs/INSTALL.md" > INSTALL.md

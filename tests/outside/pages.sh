@@ -30,7 +30,7 @@ elsewhere=$(cd "$top" && grep -nE '(\bgate\b|`make|    make).*\b(minutes?|hours?
 judge "and no other page does: $elsewhere" test -z "$elsewhere"
 
 # What repeats the sources is made of them. A page of other sources is found.
-if ! missing python3 python3; then
+if ! missing python3 python3 'what pages repeat of the sources'; then
     python3 -B "$top/tools/pages.py" --check > said
     judge "the pages are as tools/pages.py makes them: $(cat said)" test $? = 0 -a ! -s said
     mkdir other
@@ -78,7 +78,7 @@ done 3< <(sed -nE 's/^<text .*(cd_[a-z]+): ([A-Za-z]+_?[a-z]*)<.*/\1 \2/p' "$top
 sed -n '/^| Functions | Trusted for/,/^$/s/^| \(`.*`\) | .*/\1/p' "$top/docs/TRUST.md" | grep -o '`[a-z_0-9]*`' | tr -d '`' | sort > in_trust
 judge 'as many as docs/TRUST.md says' grep -q "\`reached\`: $(wc -l < in_trust) in " "$top/docs/TRUST.md"
 judge 'as many as the README says' eval "tr '\n' ' ' < '$top/README.md' | grep -q 'contracts of $(wc -l < in_trust) C functions'"
-if ! missing nm binutils; then
+if ! missing nm binutils 'what the program is linked to'; then
     nm -D --undefined-only "$program" | sed -e 's/.* //' -e 's/@.*//' | sort > linked
     sed -n '/^| Names | What for/,/^$/s/^| \(`[^|]*`\) | .*/\1/p' "$top/docs/TRUST.md" | grep -o '`[A-Za-z_0-9]*`' | tr -d '`' > known
     cat in_trust >> known
