@@ -1,8 +1,9 @@
 # `make` proves and builds the program and libcdpatch and leaves them as ./cdpatch and in ./library, with `CPU=x86-64-v3` for that
 # processor, and with `SIMPLE=1` by the toolchain's own means; if wasm-opt is there it makes the WebAssembly modules too, as `make
-# wasm` does by itself, and of them ./cdscript and ./cdpatch.html, as `make web` does; `make check` runs all tests of what it left and of the pages, and
-# skips what wants a command that is not there, which `WHOLE=1` makes a failure; `make quick` is both; `make test` runs the merge
-# gate; `make bench` builds what measures speed, in bench/; `make install` and `make uninstall` are those of install.mk.
+# wasm` does by itself, and of them ./cdscript and ./cdpatch.html, as `make web` does. It says at its end what it made. `make check`
+# runs all tests of what it left and of the pages, and skips what wants a command that is not there, which `WHOLE=1` makes a
+# failure; `make quick` is both; `make test` runs the merge gate; `make bench` builds what measures speed, in bench/; `make install`
+# and `make uninstall` are those of install.mk.
 .PHONY: all check quick test test-outside bench wasm web clean
 
 # Goals come one after the other, as they are given. Crates are proved side by side, at most as many as `make -j N` says.
@@ -19,6 +20,7 @@ all: cdpatch
 # The WebAssembly modules, if they can be made.
 MODULES = $(if $(shell command -v wasm-opt),wasm)
 
+README = tools/README.tarball.md
 include install.mk
 
 # tools/prove.sh knows how the toolchain works inside, and is faster. rt by itself proves and builds the same.
@@ -36,13 +38,13 @@ else
 endif
 	cp crates/cdpatch/out/cdpatch cdpatch
 	bash tools/library.sh library
-	@if [ -n '$(MODULES)' ]; then bash tools/web.sh library .; else \
-	    echo 'library/cdpatch.wasm, cdscript and cdpatch.html were not made: they want wasm-opt (Debian package binaryen)'; fi
+	@$(if $(MODULES),bash tools/web.sh library .)
+	@bash tools/made.sh $(MODULES)
 
 FORCE:
 
 wasm:
-	@[ -n '$(MODULES)' ] || { echo 'library/cdpatch.wasm wants wasm-opt (Debian package binaryen).' >&2; exit 1; }
+	@[ -n '$(MODULES)' ] || { echo "library/cdpatch.wasm wants wasm-opt (Debian's package binaryen)." >&2; exit 1; }
 	@bash tools/prove.sh wasm '$(AT_ONCE)'
 
 web: wasm

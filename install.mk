@@ -7,6 +7,8 @@ PROGRAM = cdpatch
 LIBRARY = library
 # The directory of cdscript and cdpatch.html.
 JOINED = .
+# The README of what is installed; that of the sources is for those who build.
+README ?= README.md
 VERSION = $(shell sed -n 's/^\#\# \([0-9.]*\) .*/\1/p' CHANGELOG.md | head -n 1)
 
 PREFIX = /usr/local
@@ -66,9 +68,9 @@ install:
 	for file in $(PYTHON); do $(INSTALL_DATA) python/$$file '$(DESTDIR)$(pythondir)'/$$file || exit; done
 	$(INSTALL_DATA) '$(LIBRARY)/NOTICES' '$(DESTDIR)$(docdir)/NOTICES'
 	for page in $(PAGES); do $(INSTALL_DATA) $$page '$(DESTDIR)$(docdir)'/$$page || exit; done
-	for page in README.md docs/INSTALL.md; do \
-	    sed '/^<!-- sources -->$$/,/^<!-- end of sources -->$$/d' $$page > '$(DESTDIR)$(docdir)'/$$page && \
-	    chmod 644 '$(DESTDIR)$(docdir)'/$$page || exit; done
+	$(INSTALL_DATA) '$(README)' '$(DESTDIR)$(docdir)/README.md'
+	sed '/^<!-- sources -->$$/,/^<!-- end of sources -->$$/d' docs/INSTALL.md > '$(DESTDIR)$(docdir)/docs/INSTALL.md'
+	chmod 644 '$(DESTDIR)$(docdir)/docs/INSTALL.md'
 
 install-joined:
 	$(INSTALL_PROGRAM) '$(JOINED)/cdscript' '$(DESTDIR)$(bindir)/cdscript'

@@ -14,12 +14,9 @@ tested() {
 
 # The tests of the core as it is, each by its name.
 test_core() {
-    local line
     judge 'the answers of worked and random cases' python3 -B "$tests/core/answers.py" "$ANSWERS"
     judge 'all tests of the core' tested "$top/web/core" --test "$tests"/core/*.test.mjs
-    while IFS= read -r line; do
-        judge "the core: ${line#* - }" [ "${line%%ok *}" = '' ]
-    done < <(sed -nE 's/^ *((not )?ok [0-9]+ - )/\1/p' tap)
+    judge_tap 'the core'
     [ "$failed" = 0 ] || grep -E -A 12 '^ *not ok' tap | head -n 60
 }
 

@@ -16,6 +16,22 @@ compiled() {
     [ -e "$1.so" ]
 }
 
+# judge_tap NAME: judges each test of which node wrote a line to `tap`, and says how many were skipped, and for want of what.
+judge_tap() {
+    local line count lacking
+    while IFS= read -r line; do
+        judge "$1: ${line#* - }" [ "${line%%ok *}" = '' ]
+    done < <(grep -v ' # SKIP no ' tap | sed -nE 's/^ *((not )?ok [0-9]+ - )/\1/p')
+    while read -r count lacking; do
+        case $lacking in
+            iconv) lacking+=" (Debian's package libc-bin)" ;;
+            terminal) lacking+=" (Debian's package bsdutils)" ;;
+            genisoimage | python3) lacking+=" (Debian's package $lacking)" ;;
+        esac
+        skip "$1: $count of its tests, which want $lacking"
+    done < <(sed -nE 's/^ *ok .* # SKIP no (.*)/\1/p' tap | sort | uniq -c)
+}
+
 # run WORD..: the program with these words, its text in `log`.
 run() {
     "$program" "$@" > log 2> errors < /dev/null

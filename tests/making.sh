@@ -10,7 +10,7 @@ cd "$scratch" || exit 1
 # and of whose toolchain tools/toolchain.sh says that its logic is another.
 mkdir -p crates/cdpatch crates/cd_c crates/cd_c_images tools tests bin
 cp "$top/Makefile" "$top/install.mk" .
-cp "$top/tools/library_crates.sh" tools
+cp "$top/tools/library_crates.sh" "$top/tools/made.sh" tools
 printf '%s\n' cdpatch: 'cd_c staticlib: cd_code' 'cd_c_images staticlib: cd_image' > crates.txt
 cat > bin/rt << 'EOF_RT'
 #!/usr/bin/env bash
@@ -49,6 +49,9 @@ makes() {
     status=$?
 }
 
+# ended LINE..: whether the last run ended with these lines.
+ended() { tail -n $# log | cmp -s - <(printf '%s\n' "$@"); }
+
 # called LINE..: whether the last run called just this.
 called() { cmp -s called <(printf '%s\n' "$@"); }
 
@@ -75,6 +78,7 @@ if ! missing make make 'what the Makefile does'; then
     BROKEN=1 makes SIMPLE=1
     judge 'what rt refuses fails' test "$status" = 2
     judge 'and leaves no program' test ! -e cdpatch
+    judge 'of which nothing is said to be made' eval '! grep -q "^made:" log'
     makes check
     judge 'no program is not tested' test "$status" = 2 -a ! -s called
     judge 'and that is said' grep -q 'There is no cdpatch to test: run make first' log
@@ -86,14 +90,19 @@ if ! missing make make 'what the Makefile does'; then
     judge 'an empty SIMPLE is none' called 'prove.sh: cdpatch cd_c cd_c_images  ' 'library.sh: library'
     makes -j 3 CPU=x86-64-v3
     judge 'it gets the number and the processor' called 'prove.sh: cdpatch cd_c cd_c_images 3 x86-64-v3' 'library.sh: library'
-    judge 'the modules that were not made are named, with the package' grep -q 'cdpatch.wasm, cdscript and cdpatch.html were not made.*package binaryen' log
+    judge 'its end says what was made, what was not, with the package, and what to try' ended \
+        'made: cdpatch library/libcdpatch.a library/libcdpatch.so.1' \
+        "not made: library/cdpatch.wasm cdscript cdpatch.html, which want wasm-opt (Debian's package binaryen)" \
+        'try:  ./cdpatch audit crates/cd_vectors/data/cdrkit-8.bin' 'then: make check, sudo make install'
     makes wasm
     judge 'make wasm without wasm-opt' test "$status" = 2 -a ! -s called
     judge 'names the package too' grep -q 'package binaryen' log
     MODULES=wasm makes
     judge 'the modules are one more goal' called 'prove.sh: cdpatch cd_c cd_c_images wasm  ' 'library.sh: library' \
         'web.sh: library .'
-    judge 'of which nothing is said then' eval '! grep -q binaryen log'
+    judge 'which are then made too' ended \
+        'made: cdpatch library/libcdpatch.a library/libcdpatch.so.1 library/cdpatch.wasm cdscript cdpatch.html' \
+        'try:  ./cdpatch audit crates/cd_vectors/data/cdrkit-8.bin' '      or open cdpatch.html in a browser' 'then: make check, sudo make install'
     MODULES=wasm makes SIMPLE=1
     judge 'with SIMPLE they come after the libraries' called 'rt in cdpatch: run' "${libraries[@]:0:4}" 'wasm.sh: library' \
         'library.sh: library' 'web.sh: library .'

@@ -1,7 +1,8 @@
 #!/usr/bin/env bash
 # `tools/dist.sh PROGRAM LIBRARY JOINED DIRECTORY` makes the tarball of a release in DIRECTORY: the program, the library with its header,
 # the notices of the crates in them, cdscript and cdpatch.html if they are in JOINED, the Python package, the man pages, the
-# completions, the pages for users, the examples, and a Makefile that only installs them. The pages lack what only works in the sources.
+# completions, the pages for users, the examples, and a Makefile that only installs them. The README is README.tarball.md, and INSTALL
+# lacks what only works in the sources.
 # The bytes follow from those of these files only. Beside the tarball stand the command as cdscript.js, which node takes on any system,
 # and the page; and the checksum of each.
 set -euo pipefail
@@ -19,9 +20,8 @@ cp "$program" "$scratch/$name/cdpatch"
 { printf '%s\n' 'all:' "	@echo 'Everything is built: make install installs it.'" ''; cat install.mk; } > "$scratch/$name/Makefile"
 cp CHANGELOG.md "$scratch/$name"
 cp docs/{SCRIPTS,TRANSLATE,REPAIR,TRUST}.md docs/{parts,sector,apply}.svg docs/page.png "$scratch/$name/docs"
-for page in README.md docs/INSTALL.md; do
-    sed '/^<!-- sources -->$/,/^<!-- end of sources -->$/d' "$page" > "$scratch/$name/$page"
-done
+cp tools/README.tarball.md "$scratch/$name/README.md"
+sed '/^<!-- sources -->$/,/^<!-- end of sources -->$/d' docs/INSTALL.md > "$scratch/$name/docs/INSTALL.md"
 cp examples/{audit.c,patch_pipe.c,damaged.rs} "$scratch/$name/examples"
 cp python/pyproject.toml python/backend.py "$scratch/$name/python"
 cp python/cdpatch/*.py python/cdpatch/py.typed "$scratch/$name/python/cdpatch"

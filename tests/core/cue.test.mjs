@@ -1,3 +1,4 @@
+// Cue sheets: their tracks, and what is refused.
 import assert from 'node:assert';
 import { test } from 'node:test';
 import { core } from './common.mjs';

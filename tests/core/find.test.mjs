@@ -1,3 +1,4 @@
+// Search over user data: hits over borders, against a naive search.
 import assert from 'node:assert';
 import { test } from 'node:test';
 import { core, diceOf } from './common.mjs';

@@ -1,3 +1,4 @@
+// What a file is, and the base of an image.
 import assert from 'node:assert';
 import { test } from 'node:test';
 import { calls, core, diceOf, readerOf } from './common.mjs';

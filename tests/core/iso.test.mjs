@@ -1,3 +1,4 @@
+// The files of an ISO 9660 volume, with the names of Rock Ridge and Joliet.
 import assert from 'node:assert';
 import { test } from 'node:test';
 import { core, readerOf } from './common.mjs';

@@ -1,3 +1,4 @@
+// Texts as bytes and back, in each encoding and by tables of characters.
 import assert from 'node:assert';
 import { spawnSync } from 'node:child_process';
 import { test } from 'node:test';

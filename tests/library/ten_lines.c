@@ -1,3 +1,4 @@
+/* The smallest client: the EDC of an empty block 16. */
 #include <cdpatch.h>
 #include <stdio.h>
 

@@ -38,6 +38,10 @@ enter() {
 # The shell and the awk of the examples: the plainest that are there.
 mkdir "$scratch/plain"
 ln -s "$(command -v mawk || command -v awk)" "$scratch/plain/awk"
-missing mawk mawk
+missing mawk mawk 'the examples by mawk'
 plain="sh"
-missing dash dash || plain="dash"
+missing dash dash 'the examples in dash' || plain="dash"
+
+# The crates that are libraries of the repository's own, and the files of code of a crate, without tests.
+library_crates=(cd_code cd_sector cd_delta cd_script cd_patch cd_stream cd_read cd_report cd_image cd_args cd_program cd_memory cd_rooms)
+sources() { find "$top/crates/$1/src" -name '*.rt' ! -path '*/tests/*' ! -name tests.rt; }

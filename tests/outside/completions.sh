@@ -97,7 +97,7 @@ offers '-dash' list image '>' -d
 rm ./-dash
 judge 'bash knows the completion' test "$(complete -p cdpatch)" = 'complete -F _cdpatch cdpatch'
 
-if ! missing fish fish; then
+if ! missing fish fish 'the completion for fish'; then
     shell=fish
     offered() {
         fish --no-config -c 'source $argv[1]; complete -C (string join " " -- cdpatch (string escape -- $argv[2..-2]) $argv[-1])' \

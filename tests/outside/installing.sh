@@ -31,7 +31,8 @@ $(cd "$top/python" && for file in {backend.py,pyproject.toml} cdpatch/{*.py,py.t
 ./usr/share/doc/cdpatch/NOTICES $library/NOTICES
 $(for page in CHANGELOG.md docs/{REPAIR,SCRIPTS,TRANSLATE,TRUST}.md docs/{apply,parts,sector}.svg docs/page.png \
     examples/{audit.c,damaged.rs,patch_pipe.c}; do echo "./usr/share/doc/cdpatch/$page $top/$page"; done)
-$(for page in README.md docs/INSTALL.md; do echo "./usr/share/doc/cdpatch/$page $PWD/$page"; done)
+./usr/share/doc/cdpatch/README.md $top/tools/README.tarball.md
+./usr/share/doc/cdpatch/docs/INSTALL.md $PWD/INSTALL.md
 ./usr/share/fish/vendor_completions.d/cdpatch.fish $top/completions/cdpatch.fish
 ./usr/share/man/man1/cdpatch.1 $top/man/cdpatch.1
 ./usr/share/man/man3/libcdpatch.3 $top/man/libcdpatch.3
@@ -82,12 +83,11 @@ installed_elsewhere() {
     judge 'no library that was built, nothing installed' test $? != 0 -a ! -e none
 }
 
-if ! missing make make; then
+if ! missing make make 'make install'; then
     enter installing
-    mkdir docs
-    # These pages are installed without the parts for the sources.
-    for page in README.md docs/INSTALL.md; do sed '/^<!-- sources/,/^<!-- end/d' "$top/$page" > "$page"; done
-    judge 'the README has parts for the sources only' test "$(wc -l < README.md)" -lt "$(wc -l < "$top/README.md")"
+    # INSTALL is installed without the parts for the sources.
+    sed '/^<!-- sources/,/^<!-- end/d' "$top/docs/INSTALL.md" > INSTALL.md
+    judge 'INSTALL has parts for the sources only' test "$(wc -l < INSTALL.md)" -lt "$(wc -l < "$top/docs/INSTALL.md")"
     installed_for_a_package
     installed_elsewhere
 fi

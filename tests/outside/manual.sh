@@ -6,7 +6,7 @@ judge 'the changelog has a version' test -n "$version"
 judge 'help ends with the version' test "$(cdpatch --help | tail -n 1)" = "cdpatch $version"
 judge 'the README has the version' grep -q "^The version is $version " "$top/README.md"
 judge 'the man page has the version' grep -qxF "This page is of version $version." "$top/man/cdpatch.1"
-if ! missing mandoc mandoc; then
+if ! missing mandoc mandoc 'the form of the man page'; then
     # Which other pages this machine has is no matter of this one.
     mandoc -T lint "$top/man/cdpatch.1" 2> /dev/null | grep -v 'STYLE: referenced manual not found' > linted
     judge 'mandoc has no word on the man page' test ! -s linted

@@ -47,7 +47,7 @@ released() {
 judge 'the program has no path of the directory that it was built in' \
     test -z "$(LC_ALL=C grep -aoE '(crates|home|tmp|root)/[a-z_/.]*|[a-z_]*\.rt\b' "$program")"
 
-if ! missing make make; then
+if ! missing make make 'the tarball'; then
     enter release
     released
 fi

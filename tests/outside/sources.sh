@@ -1,6 +1,17 @@
-# The sources: shell scripts as shellcheck reads them, and the paths that the pages name.
+# The sources: what docs/TRUST.md says is not in the crates, shell scripts as shellcheck reads them, and the paths that pages name.
 
 enter sources
+
+# Nothing in the crates is taken on trust, and nothing is in another language.
+foreign=$(grep -rnwE --include='*.rt' --exclude-dir=out 'unsafe|extern' "$top/crates" |
+    grep -vE '^[^:]*/cd_c(_[a-z]*)?/src/[a-z_]*\.rt:[0-9]*:(#\[unsafe\(no_mangle\)\]$|pub extern "C" fn cdpatch_[a-z0-9_]*\()' |
+    grep -vE '^[^:]*/cd_c_digest/src/state\.rt:[0-9]*: *unsafe \{ ptr::read\(&raw const [a-z]* as \*const [A-Za-z0-9]*\) \}$')
+judge 'no unsafe code and no functions of C in the crates, but exports, and the state of a digest' test -z "$foreign"
+judge 'no axiom and no hole in the crates' \
+    test -z "$(grep -rnE --include='*.antt' --exclude-dir=out '(^|[^-A-Za-z_])axiom([^-A-Za-z_]|$)|[=(] *\?' "$top/crates")"
+judge 'no file of C in the crates' test -z "$(find "$top/crates" -name out -prune -o -name '*.[chS]' -print)"
+judge 'no check that lets holes pass' test -z "$(grep -rn --include='run' --include='*.sh' --include=Makefile allow-holes "$top/.ci" "$top/tests" \
+    "$top/Makefile" | grep -v sources.sh)"
 
 # Each script of the sources, by its name or by its first line; those without one are sourced by bash.
 while IFS= read -r -d '' file; do

@@ -60,8 +60,8 @@ in_terminal() {
     judge "$shell was asked all" test "$(wc -l < ../became)" = "$(wc -l < lines)"
 }
 
-if ! missing python3 python3; then
+if ! missing python3 python3 'completions on a terminal'; then
     in_terminal bash "$top/completions/cdpatch.bash"
-    missing zsh zsh || in_terminal zsh "$top/completions/_cdpatch"
-    missing fish fish || in_terminal fish "$top/completions/cdpatch.fish"
+    missing zsh zsh 'the completion for zsh' || in_terminal zsh "$top/completions/_cdpatch"
+    missing fish fish 'the completion for fish on a terminal' || in_terminal fish "$top/completions/cdpatch.fish"
 fi
