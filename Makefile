@@ -20,8 +20,10 @@ all: cdpatch
 # The WebAssembly modules, if they can be made.
 MODULES = $(if $(shell command -v wasm-opt),wasm)
 
-README = tools/README.tarball.md
 include install.mk
+
+# The README of the sources is for those who build; the tarball has this one under that name.
+README = tools/README.tarball.md
 
 # tools/prove.sh knows how the toolchain works inside, and is faster. rt by itself proves and builds the same.
 cdpatch: FORCE

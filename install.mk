@@ -7,8 +7,8 @@ PROGRAM = cdpatch
 LIBRARY = library
 # The directory of cdscript and cdpatch.html.
 JOINED = .
-# The README of what is installed; that of the sources is for those who build.
-README ?= README.md
+# The README that is installed.
+README = README.md
 VERSION = $(shell sed -n 's/^\#\# \([0-9.]*\) .*/\1/p' CHANGELOG.md | head -n 1)
 
 PREFIX = /usr/local

@@ -25,7 +25,8 @@ judge_tap() {
     while read -r count lacking; do
         case $lacking in
             iconv) lacking+=" (Debian's package libc-bin)" ;;
-            terminal) lacking+=" (Debian's package bsdutils)" ;;
+            terminal) lacking="a terminal (Debian's package bsdutils)" ;;
+            right*) lacking="a $lacking" ;;
             genisoimage | python3) lacking+=" (Debian's package $lacking)" ;;
         esac
         skip "$1: $count of its tests, which want $lacking"

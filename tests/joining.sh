@@ -137,12 +137,12 @@ test_refusals() {
     refuses page 'bytes, more than 400000' page/style.css sh -c 'yes "p { color: black; }" | head -n 20000'
 }
 
-typed() { mypy --strict --cache-dir=types "$top/tools/join.py" > log || { cat log; false; }; }
+typed() { mypy --strict --cache-dir=types "$top"/tools/{join,pages}.py > log || { cat log; false; }; }
 
 test_all() {
     missing python3 python3 'what tools/join.py joins' && return
     test_refusals
-    missing mypy mypy 'the types of tools/join.py' || judge 'the types of tools/join.py' typed
+    missing mypy mypy 'the types of the tools' || judge 'the types of the tools' typed
     test_page
     missing node nodejs 'a joined command' || test_command
 }

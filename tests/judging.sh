@@ -40,7 +40,7 @@ missing() {
     skip "${3-a part}, which wants $1 (Debian's package $2)"
 }
 
-# Prints the counts, and answers whether nothing failed.
+# Prints the counts, and returns whether nothing failed.
 finish() {
     [ ${#skipped[@]} = 0 ] || echo "${#skipped[@]} skipped"
     echo "$passed passed, $failed failed"

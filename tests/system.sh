@@ -1,5 +1,5 @@
 #!/usr/bin/env bash
-# What no contract reaches: how the program opens, reads, writes and syncs the files and streams of a process:
+# Code without a contract: how the program opens, reads, writes and syncs the files and streams of a process:
 # `bash tests/system.sh [PROGRAM]`. The last line is 'N passed, M failed'.
 #
 # Beside each check stand wrong programs that it must refuse, as must-fail edits are for proofs (`wrong/wrong.c`).

@@ -9,6 +9,7 @@ comment, and what a call does that of its rustdoc.
 import re
 import sys
 import textwrap
+from collections.abc import Callable, Iterable, Iterator, Sequence
 from pathlib import Path
 
 TOP = Path(__file__).resolve().parent.parent
@@ -30,7 +31,7 @@ C_COMMENT = r'/\*', r'\*/'
 ENDS = {'.py': ('"""', '"""'), '.c': C_COMMENT, '.h': C_COMMENT, '.css': C_COMMENT, '.map': C_COMMENT}
 
 
-def sentence(text):
+def sentence(text: str) -> str:
     """The first sentence of a text, in one line, as the cell of a table."""
     text = ' '.join(text.split())
     end = re.search(r'[.?!](?= +[A-Za-z`([]|$)', text)
@@ -39,7 +40,7 @@ def sentence(text):
     return text
 
 
-def about(path):
+def about(path: Path) -> str:
     """What a file has, by its first comment."""
     text = path.read_text(encoding='utf-8')
     if path.suffix in ENDS:
@@ -55,32 +56,32 @@ def about(path):
     return sentence(words)
 
 
-def has_comment(path):
+def has_comment(path: Path) -> bool:
     if not path.is_file() or path.suffix not in (*LINES, *ENDS):
         return False
     return path.suffix != '' or path.read_bytes().startswith(b'#!')
 
 
-def lines_of(path):
+def lines_of(path: Path) -> int:
     return path.read_text(encoding='utf-8').count('\n')
 
 
-def table(heads, rows):
+def table(heads: Sequence[str], rows: Iterable[Sequence[str]]) -> list[str]:
     return [f'| {" | ".join(heads)} |', f'|{"---|" * len(heads)}', *(f'| {" | ".join(row)} |' for row in rows)]
 
 
-def crates():
+def crates() -> list[str]:
     """The crates of crates.txt, in its order."""
     return re.findall(r'(?m)^([a-z_]+)(?: staticlib)?:', (TOP / 'crates.txt').read_text())
 
 
-def code_of(crate):
+def code_of(crate: str) -> list[Path]:
     """A crate's files of code, without its tests."""
     files = sorted((TOP / 'crates' / crate / 'src').rglob('*.rt'))
     return [file for file in files if 'tests' not in file.parts and file.name != 'tests.rt']
 
 
-def files():
+def files() -> list[str]:
     """Each file of the sources that has a place of its own, with what it has: MAP's table."""
     rows = []
     for crate in crates():
@@ -96,7 +97,7 @@ def files():
     return table(('File', 'What it has'), rows)
 
 
-def uses():
+def uses() -> list[str]:
     """Which crates the code of each crate uses."""
     rows = []
     for crate in crates():
@@ -107,7 +108,7 @@ def uses():
     return table(('Crate', 'Crates that its code uses'), rows)
 
 
-def visit(path, seen, order, types):
+def visit(path: Path, seen: set[Path], order: list[Path], types: set[str]) -> None:
     """Appends the files of definitions that a file names, each after those that it names itself."""
     if path in seen:
         return
@@ -122,37 +123,47 @@ def visit(path, seen, order, types):
         order.append(path)
 
 
-def reading():
+def reading() -> tuple[list[list[Path]], list[str]]:
     """The files to read for the headline, those that the whole theorem adds, and the files of types that they name."""
-    seen, types, parts = set(), set(), []
+    seen: set[Path] = set()
+    types: set[str] = set()
+    parts = []
     for roots in HEADLINE, THEOREM:
-        order = []
+        order: list[Path] = []
         for root in roots:
             visit(TOP / root, seen, order, types)
         parts.append(order)
     return parts, sorted(types)
 
 
-def reading_table(part):
+def reading_table(part: int) -> list[str]:
     order = reading()[0][part]
     rows = [(f'`{file.relative_to(TOP)}`', str(lines_of(file)), about(file)) for file in order]
     return table(('File', 'Lines', 'What it has'), rows) + ['', f'{sum(map(lines_of, order))} lines in {len(order)} files.']
 
 
-def types():
+def types_named() -> list[str]:
     names = ', '.join(f'`{name}`' for name in reading()[1])
     return textwrap.wrap(f'{names}.', width=140, break_long_words=False, break_on_hyphens=False)
 
 
-def number(path, pattern):
-    return re.search(pattern, (TOP / path).read_text(encoding='utf-8')).group(1)
+def only(pattern: str, text: str) -> str:
+    """What the group of a pattern finds in a text."""
+    found = re.search(pattern, text)
+    if not found:
+        sys.exit(f'tools/pages.py looks for {pattern} and does not find it')
+    return found.group(1)
 
 
-def figures():
+def number(path: str, pattern: str) -> str:
+    return only(pattern, (TOP / path).read_text(encoding='utf-8'))
+
+
+def figures() -> list[str]:
     (headline, rest), _ = reading()
     trust = (TOP / 'docs/TRUST.md').read_text(encoding='utf-8')
-    assumed = re.search(r'(?s)\| Functions \| Trusted for.*?\n\n', trust).group()
-    assumed = sum(len(re.findall('`', row.split('|')[1])) // 2 for row in assumed.splitlines()[2:] if row)
+    functions = only(r'(?s)\| Functions \| Trusted for[^\n]*\n[^\n]*\n(.*?)\n\n', trust)
+    assumed = sum(row.split('|')[1].count('`') // 2 for row in functions.splitlines())
     seeds = int(number('tests/random_faults.sh', r'tried "\$program" 1 (\d+)'))
     rows = [
         ("functions without a proof, holes in proofs, axioms of the project's own", '0'),
@@ -171,7 +182,7 @@ def figures():
     return table(('What', 'How many'), rows)
 
 
-def exports(file):
+def exports(file: Path) -> Iterator[tuple[str, str, str]]:
     """The exports of a file of code: for each its name, its rustdoc and its contract."""
     for item in file.read_text(encoding='utf-8').split('\n\n'):
         doc, found, rest = item.partition('#[unsafe(no_mangle)]\npub extern "C" fn ')
@@ -179,7 +190,7 @@ def exports(file):
             yield rest[:rest.index('(')], re.sub('(?m)^///', '', doc), rest.split('\n{', 1)[0]
 
 
-def calls():
+def calls() -> list[str]:
     """The exports of libcdpatch, crate by crate, with the names of their clauses."""
     rows = []
     for crate in crates():
@@ -190,15 +201,15 @@ def calls():
     return table(('Call', 'Crate', 'What it does', 'Clauses'), rows)
 
 
-PARTS = {'files': files, 'uses': uses, 'figures': figures, 'headline': lambda: reading_table(0), 'theorem': lambda: reading_table(1),
-         'types': types, 'calls': calls}
+PARTS: dict[str, Callable[[], list[str]]] = {'files': files, 'uses': uses, 'figures': figures, 'headline': lambda: reading_table(0), 'theorem': lambda: reading_table(1),
+         'types': types_named, 'calls': calls}
 
 
-def remade(page):
+def remade(page: Path) -> tuple[str, list[str]]:
     """A page with its parts made anew, and the names of those that were others."""
-    changed = []
+    changed: list[str] = []
 
-    def part(found):
+    def part(found: re.Match[str]) -> str:
         made = '\n'.join(PARTS[found.group(1)]()) + '\n'
         if made != found.group(2):
             changed.append(found.group(1))
@@ -208,7 +219,7 @@ def remade(page):
     return text, changed
 
 
-def main():
+def main() -> int:
     status = 0
     for name in PAGES:
         text, changed = remade(TOP / name)

@@ -30,7 +30,7 @@ SETUP = {
 }
 
 
-def wait_for(descriptor, pattern, seconds=20):
+def wait_for(descriptor, pattern, seconds=120):
     """What the shell prints until the pattern, which has to come in this time."""
     printed = ""
     end = time.monotonic() + seconds
