@@ -38,7 +38,7 @@ test('an address that no script can name is said by undo, and not taken for dama
     tool(process.env.PROGRAM, ['apply', 'hurt', 'fix', 'odd'], { cwd: room });
     const { status, out, errors } = await run(['undo', 'odd', 'edit'], { cwd: room });
     assert.deepEqual([status, out], [1, 'cdpatch 1\n']);
-    assert.match(errors, /^cdscript: block 3: its address in odd is none that a script can name\n/);
+    assert.match(errors, /^cdscript: no script can name the address of block 3 in odd\n/);
 }));
 
 test('a signal ends what waits for its reader', () => inDirectory(async room => {

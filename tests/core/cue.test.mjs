@@ -92,7 +92,8 @@ FILE "3.bin" BINARY\nTRACK 03 AUDIO\nINDEX 01 00:00:00`;
 
 test('a sheet that can\'t be used names its line', () => {
     const refused = (/** @type {string} */ text, /** @type {number} */ place, /** @type {RegExp} */ message) =>
-        assert.throws(() => tracks(text, 100 * RAW), { place, message });
+        assert.throws(() => tracks(text, 100 * RAW), error => message.test(error.message) &&
+            (place === 0 || error.message.startsWith(`line ${place} of the cue sheet: `)));
     refused('', 0, /^the cue sheet has no track$/);
     refused('TRACK 01 AUDIO', 1, /^line 1 of the cue sheet: a track before the first FILE$/);
     refused('FILE x', 1, /FILE wants a name and a format/);

@@ -1,11 +1,12 @@
 // The jobs that are the program's: `list`, `audit`, `check` and `apply`, with its texts, statuses and limits.
 
 import { ImageEnded, bytesOfPieces } from '../core/bytes.js';
+import { Fault } from '../core/faults.js';
 import { passPatched } from '../core/patch.js';
 import { Refusal, patchesOf } from '../core/script.js';
 import { SECTOR_SIZE, imageTooLong, sectorCount } from '../core/sector.js';
 import { auditText, joinSurveys, listText } from '../core/survey.js';
-import { Failure, FileFailure } from './failures.js';
+import { FileFault } from './failures.js';
 import { MESSAGES } from './messages.js';
 import { openTrack } from './opening.js';
 
@@ -16,7 +17,7 @@ import { openTrack } from './opening.js';
 /** @typedef {import('./run.js').Run} Run */
 
 /** What the program says, on standard output as it does. */
-export class ProgramFailure extends Failure {
+export class ProgramFault extends Fault {
     /** @param {string | Uint8Array} text a line without its end, or lines */
     constructor(text) {
         super(typeof text === 'string' ? `${text}\n` : new TextDecoder().decode(text));
@@ -40,8 +41,8 @@ async function orSay(messages, tried) {
     try {
         return await tried();
     } catch (error) {
-        if (error instanceof ImageEnded) throw new ProgramFailure(messages.read);
-        throw error instanceof FileFailure ? new ProgramFailure(messages[error.attempt]) : error;
+        if (error instanceof ImageEnded) throw new ProgramFault(messages.read);
+        throw error instanceof FileFault ? new ProgramFault(messages[error.attempt]) : error;
     }
 }
 
@@ -64,7 +65,7 @@ async function openImage(run) {
  */
 async function report(run, textOf) {
     const { reader, base } = await openImage(run);
-    if (imageTooLong(reader.size)) throw new ProgramFailure(MESSAGES.long_image);
+    if (imageTooLong(reader.size)) throw new ProgramFault(MESSAGES.long_image);
     /** @type {Survey[]} */
     const parts = [];
     const { crew, how } = run.sharing(sectorCount(reader.size));
@@ -89,11 +90,11 @@ export function auditJob(run) {
  * @param {Run} run
  * @returns {Promise<Patch[]>}
  */
-export async function patchesOfScript(run) {
+async function patchesOfScript(run) {
     const pieces = run.files.piecesOf(run.names[1]);
     const patches = await orSay(OF_SCRIPTS, () => patchesOf(run.calls, pieces, run.options.long));
     if (!(patches instanceof Refusal)) return patches;
-    throw new ProgramFailure(patches.reason === 'script-too-long' ? MESSAGES.long_script : patches.text);
+    throw new ProgramFault(patches.reason === 'script-too-long' ? MESSAGES.long_script : patches.text);
 }
 
 /**
@@ -106,7 +107,7 @@ export async function patchesOfScript(run) {
 async function patch(run, { reader, base }, patches, take) {
     const { carry = false } = run.options;
     const made = await orSay(OF_IMAGES, () => passPatched(run.calls, reader, patches, base, carry, take));
-    if (made instanceof Refusal) throw new ProgramFailure(MESSAGES.long_image);
+    if (made instanceof Refusal) throw new ProgramFault(MESSAGES.long_image);
     await run.output.write(made.text);
     run.output.finish();
     return made.status;

@@ -1,13 +1,13 @@
 // Opens what the first argument of a job names: a raw image, or a cue sheet and the files that it names.
 
 import { basename, dirname, join } from 'node:path';
-import { readBytes } from '../core/bytes.js';
+import { wholeOf } from '../core/bytes.js';
 import { sheetOf } from '../core/cue.js';
 import { dataTrack, openDisc } from '../core/disc.js';
+import { Fault } from '../core/faults.js';
 import { natureOf } from '../core/image.js';
 import { imageTooLong } from '../core/sector.js';
 import { textOfFile } from '../core/text.js';
-import { Failure } from './failures.js';
 import { MESSAGES } from './messages.js';
 
 /** @typedef {import('../core/disc.js').Disc} Disc */
@@ -26,7 +26,7 @@ export async function openDiscOf(run, name) {
     const others = kind === 'cue' ? await filesOfSheet(run, file) : [];
     const disc = await openDisc(run.calls, [file, ...others]);
     const long = disc.files.find(({ reader }) => imageTooLong(reader.size));
-    if (long) throw new Failure(`${long.name}: ${MESSAGES.long_image.replace(/^cdpatch: /, '')}`);
+    if (long) throw new Fault(`${long.name}: ${MESSAGES.long_image.replace(/^cdpatch: /, '')}`);
     return disc;
 }
 
@@ -36,8 +36,8 @@ export async function openDiscOf(run, name) {
  * @param {DiscFile} sheet
  */
 async function filesOfSheet(run, { name, reader }) {
-    const { files } = sheetOf(textOfFile(await readBytes(reader, 0, reader.size)));
-    const there = run.files.namesIn(dirname(name));
+    const { files } = sheetOf(textOfFile(await wholeOf(reader)));
+    const there = await run.files.namesIn(dirname(name));
     const opened = [];
     for (const file of files) {
         const last = basename(file.name.replace(/\\/g, '/'));

@@ -8,7 +8,7 @@ import { Threads } from './threads.js';
 /** @typedef {import('./arguments.js').Given} Given */
 /** @typedef {import('./files.js').Files} Files */
 /** @typedef {{ input: number, output: number, errors: number }} Streams the descriptors of the standard streams */
-/** @typedef {{ write(bytes: Uint8Array): Promise<void>, finish(): void }} Target what a script or a list is written to */
+/** @typedef {{ write(bytes: Uint8Array): Promise<void>, finish(): void | Promise<void> }} Target what a script or a list is written to */
 
 /** @type {WebAssembly.Module | null} */
 let compiled = null;
@@ -46,9 +46,9 @@ export class Run {
 
     /**
      * Where a script or a list goes: to the file of `-o`, or to standard output.
-     * @returns {Target}
+     * @returns {Promise<Target>}
      */
-    target() {
+    async target() {
         return this.options.output === undefined ? this.output : this.files.make(this.options.output);
     }
 

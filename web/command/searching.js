@@ -1,9 +1,10 @@
 // Texts in a data track, by an encoding that is given or by those that Japanese discs have.
 
+import { wholeOf } from '../core/bytes.js';
 import { TextFault } from '../core/characters.js';
+import { Fault } from '../core/faults.js';
 import { joinFound, sectorsBeyond } from '../core/find.js';
 import { encodeText, encodingOf, tableOf } from '../core/text.js';
-import { WrongArguments } from './failures.js';
 
 /** @typedef {import('../core/disc.js').DiscImage} DiscImage */
 /** @typedef {import('../core/find.js').Found} Found */
@@ -19,7 +20,7 @@ const TRIED = ['CP932', 'EUC-JP', 'UTF-8', 'UTF-16LE', 'UTF-16BE'];
  * @returns {Promise<Encoding[]>}
  */
 export async function encodingsOf({ options, files }) {
-    if (options.table !== undefined) return [tableOf(await files.bytesOf(options.table))];
+    if (options.table !== undefined) return [tableOf(await wholeOf((await files.image(options.table)).reader))];
     const found = (options.encoding === undefined ? TRIED : [options.encoding]).map(encodingOf);
     return /** @type {Encoding[]} */ (found);
 }
@@ -54,7 +55,7 @@ export function encodingsWith(encodings, text) {
  * @returns {Promise<Found & { encoding: Encoding }>}
  */
 export async function hitsOf(run, part, text, limit) {
-    if (text === '') throw new WrongArguments('there is nothing to find in a text without characters');
+    if (text === '') throw new Fault('there is nothing to find in a text without characters');
     const encodings = encodingsWith(await encodingsOf(run), text);
     for (const encoding of encodings) {
         const found = await hitsIn(run, part, encoding, text, limit);

@@ -1,5 +1,7 @@
 // Cue sheets: which tracks a disc has, and which bytes of which file each of them is.
 
+import { Fault } from './faults.js';
+
 /** @typedef {{ name: string, raw: boolean }} SheetFile `raw` if its bytes are sectors, as in BINARY */
 /** @typedef {{ track: SheetTrack, index: number, file: number, frame: number }} Point where an index of a track begins in a file */
 /** @typedef {{ number: number, type: string, sectorSize: number, pregap: number, postgap: number, line: number }} SheetTrack */
@@ -18,16 +20,13 @@ const RAW_FORMATS = ['BINARY', 'MOTOROLA'];
 const FIRST_PAUSE = 150;
 const LAST_TRACK = 99;
 
-/** Why a cue sheet can't be used. `place` is the line, from 1, or 0. */
-export class SheetFault extends Error {
-    /**
-     * @param {string} message
-     * @param {number} place
-     */
-    constructor(message, place) {
-        super(place > 0 ? `line ${place} of the cue sheet: ${message}` : message);
-        this.place = place;
-    }
+/**
+ * Why a line of a cue sheet can't be used.
+ * @param {string} message
+ * @param {number} line from 1
+ */
+function sheetFault(message, line) {
+    return new Fault(`line ${line} of the cue sheet: ${message}`);
 }
 
 /**
@@ -43,10 +42,10 @@ export function sheetOf(text) {
         const read = SHEET_COMMANDS[command.toUpperCase()];
         if (read) read(sheet, rest, i + 1);
     });
-    if (sheet.tracks.length === 0) throw new SheetFault('the cue sheet has no track', 0);
+    if (sheet.tracks.length === 0) throw new Fault('the cue sheet has no track');
     for (const track of sheet.tracks) {
         if (!sheet.points.some(it => it.track === track && it.index === 1)) {
-            throw new SheetFault(`track ${track.number} has no INDEX 01`, track.line);
+            throw sheetFault(`track ${track.number} has no INDEX 01`, track.line);
         }
     }
     return sheet;
@@ -64,20 +63,20 @@ const SHEET_COMMANDS = {
 /** @type {(sheet: Sheet, rest: string, line: number) => void} */
 function readFileLine(sheet, rest, line) {
     const found = /^"([^"]*)"\s+(\S+)$/.exec(rest) || /^([^"].*?)\s+(\S+)$/.exec(rest);
-    if (!found) throw new SheetFault('FILE wants a name and a format', line);
+    if (!found) throw sheetFault('FILE wants a name and a format', line);
     sheet.files.push({ name: found[1], raw: RAW_FORMATS.includes(found[2].toUpperCase()) });
 }
 
 /** @type {(sheet: Sheet, rest: string, line: number) => void} */
 function readTrackLine(sheet, rest, line) {
     const found = /^(\d{1,2})\s+(\S+)$/.exec(rest);
-    if (!found) throw new SheetFault('TRACK wants a number and a type', line);
+    if (!found) throw sheetFault('TRACK wants a number and a type', line);
     const [number, type] = [Number(found[1]), found[2].toUpperCase()];
     const sectorSize = sizeOfType(type);
-    if (sectorSize === 0) throw new SheetFault(`${found[2]} is no type of a track`, line);
-    if (sheet.files.length === 0) throw new SheetFault('a track before the first FILE', line);
+    if (sectorSize === 0) throw sheetFault(`${found[2]} is no type of a track`, line);
+    if (sheet.files.length === 0) throw sheetFault('a track before the first FILE', line);
     const before = sheet.tracks.length > 0 ? sheet.tracks[sheet.tracks.length - 1].number : 0;
-    if (number <= before || number > LAST_TRACK) throw new SheetFault(`track ${number} comes after track ${before}`, line);
+    if (number <= before || number > LAST_TRACK) throw sheetFault(`track ${number} comes after track ${before}`, line);
     sheet.tracks.push({ number, type, sectorSize, pregap: 0, postgap: 0, line });
 }
 
@@ -94,12 +93,12 @@ function sizeOfType(type) {
 /** @type {(sheet: Sheet, rest: string, line: number) => void} */
 function readIndexLine(sheet, rest, line) {
     const found = /^(\d{1,2})\s+(\S+)$/.exec(rest);
-    if (!found) throw new SheetFault('INDEX wants a number and a time', line);
+    if (!found) throw sheetFault('INDEX wants a number and a time', line);
     const [track, index, frame] = [trackBefore(sheet, line), Number(found[1]), framesOf(found[2], line)];
     const file = sheet.files.length - 1;
     const last = sheet.points[sheet.points.length - 1];
-    if (last && last.track === track && last.index >= index) throw new SheetFault(`INDEX ${found[1]} comes too late`, line);
-    if (last && last.file === file && last.frame > frame) throw new SheetFault(`INDEX ${found[1]} goes back in its file`, line);
+    if (last && last.track === track && last.index >= index) throw sheetFault(`INDEX ${found[1]} comes too late`, line);
+    if (last && last.file === file && last.frame > frame) throw sheetFault(`INDEX ${found[1]} goes back in its file`, line);
     sheet.points.push({ track, index, file, frame });
 }
 
@@ -118,7 +117,7 @@ function readPostgapLine(sheet, rest, line) {
  * @param {number} line
  */
 function trackBefore({ tracks }, line) {
-    if (tracks.length === 0) throw new SheetFault('no TRACK stands before this', line);
+    if (tracks.length === 0) throw sheetFault('no TRACK stands before this', line);
     return tracks[tracks.length - 1];
 }
 
@@ -129,7 +128,7 @@ function trackBefore({ tracks }, line) {
  */
 function framesOf(time, line) {
     const found = /^(\d{1,3}):([0-5]?\d):([0-6]?\d|7[0-4])$/.exec(time);
-    if (!found) throw new SheetFault(`${time} is no time`, line);
+    if (!found) throw sheetFault(`${time} is no time`, line);
     return (60 * Number(found[1]) + Number(found[2])) * 75 + Number(found[3]);
 }
 
@@ -144,7 +143,7 @@ export function tracksOf(sheet, sizes) {
     return sheet.tracks.map(track => {
         const own = parts.filter(part => part.point.track === track && part.point.index > 0);
         const [first, last] = [own[0], own[own.length - 1]];
-        if (first.file !== last.file) throw new SheetFault(`track ${track.number} lies in two files`, track.line);
+        if (first.file !== last.file) throw sheetFault(`track ${track.number} lies in two files`, track.line);
         const gap = parts.find(part => part.point.track === track && part.point.index === 0);
         const { number, type, sectorSize } = track;
         const { file, at, block } = first;
@@ -176,7 +175,7 @@ function partsOf({ files, points }, file, size) {
     const starts = own.map(point => {
         at += (point.frame - frame) * (before || point.track).sectorSize;
         [frame, before] = [point.frame, point.track];
-        if (at > size) throw new SheetFault(`track ${point.track.number} begins after the end of ${files[file].name}`, point.track.line);
+        if (at > size) throw sheetFault(`track ${point.track.number} begins after the end of ${files[file].name}`, point.track.line);
         return at;
     });
     return own.map((point, i) => ({ point, file, at: starts[i], end: i + 1 < own.length ? starts[i + 1] : size, block: null }));

@@ -1,6 +1,6 @@
 // The patches of a script on an image, of which only the sectors near them are read.
 
-import { ByteList, readBytes } from './bytes.js';
+import { ByteList, joinedBytes, readBytes } from './bytes.js';
 import { RESULT, patchFields } from './records.js';
 import { SECTOR_SIZE, USER_SIZE, imageTooLong, sectorCount } from './sector.js';
 import { Refusal } from './script.js';
@@ -95,8 +95,7 @@ class PatchedImage {
         for (let from = 0, to = 0; from < ready.length; from = to) {
             const first = ready[from][0];
             while (to < ready.length && ready[to][0] - first === to - from) to++;
-            const bytes = new Uint8Array((to - from) * SECTOR_SIZE);
-            ready.slice(from, to).forEach(([, sector], i) => bytes.set(sector, i * SECTOR_SIZE));
+            const bytes = joinedBytes(ready.slice(from, to).map(([, sector]) => sector));
             await this.passSlice(first * SECTOR_SIZE);
             await this.take({ at: this.passed, bytes });
             this.passed += bytes.length;

@@ -73,24 +73,6 @@ class LineCutter {
     }
 }
 
-/**
- * The lines of a text, without their ends.
- * @param {Calls} calls
- * @param {Pieces} pieces
- * @returns {AsyncGenerator<Uint8Array>}
- */
-export async function* linesOf(calls, pieces) {
-    /** @type {Uint8Array[]} */
-    const lines = [];
-    const cutter = new LineCutter(calls, (from, size) => lines.push(calls.held(from, from + size).slice()) > 0);
-    for await (const piece of pieces) {
-        cutter.push(piece);
-        yield* lines.splice(0);
-    }
-    cutter.end();
-    yield* lines;
-}
-
 /** The patches of the lines so far, or the fault of the last one. */
 class ScriptReading {
     /**
