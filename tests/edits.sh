@@ -30,7 +30,7 @@ refuse_edits() {
         name=${name%.edit}
         name="a wrong $1 is refused: ${name//_/ }"
         read_edit "$edit"
-        pattern=$(printf '%s' "${said[test]}" | sed 's/[][.*+?^${}()|\\]/\\&/g')
+        pattern=$(printf '%s' "${said[test]}" | sed 's/[]\.*+?^${}()|[]/\\&/g')
         if ! "$3"; then
             judge "$name" false
             continue

@@ -148,7 +148,7 @@ test('a full pipe is waited for', () => inDirectory(room => {
 test('a file system that can not sync is no failure, and a sync that fails is one', () => inDirectory(room => inDirectory(async streams => {
     write(room, { image: imageOf(room, 3) });
     for (const [code, status] of [['EINVAL', 0], ['EIO', 2], ['ENOSPC', 2]]) {
-        const came = await faultyCall(room, streams, ['user', 'image', 'OUT'], name => name === 'fsyncSync' ? faults.errorOf(code) : null);
+        const came = await faultyCall(room, streams, ['user', 'image', 'OUT'], name => name === 'fsync' ? faults.errorOf(code) : null);
         assert.deepEqual([came.status, came.file === null], [status, status === 2], `${code}: ${came.errors}`);
     }
 })));

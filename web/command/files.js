@@ -1,8 +1,8 @@
 // Files: images as readers, scripts in pieces, and files that are made new.
 
-import { closeSync, fstatSync, fsyncSync, open, openSync, read, readFileSync, readSync, readdirSync, unlinkSync, writeSync } from 'node:fs';
+import { closeSync, fstatSync, fsync, open, openSync, read, readFileSync, readSync, readdirSync, unlinkSync, writeSync } from 'node:fs';
 import { MOST_SECTORS, SECTOR_SIZE } from '../core/sector.js';
-import { hasCode, tryFile } from './failures.js';
+import { FileFault, hasCode, tryFile } from './failures.js';
 import { pause } from './pausing.js';
 import { PiecesReader, STREAM_STEP } from './pieces.js';
 
@@ -11,6 +11,9 @@ import { PiecesReader, STREAM_STEP } from './pieces.js';
 
 /** A stream is read to its end, but not much further than the longest image. */
 const LONGEST_STREAM = MOST_SECTORS * SECTOR_SIZE + 1;
+
+/** When so many bytes are written the disk is told to begin with them. */
+const SYNCED = 1 << 26;
 
 /** After so many milliseconds the signals that have come are looked at. */
 const TURN = 50;
@@ -109,18 +112,6 @@ function placeOf(descriptor) {
     }
 }
 
-/**
- * Waits until a file is on the disk. A file system that does not know that has nothing to wait for.
- * @param {number} descriptor
- */
-function sync(descriptor) {
-    try {
-        fsyncSync(descriptor);
-    } catch (error) {
-        if (!hasCode(error, 'EINVAL')) throw error;
-    }
-}
-
 /** A file that did not exist before. Until it is finished it is removed if anything fails. */
 class NewFile {
     /**
@@ -132,6 +123,9 @@ class NewFile {
         this.name = name;
         this.descriptor = descriptor;
         this.finished = finished;
+        this.unsynced = 0;
+        /** @type {Promise<unknown> | null} how it went, null if it went well */
+        this.syncing = null;
     }
 
     /** @param {Uint8Array} bytes all of which are written, by more writes if the first are short */
@@ -140,11 +134,29 @@ class NewFile {
         await tryFile('write', this.name, () => {
             for (let done = 0; done < bytes.length;) done += writeSync(this.descriptor, bytes, done);
         });
+        this.unsynced += bytes.length;
+        if (this.unsynced < SYNCED) return;
+        await this.synced();
+        this.sync();
+    }
+
+    /** Lets the disk take what is written, while more comes. */
+    sync() {
+        this.unsynced = 0;
+        this.syncing = later(done => fsync(this.descriptor, done)).then(() => null, error => error);
+    }
+
+    /** Waits until it has. A failure is said once by the system. A file system that knows nothing of it (EINVAL) has none. */
+    async synced() {
+        const error = await this.syncing;
+        if (error && !hasCode(error, 'EINVAL')) throw new FileFault('write', this.name, error);
     }
 
     /** The file is complete, and on the disk. */
     async finish() {
-        await tryFile('write', this.name, () => sync(this.descriptor));
+        await this.synced();
+        this.sync();
+        await this.synced();
         this.finished(this);
     }
 

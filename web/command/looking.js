@@ -118,10 +118,11 @@ export async function findJob(run) {
     const { limit = DEFAULT_LIMIT } = run.options;
     const target = await run.target();
     const { part } = await openTrack(run, run.names[0]);
-    const { count, hits, encoding } = await hitsOf(run, part, run.names[1], limit);
+    const found = await hitsOf(run, part, run.names[1], limit);
+    const { count, hits } = found || { count: 0, hits: [] };
     const files = hits.length > 0 ? await filesIfAny(run, part) : [];
     for (const hit of hits) {
-        const text = await around(part, encoding, hit);
+        const text = found && await around(part, found.encoding, hit);
         await target.write(bytesOfLines([[hit.block, hit.offset, hit.size, filesText(files, hit), text].join('\t')]));
     }
     await target.finish();
@@ -162,7 +163,7 @@ async function sectorLines(run, part, sector, place) {
 export async function showJob(run) {
     const [name, blockText, offsetText = '0'] = run.names;
     const place = { block: blockOf(blockText), offset: offsetOf(offsetText) };
-    const [encoding] = await encodingsOf(run);
+    const encoding = (await encodingsOf(run).next()).value;
     const first = Math.floor(place.offset / ROW) * ROW;
     const end = run.names.length < 3 ? USER_SIZE : Math.min(first + SHOWN, USER_SIZE);
     const target = await run.target();

@@ -23,7 +23,7 @@ declare module 'node:crypto' {
 declare module 'node:fs' {
     export function closeSync(descriptor: number): void;
     export function fstatSync(descriptor: number): { size: number, isFile(): boolean };
-    export function fsyncSync(descriptor: number): void;
+    export function fsync(descriptor: number, done: (error: unknown, value: number) => void): void;
     export function open(name: string, flags: string, done: (error: unknown, descriptor: number) => void): void;
     export function openSync(name: string, flags: string): number;
     export function read(descriptor: number, bytes: Uint8Array, at: number, length: number, place: null,

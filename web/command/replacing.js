@@ -15,7 +15,7 @@ import { blockOf, offsetOf } from './arguments.js';
 import { fileNamed, userBytes } from './looking.js';
 import { openTrack } from './opening.js';
 import { writeScript } from './scripts.js';
-import { encodingsOf, encodingsWith, hitsOf } from './searching.js';
+import { encodingsWith, hitsOf } from './searching.js';
 import { hexByte, sayOfRuns } from './words.js';
 
 /** @typedef {import('../core/disc.js').DiscImage} DiscImage */
@@ -41,9 +41,11 @@ const MOST_PLACES = 1000000;
  * @returns {Promise<Places>}
  */
 async function placeOfText(run, image, place, text) {
-    const encodings = encodingsWith(await encodingsOf(run), text);
     const after = image.base + image.sectors - place.block;
-    for (const encoding of place.block >= image.base && after > 0 ? encodings : []) {
+    let first = null;
+    for await (const encoding of encodingsWith(run, text)) {
+        first = first || encoding;
+        if (place.block < image.base || after <= 0) break;
         const wanted = encoding.units(text);
         const count = Math.min(1 + sectorsBeyond(wanted), after);
         const bytes = await readBytes(image.reader, (place.block - image.base) * SECTOR_SIZE, count * SECTOR_SIZE);
@@ -51,7 +53,7 @@ async function placeOfText(run, image, place, text) {
         const hit = hits.find(({ offset }) => offset === place.offset);
         if (hit) return { encoding, places: [hit] };
     }
-    return { encoding: encodings[0], places: [place] };
+    return { encoding: /** @type {Encoding} */ (first), places: [place] };
 }
 
 /**
@@ -62,8 +64,9 @@ async function placeOfText(run, image, place, text) {
  * @returns {Promise<Places>}
  */
 async function placesOf(run, part, text) {
-    const { count, hits, encoding } = await hitsOf(run, part, text, run.options.all ? MOST_PLACES : LISTED);
-    if (count === 0) throw new Fault('the text is not found');
+    const found = await hitsOf(run, part, text, run.options.all ? MOST_PLACES : LISTED);
+    if (found === null) throw new Fault('the text is not found');
+    const { count, hits, encoding } = found;
     if (count === 1 || (run.options.all && count === hits.length)) return { encoding, places: hits };
     if (run.options.all) throw new Fault(`the text stands at ${count} places, and no more than ${MOST_PLACES} are replaced`);
     hits.forEach(({ block, offset }) => run.messages.say(`it stands at block ${block} offset ${offset}`));

@@ -59,6 +59,7 @@ class Merging {
         this.shift = shift;
         this.others = others;
         this.records = surveyRange(calls, old, first).records;
+        this.numbers = others.map((_, other) => other);
         this.otherRecords = others.map(other => differingRecords(calls, old, other, first));
         /** @type {Uint8Array[]} */
         this.sectors = [];
@@ -68,7 +69,7 @@ class Merging {
     /** @param {number} i */
     sector(i) {
         const at = i * RECORD_SIZE;
-        const sound = this.others.map((_, other) => other).filter(other => isSound(this.otherRecords[other], at));
+        const sound = this.numbers.filter(other => isSound(this.otherRecords[other], at));
         if (isSound(this.records, at)) {
             for (const other of sound) this.found.different[other] += 1;
             return;

@@ -82,6 +82,8 @@ const ENCODING_MAKERS = {
     'EUC-JP': eucJp,
 };
 
+const strictUtf8 = new TextDecoder('utf-8', { fatal: true });
+
 /** @type {Map<string, Encoding>} */
 const openedEncodings = new Map();
 
@@ -93,9 +95,13 @@ const openedEncodings = new Map();
 export function encodingOf(name) {
     const plain = (/** @type {string} */ text) => text.toUpperCase().replace(/[^A-Z0-9]/g, '');
     const known = ENCODING_NAMES[plain(name)] || ENCODINGS.find(it => plain(it) === plain(name));
-    if (!known) return null;
-    const encoding = openedEncodings.get(known) || ENCODING_MAKERS[known]();
-    openedEncodings.set(known, encoding);
+    return known ? openedEncoding(known) : null;
+}
+
+/** @param {string} name one of ENCODINGS */
+function openedEncoding(name) {
+    const encoding = openedEncodings.get(name) || ENCODING_MAKERS[name]();
+    openedEncodings.set(name, encoding);
     return encoding;
 }
 
@@ -114,16 +120,10 @@ export function encodeText(encoding, text) {
  */
 export function textOfFile(bytes) {
     try {
-        return new TextDecoder('utf-8', { fatal: true }).decode(bytes);
+        return strictUtf8.decode(bytes);
     } catch {
-        return cp932Text(bytes);
+        return openedEncoding('CP932').text(bytes);
     }
-}
-
-/** @param {Uint8Array} bytes */
-function cp932Text(bytes) {
-    const encoding = encodingOf('CP932');
-    return encoding ? encoding.text(bytes) : '';
 }
 
 /**
