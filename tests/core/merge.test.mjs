@@ -10,7 +10,14 @@ const { mergeImages } = await core('merge.js');
 
 const BASE = 500;
 const imageOf = (bytes, base = BASE) => ({ name: 'image.bin', reader: readerOf(bytes), base, addressed: base, sectors: countOf(bytes), tail: bytes.length % RAW });
-const merged = (images, how = {}, crew = localCrew()) => mergeImages(crew, imageOf(images[0]), images.slice(1).map(it => imageOf(it)), how);
+
+/** What a repair finds, and its pieces. */
+async function repaired(crew, old, others, how = {}) {
+    const pieces = [];
+    return { ...await mergeImages(crew, old, others, how, piece => { pieces.push(piece); }), pieces };
+}
+
+const merged = (images, how = {}, crew = localCrew()) => repaired(crew, imageOf(images[0]), images.slice(1).map(it => imageOf(it)), how);
 
 const ownAddress = (sector, block) => Buffer.compare(sector.subarray(12, 15), calls.address(block)) === 0;
 
@@ -52,8 +59,8 @@ test('merge takes what is consistent with its own address, and never changes a s
     let [taken, damaged] = [0, 0];
     for (let seed = 0; seed < 40; seed++) {
         const images = someDumps(diceOf(seed), 2 + seed % 3, 60);
-        const { pieces, sectors, tails, ...rest } = await merged(images);
-        assert.ok(tails.every(it => !it));
+        const { pieces, sectors, tails, refused, ...rest } = await merged(images);
+        assert.ok(!refused && tails.every(it => !it));
         const { out, found } = due(images);
         assert.deepEqual(foundOf(rest), found);
         assert.equal(sectors, 60);
@@ -108,17 +115,18 @@ test('sound sectors that differ are counted, and above a hundredth of all the im
     const other = image.slice();
     for (let i = 0; i < 3; i++) other.set(CHANGES.bytes(sectorAt(image, 50 * i), diceOf(i)), RAW * 50 * i);
     const few = await merged([image, image, other], { step: 100 });
-    assert.deepEqual([few.different, few.pieces], [[0, 3], [{ from: 0, to: image.length }]]);
+    assert.deepEqual([few.different, few.refused], [[0, 3], false]);
+    sameBytes(joinedPieces(image, few.pieces), image, 'the image');
     other.set(CHANGES.bytes(sectorAt(image, 299), diceOf(9)), RAW * 299);
     const many = await merged([image, image, other], { step: 100 });
-    assert.deepEqual([many.different, many.pieces, many.sectors], [[0, 4], null, 300]);
+    assert.deepEqual([many.different, many.refused, many.sectors], [[0, 4], true, 300]);
 });
 
 test('a shifted dump is refused', async () => {
     const image = soundImage(diceOf(54), 301, BASE);
     const old = changedImage(diceOf(55), image.slice(0, 300 * RAW), ['damaged'], 9);
-    const { pieces, taken, different } = await merged([old, image.slice(RAW)]);
-    assert.deepEqual([pieces, taken], [null, []]);
+    const { refused, taken, different } = await merged([old, image.slice(RAW)]);
+    assert.deepEqual([refused, taken], [true, []]);
     assert.ok(different[0] > 200);
 });
 
@@ -139,7 +147,7 @@ test('another length and another base are refused', async () => {
     await assert.rejects(merged([image, image, image.slice(0, 4 * RAW)]), { name: 'Fault', message: lengths });
     const other = { ...imageOf(image), name: 'other.bin', base: BASE + 1 };
     const message = `image.bin begins with block ${BASE}, other.bin with block ${BASE + 1}: they are not the same part of a disc`;
-    await assert.rejects(mergeImages(localCrew(), imageOf(image), [other], {}), { name: 'Fault', message });
+    await assert.rejects(repaired(localCrew(), imageOf(image), [other]), { name: 'Fault', message });
 });
 
 test('merge by ranges of 1 to 4096 sectors, and by threads, is the same', async () => {
@@ -157,7 +165,7 @@ test('blocks above the last address are not repaired', async () => {
     const image = soundImage(diceOf(58), 2, 449849);
     const old = image.slice();
     for (const i of [0, 1]) old.set(CHANGES.damaged(sectorAt(image, i), diceOf(i)), RAW * i);
-    const { taken, damaged } = await mergeImages(localCrew(), imageOf(old, 449849), [imageOf(image, 449849)], {});
+    const { taken, damaged } = await repaired(localCrew(), imageOf(old, 449849), [imageOf(image, 449849)]);
     assert.deepEqual([taken, damaged], [[{ first: 449849, last: 449849, other: 0 }], [{ first: 449850, last: 449850, elsewhere: true }]]);
 });
 
@@ -166,7 +174,7 @@ test('an image that begins before block 0 is repaired by the addresses that it h
     const old = image.slice();
     for (const i of [0, 3]) old.set(CHANGES.damaged(sectorAt(image, i), diceOf(i)), RAW * i);
     const early = bytes => ({ ...imageOf(bytes, 0), addressed: -2 });
-    const { pieces, taken, damaged } = await mergeImages(localCrew(), early(old), [early(image)], {});
+    const { pieces, taken, damaged } = await repaired(localCrew(), early(old), [early(image)]);
     assert.deepEqual([taken, damaged], [[{ first: 3, last: 3, other: 0 }], [{ first: 0, last: 0, elsewhere: true }]]);
     const due3 = old.slice();
     due3.set(sectorAt(image, 3), RAW * 3);

@@ -1,11 +1,11 @@
 // The jobs that are the program's: `list`, `audit`, `check` and `apply`, with its texts, statuses and limits.
 
-import { ImageEnded, bytesOfPieces } from '../core/bytes.js';
+import { ImageEnded } from '../core/bytes.js';
 import { Fault } from '../core/faults.js';
 import { passPatched } from '../core/patch.js';
 import { Refusal, patchesOf } from '../core/script.js';
-import { SECTOR_SIZE, imageTooLong, sectorCount } from '../core/sector.js';
-import { auditText, joinSurveys, listText } from '../core/survey.js';
+import { SECTOR_SIZE, imageTooLong } from '../core/sector.js';
+import { auditText, listText } from '../core/survey.js';
 import { FileFault } from './failures.js';
 import { MESSAGES } from './messages.js';
 import { openTrack } from './opening.js';
@@ -13,7 +13,6 @@ import { openTrack } from './opening.js';
 /** @typedef {import('../core/bytes.js').Piece} Piece */
 /** @typedef {import('../core/bytes.js').Reader} Reader */
 /** @typedef {import('../core/script.js').Patch} Patch */
-/** @typedef {import('../core/survey.js').Survey} Survey */
 /** @typedef {import('./run.js').Run} Run */
 
 /** What the program says, on standard output as it does. */
@@ -66,11 +65,8 @@ async function openImage(run) {
 async function report(run, textOf) {
     const { reader, base } = await openImage(run);
     if (imageTooLong(reader.size)) throw new ProgramFault(MESSAGES.long_image);
-    /** @type {Survey[]} */
-    const parts = [];
-    const { crew, how } = run.sharing(sectorCount(reader.size));
-    await orSay(OF_IMAGES, () => crew.share('survey', [reader], {}, { ...how, base }, part => { parts.push(part); }));
-    const { status, text } = textOf(run.calls, joinSurveys(parts, base), reader.size % SECTOR_SIZE);
+    const survey = await orSay(OF_IMAGES, () => run.survey(reader, base));
+    const { status, text } = textOf(run.calls, survey, reader.size % SECTOR_SIZE);
     await run.output.write(text);
     return status;
 }
@@ -124,9 +120,7 @@ export async function applyJob(run) {
     const patches = await patchesOfScript(run);
     const image = await openImage(run);
     const out = await orSay(OF_IMAGES, () => run.files.make(run.names[2]));
-    const status = await patch(run, image, patches, async piece => {
-        for await (const bytes of bytesOfPieces(image.reader, [piece])) await out.write(bytes);
-    });
+    const status = await patch(run, image, patches, piece => out.writePiece(image.reader, piece));
     await orSay(OF_IMAGES, () => out.finish());
     return status;
 }

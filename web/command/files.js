@@ -1,11 +1,13 @@
 // Files: images as readers, scripts in pieces, and files that are made new.
 
 import { closeSync, fstatSync, fsync, open, openSync, read, readFileSync, readSync, readdirSync, unlinkSync, writeSync } from 'node:fs';
+import { bytesOfPieces } from '../core/bytes.js';
 import { MOST_SECTORS, SECTOR_SIZE } from '../core/sector.js';
 import { FileFault, hasCode, tryFile } from './failures.js';
 import { pause } from './pausing.js';
 import { PiecesReader, STREAM_STEP } from './pieces.js';
 
+/** @typedef {import('../core/bytes.js').Piece} Piece */
 /** @typedef {import('../core/bytes.js').Reader} Reader */
 /** @typedef {import('../core/disc.js').DiscFile} DiscFile */
 
@@ -138,6 +140,14 @@ class NewFile {
         if (this.unsynced < SYNCED) return;
         await this.synced();
         this.sync();
+    }
+
+    /**
+     * @param {Reader} reader of the image that the piece is of
+     * @param {Piece} piece
+     */
+    async writePiece(reader, piece) {
+        for await (const bytes of bytesOfPieces(reader, [piece])) await this.write(bytes);
     }
 
     /** Lets the disk take what is written, while more comes. */

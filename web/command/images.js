@@ -1,6 +1,5 @@
 // The jobs that write images: `merge`, `raw`, `user` and `extract`.
 
-import { bytesOfPieces } from '../core/bytes.js';
 import { Fault } from '../core/faults.js';
 import { natureOf, sliceOf } from '../core/image.js';
 import { mergeImages } from '../core/merge.js';
@@ -45,13 +44,12 @@ export async function mergeJob(run) {
     const others = [];
     for (const other of more) others.push((await openTrack(run, other)).image);
     const { crew, how } = run.sharing(image.sectors);
-    const repair = await mergeImages(crew, image, others, how);
-    if (repair.pieces === null) {
+    const repair = await mergeImages(crew, image, others, how, piece => out.writePiece(image.reader, piece));
+    if (repair.refused) {
         const i = repair.different.indexOf(Math.max(...repair.different));
         const sound = `${repair.different[i]} of ${repair.sectors} sectors are sound in ${name} and in ${others[i].name}`;
         throw new Fault(`${sound}, and differ: one of them is of another disc, or shifted`);
     }
-    for await (const bytes of bytesOfPieces(image.reader, repair.pieces)) await out.write(bytes);
     others.filter((_, i) => repair.tails[i]).forEach(other => run.messages.say(`${TAILS} in ${other.name}; those of ${name} are kept`));
     await run.output.write(bytesOfLines(repairLines(repair, others)));
     run.output.finish();

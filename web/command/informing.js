@@ -4,7 +4,7 @@ import { createHash } from 'node:crypto';
 import { readBytes } from '../core/bytes.js';
 import { natureOf } from '../core/image.js';
 import { SECTOR_SIZE } from '../core/sector.js';
-import { joinSurveys, listText, surveyCounts } from '../core/survey.js';
+import { listText, surveyCounts } from '../core/survey.js';
 import { openDiscOf, openTrack } from './opening.js';
 import { bytesOfLines } from './words.js';
 
@@ -13,7 +13,6 @@ import { bytesOfLines } from './words.js';
 /** @typedef {import('../core/disc.js').DiscFile} DiscFile */
 /** @typedef {import('../core/disc.js').DiscImage} DiscImage */
 /** @typedef {import('../core/disc.js').DiscTrack} DiscTrack */
-/** @typedef {import('../core/survey.js').Survey} Survey */
 /** @typedef {import('./run.js').Run} Run */
 
 /** So many bytes are hashed at a time. */
@@ -68,11 +67,7 @@ function trackText(disc, { number, type, file, block, sectors, part }) {
  * @param {Reader} reader of the image
  */
 async function surveyLines(run, image, reader) {
-    /** @type {Survey[]} */
-    const parts = [];
-    const { crew, how } = run.sharing(image.sectors);
-    await crew.share('survey', [reader], {}, { ...how, base: image.base }, part => { parts.push(part); });
-    const survey = joinSurveys(parts, image.base);
+    const survey = await run.survey(reader, image.base);
     const { mode1, damaged, elsewhere } = surveyCounts(survey);
     const list = new TextDecoder().decode(listText(run.calls, survey, reader.size % SECTOR_SIZE).text).trimEnd();
     const lines = [`base ${image.base}`, list, `mode1 ${mode1} damaged ${damaged} address ${elsewhere}`];

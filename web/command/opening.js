@@ -31,19 +31,16 @@ export async function openDiscOf(run, name) {
 }
 
 /**
- * The files that a cue sheet names, as far as they are there: beside it, if need be in capitals or not.
+ * The files that a cue sheet names, as far as they are there: beside it, in capitals or not. The core chooses among them.
  * @param {Run} run
  * @param {DiscFile} sheet
  */
 async function filesOfSheet(run, { name, reader }) {
     const { files } = sheetOf(textOfFile(await wholeOf(reader)));
-    const there = await run.files.namesIn(dirname(name));
+    const named = new Set(files.map(file => basename(file.name.replace(/\\/g, '/')).toLowerCase()));
+    const there = (await run.files.namesIn(dirname(name))).filter(it => named.has(it.toLowerCase()));
     const opened = [];
-    for (const file of files) {
-        const last = basename(file.name.replace(/\\/g, '/'));
-        const found = there.find(it => it === last) || there.find(it => it.toLowerCase() === last.toLowerCase());
-        if (found !== undefined) opened.push(await run.files.image(join(dirname(name), found)));
-    }
+    for (const it of there) opened.push(await run.files.image(join(dirname(name), it)));
     return opened;
 }
 

@@ -58,15 +58,12 @@ export async function diffJob(run) {
 export async function rebuildsJob(run) {
     const target = await run.target();
     const { image } = await openTrack(run, run.names[0]);
-    const script = new ScriptParts();
-    const { crew, how } = run.sharing(image.sectors);
-    await crew.share('survey', [image.reader], {}, { ...how, base: image.base }, ({ block, records }) => {
-        const lines = new LineList();
-        for (let at = 0; at < records.length; at += RECORD_SIZE) {
-            if (isDamaged(records, at)) lines.rebuild(block + at / RECORD_SIZE);
-        }
-        script.push(lines.lines());
-    });
+    const { block, records } = await run.survey(image.reader, image.base);
+    const [script, lines] = [new ScriptParts(), new LineList()];
+    for (let at = 0; at < records.length; at += RECORD_SIZE) {
+        if (isDamaged(records, at)) lines.rebuild(block + at / RECORD_SIZE);
+    }
+    script.push(lines.lines());
     await writeScript(run, target, script.script(run.calls));
     return 0;
 }

@@ -87,6 +87,31 @@ export function wholeOf(reader) {
     return readBytes(reader, 0, reader.size);
 }
 
+/** Cuts an image in which some bytes are others into pieces, in order. */
+export class PieceCutter {
+    /** @param {(piece: Piece) => void | Promise<void>} take */
+    constructor(take) {
+        this.take = take;
+        this.end = 0;
+    }
+
+    /** @param {number} end up to which the image stays as it is */
+    async keep(end) {
+        if (this.end < end) await this.take({ from: this.end, to: end });
+        this.end = end;
+    }
+
+    /**
+     * @param {number} at
+     * @param {Uint8Array} bytes what stands there
+     */
+    async put(at, bytes) {
+        await this.keep(at);
+        await this.take({ at, bytes });
+        this.end += bytes.length;
+    }
+}
+
 /** Bytes that others are appended to. */
 export class ByteList {
     constructor() {

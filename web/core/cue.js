@@ -9,9 +9,8 @@ import { Fault } from './faults.js';
 /** @typedef {{ file: number, at: number | null, end: number | null, block: number | null }} Stretch */
 /**
  * A track: `at` to `end` are its bytes in the file of that number, from its INDEX 01 on, and `block` is the first of them on the
- * disc; `tail` counts the bytes of a last sector that is cut. `gap` is what stands before INDEX 01, if the file has it (INDEX 00).
- * Null is what a sheet does not say: places in audio files, and blocks after them.
- * @typedef {{ number: number, type: string, sectorSize: number, tail: number, gap: Stretch | null } & Stretch} Track
+ * disc. Null is what a sheet does not say: places in audio files, and blocks after them.
+ * @typedef {{ number: number, type: string, sectorSize: number } & Stretch} Track
  */
 /** @typedef {{ point: Point, end: number | null } & Stretch} Part from one index to the next, or to the end of the file */
 
@@ -56,8 +55,8 @@ const SHEET_COMMANDS = {
     FILE: readFileLine,
     TRACK: readTrackLine,
     INDEX: readIndexLine,
-    PREGAP: readPregapLine,
-    POSTGAP: readPostgapLine,
+    PREGAP: (sheet, rest, line) => { trackBefore(sheet, line).pregap = framesOf(rest, line); },
+    POSTGAP: (sheet, rest, line) => { trackBefore(sheet, line).postgap = framesOf(rest, line); },
 };
 
 /** @type {(sheet: Sheet, rest: string, line: number) => void} */
@@ -102,16 +101,6 @@ function readIndexLine(sheet, rest, line) {
     sheet.points.push({ track, index, file, frame });
 }
 
-/** @type {(sheet: Sheet, rest: string, line: number) => void} */
-function readPregapLine(sheet, rest, line) {
-    trackBefore(sheet, line).pregap = framesOf(rest, line);
-}
-
-/** @type {(sheet: Sheet, rest: string, line: number) => void} */
-function readPostgapLine(sheet, rest, line) {
-    trackBefore(sheet, line).postgap = framesOf(rest, line);
-}
-
 /**
  * @param {Sheet} sheet
  * @param {number} line
@@ -144,20 +133,10 @@ export function tracksOf(sheet, sizes) {
         const own = parts.filter(part => part.point.track === track && part.point.index > 0);
         const [first, last] = [own[0], own[own.length - 1]];
         if (first.file !== last.file) throw sheetFault(`track ${track.number} lies in two files`, track.line);
-        const gap = parts.find(part => part.point.track === track && part.point.index === 0);
         const { number, type, sectorSize } = track;
         const { file, at, block } = first;
-        const tail = at === null || last.end === null ? 0 : (last.end - at) % sectorSize;
-        return { number, type, sectorSize, file, at, end: last.end, block, tail, gap: gap ? stretchOf(gap) : null };
+        return { number, type, sectorSize, file, at, end: last.end, block };
     });
-}
-
-/**
- * @param {Part} part
- * @returns {Stretch}
- */
-function stretchOf({ file, at, end, block }) {
-    return { file, at, end, block };
 }
 
 /**

@@ -1,6 +1,6 @@
 // The repair of an image by other dumps of the same disc.
 
-import { joinedBytes, sameBytes } from './bytes.js';
+import { PieceCutter, joinedBytes, sameBytes } from './bytes.js';
 import { tailsDiffer } from './compare.js';
 import { Fault } from './faults.js';
 import { RECORD, RECORD_SIZE, SECTOR_KIND } from './records.js';
@@ -20,11 +20,11 @@ import { isDamaged, surveyRange } from './survey.js';
  * differ; and how many sectors of each other image are sound and differ from sound ones.
  * @typedef {{ taken: (Run & { other: number })[], damaged: (Run & { elsewhere: boolean })[], disputed: Run[], different: number[] }} Found
  */
-/** @typedef {Found & { sectors: Uint8Array }} Merged with the sectors that are taken */
+/** @typedef {Found & { sectors: Uint8Array, end: number }} Merged with the sectors that are taken, and the block after the range */
 /**
- * The repaired image in pieces, null if a hundredth of the sectors of another image are sound and different: that is no dump of the same
- * disc, or it is shifted. `tails` says which other images differ after the last sector; the tail stays as it is.
- * @typedef {Found & { pieces: Piece[] | null, sectors: number, tails: boolean[] }} Repair
+ * What is found in all sectors. The repair is refused if more than a hundredth of the sectors of another image are sound and different:
+ * that is no dump of the same disc, or it is shifted. `tails` says which other images differ after the last sector.
+ * @typedef {Found & { refused: boolean, sectors: number, tails: boolean[] }} Repair
  */
 
 /** An image is refused if more than one in so many of its sectors is sound and different. */
@@ -42,7 +42,7 @@ export function mergeRange(calls, pieces, first, { shift }) {
     const merging = new Merging(calls, pieces, first, shift);
     const count = sectorCount(pieces[0].length);
     for (let i = 0; i < count; i++) merging.sector(i);
-    return { ...merging.found, sectors: joinedBytes(merging.sectors) };
+    return { ...merging.found, sectors: joinedBytes(merging.sectors), end: first + count };
 }
 
 /** What is found so far. Sectors of others that are as in the image have no record, as if they were no data. */
@@ -149,30 +149,31 @@ function differingRecords(calls, old, other, first) {
 
 /**
  * Repairs an image by others: sectors that are not consistent in it and are in another one, with the block's own address there, are
- * taken whole. Throws a Fault.
+ * taken whole. The pieces of the repaired image are given to `take` as they come, before it is known whether the repair is refused. The
+ * tail stays as it is. Throws a Fault.
  * @param {Crew} crew
  * @param {DiscImage} old
  * @param {DiscImage[]} others
- * @param {Sharing} [how]
+ * @param {Sharing} how
+ * @param {(piece: Piece) => void | Promise<void>} take
  * @returns {Promise<Repair>}
  */
-export async function mergeImages(crew, old, others, how) {
-    for (const other of others) {
-        assertSamePart(old, other);
-    }
+export async function mergeImages(crew, old, others, how, take) {
+    for (const other of others) assertSamePart(old, other);
     const found = nothingFound(others.length);
     const sectors = sectorCount(old.reader.size);
-    const pieces = new PatchedPieces(old.reader.size);
+    const pieces = new PieceCutter(take);
     // Blocks of an image that begins before block 0 count from 0 all the same.
     const shift = old.addressed !== null && old.addressed < 0 ? old.addressed - old.base : 0;
-    await crew.share('merge', [old, ...others].map(({ reader }) => reader), { shift }, { ...how, base: old.base }, answer => {
+    await crew.share('merge', [old, ...others].map(({ reader }) => reader), { shift }, { ...how, base: old.base }, async answer => {
         addAnswer(found, answer);
-        pieces.add(answer, old.base);
+        await cutAnswer(pieces, answer, old.base);
     });
+    await pieces.keep(old.reader.size);
     const refused = found.different.some(count => count * MOST_DIFFERENT > sectors);
     const tails = [];
     for (const other of others) tails.push(await tailsDiffer(old.reader, other.reader));
-    return { ...found, pieces: refused ? null : pieces.all(), sectors, tails };
+    return { ...found, refused, sectors, tails };
 }
 
 /**
@@ -200,39 +201,17 @@ function addAnswer(found, { taken, damaged, disputed, different }) {
     different.forEach((count, other) => { found.different[other] += count; });
 }
 
-/** The pieces of an image in which some sectors are others. */
-class PatchedPieces {
-    /** @param {number} size of the image */
-    constructor(size) {
-        this.size = size;
-        /** @type {Piece[]} */
-        this.pieces = [];
-        this.end = 0;
+/**
+ * @param {PieceCutter} pieces
+ * @param {Merged} answer
+ * @param {number} base
+ */
+async function cutAnswer(pieces, { taken, sectors, end }, base) {
+    let done = 0;
+    for (const { first, last } of taken) {
+        const size = (last - first + 1) * SECTOR_SIZE;
+        await pieces.put((first - base) * SECTOR_SIZE, sectors.subarray(done, done + size));
+        done += size;
     }
-
-    /**
-     * @param {Merged} answer
-     * @param {number} base
-     */
-    add({ taken, sectors }, base) {
-        let done = 0;
-        for (const { first, last } of taken) {
-            const size = (last - first + 1) * SECTOR_SIZE;
-            this.slice((first - base) * SECTOR_SIZE);
-            this.pieces.push({ at: this.end, bytes: sectors.subarray(done, done + size) });
-            this.end += size;
-            done += size;
-        }
-    }
-
-    /** @param {number} end where the slice ends */
-    slice(end) {
-        if (this.end < end) this.pieces.push({ from: this.end, to: end });
-        this.end = end;
-    }
-
-    all() {
-        this.slice(this.size);
-        return this.pieces;
-    }
+    await pieces.keep((end - base) * SECTOR_SIZE);
 }
