@@ -106,7 +106,13 @@ test('fields that differ, and a tail that does', () => inDirectory(async room =>
 }));
 
 test('what fails at the very end is no finding', () => inDirectory(room => {
-    write(room, { image: imageOf(room, 3), 'close.cjs': "require('node:fs').closeSync = () => { throw new Error('EIO'); };" });
+    // Only the image can't be closed: node 18 closes by the same call what it loads.
+    const preload = `const fs = require('node:fs');
+        const [open, closeSync] = [fs.open, fs.closeSync];
+        let image = -1;
+        fs.open = (name, flags, done) => open(name, flags, (error, descriptor) => { image = descriptor; done(error, descriptor); });
+        fs.closeSync = descriptor => { if (descriptor === image) throw new Error('EIO'); closeSync(descriptor); };`;
+    write(room, { image: imageOf(room, 3), 'close.cjs': preload });
     const { status, stderr } = spawnSync(process.execPath, ['-r', './close.cjs', command, 'list', 'image'], { cwd: room, encoding: 'utf8' });
     assert.equal(status, 2);
     assert.match(stderr, /^cdscript: a fault in cdscript itself: Error: EIO\n/);
