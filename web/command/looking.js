@@ -65,18 +65,17 @@ export async function filesJob(run) {
 }
 
 /**
- * The files of a part, or none where it has no volume that can be listed.
- * @param {Run} run
+ * The files of a part. If it has no volume that can be listed there are none, and `why` is what to say then.
  * @param {DiscImage} part
- * @returns {Promise<FileEntry[]>}
+ * @returns {Promise<{ files: FileEntry[], why: string[] }>}
  */
-async function filesIfAny(run, part) {
+async function filesIfAny(part) {
     try {
-        return (await filesOf(part.reader, part.base)).files;
+        const { files } = await filesOf(part.reader, part.base);
+        return { files, why: [] };
     } catch (error) {
         if (!(error instanceof VolumeFault)) throw error;
-        run.messages.say(`no file is named: ${error.message}`);
-        return [];
+        return { files: [], why: [`no file is named: ${error.message}`] };
     }
 }
 
@@ -118,9 +117,10 @@ export async function findJob(run) {
     const { limit = DEFAULT_LIMIT } = run.options;
     const target = await run.target();
     const { part } = await openTrack(run, run.names[0]);
-    const found = await hitsOf(run, part, run.names[1], limit);
+    // The files are read while the threads search.
+    const [found, { files, why }] = await Promise.all([hitsOf(run, part, run.names[1], limit), filesIfAny(part)]);
     const { count, hits } = found || { count: 0, hits: [] };
-    const files = hits.length > 0 ? await filesIfAny(run, part) : [];
+    if (hits.length > 0) why.forEach(text => run.messages.say(text));
     for (const hit of hits) {
         const text = found && await around(part, found.encoding, hit);
         await target.write(bytesOfLines([[hit.block, hit.offset, hit.size, filesText(files, hit), text].join('\t')]));
@@ -151,11 +151,13 @@ function rowText(user, at, encoding) {
  */
 async function sectorLines(run, part, sector, place) {
     const [found] = new TextDecoder().decode(run.calls.audit(sector, place.block).text).split('\n');
+    const { files, why } = await filesIfAny(part);
+    why.forEach(text => run.messages.say(text));
     const edc = Array.from(sector.subarray(FIELDS.edc, FIELDS.zeros), hexByte).join('');
     return [
         `block ${place.block} address ${addressText(addressIn(sector, 0))} ${kindName(run.calls.kind(sector))} edc ${edc}`,
         ...found.startsWith('sectors ') ? [] : [`wrong: ${found.replace(/^\d+ /, '')}`],
-        `file ${filesText(await filesIfAny(run, part), place)}`,
+        `file ${filesText(files, place)}`,
     ];
 }
 
