@@ -5,7 +5,7 @@ import { bytesOfPieces } from '../core/bytes.js';
 import { MOST_SECTORS, SECTOR_SIZE } from '../core/sector.js';
 import { FileFault, hasCode, tryFile } from './failures.js';
 import { pause } from './pausing.js';
-import { PiecesReader, STREAM_STEP } from './pieces.js';
+import { STREAM_STEP, readerOfPieces } from './pieces.js';
 
 /** @typedef {import('../core/bytes.js').Piece} Piece */
 /** @typedef {import('../core/bytes.js').Reader} Reader */
@@ -235,7 +235,7 @@ export class Files {
             taken += piece.length;
             if (taken > LONGEST_STREAM) break;
         }
-        return new PiecesReader(pieces);
+        return readerOfPieces(pieces);
     }
 
     /**

@@ -19,35 +19,28 @@ import { bytesOfLines } from './words.js';
 const HASHED = 1 << 22;
 
 /**
- * A reader that hashes what it is read, which has to be all bytes, one after the other.
- * @implements {Reader}
+ * A reader that hashes what it is read, which has to be all bytes, one after the other; and its SHA-1, after what was not read yet.
+ * @param {Reader} reader
+ * @returns {Reader & { digest(): Promise<string> }}
  */
-class HashingReader {
-    /** @param {Reader} reader */
-    constructor(reader) {
-        this.reader = reader;
-        this.size = reader.size;
-        this.hash = createHash('sha1');
-        this.hashed = 0;
-    }
-
-    /**
-     * @param {number} at
-     * @param {number} length
-     */
-    async read(at, length) {
-        const bytes = await this.reader.read(at, length);
-        if (at !== this.hashed) throw new RangeError(`byte ${at} after ${this.hashed} bytes`);
-        this.hash.update(bytes);
-        this.hashed += bytes.length;
-        return bytes;
-    }
-
-    /** The SHA-1 of all, after what was not read yet. */
-    async digest() {
-        while (this.hashed < this.size) await readBytes(this, this.hashed, Math.min(HASHED, this.size - this.hashed));
-        return this.hash.digest('hex');
-    }
+function hashing(reader) {
+    const { size } = reader;
+    const hash = createHash('sha1');
+    let hashed = 0;
+    return {
+        size,
+        async read(at, length) {
+            const bytes = await reader.read(at, length);
+            if (at !== hashed) throw new RangeError(`byte ${at} after ${hashed} bytes`);
+            hash.update(bytes);
+            hashed += bytes.length;
+            return bytes;
+        },
+        async digest() {
+            while (hashed < size) await readBytes(this, hashed, Math.min(HASHED, size - hashed));
+            return hash.digest('hex');
+        },
+    };
 }
 
 /**
@@ -86,7 +79,7 @@ async function discLines(run) {
     const files = [];
     let [found, lines] = [false, /** @type {string[]} */ ([])];
     for (const file of disc.files) {
-        const reader = new HashingReader(file.reader);
+        const reader = hashing(file.reader);
         if (opened && opened.track.file === disc.files.indexOf(file)) ({ found, lines } = await surveyLines(run, opened.image, reader));
         files.push(`file ${file.name} bytes ${file.reader.size} sha1 ${await reader.digest()}`);
     }

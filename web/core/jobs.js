@@ -101,21 +101,14 @@ export function transfersOf({ answer }) {
 
 /**
  * A hand that works at once, in this thread.
- * @implements {Hand}
+ * @param {Calls} calls
+ * @returns {Hand}
  */
-export class LocalHand {
-    /** @param {Calls} calls */
-    constructor(calls) {
-        this.serve = serving(calls);
-        /** @type {(reply: Reply) => void} */
-        this.onreply = () => {};
-        this.onfault = () => {};
-    }
-
-    /** @param {Message} message */
-    post(message) {
-        this.onreply(this.serve(message));
-    }
+export function localHand(calls) {
+    const serve = serving(calls);
+    /** @type {Hand} */
+    const hand = { post: message => hand.onreply(serve(message)), onreply() {}, onfault() {} };
+    return hand;
 }
 
 /**
