@@ -3,10 +3,8 @@
 # agree with it. The last line is 'N passed, M failed'.
 set -u
 . "$(dirname "$0")/helpers.sh"
+. "$tests/edits.sh"
 export ANSWERS=$scratch PROGRAM=$program
-
-# joined WEB OUT: joins cdscript of the sources in a `web`.
-joined() { python3 -B "$top/tools/join.py" command "$top/library/cdpatch.wasm" "$2" --web "$1" --notices NOTICES; }
 
 # tested COMMAND WORD..: runs node with these words on a joined command, with a line in `tap` for each test.
 tested() {
@@ -15,41 +13,11 @@ tested() {
     COMMAND=$command node --test-reporter=tap "$@" > tap 2>&1
 }
 
-# The tests of the command, each by its name.
-test_command() {
-    judge 'the answers of worked and random cases' python3 -B "$tests/core/answers.py" "$ANSWERS" 300 command
-    judge 'all tests of the command' tested "$PWD/cdscript" --test "$tests"/cdscript/*.test.mjs
-    judge_tap cdscript
-    [ "$failed" = 0 ] || grep -E -A 12 '^ *not ok' tap | head -n 60
-}
-
-# refused EDIT: whether the test that an edit names fails, if the command is changed so.
-refused() {
-    local file name pattern
-    rm -rf wrong
-    cp -r "$top/web" wrong
-    { read -r file && read -r name && read -r pattern; } < <(node "$tests/core/wrong.mjs" "$1" wrong) || return
-    joined wrong wrong/cdscript || return
-    tested "$PWD/wrong/cdscript" --test-name-pattern="$pattern" "$tests/cdscript/$file"
-    grep -qE "^ *not ok [0-9]+ - $name\$" tap
-}
-
-# A test that is skipped, for want of a command, refuses nothing.
-test_wrong() {
-    local edit name result
-    for edit in "$tests"/cdscript/wrong/*.edit; do
-        name=${edit##*/}
-        name=${name%.edit}
-        name="a wrong command is refused: ${name//_/ }"
-        : > tap
-        refused "$edit"
-        result=$?
-        if [ $result != 0 ] && grep -qE '^ *ok .* # SKIP no ' tap; then
-            skip "$name, since its test is skipped"
-        else
-            judge "$name" [ $result = 0 ]
-        fi
-    done
+# wrong_command: makes the command `wrong` of the joined one as an edit says, whose words have to stand there once.
+wrong_command() {
+    cp cdscript wrong
+    wrong=$PWD/wrong
+    apply_edit wrong
 }
 
 # The program's messages of files, as the command has them: those of tests/messages.sh.
@@ -95,11 +63,12 @@ test_all() {
     missing node nodejs 'cdscript' && return
     missing python3 python3 'cdscript' && return
     cp "$top/library/NOTICES" NOTICES 2> /dev/null || echo 'who made what' > NOTICES
-    joined "$top/web" cdscript || return
+    python3 -B "$top/tools/join.py" command "$top/library/cdpatch.wasm" cdscript --notices NOTICES || return
     judge "the program's messages" messages_agree
     judge 'help, the man page and the completions have the same jobs and options' pages_agree
-    test_command
-    test_wrong
+    judge 'the answers of worked and random cases' python3 -B "$tests/core/answers.py" "$ANSWERS" 300 command
+    test_by_name cdscript "$PWD/cdscript" --test "$tests"/cdscript/*.test.mjs
+    refuse_edits command "$tests/cdscript/wrong" wrong_command
     missing tsc node-typescript 'the types of cdscript' || judge 'the types of cdscript' typed
     missing eslint eslint 'the forms of cdscript' || judge 'the forms of cdscript' linted
 }

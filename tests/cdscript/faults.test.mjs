@@ -84,7 +84,7 @@ test('short reads and writes change nothing', { skip: !hasDisc && 'no genisoimag
         for (const words of JOBS) {
             const due = await faultyCall(room, streams, words, () => null);
             const came = await faultyCall(room, streams, words, (name, [descriptor]) =>
-                (name === 'readSync' || name === 'writeSync') && descriptor > 2 ? 'short' : null);
+                ['read', 'readSync', 'writeSync'].includes(name) && descriptor > 2 ? 'short' : null);
             assert.deepEqual([came.status, came.out, came.errors], [due.status, due.out, due.errors], words.join(' '));
             if (due.file !== null) sameFile(came.file, due.file, words.join(' '));
         }
@@ -145,6 +145,22 @@ test('a full pipe is waited for', () => inDirectory(room => {
     assert.equal(stdout, shell('"$PROGRAM" audit image | md5sum', room).stdout);
 }));
 
+test('a file system that can not sync is no failure, and a sync that fails is one', () => inDirectory(room => inDirectory(async streams => {
+    write(room, { image: imageOf(room, 3) });
+    for (const [code, status] of [['EINVAL', 0], ['EIO', 2], ['ENOSPC', 2]]) {
+        const came = await faultyCall(room, streams, ['user', 'image', 'OUT'], name => name === 'fsync' ? faults.errorOf(code) : null);
+        assert.deepEqual([came.status, came.file === null], [status, status === 2], `${code}: ${came.errors}`);
+    }
+})));
+
+test('want of memory is said so, in a thread too', () => inDirectory(room => {
+    const sector = imageOf(room, 1);
+    write(room, { image: Buffer.concat(Array.from({ length: 9000 }, () => sector)) });
+    const env = { ...process.env, NO_MEMORY: '1' };
+    const { status, stderr } = spawnSync(process.execPath, ['-r', preload, command, 'audit', 'image'], { cwd: room, env, encoding: 'utf8' });
+    assert.deepEqual([status, stderr], [2, 'cdscript: no memory\n']);
+}));
+
 test('a full disk leaves no file', t => inDirectory(room => {
     const made = shell('mkdir small && mount -t tmpfs -o size=200k none small', room);
     if (made.status !== 0) return t.skip('no right to mount');
@@ -175,5 +191,21 @@ test('a signal leaves no half file', () => inDirectory(async room => {
         child.kill(signal);
         assert.equal(await ended, signal);
         assert.equal(existsSync(join(room, 'out')), false, signal);
+    }
+}));
+
+test('a signal ends what waits for its input, and leaves no file', () => inDirectory(async room => {
+    tool('mkfifo', ['pipe'], { cwd: room });
+    for (const [name, stdin] of [['-', 'pipe'], ['pipe', 'ignore']]) {
+        const child = spawn(process.execPath, [command, 'user', name, 'out'], { cwd: room, stdio: [stdin, 'ignore', 'ignore'] });
+        const ended = new Promise(resolve => child.on('exit', (_, by) => resolve(by)));
+        for (let i = 0; i < 400 && !existsSync(join(room, 'out')); i++) await new Promise(resolve => setTimeout(resolve, 20));
+        await new Promise(resolve => setTimeout(resolve, 300));
+        assert.ok(existsSync(join(room, 'out')), 'the file is begun');
+        child.kill('SIGINT');
+        const late = setTimeout(() => child.kill('SIGKILL'), 5000);
+        assert.equal(await ended, 'SIGINT', name);
+        clearTimeout(late);
+        assert.equal(existsSync(join(room, 'out')), false, name);
     }
 }));

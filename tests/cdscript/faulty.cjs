@@ -5,28 +5,35 @@ const fs = require('node:fs');
 
 const faults = { hit: () => null };
 
-for (const name of ['openSync', 'fstatSync', 'readSync', 'writeSync', 'fsyncSync', 'readdirSync']) {
+for (const name of ['open', 'openSync', 'fstatSync', 'read', 'readSync', 'writeSync', 'fsync', 'readdirSync']) {
     const right = fs[name];
+    const isRead = name.startsWith('read');
+    const isLate = !name.endsWith('Sync');
     fs[name] = (...given) => {
         const fault = faults.hit(name, given);
+        if (fault instanceof Error && isLate) return given.pop()(fault);
         if (fault instanceof Error) throw fault;
         if (fault !== 'short') return right(...given);
         const [descriptor, bytes, at, ...rest] = given;
-        const size = Math.max(1, Math.floor((name === 'readSync' ? rest[0] : bytes.length - at) / 2));
-        return right(descriptor, bytes, at, size, ...(name === 'readSync' ? [rest[1]] : []));
+        const size = Math.max(1, Math.floor((isRead ? rest[0] : bytes.length - at) / 2));
+        return right(descriptor, bytes, at, size, ...(isRead ? rest.slice(1) : []));
     };
 }
 
 /** An error of the system with a code. */
 faults.errorOf = code => Object.assign(new Error(code), { code });
 
-// As a preload of a process: each write to a file takes that many milliseconds, or a file shrinks once it is read.
+// As a preload of a process: each write to a file takes that many milliseconds, or the memory of a thread does not grow.
 if (process.env.SLOW !== undefined) {
     const pausing = new Int32Array(new SharedArrayBuffer(4));
     faults.hit = (name, [descriptor]) => {
         if (name === 'writeSync' && descriptor > 2) Atomics.wait(pausing, 0, 0, Number(process.env.SLOW));
         return null;
     };
+}
+
+if (process.env.NO_MEMORY !== undefined && !require('node:worker_threads').isMainThread) {
+    WebAssembly.Memory.prototype.grow = () => { throw new RangeError('WebAssembly.Memory.grow(): Maximum memory size exceeded'); };
 }
 
 module.exports = faults;

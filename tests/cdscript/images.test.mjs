@@ -119,6 +119,22 @@ test('a repair takes sound sectors only, of the first image that has one', () =>
     sameFile(read(room, 'whole'), withTail(good), 'the repaired image');
 }));
 
+test('a repair of many places names the first of them', () => inDirectory(async room => {
+    const good = imageOf(room, 2500);
+    const odd = Array.from({ length: 1200 }, (_, i) => [2 * i + 1, 100 + i]);
+    const other = Buffer.concat([good, Buffer.from('b')]);
+    good.copy(other, 2352 * 11, 2352 * 12, 2352 * 13);
+    write(room, { old: Buffer.concat([damaged(good, 0, ...odd), Buffer.from('a')]), other });
+    const { status, out, errors } = await run(['merge', 'old', 'other', 'out'], { cwd: room });
+    assert.deepEqual([status, errors], [1, 'cdscript: the bytes after the last sector are others in other; those of old are kept\n']);
+    const lines = out.split('\n');
+    const due = odd.map(([block]) => block).filter(block => block !== 11).slice(0, 1000).map(block => `${block}-${block} from other`);
+    assert.deepEqual(lines, [...due, 'and so on: 1199 places in all', '11-11 sound only with the address of another block',
+        'taken 1199 damaged 1 disputed 0 different 0', '']);
+    const due2 = Buffer.concat([damaged(good, 0, odd[5]), Buffer.from('a')]);
+    sameFile(read(room, 'out'), due2, 'the repaired image');
+}));
+
 test('what no repair takes', () => inDirectory(async room => {
     const good = imageOf(room, 300, 30);
     write(room, { old: damaged(good, 30, [40, 100]), long: Buffer.concat([good, Buffer.alloc(1)]), later: imageOf(room, 300, 31) });
@@ -173,6 +189,7 @@ const WRONG_WORDS = {
     'check --carry=1 a b': '--carry takes no value',
     'find a b --encoding latin': "there is no encoding 'latin' here",
     'find a b --encoding hex --table t': '--encoding and --table exclude each other',
+    'diff a b --skip-damaged --fields': '--fields and --skip-damaged exclude each other',
     'replace a 1 0 b c --all': '--all and a place exclude each other',
     'replace a b c --fill 2': "--fill is two hexadecimal digits for each byte, not '2'",
     'show a x': "a block is a number from 0 to 999999999, not 'x'",

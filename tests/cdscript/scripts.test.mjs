@@ -166,12 +166,22 @@ test('a script of the difference leads from the one image to the other, and its 
     assert.match(fields.out, /^5003 user=\d+ edc=4 parity=\d+\n5004 .*\n5100 .*\n5200 header=3 user=1 edc=4 parity=\d+\nsectors 400 differ 4\n$/);
 }));
 
+test('undo says that its script needs --carry', () => inDirectory(async room => {
+    const image = damaged(imageOf(room, 8), 0, [3, 2100]);
+    write(room, { image, edit: 'cdpatch 1\nset 3 0 41\n', other: 'cdpatch 1\nset 4 0 41\n' });
+    const { status, errors } = await run(['undo', '--carry', 'image', 'edit', '-o', 'back'], { cwd: room });
+    assert.deepEqual([status, errors], [0, 'cdscript: the script patches damaged sectors: it needs --carry\n']);
+    write(room, { edited: applied(room, 'image', 'edit', '--carry') });
+    sameFile(applied(room, 'edited', 'back', '--carry'), image, 'the image before');
+    assert.equal((await run(['undo', '--carry', 'image', 'other'], { cwd: room })).errors, '');
+}));
+
 test('what no script can say is named, and nothing is written', () => inDirectory(async room => {
     const image = imageOf(room, 20);
     const other = damaged(image, 0, [3, 100], [4, 2000], [9, 15], [11, 5]);
     write(room, { image, other, tail: Buffer.concat([image, Buffer.from('a')]), tail2: Buffer.concat([image, Buffer.from('b')]) });
-    const named = 'cdscript: blocks 3 to 4: damaged in other\ncdscript: block 9: mode1 and other: a script changes only mode1\n' +
-        'cdscript: block 11: mode1 and nosync: a script changes only mode1\n';
+    const named = 'cdscript: other is damaged in blocks 3 to 4\ncdscript: mode1 and other in block 9, and a script changes only mode1\n' +
+        'cdscript: mode1 and nosync in block 11, and a script changes only mode1\n';
     await refuses(room, ['diff', 'image', 'other'], 'no script leads to that image, so none is written');
     assert.ok((await run(['diff', 'image', 'other'], { cwd: room })).errors.startsWith(named));
     assert.equal((await run(['diff', 'image', 'other', '--skip-damaged'], { cwd: room })).status, 2);
@@ -180,7 +190,7 @@ test('what no script can say is named, and nothing is written', () => inDirector
     write(room, { hurt: damaged(image, 0, [3, 100]) });
     const left = await run(['diff', 'image', 'hurt', '--skip-damaged'], { cwd: room });
     assert.deepEqual([left.status, left.out], [1, 'cdpatch 1\n']);
-    assert.ok(left.errors.startsWith('cdscript: block 3: damaged in hurt\n'));
+    assert.ok(left.errors.startsWith('cdscript: hurt is damaged in block 3\n'));
 }));
 
 test('a script of more patches than cdpatch takes', () => inDirectory(async room => {

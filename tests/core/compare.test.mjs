@@ -6,8 +6,9 @@ import { calls, core, diceOf, readerOf, sameBytes, someImage } from './common.mj
 import { localCrew, withThreads } from './crews.mjs';
 import { CHANGES, RAW, blocksOf, changedImage, countOf, patchedBy, sectorAt, sound, soundImage, textOf } from './pairs.mjs';
 
-const { compareImages, diffRange } = await core('compare.js');
+const { SECOND_STATE, compareImages, diffRange, differRange } = await core('compare.js');
 const { ScriptParts } = await core('output.js');
+const { blocksText } = await core('runs.js');
 
 const BASE = 33;
 const SAID = ['bytes', 'run', 'whole', 'address', 'both', 'sound'];
@@ -133,7 +134,7 @@ test('another tail and another length', async () => {
     fresh[5 * RAW + 19] ^= 1;
     const { script, left, tail, changed } = await compared(old, fresh, { skipDamaged: true });
     assert.deepEqual([script, left, tail, changed], [null, [], true, 0]);
-    const fault = { name: 'LengthFault', message: `the images have ${old.length} and ${old.length - 1} bytes, and no script changes a length` };
+    const fault = { name: 'Fault', message: `the images have ${old.length} and ${old.length - 1} bytes, and no script changes a length` };
     await assert.rejects(compared(old, old.subarray(0, old.length - 1)), fault);
 });
 
@@ -149,6 +150,9 @@ test('ranges of 1 to 4096 sectors agree, and threads agree with one process', as
     });
 });
 
+/** What lines say of themselves if nothing is special. */
+const PLAIN = { version: 1, carry: false, left: [] };
+
 test('more patches than cdpatch takes need --long', async () => {
     const old = soundImage(diceOf(11), 350, BASE);
     const fresh = old.slice();
@@ -162,16 +166,55 @@ test('more patches than cdpatch takes need --long', async () => {
     assert.deepEqual([more.script.patches, more.script.long], [65536, true]);
     const scriptOf = count => {
         const parts = new ScriptParts();
-        parts.push({ text: new Uint8Array(1), patches: count, version: 1 });
+        parts.push({ text: new Uint8Array(1), patches: count, ...PLAIN });
         return parts.script(calls);
     };
     assert.deepEqual([0, 1, 65535, 65536].map(count => scriptOf(count).long), [false, false, false, true]);
 });
 
+test('a need of --carry is kept, whichever lines have it', () => {
+    for (const carried of [[], [0], [1], [2], [0, 1, 2]]) {
+        const parts = new ScriptParts();
+        [0, 1, 2].forEach(i => parts.push({ text: new Uint8Array(1), patches: 1, ...PLAIN, carry: carried.includes(i) }));
+        assert.equal(parts.script(calls).carry, carried.length > 0);
+    }
+});
+
+test('the bytes that differ are counted by their fields', () => {
+    const ends = [12, 16, 2064, 2068, 2076, 2352];
+    let seen = 0;
+    for (let seed = 0; seed < 20; seed++) {
+        const dice = diceOf(seed);
+        const old = changedImage(dice, soundImage(dice, 12, BASE), ['damaged'], 3);
+        const fresh = changedImage(dice, old, ['bytes', 'address', 'sound', 'damaged', 'damaged', 'mode', 'sync'], 2);
+        const due = { blocks: [], fields: [], states: [] };
+        for (let i = 0; i < 12; i++) {
+            const [a, b] = [sectorAt(old, i), sectorAt(fresh, i)];
+            const places = Array.from(a.keys()).filter(at => a[at] !== b[at]);
+            if (places.length === 0) continue;
+            due.blocks.push(BASE + i);
+            due.fields.push(...ends.map((end, k) => places.filter(at => at < end && at >= (ends[k - 1] ?? 0)).length));
+            const sound2 = calls.isConsistent(b) ? SECOND_STATE.SOUND : SECOND_STATE.DAMAGED;
+            due.states.push(calls.kind(b) === 2 ? sound2 : SECOND_STATE.NOT_MODE1);
+        }
+        const came = differRange(calls, old, fresh, BASE);
+        assert.deepEqual({ blocks: [...came.blocks], fields: [...came.fields], states: [...came.states] }, due, `seed ${seed}`);
+        seen += due.blocks.length;
+    }
+    assert.ok(seen > 80, `${seen}`);
+});
+
+test('blocks of runs in words', () => {
+    const runs = [{ first: 3, last: 3 }, { first: 5, last: 6 }, { first: 9, last: 20 }];
+    assert.deepEqual([1, 2, 3].map(count => blocksText(runs.slice(0, count))), ['block 3', 'blocks 3 and 5 to 6', 'blocks 3, 5 to 6 and 9 to 20']);
+    assert.equal(blocksText(runs.slice(1, 2)), 'blocks 5 to 6');
+    assert.deepEqual([1, 2, 3].map(most => blocksText(runs, most)), ['blocks 3 and 14 more', 'blocks 3, 5 to 6 and 12 more', 'blocks 3, 5 to 6 and 9 to 20']);
+});
+
 test('a script of more bytes than cdpatch takes needs --long', () => {
     const sizedScript = size => {
         const parts = new ScriptParts();
-        parts.push({ text: new Uint8Array(size - 'cdpatch 1\n'.length), patches: 1, version: 1 });
+        parts.push({ text: new Uint8Array(size - 'cdpatch 1\n'.length), patches: 1, ...PLAIN });
         return parts.script(calls);
     };
     assert.equal(sizedScript(67108864).size, 67108864);
@@ -181,9 +224,9 @@ test('a script of more bytes than cdpatch takes needs --long', () => {
 test('a script that would not fit in memory is refused', () => {
     const parts = new ScriptParts();
     const text = new Uint8Array(1 << 20);
-    for (let i = 0; i < 1024; i++) parts.push({ text, patches: 1, version: 1 });
-    assert.throws(() => parts.push({ text: text.subarray(0, 1), patches: 1, version: 1 }),
-        { name: 'LengthFault', message: 'the script would have more than 1073741824 bytes: too much differs' });
+    for (let i = 0; i < 1024; i++) parts.push({ text, patches: 1, ...PLAIN });
+    assert.throws(() => parts.push({ text: text.subarray(0, 1), patches: 1, ...PLAIN }),
+        { name: 'Fault', message: 'the script would have more than 1073741824 bytes: too much differs' });
 });
 
 test('lines that the module does not take, or that give other sectors, are not given out', async () => {
@@ -198,7 +241,7 @@ test('lines that the module does not take, or that give other sectors, are not g
     ];
     for (const wrong of wrongs) {
         const broken = Object.assign(Object.create(calls), wrong);
-        assert.throws(() => diffRange(broken, old, fresh, BASE), { name: 'WrongLines' });
+        assert.throws(() => diffRange(broken, old, fresh, BASE), { name: 'Fault', message: /would not give the right sector/ });
     }
     assert.ok(diffRange(calls, old, fresh, BASE).text.length > 0);
 });

@@ -3,10 +3,10 @@
 import { Worker } from 'node:worker_threads';
 import { calls, core, module } from './common.mjs';
 
-const { Crew, LocalHand } = await core('jobs.js');
+const { Crew, localHand } = await core('jobs.js');
 
 /** A crew of this thread. */
-export const localCrew = () => new Crew([new LocalHand(calls)]);
+export const localCrew = () => new Crew([localHand(calls)]);
 
 /** A crew of threads, which `use` has until it ends. */
 export async function withThreads(count, use) {

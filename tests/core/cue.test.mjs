@@ -12,29 +12,23 @@ const sheet = (...lines) => `FILE "game.bin" BINARY\r\n${lines.join('\r\n')}\r\n
 
 /** The tracks in short. @param {string} text @param {...number} sizes */
 function tracks(text, ...sizes) {
-    return tracksOf(sheetOf(text), sizes).map(({ number, file, at, end, block, gap, tail }) => ({
-        number, file, at, end, block, tail, gap: gap && [gap.file, gap.at, gap.end, gap.block],
-    }));
+    return tracksOf(sheetOf(text), sizes).map(({ number, file, at, end, block }) => ({ number, file, at, end, block }));
 }
 
 test('one file of one track', () => {
     const text = sheet('  TRACK 01 MODE1/2352', '    INDEX 01 00:00:00');
     assert.deepStrictEqual(sheetOf(text).files, [{ name: 'game.bin', raw: true }]);
     assert.deepStrictEqual(tracksOf(sheetOf(text), [100 * RAW]), [{
-        number: 1, type: 'MODE1/2352', sectorSize: RAW, file: 0, at: 0, end: 100 * RAW, block: 0, tail: 0, gap: null }]);
+        number: 1, type: 'MODE1/2352', sectorSize: RAW, file: 0, at: 0, end: 100 * RAW, block: 0 }]);
 });
 
-test('a cut last sector is counted', () => {
-    assert.strictEqual(tracks(sheet('TRACK 01 MODE1/2352', 'INDEX 01 00:00:00'), 3 * RAW + 2351)[0].tail, 2351);
-});
-
-test('one file of three tracks: a track begins at its INDEX 01, and INDEX 00 is its gap', () => {
+test('one file of three tracks: a track begins at its INDEX 01', () => {
     const text = sheet('TRACK 01 MODE1/2352', 'INDEX 01 00:00:00', 'TRACK 02 AUDIO', 'INDEX 00 00:02:00', 'INDEX 01 00:04:00',
         'TRACK 03 AUDIO', 'INDEX 01 00:06:10', 'INDEX 02 00:07:00');
     assert.deepStrictEqual(tracks(text, 1000 * RAW), [
-        { number: 1, file: 0, at: 0, end: 150 * RAW, block: 0, tail: 0, gap: null },
-        { number: 2, file: 0, at: 300 * RAW, end: 460 * RAW, block: 300, tail: 0, gap: [0, 150 * RAW, 300 * RAW, 150] },
-        { number: 3, file: 0, at: 460 * RAW, end: 1000 * RAW, block: 460, tail: 0, gap: null },
+        { number: 1, file: 0, at: 0, end: 150 * RAW, block: 0 },
+        { number: 2, file: 0, at: 300 * RAW, end: 460 * RAW, block: 300 },
+        { number: 3, file: 0, at: 460 * RAW, end: 1000 * RAW, block: 460 },
     ]);
 });
 
@@ -54,9 +48,9 @@ test('a file for each track: blocks go on from file to file', () => {
             INDEX 01 00:00:00`;
     assert.deepStrictEqual(sheetOf(text).files.map(file => file.name), ['Game (Track 1).bin', 'Game (Track 2).bin', 'Game Three.bin']);
     assert.deepStrictEqual(tracks(text, 500 * RAW, 700 * RAW, 20 * RAW), [
-        { number: 1, file: 0, at: 0, end: 500 * RAW, block: 0, tail: 0, gap: null },
-        { number: 2, file: 1, at: 150 * RAW, end: 700 * RAW, block: 650, tail: 0, gap: [1, 0, 150 * RAW, 500] },
-        { number: 3, file: 2, at: 0, end: 20 * RAW, block: 1200, tail: 0, gap: null },
+        { number: 1, file: 0, at: 0, end: 500 * RAW, block: 0 },
+        { number: 2, file: 1, at: 150 * RAW, end: 700 * RAW, block: 650 },
+        { number: 3, file: 2, at: 0, end: 20 * RAW, block: 1200 },
     ]);
 });
 
@@ -72,8 +66,8 @@ test('a gap in the file before, as some programs write it', () => {
     const text = `FILE "1.bin" BINARY\nTRACK 01 MODE1/2352\nINDEX 01 00:00:00\nTRACK 02 AUDIO\nINDEX 00 00:01:00
 FILE "2.bin" BINARY\nINDEX 01 00:00:00`;
     assert.deepStrictEqual(tracks(text, 100 * RAW, 50 * RAW), [
-        { number: 1, file: 0, at: 0, end: 75 * RAW, block: 0, tail: 0, gap: null },
-        { number: 2, file: 1, at: 0, end: 50 * RAW, block: 100, tail: 0, gap: [0, 75 * RAW, 100 * RAW, 75] },
+        { number: 1, file: 0, at: 0, end: 75 * RAW, block: 0 },
+        { number: 2, file: 1, at: 0, end: 50 * RAW, block: 100 },
     ]);
 });
 
@@ -92,7 +86,8 @@ FILE "3.bin" BINARY\nTRACK 03 AUDIO\nINDEX 01 00:00:00`;
 
 test('a sheet that can\'t be used names its line', () => {
     const refused = (/** @type {string} */ text, /** @type {number} */ place, /** @type {RegExp} */ message) =>
-        assert.throws(() => tracks(text, 100 * RAW), { place, message });
+        assert.throws(() => tracks(text, 100 * RAW), error => message.test(error.message) &&
+            (place === 0 || error.message.startsWith(`line ${place} of the cue sheet: `)));
     refused('', 0, /^the cue sheet has no track$/);
     refused('TRACK 01 AUDIO', 1, /^line 1 of the cue sheet: a track before the first FILE$/);
     refused('FILE x', 1, /FILE wants a name and a format/);

@@ -2,7 +2,7 @@
 
 import assert from 'node:assert/strict';
 import { test } from 'node:test';
-import { calls, core, diceOf, readerOf, sameBytes, someBytes } from './common.mjs';
+import { calls, core, diceOf, encoded, readerOf, sameBytes, someBytes } from './common.mjs';
 import { localCrew, withThreads } from './crews.mjs';
 import { isoOf } from './discs.mjs';
 import { CHANGES, RAW, countOf, patchedBy, sectorAt, sound, soundImage, textOf } from './pairs.mjs';
@@ -23,6 +23,12 @@ function withUser(image, user) {
     return made;
 }
 
+/** The script that replaces bytes at a place. */
+async function replacedAt(image, place, old, fresh) {
+    const { text, patches } = await replaceBytes(calls, imageOf(image), place, old, fresh);
+    return { pieces: [encoded('cdpatch 1\n'), text], patches };
+}
+
 test('bytes at any place, over borders of blocks too, and of any size', async () => {
     for (let seed = 0; seed < 30; seed++) {
         const dice = diceOf(seed);
@@ -32,7 +38,7 @@ test('bytes at any place, over borders of blocks too, and of any size', async ()
         const at = dice(user.length - size);
         const [old, fresh] = [Uint8Array.from(user.subarray(at, at + size)), someBytes(dice, size)];
         const place = { block: BASE + Math.floor(at / 2048), offset: at % 2048 };
-        const script = await replaceBytes(calls, imageOf(image), place, old, fresh);
+        const script = await replacedAt(image, place, old, fresh);
         user.set(fresh, at);
         sameBytes(await patchedBy(script, image, BASE), withUser(image, user), `seed ${seed}`);
         assert.equal(script.patches, Math.ceil(size / 4096));
@@ -67,7 +73,7 @@ test('another length is refused with both, and fewer bytes are filled up', async
     const image = soundImage(diceOf(3), 3, BASE);
     const old = Uint8Array.from(userOf(image).subarray(0, 6));
     const message = 'the new bytes are 5, the old ones 6';
-    await assert.rejects(replaceBytes(calls, imageOf(image), { block: BASE, offset: 0 }, old, old.subarray(0, 5)), { name: 'Error', message });
+    await assert.rejects(replaceBytes(calls, imageOf(image), { block: BASE, offset: 0 }, old, old.subarray(0, 5)), { name: 'Fault', message });
     assert.throws(() => filledUp(new Uint8Array(5), 6, null), { message });
     assert.throws(() => filledUp(new Uint8Array(7), 6, Uint8Array.of(0x20)), { message: 'the new bytes are 7, the old ones 6' });
     assert.deepEqual(filledUp(Uint8Array.of(1, 2), 6, Uint8Array.of(0x81, 0x40)), Uint8Array.of(1, 2, 0x81, 0x40, 0x81, 0x40));
@@ -151,7 +157,7 @@ test('a file that shrinks while it is read', async t => {
 
 test('bytes of sectors with addresses of other blocks keep them', async () => {
     const image = sound(5, new Uint8Array(2048));
-    const script = await replaceBytes(calls, imageOf(image), { block: BASE, offset: 0 }, Uint8Array.of(0), Uint8Array.of(1));
+    const script = await replacedAt(image, { block: BASE, offset: 0 }, Uint8Array.of(0), Uint8Array.of(1));
     const user = new Uint8Array(2048);
     user[0] = 1;
     sameBytes(await patchedBy(script, image, BASE), sound(5, user), 'the sector');

@@ -5,7 +5,7 @@ import { test } from 'node:test';
 import { calls, core, diceOf, readerOf, sameBytes, someImage } from './common.mjs';
 import { answersOf, localCrew, withThreads } from './crews.mjs';
 
-const { Crew, JOBS, LocalHand, serving, transfersOf } = await core('jobs.js');
+const { Crew, JOBS, localHand, serving, transfersOf } = await core('jobs.js');
 const { joinSurveys, surveyRange } = await core('survey.js');
 const { joinBases } = await core('image.js');
 const { addToRuns } = await core('runs.js');
@@ -160,7 +160,7 @@ test('what a job or its taker throws ends it', async () => {
 
 test('a worker that ends is an error of this job and of the next', async () => {
     const hand = new SlowHand();
-    const crew = new Crew([hand, new LocalHand(calls)]);
+    const crew = new Crew([hand, localHand(calls)]);
     const job = answersOf(crew, 'user', [readerOf(small)], {}, { step: 3 });
     await turn();
     hand.onfault(new Error('the worker has ended'));

@@ -10,7 +10,14 @@ const { mergeImages } = await core('merge.js');
 
 const BASE = 500;
 const imageOf = (bytes, base = BASE) => ({ name: 'image.bin', reader: readerOf(bytes), base, addressed: base, sectors: countOf(bytes), tail: bytes.length % RAW });
-const merged = (images, how = {}, crew = localCrew()) => mergeImages(crew, imageOf(images[0]), images.slice(1).map(it => imageOf(it)), how);
+
+/** What a repair finds, and its pieces. */
+async function repaired(crew, old, others, how = {}) {
+    const pieces = [];
+    return { ...await mergeImages(crew, old, others, how, piece => { pieces.push(piece); }), pieces };
+}
+
+const merged = (images, how = {}, crew = localCrew()) => repaired(crew, imageOf(images[0]), images.slice(1).map(it => imageOf(it)), how);
 
 const ownAddress = (sector, block) => Buffer.compare(sector.subarray(12, 15), calls.address(block)) === 0;
 
@@ -30,7 +37,7 @@ function due([old, ...others]) {
             found.taken.push({ block: BASE + i, other: fit[0] });
             if (fit.some(k => Buffer.compare(there[k], there[fit[0]]) !== 0)) found.disputed.push({ block: BASE + i });
         } else if ([here, ...there].some(it => calls.kind(it) === 2)) {
-            found.damaged.push({ block: BASE + i });
+            found.damaged.push({ block: BASE + i, elsewhere: there.some(it => calls.isConsistent(it)) });
         }
     }
     return { out, found };
@@ -52,7 +59,8 @@ test('merge takes what is consistent with its own address, and never changes a s
     let [taken, damaged] = [0, 0];
     for (let seed = 0; seed < 40; seed++) {
         const images = someDumps(diceOf(seed), 2 + seed % 3, 60);
-        const { pieces, sectors, ...rest } = await merged(images);
+        const { pieces, sectors, tails, refused, ...rest } = await merged(images);
+        assert.ok(!refused && tails.every(it => !it));
         const { out, found } = due(images);
         assert.deepEqual(foundOf(rest), found);
         assert.equal(sectors, 60);
@@ -73,7 +81,7 @@ test('a sector that is consistent but has the address of another block is not ta
     const other = image.slice();
     other.set(sound(BASE + 1, new Uint8Array(2048)), RAW * 2);
     const { pieces, taken, damaged } = await merged([old, other]);
-    assert.deepEqual([blocksOf(taken), blocksOf(damaged)], [[{ block: BASE + 1, other: 0 }], [{ block: BASE + 2 }]]);
+    assert.deepEqual([blocksOf(taken), blocksOf(damaged)], [[{ block: BASE + 1, other: 0 }], [{ block: BASE + 2, elsewhere: true }]]);
     const due2 = old.slice();
     due2.set(sectorAt(image, 1), RAW);
     sameBytes(joinedPieces(old, pieces), due2, 'the repaired image');
@@ -86,7 +94,8 @@ test('no sector of a damaged other image is taken, and the same damage in all is
     const other = old.slice();
     other.set(CHANGES.damaged(sectorAt(image, 3), diceOf(99)), RAW * 3);
     const { pieces, taken, damaged } = await merged([old, other]);
-    assert.deepEqual([taken, damaged], [[], [{ first: BASE + 1, last: BASE + 1 }, { first: BASE + 3, last: BASE + 4 }]]);
+    assert.deepEqual([taken, damaged], 
+        [[], [{ first: BASE + 1, last: BASE + 1, elsewhere: false }, { first: BASE + 3, last: BASE + 4, elsewhere: false }]]);
     assert.deepEqual(pieces, [{ from: 0, to: old.length }]);
 });
 
@@ -106,27 +115,39 @@ test('sound sectors that differ are counted, and above a hundredth of all the im
     const other = image.slice();
     for (let i = 0; i < 3; i++) other.set(CHANGES.bytes(sectorAt(image, 50 * i), diceOf(i)), RAW * 50 * i);
     const few = await merged([image, image, other], { step: 100 });
-    assert.deepEqual([few.different, few.pieces], [[0, 3], [{ from: 0, to: image.length }]]);
+    assert.deepEqual([few.different, few.refused], [[0, 3], false]);
+    sameBytes(joinedPieces(image, few.pieces), image, 'the image');
     other.set(CHANGES.bytes(sectorAt(image, 299), diceOf(9)), RAW * 299);
     const many = await merged([image, image, other], { step: 100 });
-    assert.deepEqual([many.different, many.pieces, many.sectors], [[0, 4], null, 300]);
+    assert.deepEqual([many.different, many.refused, many.sectors], [[0, 4], true, 300]);
 });
 
 test('a shifted dump is refused', async () => {
     const image = soundImage(diceOf(54), 301, BASE);
     const old = changedImage(diceOf(55), image.slice(0, 300 * RAW), ['damaged'], 9);
-    const { pieces, taken, different } = await merged([old, image.slice(RAW)]);
-    assert.deepEqual([pieces, taken], [null, []]);
+    const { refused, taken, different } = await merged([old, image.slice(RAW)]);
+    assert.deepEqual([refused, taken], [true, []]);
     assert.ok(different[0] > 200);
+});
+
+test('tails that differ are said, and the tail stays as it is', async () => {
+    const image = soundImage(diceOf(61), 3, BASE, 20);
+    const old = image.slice();
+    old.set(CHANGES.damaged(sectorAt(image, 1), diceOf(1)), RAW);
+    const other = image.slice();
+    other[3 * RAW + 19] ^= 1;
+    const { pieces, tails } = await merged([old, image, other]);
+    assert.deepEqual(tails, [false, true]);
+    sameBytes(joinedPieces(old, pieces), image, 'the repaired image');
 });
 
 test('another length and another base are refused', async () => {
     const image = soundImage(diceOf(56), 5, BASE);
     const lengths = `image.bin has ${5 * RAW} bytes and image.bin ${4 * RAW}: they are not dumps of one disc`;
-    await assert.rejects(merged([image, image, image.slice(0, 4 * RAW)]), { name: 'LengthFault', message: lengths });
+    await assert.rejects(merged([image, image, image.slice(0, 4 * RAW)]), { name: 'Fault', message: lengths });
     const other = { ...imageOf(image), name: 'other.bin', base: BASE + 1 };
     const message = `image.bin begins with block ${BASE}, other.bin with block ${BASE + 1}: they are not the same part of a disc`;
-    await assert.rejects(mergeImages(localCrew(), imageOf(image), [other], {}), { name: 'BaseFault', message });
+    await assert.rejects(repaired(localCrew(), imageOf(image), [other]), { name: 'Fault', message });
 });
 
 test('merge by ranges of 1 to 4096 sectors, and by threads, is the same', async () => {
@@ -144,8 +165,8 @@ test('blocks above the last address are not repaired', async () => {
     const image = soundImage(diceOf(58), 2, 449849);
     const old = image.slice();
     for (const i of [0, 1]) old.set(CHANGES.damaged(sectorAt(image, i), diceOf(i)), RAW * i);
-    const { taken, damaged } = await mergeImages(localCrew(), imageOf(old, 449849), [imageOf(image, 449849)], {});
-    assert.deepEqual([taken, damaged], [[{ first: 449849, last: 449849, other: 0 }], [{ first: 449850, last: 449850 }]]);
+    const { taken, damaged } = await repaired(localCrew(), imageOf(old, 449849), [imageOf(image, 449849)]);
+    assert.deepEqual([taken, damaged], [[{ first: 449849, last: 449849, other: 0 }], [{ first: 449850, last: 449850, elsewhere: true }]]);
 });
 
 test('an image that begins before block 0 is repaired by the addresses that it has', async () => {
@@ -153,8 +174,8 @@ test('an image that begins before block 0 is repaired by the addresses that it h
     const old = image.slice();
     for (const i of [0, 3]) old.set(CHANGES.damaged(sectorAt(image, i), diceOf(i)), RAW * i);
     const early = bytes => ({ ...imageOf(bytes, 0), addressed: -2 });
-    const { pieces, taken, damaged } = await mergeImages(localCrew(), early(old), [early(image)], {});
-    assert.deepEqual([taken, damaged], [[{ first: 3, last: 3, other: 0 }], [{ first: 0, last: 0 }]]);
+    const { pieces, taken, damaged } = await repaired(localCrew(), early(old), [early(image)]);
+    assert.deepEqual([taken, damaged], [[{ first: 3, last: 3, other: 0 }], [{ first: 0, last: 0, elsewhere: true }]]);
     const due3 = old.slice();
     due3.set(sectorAt(image, 3), RAW * 3);
     sameBytes(joinedPieces(old, pieces), due3, 'the repaired image');

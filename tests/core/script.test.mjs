@@ -4,7 +4,7 @@ import assert from 'node:assert/strict';
 import { test } from 'node:test';
 import { calls, core, cutAt, cutBy, decoded, encoded } from './common.mjs';
 
-const { MOST_SCRIPT_BYTES, Refusal, linesOf, patchesOf } = await core('script.js');
+const { MOST_SCRIPT_BYTES, Refusal, patchesOf } = await core('script.js');
 const { VERB, patchFields } = await core('records.js');
 
 const SCRIPTS = [
@@ -28,23 +28,11 @@ async function read(pieces, long) {
     return made instanceof Refusal ? { reason: made.reason, text: decoded(made.text) } : made;
 }
 
-async function linesIn(pieces) {
-    const lines = [];
-    for await (const line of linesOf(calls, pieces)) lines.push(decoded(line));
-    return lines;
-}
-
 test('a script cut at each byte is the same script', async () => {
     for (const script of SCRIPTS.map(encoded)) {
-        const [whole, lines] = [await read([script]), await linesIn([script])];
-        for (let at = 0; at <= script.length; at++) {
-            assert.deepEqual(await read(cutAt(script, at)), whole, `cut at ${at}`);
-            assert.deepEqual(await linesIn(cutAt(script, at)), lines, `cut at ${at}`);
-        }
-        for (const size of [1, 2, 3, 7]) {
-            assert.deepEqual(await read(given(cutBy(script, size))), whole, `pieces of ${size}`);
-            assert.deepEqual(await linesIn(given(cutBy(script, size))), lines, `pieces of ${size}`);
-        }
+        const whole = await read([script]);
+        for (let at = 0; at <= script.length; at++) assert.deepEqual(await read(cutAt(script, at)), whole, `cut at ${at}`);
+        for (const size of [1, 2, 3, 7]) assert.deepEqual(await read(given(cutBy(script, size))), whole, `pieces of ${size}`);
     }
 });
 
@@ -59,7 +47,12 @@ test('a script is the same if what is cut at a time ends at any byte of it', asy
 });
 
 test('lines end in LF or CR LF', async () => {
-    assert.deepEqual(await linesIn([encoded('a\r\nb\n\r\nc\rd\r\r\n\ne')]), ['a', 'b', '', 'c\rd\r', '', 'e']);
+    const plain = await read([encoded('cdpatch 1\n\nrebuild 1\nset 0 0 41\n')]);
+    assert.equal(plain.length, 2);
+    for (const script of ['cdpatch 1\r\n\r\nrebuild 1\r\nset 0 0 41\r\n', 'cdpatch 1\r\n\nrebuild 1\r\nset 0 0 41']) {
+        assert.deepEqual(await read([encoded(script)]), plain);
+    }
+    assert.equal((await read([encoded('cdpatch 1\nset 0 0 41\r')])).reason, 'script-fault');
     assert.deepEqual(await read([encoded(SCRIPTS[6])]), { reason: 'script-fault', text: 'script line 2: bad hex\n' });
     assert.deepEqual(await read([encoded(SCRIPTS[4])]), { reason: 'script-fault', text: 'script line 3: no cdpatch 1 line\n' });
 });
@@ -90,8 +83,7 @@ test('lines longer than what is cut at a time', async () => {
     const script = encoded(`cdpatch 1\n${long}\nrebuild 4\n${long}\r\nrebuild 3\n${long}`);
     const whole = await read([script]);
     assert.deepEqual(whole.map(patch => patch.number), [5, 3]);
-    for (const size of [999, 1 << 20, (1 << 20) + 1]) assert.deepEqual(await read(cutBy(script, size)), whole);
-    assert.deepEqual((await linesIn(cutBy(script, 65537))).map(line => line.length), [9, 3000001, 9, 3000001, 9, 3000001]);
+    for (const size of [999, 65537, 1 << 20, (1 << 20) + 1]) assert.deepEqual(await read(cutBy(script, size)), whole);
 });
 
 test('no more patches than the program takes, but for a long script', async () => {
@@ -132,6 +124,5 @@ test('a piece that cannot be read is no end of the script', async () => {
             throw new Error('no more of it');
         }
         await assert.rejects(patchesOf(calls, pieces()), /no more of it/);
-        await assert.rejects(linesIn(pieces()), /no more of it/);
     }
 });

@@ -151,15 +151,15 @@ test('UTF-8 and UTF-16 are those of the system, line ends and all', () => {
 test('hex is read in any case and with spaces, and written in capitals', () => {
     assert.strictEqual(encoded('HEX', '0a ff\n B0'), '0AFFB0');
     assert.strictEqual(decoded('hex', '0aff'), '0AFF');
-    assert.throws(() => encoded('hex', '0A F 0'), { place: 4, message: /half a byte/ });
-    assert.throws(() => encoded('hex', '0A zz'), { place: 4, message: 'hex has no \'z\' (U+007A), character 4 of the text' });
+    assert.throws(() => encoded('hex', '0A F 0'), { message: /character 4 of the text is half a byte/ });
+    assert.throws(() => encoded('hex', '0A zz'), { message: 'hex has no \'z\' (U+007A), character 4 of the text' });
 });
 
 test('a character without bytes is named, with its place', () => {
-    assert.throws(() => encoded('CP932', '上😀下é'), { place: 2, message: 'CP932 has no \'😀\' (U+1F600), character 2 of the text' });
-    assert.throws(() => encoded('sjis', '😎'), { place: 1 });
-    assert.throws(() => encoded('EUC-JP', '髙\n\u00A0'), { place: 3, message: 'EUC-JP has no U+00A0, character 3 of the text' });
-    for (const name of ['UTF-8', 'UTF-16LE', 'UTF-16BE']) assert.throws(() => encoded(name, '😀x\uD800'), { place: 3, message: /U\+D800/ });
+    assert.throws(() => encoded('CP932', '上😀下é'), { message: 'CP932 has no \'😀\' (U+1F600), character 2 of the text' });
+    assert.throws(() => encoded('sjis', '😎'), { message: /, character 1 of the text$/ });
+    assert.throws(() => encoded('EUC-JP', '髙\n\u00A0'), { message: 'EUC-JP has no U+00A0, character 3 of the text' });
+    for (const name of ['UTF-8', 'UTF-16LE', 'UTF-16BE']) assert.throws(() => encoded(name, '😀x\uD800'), { message: /U\+D800, character 3 of the text$/ });
 });
 
 test('encodings are known by their usual names, and no others', () => {
@@ -179,14 +179,14 @@ test('a table takes the longest match, both ways', () => {
     assert.strictEqual(hex(encodeText(own, 'abcaba= 漢\n<end>')), '03' + '0102' + '01' + '04' + '05' + '06' + 'FE' + '00');
     assert.strictEqual(own.text(Uint8Array.of(1, 2, 1, 3, 0x55, 0xFE, 0, 7)), 'abaabc\uFFFD\n<end>a');
     assert.deepStrictEqual(own.units('a').map(unit => unit.map(hex)), [['01', '07']]);
-    assert.throws(() => encodeText(own, 'abd'), { place: 3, message: 'the table has no \'d\' (U+0064), character 3 of the text' });
+    assert.throws(() => encodeText(own, 'abd'), { message: 'the table has no \'d\' (U+0064), character 3 of the text' });
 });
 
 test('a table that can\'t be read names its line', () => {
-    assert.throws(() => table('01=a\nxx=b'), { place: 2, message: 'line 2 of the table is not HEX=TEXT' });
-    assert.throws(() => table('01=a\n02='), { place: 2 });
-    assert.throws(() => table('01=a\n123=b'), { place: 2 });
-    assert.throws(() => table('01=a\n02=b\n01=c'), { place: 3, message: 'line 3 of the table: 01 stands twice' });
+    assert.throws(() => table('01=a\nxx=b'), { message: 'line 2 of the table is not HEX=TEXT' });
+    assert.throws(() => table('01=a\n02='), { message: /^line 2 / });
+    assert.throws(() => table('01=a\n123=b'), { message: /^line 2 / });
+    assert.throws(() => table('01=a\n02=b\n01=c'), { message: 'line 3 of the table: 01 stands twice' });
 });
 
 test('files of a person are UTF-8, or else CP932', () => {

@@ -73,7 +73,7 @@ test('carried damage comes back to the byte', async () => {
     const patched = await after(image, script, true);
     assert.equal(patched.text.split('\n')[3], 'applied 3 refused 0');
     const { script: undo, left } = await undone(image, script, { carry: true });
-    assert.deepEqual(left, []);
+    assert.deepEqual([left, undo.carry], [[], true]);
     sameBytes(await patchedBy(undo, patched.image, BASE, true), image, 'the image');
 });
 
@@ -98,7 +98,7 @@ test('patches that overlap are taken back from the last to the first', async () 
     const script = `cdpatch 1\nset ${BASE} 0 AAAA was 0000\nset ${BASE} 1 BBBB was AA00\nset ${BASE} 0 CC was AA\n`;
     const patched = await after(image, script, false);
     const { script: undo, left } = await undone(image, script);
-    assert.deepEqual(left, []);
+    assert.deepEqual([left, undo.carry], [[], false]);
     sameBytes(await patchedBy(undo, patched.image, BASE), image, 'the image');
 });
 

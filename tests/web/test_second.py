@@ -146,7 +146,7 @@ class Second(unittest.TestCase):
         self.pair(with_faults(), discs.game() + AUDIO[:-1] + bytes([AUDIO[-1] ^ 1]))
         self.assertEqual(self.tally(), [1, 1, 0])
         self.press('Write the script')
-        self.browser.wait('#second-body .say.bad', f'block {SECTORS - 1} differ, and a script changes only Mode 1 sectors')
+        self.browser.wait('#second-body .say.bad', f'nosync in block {SECTORS - 1}, and a script changes only mode1')
 
     def test_another_length_can_only_be_opened_instead(self) -> None:
         _, other = self.pair(with_faults(), with_faults() + AUDIO[:2 * SECTOR_SIZE])

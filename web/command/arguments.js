@@ -1,7 +1,7 @@
 // The arguments of the command line.
 
+import { Fault } from '../core/faults.js';
 import { encodingOf } from '../core/text.js';
-import { WrongArguments } from './failures.js';
 import { FORMS, OPTION_FORMS } from './forms.js';
 
 /**
@@ -11,6 +11,9 @@ import { FORMS, OPTION_FORMS } from './forms.js';
  *     version?: boolean, notices?: boolean }} Options
  */
 /** @typedef {{ job: string, names: string[], options: Options }} Given */
+
+/** Options of which only one is given. */
+const EXCLUDING = [['encoding', 'table'], ['fields', 'skipDamaged']];
 
 const LAST_BASE = 449849;
 const LAST_TRACK = 99;
@@ -23,21 +26,21 @@ const MOST_BLOCKS = 999999999;
  * @param {number} least
  * @param {number} most
  */
-export function numberOf(text, name, least, most) {
+function numberOf(text, name, least, most) {
     const number = /^[0-9]{1,9}$/.test(text) ? Number(text) : NaN;
     if (number >= least && number <= most) return number;
-    throw new WrongArguments(`${name} is a number from ${least} to ${most}, not '${text}'`);
+    throw new Fault(`${name} is a number from ${least} to ${most}, not '${text}'`);
 }
 
 /** @param {string} text */
 function fillOf(text) {
-    if (!/^([0-9A-Fa-f]{2})+$/.test(text)) throw new WrongArguments(`--fill is two hexadecimal digits for each byte, not '${text}'`);
+    if (!/^([0-9A-Fa-f]{2})+$/.test(text)) throw new Fault(`--fill is two hexadecimal digits for each byte, not '${text}'`);
     return Uint8Array.from(text.match(/../g) || [], pair => parseInt(pair, 16));
 }
 
 /** @param {string} name */
 function knownEncoding(name) {
-    if (encodingOf(name) === null) throw new WrongArguments(`there is no encoding '${name}' here`);
+    if (encodingOf(name) === null) throw new Fault(`there is no encoding '${name}' here`);
     return name;
 }
 
@@ -60,8 +63,8 @@ function optionIn(word) {
     const [, spelled, value] = /^(--?[^=]*)(?:=(.*))?$/s.exec(word) || ['', word, undefined];
     const meant = spelled === '-h' ? '--help' : spelled;
     const name = Object.keys(OPTION_FORMS).find(key => OPTION_FORMS[key].word === meant);
-    if (!name) throw new WrongArguments(`there is no option ${spelled}; a name that begins with - stands after --`);
-    if (value !== undefined && OPTION_FORMS[name].value === '') throw new WrongArguments(`${spelled} takes no value`);
+    if (!name) throw new Fault(`there is no option ${spelled}; a name that begins with - stands after --`);
+    if (value !== undefined && OPTION_FORMS[name].value === '') throw new Fault(`${spelled} takes no value`);
     return { name, value };
 }
 
@@ -91,13 +94,13 @@ function sorted(words) {
  */
 function takeOption(options, { name, value }, left) {
     const form = OPTION_FORMS[name];
-    if (name in options) throw new WrongArguments(`${form.word} stands there twice`);
+    if (name in options) throw new Fault(`${form.word} stands there twice`);
     if (form.value === '') {
         options[name] = true;
         return;
     }
     const text = value === undefined ? left.shift() : value;
-    if (text === undefined) throw new WrongArguments(`${form.word} wants ${form.value}`);
+    if (text === undefined) throw new Fault(`${form.word} wants ${form.value}`);
     options[name] = name in VALUES ? VALUES[name](text) : text;
 }
 
@@ -111,7 +114,7 @@ function checkNames(job, names) {
     const least = takes.filter(name => !/^\[|\?$/.test(name)).length;
     const most = takes.some(name => name.endsWith('..')) ? Infinity : takes.length + together;
     if (names.length >= least && names.length <= most && (names.length - least) % (together + 1) === 0) return;
-    throw new WrongArguments(`${job} wants ${usageOf(job)}; see cdscript ${job} --help`);
+    throw new Fault(`${job} wants ${usageOf(job)}; see cdscript ${job} --help`);
 }
 
 /**
@@ -123,18 +126,21 @@ export function usageOf(job) {
 }
 
 /**
- * What a command line asks for. Throws WrongArguments.
+ * What a command line asks for. Throws a Fault.
  * @param {string[]} words
  * @returns {Given}
  */
 export function argumentsOf(words) {
     const { options, names: [job = '', ...names] } = sorted(words);
     if (options.version || options.notices || (options.help && job === '')) return { job: '', names: [], options };
-    if (job === '') throw new WrongArguments('a job is missing; see cdscript --help');
-    if (!Object.keys(FORMS).includes(job)) throw new WrongArguments(`there is no job '${job}'; see cdscript --help`);
+    if (job === '') throw new Fault('a job is missing; see cdscript --help');
+    if (!Object.keys(FORMS).includes(job)) throw new Fault(`there is no job '${job}'; see cdscript --help`);
     const foreign = Object.keys(options).find(name => name !== 'help' && !FORMS[job].options.includes(name));
-    if (foreign) throw new WrongArguments(`${job} has no option ${OPTION_FORMS[foreign].word}; see cdscript ${job} --help`);
-    if (options.encoding !== undefined && options.table) throw new WrongArguments('--encoding and --table exclude each other');
+    if (foreign) throw new Fault(`${job} has no option ${OPTION_FORMS[foreign].word}; see cdscript ${job} --help`);
+    for (const [one, other] of EXCLUDING) {
+        if (!(one in options && other in options)) continue;
+        throw new Fault(`${OPTION_FORMS[one].word} and ${OPTION_FORMS[other].word} exclude each other`);
+    }
     if (!options.help) checkNames(job, names);
     return { job, names, options };
 }

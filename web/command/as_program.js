@@ -1,22 +1,22 @@
 // The jobs that are the program's: `list`, `audit`, `check` and `apply`, with its texts, statuses and limits.
 
-import { ImageEnded, bytesOfPieces } from '../core/bytes.js';
+import { ImageEnded } from '../core/bytes.js';
+import { Fault } from '../core/faults.js';
 import { passPatched } from '../core/patch.js';
 import { Refusal, patchesOf } from '../core/script.js';
-import { SECTOR_SIZE, imageTooLong, sectorCount } from '../core/sector.js';
-import { auditText, joinSurveys, listText } from '../core/survey.js';
-import { Failure, FileFailure } from './failures.js';
+import { SECTOR_SIZE, imageTooLong } from '../core/sector.js';
+import { auditText, listText } from '../core/survey.js';
+import { FileFault } from './failures.js';
 import { MESSAGES } from './messages.js';
 import { openTrack } from './opening.js';
 
 /** @typedef {import('../core/bytes.js').Piece} Piece */
 /** @typedef {import('../core/bytes.js').Reader} Reader */
 /** @typedef {import('../core/script.js').Patch} Patch */
-/** @typedef {import('../core/survey.js').Survey} Survey */
 /** @typedef {import('./run.js').Run} Run */
 
 /** What the program says, on standard output as it does. */
-export class ProgramFailure extends Failure {
+export class ProgramFault extends Fault {
     /** @param {string | Uint8Array} text a line without its end, or lines */
     constructor(text) {
         super(typeof text === 'string' ? `${text}\n` : new TextDecoder().decode(text));
@@ -40,8 +40,8 @@ async function orSay(messages, tried) {
     try {
         return await tried();
     } catch (error) {
-        if (error instanceof ImageEnded) throw new ProgramFailure(messages.read);
-        throw error instanceof FileFailure ? new ProgramFailure(messages[error.attempt]) : error;
+        if (error instanceof ImageEnded) throw new ProgramFault(messages.read);
+        throw error instanceof FileFault ? new ProgramFault(messages[error.attempt]) : error;
     }
 }
 
@@ -64,12 +64,9 @@ async function openImage(run) {
  */
 async function report(run, textOf) {
     const { reader, base } = await openImage(run);
-    if (imageTooLong(reader.size)) throw new ProgramFailure(MESSAGES.long_image);
-    /** @type {Survey[]} */
-    const parts = [];
-    const { crew, how } = run.sharing(sectorCount(reader.size));
-    await orSay(OF_IMAGES, () => crew.share('survey', [reader], {}, { ...how, base }, part => { parts.push(part); }));
-    const { status, text } = textOf(run.calls, joinSurveys(parts, base), reader.size % SECTOR_SIZE);
+    if (imageTooLong(reader.size)) throw new ProgramFault(MESSAGES.long_image);
+    const survey = await orSay(OF_IMAGES, () => run.survey(reader, base));
+    const { status, text } = textOf(run.calls, survey, reader.size % SECTOR_SIZE);
     await run.output.write(text);
     return status;
 }
@@ -89,11 +86,11 @@ export function auditJob(run) {
  * @param {Run} run
  * @returns {Promise<Patch[]>}
  */
-export async function patchesOfScript(run) {
+async function patchesOfScript(run) {
     const pieces = run.files.piecesOf(run.names[1]);
     const patches = await orSay(OF_SCRIPTS, () => patchesOf(run.calls, pieces, run.options.long));
     if (!(patches instanceof Refusal)) return patches;
-    throw new ProgramFailure(patches.reason === 'script-too-long' ? MESSAGES.long_script : patches.text);
+    throw new ProgramFault(patches.reason === 'script-too-long' ? MESSAGES.long_script : patches.text);
 }
 
 /**
@@ -106,7 +103,7 @@ export async function patchesOfScript(run) {
 async function patch(run, { reader, base }, patches, take) {
     const { carry = false } = run.options;
     const made = await orSay(OF_IMAGES, () => passPatched(run.calls, reader, patches, base, carry, take));
-    if (made instanceof Refusal) throw new ProgramFailure(MESSAGES.long_image);
+    if (made instanceof Refusal) throw new ProgramFault(MESSAGES.long_image);
     await run.output.write(made.text);
     run.output.finish();
     return made.status;
@@ -123,9 +120,7 @@ export async function applyJob(run) {
     const patches = await patchesOfScript(run);
     const image = await openImage(run);
     const out = await orSay(OF_IMAGES, () => run.files.make(run.names[2]));
-    const status = await patch(run, image, patches, async piece => {
-        for await (const bytes of bytesOfPieces(image.reader, [piece])) await out.write(bytes);
-    });
+    const status = await patch(run, image, patches, piece => out.writePiece(image.reader, piece));
     await orSay(OF_IMAGES, () => out.finish());
     return status;
 }

@@ -1,6 +1,8 @@
-// Why a job was not done. Each failure is one sentence for a person, and the status is 2.
+// Files that fail, and what the codes of the system mean to a person. Whatever fails, the status is 2.
 
-/** @type {Record<string, string>} what codes of the system mean to a person */
+import { Fault } from '../core/faults.js';
+
+/** @type {Record<string, string>} */
 const REASONS = {
     EACCES: 'no permission',
     EBADF: 'it is not open',
@@ -11,6 +13,7 @@ const REASONS = {
     ELOOP: 'its links lead round',
     EMFILE: 'too many files are open',
     ENOENT: 'there is no such file or directory',
+    ENOMEM: 'no memory',
     ENOSPC: 'the disk is full',
     ENOTDIR: 'a part of the path is no directory',
     EDQUOT: 'the quota is used up',
@@ -40,14 +43,8 @@ export function hasCode(error, code) {
     return codeOf(error) === code;
 }
 
-/** What is said, and no more was done. */
-export class Failure extends Error {}
-
-/** A command line that says nothing to do. */
-export class WrongArguments extends Failure {}
-
 /** What was tried with a file and failed. */
-export class FileFailure extends Failure {
+export class FileFault extends Fault {
     /**
      * @param {Attempt} attempt
      * @param {string} name
@@ -59,10 +56,18 @@ export class FileFailure extends Failure {
     }
 }
 
-/** Standard output that takes no more. */
-export class OutputFailure extends Failure {
-    /** @param {unknown} error */
-    constructor(error) {
-        super(`cannot write to standard output: ${reasonOf(error)}`);
+/**
+ * What is tried with a file. Throws FileFault.
+ * @template T
+ * @param {Attempt} attempt
+ * @param {string} name
+ * @param {() => T | Promise<T>} tried
+ * @returns {Promise<T>}
+ */
+export async function tryFile(attempt, name, tried) {
+    try {
+        return await tried();
+    } catch (error) {
+        throw new FileFault(attempt, name, error);
     }
 }

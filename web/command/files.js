@@ -1,16 +1,21 @@
 // Files: images as readers, scripts in pieces, and files that are made new.
 
-import { closeSync, fstatSync, fsyncSync, openSync, readFileSync, readSync, readdirSync, unlinkSync, writeSync } from 'node:fs';
+import { closeSync, fstatSync, fsync, open, openSync, read, readFileSync, readSync, readdirSync, unlinkSync, writeSync } from 'node:fs';
+import { bytesOfPieces } from '../core/bytes.js';
 import { MOST_SECTORS, SECTOR_SIZE } from '../core/sector.js';
-import { FileFailure, hasCode } from './failures.js';
+import { FileFault, hasCode, tryFile } from './failures.js';
 import { pause } from './pausing.js';
-import { PiecesReader, STREAM_STEP } from './pieces.js';
+import { STREAM_STEP, readerOfPieces } from './pieces.js';
 
+/** @typedef {import('../core/bytes.js').Piece} Piece */
 /** @typedef {import('../core/bytes.js').Reader} Reader */
 /** @typedef {import('../core/disc.js').DiscFile} DiscFile */
 
 /** A stream is read to its end, but not much further than the longest image. */
 const LONGEST_STREAM = MOST_SECTORS * SECTOR_SIZE + 1;
+
+/** When so many bytes are written the disk is told to begin with them. */
+const SYNCED = 1 << 26;
 
 /** After so many milliseconds the signals that have come are looked at. */
 const TURN = 50;
@@ -25,34 +30,25 @@ async function letSignalsIn() {
 }
 
 /**
- * Bytes of a file: those asked for, or fewer if it ends before.
- * @param {number} descriptor
- * @param {number} length
- * @param {number | null} at null is where the last read ended
+ * What a call of node gives later. Signals come in while it waits, as for a pipe that nobody writes.
+ * @param {(done: (error: unknown, value: number) => void) => void} begin
+ * @returns {Promise<number>}
  */
-function readFully(descriptor, length, at) {
-    const bytes = new Uint8Array(Buffer.allocUnsafeSlow(length).buffer);
-    let done = 0;
-    while (done < length) {
-        const count = readSome(descriptor, bytes, done, at === null ? null : at + done);
-        if (count === 0) break;
-        done += count;
-    }
-    return bytes.subarray(0, done);
+function later(begin) {
+    return new Promise((resolve, reject) => begin((error, value) => error ? reject(error) : resolve(value)));
 }
 
 /**
- * Reads once, and returns how many bytes came. A pipe that has none for the moment is tried again. That a pipe has ended is an error on
- * Windows.
+ * Reads once from where the last read ended, and returns how many bytes came. A pipe that has none for the moment is tried again. That a
+ * pipe has ended is an error on Windows.
  * @param {number} descriptor
  * @param {Uint8Array} bytes
  * @param {number} done where they go
- * @param {number | null} at
  */
-function readSome(descriptor, bytes, done, at) {
+async function readSome(descriptor, bytes, done) {
     for (;;) {
         try {
-            return readSync(descriptor, bytes, done, bytes.length - done, at);
+            return await later(callback => read(descriptor, bytes, done, bytes.length - done, null, callback));
         } catch (error) {
             if (hasCode(error, 'EOF')) return 0;
             if (!hasCode(error, 'EAGAIN')) throw error;
@@ -62,12 +58,18 @@ function readSome(descriptor, bytes, done, at) {
 }
 
 /**
- * Writes all bytes, by more writes if the first are short.
- * @param {number} descriptor
- * @param {Uint8Array} bytes
+ * Bytes of a file: those asked for, or fewer if it ends before.
+ * @param {number} length
+ * @param {(bytes: Uint8Array, done: number) => number | Promise<number>} readMore reads some to a place, and returns how many came
  */
-function writeFully(descriptor, bytes) {
-    for (let done = 0; done < bytes.length;) done += writeSync(descriptor, bytes, done);
+async function readFully(length, readMore) {
+    const bytes = new Uint8Array(Buffer.allocUnsafeSlow(length).buffer);
+    for (let done = 0; done < length;) {
+        const count = await readMore(bytes, done);
+        if (count === 0) return bytes.subarray(0, done);
+        done += count;
+    }
+    return bytes;
 }
 
 /**
@@ -94,25 +96,8 @@ class DiskReader {
      */
     async read(at, length) {
         await letSignalsIn();
-        try {
-            return readFully(this.descriptor, length, this.start + at);
-        } catch (error) {
-            throw new FileFailure('read', this.name, error);
-        }
-    }
-}
-
-/**
- * The size of a file, or null of what is none, as a pipe.
- * @param {string} name
- * @param {number} descriptor
- */
-function sizeOf(name, descriptor) {
-    try {
-        const stat = fstatSync(descriptor);
-        return stat.isFile() ? stat.size : null;
-    } catch (error) {
-        throw new FileFailure('read', name, error);
+        return tryFile('read', this.name, () => readFully(length, (bytes, done) =>
+            readSync(this.descriptor, bytes, done, length - done, this.start + at + done)));
     }
 }
 
@@ -140,25 +125,48 @@ class NewFile {
         this.name = name;
         this.descriptor = descriptor;
         this.finished = finished;
+        this.unsynced = 0;
+        /** @type {Promise<unknown> | null} how it went, null if it went well */
+        this.syncing = null;
     }
 
-    /** @param {Uint8Array} bytes */
+    /** @param {Uint8Array} bytes all of which are written, by more writes if the first are short */
     async write(bytes) {
         await letSignalsIn();
-        try {
-            writeFully(this.descriptor, bytes);
-        } catch (error) {
-            throw new FileFailure('write', this.name, error);
-        }
+        await tryFile('write', this.name, () => {
+            for (let done = 0; done < bytes.length;) done += writeSync(this.descriptor, bytes, done);
+        });
+        this.unsynced += bytes.length;
+        if (this.unsynced < SYNCED) return;
+        await this.synced();
+        this.sync();
+    }
+
+    /**
+     * @param {Reader} reader of the image that the piece is of
+     * @param {Piece} piece
+     */
+    async writePiece(reader, piece) {
+        for await (const bytes of bytesOfPieces(reader, [piece])) await this.write(bytes);
+    }
+
+    /** Lets the disk take what is written, while more comes. */
+    sync() {
+        this.unsynced = 0;
+        this.syncing = later(done => fsync(this.descriptor, done)).then(() => null, error => error);
+    }
+
+    /** Waits until it has. A failure is said once by the system. A file system that knows nothing of it (EINVAL) has none. */
+    async synced() {
+        const error = await this.syncing;
+        if (error && !hasCode(error, 'EINVAL')) throw new FileFault('write', this.name, error);
     }
 
     /** The file is complete, and on the disk. */
-    finish() {
-        try {
-            fsyncSync(this.descriptor);
-        } catch (error) {
-            throw new FileFailure('write', this.name, error);
-        }
+    async finish() {
+        await this.synced();
+        this.sync();
+        await this.synced();
         this.finished(this);
     }
 
@@ -189,17 +197,13 @@ export class Files {
     }
 
     /**
+     * Opens a file to read.
      * @param {string} name
-     * @param {string} flags
      */
-    descriptorOf(name, flags) {
-        try {
-            const descriptor = openSync(name, flags);
-            this.open.push(descriptor);
-            return descriptor;
-        } catch (error) {
-            throw new FileFailure(flags === 'r' ? 'open' : 'make', name, error);
-        }
+    async opened(name) {
+        const descriptor = await tryFile('open', name, () => later(callback => open(name, 'r', callback)));
+        this.open.push(descriptor);
+        return descriptor;
     }
 
     /**
@@ -210,7 +214,7 @@ export class Files {
     async image(name) {
         const known = this.images.get(name);
         if (known) return known;
-        const file = { name, reader: await this.readerOf(name, name === '-' ? this.input : this.descriptorOf(name, 'r')) };
+        const file = { name, reader: await this.readerOf(name, name === '-' ? this.input : await this.opened(name)) };
         this.images.set(name, file);
         return file;
     }
@@ -221,9 +225,9 @@ export class Files {
      * @returns {Promise<Reader>}
      */
     async readerOf(name, descriptor) {
-        const size = sizeOf(name, descriptor);
+        const stat = await tryFile('read', name, () => fstatSync(descriptor));
         const start = descriptor === this.input ? placeOf(descriptor) : 0;
-        if (size !== null && start !== null) return new DiskReader(name, descriptor, Math.max(size - start, 0), start);
+        if (stat.isFile() && start !== null) return new DiskReader(name, descriptor, Math.max(stat.size - start, 0), start);
         const pieces = [];
         let taken = 0;
         for await (const piece of this.piecesOf(name, descriptor)) {
@@ -231,36 +235,21 @@ export class Files {
             taken += piece.length;
             if (taken > LONGEST_STREAM) break;
         }
-        return new PiecesReader(pieces);
+        return readerOfPieces(pieces);
     }
 
     /**
      * The bytes of a file in pieces of STREAM_STEP bytes, the last one shorter.
      * @param {string} name
-     * @param {number} [descriptor]
+     * @param {number} [opened] its descriptor, if it is open
      */
-    async *piecesOf(name, descriptor = this.descriptorOf(name, 'r')) {
+    async *piecesOf(name, opened) {
+        const descriptor = opened === undefined ? await this.opened(name) : opened;
         for (let going = true; going;) {
-            await letSignalsIn();
-            let piece = new Uint8Array(0);
-            try {
-                piece = readFully(descriptor, STREAM_STEP, null);
-            } catch (error) {
-                throw new FileFailure('read', name, error);
-            }
+            const piece = await tryFile('read', name, () => readFully(STREAM_STEP, (bytes, done) => readSome(descriptor, bytes, done)));
             going = piece.length === STREAM_STEP;
             if (piece.length > 0) yield piece;
         }
-    }
-
-    /**
-     * All bytes of a small file.
-     * @param {string} name
-     */
-    async bytesOf(name) {
-        const pieces = [];
-        for await (const piece of this.piecesOf(name)) pieces.push(piece);
-        return new Uint8Array(Buffer.concat(pieces));
     }
 
     /**
@@ -268,17 +257,15 @@ export class Files {
      * @param {string} name
      */
     namesIn(name) {
-        try {
-            return readdirSync(name);
-        } catch (error) {
-            throw new FileFailure('read', name, error);
-        }
+        return tryFile('read', name, () => readdirSync(name));
     }
 
     /** @param {string} name of a file that must not exist */
-    make(name) {
+    async make(name) {
         this.onmake();
-        const file = new NewFile(name, this.descriptorOf(name, 'wx'), it => this.unfinished.delete(it));
+        const descriptor = await tryFile('make', name, () => openSync(name, 'wx'));
+        this.open.push(descriptor);
+        const file = new NewFile(name, descriptor, it => this.unfinished.delete(it));
         this.unfinished.add(file);
         return file;
     }

@@ -3,6 +3,9 @@
 import { usageOf } from './arguments.js';
 import { FORMS, OPTION_FORMS } from './forms.js';
 
+/** As much of a text as a line takes. */
+const LINE = /\S.{0,78}(?= |$)/g;
+
 /** @param {string} name of an option */
 function optionRow(name) {
     const { word, value, does } = OPTION_FORMS[name];
@@ -14,7 +17,8 @@ function optionRow(name) {
 function jobHelp(job) {
     const { options, says, does } = FORMS[job];
     const rows = [...options, 'help'].map(optionRow);
-    return [says, '', ...does, '', `Usage: cdscript ${job} [OPTIONS] ${usageOf(job)}`, '', 'Options:', ...rows];
+    const lines = does.split(/ (?=Status: )/).flatMap(part => part.match(LINE) || []);
+    return [says, '', ...lines, '', `Usage: cdscript ${job} [OPTIONS] ${usageOf(job)}`, '', 'Options:', ...rows];
 }
 
 /** @param {string} version */

@@ -1,14 +1,14 @@
 // The jobs that write images: `merge`, `raw`, `user` and `extract`.
 
-import { bytesOfPieces } from '../core/bytes.js';
+import { Fault } from '../core/faults.js';
 import { natureOf, sliceOf } from '../core/image.js';
 import { mergeImages } from '../core/merge.js';
-import { addToRuns, blocksIn } from '../core/runs.js';
+import { kindName } from '../core/records.js';
+import { addToRuns, blocksIn, blocksText } from '../core/runs.js';
 import { SECTOR_SIZE, USER_SIZE, sectorCount } from '../core/sector.js';
-import { Failure } from './failures.js';
 import { fileNamed } from './looking.js';
 import { openTrack } from './opening.js';
-import { bytesOfLines, kindName, sayOfBlocks } from './words.js';
+import { bytesOfLines, linesOfRuns, sayOfRuns } from './words.js';
 
 /** @typedef {import('../core/merge.js').Repair} Repair */
 /** @typedef {import('../core/disc.js').DiscImage} DiscImage */
@@ -18,6 +18,7 @@ import { bytesOfLines, kindName, sayOfBlocks } from './words.js';
 /** @typedef {import('./run.js').Target} Target */
 
 const BLOCKS_WITH_ADDRESS = 449850;
+const TAILS = 'the bytes after the last sector are others';
 
 /**
  * What was taken, and what could not be repaired, in lines.
@@ -26,10 +27,11 @@ const BLOCKS_WITH_ADDRESS = 449850;
  */
 function repairLines({ taken, damaged, disputed, different }, others) {
     const numbers = [taken, damaged, disputed].map(blocksIn).concat(different.reduce((sum, count) => sum + count, 0));
+    const notTaken = { true: 'sound only with the address of another block', false: 'damaged in all' };
     return [
-        ...taken.map(({ first, last, other }) => `${first}-${last} from ${others[other].name}`),
-        ...damaged.map(({ first, last }) => `${first}-${last} damaged in all`),
-        ...disputed.map(({ first, last }) => `${first}-${last} sound in several, but different there`),
+        ...linesOfRuns(taken, ({ first, last, other }) => `${first}-${last} from ${others[other].name}`),
+        ...linesOfRuns(damaged, ({ first, last, elsewhere }) => `${first}-${last} ${notTaken[`${elsewhere}`]}`),
+        ...linesOfRuns(disputed, ({ first, last }) => `${first}-${last} sound in several, but different there`),
         `taken ${numbers[0]} damaged ${numbers[1]} disputed ${numbers[2]} different ${numbers[3]}`,
     ];
 }
@@ -37,39 +39,39 @@ function repairLines({ taken, damaged, disputed, different }, others) {
 /** @param {Run} run */
 export async function mergeJob(run) {
     const [name, ...more] = run.names;
-    const out = run.files.make(more.pop() || '');
+    const out = await run.files.make(more.pop() || '');
     const { image } = await openTrack(run, name);
     const others = [];
     for (const other of more) others.push((await openTrack(run, other)).image);
     const { crew, how } = run.sharing(image.sectors);
-    const { pieces, ...repair } = await mergeImages(crew, image, others, how);
-    if (pieces === null) {
+    const repair = await mergeImages(crew, image, others, how, piece => out.writePiece(image.reader, piece));
+    if (repair.refused) {
         const i = repair.different.indexOf(Math.max(...repair.different));
         const sound = `${repair.different[i]} of ${repair.sectors} sectors are sound in ${name} and in ${others[i].name}`;
-        throw new Failure(`${sound}, and differ: one of them is of another disc, or shifted`);
+        throw new Fault(`${sound}, and differ: one of them is of another disc, or shifted`);
     }
-    for await (const bytes of bytesOfPieces(image.reader, pieces)) await out.write(bytes);
-    await run.output.write(bytesOfLines(repairLines({ pieces, ...repair }, others)));
+    others.filter((_, i) => repair.tails[i]).forEach(other => run.messages.say(`${TAILS} in ${other.name}; those of ${name} are kept`));
+    await run.output.write(bytesOfLines(repairLines(repair, others)));
     run.output.finish();
-    out.finish();
+    await out.finish();
     return Number(repair.damaged.length > 0);
 }
 
 /** @param {Run} run */
 export async function rawJob(run) {
     const { first = 0 } = run.options;
-    const out = run.files.make(run.names[1]);
+    const out = await run.files.make(run.names[1]);
     const { name, reader } = await run.files.image(run.names[0]);
     const { kind, what } = await natureOf(run.calls, reader);
     const count = reader.size / USER_SIZE;
-    if (!['iso', 'audio', 'unknown'].includes(kind)) throw new Failure(`${name} is ${what}, and no ISO image`);
-    if (!Number.isInteger(count)) throw new Failure(`${name} has ${reader.size} bytes, not 2048 for each sector`);
+    if (!['iso', 'audio', 'unknown'].includes(kind)) throw new Fault(`${name} is ${what}, and no ISO image`);
+    if (!Number.isInteger(count)) throw new Fault(`${name} has ${reader.size} bytes, not 2048 for each sector`);
     if (first + count > BLOCKS_WITH_ADDRESS) {
-        throw new Failure(`${name} goes on after block ${BLOCKS_WITH_ADDRESS - 1}, the last one with an address`);
+        throw new Fault(`${name} goes on after block ${BLOCKS_WITH_ADDRESS - 1}, the last one with an address`);
     }
     const { crew, how } = run.sharing(count);
     await crew.share('raw', [reader], {}, { ...how, base: first, units: [USER_SIZE] }, bytes => out.write(bytes));
-    out.finish();
+    await out.finish();
     return 0;
 }
 
@@ -92,28 +94,28 @@ async function writeUser(run, out, reader, base, size) {
         left -= answer.user.length;
         await out.write(user);
     });
-    sayOfBlocks(run, others, ({ kind }) => `${kindName(kind)}, in which other bytes may stand where mode1 has user data`);
+    sayOfRuns(run, others, it => `${blocksText([it])}: ${kindName(it.kind)}, in which other bytes may stand where mode1 has user data`);
     return others.length > 0;
 }
 
 /** @param {Run} run */
 export async function userJob(run) {
-    const out = run.files.make(run.names[1]);
+    const out = await run.files.make(run.names[1]);
     const { part } = await openTrack(run, run.names[0]);
     const has = await writeUser(run, out, part.reader, part.base, part.sectors * USER_SIZE);
     if (part.tail > 0) run.messages.say(`the ${part.tail} bytes after the last sector are left out`);
-    out.finish();
+    await out.finish();
     return Number(has || part.tail > 0);
 }
 
 /** @param {Run} run */
 export async function extractJob(run) {
-    const out = run.files.make(run.names[2]);
+    const out = await run.files.make(run.names[2]);
     const { part } = await openTrack(run, run.names[0]);
     const { path, block, size, fault } = await fileNamed(part, run.names[1]);
-    if (fault !== '') throw new Failure(`${path}: ${fault}`);
+    if (fault !== '') throw new Fault(`${path}: ${fault}`);
     const [first, count] = [block - part.base, Math.ceil(size / USER_SIZE)];
     const has = await writeUser(run, out, sliceOf(part.reader, first * SECTOR_SIZE, (first + count) * SECTOR_SIZE), block, size);
-    out.finish();
+    await out.finish();
     return Number(has);
 }

@@ -4,7 +4,7 @@ import { createHash } from 'node:crypto';
 import { readBytes } from '../core/bytes.js';
 import { natureOf } from '../core/image.js';
 import { SECTOR_SIZE } from '../core/sector.js';
-import { joinSurveys, listText, surveyCounts } from '../core/survey.js';
+import { listText, surveyCounts } from '../core/survey.js';
 import { openDiscOf, openTrack } from './opening.js';
 import { bytesOfLines } from './words.js';
 
@@ -13,42 +13,34 @@ import { bytesOfLines } from './words.js';
 /** @typedef {import('../core/disc.js').DiscFile} DiscFile */
 /** @typedef {import('../core/disc.js').DiscImage} DiscImage */
 /** @typedef {import('../core/disc.js').DiscTrack} DiscTrack */
-/** @typedef {import('../core/survey.js').Survey} Survey */
 /** @typedef {import('./run.js').Run} Run */
 
 /** So many bytes are hashed at a time. */
 const HASHED = 1 << 22;
 
 /**
- * A reader that hashes what it is read, which has to be all bytes, one after the other.
- * @implements {Reader}
+ * A reader that hashes what it is read, which has to be all bytes, one after the other; and its SHA-1, after what was not read yet.
+ * @param {Reader} reader
+ * @returns {Reader & { digest(): Promise<string> }}
  */
-class HashingReader {
-    /** @param {Reader} reader */
-    constructor(reader) {
-        this.reader = reader;
-        this.size = reader.size;
-        this.hash = createHash('sha1');
-        this.hashed = 0;
-    }
-
-    /**
-     * @param {number} at
-     * @param {number} length
-     */
-    async read(at, length) {
-        const bytes = await this.reader.read(at, length);
-        if (at !== this.hashed) throw new RangeError(`byte ${at} after ${this.hashed} bytes`);
-        this.hash.update(bytes);
-        this.hashed += bytes.length;
-        return bytes;
-    }
-
-    /** The SHA-1 of all, after what was not read yet. */
-    async digest() {
-        while (this.hashed < this.size) await readBytes(this, this.hashed, Math.min(HASHED, this.size - this.hashed));
-        return this.hash.digest('hex');
-    }
+function hashing(reader) {
+    const { size } = reader;
+    const hash = createHash('sha1');
+    let hashed = 0;
+    return {
+        size,
+        async read(at, length) {
+            const bytes = await reader.read(at, length);
+            if (at !== hashed) throw new RangeError(`byte ${at} after ${hashed} bytes`);
+            hash.update(bytes);
+            hashed += bytes.length;
+            return bytes;
+        },
+        async digest() {
+            while (hashed < size) await readBytes(this, hashed, Math.min(HASHED, size - hashed));
+            return hash.digest('hex');
+        },
+    };
 }
 
 /**
@@ -68,11 +60,7 @@ function trackText(disc, { number, type, file, block, sectors, part }) {
  * @param {Reader} reader of the image
  */
 async function surveyLines(run, image, reader) {
-    /** @type {Survey[]} */
-    const parts = [];
-    const { crew, how } = run.sharing(image.sectors);
-    await crew.share('survey', [reader], {}, { ...how, base: image.base }, part => { parts.push(part); });
-    const survey = joinSurveys(parts, image.base);
+    const survey = await run.survey(reader, image.base);
     const { mode1, damaged, elsewhere } = surveyCounts(survey);
     const list = new TextDecoder().decode(listText(run.calls, survey, reader.size % SECTOR_SIZE).text).trimEnd();
     const lines = [`base ${image.base}`, list, `mode1 ${mode1} damaged ${damaged} address ${elsewhere}`];
@@ -91,7 +79,7 @@ async function discLines(run) {
     const files = [];
     let [found, lines] = [false, /** @type {string[]} */ ([])];
     for (const file of disc.files) {
-        const reader = new HashingReader(file.reader);
+        const reader = hashing(file.reader);
         if (opened && opened.track.file === disc.files.indexOf(file)) ({ found, lines } = await surveyLines(run, opened.image, reader));
         files.push(`file ${file.name} bytes ${file.reader.size} sha1 ${await reader.digest()}`);
     }

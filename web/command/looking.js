@@ -1,13 +1,14 @@
 // The jobs that look into a data track: `files`, `find` and `show`.
 
 import { readBytes } from '../core/bytes.js';
+import { Fault } from '../core/faults.js';
 import { VolumeFault, filesAt, filesOf } from '../core/iso.js';
-import { SECTOR_SIZE, USER_OFFSET, USER_SIZE, addressIn, addressText, joinedUser } from '../core/sector.js';
+import { kindName } from '../core/records.js';
+import { FIELDS, SECTOR_SIZE, USER_SIZE, addressIn, addressText, joinedUser } from '../core/sector.js';
 import { blockOf, offsetOf } from './arguments.js';
-import { Failure } from './failures.js';
 import { openTrack } from './opening.js';
 import { encodingsOf, hitsOf } from './searching.js';
-import { bytesOfLines, hexByte, kindName } from './words.js';
+import { bytesOfLines, hexByte } from './words.js';
 
 /** @typedef {import('../core/disc.js').DiscImage} DiscImage */
 /** @typedef {import('../core/edit.js').Place} Place */
@@ -39,7 +40,7 @@ export async function userBytes({ reader, base, sectors }, { block, offset }, si
 }
 
 /**
- * The file of a path. Throws Failure if there is none.
+ * The file of a path. Throws a Fault if there is none.
  * @param {DiscImage} part
  * @param {string} path
  */
@@ -48,34 +49,33 @@ export async function fileNamed(part, path) {
     const wanted = `/${path}`.replace(/^\/+/, '/');
     const named = files.filter(file => `/${file.path}`.replace(/^\/+/, '/') === wanted);
     if (named.length === 1) return named[0];
-    throw new Failure(named.length === 0 ? `there is no file ${path}; cdscript files lists them` : `${path} has ${named.length} parts`);
+    throw new Fault(named.length === 0 ? `there is no file ${path}; cdscript files lists them` : `${path} has ${named.length} parts`);
 }
 
 /** @param {Run} run */
 export async function filesJob(run) {
-    const target = run.target();
+    const target = await run.target();
     const { part } = await openTrack(run, run.names[0]);
     const { files, faults } = await filesOf(part.reader, part.base);
     const lines = files.map(({ block, size, path, fault }) => [block, size, path, ...fault === '' ? [] : [fault]].join('\t'));
     await target.write(bytesOfLines(lines));
-    target.finish();
+    await target.finish();
     faults.forEach(fault => run.messages.say(fault));
     return Number(faults.length > 0 || files.some(({ fault }) => fault !== ''));
 }
 
 /**
- * The files of a part, or none where it has no volume that can be listed.
- * @param {Run} run
+ * The files of a part. If it has no volume that can be listed there are none, and `why` is what to say then.
  * @param {DiscImage} part
- * @returns {Promise<FileEntry[]>}
+ * @returns {Promise<{ files: FileEntry[], why: string[] }>}
  */
-async function filesIfAny(run, part) {
+async function filesIfAny(part) {
     try {
-        return (await filesOf(part.reader, part.base)).files;
+        const { files } = await filesOf(part.reader, part.base);
+        return { files, why: [] };
     } catch (error) {
         if (!(error instanceof VolumeFault)) throw error;
-        run.messages.say(`no file is named: ${error.message}`);
-        return [];
+        return { files: [], why: [`no file is named: ${error.message}`] };
     }
 }
 
@@ -115,15 +115,17 @@ function filesText(files, { block, offset }) {
 /** @param {Run} run */
 export async function findJob(run) {
     const { limit = DEFAULT_LIMIT } = run.options;
-    const target = run.target();
+    const target = await run.target();
     const { part } = await openTrack(run, run.names[0]);
-    const { count, hits, encoding } = await hitsOf(run, part, run.names[1], limit);
-    const files = hits.length > 0 ? await filesIfAny(run, part) : [];
+    // The files are read while the threads search.
+    const [found, { files, why }] = await Promise.all([hitsOf(run, part, run.names[1], limit), filesIfAny(part)]);
+    const { count, hits } = found || { count: 0, hits: [] };
+    if (hits.length > 0) why.forEach(text => run.messages.say(text));
     for (const hit of hits) {
-        const text = await around(part, encoding, hit);
+        const text = found && await around(part, found.encoding, hit);
         await target.write(bytesOfLines([[hit.block, hit.offset, hit.size, filesText(files, hit), text].join('\t')]));
     }
-    target.finish();
+    await target.finish();
     run.messages.say(`hits ${count} printed ${hits.length}`);
     return Number(count === 0);
 }
@@ -149,11 +151,13 @@ function rowText(user, at, encoding) {
  */
 async function sectorLines(run, part, sector, place) {
     const [found] = new TextDecoder().decode(run.calls.audit(sector, place.block).text).split('\n');
-    const edc = Array.from(sector.subarray(USER_OFFSET + USER_SIZE, USER_OFFSET + USER_SIZE + 4), hexByte).join('');
+    const { files, why } = await filesIfAny(part);
+    why.forEach(text => run.messages.say(text));
+    const edc = Array.from(sector.subarray(FIELDS.edc, FIELDS.zeros), hexByte).join('');
     return [
         `block ${place.block} address ${addressText(addressIn(sector, 0))} ${kindName(run.calls.kind(sector))} edc ${edc}`,
         ...found.startsWith('sectors ') ? [] : [`wrong: ${found.replace(/^\d+ /, '')}`],
-        `file ${filesText(await filesIfAny(run, part), place)}`,
+        `file ${filesText(files, place)}`,
     ];
 }
 
@@ -161,17 +165,17 @@ async function sectorLines(run, part, sector, place) {
 export async function showJob(run) {
     const [name, blockText, offsetText = '0'] = run.names;
     const place = { block: blockOf(blockText), offset: offsetOf(offsetText) };
-    const [encoding] = await encodingsOf(run);
+    const encoding = (await encodingsOf(run).next()).value;
     const first = Math.floor(place.offset / ROW) * ROW;
     const end = run.names.length < 3 ? USER_SIZE : Math.min(first + SHOWN, USER_SIZE);
-    const target = run.target();
+    const target = await run.target();
     const { image, part } = await openTrack(run, name);
     const last = image.base + image.sectors - 1;
-    if (place.block < image.base || place.block > last) throw new Failure(`the image has the blocks ${image.base} to ${last}`);
+    if (place.block < image.base || place.block > last) throw new Fault(`the image has the blocks ${image.base} to ${last}`);
     const sector = await readBytes(image.reader, (place.block - image.base) * SECTOR_SIZE, SECTOR_SIZE);
     const lines = await sectorLines(run, part, sector, place);
     for (let at = first; at < end; at += ROW) lines.push(rowText(joinedUser(sector), at, encoding));
     await target.write(bytesOfLines(lines));
-    target.finish();
+    await target.finish();
     return 0;
 }

@@ -2,18 +2,9 @@
 
 import { isMainThread } from 'node:worker_threads';
 import { gunzipSync } from 'node:zlib';
-import { ImageEnded } from '../core/bytes.js';
-import { TextFault } from '../core/characters.js';
-import { SheetFault } from '../core/cue.js';
-import { DiscFault } from '../core/disc.js';
-import { EditFault } from '../core/edit.js';
-import { VolumeFault } from '../core/iso.js';
-import { WrongLines } from '../core/lines.js';
-import { BaseFault } from '../core/merge.js';
-import { LengthFault } from '../core/output.js';
+import { Fault } from '../core/faults.js';
 import { argumentsOf } from './arguments.js';
-import { ProgramFailure, applyJob, auditJob, checkJob, listJob } from './as_program.js';
-import { Failure, WrongArguments } from './failures.js';
+import { ProgramFault, applyJob, auditJob, checkJob, listJob } from './as_program.js';
 import { Files } from './files.js';
 import { helpText } from './help.js';
 import { extractJob, mergeJob, rawJob, userJob } from './images.js';
@@ -56,9 +47,6 @@ const JOB_TABLE = {
     'user': userJob,
 };
 
-/** What the core throws for a person to read. */
-const SAID = [BaseFault, DiscFault, EditFault, ImageEnded, LengthFault, SheetFault, TextFault, VolumeFault, WrongLines];
-
 /** @param {number} number of a version, as 10100 */
 function versionText(number) {
     return [10000, 100, 1].map(unit => Math.floor(number / unit) % 100).join('.');
@@ -82,7 +70,7 @@ async function printHelp({ job, options }, run) {
  * @param {Run} run
  */
 async function say(error, run) {
-    if (error instanceof ProgramFailure) {
+    if (error instanceof ProgramFault) {
         await run.output.write(new TextEncoder().encode(error.message));
         run.output.finish();
     } else {
@@ -93,8 +81,9 @@ async function say(error, run) {
 /** @param {unknown} error */
 function messageOf(error) {
     if (!(error instanceof Error)) return String(error);
-    if (error instanceof Failure || SAID.some(kind => error instanceof kind || error.name === kind.name)) return error.message;
-    if (error instanceof RangeError && /allocation|memory/i.test(error.message)) return 'no memory';
+    if (error instanceof Fault) return error.message;
+    // As node and the engine say it, in a thread too.
+    if (/allocation failed|out of memory|memory\.grow/i.test(error.message)) return 'no memory';
     return `a fault in cdscript itself: ${error.stack}`;
 }
 
@@ -125,7 +114,7 @@ export async function main(words, streams = STANDARD, files = new Files(streams.
     const messages = new Messages(streams.errors);
     let run = null;
     try {
-        if (words.some(word => word.includes('\uFFFD'))) throw new WrongArguments(MESSAGES.no_text.replace(/^cdpatch: /, ''));
+        if (words.some(word => word.includes('\uFFFD'))) throw new Fault(MESSAGES.no_text.replace(/^cdpatch: /, ''));
         const given = argumentsOf(words);
         run = new Run(given, streams, files);
         return await statusOf(given, run);

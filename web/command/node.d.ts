@@ -23,10 +23,13 @@ declare module 'node:crypto' {
 declare module 'node:fs' {
     export function closeSync(descriptor: number): void;
     export function fstatSync(descriptor: number): { size: number, isFile(): boolean };
-    export function fsyncSync(descriptor: number): void;
+    export function fsync(descriptor: number, done: (error: unknown, value: number) => void): void;
+    export function open(name: string, flags: string, done: (error: unknown, descriptor: number) => void): void;
     export function openSync(name: string, flags: string): number;
+    export function read(descriptor: number, bytes: Uint8Array, at: number, length: number, place: null,
+        done: (error: unknown, count: number) => void): void;
     export function readFileSync(name: string, encoding: 'latin1'): string;
-    export function readSync(descriptor: number, bytes: Uint8Array, at: number, length: number, place: number | null): number;
+    export function readSync(descriptor: number, bytes: Uint8Array, at: number, length: number, place: number): number;
     export function readdirSync(name: string): string[];
     export function unlinkSync(name: string): void;
     export function writeSync(descriptor: number, bytes: Uint8Array, at: number): number;

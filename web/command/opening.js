@@ -1,13 +1,13 @@
 // Opens what the first argument of a job names: a raw image, or a cue sheet and the files that it names.
 
 import { basename, dirname, join } from 'node:path';
-import { readBytes } from '../core/bytes.js';
+import { wholeOf } from '../core/bytes.js';
 import { sheetOf } from '../core/cue.js';
 import { dataTrack, openDisc } from '../core/disc.js';
+import { Fault } from '../core/faults.js';
 import { natureOf } from '../core/image.js';
 import { imageTooLong } from '../core/sector.js';
 import { textOfFile } from '../core/text.js';
-import { Failure } from './failures.js';
 import { MESSAGES } from './messages.js';
 
 /** @typedef {import('../core/disc.js').Disc} Disc */
@@ -26,24 +26,21 @@ export async function openDiscOf(run, name) {
     const others = kind === 'cue' ? await filesOfSheet(run, file) : [];
     const disc = await openDisc(run.calls, [file, ...others]);
     const long = disc.files.find(({ reader }) => imageTooLong(reader.size));
-    if (long) throw new Failure(`${long.name}: ${MESSAGES.long_image.replace(/^cdpatch: /, '')}`);
+    if (long) throw new Fault(`${long.name}: ${MESSAGES.long_image.replace(/^cdpatch: /, '')}`);
     return disc;
 }
 
 /**
- * The files that a cue sheet names, as far as they are there: beside it, if need be in capitals or not.
+ * The files that a cue sheet names, as far as they are there: beside it, in capitals or not. The core chooses among them.
  * @param {Run} run
  * @param {DiscFile} sheet
  */
 async function filesOfSheet(run, { name, reader }) {
-    const { files } = sheetOf(textOfFile(await readBytes(reader, 0, reader.size)));
-    const there = run.files.namesIn(dirname(name));
+    const { files } = sheetOf(textOfFile(await wholeOf(reader)));
+    const named = new Set(files.map(file => basename(file.name.replace(/\\/g, '/')).toLowerCase()));
+    const there = (await run.files.namesIn(dirname(name))).filter(it => named.has(it.toLowerCase()));
     const opened = [];
-    for (const file of files) {
-        const last = basename(file.name.replace(/\\/g, '/'));
-        const found = there.find(it => it === last) || there.find(it => it.toLowerCase() === last.toLowerCase());
-        if (found !== undefined) opened.push(await run.files.image(join(dirname(name), found)));
-    }
+    for (const it of there) opened.push(await run.files.image(join(dirname(name), it)));
     return opened;
 }
 

@@ -3,7 +3,8 @@
 import { writeSync } from 'node:fs';
 import { isatty } from 'node:tty';
 import { ByteList } from '../core/bytes.js';
-import { OutputFailure, hasCode } from './failures.js';
+import { Fault } from '../core/faults.js';
+import { hasCode, reasonOf } from './failures.js';
 import { pause } from './pausing.js';
 
 /** So many bytes are collected before they are written. */
@@ -22,7 +23,7 @@ function writeToStream(descriptor, bytes) {
         try {
             done += writeSync(descriptor, bytes, done);
         } catch (error) {
-            if (!hasCode(error, 'EAGAIN')) throw new OutputFailure(error);
+            if (!hasCode(error, 'EAGAIN')) throw new Fault(`cannot write to standard output: ${reasonOf(error)}`);
             pause();
         }
     }

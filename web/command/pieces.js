@@ -6,23 +6,16 @@
 export const STREAM_STEP = 1 << 20;
 
 /**
- * What came through a pipe, in pieces of STREAM_STEP bytes, the last one shorter.
- * @implements {Reader}
+ * A reader of what came through a pipe.
+ * @param {Uint8Array[]} pieces of STREAM_STEP bytes, the last one shorter
+ * @returns {Reader}
  */
-export class PiecesReader {
-    /** @param {Uint8Array[]} pieces */
-    constructor(pieces) {
-        this.pieces = pieces;
-        this.size = pieces.reduce((sum, piece) => sum + piece.length, 0);
-    }
-
-    /**
-     * @param {number} at
-     * @param {number} length
-     */
-    async read(at, length) {
-        const piece = this.pieces[Math.floor(at / STREAM_STEP)] || new Uint8Array(0);
-        const from = at % STREAM_STEP;
-        return piece.slice(from, from + length);
-    }
+export function readerOfPieces(pieces) {
+    return {
+        size: pieces.reduce((sum, piece) => sum + piece.length, 0),
+        async read(at, length) {
+            const piece = pieces[Math.floor(at / STREAM_STEP)] || new Uint8Array(0);
+            return piece.slice(at % STREAM_STEP, at % STREAM_STEP + length);
+        },
+    };
 }

@@ -3,19 +3,20 @@
 import { readBytes } from '../core/bytes.js';
 import { TextFault } from '../core/characters.js';
 import { filledUp, replaceBytes, replaceFile } from '../core/edit.js';
+import { Fault } from '../core/faults.js';
 import { findIn, sectorsBeyond } from '../core/find.js';
+import { leftText } from '../core/lines.js';
 import { ScriptParts } from '../core/output.js';
 import { checkPatches } from '../core/patch.js';
 import { Refusal, patchesOf } from '../core/script.js';
 import { SECTOR_SIZE, USER_SIZE } from '../core/sector.js';
 import { encodeText } from '../core/text.js';
 import { blockOf, offsetOf } from './arguments.js';
-import { Failure, WrongArguments } from './failures.js';
 import { fileNamed, userBytes } from './looking.js';
 import { openTrack } from './opening.js';
 import { writeScript } from './scripts.js';
-import { encodingsOf, encodingsWith, hitsOf } from './searching.js';
-import { hexByte, leftText, sayOfBlocks } from './words.js';
+import { encodingsWith, hitsOf } from './searching.js';
+import { hexByte, sayOfRuns } from './words.js';
 
 /** @typedef {import('../core/disc.js').DiscImage} DiscImage */
 /** @typedef {import('../core/edit.js').Place} Place */
@@ -40,9 +41,11 @@ const MOST_PLACES = 1000000;
  * @returns {Promise<Places>}
  */
 async function placeOfText(run, image, place, text) {
-    const encodings = encodingsWith(await encodingsOf(run), text);
     const after = image.base + image.sectors - place.block;
-    for (const encoding of place.block >= image.base && after > 0 ? encodings : []) {
+    let first = null;
+    for await (const encoding of encodingsWith(run, text)) {
+        first = first || encoding;
+        if (place.block < image.base || after <= 0) break;
         const wanted = encoding.units(text);
         const count = Math.min(1 + sectorsBeyond(wanted), after);
         const bytes = await readBytes(image.reader, (place.block - image.base) * SECTOR_SIZE, count * SECTOR_SIZE);
@@ -50,27 +53,28 @@ async function placeOfText(run, image, place, text) {
         const hit = hits.find(({ offset }) => offset === place.offset);
         if (hit) return { encoding, places: [hit] };
     }
-    return { encoding: encodings[0], places: [place] };
+    return { encoding: /** @type {Encoding} */ (first), places: [place] };
 }
 
 /**
- * The places at which a text stands: the one, or all if that is asked for. Throws Failure if there is none, or are several.
+ * The places at which a text stands: the one, or all if that is asked for. Throws a Fault if there is none, or are several.
  * @param {Run} run
  * @param {DiscImage} part
  * @param {string} text
  * @returns {Promise<Places>}
  */
 async function placesOf(run, part, text) {
-    const { count, hits, encoding } = await hitsOf(run, part, text, run.options.all ? MOST_PLACES : LISTED);
-    if (count === 0) throw new Failure('the text is not found');
+    const found = await hitsOf(run, part, text, run.options.all ? MOST_PLACES : LISTED);
+    if (found === null) throw new Fault('the text is not found');
+    const { count, hits, encoding } = found;
     if (count === 1 || (run.options.all && count === hits.length)) return { encoding, places: hits };
-    if (run.options.all) throw new Failure(`the text stands at ${count} places, and no more than ${MOST_PLACES} are replaced`);
+    if (run.options.all) throw new Fault(`the text stands at ${count} places, and no more than ${MOST_PLACES} are replaced`);
     hits.forEach(({ block, offset }) => run.messages.say(`it stands at block ${block} offset ${offset}`));
-    throw new Failure(`the text stands at ${count} places: give BLOCK and OFFSET of one, or --all`);
+    throw new Fault(`the text stands at ${count} places: give BLOCK and OFFSET of one, or --all`);
 }
 
 /**
- * What fills up if it is not given. Throws Failure if the encoding has no space.
+ * What fills up if it is not given. Throws a Fault if the encoding has no space.
  * @param {Encoding} encoding
  */
 function spaceIn(encoding) {
@@ -78,7 +82,7 @@ function spaceIn(encoding) {
     try {
         return encodeText(encoding, ' ');
     } catch (error) {
-        if (error instanceof TextFault) throw new Failure(`${encoding.name} has no space to fill up with: give --fill`);
+        if (error instanceof TextFault) throw new Fault(`${encoding.name} has no space to fill up with: give --fill`);
         throw error;
     }
 }
@@ -99,7 +103,7 @@ function freshBytes({ options, messages }, encoding, text, size) {
 }
 
 /**
- * The script that replaces a text at places, in their order, which has been applied. Throws Failure if one overlaps another.
+ * The script that replaces a text at places, in their order, which has been applied. Throws a Fault if one overlaps another.
  * @param {Run} run
  * @param {DiscImage} image
  * @param {Places} where
@@ -114,13 +118,12 @@ async function replacedEverywhere(run, image, { encoding, places }, before, afte
     let end = 0;
     for (const place of places) {
         const at = place.block * USER_SIZE + place.offset;
-        if (at < end) throw new Failure(`the text at block ${place.block} offset ${place.offset} overlaps the one before it`);
+        if (at < end) throw new Fault(`the text at block ${place.block} offset ${place.offset} overlaps the one before it`);
         const old = place.size === undefined ? usual : await userBytes(image, place, place.size);
         const fresh = known.get(old.length) || freshBytes(run, encoding, after, old.length);
         known.set(old.length, fresh);
         end = at + old.length;
-        const { pieces: [, ...pieces], patches } = await replaceBytes(run.calls, image, place, old, fresh);
-        pieces.forEach((text, i) => parts.push({ text, patches: i === 0 ? patches : 0, version: 1 }));
+        parts.push(await replaceBytes(run.calls, image, place, old, fresh));
     }
     const script = parts.script(run.calls);
     await assertFits(run, image, script);
@@ -128,7 +131,7 @@ async function replacedEverywhere(run, image, { encoding, places }, before, afte
 }
 
 /**
- * Throws Failure if a patch of a script is refused.
+ * Throws a Fault if a patch of a script is refused.
  * @param {Run} run
  * @param {DiscImage} image
  * @param {Script} script
@@ -136,7 +139,7 @@ async function replacedEverywhere(run, image, { encoding, places }, before, afte
 async function assertFits(run, image, script) {
     const patches = await patchesOf(run.calls, script.pieces, true);
     const checked = patches instanceof Refusal ? patches : await checkPatches(run.calls, image.reader, patches, image.base, false);
-    if (checked instanceof Refusal || checked.status !== 0) throw new Failure('the patches do not fit together, so no script is written');
+    if (checked instanceof Refusal || checked.status !== 0) throw new Fault('the patches do not fit together, so no script is written');
 }
 
 /** @param {Run} run */
@@ -144,8 +147,8 @@ export async function replaceJob(run) {
     const [name, ...more] = run.names;
     const [after, before, offset, block] = more.reverse();
     const given = block === undefined ? null : { block: blockOf(block), offset: offsetOf(offset) };
-    if (given !== null && run.options.all) throw new WrongArguments('--all and a place exclude each other');
-    const target = run.target();
+    if (given !== null && run.options.all) throw new Fault('--all and a place exclude each other');
+    const target = await run.target();
     const { image, part } = await openTrack(run, name);
     const where = given === null ? await placesOf(run, part, before) : await placeOfText(run, image, given, before);
     await writeScript(run, target, await replacedEverywhere(run, image, where, before, after));
@@ -155,15 +158,15 @@ export async function replaceJob(run) {
 /** @param {Run} run */
 export async function replaceFileJob(run) {
     const { fill = Uint8Array.of(0) } = run.options;
-    if (fill.length !== 1) throw new WrongArguments('--fill is one byte here');
-    const target = run.target();
+    if (fill.length !== 1) throw new Fault('--fill is one byte here');
+    const target = await run.target();
     const { part } = await openTrack(run, run.names[0]);
     const file = await fileNamed(part, run.names[1]);
     const { reader } = await run.files.image(run.names[2]);
     const { crew, how } = run.sharing(Math.ceil(file.size / USER_SIZE));
     const made = await replaceFile(run.calls, crew, part, file, reader, { ...how, fill: fill[0] });
-    sayOfBlocks(run, made.left, left => leftText(left, part.name));
-    if (made.script === null) throw new Failure('these blocks of the file can not be patched, so no script is written');
+    sayOfRuns(run, made.left, left => leftText([left], part.name));
+    if (made.script === null) throw new Fault('these blocks of the file can not be patched, so no script is written');
     if (reader.size < file.size) run.messages.say(`bytes filled up with ${hexByte(fill[0])}: ${file.size - reader.size}`);
     await writeScript(run, target, made.script);
     return 0;

@@ -2,13 +2,17 @@
 
 import { gunzipSync } from 'node:zlib';
 import { Calls } from '../core/codes.js';
+import { sectorCount } from '../core/sector.js';
+import { joinSurveys } from '../core/survey.js';
 import { Messages, Output } from './output.js';
 import { Threads } from './threads.js';
 
+/** @typedef {import('../core/bytes.js').Reader} Reader */
+/** @typedef {import('../core/survey.js').Survey} Survey */
 /** @typedef {import('./arguments.js').Given} Given */
 /** @typedef {import('./files.js').Files} Files */
 /** @typedef {{ input: number, output: number, errors: number }} Streams the descriptors of the standard streams */
-/** @typedef {{ write(bytes: Uint8Array): Promise<void>, finish(): void }} Target what a script or a list is written to */
+/** @typedef {{ write(bytes: Uint8Array): Promise<void>, finish(): void | Promise<void> }} Target what a script or a list is written to */
 
 /** @type {WebAssembly.Module | null} */
 let compiled = null;
@@ -46,10 +50,23 @@ export class Run {
 
     /**
      * Where a script or a list goes: to the file of `-o`, or to standard output.
-     * @returns {Target}
+     * @returns {Promise<Target>}
      */
-    target() {
+    async target() {
         return this.options.output === undefined ? this.output : this.files.make(this.options.output);
+    }
+
+    /**
+     * What is found in all sectors of an image.
+     * @param {Reader} reader
+     * @param {number} base
+     */
+    async survey(reader, base) {
+        /** @type {Survey[]} */
+        const parts = [];
+        const { crew, how } = this.sharing(sectorCount(reader.size));
+        await crew.share('survey', [reader], {}, { ...how, base }, part => { parts.push(part); });
+        return joinSurveys(parts, base);
     }
 
     close() {

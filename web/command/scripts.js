@@ -2,17 +2,18 @@
 
 import { compareImages } from '../core/compare.js';
 import { dataTrack } from '../core/disc.js';
-import { LineList } from '../core/lines.js';
+import { Fault } from '../core/faults.js';
+import { LineList, leftText } from '../core/lines.js';
 import { ScriptParts } from '../core/output.js';
 import { RECORD_SIZE } from '../core/records.js';
+import { blocksText } from '../core/runs.js';
 import { Refusal } from '../core/script.js';
 import { isDamaged } from '../core/survey.js';
 import { undoScript } from '../core/undo.js';
-import { Failure } from './failures.js';
 import { differingFields } from './fields.js';
 import { MESSAGES } from './messages.js';
 import { openDiscOf, openTrack } from './opening.js';
-import { leftText, sayOfBlocks } from './words.js';
+import { sayOfRuns } from './words.js';
 
 /** @typedef {import('../core/output.js').Script} Script */
 /** @typedef {import('./run.js').Run} Run */
@@ -28,10 +29,11 @@ const HEALED = 'its damage does not come back; its address and its user data do'
  * @param {Target} target
  * @param {Script} script
  */
-export async function writeScript(run, target, { pieces, patches, long }) {
+export async function writeScript(run, target, { pieces, patches, long, carry }) {
     for (const piece of pieces) await target.write(piece);
-    target.finish();
+    await target.finish();
     if (patches === 0) run.messages.say('the script has no patch');
+    if (carry) run.messages.say('the script patches damaged sectors: it needs --carry');
     if (long) run.messages.say('the script is longer than cdpatch takes: cdscript apply --long applies it');
 }
 
@@ -39,32 +41,29 @@ export async function writeScript(run, target, { pieces, patches, long }) {
 export async function diffJob(run) {
     const { skipDamaged = false, track = null } = run.options;
     const [oldName, newName] = run.names;
-    const target = run.target();
+    const target = await run.target();
     const { image } = await openTrack(run, oldName);
     const fresh = dataTrack(await openDiscOf(run, newName), track).image;
     if (run.options.fields) return differingFields(run, target, image, fresh);
     const { crew, how } = run.sharing(image.sectors);
     const made = await compareImages(run.calls, crew, image.reader, fresh.reader, { ...how, base: image.base, skipDamaged });
-    sayOfBlocks(run, made.left, left => leftText(left, newName));
+    sayOfRuns(run, made.left, left => leftText([left], newName));
     if (made.tail) run.messages.say('the bytes after the last sector differ, and no script changes them');
-    if (made.script === null) throw new Failure('no script leads to that image, so none is written');
+    if (made.script === null) throw new Fault('no script leads to that image, so none is written');
     await writeScript(run, target, made.script);
     return made.left.length > 0 ? LEFT : 0;
 }
 
 /** @param {Run} run */
 export async function rebuildsJob(run) {
-    const target = run.target();
+    const target = await run.target();
     const { image } = await openTrack(run, run.names[0]);
-    const script = new ScriptParts();
-    const { crew, how } = run.sharing(image.sectors);
-    await crew.share('survey', [image.reader], {}, { ...how, base: image.base }, ({ block, records }) => {
-        const lines = new LineList();
-        for (let at = 0; at < records.length; at += RECORD_SIZE) {
-            if (isDamaged(records, at)) lines.rebuild(block + at / RECORD_SIZE);
-        }
-        script.push({ text: lines.bytes().slice(), patches: lines.patches, version: lines.version });
-    });
+    const { block, records } = await run.survey(image.reader, image.base);
+    const [script, lines] = [new ScriptParts(), new LineList()];
+    for (let at = 0; at < records.length; at += RECORD_SIZE) {
+        if (isDamaged(records, at)) lines.rebuild(block + at / RECORD_SIZE);
+    }
+    script.push(lines.lines());
     await writeScript(run, target, script.script(run.calls));
     return 0;
 }
@@ -78,13 +77,13 @@ function refusalText({ reason, text }) {
 /** @param {Run} run */
 export async function undoJob(run) {
     const { carry = false, long = false } = run.options;
-    const target = run.target();
+    const target = await run.target();
     const { image } = await openTrack(run, run.names[0]);
     const made = await undoScript(run.calls, image.reader, run.files.piecesOf(run.names[1]), { base: image.base, carry, long });
-    if (made instanceof Refusal) throw new Failure(refusalText(made));
+    if (made instanceof Refusal) throw new Fault(refusalText(made));
     const refused = made.patched.outcomes.filter(({ result }) => result !== 0).length;
     if (refused > 0) run.messages.say(`${refused} patches are refused on ${image.name}: is it the image before the script?`);
-    sayOfBlocks(run, made.left, left => left.why === 'damaged' ? HEALED : leftText(left, image.name));
+    sayOfRuns(run, made.left, left => left.why === 'damaged' ? `${blocksText([left])}: ${HEALED}` : leftText([left], image.name));
     await writeScript(run, target, made.script);
     return refused > 0 || made.left.length > 0 ? LEFT : 0;
 }

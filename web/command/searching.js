@@ -1,9 +1,10 @@
 // Texts in a data track, by an encoding that is given or by those that Japanese discs have.
 
+import { wholeOf } from '../core/bytes.js';
 import { TextFault } from '../core/characters.js';
+import { Fault } from '../core/faults.js';
 import { joinFound, sectorsBeyond } from '../core/find.js';
 import { encodeText, encodingOf, tableOf } from '../core/text.js';
-import { WrongArguments } from './failures.js';
 
 /** @typedef {import('../core/disc.js').DiscImage} DiscImage */
 /** @typedef {import('../core/find.js').Found} Found */
@@ -16,53 +17,58 @@ const TRIED = ['CP932', 'EUC-JP', 'UTF-8', 'UTF-16LE', 'UTF-16BE'];
 /**
  * The encodings that a text may be in: the one that the options name, or the table; else those that are tried.
  * @param {Run} run
- * @returns {Promise<Encoding[]>}
+ * @returns {AsyncGenerator<Encoding>}
  */
-export async function encodingsOf({ options, files }) {
-    if (options.table !== undefined) return [tableOf(await files.bytesOf(options.table))];
-    const found = (options.encoding === undefined ? TRIED : [options.encoding]).map(encodingOf);
-    return /** @type {Encoding[]} */ (found);
+export async function* encodingsOf({ options, files }) {
+    if (options.table !== undefined) {
+        yield tableOf(await wholeOf((await files.image(options.table)).reader));
+        return;
+    }
+    for (const name of options.encoding === undefined ? TRIED : [options.encoding]) yield /** @type {Encoding} */ (encodingOf(name));
 }
 
 /**
  * The encodings that have a text, the first of those in which it is the same bytes. Throws a TextFault if none has it.
- * @param {Encoding[]} encodings
+ * @param {Run} run
  * @param {string} text
+ * @returns {AsyncGenerator<Encoding>}
  */
-export function encodingsWith(encodings, text) {
-    const found = new Map();
+export async function* encodingsWith(run, text) {
+    const spelled = new Set();
     let fault = null;
-    for (const encoding of encodings) {
+    for await (const encoding of encodingsOf(run)) {
         try {
-            const key = encodeText(encoding, text).join();
-            if (!found.has(key)) found.set(key, encoding);
+            const bytes = encodeText(encoding, text).join();
+            if (spelled.has(bytes)) continue;
+            spelled.add(bytes);
         } catch (error) {
             if (!(error instanceof TextFault)) throw error;
             fault = fault || error;
+            continue;
         }
+        yield encoding;
     }
-    if (found.size === 0 && fault !== null) throw fault;
-    return /** @type {Encoding[]} */ ([...found.values()]);
+    if (spelled.size === 0 && fault !== null) throw fault;
 }
 
 /**
- * The hits of a text, and the encoding that has them, or the first one if none has any.
+ * The hits of a text, and the encoding that has them; null if none has any.
  * @param {Run} run
  * @param {DiscImage} part
  * @param {string} text
  * @param {number} limit how many are kept
- * @returns {Promise<Found & { encoding: Encoding }>}
+ * @returns {Promise<Found & { encoding: Encoding } | null>}
  */
 export async function hitsOf(run, part, text, limit) {
-    if (text === '') throw new WrongArguments('there is nothing to find in a text without characters');
-    const encodings = encodingsWith(await encodingsOf(run), text);
-    for (const encoding of encodings) {
+    if (text === '') throw new Fault('there is nothing to find in a text without characters');
+    for await (const encoding of encodingsWith(run, text)) {
         const found = await hitsIn(run, part, encoding, text, limit);
         if (found.count === 0) continue;
-        if (encodings.length > 1) run.messages.say(`the text stands there in ${encoding.name}`);
+        const { encoding: named, table } = run.options;
+        if (named === undefined && table === undefined) run.messages.say(`the text stands there in ${encoding.name}`);
         return { ...found, encoding };
     }
-    return { first: part.base, count: 0, hits: [], encoding: encodings[0] };
+    return null;
 }
 
 /**

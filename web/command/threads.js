@@ -3,11 +3,9 @@
 import { cpus } from 'node:os';
 import { Worker, parentPort, workerData } from 'node:worker_threads';
 import { Calls } from '../core/codes.js';
-import { Crew, LocalHand, serving, transfersOf } from '../core/jobs.js';
+import { Crew, localHand, serving, transfersOf } from '../core/jobs.js';
 
 /** @typedef {import('../core/jobs.js').Hand} Hand */
-/** @typedef {import('../core/jobs.js').Message} Message */
-/** @typedef {import('../core/jobs.js').Reply} Reply */
 
 /** Fewer sectors are done sooner than threads have begun. */
 const SECTORS_FOR_THREADS = 8000;
@@ -15,27 +13,15 @@ const MOST_THREADS = 8;
 
 /**
  * A thread that does what it is given.
- * @implements {Hand}
+ * @param {WebAssembly.Module} module
  */
-class Thread {
-    /** @param {WebAssembly.Module} module */
-    constructor(module) {
-        /** @type {(reply: Reply) => void} */
-        this.onreply = () => {};
-        /** @type {(error: Error) => void} */
-        this.onfault = () => {};
-        this.worker = new Worker(JOINED.file, { workerData: module });
-        this.worker.on('message', reply => this.onreply(reply));
-        this.worker.on('error', error => this.onfault(error));
-    }
-
-    /**
-     * @param {Message} message
-     * @param {ArrayBuffer[]} transfer
-     */
-    post(message, transfer) {
-        this.worker.postMessage(message, transfer);
-    }
+function threadHand(module) {
+    const worker = new Worker(JOINED.file, { workerData: module });
+    /** @type {Hand & { worker: Worker }} */
+    const hand = { worker, post: (message, transfer) => worker.postMessage(message, transfer), onreply() {}, onfault() {} };
+    worker.on('message', reply => hand.onreply(reply));
+    worker.on('error', error => hand.onfault(error));
+    return hand;
 }
 
 /** What a thread does: it serves the main thread. */
@@ -58,15 +44,15 @@ export class Threads {
     constructor(module, calls) {
         this.module = module;
         this.calls = calls;
-        /** @type {Thread[]} */
+        /** @type {ReturnType<typeof threadHand>[]} */
         this.threads = [];
     }
 
     /** @param {number} sectors how many there are to do */
     crew(sectors) {
-        if (sectors < SECTORS_FOR_THREADS) return new Crew([new LocalHand(this.calls)]);
+        if (sectors < SECTORS_FOR_THREADS) return new Crew([localHand(this.calls)]);
         const count = Math.min(cpus().length || 1, MOST_THREADS); // where the system does not say it, there are none
-        while (this.threads.length < count) this.threads.push(new Thread(this.module));
+        while (this.threads.length < count) this.threads.push(threadHand(this.module));
         return new Crew(this.threads);
     }
 

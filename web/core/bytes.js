@@ -1,5 +1,7 @@
 // Bytes as doors read and write them.
 
+import { Fault } from './faults.js';
+
 /**
  * What an image is read by: bytes from a place on, as many as were asked for or fewer, but none only if the image ends there.
  * @typedef {{ size: number, read(at: number, length: number): Promise<Uint8Array> }} Reader
@@ -14,14 +16,7 @@
 const READ_SIZE = 1 << 22;
 
 /** An image that ends before its size. */
-export class ImageEnded extends Error {
-    /** @param {number} at the place of the first byte that is missing */
-    constructor(at) {
-        super(`the image ends at byte ${at}`);
-        this.name = 'ImageEnded';
-        this.at = at;
-    }
-}
+export class ImageEnded extends Fault {}
 
 /**
  * Reads so many bytes, by more reads if the first are short. Throws ImageEnded if the image ends before.
@@ -35,7 +30,7 @@ export async function readBytes(reader, at, length) {
     for (let done = 0; done < length;) {
         const part = await reader.read(at + done, length - done);
         if (part.length === length) return part;
-        if (part.length === 0) throw new ImageEnded(at + done);
+        if (part.length === 0) throw new ImageEnded(`the image ends at byte ${at + done}`);
         if (done === 0) bytes = new Uint8Array(length);
         bytes.set(part, done);
         done += part.length;
@@ -58,6 +53,62 @@ export async function* bytesOfPieces(reader, pieces) {
         for (let at = piece.from; at < piece.to; at += READ_SIZE) {
             yield await readBytes(reader, at, Math.min(READ_SIZE, piece.to - at));
         }
+    }
+}
+
+/**
+ * Bytes one after the other.
+ * @param {Uint8Array[]} parts
+ */
+export function joinedBytes(parts) {
+    const whole = new Uint8Array(parts.reduce((size, part) => size + part.length, 0));
+    let at = 0;
+    for (const part of parts) {
+        whole.set(part, at);
+        at += part.length;
+    }
+    return whole;
+}
+
+/**
+ * Whether as many bytes are the same.
+ * @param {Uint8Array} a
+ * @param {Uint8Array} b
+ */
+export function sameBytes(a, b) {
+    return a.every((byte, i) => byte === b[i]);
+}
+
+/**
+ * All bytes of a reader.
+ * @param {Reader} reader
+ */
+export function wholeOf(reader) {
+    return readBytes(reader, 0, reader.size);
+}
+
+/** Cuts an image in which some bytes are others into pieces, in order. */
+export class PieceCutter {
+    /** @param {(piece: Piece) => void | Promise<void>} take */
+    constructor(take) {
+        this.take = take;
+        this.end = 0;
+    }
+
+    /** @param {number} end up to which the image stays as it is */
+    async keep(end) {
+        if (this.end < end) await this.take({ from: this.end, to: end });
+        this.end = end;
+    }
+
+    /**
+     * @param {number} at
+     * @param {Uint8Array} bytes what stands there
+     */
+    async put(at, bytes) {
+        await this.keep(at);
+        await this.take({ at, bytes });
+        this.end += bytes.length;
     }
 }
 

@@ -1,21 +1,14 @@
 // Characters and their bytes: Shift-JIS as Windows has it (CP932), EUC-JP, and what else has a table.
 
+import { Fault } from './faults.js';
+
 /** Signs that Japanese character sets have twice in Unicode: what people type, and what the decoders give. */
 const ALIKE = { '—': '―', '〜': '～', '−': '－', '‖': '∥', '¢': '￠', '£': '￡', '¬': '￢' };
 
 const NO_CHARACTER = '\uFFFD';
 
-/** Why a text has no bytes, or a table can't be read. `place` is the character of the text or the line of the table, from 1. */
-export class TextFault extends Error {
-    /**
-     * @param {string} message
-     * @param {number} place
-     */
-    constructor(message, place) {
-        super(message);
-        this.place = place;
-    }
-}
+/** Why a text has no bytes, or a table can't be read. */
+export class TextFault extends Fault {}
 
 /**
  * A character as a message shows it.
@@ -34,7 +27,7 @@ function shownCharacter(character) {
 export function lacks(name, text, at) {
     const place = [...text.slice(0, at)].length + 1;
     const character = String.fromCodePoint(text.codePointAt(at) || 0);
-    return new TextFault(`${name} has no ${shownCharacter(character)}, character ${place} of the text`, place);
+    return new TextFault(`${name} has no ${shownCharacter(character)}, character ${place} of the text`);
 }
 
 /** Characters and their bytes, as a character set or a game's table has them. The longest match is taken, both ways. */

@@ -1,10 +1,12 @@
 // The script that leads from one image to another.
 
-import { readBytes } from './bytes.js';
+import { joinedBytes, readBytes, sameBytes } from './bytes.js';
+import { Fault } from './faults.js';
 import { linesBetween } from './lines.js';
-import { LengthFault, ScriptParts } from './output.js';
-import { addToRuns } from './runs.js';
-import { SECTOR_SIZE, differingSectors, sectorCount, sectorOf } from './sector.js';
+import { ScriptParts } from './output.js';
+import { RECORD, RECORD_SIZE, SECTOR_KIND } from './records.js';
+import { FIELDS, SECTOR_SIZE, differingSectors, sectorCount, sectorOf } from './sector.js';
+import { isDamaged, surveyRange } from './survey.js';
 
 /** @typedef {import('./codes.js').Calls} Calls */
 /** @typedef {import('./bytes.js').Reader} Reader */
@@ -17,6 +19,11 @@ import { SECTOR_SIZE, differingSectors, sectorCount, sectorOf } from './sector.j
  * What comparing gives: the script, null if it would not give NEW; how many sectors differ; what no script can say; whether the bytes
  * after the last sector differ.
  * @typedef {{ script: Script | null, changed: number, left: Left[], tail: boolean }} Comparison
+ */
+
+/**
+ * Of each sector that differs: its block; in how many bytes of each field, by FIELDS; and what the second one's is.
+ * @typedef {{ blocks: Uint32Array, fields: Uint16Array, states: Uint8Array }} Differing
  */
 
 /**
@@ -40,14 +47,12 @@ export function diffRange(calls, old, fresh, first, how) {
  * @param {number[]} places
  */
 export function sectorsAt(bytes, places) {
-    const sectors = new Uint8Array(places.length * SECTOR_SIZE);
-    places.forEach((place, i) => sectors.set(sectorOf(bytes, place), i * SECTOR_SIZE));
-    return sectors;
+    return joinedBytes(places.map(place => sectorOf(bytes, place)));
 }
 
 /**
  * The script that leads from OLD to NEW. There is none if a block is left that no script can say, but damaged ones of NEW may be left
- * out. Throws LengthFault.
+ * out. Throws a Fault.
  * @param {Calls} calls
  * @param {Crew} crew
  * @param {Reader} old
@@ -57,17 +62,15 @@ export function sectorsAt(bytes, places) {
  */
 export async function compareImages(calls, crew, old, fresh, { skipDamaged = false, ...how }) {
     if (old.size !== fresh.size) {
-        throw new LengthFault(`the images have ${old.size} and ${fresh.size} bytes, and no script changes a length`);
+        throw new Fault(`the images have ${old.size} and ${fresh.size} bytes, and no script changes a length`);
     }
     const parts = new ScriptParts();
-    /** @type {Left[]} */
-    const left = [];
     let changed = 0;
     await crew.share('diff', [old, fresh], {}, how, answer => {
         parts.push(answer);
-        for (const run of answer.left) addToRuns(left, run);
         changed += answer.changed;
     });
+    const { left } = parts;
     const tail = await tailsDiffer(old, fresh);
     const whole = !tail && left.every(({ why }) => skipDamaged && why === 'damaged');
     return { script: whole ? parts.script(calls) : null, changed, left, tail };
@@ -80,6 +83,41 @@ export async function compareImages(calls, crew, old, fresh, { skipDamaged = fal
  */
 export async function tailsDiffer(old, fresh) {
     const at = sectorCount(old.size) * SECTOR_SIZE;
-    const [before, after] = await Promise.all([old, fresh].map(reader => readBytes(reader, at, old.size - at)));
-    return before.some((byte, i) => byte !== after[i]);
+    return !sameBytes(await readBytes(old, at, old.size - at), await readBytes(fresh, at, old.size - at));
+}
+
+export const FIELD_COUNT = Object.keys(FIELDS).length;
+export const SECOND_STATE = Object.freeze({ SOUND: 0, DAMAGED: 1, NOT_MODE1: 2 });
+
+/**
+ * Which sectors differ, and in what. A job for a worker.
+ * @param {Calls} calls
+ * @param {Uint8Array} old
+ * @param {Uint8Array} fresh
+ * @param {number} first
+ * @returns {Differing}
+ */
+export function differRange(calls, old, fresh, first) {
+    const places = differingSectors(old, fresh);
+    const fields = places.flatMap(place => differingBytes(sectorOf(old, place), sectorOf(fresh, place)));
+    const { records } = surveyRange(calls, sectorsAt(fresh, places), 0);
+    const states = places.map((_, i) => {
+        if (records[RECORD_SIZE * i + RECORD.KIND] !== SECTOR_KIND.MODE1) return SECOND_STATE.NOT_MODE1;
+        return isDamaged(records, RECORD_SIZE * i) ? SECOND_STATE.DAMAGED : SECOND_STATE.SOUND;
+    });
+    return { blocks: Uint32Array.from(places, place => first + place), fields: Uint16Array.from(fields), states: Uint8Array.from(states) };
+}
+
+/**
+ * In how many bytes of each field two sectors differ.
+ * @param {Uint8Array} old
+ * @param {Uint8Array} fresh
+ */
+function differingBytes(old, fresh) {
+    const starts = Object.values(FIELDS);
+    return starts.map((start, i) => {
+        let count = 0;
+        for (let at = start; at < (starts[i + 1] || SECTOR_SIZE); at++) count += Number(old[at] !== fresh[at]);
+        return count;
+    });
 }

@@ -1,5 +1,7 @@
 // Cue sheets: which tracks a disc has, and which bytes of which file each of them is.
 
+import { Fault } from './faults.js';
+
 /** @typedef {{ name: string, raw: boolean }} SheetFile `raw` if its bytes are sectors, as in BINARY */
 /** @typedef {{ track: SheetTrack, index: number, file: number, frame: number }} Point where an index of a track begins in a file */
 /** @typedef {{ number: number, type: string, sectorSize: number, pregap: number, postgap: number, line: number }} SheetTrack */
@@ -7,9 +9,8 @@
 /** @typedef {{ file: number, at: number | null, end: number | null, block: number | null }} Stretch */
 /**
  * A track: `at` to `end` are its bytes in the file of that number, from its INDEX 01 on, and `block` is the first of them on the
- * disc; `tail` counts the bytes of a last sector that is cut. `gap` is what stands before INDEX 01, if the file has it (INDEX 00).
- * Null is what a sheet does not say: places in audio files, and blocks after them.
- * @typedef {{ number: number, type: string, sectorSize: number, tail: number, gap: Stretch | null } & Stretch} Track
+ * disc. Null is what a sheet does not say: places in audio files, and blocks after them.
+ * @typedef {{ number: number, type: string, sectorSize: number } & Stretch} Track
  */
 /** @typedef {{ point: Point, end: number | null } & Stretch} Part from one index to the next, or to the end of the file */
 
@@ -18,16 +19,13 @@ const RAW_FORMATS = ['BINARY', 'MOTOROLA'];
 const FIRST_PAUSE = 150;
 const LAST_TRACK = 99;
 
-/** Why a cue sheet can't be used. `place` is the line, from 1, or 0. */
-export class SheetFault extends Error {
-    /**
-     * @param {string} message
-     * @param {number} place
-     */
-    constructor(message, place) {
-        super(place > 0 ? `line ${place} of the cue sheet: ${message}` : message);
-        this.place = place;
-    }
+/**
+ * Why a line of a cue sheet can't be used.
+ * @param {string} message
+ * @param {number} line from 1
+ */
+function sheetFault(message, line) {
+    return new Fault(`line ${line} of the cue sheet: ${message}`);
 }
 
 /**
@@ -43,10 +41,10 @@ export function sheetOf(text) {
         const read = SHEET_COMMANDS[command.toUpperCase()];
         if (read) read(sheet, rest, i + 1);
     });
-    if (sheet.tracks.length === 0) throw new SheetFault('the cue sheet has no track', 0);
+    if (sheet.tracks.length === 0) throw new Fault('the cue sheet has no track');
     for (const track of sheet.tracks) {
         if (!sheet.points.some(it => it.track === track && it.index === 1)) {
-            throw new SheetFault(`track ${track.number} has no INDEX 01`, track.line);
+            throw sheetFault(`track ${track.number} has no INDEX 01`, track.line);
         }
     }
     return sheet;
@@ -57,27 +55,27 @@ const SHEET_COMMANDS = {
     FILE: readFileLine,
     TRACK: readTrackLine,
     INDEX: readIndexLine,
-    PREGAP: readPregapLine,
-    POSTGAP: readPostgapLine,
+    PREGAP: (sheet, rest, line) => { trackBefore(sheet, line).pregap = framesOf(rest, line); },
+    POSTGAP: (sheet, rest, line) => { trackBefore(sheet, line).postgap = framesOf(rest, line); },
 };
 
 /** @type {(sheet: Sheet, rest: string, line: number) => void} */
 function readFileLine(sheet, rest, line) {
     const found = /^"([^"]*)"\s+(\S+)$/.exec(rest) || /^([^"].*?)\s+(\S+)$/.exec(rest);
-    if (!found) throw new SheetFault('FILE wants a name and a format', line);
+    if (!found) throw sheetFault('FILE wants a name and a format', line);
     sheet.files.push({ name: found[1], raw: RAW_FORMATS.includes(found[2].toUpperCase()) });
 }
 
 /** @type {(sheet: Sheet, rest: string, line: number) => void} */
 function readTrackLine(sheet, rest, line) {
     const found = /^(\d{1,2})\s+(\S+)$/.exec(rest);
-    if (!found) throw new SheetFault('TRACK wants a number and a type', line);
+    if (!found) throw sheetFault('TRACK wants a number and a type', line);
     const [number, type] = [Number(found[1]), found[2].toUpperCase()];
     const sectorSize = sizeOfType(type);
-    if (sectorSize === 0) throw new SheetFault(`${found[2]} is no type of a track`, line);
-    if (sheet.files.length === 0) throw new SheetFault('a track before the first FILE', line);
+    if (sectorSize === 0) throw sheetFault(`${found[2]} is no type of a track`, line);
+    if (sheet.files.length === 0) throw sheetFault('a track before the first FILE', line);
     const before = sheet.tracks.length > 0 ? sheet.tracks[sheet.tracks.length - 1].number : 0;
-    if (number <= before || number > LAST_TRACK) throw new SheetFault(`track ${number} comes after track ${before}`, line);
+    if (number <= before || number > LAST_TRACK) throw sheetFault(`track ${number} comes after track ${before}`, line);
     sheet.tracks.push({ number, type, sectorSize, pregap: 0, postgap: 0, line });
 }
 
@@ -94,23 +92,13 @@ function sizeOfType(type) {
 /** @type {(sheet: Sheet, rest: string, line: number) => void} */
 function readIndexLine(sheet, rest, line) {
     const found = /^(\d{1,2})\s+(\S+)$/.exec(rest);
-    if (!found) throw new SheetFault('INDEX wants a number and a time', line);
+    if (!found) throw sheetFault('INDEX wants a number and a time', line);
     const [track, index, frame] = [trackBefore(sheet, line), Number(found[1]), framesOf(found[2], line)];
     const file = sheet.files.length - 1;
     const last = sheet.points[sheet.points.length - 1];
-    if (last && last.track === track && last.index >= index) throw new SheetFault(`INDEX ${found[1]} comes too late`, line);
-    if (last && last.file === file && last.frame > frame) throw new SheetFault(`INDEX ${found[1]} goes back in its file`, line);
+    if (last && last.track === track && last.index >= index) throw sheetFault(`INDEX ${found[1]} comes too late`, line);
+    if (last && last.file === file && last.frame > frame) throw sheetFault(`INDEX ${found[1]} goes back in its file`, line);
     sheet.points.push({ track, index, file, frame });
-}
-
-/** @type {(sheet: Sheet, rest: string, line: number) => void} */
-function readPregapLine(sheet, rest, line) {
-    trackBefore(sheet, line).pregap = framesOf(rest, line);
-}
-
-/** @type {(sheet: Sheet, rest: string, line: number) => void} */
-function readPostgapLine(sheet, rest, line) {
-    trackBefore(sheet, line).postgap = framesOf(rest, line);
 }
 
 /**
@@ -118,7 +106,7 @@ function readPostgapLine(sheet, rest, line) {
  * @param {number} line
  */
 function trackBefore({ tracks }, line) {
-    if (tracks.length === 0) throw new SheetFault('no TRACK stands before this', line);
+    if (tracks.length === 0) throw sheetFault('no TRACK stands before this', line);
     return tracks[tracks.length - 1];
 }
 
@@ -129,7 +117,7 @@ function trackBefore({ tracks }, line) {
  */
 function framesOf(time, line) {
     const found = /^(\d{1,3}):([0-5]?\d):([0-6]?\d|7[0-4])$/.exec(time);
-    if (!found) throw new SheetFault(`${time} is no time`, line);
+    if (!found) throw sheetFault(`${time} is no time`, line);
     return (60 * Number(found[1]) + Number(found[2])) * 75 + Number(found[3]);
 }
 
@@ -144,21 +132,11 @@ export function tracksOf(sheet, sizes) {
     return sheet.tracks.map(track => {
         const own = parts.filter(part => part.point.track === track && part.point.index > 0);
         const [first, last] = [own[0], own[own.length - 1]];
-        if (first.file !== last.file) throw new SheetFault(`track ${track.number} lies in two files`, track.line);
-        const gap = parts.find(part => part.point.track === track && part.point.index === 0);
+        if (first.file !== last.file) throw sheetFault(`track ${track.number} lies in two files`, track.line);
         const { number, type, sectorSize } = track;
         const { file, at, block } = first;
-        const tail = at === null || last.end === null ? 0 : (last.end - at) % sectorSize;
-        return { number, type, sectorSize, file, at, end: last.end, block, tail, gap: gap ? stretchOf(gap) : null };
+        return { number, type, sectorSize, file, at, end: last.end, block };
     });
-}
-
-/**
- * @param {Part} part
- * @returns {Stretch}
- */
-function stretchOf({ file, at, end, block }) {
-    return { file, at, end, block };
 }
 
 /**
@@ -176,7 +154,7 @@ function partsOf({ files, points }, file, size) {
     const starts = own.map(point => {
         at += (point.frame - frame) * (before || point.track).sectorSize;
         [frame, before] = [point.frame, point.track];
-        if (at > size) throw new SheetFault(`track ${point.track.number} begins after the end of ${files[file].name}`, point.track.line);
+        if (at > size) throw sheetFault(`track ${point.track.number} begins after the end of ${files[file].name}`, point.track.line);
         return at;
     });
     return own.map((point, i) => ({ point, file, at: starts[i], end: i + 1 < own.length ? starts[i + 1] : size, block: null }));

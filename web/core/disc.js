@@ -1,8 +1,9 @@
 // What was opened: one raw image, or a cue sheet and the files that it names. Its tracks, and the image and the block with which each
 // begins.
 
-import { readBytes } from './bytes.js';
+import { readBytes, wholeOf } from './bytes.js';
 import { sheetOf, tracksOf } from './cue.js';
+import { Fault } from './faults.js';
 import { basesIn, joinBases, natureOf, sliceOf } from './image.js';
 import { SECTOR_SIZE, sectorCount } from './sector.js';
 import { textOfFile } from './text.js';
@@ -31,10 +32,10 @@ const SAMPLED_TOGETHER = 8;
 const RAW_TYPES = ['MODE1/2352', 'MODE2/2352', 'CDI/2352'];
 
 /** Why a disc can't be opened, and what to do. */
-export class DiscFault extends Error {}
+export class DiscFault extends Fault {}
 
 /**
- * Opens a raw image, or a cue sheet with the files that it names. Throws DiscFault, SheetFault, and what a reader throws.
+ * Opens a raw image, or a cue sheet with the files that it names. Throws a Fault, and what a reader throws.
  * @param {Calls} calls
  * @param {DiscFile[]} files
  * @returns {Promise<Disc>}
@@ -87,7 +88,7 @@ export function dataTrack({ tracks }, number = null) {
  * @returns {Promise<Disc>}
  */
 async function openSheet(calls, sheetFile, others, natures) {
-    const sheet = sheetOf(textOfFile(await readBytes(sheetFile.reader, 0, sheetFile.reader.size)));
+    const sheet = sheetOf(textOfFile(await wholeOf(sheetFile.reader)));
     const files = sheet.files.map(({ name }) => fileNamed(name, others));
     const known = { ...sheet, files: sheet.files.map((file, i) => ({ ...file, raw: file.raw && files[i] !== null })) };
     const open = files.filter(file => file !== null);
@@ -139,7 +140,7 @@ async function trackOf(calls, track, file, place) {
     if (!isRaw(track) || file === null || at === null || end === null) return { ...shared, image: null, part: null };
     const part = await imageOf(calls, { name: file.name, reader: sliceOf(file.reader, at, end) }, block);
     const before = at / SECTOR_SIZE;
-    const image = wholeOf(part, file.reader, before);
+    const image = imageAround(part, file.reader, before);
     // Blocks are numbered from the whole image's base in both, if need be in spite of the addresses.
     const own = { ...part, base: image.base + before };
     return { ...shared, block: own.base, image, part: own };
@@ -152,7 +153,7 @@ async function trackOf(calls, track, file, place) {
  * @param {number} before how many sectors it has before the part
  * @returns {DiscImage}
  */
-function wholeOf({ name, base, addressed }, reader, before) {
+function imageAround({ name, base, addressed }, reader, before) {
     const first = addressed === null ? null : addressed - before;
     return { name, reader, base: Math.max(base - before, 0), addressed: first, ...sizesOf(reader) };
 }

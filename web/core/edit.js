@@ -1,14 +1,14 @@
 // Scripts that replace bytes at a place, or a file.
 
-import { readBytes } from './bytes.js';
+import { joinedBytes, readBytes, sameBytes } from './bytes.js';
 import { sectorsAt } from './compare.js';
+import { Fault } from './faults.js';
 import { sliceOf } from './image.js';
-import { LineList, WrongLines, firstWrong, linesBetween } from './lines.js';
+import { LineList, assertLeads, linesBetween } from './lines.js';
 import { ScriptParts } from './output.js';
 import { RESULT, SECTOR_KIND } from './records.js';
-import { addToRuns } from './runs.js';
+import { addToRuns, runOf } from './runs.js';
 import { SECTOR_SIZE, USER_SIZE, addressIn, joinedUser, sectorCount, sectorOf, userOf } from './sector.js';
-import { joinedBytes } from './text.js';
 
 /** @typedef {import('./codes.js').Calls} Calls */
 /** @typedef {import('./bytes.js').Reader} Reader */
@@ -25,9 +25,6 @@ import { joinedBytes } from './text.js';
 /** The most bytes of a patch. The module refuses more. */
 const MOST_REPLACED = 4096;
 
-/** Why bytes can't be replaced. */
-export class EditFault extends Error {}
-
 /**
  * Bytes filled up to a size with others, over and over.
  * @param {Uint8Array} bytes
@@ -37,8 +34,8 @@ export class EditFault extends Error {}
 export function filledUp(bytes, size, fill) {
     const missing = size - bytes.length;
     if (missing === 0) return bytes;
-    if (missing < 0 || fill === null) throw new EditFault(`the new bytes are ${bytes.length}, the old ones ${size}`);
-    if (missing % fill.length !== 0) throw new EditFault(`${missing} bytes are to be filled up, ${fill.length} at a time`);
+    if (missing < 0 || fill === null) throw new Fault(`the new bytes are ${bytes.length}, the old ones ${size}`);
+    if (missing % fill.length !== 0) throw new Fault(`${missing} bytes are to be filled up, ${fill.length} at a time`);
     const filled = new Uint8Array(size);
     filled.set(bytes);
     for (let at = bytes.length; at < size; at += fill.length) filled.set(fill, at);
@@ -46,14 +43,14 @@ export function filledUp(bytes, size, fill) {
 }
 
 /**
- * The script that replaces user bytes from a place on, of an image in which the old ones stand there. Throws EditFault if they do not,
+ * The lines that replace user bytes from a place on, of an image in which the old ones stand there. Throws a Fault if they do not,
  * or if a sector is not consistent.
  * @param {Calls} calls
  * @param {DiscImage} image
  * @param {Place} place
  * @param {Uint8Array} old
  * @param {Uint8Array} fresh as many
- * @returns {Promise<Script>}
+ * @returns {Promise<Lines>}
  */
 export async function replaceBytes(calls, image, place, old, fresh) {
     const sectors = await sectorsOfRange(image, place, old.length);
@@ -61,14 +58,11 @@ export async function replaceBytes(calls, image, place, old, fresh) {
     const user = joinedUser(sectors);
     for (const [i, block] of blocks.entries()) assertConsistent(calls, sectorOf(sectors, i), block);
     const other = old.findIndex((byte, i) => byte !== user[place.offset + i]);
-    if (other >= 0) throw new EditFault(differsText(calls, placeAfter(place, other)));
+    if (other >= 0) throw new Fault(differsText(calls, placeAfter(place, other)));
     user.set(filledUp(fresh, old.length, null), place.offset);
     const lines = setLines(place, old, fresh);
-    const wrong = firstWrong(calls, lines, { blocks, old: sectors, fresh: encodedUser(calls, sectors, user) }, false);
-    if (wrong >= 0) throw new WrongLines(blocks[wrong]);
-    const parts = new ScriptParts();
-    parts.push({ text: lines.bytes(), patches: lines.patches, version: lines.version });
-    return parts.script(calls);
+    assertLeads(calls, lines, { blocks, old: sectors, fresh: encodedUser(calls, sectors, user) }, false);
+    return lines.lines();
 }
 
 /**
@@ -99,9 +93,9 @@ function sectorsOfRange({ reader, base }, { block, offset }, size) {
     const first = block - base;
     const count = Math.ceil((offset + size) / USER_SIZE);
     const end = base + sectorCount(reader.size);
-    if (size === 0) throw new EditFault('there are no old bytes');
-    if (offset < 0 || offset >= USER_SIZE) throw new EditFault(`an offset is 0 to ${USER_SIZE - 1}`);
-    if (first < 0 || block + count > end) throw new EditFault(`the image has the blocks ${base} to ${end - 1}`);
+    if (size === 0) throw new Fault('there are no old bytes');
+    if (offset < 0 || offset >= USER_SIZE) throw new Fault(`an offset is 0 to ${USER_SIZE - 1}`);
+    if (first < 0 || block + count > end) throw new Fault(`the image has the blocks ${base} to ${end - 1}`);
     return readBytes(reader, first * SECTOR_SIZE, count * SECTOR_SIZE);
 }
 
@@ -127,7 +121,7 @@ function encodedUser(calls, sectors, user) {
 function assertConsistent(calls, sector, block) {
     if (calls.isConsistent(sector)) return;
     const what = calls.kind(sector) === SECTOR_KIND.MODE1 ? 'is damaged: repair it first' : 'is not Mode 1';
-    throw new EditFault(`block ${block} ${what}`);
+    throw new Fault(`block ${block} ${what}`);
 }
 
 /**
@@ -162,10 +156,10 @@ export function replaceRange(calls, sectors, wanted, first, { end }) {
     const changed = [];
     for (let i = 0; i < sectorCount(sectors.length); i++) {
         const sector = sectorOf(sectors, i);
-        if (userOf(sector, 0).every((byte, k) => byte === user[USER_SIZE * i + k])) continue;
+        if (sameBytes(userOf(sector, 0), user.subarray(USER_SIZE * i, USER_SIZE * (i + 1)))) continue;
         const kind = calls.kind(sector);
         if (calls.isConsistent(sector)) changed.push(i);
-        else addToRuns(left, { first: first + i, last: first + i, why: kind === SECTOR_KIND.MODE1 ? 'damaged' : 'kind', kinds: [kind] });
+        else addToRuns(left, { ...runOf(first + i), why: kind === SECTOR_KIND.MODE1 ? 'damaged' : 'kind', kinds: [kind] });
     }
     const old = sectorsAt(sectors, changed);
     const fresh = encodedUser(calls, old, joinedBytes(changed.map(i => user.subarray(USER_SIZE * i, USER_SIZE * (i + 1)))));
@@ -173,7 +167,7 @@ export function replaceRange(calls, sectors, wanted, first, { end }) {
 }
 
 /**
- * The script that replaces a file of a disc. Throws EditFault.
+ * The script that replaces a file of a disc. Throws a Fault.
  * @param {Calls} calls
  * @param {Crew} crew
  * @param {DiscImage} image the track's
@@ -183,23 +177,20 @@ export function replaceRange(calls, sectors, wanted, first, { end }) {
  * @returns {Promise<Replacement>}
  */
 export async function replaceFile(calls, crew, image, file, wanted, { fill = null, ...how } = {}) {
-    if (file.fault !== '') throw new EditFault(`${file.path}: ${file.fault}`);
+    if (file.fault !== '') throw new Fault(`${file.path}: ${file.fault}`);
     if (wanted.size > file.size || (wanted.size < file.size && fill === null)) {
-        throw new EditFault(`${file.path} has ${file.size} bytes, the new file ${wanted.size}`);
+        throw new Fault(`${file.path} has ${file.size} bytes, the new file ${wanted.size}`);
     }
     const count = Math.ceil(file.size / USER_SIZE);
     const first = file.block - image.base;
     const sectors = sliceOf(image.reader, first * SECTOR_SIZE, (first + count) * SECTOR_SIZE);
     const parts = new ScriptParts();
-    /** @type {Left[]} */
-    const left = [];
     const args = { end: file.block * USER_SIZE + file.size };
     const sharing = { ...how, base: file.block, units: [SECTOR_SIZE, USER_SIZE] };
     await crew.share('replace', [sectors, filledReader(wanted, count * USER_SIZE, fill || 0)], args, sharing, answer => {
         parts.push(answer);
-        for (const run of answer.left) addToRuns(left, run);
     });
-    return { script: left.length > 0 ? null : parts.script(calls), left };
+    return { script: parts.left.length > 0 ? null : parts.script(calls), left: parts.left };
 }
 
 /**

@@ -1,6 +1,6 @@
 // What a file is: a raw image, or what it has to be made into first; and the block with which a raw image begins.
 
-import { readBytes } from './bytes.js';
+import { readBytes, wholeOf } from './bytes.js';
 import { SECTOR_KIND } from './records.js';
 import { SECTOR_SIZE, addressIn, blockAt, sectorCount, sectorOf } from './sector.js';
 import { textOfFile } from './text.js';
@@ -119,7 +119,7 @@ async function countSynced(calls, reader, size) {
 /** @param {Reader} reader */
 async function isSheet(reader) {
     if (reader.size > LARGEST_SHEET) return false;
-    const text = textOfFile(await readBytes(reader, 0, reader.size));
+    const text = textOfFile(await wholeOf(reader));
     return /^\s*FILE\s.*\S/im.test(text) && /^\s*TRACK\s+\d/im.test(text);
 }
 

@@ -1,8 +1,9 @@
 // The files of an ISO 9660 volume in a track of raw sectors, with Rock Ridge's or Joliet's names if it has them.
 
 import { readBytes } from './bytes.js';
+import { Fault } from './faults.js';
 import { entriesOfDirectory, isSelf, recordAt, sharingSkip } from './iso_records.js';
-import { SECTOR_SIZE, USER_SIZE, sectorCount, userOf } from './sector.js';
+import { SECTOR_SIZE, USER_SIZE, joinedUser, sectorCount } from './sector.js';
 
 /** @typedef {import('./bytes.js').Reader} Reader */
 /** @typedef {import('./iso_records.js').DirectoryRecord} DirectoryRecord */
@@ -29,7 +30,7 @@ const ESCAPES = 88;
 const LARGEST_DIRECTORY = 1 << 24;
 
 /** Why a track has no volume whose files can be listed. */
-export class VolumeFault extends Error {}
+export class VolumeFault extends Fault {}
 
 /** The user data of a track, by the block numbers of its volume. */
 class VolumeReader {
@@ -67,9 +68,7 @@ class VolumeReader {
      */
     async user(extent, count) {
         const bytes = await readBytes(this.reader, (extent - this.first) * SECTOR_SIZE, count * SECTOR_SIZE);
-        const user = new Uint8Array(count * USER_SIZE);
-        for (let i = 0; i < count; i++) user.set(userOf(bytes, i), i * USER_SIZE);
-        return user;
+        return joinedUser(bytes);
     }
 
     /**

@@ -1,5 +1,6 @@
 // The records of a directory of ISO 9660, and what Rock Ridge adds to them.
 
+import { joinedBytes } from './bytes.js';
 import { USER_SIZE } from './sector.js';
 import { textOfFile } from './text.js';
 
@@ -133,10 +134,10 @@ async function continuation(blocks, data) {
  */
 async function rockRidge(blocks, area) {
     const entries = await systemEntries(blocks, area);
-    const parts = entries.filter(it => it.signature === 'NM').flatMap(it => [...it.data.subarray(1)]);
+    const parts = entries.filter(it => it.signature === 'NM').map(it => it.data.subarray(1));
     const child = entries.find(it => it.signature === 'CL' && it.data.length >= 4);
     return {
-        name: textOfFile(Uint8Array.from(parts)),
+        name: textOfFile(joinedBytes(parts)),
         link: entries.some(it => it.signature === 'SL'),
         moved: entries.some(it => it.signature === 'RE'),
         child: child ? numberAt(child.data, 0) : null,

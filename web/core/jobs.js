@@ -1,9 +1,10 @@
 // Jobs over ranges of sectors, and how they are shared out to workers.
 
 import { readBytes } from './bytes.js';
-import { diffRange } from './compare.js';
+import { diffRange, differRange } from './compare.js';
 import { userRange } from './convert.js';
 import { replaceRange } from './edit.js';
+import { Fault } from './faults.js';
 import { findIn } from './find.js';
 import { basesIn } from './image.js';
 import { mergeRange } from './merge.js';
@@ -19,7 +20,7 @@ import { surveyRange } from './survey.js';
  * @typedef {(calls: Calls, pieces: Uint8Array[], first: number, args: any) => any} Job
  */
 /** @typedef {{ number: number, job: string, pieces: Uint8Array[], first: number, args: any }} Message */
-/** @typedef {{ number: number, answer?: any, fault?: { name: string, message: string } }} Reply */
+/** @typedef {{ number: number, answer?: any, fault?: { name: string, message: string, isFault?: boolean } }} Reply */
 /**
  * Who works: a worker, or this thread. The door calls `onreply` with what `serving` has returned, and `onfault` if the worker itself
  * fails.
@@ -39,6 +40,7 @@ export const JOBS = {
     bases: (calls, [bytes], first) => basesIn(calls, bytes, first),
     find: (calls, [bytes], first, args) => findIn(calls, bytes, first, args),
     diff: (calls, [old, fresh], first) => diffRange(calls, old, fresh, first),
+    differ: (calls, [old, fresh], first) => differRange(calls, old, fresh, first),
     merge: (calls, pieces, first, args) => mergeRange(calls, pieces, first, args),
     replace: (calls, [sectors, wanted], first, args) => replaceRange(calls, sectors, wanted, first, args),
     user: (calls, [bytes], first) => userRange(calls, bytes, first),
@@ -52,10 +54,9 @@ const SHARED_STEP = 1024;
 const RANGES_A_HAND = 2;
 
 /** A job that `signal` has ended. */
-export class JobAborted extends Error {
+export class JobAborted extends Fault {
     constructor() {
         super('cancelled');
-        this.name = 'JobAborted';
     }
 }
 
@@ -80,7 +81,7 @@ export function serving(calls) {
  */
 function errorFault(error) {
     const { name, message } = error instanceof Error ? error : new Error(String(error));
-    return { name, message };
+    return { name, message, isFault: error instanceof Fault };
 }
 
 /**
@@ -100,21 +101,14 @@ export function transfersOf({ answer }) {
 
 /**
  * A hand that works at once, in this thread.
- * @implements {Hand}
+ * @param {Calls} calls
+ * @returns {Hand}
  */
-export class LocalHand {
-    /** @param {Calls} calls */
-    constructor(calls) {
-        this.serve = serving(calls);
-        /** @type {(reply: Reply) => void} */
-        this.onreply = () => {};
-        this.onfault = () => {};
-    }
-
-    /** @param {Message} message */
-    post(message) {
-        this.onreply(this.serve(message));
-    }
+export function localHand(calls) {
+    const serve = serving(calls);
+    /** @type {Hand} */
+    const hand = { post: message => hand.onreply(serve(message)), onreply() {}, onfault() {} };
+    return hand;
 }
 
 /**
@@ -237,7 +231,7 @@ async function readRange(readers, first, count, units) {
 function answerOf({ answer, fault }, signal) {
     assertWanted(signal);
     if (!fault) return answer;
-    throw Object.assign(new Error(fault.message), { name: fault.name });
+    throw Object.assign(fault.isFault ? new Fault(fault.message) : new Error(fault.message), { name: fault.name });
 }
 
 /** @param {{ aborted: boolean }} [signal] */

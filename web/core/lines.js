@@ -1,9 +1,10 @@
 // Lines of a script that make sectors others. They are applied by the calls before they are given out.
 
-import { ByteList } from './bytes.js';
+import { ByteList, sameBytes } from './bytes.js';
+import { Fault } from './faults.js';
 import { SECTORS_IN_HAND } from './patch.js';
-import { CONTENT, RECORD, RECORD_SIZE, RESULT, SECTOR_KIND } from './records.js';
-import { addToRuns } from './runs.js';
+import { CONTENT, RECORD, RECORD_SIZE, RESULT, SECTOR_KIND, kindName } from './records.js';
+import { addToRuns, blocksText, runOf } from './runs.js';
 import { SECTOR_SIZE, USER_SIZE, addressIn, addressText, differingSectors, sectorOf, userOf } from './sector.js';
 import { isDamaged } from './survey.js';
 
@@ -18,7 +19,10 @@ import { isDamaged } from './survey.js';
  * (`kinds`, before and after), or their address is none that a script can name.
  * @typedef {{ first: number, last: number, why: 'damaged' | 'kind' | 'address', kinds: number[] }} Left
  */
-/** @typedef {{ text: Uint8Array, patches: number, version: number, left: Left[] }} Lines */
+/**
+ * Lines as bytes, how many patches they are, the version of the language and whether they need `--carry`, and what they leave.
+ * @typedef {{ text: Uint8Array, patches: number, version: number, carry: boolean, left: Left[] }} Lines
+ */
 /**
  * With `carry` the lines are for a patched image whose damage was carried. With `heal` a sector that has to become a damaged one becomes
  * it but for its damage, and is named too.
@@ -31,13 +35,17 @@ const JOINED_BYTES = 8;
 /** The two digits of each byte. */
 const DIGITS = Uint8Array.from({ length: 512 }, (_, i) => '0123456789ABCDEF'.charCodeAt(i % 2 ? (i >> 1) % 16 : i >> 5));
 
-/** Lines that do not do what they are for: a defect of this core. Nothing of them is given out. */
-export class WrongLines extends Error {
-    /** @param {number} block */
-    constructor(block) {
-        super(`the script for block ${block} would not give the right sector, so it is not written`);
-        this.name = 'WrongLines';
-    }
+/**
+ * Why sectors are left, all for one reason, as a clause.
+ * @param {Left[]} runs
+ * @param {string} image the one that has what no script makes
+ * @param {number} [most] how many runs are named
+ */
+export function leftText(runs, image, most) {
+    const blocks = blocksText(runs, most);
+    if (runs[0].why === 'damaged') return `${image} is damaged in ${blocks}`;
+    if (runs[0].why === 'address') return `no script can name the address of ${blocks} in ${image}`;
+    return `${[...new Set(runs.flatMap(run => run.kinds))].map(kindName).join(' and ')} in ${blocks}, and a script changes only mode1`;
 }
 
 /** Lines of a script, as bytes. */
@@ -46,6 +54,17 @@ export class LineList extends ByteList {
         super();
         this.patches = 0;
         this.version = 1;
+        this.carry = false;
+    }
+
+    /**
+     * The lines, with what is left besides them.
+     * @param {Left[]} [left]
+     * @returns {Lines}
+     */
+    lines(left = []) {
+        const { patches, version, carry } = this;
+        return { text: this.bytes().slice(), patches, version, carry, left };
     }
 
     /** @param {string} text in ASCII */
@@ -137,9 +156,8 @@ function canBeNamed(calls, address) {
 export function linesBetween(calls, pairs, how = {}) {
     const writing = new Writing(calls, pairs, how);
     pairs.blocks.forEach((_, i) => writing.add(i));
-    writing.assertLeads();
-    const { lines: { patches, version }, left } = writing;
-    return { text: writing.lines.bytes().slice(), patches, version, left };
+    assertLeads(calls, writing.lines, { ...pairs, fresh: writing.due }, writing.carry);
+    return writing.lines.lines(writing.left);
 }
 
 /** The lines so far, and the sectors that they give. */
@@ -168,9 +186,13 @@ class Writing {
         const kinds = this.states.map(records => records[RECORD_SIZE * i + RECORD.KIND]);
         const [damaged, toBeDamaged] = this.states.map(records => isDamaged(records, RECORD_SIZE * i));
         if (kinds.some(kind => kind !== SECTOR_KIND.MODE1)) return this.leave(i, 'kind', kinds);
-        if (differ(addressIn(old, 0), addressIn(fresh, 0)) && !canBeNamed(this.calls, addressIn(fresh, 0))) return this.leave(i, 'address');
+        const [before, after] = [addressIn(old, 0), addressIn(fresh, 0)];
+        if (!sameBytes(before, after) && !canBeNamed(this.calls, after)) return this.leave(i, 'address');
         if (!toBeDamaged) return this.lead(i, old, fresh, damaged);
-        if (damaged && this.carry && this.carries(i, old, fresh)) return this.lead(i, old, fresh, false);
+        if (damaged && this.carry && this.carries(i, old, fresh)) {
+            this.lines.carry = true;
+            return this.lead(i, old, fresh, false);
+        }
         this.leave(i, 'damaged');
         if (!this.heal) return;
         const healed = fresh.slice();
@@ -184,7 +206,7 @@ class Writing {
      * @param {number[]} kinds
      */
     leave(i, why, kinds = []) {
-        addToRuns(this.left, { first: this.pairs.blocks[i], last: this.pairs.blocks[i], why, kinds });
+        addToRuns(this.left, { ...runOf(this.pairs.blocks[i]), why, kinds });
     }
 
     /**
@@ -210,13 +232,6 @@ class Writing {
         writeSector(lines, this.pairs.blocks[i], old, fresh, false);
         return firstWrong(this.calls, lines, { blocks: [this.pairs.blocks[i]], old, fresh }, true) < 0;
     }
-
-    /** Applies the lines. Throws WrongLines if they do not make the sectors what they have to become. */
-    assertLeads() {
-        const { blocks, old } = this.pairs;
-        const wrong = firstWrong(this.calls, this.lines, { blocks, old, fresh: this.due }, this.carry);
-        if (wrong >= 0) throw new WrongLines(blocks[wrong]);
-    }
 }
 
 /**
@@ -228,17 +243,9 @@ class Writing {
  */
 function writeSector(lines, block, old, fresh, rebuild) {
     if (rebuild) lines.rebuild(block);
-    if (differ(addressIn(old, 0), addressIn(fresh, 0))) lines.address(block, addressIn(fresh, 0));
+    if (!sameBytes(addressIn(old, 0), addressIn(fresh, 0))) lines.address(block, addressIn(fresh, 0));
     const [before, after] = [userOf(old, 0), userOf(fresh, 0)];
     for (const { from, end } of differingRuns(before, after)) lines.set(block, from, after.subarray(from, end), before.subarray(from, end));
-}
-
-/**
- * @param {Uint8Array} a
- * @param {Uint8Array} b
- */
-function differ(a, b) {
-    return a.some((byte, i) => byte !== b[i]);
 }
 
 /**
@@ -249,7 +256,7 @@ function differ(a, b) {
  * @param {Pairs} pairs
  * @param {boolean} carry
  */
-export function firstWrong(calls, lines, { blocks, old, fresh }, carry) {
+function firstWrong(calls, lines, { blocks, old, fresh }, carry) {
     calls.hold(old, lines.bytes());
     let [i, number] = [0, 1];
     for (let at = old.length; at < calls.heldSize;) {
@@ -264,4 +271,16 @@ export function firstWrong(calls, lines, { blocks, old, fresh }, carry) {
     }
     const wrong = differingSectors(calls.held(0, old.length), fresh);
     return wrong.length > 0 ? wrong[0] : -1;
+}
+
+/**
+ * Throws a Fault if lines do not make sectors what they have to become: a defect of this core. Nothing of them is given out then.
+ * @param {Calls} calls
+ * @param {LineList} lines
+ * @param {Pairs} pairs
+ * @param {boolean} carry
+ */
+export function assertLeads(calls, lines, pairs, carry) {
+    const wrong = firstWrong(calls, lines, pairs, carry);
+    if (wrong >= 0) throw new Fault(`the script for block ${pairs.blocks[wrong]} would not give the right sector, so it is not written`);
 }

@@ -1,11 +1,12 @@
 // The repair of an image by other dumps of the same disc.
 
-import { LengthFault } from './output.js';
+import { PieceCutter, joinedBytes, sameBytes } from './bytes.js';
+import { tailsDiffer } from './compare.js';
+import { Fault } from './faults.js';
 import { RECORD, RECORD_SIZE, SECTOR_KIND } from './records.js';
-import { addToRuns } from './runs.js';
+import { addToRuns, runOf } from './runs.js';
 import { SECTOR_SIZE, addressIn, differingSectors, sectorCount, sectorOf } from './sector.js';
 import { isDamaged, surveyRange } from './survey.js';
-import { joinedBytes } from './text.js';
 
 /** @typedef {import('./codes.js').Calls} Calls */
 /** @typedef {import('./bytes.js').Piece} Piece */
@@ -14,31 +15,20 @@ import { joinedBytes } from './text.js';
 /** @typedef {import('./jobs.js').Sharing} Sharing */
 /** @typedef {import('./runs.js').Run} Run */
 /**
- * What is found in a range: the blocks whose sectors are taken, by runs that come of one other image each, and these sectors; the blocks
- * that are damaged in all images; the taken ones in which other images are sound too and differ; and how many sectors of each other
- * image are sound and differ from sound ones.
- * @typedef {{ taken: (Run & { other: number })[], sectors: Uint8Array, damaged: Run[], disputed: Run[], different: number[] }} Merged
+ * What is found in blocks: those whose sectors are taken, by runs that come of one other image each; those that are repaired by no image,
+ * `elsewhere` if one has a sound sector there with the address of another block; the taken ones in which other images are sound too and
+ * differ; and how many sectors of each other image are sound and differ from sound ones.
+ * @typedef {{ taken: (Run & { other: number })[], damaged: (Run & { elsewhere: boolean })[], disputed: Run[], different: number[] }} Found
  */
+/** @typedef {Found & { sectors: Uint8Array, end: number }} Merged with the sectors that are taken, and the block after the range */
 /**
- * The repaired image in pieces, null if a hundredth of the sectors of another image are sound and different: that is no dump of the same
- * disc, or it is shifted.
- * @typedef {Omit<Merged, 'sectors'> & { pieces: Piece[] | null, sectors: number }} Repair
+ * What is found in all sectors. The repair is refused if more than a hundredth of the sectors of another image are sound and different:
+ * that is no dump of the same disc, or it is shifted. `tails` says which other images differ after the last sector.
+ * @typedef {Found & { refused: boolean, sectors: number, tails: boolean[] }} Repair
  */
 
 /** An image is refused if more than one in so many of its sectors is sound and different. */
 const MOST_DIFFERENT = 100;
-
-/** Another image whose first sector is another block. */
-export class BaseFault extends Error {
-    /**
-     * @param {DiscImage} old
-     * @param {DiscImage} other
-     */
-    constructor(old, other) {
-        super(`${old.name} begins with block ${old.base}, ${other.name} with block ${other.base}: they are not the same part of a disc`);
-        this.name = 'BaseFault';
-    }
-}
 
 /**
  * What is taken of other images in a range of sectors. A job for a worker.
@@ -52,8 +42,7 @@ export function mergeRange(calls, pieces, first, { shift }) {
     const merging = new Merging(calls, pieces, first, shift);
     const count = sectorCount(pieces[0].length);
     for (let i = 0; i < count; i++) merging.sector(i);
-    const { taken, damaged, disputed, different } = merging;
-    return { taken, sectors: joinedBytes(merging.sectors), damaged, disputed, different };
+    return { ...merging.found, sectors: joinedBytes(merging.sectors), end: first + count };
 }
 
 /** What is found so far. Sectors of others that are as in the image have no record, as if they were no data. */
@@ -70,29 +59,26 @@ class Merging {
         this.shift = shift;
         this.others = others;
         this.records = surveyRange(calls, old, first).records;
-        this.found = others.map(other => differingRecords(calls, old, other, first));
+        this.numbers = others.map((_, other) => other);
+        this.otherRecords = others.map(other => differingRecords(calls, old, other, first));
         /** @type {Uint8Array[]} */
         this.sectors = [];
-        /** @type {(Run & { other: number })[]} */
-        this.taken = [];
-        /** @type {Run[]} */
-        this.damaged = [];
-        /** @type {Run[]} */
-        this.disputed = [];
-        this.different = others.map(() => 0);
+        this.found = nothingFound(others.length);
     }
 
     /** @param {number} i */
     sector(i) {
         const at = i * RECORD_SIZE;
-        const sound = this.found.map(records => isSound(records, at));
+        const sound = this.numbers.filter(other => isSound(this.otherRecords[other], at));
         if (isSound(this.records, at)) {
-            sound.forEach((it, other) => { this.different[other] += Number(it); });
+            for (const other of sound) this.found.different[other] += 1;
             return;
         }
-        const fit = this.others.map((_, other) => other).filter(other => sound[other] && this.isHome(other, i));
+        const fit = sound.filter(other => this.isHome(other, i));
         if (fit.length > 0) this.take(i, fit);
-        else if ([this.records, ...this.found].some(records => isMode1(records, at))) addToRuns(this.damaged, runOf(this.first + i));
+        else if ([this.records, ...this.otherRecords].some(records => isMode1(records, at))) {
+            addToRuns(this.found.damaged, { ...runOf(this.first + i), elsewhere: sound.length > 0 });
+        }
     }
 
     /**
@@ -102,7 +88,7 @@ class Merging {
      */
     isHome(other, i) {
         const address = this.calls.address(this.first + this.shift + i);
-        return address !== null && address.every((byte, k) => byte === addressIn(this.others[other], i)[k]);
+        return address !== null && sameBytes(address, addressIn(this.others[other], i));
     }
 
     /**
@@ -113,14 +99,17 @@ class Merging {
     take(i, fit) {
         const [sector, ...more] = fit.map(other => sectorOf(this.others[other], i));
         this.sectors.push(sector);
-        addToRuns(this.taken, { ...runOf(this.first + i), other: fit[0] });
-        if (more.some(it => differingSectors(sector, it).length > 0)) addToRuns(this.disputed, runOf(this.first + i));
+        addToRuns(this.found.taken, { ...runOf(this.first + i), other: fit[0] });
+        if (more.some(it => differingSectors(sector, it).length > 0)) addToRuns(this.found.disputed, runOf(this.first + i));
     }
 }
 
-/** @param {number} block */
-function runOf(block) {
-    return { first: block, last: block };
+/**
+ * @param {number} others how many other images there are
+ * @returns {Found}
+ */
+function nothingFound(others) {
+    return { taken: [], damaged: [], disputed: [], different: new Array(others).fill(0) };
 }
 
 /**
@@ -160,28 +149,31 @@ function differingRecords(calls, old, other, first) {
 
 /**
  * Repairs an image by others: sectors that are not consistent in it and are in another one, with the block's own address there, are
- * taken whole. Throws LengthFault and BaseFault.
+ * taken whole. The pieces of the repaired image are given to `take` as they come, before it is known whether the repair is refused. The
+ * tail stays as it is. Throws a Fault.
  * @param {Crew} crew
  * @param {DiscImage} old
  * @param {DiscImage[]} others
- * @param {Sharing} [how]
+ * @param {Sharing} how
+ * @param {(piece: Piece) => void | Promise<void>} take
  * @returns {Promise<Repair>}
  */
-export async function mergeImages(crew, old, others, how) {
-    for (const other of others) {
-        assertSamePart(old, other);
-    }
-    /** @type {Omit<Repair, 'pieces'>} */
-    const repair = { taken: [], damaged: [], disputed: [], different: others.map(() => 0), sectors: sectorCount(old.reader.size) };
-    const pieces = new PatchedPieces(old.reader.size);
+export async function mergeImages(crew, old, others, how, take) {
+    for (const other of others) assertSamePart(old, other);
+    const found = nothingFound(others.length);
+    const sectors = sectorCount(old.reader.size);
+    const pieces = new PieceCutter(take);
     // Blocks of an image that begins before block 0 count from 0 all the same.
     const shift = old.addressed !== null && old.addressed < 0 ? old.addressed - old.base : 0;
-    await crew.share('merge', [old, ...others].map(({ reader }) => reader), { shift }, { ...how, base: old.base }, answer => {
-        addAnswer(repair, answer);
-        pieces.add(answer, old.base);
+    await crew.share('merge', [old, ...others].map(({ reader }) => reader), { shift }, { ...how, base: old.base }, async answer => {
+        addAnswer(found, answer);
+        await cutAnswer(pieces, answer, old.base);
     });
-    const refused = repair.different.some(count => count * MOST_DIFFERENT > repair.sectors);
-    return { ...repair, pieces: refused ? null : pieces.all() };
+    await pieces.keep(old.reader.size);
+    const refused = found.different.some(count => count * MOST_DIFFERENT > sectors);
+    const tails = [];
+    for (const other of others) tails.push(await tailsDiffer(old.reader, other.reader));
+    return { ...found, refused, sectors, tails };
 }
 
 /**
@@ -191,55 +183,35 @@ export async function mergeImages(crew, old, others, how) {
 function assertSamePart(old, other) {
     const [size, another] = [old.reader.size, other.reader.size];
     if (size !== another) {
-        throw new LengthFault(`${old.name} has ${size} bytes and ${other.name} ${another}: they are not dumps of one disc`);
+        throw new Fault(`${old.name} has ${size} bytes and ${other.name} ${another}: they are not dumps of one disc`);
     }
-    if (other.base !== old.base) throw new BaseFault(old, other);
+    if (other.base === old.base) return;
+    const bases = `${old.name} begins with block ${old.base}, ${other.name} with block ${other.base}`;
+    throw new Fault(`${bases}: they are not the same part of a disc`);
 }
 
 /**
- * @param {Omit<Repair, 'pieces'>} repair
+ * @param {Found} found
  * @param {Merged} answer
  */
-function addAnswer(repair, { taken, damaged, disputed, different }) {
-    for (const run of taken) addToRuns(repair.taken, run);
-    for (const run of damaged) addToRuns(repair.damaged, run);
-    for (const run of disputed) addToRuns(repair.disputed, run);
-    different.forEach((count, other) => { repair.different[other] += count; });
+function addAnswer(found, { taken, damaged, disputed, different }) {
+    for (const run of taken) addToRuns(found.taken, run);
+    for (const run of damaged) addToRuns(found.damaged, run);
+    for (const run of disputed) addToRuns(found.disputed, run);
+    different.forEach((count, other) => { found.different[other] += count; });
 }
 
-/** The pieces of an image in which some sectors are others. */
-class PatchedPieces {
-    /** @param {number} size of the image */
-    constructor(size) {
-        this.size = size;
-        /** @type {Piece[]} */
-        this.pieces = [];
-        this.end = 0;
+/**
+ * @param {PieceCutter} pieces
+ * @param {Merged} answer
+ * @param {number} base
+ */
+async function cutAnswer(pieces, { taken, sectors, end }, base) {
+    let done = 0;
+    for (const { first, last } of taken) {
+        const size = (last - first + 1) * SECTOR_SIZE;
+        await pieces.put((first - base) * SECTOR_SIZE, sectors.subarray(done, done + size));
+        done += size;
     }
-
-    /**
-     * @param {Merged} answer
-     * @param {number} base
-     */
-    add({ taken, sectors }, base) {
-        let done = 0;
-        for (const { first, last } of taken) {
-            const size = (last - first + 1) * SECTOR_SIZE;
-            this.slice((first - base) * SECTOR_SIZE);
-            this.pieces.push({ at: this.end, bytes: sectors.subarray(done, done + size) });
-            this.end += size;
-            done += size;
-        }
-    }
-
-    /** @param {number} end where the slice ends */
-    slice(end) {
-        if (this.end < end) this.pieces.push({ from: this.end, to: end });
-        this.end = end;
-    }
-
-    all() {
-        this.slice(this.size);
-        return this.pieces;
-    }
+    await pieces.keep((end - base) * SECTOR_SIZE);
 }

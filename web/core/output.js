@@ -1,25 +1,21 @@
 // A script that this core has written, in pieces, and what it asks of who reads it.
 
+import { Fault } from './faults.js';
 import { CONTENT } from './records.js';
+import { addToRuns } from './runs.js';
 import { MOST_SCRIPT_BYTES } from './script.js';
 
 /** @typedef {import('./codes.js').Calls} Calls */
+/** @typedef {import('./lines.js').Left} Left */
+/** @typedef {import('./lines.js').Lines} Lines */
 /**
- * A script: its bytes in pieces, how many they are, how many patches it has, and whether it has more of either than cdpatch takes.
- * @typedef {{ pieces: Uint8Array[], size: number, patches: number, long: boolean }} Script
+ * A script: its bytes in pieces, how many they are, how many patches it has, whether it has more of either than cdpatch takes, and
+ * whether it needs `--carry`.
+ * @typedef {{ pieces: Uint8Array[], size: number, patches: number, long: boolean, carry: boolean }} Script
  */
 
 /** So many bytes of a script are held in memory. */
 const MOST_WRITTEN = 1 << 30;
-
-/** Images of different lengths, or with so many differences that no script is made of them. */
-export class LengthFault extends Error {
-    /** @param {string} message */
-    constructor(message) {
-        super(message);
-        this.name = 'LengthFault';
-    }
-}
 
 /**
  * Whether a script may have so many patches, by the module.
@@ -33,7 +29,7 @@ function tooManyPatches(calls, patches) {
     return calls.readLine(1, 2, patches - 1, 0, line.length) !== CONTENT.PATCH;
 }
 
-/** The parts of a script, in order. */
+/** The parts of a script, in order, and what they leave. */
 export class ScriptParts {
     constructor() {
         /** @type {Uint8Array[]} */
@@ -41,15 +37,20 @@ export class ScriptParts {
         this.size = 0;
         this.patches = 0;
         this.version = 1;
+        this.carry = false;
+        /** @type {Left[]} */
+        this.left = [];
     }
 
-    /** @param {{ text: Uint8Array, patches: number, version: number }} lines */
-    push({ text, patches, version }) {
+    /** @param {Lines} lines */
+    push({ text, patches, version, carry, left }) {
         if (text.length > 0) this.pieces.push(text);
         this.size += text.length;
         this.patches += patches;
         this.version = Math.max(this.version, version);
-        if (this.size > MOST_WRITTEN) throw new LengthFault(`the script would have more than ${MOST_WRITTEN} bytes: too much differs`);
+        this.carry = this.carry || carry;
+        for (const run of left) addToRuns(this.left, run);
+        if (this.size > MOST_WRITTEN) throw new Fault(`the script would have more than ${MOST_WRITTEN} bytes: too much differs`);
     }
 
     /**
@@ -61,6 +62,6 @@ export class ScriptParts {
         const head = new TextEncoder().encode(`cdpatch ${this.version}\n`);
         const size = head.length + this.size;
         const long = size > MOST_SCRIPT_BYTES || tooManyPatches(calls, this.patches);
-        return { pieces: [head, ...this.pieces], size, patches: this.patches, long };
+        return { pieces: [head, ...this.pieces], size, patches: this.patches, long, carry: this.carry };
     }
 }

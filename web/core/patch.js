@@ -1,6 +1,6 @@
 // The patches of a script on an image, of which only the sectors near them are read.
 
-import { ByteList, readBytes } from './bytes.js';
+import { ByteList, PieceCutter, joinedBytes, readBytes } from './bytes.js';
 import { RESULT, patchFields } from './records.js';
 import { SECTOR_SIZE, USER_SIZE, imageTooLong, sectorCount } from './sector.js';
 import { Refusal } from './script.js';
@@ -80,10 +80,9 @@ class PatchedImage {
      */
     constructor(reader, take) {
         this.reader = reader;
-        this.take = take;
+        this.pieces = new PieceCutter(take);
         /** @type {Map<number, Uint8Array>} */
         this.waiting = new Map();
-        this.passed = 0;
     }
 
     /**
@@ -95,19 +94,9 @@ class PatchedImage {
         for (let from = 0, to = 0; from < ready.length; from = to) {
             const first = ready[from][0];
             while (to < ready.length && ready[to][0] - first === to - from) to++;
-            const bytes = new Uint8Array((to - from) * SECTOR_SIZE);
-            ready.slice(from, to).forEach(([, sector], i) => bytes.set(sector, i * SECTOR_SIZE));
-            await this.passSlice(first * SECTOR_SIZE);
-            await this.take({ at: this.passed, bytes });
-            this.passed += bytes.length;
+            await this.pieces.put(first * SECTOR_SIZE, joinedBytes(ready.slice(from, to).map(([, sector]) => sector)));
         }
         ready.forEach(([i]) => this.waiting.delete(i));
-    }
-
-    /** @param {number} end the place at which the slice ends */
-    async passSlice(end) {
-        if (this.passed < end) await this.take({ from: this.passed, to: end });
-        this.passed = end;
     }
 
     /**
@@ -132,7 +121,7 @@ class PatchedImage {
     /** Passes on the rest, the tail too. */
     async end() {
         await this.passBefore(sectorCount(this.reader.size));
-        await this.passSlice(this.reader.size);
+        await this.pieces.keep(this.reader.size);
     }
 }
 

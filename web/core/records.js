@@ -42,3 +42,11 @@ export function patchFields(patch) {
         old: patch[9] ? patch.subarray(end, end + size) : null,
     };
 }
+
+/**
+ * The name of a kind of sectors.
+ * @param {number} kind
+ */
+export function kindName(kind) {
+    return Object.keys(SECTOR_KIND)[kind].toLowerCase();
+}

@@ -73,24 +73,6 @@ class LineCutter {
     }
 }
 
-/**
- * The lines of a text, without their ends.
- * @param {Calls} calls
- * @param {Pieces} pieces
- * @returns {AsyncGenerator<Uint8Array>}
- */
-export async function* linesOf(calls, pieces) {
-    /** @type {Uint8Array[]} */
-    const lines = [];
-    const cutter = new LineCutter(calls, (from, size) => lines.push(calls.held(from, from + size).slice()) > 0);
-    for await (const piece of pieces) {
-        cutter.push(piece);
-        yield* lines.splice(0);
-    }
-    cutter.end();
-    yield* lines;
-}
-
 /** The patches of the lines so far, or the fault of the last one. */
 class ScriptReading {
     /**
@@ -116,15 +98,10 @@ class ScriptReading {
         this.number += 1;
         const earlier = this.long ? 0 : this.patches.length;
         const content = this.calls.readLine(this.version, this.number, earlier, from, size);
-        if (content === CONTENT.PATCH) this.push(this.calls.patchRead());
+        if (content === CONTENT.PATCH) this.patches.push({ number: this.number, ...this.calls.patchRead() });
         else if (content > CONTENT.PATCH) this.fault = content;
         else if (content !== CONTENT.NOTHING) this.version = content;
         return this.fault === 0;
-    }
-
-    /** @param {{ block: number, bytes: Uint8Array }} patch */
-    push({ block, bytes }) {
-        this.patches.push({ number: this.number, block, bytes });
     }
 
     /** The patches in the order in which they are applied, after the last line. */

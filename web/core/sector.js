@@ -1,9 +1,13 @@
 // The layout of a sector and of an image (ECMA-130), and addresses by the calls.
 
+import { joinedBytes, sameBytes } from './bytes.js';
+
 /** @typedef {import('./codes.js').Calls} Calls */
 
 export const SECTOR_SIZE = 2352;
 export const USER_SIZE = 2048;
+/** Where the fields of a sector begin, in their order. */
+export const FIELDS = Object.freeze({ sync: 0, header: 12, user: 16, edc: 2064, zeros: 2068, parity: 2076 });
 export const HEADER_OFFSET = 12;
 export const MODE_OFFSET = 15;
 export const USER_OFFSET = 16;
@@ -92,10 +96,7 @@ export function differingSectors(old, fresh) {
  * @param {Uint8Array} bytes
  */
 export function joinedUser(bytes) {
-    const count = sectorCount(bytes.length);
-    const user = new Uint8Array(USER_SIZE * count);
-    for (let i = 0; i < count; i++) user.set(userOf(bytes, i), USER_SIZE * i);
-    return user;
+    return joinedBytes(Array.from({ length: sectorCount(bytes.length) }, (_, i) => userOf(bytes, i)));
 }
 
 /**
@@ -125,5 +126,5 @@ export function blockAt(calls, address) {
     const [minute, second, frame] = Array.from(address, byte => 10 * (byte >> 4) + (byte & 15));
     const block = (minute * 60 + second) * 75 + frame - 150;
     const made = block < 0 ? null : calls.address(block);
-    return made !== null && made.every((byte, i) => byte === address[i]) ? block : null;
+    return made !== null && sameBytes(made, address) ? block : null;
 }

@@ -1,5 +1,6 @@
 // Texts as bytes of a disc, and back: hex, UTF-8, UTF-16, Shift-JIS as Windows has it (CP932), EUC-JP, and a game's own tables (.tbl).
 
+import { joinedBytes } from './bytes.js';
 import { CharacterTable, TextFault, cp932, eucJp, lacks } from './characters.js';
 
 /**
@@ -38,7 +39,7 @@ function hexEncoding() {
 function notHex(text, at) {
     const place = [...text.slice(0, at)].length + 1;
     if (!/[0-9A-Fa-f]/.test(text[at])) return lacks('hex', text, at);
-    return new TextFault(`hexadecimal digits come in pairs: character ${place} of the text is half a byte`, place);
+    return new TextFault(`hexadecimal digits come in pairs: character ${place} of the text is half a byte`);
 }
 
 /**
@@ -81,6 +82,8 @@ const ENCODING_MAKERS = {
     'EUC-JP': eucJp,
 };
 
+const strictUtf8 = new TextDecoder('utf-8', { fatal: true });
+
 /** @type {Map<string, Encoding>} */
 const openedEncodings = new Map();
 
@@ -92,9 +95,13 @@ const openedEncodings = new Map();
 export function encodingOf(name) {
     const plain = (/** @type {string} */ text) => text.toUpperCase().replace(/[^A-Z0-9]/g, '');
     const known = ENCODING_NAMES[plain(name)] || ENCODINGS.find(it => plain(it) === plain(name));
-    if (!known) return null;
-    const encoding = openedEncodings.get(known) || ENCODING_MAKERS[known]();
-    openedEncodings.set(known, encoding);
+    return known ? openedEncoding(known) : null;
+}
+
+/** @param {string} name one of ENCODINGS */
+function openedEncoding(name) {
+    const encoding = openedEncodings.get(name) || ENCODING_MAKERS[name]();
+    openedEncodings.set(name, encoding);
     return encoding;
 }
 
@@ -108,35 +115,15 @@ export function encodeText(encoding, text) {
 }
 
 /**
- * Bytes one after the other.
- * @param {Uint8Array[]} parts
- */
-export function joinedBytes(parts) {
-    const whole = new Uint8Array(parts.reduce((size, part) => size + part.length, 0));
-    let at = 0;
-    for (const part of parts) {
-        whole.set(part, at);
-        at += part.length;
-    }
-    return whole;
-}
-
-/**
  * The text of a small file that somebody wrote, as a cue sheet or a table: UTF-8 if it is that, else CP932.
  * @param {Uint8Array} bytes
  */
 export function textOfFile(bytes) {
     try {
-        return new TextDecoder('utf-8', { fatal: true }).decode(bytes);
+        return strictUtf8.decode(bytes);
     } catch {
-        return cp932Text(bytes);
+        return openedEncoding('CP932').text(bytes);
     }
-}
-
-/** @param {Uint8Array} bytes */
-function cp932Text(bytes) {
-    const encoding = encodingOf('CP932');
-    return encoding ? encoding.text(bytes) : '';
 }
 
 /**
@@ -151,10 +138,10 @@ export function tableOf(bytes) {
         if (/^([;#]|$)/.test(line)) return;
         const found = /^([*/]?)((?:[0-9A-Fa-f]{2})+)(?:=(.+))?$/u.exec(line);
         const text = found && (found[3] || (found[1] === '*' ? '\n' : ''));
-        if (!found || !text) throw new TextFault(`line ${i + 1} of the table is not HEX=TEXT`, i + 1);
+        if (!found || !text) throw new TextFault(`line ${i + 1} of the table is not HEX=TEXT`);
         const key = found[2].match(/../g) || [];
         const fresh = table.add(Uint8Array.from(key, pair => parseInt(pair, 16)), text);
-        if (!fresh) throw new TextFault(`line ${i + 1} of the table: ${found[2]} stands twice`, i + 1);
+        if (!fresh) throw new TextFault(`line ${i + 1} of the table: ${found[2]} stands twice`);
     });
     return table;
 }

@@ -4,7 +4,6 @@ import { readBytes } from './bytes.js';
 import { diffRange } from './compare.js';
 import { ScriptParts } from './output.js';
 import { passPatched } from './patch.js';
-import { addToRuns } from './runs.js';
 import { Refusal, patchesOf } from './script.js';
 import { SECTOR_SIZE } from './sector.js';
 
@@ -33,15 +32,11 @@ export async function undoScript(calls, reader, script, { base, carry = false, l
     const patches = await patchesOf(calls, script, long);
     if (patches instanceof Refusal) return patches;
     const parts = new ScriptParts();
-    /** @type {Left[]} */
-    const left = [];
     const takeBack = async (/** @type {Piece} */ piece) => {
         if (!('bytes' in piece)) return;
         const before = await readBytes(reader, piece.at, piece.bytes.length);
-        const lines = diffRange(calls, piece.bytes, before, base + piece.at / SECTOR_SIZE, { carry, heal: true });
-        parts.push(lines);
-        for (const run of lines.left) addToRuns(left, run);
+        parts.push(diffRange(calls, piece.bytes, before, base + piece.at / SECTOR_SIZE, { carry, heal: true }));
     };
     const patched = await passPatched(calls, reader, patches, base, carry, takeBack);
-    return patched instanceof Refusal ? patched : { script: parts.script(calls), patched, left };
+    return patched instanceof Refusal ? patched : { script: parts.script(calls), patched, left: parts.left };
 }

@@ -128,7 +128,7 @@ export function filledTo(fresh, size, fill) {
 }
 
 /**
- * The lines that replace a hit, which the core has tried on its sectors. Throws EditFault if a sector is damaged, or no Mode 1.
+ * The lines that replace a hit, which the core has tried on its sectors. Throws a Fault if a sector is damaged, or no Mode 1.
  * @param {Calls} calls
  * @param {DiscImage} image
  * @param {Hit} hit
@@ -136,6 +136,6 @@ export function filledTo(fresh, size, fill) {
  * @param {Uint8Array} old
  */
 export async function linesReplacing(calls, image, hit, fresh, old) {
-    const { pieces } = await replaceBytes(calls, image, hit, old, fresh);
-    return pieces.slice(1).map(bytes => new TextDecoder().decode(bytes).trimEnd()).join('\n').split('\n');
+    const { text } = await replaceBytes(calls, image, hit, old, fresh);
+    return new TextDecoder().decode(text).trimEnd().split('\n');
 }

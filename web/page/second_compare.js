@@ -1,6 +1,6 @@
 // Compare with a second image: where both differ, and the script from one to the other.
 
-import { FIELD_COUNT, SECOND_STATE } from './differ.js';
+import { FIELD_COUNT, SECOND_STATE } from '../core/compare.js';
 import { button, element, fill, counted, term } from './dom.js';
 import { jobBar } from './progress.js';
 import { notice } from './say.js';
@@ -9,7 +9,7 @@ import { patchedStem, writeScript } from './second_script.js';
 import { tableCard, tallyOf } from './tally.js';
 
 /** @typedef {import('./state.js').App} App */
-/** @typedef {import('./differ.js').Differing} Differing */
+/** @typedef {import('../core/compare.js').Differing} Differing */
 /** @typedef {import('./second_marks.js').PairMarks} PairMarks */
 /** @typedef {{ block: number, fields: number[], state: number }} FieldRow */
 
@@ -119,7 +119,8 @@ export class SecondCompare {
 function addRows(marks, found, answer) {
     addDiffering(marks, answer);
     answer.blocks.forEach((block, i) => {
-        const fields = [...answer.fields.subarray(i * FIELD_COUNT, (i + 1) * FIELD_COUNT)];
+        const [sync, header, user, edc, zeros, parity] = answer.fields.subarray(i * FIELD_COUNT, (i + 1) * FIELD_COUNT);
+        const fields = [sync + header, user, edc, zeros + parity];
         found.onlyCodes += Number(fields[0] + fields[1] === 0);
         if (found.rows.length < MOST_DIFFERING_ROWS) found.rows.push({ block, fields, state: answer.states[i] });
     });

@@ -1,11 +1,11 @@
 // What the map shows of two images: what a repair would take, or where they differ.
 
-import { SECOND_STATE } from './differ.js';
+import { SECOND_STATE } from '../core/compare.js';
 import { MARK, SURVEY_LOOKS } from './marks.js';
 
 /** @typedef {import('./marks.js').Look} Look */
 /** @typedef {import('../core/runs.js').Run} Run */
-/** @typedef {import('./differ.js').Differing} Differing */
+/** @typedef {import('../core/compare.js').Differing} Differing */
 
 /** @typedef {import('./marks.js').SurveyMarks} SurveyMarks */
 

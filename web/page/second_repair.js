@@ -54,16 +54,18 @@ export class SecondRepair {
         if (this.begun || image === null || second === null) return;
         this.begun = true;
         try {
+            /** @type {Piece[]} */
+            const pieces = [];
             const repair = await app.run((signal, cancel) => {
                 const bar = jobBar('Comparing both images', cancel);
                 fill(this.body, ...bar.parts);
-                return mergeImages(app.crew, image, [second], { signal, progress: bar.sectors });
+                return mergeImages(app.crew, image, [second], { signal, progress: bar.sectors }, piece => { pieces.push(piece); });
             });
             if (app.second !== second || app.survey === null) return;
             this.marks = repairMarks(app.survey.marks);
             this.marks.setRuns(repair.taken, 0);
             this.marks.setRuns(repair.damaged, 1);
-            this.draw(repair);
+            this.draw(repair, pieces);
             this.changed();
             await this.drawTable(repair);
         } catch (error) {
@@ -73,17 +75,19 @@ export class SecondRepair {
         }
     }
 
-    /** @param {Repair} repair */
-    draw(repair) {
+    /**
+     * @param {Repair} repair
+     * @param {Piece[]} pieces of the repaired image
+     */
+    draw(repair, pieces) {
         const [taken, damaged, different] = [blocksIn(repair.taken), blocksIn(repair.damaged), repair.different[0]];
         const tally = tallyOf([[taken, 'can be repaired', 'good-ink'], [damaged, 'damaged in both', damaged > 0 ? 'bad-ink' : ''],
             [different, 'sound in both, but different', '']]);
-        if (repair.pieces === null) {
+        if (repair.refused) {
             fill(this.body, tally, notice('bad', 'This is no dump of the same disc, or it is shifted.',
                 `${countOf(different, 'sector')} are sound in both and differ: more than one in a hundred. Nothing is taken.`));
             return;
         }
-        const { pieces } = repair;
         const save = button('main', () => void this.save(pieces), 'Save repaired image…');
         const script = button('', () => void this.script(pieces), 'Write it as a script');
         const none = taken === 0 ? [notice('plain', 'There is nothing to repair from it.', damaged === 0 ? 'No sector here is damaged.'

@@ -1,6 +1,7 @@
 // The script that leads from the open image to another one: it was applied by the proved calls before it is shown.
 
 import { compareImages } from '../core/compare.js';
+import { leftText } from '../core/lines.js';
 import { blocksIn } from '../core/runs.js';
 import { button, counted, countOf, element, fill } from './dom.js';
 import { download } from './files_out.js';
@@ -87,23 +88,12 @@ function refusal({ left, tail }, again) {
     const head = 'The script is not written: ';
     if (others.length === 0 && !tail) {
         const count = blocksIn(damaged);
-        const where = element('b', {}, `${head}the second image is damaged in ${named(damaged)}.`);
+        const where = element('b', {}, `${head}${leftText(damaged, 'the second image', MOST_LEFT_NAMED)}.`);
         return element('div', { class: 'say bad', role: 'alert' }, where,
             'Their wrong bytes would get a correct EDC, and nobody could see the damage any more.',
             element('div', { class: 'row' }, button('', again, count === 1 ? 'Leave this one out' : `Leave these ${counted(count)} out`)));
     }
-    const kinds = others.some(it => it.why === 'kind');
-    const blocks = kinds ? `${named(others)} differ, and a script changes only Mode 1 sectors.`
-        : `the address of ${named(others)} is none that a script can write.`;
-    const why = tail ? 'the bytes after the last sector differ.' : blocks;
-    return notice('bad', head + why, 'Use the second image itself, or “Repair from it”, which copies whole sectors.');
-}
-
-/** @param {Left[]} runs */
-function named(runs) {
-    const texts = runs.slice(0, MOST_LEFT_NAMED).map(({ first, last }) => first === last ? String(first) : `${first} to ${last}`);
-    const more = runs.length > MOST_LEFT_NAMED ? ` and ${counted(blocksIn(runs.slice(MOST_LEFT_NAMED)))} more` : '';
-    const one = runs.length === 1 && runs[0].first === runs[0].last;
-    const list = more === '' && texts.length > 1 ? `${texts.slice(0, -1).join(', ')} and ${texts[texts.length - 1]}` : texts.join(', ');
-    return `${one ? 'block' : 'blocks'} ${list}${more}`;
+    const first = others.filter(it => it.why === others[0].why);
+    const why = tail ? 'the bytes after the last sector differ' : leftText(first, 'the second image', MOST_LEFT_NAMED);
+    return notice('bad', `${head}${why}.`, 'Use the second image itself, or “Repair from it”, which copies whole sectors.');
 }

@@ -1,16 +1,13 @@
 // The program of a worker: ranges of jobs, and one long SHA-1.
 
 import { Calls } from '../core/codes.js';
-import { JOBS, serving, transfersOf } from '../core/jobs.js';
-import { differRange } from './differ.js';
+import { serving, transfersOf } from '../core/jobs.js';
 
 /** @typedef {import('../core/jobs.js').Message} Message */
 /**
  * What a worker is told: the module, before all else; a range of a job; or bytes to hash after those before, null at the end.
  * @typedef {{ module: WebAssembly.Module } | Message | { hash: Uint8Array | null }} Order
  */
-
-JOBS.differ = differRange;
 
 /** What a worker does with the module that it is given. */
 class Bench {
