@@ -21,7 +21,7 @@ globalThis.showSaveFilePicker = async ({ suggestedName }) => {
     if (chosen.none) throw new DOMException('nothing was chosen', 'AbortError');
     return {
         name: suggestedName,
-        getFile: async () => chosen.own || new File(chosen.state === 'closed' ? chosen.writes : [], suggestedName),
+        getFile: async () => chosen.gone && chosen.state === 'closed' ? Promise.reject(new DOMException('gone', 'NotFoundError')) : chosen.own || new File(chosen.state === 'closed' ? chosen.writes : [], suggestedName),
         remove: async () => { chosen.removed = true; },
         createWritable: async () => ({
             async write(bytes) {
@@ -98,6 +98,15 @@ class PageTest(unittest.TestCase):
 
     def is_off(self, text: str) -> bool:
         return bool(self.browser.run(f'{BUTTON}.getAttribute("aria-disabled") === "true"', text))
+
+    def asks_before_leaving(self) -> bool:
+        """Whether the page has the browser ask before it is left."""
+        return bool(self.browser.run('const asked = new Event("beforeunload", { cancelable: true }); dispatchEvent(asked); return asked.defaultPrevented'))
+
+    def focused(self) -> str:
+        """The card that has the focus, and the control in it."""
+        return str(self.browser.run('const it = document.activeElement, card = it.closest(".card, .steps");'
+                                    'return `${card ? card.getAttribute("aria-label") || card.className : ""}: ${it.innerText}`'))
 
     def rows(self) -> list[str]:
         """The lines of the editor that are drawn, with what is said of them."""

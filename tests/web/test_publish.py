@@ -141,6 +141,12 @@ class Player(PageTest):
         files = discs.written(other=other, english=discs.script())
         self.assertEqual(self.browser.downloaded('Starlit (English).bin').read_bytes(), applied(files['other'], files['english'])[2])
 
+    def test_a_damaged_dump_is_not_called_another_release(self) -> None:
+        self.play(common.damaged(discs.game(), discs.first_block() + 1))
+        self.browser.wait('#verdict', 'This dump is damaged in places that the patch changes.')
+        self.assertIn('1 of 6 places are damaged.', self.browser.text('#player'))
+        self.assertNotIn('release', self.browser.text('#player'))
+
     def test_an_image_that_is_patched_already(self) -> None:
         self.play(result())
         self.browser.wait('#verdict', 'This image is patched already.')
@@ -231,6 +237,12 @@ class Player(PageTest):
         self.press('Open this in the full cdpatch')
         self.browser.wait('#panel-script header .tag', '6 patches, version 1')
         self.browser.wait('#disc-line .name', 'mine.bin')
+        self.browser.click('#tab-publish')
+        fields = 'return ["title", "author", "note", "name"].map(it => document.querySelector(`#patcher-${it}`).value)'
+        self.assertEqual(self.browser.run(fields), ['Starlit Detective in English', 'Team Comet', 'All menus.\nChapter 1.', 'Starlit (English).bin'])
+        self.assertFalse(self.asks_before_leaving())
+        self.browser.type('#patcher-note', 'All of it.')
+        self.assertTrue(self.asks_before_leaving())
 
 
 class Streamed(PageTest):

@@ -3,17 +3,19 @@
 import { Refusal } from '../core/script.js';
 import { undoScript } from '../core/undo.js';
 import { CheckCard } from './check_card.js';
-import { button, byId, countOf, counted, element, fill, isDisabled, setDisabled } from './dom.js';
+import { askBeforeLeaving, button, byId, countOf, counted, element, fill, isDisabled, keepFocus, setDisabled } from './dom.js';
 import { ScriptEditor } from './editor.js';
-import { listenToEditor } from './editor_input.js';
+import { listenToEditor, turnBack } from './editor_input.js';
 import { explainLine } from './explain.js';
 import { downloadBytes, downloadText } from './files_out.js';
-import { copyText, showNotice, showFailure } from './say.js';
+import { clearNotices, copyText, showNotice, showFailure } from './say.js';
 import { ScriptLines } from './script_lines.js';
 import { helpOfFault, helpOfRefusal } from './script_words.js';
+import { blockNames } from './second_script.js';
 
 /** @typedef {import('./state.js').App} App */
 /** @typedef {import('./editor.js').LineHelp} LineHelp */
+/** @typedef {import('./script_lines.js').Edit} Edit */
 /** @typedef {import('./dom.js').Child} Child */
 
 const MOST_LOG = 200000;
@@ -54,14 +56,17 @@ class ScriptPanel {
             this.editor.box, this.strip),
             this.side), this.opening);
         panel.addEventListener('keydown', event => this.pressed(event));
+        this.lines.setText(NEW_SCRIPT);
+        this.share();
+        this.drawAll();
         this.listen();
-        this.load();
     }
 
     listen() {
         const { app } = this;
+        askBeforeLeaving(() => this.isLost());
         app.on('script', from => {
-            if (from !== 'editor') this.load();
+            if (from !== 'editor') this.load(from);
         });
         app.on('image', () => {
             this.check.forget();
@@ -76,23 +81,48 @@ class ScriptPanel {
         });
     }
 
-    /** Takes the script of the page, which somebody else has changed. */
-    load() {
-        const text = this.app.script.text || NEW_SCRIPT;
-        const own = this.lines.text();
-        if (text !== own && own.endsWith('\n') && text.startsWith(own)) {
-            this.lines.edit(this.lines.lines.length - 1, 1, text.slice(own.length).split('\n'));
-        } else if (text !== own) this.lines.setText(text);
-        this.editor.current = Math.min(this.editor.current, this.lines.lines.length - 1);
+    /** Whether there is a script that is in no file. */
+    isLost() {
+        return !this.lines.isSaved() && this.app.script.text !== '';
+    }
+
+    /**
+     * Takes the script of the page, which somebody else has changed. What it was is an undo away, which is said of one that is in no file.
+     * @param {string} from 'file', 'made' for a new script, 'lines' for more of this one
+     */
+    load(from) {
+        const { lines, app } = this;
+        const { name, text } = app.script;
+        const old = lines.text();
+        const lost = from !== 'lines' && !lines.isSaved() && old !== NEW_SCRIPT && old !== text;
+        if (text !== old || name !== lines.name) lines.replace(text || NEW_SCRIPT, name, from === 'lines');
+        if (from === 'file') lines.noteSaved();
+        this.editor.current = Math.min(this.editor.current, lines.lines.length - 1);
         this.share();
         this.drawAll();
+        if (lost) queueMicrotask(() => this.offerBack(lines.done[lines.done.length - 1]));
+    }
+
+    /** @param {Edit} edit with which a script in no file went */
+    offerBack(edit) {
+        const { editor, lines } = this;
+        const back = () => {
+            let line = -1;
+            while (lines.done.includes(edit)) line = lines.undo();
+            clearNotices();
+            turnBack(editor, line);
+        };
+        showNotice('warn', 'Your script was in no file, and has made way for this one.', element('div', { class: 'row' },
+            button('slim', back, 'Bring it back')));
     }
 
     /** The text of the page is that of the lines, which is joined only if somebody asks for it; '' if nothing was written yet. */
     share() {
-        const { lines, app } = this;
-        const { name } = app.script;
-        app.script = { name, get text() { return lines.text() === NEW_SCRIPT ? '' : lines.text(); } };
+        const { lines } = this;
+        this.app.script = {
+            get name() { return lines.name; },
+            get text() { return lines.text() === NEW_SCRIPT ? '' : lines.text(); },
+        };
     }
 
     changed() {
@@ -123,8 +153,8 @@ class ScriptPanel {
         setDisabled(undo, fault || app.image === null || lines.patches === 0);
         fill(this.head, element('h2', { class: name ? 'mono' : '' }, name || 'New script'),
             element('span', { class: `tag${fault ? ' bad' : ''}` }, tag),
-            button('slim bare', () => this.opening.click(), 'Open…'),
-            button('slim bare', () => downloadText(lines.text(), name || 'script.txt'), 'Save script…'), undo);
+            this.isLost() && element('span', { class: 'tag warn' }, 'in no file yet'),
+            button('slim bare', () => this.opening.click(), 'Open…'), button('slim bare', () => this.save(), 'Save script…'), undo);
         const count = byId('count-script');
         count.hidden = !fault && lines.patches === 0;
         count.className = `count${fault ? ' bad' : ''}`;
@@ -192,6 +222,12 @@ class ScriptPanel {
         event.preventDefault();
     }
 
+    save() {
+        downloadText(this.lines.text(), this.lines.name || 'script.txt');
+        this.lines.noteSaved();
+        keepFocus(this.head, () => this.drawHead(), 'button:nth-last-child(2)');
+    }
+
     open() {
         const files = [...this.opening.files || []];
         this.opening.value = '';
@@ -212,9 +248,11 @@ class ScriptPanel {
             if (made instanceof Refusal) throw new Error('The script has a fault.');
             const stem = (app.script.name || 'script').replace(/\.[^.]*$/, '');
             downloadBytes(made.script.pieces, `${stem} (undo).txt`);
-            const left = made.left.map(({ first, last }) => first === last ? `${first}` : `${first} to ${last}`).join(', ');
-            const but = left === '' ? '.' : `, but for the damage of ${left}: their address and user data come back.`;
-            showNotice(left ? 'warn' : 'good', 'The undo script is saved.', `On the patched image it makes the old one again${but}`);
+            const left = made.left.length > 0 && `, but for the damage of ${blockNames(made.left)}: their address and user data come back`;
+            const how = carry && ' Apply it with carry, as this script.';
+            const long = made.script.long && ' It is longer than cdpatch and this page take: cdscript applies it with --long.';
+            showNotice(left || long ? 'warn' : 'good', 'The undo script is saved.', 'On the patched image it makes the old one again',
+                left, '.', how, long);
         } catch (error) {
             showFailure(error, 'No undo script was made.');
         }

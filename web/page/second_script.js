@@ -2,10 +2,10 @@
 
 import { compareImages } from '../core/compare.js';
 import { blocksIn } from '../core/runs.js';
-import { button, counted, countOf, element, fill } from './dom.js';
+import { button, counted, countOf, element, fill, keepFocus } from './dom.js';
 import { download } from './files_out.js';
 import { jobBar } from './progress.js';
-import { isCancelled, notice } from './say.js';
+import { isCancelled, notice, sentence } from './say.js';
 
 /** @typedef {import('./state.js').App} App */
 /** @typedef {import('./state.js').Image} Image */
@@ -19,17 +19,6 @@ const LONGEST_SHOWN = 1 << 24;
 const MOST_LEFT_NAMED = 8;
 
 /**
- * A name like that of an image, with what is new about it: 'game.bin' becomes 'game (repaired).bin'.
- * @param {string} name
- * @param {string} what
- * @param {string} [ending] instead of its own
- */
-export function patchedStem(name, what, ending) {
-    const [, stem, own] = /^(.*?)(\.[^.]*)?$/.exec(name) || ['', name, ''];
-    return `${stem} (${what})${ending || own || '.bin'}`;
-}
-
-/**
  * Writes the script, and says in a place how it went.
  * @param {App} app
  * @param {HTMLElement} place
@@ -39,19 +28,19 @@ export function patchedStem(name, what, ending) {
  * @param {boolean} [skipDamaged]
  */
 export async function writeScript(app, place, image, fresh, name, skipDamaged = false) {
+    const show = (/** @type {Node[]} */ ...parts) => keepFocus(place, () => fill(place, ...parts));
     try {
         const compared = await app.run((signal, cancel) => {
             const bar = jobBar('Writing the script', cancel);
-            fill(place, ...bar.parts);
+            show(...bar.parts);
             const how = { base: image.base, signal, progress: bar.sectors, skipDamaged };
             return compareImages(app.calls, app.crew, image.reader, fresh, how);
         });
         const again = () => void writeScript(app, place, image, fresh, name, true);
-        fill(place, compared.script === null ? refusal(compared, again) : written(app, compared.script, name, compared.left));
+        show(compared.script === null ? refusal(compared, again) : written(app, compared.script, name, compared.left));
     } catch (error) {
-        const message = error instanceof Error ? error.message : String(error);
         const rest = 'No script was written.';
-        fill(place, isCancelled(error) ? notice('plain', 'Cancelled.', rest) : notice('bad', message, rest));
+        show(isCancelled(error) ? notice('plain', 'Cancelled.', rest) : notice('bad', sentence(error), rest));
     }
 }
 
@@ -64,15 +53,14 @@ export async function writeScript(app, place, image, fresh, name, skipDamaged = 
 function written(app, { pieces, size, patches, long }, name, left) {
     const blob = new Blob(pieces);
     const take = button('main', async () => {
-        app.setScript(await blob.text(), name, 'file');
+        app.setScript(await blob.text(), name, 'made');
         app.showPanel('script');
     }, 'Put it into the panel Script');
-    const count = blocksIn(left);
-    const out = count === 0 ? '' : ` ${countOf(count, 'block')} ${count === 1 ? 'is' : 'are'} left out.`;
+    const but = left.length === 0 ? 'gives just this image' : `gives this image but for ${blockNames(left)}, which it leaves as they are`;
     const rest = long ? ' This is more than cdpatch takes: cdscript applies it with --long.' : '';
     const head = element('b', {}, `The script has ${countOf(patches, 'patch', 'patches')}.`);
-    return element('div', { class: 'say good', role: 'status' }, head,
-        `${counted(size)} bytes. It was applied by the proved code, and gives just this image.${out}${rest}`,
+    return element('div', { class: left.length === 0 ? 'say good' : 'say warn', role: 'status' }, head,
+        `${counted(size)} bytes. It was applied by the proved code, and ${but}.${rest}`,
         element('div', { class: 'row' }, size <= LONGEST_SHOWN && !long && take,
             button('', () => download(blob, name), 'Save the script…')));
 }
@@ -87,20 +75,24 @@ function refusal({ left, tail }, again) {
     const head = 'The script is not written: ';
     if (others.length === 0 && !tail) {
         const count = blocksIn(damaged);
-        const where = element('b', {}, `${head}the second image is damaged in ${named(damaged)}.`);
+        const where = element('b', {}, `${head}the second image is damaged in ${blockNames(damaged)}.`);
         return element('div', { class: 'say bad', role: 'alert' }, where,
             'Their wrong bytes would get a correct EDC, and nobody could see the damage any more.',
             element('div', { class: 'row' }, button('', again, count === 1 ? 'Leave this one out' : `Leave these ${counted(count)} out`)));
     }
     const kinds = others.some(it => it.why === 'kind');
-    const blocks = kinds ? `${named(others)} differ, and a script changes only Mode 1 sectors.`
-        : `the address of ${named(others)} is none that a script can write.`;
+    const one = others.length === 1 && others[0].first === others[0].last;
+    const blocks = kinds ? `${blockNames(others)} ${one ? 'differs' : 'differ'}, and a script changes only Mode 1 sectors.`
+        : `the address of ${blockNames(others)} is none that a script can write.`;
     const why = tail ? 'the bytes after the last sector differ.' : blocks;
     return notice('bad', head + why, 'Use the second image itself, or “Repair from it”, which copies whole sectors.');
 }
 
-/** @param {Left[]} runs */
-function named(runs) {
+/**
+ * Runs of blocks, as in 'blocks 7, 12 to 15 and 300 more'.
+ * @param {import('../core/runs.js').Run[]} runs
+ */
+export function blockNames(runs) {
     const texts = runs.slice(0, MOST_LEFT_NAMED).map(({ first, last }) => first === last ? String(first) : `${first} to ${last}`);
     const more = runs.length > MOST_LEFT_NAMED ? ` and ${counted(blocksIn(runs.slice(MOST_LEFT_NAMED)))} more` : '';
     const one = runs.length === 1 && runs[0].first === runs[0].last;
