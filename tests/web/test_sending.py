@@ -60,6 +60,13 @@ class Sending(PageTest):
         self.press('Save as a patcher')
         self.browser.downloaded('Title.html')
 
+    def test_the_page_that_was_opened_reaches_nothing(self) -> None:
+        self.browser.open(common.PAGE)
+        self.browser.wait('#start h1')
+        self.browser.click('#open-example')
+        self.wait_for_hash()
+        self.assertEqual(self.browser.attempts(), [])
+
     def test_a_whole_walk_reaches_nothing(self) -> None:
         self.walk()
         self.assertEqual(self.browser.attempts(), [])
