@@ -60,12 +60,7 @@ class PageTest(unittest.TestCase):
 
     @classmethod
     def setUpClass(cls) -> None:
-        cls.browser = chromium.Chromium()
-        cls.browser.before_pages(cls.stub)
-
-    @classmethod
-    def tearDownClass(cls) -> None:
-        cls.browser.quit()
+        cls.browser = chromium.shared(cls.stub)
 
     def setUp(self) -> None:
         for path in self.browser.downloads.iterdir():
@@ -98,10 +93,6 @@ class PageTest(unittest.TestCase):
 
     def is_off(self, text: str) -> bool:
         return bool(self.browser.run(f'{BUTTON}.getAttribute("aria-disabled") === "true"', text))
-
-    def asks_before_leaving(self) -> bool:
-        """Whether the page has the browser ask before it is left."""
-        return bool(self.browser.run('const asked = new Event("beforeunload", { cancelable: true }); dispatchEvent(asked); return asked.defaultPrevented'))
 
     def focused(self) -> str:
         """The card that has the focus, and the control in it."""

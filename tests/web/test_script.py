@@ -60,6 +60,10 @@ class Script(PageTest):
         saved.write_bytes(saved.read_bytes()[:-1])
         self.browser.drop('#panel-script', [saved])
         self.browser.wait('#panel-script .say', 'it was not saved to its end')
+        saved.write_bytes(applied(files['game'], files['english'])[2])
+        self.browser.drop('#panel-script', [saved])
+        self.press('Open it')
+        self.browser.wait('#second-title', 'game (patched).bin')
 
     def test_a_saved_file_is_not_judged_before_the_sum_of_the_image_is_known(self) -> None:
         files = discs.written(game=discs.game(), english=discs.script())
@@ -129,12 +133,12 @@ class Script(PageTest):
 
     def test_a_script_in_no_file_is_not_left_unasked(self) -> None:
         self.open_image(discs.written(game=discs.game())['game'])
-        self.assertFalse(self.asks_before_leaving())
+        self.assertFalse(self.browser.asks_before_leaving())
         self.type_script()
-        self.assertTrue(self.asks_before_leaving())
+        self.assertTrue(self.browser.asks_before_leaving())
         self.browser.wait('#panel-script header .tag.warn', 'in no file yet')
         self.script_text()
-        self.assertFalse(self.asks_before_leaving())
+        self.assertFalse(self.browser.asks_before_leaving())
         self.assertNotIn('in no file', self.browser.text('#panel-script header'))
 
     def test_the_focus_stays_in_the_card_that_works(self) -> None:

@@ -1,7 +1,7 @@
 // The card beside the editor: Check, what came of it, carry, and Apply and save.
 
 import { RESULT } from '../core/records.js';
-import { announce, button, countOf, counted, element, fill, keepFocus, setDisabled, term } from './dom.js';
+import { announce, button, counted, element, fill, keepFocus, setDisabled, term } from './dom.js';
 import { WorkRefused, checkWork } from './patch_job.js';
 import { jobBar } from './progress.js';
 import { isCancelled, messageOf, notice } from './say.js';
@@ -90,8 +90,9 @@ export class CheckCard {
     outcomes() {
         const { lines } = this.owner;
         if (this.patched === null) {
-            return [element('p', {}, lines.patches === 0 ? 'The script has no patch yet.' :
-                `Check says which of the ${countOf(lines.patches, 'patch', 'patches')} fit this image. Nothing is changed.`)];
+            return [element('p', {}, lines.patches === 0 ? 'The script has no patch yet.' : lines.patches === 1
+                ? 'Check says whether the patch fits this image. Nothing is changed.'
+                : `Check says which of the ${counted(lines.patches)} patches fit this image. Nothing is changed.`)];
         }
         const { outcomes } = this.patched;
         const applied = outcomes.filter(it => it.result === RESULT.OK).length;

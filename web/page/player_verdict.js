@@ -41,7 +41,8 @@ const REASONS = [
 export function reasonsOf(patches, refused) {
     return REASONS.flatMap(([result, what, advice]) => {
         const count = refused.filter(it => it === result).length;
-        return count === 0 ? [] : [`${counted(count)} of ${countOf(patches, 'place')} ${what}. ${advice}`];
+        const says = count === 1 ? what.replace('hold', 'holds').replace('are', 'is') : what;
+        return count === 0 ? [] : [`${counted(count)} of ${countOf(patches, 'place')} ${says}. ${advice}`];
     });
 }
 

@@ -139,7 +139,12 @@ export class SaveCard {
         const sha1 = wrong ? '' : await sha1Of(this.app.parts, fileReader(file), { aborted: false }, () => {});
         const right = sha1 !== '' && sha1 === await this.sum;
         if (this.saved !== saved) return true;
-        fill(this.checked, right ? notice('good', `${file.name} is right.`, 'Its size and SHA-1 are those of the patched image.')
+        const open = button('slim', () => {
+            this.close();
+            this.app.open([file]);
+        }, 'Open it');
+        fill(this.checked, right ? notice('good', `${file.name} is right.`, 'Its size and SHA-1 are those of the patched image.',
+            element('div', { class: 'row' }, open))
             : notice('bad', `${file.name} is not what it should be.`, wrong || 'Its SHA-1 is another one. Save it again.'));
         this.leaving = this.leaving && !right;
         return true;

@@ -6,7 +6,7 @@ import { blocksIn } from '../core/runs.js';
 import { mergeImages } from '../core/merge.js';
 import { SECTOR_SIZE } from '../core/sector.js';
 import { readBytes } from '../core/bytes.js';
-import { button, counted, countOf, element, fill, keepFocus, term } from './dom.js';
+import { askBeforeLeaving, button, counted, countOf, element, fill, keepFocus, term } from './dom.js';
 import { pieceReader } from './piece_reader.js';
 import { jobBar } from './progress.js';
 import { patchedName } from './save.js';
@@ -39,6 +39,9 @@ export class SecondRepair {
         this.marks = /** @type {PairMarks | null} */ (null);
         this.begun = false;
         this.tail = false;
+        /** Whether a file is being saved, as far as this page can know. */
+        this.saving = false;
+        askBeforeLeaving(() => this.saving);
     }
 
     model() {
@@ -46,7 +49,7 @@ export class SecondRepair {
     }
 
     forget() {
-        this.begun = false;
+        this.begun = this.saving = false;
         this.marks = null;
         fill(this.body);
         fill(this.table);
@@ -113,12 +116,15 @@ export class SecondRepair {
             const saved = await app.run((signal, cancel) => {
                 const bar = jobBar('Saving', cancel);
                 show(...bar.parts);
+                this.saving = true;
                 const progress = (/** @type {number} */ done) => bar.at(done, image.reader.size);
                 const name = patchedName(image.name, 'repaired');
                 return savePieces([image.reader, second.reader], pieces, name, { signal, progress });
             });
+            this.saving = saved !== null && !saved.streamed;
             show(saved && savedWords(saved, image.reader.size));
         } catch (error) {
+            this.saving = false;
             show(failureOfSaving(error, image.reader.size));
         }
     }
@@ -148,7 +154,7 @@ export class SecondRepair {
             element('th', {}, 'In the second image'), element('th', {}, 'File'));
         const text = rows.map(({ block, here, there, file }) => `${block}\t${here}\t${there}\t${file}\n`).join('');
         const same = rows.filter(row => row.same).map(row => row.block);
-        fill(this.table, tableCard(`No sound sector for: ${counted(count)}`, head, cells, text, footOf(same, count - rows.length)));
+        fill(this.table, tableCard(`Cannot be repaired: ${counted(count)}`, head, cells, text, footOf(same, count - rows.length)));
     }
 
     /**
