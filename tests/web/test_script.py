@@ -137,7 +137,8 @@ class Script(PageTest):
         self.type_script()
         self.assertTrue(self.browser.asks_before_leaving())
         self.browser.wait('#panel-script header .tag.warn', 'in no file yet')
-        self.script_text()
+        self.browser.press('s', held=Keys.CONTROL)
+        self.assertEqual(self.browser.downloaded('script.txt').read_text(), 'cdpatch 1\nrebuild 1')
         self.assertFalse(self.browser.asks_before_leaving())
         self.assertNotIn('in no file', self.browser.text('#panel-script header'))
 
@@ -209,6 +210,18 @@ class Script(PageTest):
         _, _, patched = applied(files['game'], files['english'], '--carry')
         status, _, again = applied(discs.written(patched=patched)['patched'], undo, '--carry')
         self.assertEqual((status, again), (0, discs.scratched()))
+
+    def test_an_undo_script_can_be_cancelled(self) -> None:
+        files = discs.written(game=discs.game(), english=discs.script())
+        self.open_image(files['game'])
+        self.open_script(files['english'])
+        self.browser.run(GATE)
+        self.press('Make the undo script')
+        self.browser.wait('#messages .progress')
+        self.press('Cancel')
+        self.browser.run('openGate()')
+        self.browser.wait('#messages .say', 'No undo script was made.')
+        self.assertEqual(list(self.browser.downloads.iterdir()), [])
 
     def test_the_undo_script_can_be_made_of_an_image_that_is_opened_later(self) -> None:
         files = discs.written(game=discs.game(), english=discs.script())

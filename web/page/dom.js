@@ -73,8 +73,8 @@ export function keepFocus(part, draw, wanted = '.btn') {
     const isIn = part.contains(had);
     draw();
     if (!isIn || document.activeElement === had) return;
-    part.tabIndex = -1;
     const next = part.contains(had) ? had : /** @type {HTMLElement | null} */ (part.querySelector(wanted) || part.querySelector('.btn'));
+    if (next === null) part.tabIndex = -1;
     (next || part).focus({ preventScroll: true });
 }
 

@@ -61,7 +61,7 @@ function accepted(value) {
  * @param {PatchWatch} watch
  * @returns {Reader}
  */
-function watched(reader, { signal, progress }) {
+export function watched(reader, { signal, progress }) {
     return {
         size: reader.size,
         async read(at, length) {

@@ -8,7 +8,9 @@ import { ScriptEditor } from './editor.js';
 import { listenToEditor, turnBack } from './editor_input.js';
 import { explainLine } from './explain.js';
 import { downloadBytes, downloadText } from './files_out.js';
-import { clearNotices, copyText, showNotice, showFailure } from './say.js';
+import { watched } from './patch_job.js';
+import { jobBar } from './progress.js';
+import { clearNotices, copyText, isCancelled, showFailure, showNotice } from './say.js';
 import { ScriptLines } from './script_lines.js';
 import { helpOfFault, helpOfRefusal } from './script_words.js';
 import { blockNames } from './second_script.js';
@@ -214,7 +216,9 @@ class ScriptPanel {
 
     /** @param {KeyboardEvent} event */
     pressed(event) {
-        if (event.key === 'Enter' && (event.ctrlKey || event.metaKey)) this.check.check();
+        const control = event.ctrlKey || event.metaKey;
+        if (event.key === 'Enter' && control) this.check.check();
+        else if (event.key === 's' && control) this.save();
         else if (event.key === 'F8') {
             const line = this.lines.nextWrong(this.editor.current, event.shiftKey ? -1 : 1);
             if (line >= 0) this.goTo(line);
@@ -244,7 +248,12 @@ class ScriptPanel {
         if (isDisabled(from) || image === null) return;
         const carry = check.carry.checked;
         try {
-            const made = await undoScript(app.calls, image.reader, [new TextEncoder().encode(lines.text())], { base: image.base, carry });
+            const made = await app.run((signal, cancel) => {
+                const bar = jobBar('Making the undo script', cancel);
+                showNotice('plain', 'Making the undo script', ...bar.parts);
+                const script = [new TextEncoder().encode(lines.text())];
+                return undoScript(app.calls, watched(image.reader, { signal, progress: bar.at }), script, { base: image.base, carry });
+            });
             if (made instanceof Refusal) throw new Error('The script has a fault.');
             const stem = (app.script.name || 'script').replace(/\.[^.]*$/, '');
             downloadBytes(made.script.pieces, `${stem} (undo).txt`);
@@ -254,7 +263,8 @@ class ScriptPanel {
             showNotice(left || long ? 'warn' : 'good', 'The undo script is saved.', 'On the patched image it makes the old one again',
                 left, '.', how, long);
         } catch (error) {
-            showFailure(error, 'No undo script was made.');
+            if (isCancelled(error)) showNotice('plain', 'Cancelled.', 'No undo script was made.');
+            else showFailure(error, 'No undo script was made.');
         }
     }
 
