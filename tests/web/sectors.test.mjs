@@ -1,22 +1,12 @@
-// What is said of sectors: the second image's that differ, the bytes at which broken codes cross, and findings grouped into places.
+// What is said of sectors: the bytes at which broken codes cross, and findings grouped into places.
 
 import assert from 'node:assert/strict';
 import { test } from 'node:test';
 import { calls, imageOf, page } from './page.mjs';
 
-const { differRange } = await page('differ.js');
 const { crossingsOf } = await page('crossings.js');
 const { placesOf } = await page('places.js');
 const { MARK } = await page('marks.js');
-
-test('sectors that differ are sound, damaged, or no data in the second image', () => {
-    const { bytes } = imageOf(Array.from({ length: 4 }, () => new Uint8Array(1)));
-    const second = imageOf([[0], [7], [0], [0]].map(user => Uint8Array.from(user))).bytes;
-    second[2 * 2352 + 600] ^= 1;
-    second[3 * 2352] ^= 1;
-    const { blocks, states, fields } = differRange(calls, [bytes, second], 10);
-    assert.deepEqual([[...blocks], [...states], [...fields.subarray(4, 8)]], [[11, 12, 13], [0, 1, 2], [0, 1, 0, 0]]);
-});
 
 test('bytes are named at which broken columns and diagonals cross', () => {
     const { bytes } = imageOf([new Uint8Array(8)]);
