@@ -1,4 +1,6 @@
-"""Runs tests: `all.py WORDS..` runs those with one of these in their names, or all, and prints 'ok NAME', 'not ok NAME' or 'skipped NAME'."""
+"""Runs tests: `all.py WORDS..` runs those with one of these in their names, or all, and prints 'ok NAME', 'not ok NAME' or 'skipped NAME'.
+`all.py --wrong LIST` runs tests on wrong pages: LIST has lines of a name, a page and a test, with tabs between them; it prints 'refused NAME'
+or 'let through NAME'. One browser serves all tests of a class."""
 
 import sys
 import time
@@ -60,10 +62,41 @@ def tests_of(suite: unittest.TestSuite) -> Iterator[unittest.TestCase]:
             yield part
 
 
+class OnWrongPages(unittest.TestResult):
+    """Gives each test its wrong page, and prints whether it has failed there."""
+
+    def __init__(self, pages: dict[int, tuple[str, Path]]) -> None:
+        super().__init__()
+        self.pages = pages
+
+    def startTest(self, test: unittest.TestCase) -> None:
+        super().startTest(test)
+        self.before = len(self.failures) + len(self.errors)
+        for module in (sys.modules['common'], sys.modules[type(test).__module__]):
+            if hasattr(module, 'PAGE'):
+                setattr(module, 'PAGE', self.pages[id(test)][1])
+
+    def stopTest(self, test: unittest.TestCase) -> None:
+        super().stopTest(test)
+        failed = len(self.failures) + len(self.errors) > self.before
+        print('refused' if failed else 'let through', self.pages[id(test)][0], flush=True)
+
+
+def run_on_wrong_pages(tests: list[unittest.TestCase], rows: list[list[str]]) -> int:
+    by_name = {named(test): test for test in tests}
+    found = [(name, Path(page), by_name[test]) for name, page, test in rows if test in by_name]
+    chosen = [(name, page, type(test)(test.id().rsplit('.', 1)[1])) for name, page, test in found]
+    result = OnWrongPages({id(test): (name, page) for name, page, test in chosen})
+    unittest.TestSuite(test for _, _, test in sorted(chosen, key=lambda it: it[2].id())).run(result)
+    return 0
+
+
 def main(words: list[str]) -> int:
     sys.path.insert(0, str(HERE))
-    loaded = unittest.defaultTestLoader.discover(str(HERE), 'test_*.py')
-    chosen = [test for test in tests_of(loaded) if not words or any(word in named(test) for word in words)]
+    loaded = list(tests_of(unittest.defaultTestLoader.discover(str(HERE), 'test_*.py')))
+    if words[:1] == ['--wrong']:
+        return run_on_wrong_pages(loaded, [line.split('\t') for line in Path(words[1]).read_text().splitlines()])
+    chosen = [test for test in loaded if not words or any(word in named(test) for word in words)]
     result = Result()
     unittest.TestSuite(chosen).run(result)
     wrong = len(result.failures) + len(result.errors)

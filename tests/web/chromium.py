@@ -1,6 +1,8 @@
 """Chromium, headless, by selenium: files chosen and dropped, downloads, what it tried to reach, screenshots, names and tab stops."""
 
+import atexit
 import base64
+import functools
 import json
 from collections.abc import Sequence
 from pathlib import Path
@@ -57,6 +59,7 @@ class Chromium:
         self.cdp('Page.addScriptToEvaluateOnNewDocument', source=TRAP)
         self.size(width, height)
         self.url = ''
+        self.stub = ''
 
     def quit(self) -> None:
         self.driver.quit()
@@ -66,8 +69,10 @@ class Chromium:
         return answer
 
     def before_pages(self, source: str) -> None:
-        """Runs a script in each page that is opened from now on, before its own."""
-        self.cdp('Page.addScriptToEvaluateOnNewDocument', source=source)
+        """Runs a script in each page that is opened from now on, before its own, and no script that was given so before."""
+        if self.stub:
+            self.cdp('Page.removeScriptToEvaluateOnNewDocument', identifier=self.stub)
+        self.stub = str(self.cdp('Page.addScriptToEvaluateOnNewDocument', source=source)['identifier'])
 
     def open(self, page: Path | str) -> None:
         self.url = page if isinstance(page, str) else page.as_uri()
@@ -130,6 +135,10 @@ class Chromium:
         waited(path.exists, f'no download {name} among {[it.name for it in self.downloads.iterdir()]}', seconds)
         return path
 
+    def asks_before_leaving(self) -> bool:
+        """Whether the page has the browser ask before it is left."""
+        return bool(self.run('const asked = new Event("beforeunload", { cancelable: true }); dispatchEvent(asked); return asked.defaultPrevented'))
+
     def attempts(self) -> list[str]:
         """What the page tried to reach, ran against, or threw, since it was opened."""
         found = list(self.run('return globalThis.caught'))
@@ -191,3 +200,20 @@ class Chromium:
                 break
             stops.append(stop)
         return stops
+
+
+@functools.cache
+def window() -> Chromium:
+    """The window of this run."""
+    made = Chromium()
+    atexit.register(made.quit)
+    return made
+
+
+def shared(before_pages: str = '') -> Chromium:
+    """The one window of this run, with nothing downloaded, which runs this script in each page before its own."""
+    browser = window()
+    browser.before_pages(before_pages)
+    for path in browser.downloads.iterdir():
+        path.unlink()
+    return browser

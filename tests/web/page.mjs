@@ -13,3 +13,20 @@ export const page = name => import(pathToFileURL(join(web, 'page', name)).href);
 const { Calls } = await import(pathToFileURL(join(web, 'core', 'codes.js')).href);
 
 export const calls = new Calls(new WebAssembly.Module(readFileSync(join(top, 'library/cdpatch.wasm'))));
+
+/** An image of sound sectors with this user data, which are filled up with zeros. */
+export function imageOf(users) {
+    const bytes = new Uint8Array(2352 * users.length);
+    users.forEach((user, block) => {
+        const all = new Uint8Array(2048);
+        all.set(user);
+        bytes.set(calls.encode(calls.address(block), all), 2352 * block);
+    });
+    return imageOfBytes(bytes);
+}
+
+/** An image of these bytes, whose first sector is block 0. */
+export function imageOfBytes(bytes) {
+    const reader = { size: bytes.length, read: async (at, length) => bytes.slice(at, at + length) };
+    return { name: 'game.bin', bytes, reader, base: 0, addressed: 0, sectors: Math.floor(bytes.length / 2352) };
+}

@@ -21,7 +21,7 @@ globalThis.showSaveFilePicker = async ({ suggestedName }) => {
     if (chosen.none) throw new DOMException('nothing was chosen', 'AbortError');
     return {
         name: suggestedName,
-        getFile: async () => chosen.own || new File(chosen.state === 'closed' ? chosen.writes : [], suggestedName),
+        getFile: async () => chosen.gone && chosen.state === 'closed' ? Promise.reject(new DOMException('gone', 'NotFoundError')) : chosen.own || new File(chosen.state === 'closed' ? chosen.writes : [], suggestedName),
         remove: async () => { chosen.removed = true; },
         createWritable: async () => ({
             async write(bytes) {
@@ -60,12 +60,7 @@ class PageTest(unittest.TestCase):
 
     @classmethod
     def setUpClass(cls) -> None:
-        cls.browser = chromium.Chromium()
-        cls.browser.before_pages(cls.stub)
-
-    @classmethod
-    def tearDownClass(cls) -> None:
-        cls.browser.quit()
+        cls.browser = chromium.shared(cls.stub)
 
     def setUp(self) -> None:
         for path in self.browser.downloads.iterdir():
@@ -98,6 +93,11 @@ class PageTest(unittest.TestCase):
 
     def is_off(self, text: str) -> bool:
         return bool(self.browser.run(f'{BUTTON}.getAttribute("aria-disabled") === "true"', text))
+
+    def focused(self) -> str:
+        """The card that has the focus, and the control in it."""
+        return str(self.browser.run('const it = document.activeElement, card = it.closest(".card, .steps");'
+                                    'return `${card ? card.getAttribute("aria-label") || card.className : ""}: ${it.innerText}`'))
 
     def rows(self) -> list[str]:
         """The lines of the editor that are drawn, with what is said of them."""

@@ -8,6 +8,7 @@ import { page } from './page.mjs';
 
 const { base64Of, comparedWithPage, headFault, patcherText, readPatcherText } = await page('patcher.js');
 const { bytesOfBase64 } = await page('parts.js');
+const { sha256 } = await page('sha256.js');
 
 const data = {
     title: 'Starlit Detective <img src=x onerror=alert(1)>', author: 'Team', note: 'line\n</plaintext>\n日本語', name: 'Starlit (English).bin',
@@ -33,6 +34,23 @@ test('what is written is read, and another program reads it as it is described',
     assert.equal(createHash('sha256').update(bytes).digest('hex'), sum);
     assert.deepEqual(inflateSync(bytes), plain);
     assert.deepEqual(await readPatcherText(packed(plain)), data);
+});
+
+test('a patcher that came over plain http is read, where a browser has no digest', async () => {
+    const known = Object.getOwnPropertyDescriptor(globalThis, 'crypto');
+    Object.defineProperty(globalThis, 'crypto', { value: undefined, configurable: true });
+    try {
+        assert.deepEqual(await readPatcherText(`\n${await patcherText(data)}`), data);
+    } finally {
+        Object.defineProperty(globalThis, 'crypto', known);
+    }
+});
+
+test('the SHA-256 is that of others, of any length', () => {
+    for (const size of [...Array.from({ length: 200 }, (_, i) => i), 1 << 20]) {
+        const bytes = Uint8Array.from({ length: size }, (_, i) => i * 89 + size);
+        assert.equal(sha256(bytes), createHash('sha256').update(bytes).digest('hex'), `${size} bytes`);
+    }
 });
 
 test('nothing in the data is a letter of markup', () => {

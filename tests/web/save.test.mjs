@@ -95,6 +95,7 @@ test('the pace says percent, rate and time left', () => {
 });
 
 test('the patched image has a name of its own', () => {
-    assert.deepEqual(['game.bin', 'game', 'a.b (x).img', '.bin'].map(patchedName),
+    assert.deepEqual(['game.bin', 'game', 'a.b (x).img', '.bin'].map(name => patchedName(name)),
         ['game (patched).bin', 'game (patched).bin', 'a.b (x) (patched).img', ' (patched).bin']);
+    assert.equal(patchedName('game.bin', 'repair', '.txt'), 'game (repair).txt');
 });

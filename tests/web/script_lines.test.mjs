@@ -59,6 +59,46 @@ test('undo and redo give each text again, and typing in a line is one step', () 
     assert.equal(lines.faults, 2);
 });
 
+test('another text is one edit of the lines that differ, with its name', () => {
+    const lines = linesOf('cdpatch 1\nrebuild 1\nrebuild 2\n');
+    lines.edit(1, 1, ['rebuild 11']);
+    lines.replace('cdpatch 2\r\naddress 0 00:02:00\r\nrebuild 2\r\n', 'other.txt', false);
+    assert.deepEqual([lines.name, lines.text(), lines.faults], ['other.txt', 'cdpatch 2\r\naddress 0 00:02:00\r\nrebuild 2\r\n', 0]);
+    lines.undo();
+    assert.deepEqual([lines.name, lines.text()], ['', 'cdpatch 1\nrebuild 11\nrebuild 2\n']);
+    lines.undo();
+    assert.equal(lines.text(), 'cdpatch 1\nrebuild 1\nrebuild 2\n');
+    lines.redo();
+    lines.redo();
+    assert.deepEqual([lines.name, lines.text()], ['other.txt', 'cdpatch 2\naddress 0 00:02:00\nrebuild 2\n']);
+});
+
+test('lines that are added stay among those before, and bytes that are typed on are one step', () => {
+    const lines = linesOf('cdpatch 1\n');
+    lines.edit(0, 1, ['cdpatch 1', '# mine']);
+    for (const bytes of ['41', '4142', '414243']) lines.replace(`cdpatch 1\n# mine\nset 1 2 ${bytes}\n`, '', true);
+    assert.deepEqual([lines.text(), lines.patches], ['cdpatch 1\n# mine\nset 1 2 414243\n', 1]);
+    lines.undo();
+    assert.equal(lines.text(), 'cdpatch 1\n# mine\n');
+    lines.undo();
+    assert.equal(lines.text(), 'cdpatch 1\n');
+});
+
+test('a script is in no file from its first edit until it is saved, and again after the next', () => {
+    const lines = linesOf('cdpatch 1\n');
+    assert.equal(lines.isSaved(), true);
+    lines.edit(1, 1, ['rebuild 1'], true);
+    assert.equal(lines.isSaved(), false);
+    lines.noteSaved();
+    assert.equal(lines.isSaved(), true);
+    lines.edit(1, 1, ['rebuild 12'], true);
+    assert.equal(lines.isSaved(), false);
+    lines.undo();
+    assert.deepEqual([lines.text(), lines.isSaved()], ['cdpatch 1\nrebuild 1', true]);
+    lines.redo();
+    assert.equal(lines.isSaved(), false);
+});
+
 test('outcomes stand at their lines in the words of the program until an edit', () => {
     const lines = linesOf('cdpatch 1\nrebuild 1\n# note\nset 4713 608 41 was 42');
     lines.setOutcomes([{ number: 2, result: 0, block: 1, offset: 0 }, { number: 4, result: 5, block: 4713, offset: 608 }]);

@@ -51,26 +51,30 @@ class Access(PageTest):
         self.browser.wait('#start h1')
         self.states()[name]()
 
-    def test_each_control_has_a_name(self) -> None:
-        for name in self.states():
-            with self.subTest(name):
-                self.reach(name)
-                self.assertEqual(self.browser.nameless(), [])
+    def judge(self, name: str) -> None:
+        """A state: each control has a name, tab stops are few and come round, and it is no wider than its window."""
+        self.reach(name)
+        self.assertEqual(self.browser.nameless(), [])
+        stops = self.browser.tab_stops()
+        self.assertLessEqual(len(stops), MOST_STOPS[name], stops)
+        self.assertGreater(len(stops), 4, stops)
+        for width in (360, 900, 1280, 1600):
+            self.assertLessEqual(self.browser.wider(width), 0, width)
 
-    def test_tab_stops_are_few_and_come_round(self) -> None:
-        for name, most in MOST_STOPS.items():
-            with self.subTest(name):
-                self.reach(name)
-                stops = self.browser.tab_stops()
-                self.assertLessEqual(len(stops), most, stops)
-                self.assertGreater(len(stops), 4, stops)
+    def test_the_start_is_for_everyone(self) -> None:
+        self.judge('start')
 
-    def test_no_state_is_wider_than_its_window(self) -> None:
-        for name in self.states():
-            self.reach(name)
-            for width in (360, 900, 1280, 1600):
-                with self.subTest(name=name, width=width):
-                    self.assertLessEqual(self.browser.wider(width), 0)
+    def test_the_script_is_for_everyone(self) -> None:
+        self.judge('script')
+
+    def test_texts_are_for_everyone(self) -> None:
+        self.judge('text')
+
+    def test_publishing_is_for_everyone(self) -> None:
+        self.judge('publish')
+
+    def test_a_patcher_is_for_everyone(self) -> None:
+        self.judge('player')
 
     def test_the_focus_stays_on_what_is_shown(self) -> None:
         self.reach('text')

@@ -39,11 +39,7 @@ class Disc(unittest.TestCase):
 
     @classmethod
     def setUpClass(cls) -> None:
-        cls.browser = chromium.Chromium()
-
-    @classmethod
-    def tearDownClass(cls) -> None:
-        cls.browser.quit()
+        cls.browser = chromium.shared()
 
     def setUp(self) -> None:
         self.browser.open(PAGE)

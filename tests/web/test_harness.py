@@ -51,8 +51,7 @@ class Harness(unittest.TestCase):
         self.assertEqual(browser.downloaded('saved.bin').read_bytes(), b'saved bytes')
 
     def test_chromium_takes_chosen_files_and_saves(self) -> None:
-        browser = chromium.Chromium()
-        self.addCleanup(browser.quit)
+        browser = chromium.shared()
         page, chosen = files()
         self.choose_and_save(browser, page, chosen)
         browser.open(page)
@@ -63,8 +62,7 @@ class Harness(unittest.TestCase):
         self.assertEqual(browser.tab_stops(), ['choose', 'save', 'nameless'])
 
     def test_chromium_serves_pictures_of_every_width_and_scheme(self) -> None:
-        browser = chromium.Chromium()
-        self.addCleanup(browser.quit)
+        browser = chromium.shared()
         page, _ = files()
         browser.open(page)
         paths = browser.pictures(page.parent, 'state')
@@ -72,8 +70,7 @@ class Harness(unittest.TestCase):
         self.assertEqual((browser.wider(900), browser.wider(600)), (0, 200))
 
     def test_chromium_sees_what_a_page_tries_to_reach(self) -> None:
-        browser = chromium.Chromium()
-        self.addCleanup(browser.quit)
+        browser = chromium.shared()
         page, _ = files()
         tries = {'fetch': 'fetch("http://127.0.0.1:9/").catch(() => 0)', 'image': 'new Image().src = "http://127.0.0.1:9/"',
                  'navigation': 'location = "http://127.0.0.1:9/"', 'RTCPeerConnection': 'new RTCPeerConnection()',
@@ -86,8 +83,7 @@ class Harness(unittest.TestCase):
                 common.waited(browser.attempts, f'{name} was not seen', 10)
 
     def test_a_server_knows_what_it_was_asked_for(self) -> None:
-        browser = chromium.Chromium()
-        self.addCleanup(browser.quit)
+        browser = chromium.shared()
         page, _ = files()
         server = common.Server(page.parent)
         self.addCleanup(server.close)

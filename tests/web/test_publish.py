@@ -133,13 +133,19 @@ class Player(PageTest):
         other = discs.game()[:block * 2352] + common.sector(block, bytes(user)) + discs.game()[(block + 1) * 2352:]
         self.play(other)
         self.browser.wait('#verdict', 'This is another dump, and the patch does not fit it.')
-        self.assertIn('1 of 6 places hold other bytes.', self.browser.text('#player'))
+        self.assertIn('1 of 6 places holds other bytes.', self.browser.text('#player'))
         self.press('Details')
         self.browser.wait('.hashes', f'refused: old bytes differ at block {block} offset 0')
         self.assertEqual(list(self.browser.downloads.iterdir()), [])
         self.press('Save with the 5 changes that fit')
         files = discs.written(other=other, english=discs.script())
         self.assertEqual(self.browser.downloaded('Starlit (English).bin').read_bytes(), applied(files['other'], files['english'])[2])
+
+    def test_a_damaged_dump_is_not_called_another_release(self) -> None:
+        self.play(common.damaged(discs.game(), discs.first_block() + 1))
+        self.browser.wait('#verdict', 'This dump is damaged in places that the patch changes.')
+        self.assertIn('1 of 6 places is damaged.', self.browser.text('#player'))
+        self.assertNotIn('release', self.browser.text('#player'))
 
     def test_an_image_that_is_patched_already(self) -> None:
         self.play(result())
@@ -231,6 +237,12 @@ class Player(PageTest):
         self.press('Open this in the full cdpatch')
         self.browser.wait('#panel-script header .tag', '6 patches, version 1')
         self.browser.wait('#disc-line .name', 'mine.bin')
+        self.browser.click('#tab-publish')
+        fields = 'return ["title", "author", "note", "name"].map(it => document.querySelector(`#patcher-${it}`).value)'
+        self.assertEqual(self.browser.run(fields), ['Starlit Detective in English', 'Team Comet', 'All menus.\nChapter 1.', 'Starlit (English).bin'])
+        self.assertFalse(self.browser.asks_before_leaving())
+        self.browser.type('#patcher-note', 'All of it.')
+        self.assertTrue(self.browser.asks_before_leaving())
 
 
 class Streamed(PageTest):

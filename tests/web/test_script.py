@@ -4,7 +4,7 @@ from pathlib import Path
 
 import common
 import discs
-from pages import GATE, PICKER, PageTest, applied
+from pages import BUTTON, GATE, PICKER, PageTest, applied
 from selenium.webdriver.common.keys import Keys
 
 
@@ -60,6 +60,10 @@ class Script(PageTest):
         saved.write_bytes(saved.read_bytes()[:-1])
         self.browser.drop('#panel-script', [saved])
         self.browser.wait('#panel-script .say', 'it was not saved to its end')
+        saved.write_bytes(applied(files['game'], files['english'])[2])
+        self.browser.drop('#panel-script', [saved])
+        self.press('Open it')
+        self.browser.wait('#second-title', 'game (patched).bin')
 
     def test_a_saved_file_is_not_judged_before_the_sum_of_the_image_is_known(self) -> None:
         files = discs.written(game=discs.game(), english=discs.script())
@@ -106,6 +110,52 @@ class Script(PageTest):
         self.browser.wait('.tally', '2\napplied')
         self.assertEqual(self.script_text(), 'cdpatch 1\nrebuild 1\nrebuild 2\n# end')
 
+    def type_script(self) -> None:
+        """Writes a script of one patch."""
+        self.browser.click('#tab-script')
+        self.browser.click('.editor textarea')
+        self.browser.press(Keys.ARROW_DOWN, 'rebuild 1')
+
+    def test_a_script_that_is_opened_does_not_lose_the_one_before_it(self) -> None:
+        files = discs.written(game=discs.game(), english=discs.script())
+        self.open_image(files['game'])
+        self.type_script()
+        self.open_script(files['english'])
+        self.browser.wait('#messages .say.warn', 'Your script was in no file')
+        self.press('Bring it back')
+        self.assertEqual([row.split('|')[1] for row in self.rows()], ['cdpatch 1', 'rebuild 1'])
+        self.assertEqual(self.browser.text('#panel-script header h2'), 'New script')
+        self.browser.click('.editor textarea')
+        self.browser.press('y', held=Keys.CONTROL)
+        self.browser.wait('#panel-script header h2', 'english.txt')
+        self.browser.press('z', held=Keys.CONTROL)
+        self.assertEqual(self.script_text(), 'cdpatch 1\nrebuild 1')
+
+    def test_a_script_in_no_file_is_not_left_unasked(self) -> None:
+        self.open_image(discs.written(game=discs.game())['game'])
+        self.assertFalse(self.browser.asks_before_leaving())
+        self.type_script()
+        self.assertTrue(self.browser.asks_before_leaving())
+        self.browser.wait('#panel-script header .tag.warn', 'in no file yet')
+        self.browser.press('s', held=Keys.CONTROL)
+        self.assertEqual(self.browser.downloaded('script.txt').read_text(), 'cdpatch 1\nrebuild 1')
+        self.assertFalse(self.browser.asks_before_leaving())
+        self.assertNotIn('in no file', self.browser.text('#panel-script header'))
+
+    def test_the_focus_stays_in_the_card_that_works(self) -> None:
+        files = discs.written(game=discs.scratched(), english=discs.script())
+        self.open_image(files['game'])
+        self.open_script(files['english'])
+        for name, shown, then in (('Check', '.tally', 'Check: Go to line'), ('Apply and save', '#saved-sha1', 'Check: Back to Check')):
+            self.browser.run(f'{BUTTON}.focus()', name)
+            self.browser.press(Keys.ENTER)
+            self.browser.wait(shown)
+            common.waited(lambda: self.focused().startswith(then), f'{self.focused()} has the focus')
+        self.browser.press(Keys.ENTER)
+        self.browser.run('document.querySelector("#panel-script input[type=checkbox]").focus()')
+        self.browser.press(' ')
+        self.assertEqual(self.browser.run('return document.activeElement.type'), 'checkbox')
+
     def test_f8_goes_from_one_wrong_line_to_the_next(self) -> None:
         self.open_script(discs.written(faulty='cdpatch 1\nrebuild x\n# note\nrebuild 2\nrebuild y\n')['faulty'])
         self.browser.click('.editor textarea')
@@ -148,6 +198,30 @@ class Script(PageTest):
         self.assertNotEqual(patched, discs.game())
         status, _, again = applied(discs.written(patched=patched)['patched'], undo)
         self.assertEqual((status, again), (0, discs.game()))
+
+    def test_the_undo_script_of_carried_damage_says_that_it_wants_carry(self) -> None:
+        files = discs.written(game=discs.scratched(), english=discs.script())
+        self.open_image(files['game'])
+        self.open_script(files['english'])
+        self.browser.click('#panel-script input[type=checkbox]')
+        self.press('Make the undo script')
+        self.browser.wait('#messages .say', 'Apply it with carry, as this script.')
+        undo = self.browser.downloaded('english (undo).txt')
+        _, _, patched = applied(files['game'], files['english'], '--carry')
+        status, _, again = applied(discs.written(patched=patched)['patched'], undo, '--carry')
+        self.assertEqual((status, again), (0, discs.scratched()))
+
+    def test_an_undo_script_can_be_cancelled(self) -> None:
+        files = discs.written(game=discs.game(), english=discs.script())
+        self.open_image(files['game'])
+        self.open_script(files['english'])
+        self.browser.run(GATE)
+        self.press('Make the undo script')
+        self.browser.wait('#messages .progress')
+        self.press('Cancel')
+        self.browser.run('openGate()')
+        self.browser.wait('#messages .say', 'No undo script was made.')
+        self.assertEqual(list(self.browser.downloads.iterdir()), [])
 
     def test_the_undo_script_can_be_made_of_an_image_that_is_opened_later(self) -> None:
         files = discs.written(game=discs.game(), english=discs.script())
@@ -194,6 +268,18 @@ class Streaming(PageTest):
         self.browser.wait('#panel-script .say.good', 'game (patched).bin is saved.')
         self.assertEqual(self.browser.run('return chosen.state'), 'closed')
         self.assertEqual(self.chosen_bytes(), applied(files['game'], files['english'])[2])
+
+    def test_the_file_is_asked_for_at_the_click(self) -> None:
+        self.begin()
+        script = f'{BUTTON.replace("return", "const it =", 1)}; it.click(); return chosen.asked'
+        self.assertEqual(self.browser.run(script, 'Apply and save'), 1)
+
+    def test_a_saved_file_that_cannot_be_read_again_is_saved_all_the_same(self) -> None:
+        self.begin()
+        self.browser.run('chosen.gone = true')
+        self.press('Apply and save')
+        self.browser.wait('#panel-script .say.good', 'game (patched).bin is saved.')
+        self.browser.wait('#saved-sha1', 'not known')
 
     def test_a_failure_at_each_write_keeps_no_image(self) -> None:
         self.begin()

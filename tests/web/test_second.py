@@ -31,13 +31,8 @@ class Second(unittest.TestCase):
 
     @classmethod
     def setUpClass(cls) -> None:
-        cls.browser = chromium.Chromium()
         # So that files are saved as downloads, which a test can read.
-        cls.browser.before_pages('delete window.showSaveFilePicker')
-
-    @classmethod
-    def tearDownClass(cls) -> None:
-        cls.browser.quit()
+        cls.browser = chromium.shared('delete window.showSaveFilePicker')
 
     def setUp(self) -> None:
         self.browser.open(PAGE)
@@ -79,16 +74,18 @@ class Second(unittest.TestCase):
         second = with_faults((60, 500), (90, 7))
         path, _ = self.pair(bytes(first), second)
         self.assertEqual(self.tally(), [3, 1, 0])
-        self.assertEqual([self.legend('can be repaired'), self.legend('damaged in both')], [3, 1])
+        self.assertEqual([self.legend('can be repaired'), self.legend('cannot be repaired')], [3, 1])
         self.press('Save repaired image')
         saved = self.browser.downloaded('game (repaired).bin')
+        self.browser.wait('#second-body .say', 'Keep this page open')
+        self.assertTrue(self.browser.asks_before_leaving())
         due = bytearray(first)
         for block in (40, 80, 100):
             due[block * SECTOR_SIZE:(block + 1) * SECTOR_SIZE] = second[block * SECTOR_SIZE:(block + 1) * SECTOR_SIZE]
         self.assertEqual(saved.read_bytes(), bytes(due))
         self.assertEqual(audited(saved), {60})
         saved.unlink()
-        self.browser.wait('[aria-label="Damaged in both: 1"]', '60')
+        self.browser.wait('[aria-label="Cannot be repaired: 1"]', '60')
 
     def test_a_repair_as_a_script_gives_the_same_image(self) -> None:
         first, second = with_faults((40, 9), (60, 9)), with_faults()
@@ -137,10 +134,19 @@ class Second(unittest.TestCase):
         self.browser.wait('#second-body .say.bad', 'the second image is damaged in blocks 33 and 44')
         self.assertFalse(self.browser.run(f'return Boolean({BUTTON})', 'Save the script'))
         self.press('Leave these 2 out')
+        self.browser.wait('#second-body .say.warn', 'gives this image but for blocks 33 and 44, which it leaves as they are.')
         self.press('Save the script')
         script = self.browser.downloaded('other (changes).txt')
         self.assertEqual(script.read_text(), 'cdpatch 1\n')
         script.unlink()
+
+    def test_a_tail_that_differs_is_said(self) -> None:
+        image = with_faults()
+        self.pair(image + b'tail', image + b'tall')
+        self.browser.wait('#second-body .say.warn', 'The bytes after the last sector differ.')
+        self.browser.wait('#second-body .say.good', 'Both images are the same, sector for sector.')
+        self.press('Repair from it')
+        self.browser.wait('#second-body .say.warn', 'The bytes after the last sector differ.')
 
     def test_audio_that_differs_is_no_script(self) -> None:
         self.pair(with_faults(), discs.game() + AUDIO[:-1] + bytes([AUDIO[-1] ^ 1]))
@@ -167,7 +173,7 @@ class Second(unittest.TestCase):
 
     def test_every_control_has_a_name_and_nothing_is_sent(self) -> None:
         self.pair(with_faults((40, 9), (60, 9)), with_faults((60, 500)))
-        self.browser.wait('[aria-label="Damaged in both: 1"]')
+        self.browser.wait('[aria-label="Cannot be repaired: 1"]')
         self.assertEqual(self.browser.nameless(), [])
         for width in (360, 620, 900, 1180, 1600):
             self.assertLessEqual(self.browser.wider(width), 0, width)

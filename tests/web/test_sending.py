@@ -60,6 +60,13 @@ class Sending(PageTest):
         self.press('Save as a patcher')
         self.browser.downloaded('Title.html')
 
+    def test_the_page_that_was_opened_reaches_nothing(self) -> None:
+        self.browser.open(common.PAGE)
+        self.browser.wait('#start h1')
+        self.browser.click('#open-example')
+        self.wait_for_hash()
+        self.assertEqual(self.browser.attempts(), [])
+
     def test_a_whole_walk_reaches_nothing(self) -> None:
         self.walk()
         self.assertEqual(self.browser.attempts(), [])
@@ -99,8 +106,7 @@ class Policy(PageTest):
         tries = b'fetch("http://127.0.0.1:9/");new Image().src="http://127.0.0.1:9/";new RTCPeerConnection();location="http://127.0.0.1:9/";'
         path = common.folder('altered') / 'altered.html'
         path.write_bytes(patcher(discs.game(), b'', 'cdpatch 1\nrebuild 0\n').replace(b"'use strict';", tries + b"'use strict';", 1))
-        browser = chromium.Chromium()
-        self.addCleanup(browser.quit)
+        browser = chromium.shared()
         browser.open(path)
         browser.wait('#not-started', 'cdpatch has not started.')
         found = browser.attempts()

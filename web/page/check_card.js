@@ -1,10 +1,10 @@
 // The card beside the editor: Check, what came of it, carry, and Apply and save.
 
 import { RESULT } from '../core/records.js';
-import { button, countOf, counted, element, fill, setDisabled, term } from './dom.js';
+import { announce, button, counted, element, fill, keepFocus, setDisabled, term } from './dom.js';
 import { WorkRefused, checkWork } from './patch_job.js';
 import { jobBar } from './progress.js';
-import { isCancelled, notice } from './say.js';
+import { isCancelled, messageOf, notice } from './say.js';
 import { SaveCard } from './save_card.js';
 
 /** @typedef {import('./state.js').App} App */
@@ -49,7 +49,10 @@ export class CheckCard {
     }
 
     draw() {
-        if (this.busy) return;
+        if (!this.busy) keepFocus(this.card, () => this.drawCard());
+    }
+
+    drawCard() {
         if (this.saving.shown()) return fill(this.card, ...this.saving.parts());
         const { lines } = this.owner;
         fill(this.head, element('h2', {}, 'Check'), this.patched && element('span', { class: 'tag' },
@@ -87,8 +90,9 @@ export class CheckCard {
     outcomes() {
         const { lines } = this.owner;
         if (this.patched === null) {
-            return [element('p', {}, lines.patches === 0 ? 'The script has no patch yet.' :
-                `Check says which of the ${countOf(lines.patches, 'patch', 'patches')} fit this image. Nothing is changed.`)];
+            return [element('p', {}, lines.patches === 0 ? 'The script has no patch yet.' : lines.patches === 1
+                ? 'Check says whether the patch fits this image. Nothing is changed.'
+                : `Check says which of the ${counted(lines.patches)} patches fit this image. Nothing is changed.`)];
         }
         const { outcomes } = this.patched;
         const applied = outcomes.filter(it => it.result === RESULT.OK).length;
@@ -123,7 +127,7 @@ export class CheckCard {
         try {
             await this.app.run(async (signal, cancel) => {
                 const bar = jobBar('Checking', cancel);
-                fill(this.body, ...bar.parts);
+                keepFocus(this.card, () => fill(this.body, ...bar.parts));
                 const work = { reader: image.reader, base: image.base, script: lines.text(), carry: this.carry.checked };
                 const patched = await checkWork(this.app, work, { signal, progress: bar.at });
                 if (this.app.image === image && work.script === lines.text()) this.take(patched, (performance.now() - began) / 1000);
@@ -147,6 +151,8 @@ export class CheckCard {
         this.owner.lines.setOutcomes(patched.outcomes);
         this.owner.log(patched.text);
         this.owner.redraw();
+        const applied = patched.outcomes.filter(it => it.result === RESULT.OK).length;
+        announce(sentenceOf(applied, patched.outcomes.length - applied));
     }
 
     /** Saves the patched image. */
@@ -179,7 +185,5 @@ function sentenceOf(applied, refused) {
  * @param {unknown} error
  */
 export function failureOf(error) {
-    const { message, name } = error instanceof Error ? error : new Error(String(error));
-    const advice = error instanceof WorkRefused ? error.advice : 'Nothing was saved. Open it again.';
-    return notice('bad', name === 'ImageEnded' ? 'The file is shorter than it was when it was opened.' : message, advice);
+    return notice('bad', messageOf(error), error instanceof WorkRefused ? error.advice : 'Nothing was saved. Open it again.');
 }

@@ -63,6 +63,30 @@ export function redraw(part, draw) {
 }
 
 /**
+ * Draws a part anew. If the focus was on a control that is gone then, it goes to another one of the part.
+ * @param {HTMLElement} part
+ * @param {() => void} draw
+ * @param {string} [wanted] which control, if there is such a one
+ */
+export function keepFocus(part, draw, wanted = '.btn') {
+    const had = /** @type {HTMLElement | null} */ (document.activeElement);
+    const isIn = part.contains(had);
+    draw();
+    if (!isIn || document.activeElement === had) return;
+    const next = part.contains(had) ? had : /** @type {HTMLElement | null} */ (part.querySelector(wanted) || part.querySelector('.btn'));
+    if (next === null) part.tabIndex = -1;
+    (next || part).focus({ preventScroll: true });
+}
+
+/**
+ * Asks before the page is left, as long as something would be lost.
+ * @param {() => boolean} isLost
+ */
+export function askBeforeLeaving(isLost) {
+    window.addEventListener('beforeunload', event => { if (isLost()) event.preventDefault(); });
+}
+
+/**
  * The element of the page with an id.
  * @param {string} id
  * @returns {HTMLElement}

@@ -70,10 +70,11 @@ function pressedWithControl(editor, { key, shiftKey }) {
 }
 
 /**
+ * Shows what was undone or made again.
  * @param {ScriptEditor} editor
- * @param {number} line of what was undone, or -1
+ * @param {number} line of it, or -1
  */
-function turnBack(editor, line) {
+export function turnBack(editor, line) {
     if (line < 0) return;
     editor.anchor = -1;
     editor.current = Math.min(line, editor.lines.lines.length - 1);

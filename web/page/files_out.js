@@ -22,8 +22,9 @@ export async function chosenFile(name) {
     try {
         return await pick.showSaveFilePicker({ suggestedName: name });
     } catch (error) {
-        if (error instanceof Error && error.name === 'AbortError') return null;
-        throw error;
+        const { name: kind } = error instanceof Error ? error : new Error();
+        if (kind === 'AbortError') return null;
+        throw kind === 'SecurityError' ? new Error('The browser asks for a file only after a fresh click. Press the button again.') : error;
     }
 }
 

@@ -14,7 +14,7 @@ const KEYS = [
     ['G', 'go to a block'], ['Enter', 'open the sector'],
     ['', 'Sector'], ['← → ↑ ↓', 'one byte, one row'], ['0 to 9, A to F', 'change the byte: a line of the script'],
     ['Page Up, Page Down', 'one screen; past the end, the next sector'], ['Esc', 'back to the map'],
-    ['', 'Script'], ['Ctrl+Enter', 'Check (on a Mac ⌘+Enter)'], ['F8, Shift+F8', 'next, previous fault or refusal'],
+    ['', 'Script'], ['Ctrl+Enter, Ctrl+S', 'Check, save (on a Mac ⌘ for Ctrl)'], ['F8, Shift+F8', 'next, previous fault or refusal'],
     ['', 'Text'], ['Enter', 'find; in “New text”: add the line and go on'],
 ];
 

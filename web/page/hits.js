@@ -2,9 +2,11 @@
 
 import { readBytes } from '../core/bytes.js';
 import { filledUp, replaceBytes } from '../core/edit.js';
+import { JobAborted } from '../core/jobs.js';
 import { SECTOR_SIZE, USER_SIZE, userOf } from '../core/sector.js';
 import { hexOf } from './dom.js';
 import { charactersOf } from './encodings.js';
+import { sentence } from './say.js';
 
 /** @typedef {import('../core/bytes.js').Reader} Reader */
 /** @typedef {import('../core/find.js').Hit} Hit */
@@ -17,6 +19,9 @@ import { charactersOf } from './encodings.js';
 const BEFORE = 24;
 const AFTER = 48;
 const ALIGNING = 64;
+
+/** No patch writes more bytes. */
+const MOST_WRITTEN = 4096;
 
 /**
  * The user bytes round a hit: `at` is where the hit begins in them.
@@ -89,16 +94,53 @@ function shownText(text) {
     return text === '' || /[\p{Cc}\uFFFD]/u.test(text) ? '·' : text;
 }
 
+/** Ranges of user bytes, each with the line of a script that writes there. */
+export class Places {
+    constructor() {
+        /** @type {Map<number, { from: number, to: number, line: number }[]>} by the blocks in which they lie */
+        this.blocks = new Map();
+    }
+
+    /**
+     * @param {Hit} range
+     * @param {number} line
+     */
+    add({ block, offset, size }, line) {
+        const from = block * USER_SIZE + offset;
+        for (let at = block; at * USER_SIZE < from + size; at++) {
+            const ranges = this.blocks.get(at) || [];
+            this.blocks.set(at, ranges);
+            ranges.push({ from, to: from + size, line });
+        }
+    }
+
+    /**
+     * The last line that writes a byte of a range, or 0.
+     * @param {Hit} range
+     */
+    lineAt({ block, offset, size }) {
+        const from = block * USER_SIZE + offset;
+        let last = 0;
+        for (let at = block; at * USER_SIZE < from + size; at++) {
+            for (const it of this.blocks.get(at) || []) {
+                if (it.from < from + size && it.to > from) last = Math.max(last, it.line);
+            }
+        }
+        return last;
+    }
+}
+
 /**
- * The lines of a script that begin at a user byte: the number of the last one, by block and offset as 'B O'.
+ * Where the lines of a script write user bytes.
  * @param {string} script
- * @returns {Map<string, number>}
  */
 export function placesInScript(script) {
-    const places = new Map();
+    const places = new Places();
     script.split('\n').forEach((line, i) => {
-        const found = /^\s*(?:set|fill)\s+0*(\d+)\s+0*(\d+)\s/.exec(line);
-        if (found) places.set(`${found[1]} ${found[2]}`, i + 1);
+        const [, verb, block, offset, what] = /^\s*(set|fill)\s+(\d+)\s+(\d+)\s+(\w+)/.exec(line) || [];
+        if (!verb) return;
+        const size = Math.min(verb === 'set' ? what.length / 2 : Number(what) || 0, MOST_WRITTEN);
+        places.add({ block: Number(block), offset: Number(offset), size }, i + 1);
     });
     return places;
 }
@@ -138,4 +180,33 @@ export function filledTo(fresh, size, fill) {
 export async function linesReplacing(calls, image, hit, fresh, old) {
     const { text } = await replaceBytes(calls, image, hit, old, fresh);
     return new TextDecoder().decode(text).trimEnd().split('\n');
+}
+
+/**
+ * The lines that replace several hits, and why others have none. A hit that meets the one before it is left.
+ * @param {Calls} calls
+ * @param {DiscImage} image
+ * @param {Hit[]} hits
+ * @param {(hit: Hit) => Uint8Array | null} freshFor the new bytes of a hit, null if they do not fit
+ * @param {{ signal: { aborted: boolean }, progress: (done: number, all: number) => void }} watch
+ */
+export async function linesForAll(calls, image, hits, freshFor, { signal, progress }) {
+    const made = { lines: /** @type {string[]} */ ([]), left: /** @type {string[]} */ ([]) };
+    const places = new Places();
+    for (const [i, hit] of hits.entries()) {
+        if (signal.aborted) throw new JobAborted();
+        progress(i, hits.length);
+        const fresh = freshFor(hit);
+        const name = `block ${hit.block} offset ${hit.offset}`;
+        if (fresh === null) made.left.push(`${name} has another length`);
+        else if (places.lineAt(hit) > 0) made.left.push(`${name} overlaps the hit before it`);
+        else {
+            const { user, at } = await userAround(image, hit, 0, 0);
+            await linesReplacing(calls, image, hit, fresh, user.slice(at, at + hit.size)).then(lines => {
+                made.lines.push(...lines);
+                places.add(hit, 1);
+            }, error => made.left.push(sentence(error)));
+        }
+    }
+    return made;
 }

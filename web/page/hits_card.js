@@ -1,9 +1,9 @@
 // The table of hits, with the file and what stands round each.
 
 import { filesAt } from '../core/iso.js';
-import { button, counted, element, fill, term } from './dom.js';
+import { button, counted, element, fill, redraw, term } from './dom.js';
 import { chosenEncoding } from './encodings.js';
-import { contextOf, userAround } from './hits.js';
+import { Places, contextOf, userAround } from './hits.js';
 import { copyText } from './say.js';
 
 /** @typedef {import('./state.js').App} App */
@@ -28,8 +28,7 @@ export class HitsCard {
         this.search = /** @type {Search | null} */ (null);
         this.chosen = -1;
         this.shown = SHOWN;
-        /** @type {Map<string, number>} */
-        this.places = new Map();
+        this.places = new Places();
         /** @type {Map<number, Context>} */
         this.contexts = new Map();
         this.body = element('tbody', {});
@@ -51,7 +50,7 @@ export class HitsCard {
         const table = element('table', { class: 'hits' }, element('thead', {}, element('tr', {}, column('n', term('block', 'Block')),
             column('n', term('offset', 'Offset')), column('', 'File'), column('', 'Context'))), this.body);
         fill(this.card, head, element('div', { class: 'scroll fit' }, table), this.more());
-        this.draw(new Map());
+        this.draw(new Places());
     }
 
     more() {
@@ -68,25 +67,25 @@ export class HitsCard {
 
     /**
      * Draws the rows. `places` says which hits are in the script, and in which line.
-     * @param {Map<string, number>} places
+     * @param {Places} places
      */
     draw(places) {
         const { search } = this;
         this.places = places;
         if (search === null) return;
-        fill(this.body, ...search.hits.slice(0, this.shown).map((hit, i) => this.row(hit, i, places.get(`${hit.block} ${hit.offset}`))));
+        redraw(this.body, () => fill(this.body, ...search.hits.slice(0, this.shown).map((hit, i) => this.row(hit, i, places.lineAt(hit)))));
         this.readContexts(search);
     }
 
     /**
      * @param {Hit} hit
      * @param {number} i
-     * @param {number | undefined} line
+     * @param {number} line of the script, or 0
      */
     row(hit, i, line) {
         const { app } = this;
         const paths = app.files ? filesAt(app.files.files, hit.block, hit.offset).map(file => file.path) : [];
-        const tags = [line !== undefined && element('span', { class: 'tag good' }, `in the script, line ${line}`),
+        const tags = [line > 0 && element('span', { class: 'tag good' }, `in the script, line ${line}`),
             hit.offset + hit.size > 2048 && element('span', { class: 'tag' }, 'over a border of blocks'),
             app.files !== null && paths.length === 0 && element('span', { class: 'tag' }, 'in no file')];
         const place = element('td', { class: 'wide' }, ...this.context(i), ...tags);

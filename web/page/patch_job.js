@@ -11,7 +11,6 @@ import { blobOfPieces, saveToSink } from './save.js';
 /** @typedef {import('./state.js').App} App */
 /** @typedef {import('../core/bytes.js').Reader} Reader */
 /** @typedef {import('../core/patch.js').Patched} Patched */
-/** @typedef {import('../core/script.js').Patch} Patch */
 /** An image, the block of its first sector, and what is to be made of it. */
 /** @typedef {{ reader: Reader, base: number, script: string, carry: boolean }} PatchWork */
 /** @typedef {{ signal: { aborted: boolean }, progress: (done: number, all: number) => void }} PatchWatch */
@@ -62,7 +61,7 @@ function accepted(value) {
  * @param {PatchWatch} watch
  * @returns {Reader}
  */
-function watched(reader, { signal, progress }) {
+export function watched(reader, { signal, progress }) {
     return {
         size: reader.size,
         async read(at, length) {
@@ -96,8 +95,7 @@ export async function checkWork(app, { reader, base, script, carry }, watch) {
  * @returns {Promise<Saved | null>}
  */
 export async function saveWork(app, work, name, wanted, watch) {
-    const patches = await readPatches(app, work.script);
-    return canStream() ? streamWork(app, work, patches, name, wanted, watch) : downloadWork(app, work, patches, name, wanted, watch);
+    return canStream() ? streamWork(app, work, name, wanted, watch) : downloadWork(app, work, name, wanted, watch);
 }
 
 /**
@@ -113,28 +111,28 @@ export function assertOther(chosen, reader) {
 }
 
 /**
+ * The file is asked for first of all: a browser lets a page ask only shortly after a click.
  * @param {App} app
  * @param {PatchWork} work
- * @param {Patch[]} patches
  * @param {string} name
  * @param {string} wanted
  * @param {PatchWatch} watch
  * @returns {Promise<Saved | null>}
  */
-async function streamWork(app, { reader, base, carry }, patches, name, wanted, { signal, progress }) {
+async function streamWork(app, { reader, base, carry, script }, name, wanted, { signal, progress }) {
     const chosen = await chosenFile(name);
     if (chosen === null) return null;
     const before = await chosen.getFile();
     assertOther(before, reader);
     const hash = wanted === '' ? null : new RunningHash(app.parts);
-    /** @type {Patched | Refusal | null} */
+    /** @type {Patched | null} */
     let made = null;
     try {
-        const sink = await chosen.createWritable();
-        await saveToSink(sink, reader, async take => {
-            made = await passPatched(app.calls, reader, patches, base, carry, take);
+        const patches = await readPatches(app, script);
+        await saveToSink(await chosen.createWritable(), reader, async take => {
+            made = accepted(await passPatched(app.calls, reader, patches, base, carry, take));
             if (hash !== null && await hash.end() !== wanted) throw new WrongResult();
-            return !(made instanceof Refusal);
+            return true;
         }, { signal, progress: done => progress(done, reader.size), seen: hash ? bytes => hash.add(bytes.slice()) : undefined });
     } catch (error) {
         if (before.size === 0 && chosen.remove) await chosen.remove().catch(() => {});
@@ -142,8 +140,9 @@ async function streamWork(app, { reader, base, carry }, patches, name, wanted, {
     } finally {
         if (hash !== null) hash.close();
     }
-    const done = accepted(/** @type {Patched | Refusal} */ (/** @type {unknown} */ (made)));
-    return { made: done, name: chosen.name, size: reader.size, streamed: true, blob: null, file: await chosen.getFile(), sha1: wanted };
+    const file = await chosen.getFile().catch(() => null);
+    return { made: /** @type {Patched} */ (/** @type {unknown} */ (made)), name: chosen.name, size: reader.size, streamed: true, blob: null,
+        file, sha1: wanted };
 }
 
 /** The result is not the one that it should be, so nothing was kept. */
@@ -157,15 +156,15 @@ export class WrongResult extends Error {
 /**
  * @param {App} app
  * @param {PatchWork} work
- * @param {Patch[]} patches
  * @param {string} name
  * @param {string} wanted
  * @param {PatchWatch} watch
  * @returns {Promise<Saved>}
  */
-async function downloadWork(app, { reader, base, carry }, patches, name, wanted, watch) {
+async function downloadWork(app, { reader, base, carry, script }, name, wanted, watch) {
     const file = fileOf(reader);
     if (file === null) throw new Error('this image is no file');
+    const patches = await readPatches(app, script);
     const { pieces, ...made } = accepted(await applyPatches(app.calls, watched(reader, watch), patches, base, carry));
     const blob = blobOfPieces(file, pieces);
     const progress = (/** @type {number} */ done) => watch.progress(done, blob.size);

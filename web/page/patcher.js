@@ -2,6 +2,7 @@
 // bytes: a line of JSON, and the script.
 
 import { bytesOfBase64 } from './parts.js';
+import { sha256 } from './sha256.js';
 
 /**
  * What a patcher has. `cue` is the text of a cue sheet that names the patched image, or ''; `carry` says how it is applied; `image` is
@@ -90,11 +91,6 @@ async function streamBytes(stream, most) {
     return new Uint8Array(await new Blob(parts).arrayBuffer());
 }
 
-/** @param {Uint8Array} bytes */
-async function sha256(bytes) {
-    const digest = new Uint8Array(await crypto.subtle.digest('SHA-256', bytes));
-    return Array.from(digest, byte => byte.toString(16).padStart(2, '0')).join('');
-}
 
 /** @param {Uint8Array} bytes */
 export function base64Of(bytes) {
@@ -112,7 +108,7 @@ export async function patcherText({ script, ...head }) {
     if (fault) throw new PatcherFault(fault);
     const stream = new Blob([`${JSON.stringify(head)}\n`, script]).stream().pipeThrough(new CompressionStream('deflate'));
     const packed = await streamBytes(stream, LARGEST_SCRIPT + LARGEST_HEAD);
-    return `cdpatch-data 1 ${packed.length} ${await sha256(packed)}\n${base64Of(packed)}\n`;
+    return `cdpatch-data 1 ${packed.length} ${sha256(packed)}\n${base64Of(packed)}\n`;
 }
 
 /**
@@ -126,7 +122,7 @@ export async function readPatcherText(text) {
     if (found[3].length % 4 !== 0) throw new PatcherFault('the data are cut');
     const packed = bytesOfBase64(found[3]);
     if (packed.length !== Number(found[1])) throw new PatcherFault('the data are cut');
-    if (await sha256(packed) !== found[2]) throw new PatcherFault('the data were changed on their way: their checksum is another one');
+    if (sha256(packed) !== found[2]) throw new PatcherFault('the data were changed on their way: their checksum is another one');
     const inflating = new Blob([packed]).stream().pipeThrough(new DecompressionStream('deflate'));
     const bytes = await streamBytes(inflating, LARGEST_SCRIPT + LARGEST_HEAD).catch(error => {
         throw error instanceof PatcherFault ? error : new PatcherFault('the data cannot be unpacked');

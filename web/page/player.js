@@ -4,15 +4,15 @@ import { RESULT } from '../core/records.js';
 import { openDisc } from '../core/disc.js';
 import { readBytes } from '../core/bytes.js';
 import { textOfFile } from '../core/text.js';
-import { button, byId, countOf, counted, element, fill, icon } from './dom.js';
+import { askBeforeLeaving, button, byId, countOf, counted, element, fill, icon, keepFocus } from './dom.js';
 import { downloadText } from './files_out.js';
 import { saveWork } from './patch_job.js';
 import { moreOf } from './player_more.js';
-import { imageOfSize, judgeImage } from './player_verdict.js';
+import { imageOfSize, judgeImage, reasonsOf } from './player_verdict.js';
 import { jobBar } from './progress.js';
 import { fileReader } from './reading.js';
 import { failureOfSaving } from './save_card.js';
-import { isCancelled, notice } from './say.js';
+import { isCancelled, notice, sentence } from './say.js';
 import { sheetNaming } from './sheet.js';
 
 /** @typedef {import('./state.js').App} App */
@@ -30,6 +30,7 @@ const VERDICTS = {
     right: ['good', 'This is the right disc.'],
     fits: ['warn', 'This is another dump, but the patch fits it.'],
     other: ['bad', 'This is another dump, and the patch does not fit it.'],
+    damaged: ['bad', 'This dump is damaged in places that the patch changes.'],
     patched: ['good', 'This image is patched already.'],
 };
 
@@ -53,9 +54,7 @@ class Player {
         this.number = 0;
         /** Ends the job that runs. */
         this.stop = () => {};
-        window.addEventListener('beforeunload', event => {
-            if (this.leaving) event.preventDefault();
-        });
+        askBeforeLeaving(() => this.leaving);
         /** @type {HTMLInputElement} */
         this.input = element('input', { type: 'file', id: 'player-files', class: 'hide', multiple: true, tabindex: -1,
             'aria-label': 'Your disc image',
@@ -90,7 +89,7 @@ class Player {
      * @param {HTMLElement} [third]
      */
     show(first, second = this.step('2', 'later', 'Patch it'), third = this.step('3', 'later', 'Play')) {
-        fill(this.steps, first, second, third);
+        keepFocus(this.steps, () => fill(this.steps, first, second, third), '.main');
     }
 
     /** @param {Child} [fault] */
@@ -116,8 +115,7 @@ class Player {
             if (this.image) await this.judge(this.image);
         } catch (error) {
             if (number !== this.number) return;
-            const { message } = error instanceof Error ? error : new Error(String(error));
-            this.start(isCancelled(error) ? null : notice('bad', message));
+            this.start(isCancelled(error) ? null : notice('bad', sentence(error)));
         }
     }
 
@@ -142,8 +140,8 @@ class Player {
         const said = element('p', { class: `verdict ${tone}-ink`, role: 'status', id: 'verdict' },
             icon(tone === 'good' ? 'tick' : 'warn'), element('span', {}, head));
         const name = element('p', {}, element('span', { class: 'mono' }, image.name), ' ',
-            verdict !== 'other' && button('slim bare tiny', () => this.input.click(), 'Choose another'));
-        if (verdict === 'other') return this.showOther(name, said, image, judged);
+            tone !== 'bad' && button('slim bare tiny', () => this.input.click(), 'Choose another'));
+        if (tone === 'bad') return this.showOther(name, said, image, judged);
         const first = this.step('1', 'done', 'Your disc', name, said, this.reason(judged), this.details(image, judged));
         if (verdict === 'patched') return this.show(first, this.step('2', 'done', 'Patched', 'There is nothing to do.'),
             this.playStep(image.name, ''));
@@ -160,11 +158,10 @@ class Player {
      */
     showOther(name, said, image, judged) {
         const { patches, refused } = judged;
-        const why = `${counted(refused)} of ${countOf(patches, 'place')} hold other bytes. It is probably another release of the game. ` +
-            'Nothing was saved.';
-        const box = element('div', { class: 'say bad' }, said, element('p', {}, why), element('div', { class: 'row' },
+        const why = [...reasonsOf(patches, refused), 'Nothing was saved.'].map(text => element('p', {}, text));
+        const box = element('div', { class: 'say bad' }, said, ...why, element('div', { class: 'row' },
             button('main', () => this.input.click(), 'Choose another image…')));
-        const fitting = patches - refused;
+        const fitting = patches - refused.length;
         const some = button('slim bare', () => this.patch(image, judged, this.step('1', 'done', 'Your disc', name)),
             `Save with the ${counted(fitting)} changes that fit…`);
         const details = this.details(image, judged);
@@ -283,6 +280,7 @@ export function showPlayer(app, data, how) {
         document.title = 'cdpatch';
         fill(place);
         if (!full && how.back) return how.back();
+        app.emit('patcher', data);
         app.setScript(data.script, `${data.title}.txt`, 'file');
         app.showPanel('script');
         return player.files.length > 0 ? app.open(player.files) : undefined;

@@ -1,11 +1,12 @@
 // What a player's image is to a patcher: the right disc, another dump that the patch fits or does not fit, or patched already.
 
+import { readBytes } from '../core/bytes.js';
 import { dataTrack } from '../core/disc.js';
-import { LineList } from '../core/lines.js';
-import { checkPatches } from '../core/patch.js';
-import { RESULT, STATUS, VERB, patchFields } from '../core/records.js';
-import { Refusal, patchesOf } from '../core/script.js';
+import { passPatched } from '../core/patch.js';
+import { PATCH_RECORD_SIZE, RESULT, STATUS, freshSize } from '../core/records.js';
+import { Refusal } from '../core/script.js';
 import { sha1Of } from './crew.js';
+import { counted, countOf } from './dom.js';
 import { checkWork, readPatches } from './patch_job.js';
 import { wordsOfLine } from './script_lines.js';
 
@@ -15,17 +16,35 @@ import { wordsOfLine } from './script_lines.js';
 /** @typedef {import('../core/bytes.js').Reader} Reader */
 /** @typedef {import('./patcher.js').PatcherData} PatcherData */
 /** @typedef {import('./patch_job.js').PatchWork} PatchWork */
-/** @typedef {ReturnType<typeof patchFields>} PatchFields */
-/** @typedef {'right' | 'fits' | 'other' | 'patched'} Verdict */
+/** @typedef {import('../core/script.js').Patch} Patch */
+/** @typedef {'right' | 'fits' | 'other' | 'damaged' | 'patched'} Verdict */
 /**
- * A verdict, the SHA-1 of the image, '' if it was not needed; how many patches there are and how many are refused, and the program's
- * words for the first of those; and what is to be done.
- * @typedef {{ verdict: Verdict, sha1: string, patches: number, refused: number, words: string, work: PatchWork }} Judged
+ * A verdict, the SHA-1 of the image, '' if it was not needed; how many patches there are; the results of those that are refused, and the
+ * program's words for the first of them; and what is to be done.
+ * @typedef {{ verdict: Verdict, sha1: string, patches: number, refused: number[], words: string, work: PatchWork }} Judged
  */
 /** @typedef {{ signal: { aborted: boolean }, progress: (done: number, all: number) => void }} JudgeWatch */
 
-/** So many patches are tried at a time: as lines a patch may have 16 kB. */
-const TRIED_TOGETHER = 1000;
+/** @type {[number, string, string][]} why places refuse their patch, and what to think of it */
+const REASONS = [
+    [RESULT.DIFFERS, 'hold other bytes', 'It is probably another release of the game.'],
+    [RESULT.DAMAGED, 'are damaged', 'Try another dump of this disc, or repair this one with the full cdpatch.'],
+    [RESULT.NOT_MODE1, 'hold no data here', 'It is probably another track or another disc.'],
+    [RESULT.NO_BLOCK, 'are not in this image', 'It is probably another track, or it was cut.'],
+];
+
+/**
+ * Why a patch does not fit.
+ * @param {number} patches
+ * @param {number[]} refused their results
+ */
+export function reasonsOf(patches, refused) {
+    return REASONS.flatMap(([result, what, advice]) => {
+        const count = refused.filter(it => it === result).length;
+        const says = count === 1 ? what.replace('hold', 'holds').replace('are', 'is') : what;
+        return count === 0 ? [] : [`${counted(count)} of ${countOf(patches, 'place')} ${says}. ${advice}`];
+    });
+}
 
 /**
  * The image of the data track that has a size, or of the first one.
@@ -54,8 +73,9 @@ export async function judgeImage(app, data, image, watch) {
     const { outcomes } = await checkWork(app, work, { signal: watch.signal, progress: () => {} });
     const refused = outcomes.filter(it => it.result !== RESULT.OK);
     const words = refused.length === 0 ? '' : wordsOfLine(app.calls.outcomeLine(1, refused[0].result, refused[0].block, refused[0].offset));
-    const judged = { sha1: '', patches: outcomes.length, refused: refused.length, words, work };
-    if (refused.length > 0) return { ...judged, verdict: await isPatched(app, work) ? 'patched' : 'other' };
+    const judged = { sha1: '', patches: outcomes.length, refused: refused.map(it => it.result), words, work };
+    const damaged = judged.refused.every(it => it === RESULT.DAMAGED);
+    if (refused.length > 0) return { ...judged, verdict: await isPatched(app, work) ? 'patched' : damaged ? 'damaged' : 'other' };
     const sha1 = early || await hash();
     const verdict = sha1 === data.image.sha1 ? 'right' : sha1 === data.result ? 'patched' : 'fits';
     return { ...judged, sha1, verdict };
@@ -71,35 +91,26 @@ function addressedBase({ addressed, base }, other) {
 }
 
 /**
- * Whether the new bytes of all patches stand in the image: each is tried as one whose old bytes are the new ones.
+ * Whether the script, without the old bytes that it asks for, would change nothing in the image.
  * @param {App} app
  * @param {PatchWork} work
  */
-async function isPatched(app, { reader, base, script }) {
-    const patches = (await readPatches(app, script)).map(({ bytes }) => patchFields(bytes)).filter(writesBytes);
-    for (let from = 0; from < patches.length; from += TRIED_TOGETHER) {
-        const made = await patchesOf(app.calls, [linesOfNew(patches.slice(from, from + TRIED_TOGETHER))]);
-        const checked = made instanceof Refusal ? made : await checkPatches(app.calls, reader, made, base, true);
-        if (checked instanceof Refusal || checked.status !== STATUS.DONE) return false;
-    }
-    return patches.length > 0;
-}
-
-/** @param {PatchFields} patch */
-function writesBytes({ verb }) {
-    return verb === VERB.SET || verb === VERB.FILL;
+export async function isPatched(app, { reader, base, script }) {
+    let same = true;
+    const made = await passPatched(app.calls, reader, (await readPatches(app, script)).map(withoutOld), base, true, async piece => {
+        if (!('bytes' in piece) || !same) return;
+        const there = await readBytes(reader, piece.at, piece.bytes.length);
+        same = there.every((byte, i) => byte === piece.bytes[i]);
+    });
+    return same && !(made instanceof Refusal) && made.status === STATUS.DONE && made.outcomes.length > 0;
 }
 
 /**
- * A script that writes the new bytes of patches over the same.
- * @param {PatchFields[]} patches
+ * @param {Patch} patch
+ * @returns {Patch}
  */
-function linesOfNew(patches) {
-    const lines = new LineList();
-    lines.text('cdpatch 1\n');
-    for (const { verb, block, offset, count, value, fresh } of patches) {
-        const there = verb === VERB.SET ? fresh : new Uint8Array(count).fill(value);
-        lines.set(block, offset, there, there);
-    }
-    return lines.bytes();
+function withoutOld({ bytes, ...patch }) {
+    const record = bytes.slice(0, PATCH_RECORD_SIZE + freshSize(bytes, 0));
+    record[9] = 0;
+    return { ...patch, bytes: record };
 }

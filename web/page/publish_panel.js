@@ -4,7 +4,7 @@ import { RESULT, VERB, patchFields } from '../core/records.js';
 import { applyPatches } from '../core/patch.js';
 import { Refusal } from '../core/script.js';
 import { sha1Of } from './crew.js';
-import { button, countOf, element, fill, isDisabled, setDisabled } from './dom.js';
+import { askBeforeLeaving, button, countOf, element, fill, isDisabled, keepFocus, setDisabled } from './dom.js';
 import { download } from './files_out.js';
 import { readPatches } from './patch_job.js';
 import { pageSource } from './parts.js';
@@ -12,8 +12,8 @@ import { headFault, patcherText } from './patcher.js';
 import { showPlayer } from './player.js';
 import { jobBar } from './progress.js';
 import { fileOf, fileReader } from './reading.js';
-import { blobOfPieces } from './save.js';
-import { isCancelled, notice } from './say.js';
+import { blobOfPieces, patchedName } from './save.js';
+import { isCancelled, notice, sentence } from './say.js';
 import { sheetFor } from './sheet.js';
 
 /** @typedef {import('./state.js').App} App */
@@ -21,8 +21,10 @@ import { sheetFor } from './sheet.js';
 /** @typedef {import('./patcher.js').PatcherData} PatcherData */
 /** @typedef {import('./dom.js').Child} Child */
 /**
- * What is known of a script on the image: how many patches fit, how many are without old bytes, and how many old bytes there are.
- * @typedef {{ script: string, patches: number, refused: number, without: number, old: number, result: Blob }} Tried
+ * What is known of a script on the image: how many patches are refused, and how many of them for damage; how many are without old bytes,
+ * and how many old bytes there are.
+ * @typedef {{ script: string, patches: number, refused: number, damaged: number, without: number, old: number,
+ *     result: Blob }} Tried
  */
 
 /** The panel. */
@@ -38,11 +40,13 @@ class PublishPanel {
         this.number = 0;
         this.trying = false;
         this.busy = false;
+        /** Whether something was typed that is in no patcher yet. */
+        this.edited = false;
         const text = (/** @type {string} */ id) => element('input', { type: 'text', id, maxlength: 200, autocomplete: 'off',
-            input: () => this.draw() });
+            input: () => this.typed() });
         this.title = text('patcher-title');
         this.author = text('patcher-author');
-        this.note = element('textarea', { id: 'patcher-note', rows: 5, maxlength: 20000 });
+        this.note = element('textarea', { id: 'patcher-note', rows: 5, maxlength: 20000, input: () => this.typed() });
         this.name = text('patcher-name');
         this.sheet = element('input', { type: 'checkbox', id: 'patcher-cue', checked: true });
         this.list = element('div', { class: 'stack tight', role: 'status' });
@@ -50,7 +54,9 @@ class PublishPanel {
         this.save = button('main', () => this.publish(true), 'Save as a patcher…');
         this.see = button('', () => this.publish(false), 'See it as a player');
         panel.append(element('div', { class: 'two even' }, this.form(), element('div', { class: 'side' }, this.savingCard())));
+        askBeforeLeaving(() => this.edited);
         app.on('panel', () => this.shown());
+        app.on('patcher', data => this.take(data));
         for (const name of /** @type {const} */ (['image', 'script'])) app.on(name, () => this.forget());
         for (const name of /** @type {const} */ (['hash', 'surveyed'])) app.on(name, () => this.shown());
     }
@@ -77,6 +83,26 @@ class PublishPanel {
                 element('p', { class: 'small quiet' }, 'The script itself can be saved under Script.')));
     }
 
+    /** @param {...Child} parts of what became of a patcher */
+    say(...parts) {
+        keepFocus(this.state, () => fill(this.state, ...parts));
+    }
+
+    typed() {
+        this.edited = true;
+        this.draw();
+    }
+
+    /**
+     * Takes over what a patcher says of itself, so that the next one can be made of it.
+     * @param {PatcherData} data
+     */
+    take({ title, author, note, name, cue }) {
+        [this.title.value, this.author.value, this.note.value, this.name.value] = [title, author, note, name];
+        this.sheet.checked = cue !== '';
+        this.edited = false;
+    }
+
     forget() {
         this.tried = null;
         this.fault = '';
@@ -89,7 +115,7 @@ class PublishPanel {
     shown() {
         if (this.app.panel !== 'publish') return;
         const { image } = this.app;
-        if (this.name.value === '' && image) this.name.value = image.name.replace(/(\.[^.]*)?$/, ' (patched)$1');
+        if (this.name.value === '' && image) this.name.value = patchedName(image.name);
         this.draw();
         if (this.tried === null && this.fault === '' && !this.trying && image !== null) this.tryScript(image);
     }
@@ -102,7 +128,7 @@ class PublishPanel {
             const tried = await triedOn(this.app, image);
             if (number === this.number) this.tried = tried;
         } catch (error) {
-            if (number === this.number) this.fault = error instanceof Error ? error.message : String(error);
+            if (number === this.number) this.fault = sentence(error);
         }
         if (number === this.number) this.trying = false;
         this.draw();
@@ -131,7 +157,8 @@ class PublishPanel {
             tried.patches > 0 ? ['good', `${countOf(tried.patches, 'patch', 'patches')}, no faults`]
                 : ['bad', 'The script has no patch yet.'],
             [tried.refused === 0 ? 'good' : 'bad',
-                `tried on this image: ${tried.patches - tried.refused} applied, ${tried.refused} refused`],
+                `tried on this image: ${tried.patches - tried.refused} applied, ${tried.refused} refused`,
+                tried.damaged > 0 && `, ${tried.damaged} for damage: a patcher does not carry it. Repair the image first.`],
             tried.without === 0 ? ['good', 'each ', mono('set'), ' has its old bytes (', mono('was'), ')']
                 : ['warn', `${countOf(tried.without, 'line')} without `, mono('was'),
                     ': another release would be patched there too, and break.'],
@@ -154,18 +181,18 @@ class PublishPanel {
         try {
             await app.run(async (signal, cancel) => {
                 const bar = jobBar('Calculating the SHA-1 of the result', cancel);
-                fill(this.state, element('p', {}, 'Calculating the SHA-1 of the patched image, so that players can compare theirs.'),
+                this.say(element('p', {}, 'Calculating the SHA-1 of the patched image, so that players can compare theirs.'),
                     ...bar.parts);
                 const size = tried.result.size;
                 const result = await sha1Of(app.parts, fileReader(new File([tried.result], 'result')), signal, done => bar.at(done, size));
                 const data = this.data(image, tried.script, result);
-                fill(this.state);
+                this.say();
                 if (saving) await this.saveAs(data);
                 else showPlayer(app, data, { note: '', back: () => app.showPanel('publish') });
             });
         } catch (error) {
-            fill(this.state, isCancelled(error) ? notice('plain', 'Cancelled.', 'No patcher was saved.')
-                : notice('bad', error instanceof Error ? error.message : String(error), 'No patcher was saved.'));
+            this.say(isCancelled(error) ? notice('plain', 'Cancelled.', 'No patcher was saved.')
+                : notice('bad', sentence(error), 'No patcher was saved.'));
         } finally {
             this.busy = false;
         }
@@ -189,7 +216,8 @@ class PublishPanel {
     async saveAs(data) {
         const name = `${data.title.replace(/[\p{Cc}/\\:*?"<>|]+/gu, ' ').trim() || 'patcher'}.html`;
         download(new Blob([pageSource(), await patcherText(data)], { type: 'text/html' }), name);
-        fill(this.state, notice('good', `${name} is saved.`, 'Players open it with a double click, and drop their image there.'));
+        this.edited = false;
+        this.say(notice('good', `${name} is saved.`, 'Players open it with a double click, and drop their image there.'));
     }
 }
 
@@ -232,6 +260,7 @@ async function triedOn(app, image) {
         script,
         patches: patches.length,
         refused: made.outcomes.filter(it => it.result !== RESULT.OK).length,
+        damaged: made.outcomes.filter(it => it.result === RESULT.DAMAGED).length,
         without: fields.filter(({ verb, old }) => (verb === VERB.SET && old === null) || verb === VERB.FILL).length,
         old: fields.reduce((sum, { old }) => sum + (old === null ? 0 : old.length), 0),
         result: blobOfPieces(file, made.pieces),

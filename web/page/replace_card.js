@@ -5,6 +5,7 @@ import { button, counted, countOf, element, fill, hexOf, isDisabled, setDisabled
 import { chosenEncoding } from './encodings.js';
 import { visible } from './explain.js';
 import { filledTo, replacingLine } from './hits.js';
+import { messageOf } from './say.js';
 
 /** @typedef {import('./state.js').App} App */
 /** @typedef {import('../core/find.js').Hit} Hit */
@@ -63,7 +64,7 @@ export class ReplaceCard {
         try {
             return { bytes: encodeText(chosenEncoding(this.app), this.input.value), fault: '' };
         } catch (error) {
-            return { bytes: new Uint8Array(0), fault: error instanceof Error ? error.message : String(error) };
+            return { bytes: new Uint8Array(0), fault: messageOf(error) };
         }
     }
 
@@ -90,7 +91,9 @@ export class ReplaceCard {
         this.input.setAttribute('aria-invalid', String(fault !== '' || bytes.length > old.length));
         fill(this.rest, gauge(bytes, old.length, filling), ...this.advice(bytes, old, filled, fault, line));
         fill(this.all, `Add for all ${counted(left)} left`);
+        const had = document.activeElement === this.all;
         this.all.hidden = left < 2;
+        if (had && left < 2) this.input.focus();
         for (const it of [this.add, this.all]) setDisabled(it, !ready);
     }
 
@@ -126,7 +129,7 @@ export class ReplaceCard {
             return say(`A patch cannot move bytes: the new text needs as many bytes as the old one, or fewer. Shorten it by ${more}.`);
         }
         if (filled === null) return say(`${countOf(-more, 'byte')} cannot be filled with that. Choose another byte.`);
-        const known = line > 0 ? `This place is in line ${line} of the script already. A second line would meet other old bytes.` : '';
+        const known = line > 0 ? `Line ${line} of the script writes here already. A second line would meet other old bytes.` : '';
         return [element('div', {}, element('span', { class: 'label' }, 'This line goes into the script'),
             element('p', { class: 'line-out' }, replacingLine(this.target.hit, filled, old))),
                 known !== '' && element('p', { class: 'say warn' }, known)];

@@ -123,10 +123,12 @@ export class Pace {
 }
 
 /**
- * A name for the patched image, which is not that of the old one: 'game.bin' becomes 'game (patched).bin'.
+ * A name like that of an image, with what is new about it: 'game.bin' becomes 'game (patched).bin'.
  * @param {string} name
+ * @param {string} [what]
+ * @param {string} [ending] instead of its own
  */
-export function patchedName(name) {
-    const [, stem, ending] = /^(.*?)(\.[^.]*)?$/.exec(name) || ['', name, ''];
-    return `${stem} (patched)${ending || '.bin'}`;
+export function patchedName(name, what = 'patched', ending = '') {
+    const [, stem, own] = /^(.*?)(\.[^.]*)?$/.exec(name) || ['', name, ''];
+    return `${stem} (${what})${ending || own || '.bin'}`;
 }

@@ -2,20 +2,19 @@
 
 import { RESULT } from '../core/records.js';
 import { sha1Of } from './crew.js';
-import { button, countOf, counted, element, fill } from './dom.js';
+import { askBeforeLeaving, button, countOf, counted, element, fill } from './dom.js';
 import { downloadText } from './files_out.js';
 import { WorkRefused, saveWork } from './patch_job.js';
 import { jobBar } from './progress.js';
 import { fileReader } from './reading.js';
-import { patchedName } from './save.js';
-import { isCancelled, notice } from './say.js';
+import { SaveFault, patchedName } from './save.js';
+import { isCancelled, messageOf, notice } from './say.js';
 import { sheetFor } from './sheet.js';
 
 /** @typedef {import('./state.js').App} App */
 /** @typedef {import('./state.js').Image} Image */
 /** @typedef {import('./patch_job.js').PatchWork} PatchWork */
 /** @typedef {import('./patch_job.js').Saved} Saved */
-/** @typedef {import('./save.js').SaveFault} SaveFault */
 /** @typedef {import('../core/patch.js').Patched} Patched */
 /** @typedef {import('./dom.js').Child} Child */
 
@@ -30,9 +29,7 @@ export class SaveCard {
         this.redraw = redraw;
         this.title = '';
         this.body = /** @type {Child[]} */ ([]);
-        window.addEventListener('beforeunload', event => {
-            if (this.leaving) event.preventDefault();
-        });
+        askBeforeLeaving(() => this.leaving);
         this.leaving = false;
         app.takers.push(file => this.isSaved(file));
         this.saved = /** @type {Saved | null} */ (null);
@@ -120,8 +117,8 @@ export class SaveCard {
      * @param {Saved} saved
      */
     shaOf(saved) {
-        const place = element('dd', { id: 'saved-sha1' }, '…');
         const file = saved.blob || saved.file;
+        const place = element('dd', { id: 'saved-sha1' }, file ? '…' : 'not known, for the browser does not read the file again');
         if (file === null) return place;
         this.sum = sha1Of(this.app.parts, fileReader(new File([file], saved.name)), { aborted: false }, done => {
             place.textContent = `(${Math.floor(100 * done / saved.size)} %)`;
@@ -142,7 +139,12 @@ export class SaveCard {
         const sha1 = wrong ? '' : await sha1Of(this.app.parts, fileReader(file), { aborted: false }, () => {});
         const right = sha1 !== '' && sha1 === await this.sum;
         if (this.saved !== saved) return true;
-        fill(this.checked, right ? notice('good', `${file.name} is right.`, 'Its size and SHA-1 are those of the patched image.')
+        const open = button('slim', () => {
+            this.close();
+            this.app.open([file]);
+        }, 'Open it');
+        fill(this.checked, right ? notice('good', `${file.name} is right.`, 'Its size and SHA-1 are those of the patched image.',
+            element('div', { class: 'row' }, open))
             : notice('bad', `${file.name} is not what it should be.`, wrong || 'Its SHA-1 is another one. Save it again.'));
         this.leaving = this.leaving && !right;
         return true;
@@ -156,14 +158,11 @@ export class SaveCard {
  */
 export function failureOfSaving(error, size) {
     if (isCancelled(error)) return notice('plain', 'Cancelled.', 'No image was kept.');
-    const { message, name } = error instanceof Error ? error : new Error(String(error));
-    if (error instanceof Error && name === 'SaveFault') {
-        const { full, done } = /** @type {SaveFault} */ (error);
+    if (error instanceof SaveFault) {
+        const { full, done } = error;
         const percent = size === 0 ? 0 : Math.floor(100 * done / size);
-        return notice('bad', full ? `The disk is full at ${percent} %.` : `Writing failed at ${percent} %: ${message}`,
+        return notice('bad', full ? `The disk is full at ${percent} %.` : `Writing failed at ${percent} %: ${messageOf(error)}`,
             'No image was kept.');
     }
-    if (name === 'ImageEnded') return notice('bad', 'The image is shorter than it was when it was opened.',
-        'No image was kept. Open it again.');
-    return notice('bad', message, error instanceof WorkRefused ? error.advice : 'No image was kept.');
+    return notice('bad', messageOf(error), error instanceof WorkRefused ? error.advice : 'No image was kept.');
 }

@@ -47,10 +47,22 @@ export function clearNotices() {
  * @param {string} [rest]
  */
 export function showFailure(error, rest = '') {
-    const { message, name } = error instanceof Error ? error : new Error(String(error));
-    const text = name === 'ImageEnded' ? 'The file is shorter than it was when it was opened.' : message;
+    const text = messageOf(error);
     const [, first, after] = /^(.*?[.!?])\s+(.*)$/s.exec(text) || ['', text, ''];
     showNotice('bad', first, [after, rest].filter(it => it !== '').join(' '));
+}
+
+/** What browsers say if there is no memory, in this page or in a worker. */
+const NO_MEMORY = /out of memory|allocation failed|grow.*memory|memory.*grow/i;
+
+/**
+ * What an error says.
+ * @param {unknown} error
+ */
+export function messageOf(error) {
+    const { message, name } = error instanceof Error ? error : new Error(String(error));
+    if (name === 'ImageEnded') return 'The file is shorter than it was when it was opened.';
+    return NO_MEMORY.test(message) ? 'This browser has not enough memory left. Close other tabs, then try again.' : message;
 }
 
 /**
@@ -58,7 +70,7 @@ export function showFailure(error, rest = '') {
  * @param {unknown} error
  */
 export function sentence(error) {
-    const text = error instanceof Error ? error.message : String(error);
+    const text = messageOf(error);
     return text.charAt(0).toUpperCase() + text.slice(1);
 }
 

@@ -4,8 +4,11 @@ import { CONTENT, RESULT, patchFields } from '../core/records.js';
 
 /** @typedef {import('../core/codes.js').Calls} Calls */
 /** @typedef {import('../core/patch.js').Outcome} Outcome */
-/** An edit: from a line on, which lines went and which came. `typed` joins to the one before it if that was typed in the same line. */
-/** @typedef {{ at: number, gone: string[], come: string[], typed: boolean }} Edit */
+/**
+ * An edit: from a line on, which lines went and which came, and the script's names before and after it. `typed` joins to the one before
+ * it if that was typed in the same line; `saved` says that the text after it is in a file.
+ * @typedef {{ at: number, gone: string[], come: string[], names: string[], typed: boolean, saved: boolean }} Edit
+ */
 
 /** More patches than this are a fault of the script. */
 export const MOST_PATCHES = 65535;
@@ -36,6 +39,8 @@ export class ScriptLines {
         this.done = [];
         /** @type {Edit[]} */
         this.undone = [];
+        /** The name of its file, or ''. */
+        this.name = '';
         this.cached = /** @type {string | null} */ ('');
     }
 
@@ -58,18 +63,48 @@ export class ScriptLines {
     }
 
     /**
+     * Puts another text in place of this one, as one edit of the lines in which they differ.
+     * @param {string} text
+     * @param {string} name of its file
+     * @param {boolean} typed as of an edit
+     */
+    replace(text, name, typed) {
+        const [{ lines }, come] = [this, text.split(/\r?\n/)];
+        const most = Math.min(lines.length, come.length);
+        let [same, end] = [0, 0];
+        while (same < most && lines[same] === come[same]) same++;
+        while (end < most - same && lines[lines.length - 1 - end] === come[come.length - 1 - end]) end++;
+        this.edit(same, lines.length - same - end, come.slice(same, come.length - end), typed, name);
+        this.cached = text;
+    }
+
+    /** Whether this text is in a file, or nothing was written yet. */
+    isSaved() {
+        const last = this.done[this.done.length - 1];
+        return last === undefined || last.saved;
+    }
+
+    /** Takes note that this text is in a file. What is typed later is an edit of its own. */
+    noteSaved() {
+        const last = this.done[this.done.length - 1];
+        if (last) Object.assign(last, { saved: true, typed: false });
+    }
+
+    /**
      * Puts lines in place of others.
      * @param {number} at
      * @param {number} count
      * @param {string[]} come
      * @param {boolean} [typed] whether it goes on with what was typed in the same line before
+     * @param {string} [name] of the script after it
      */
-    edit(at, count, come, typed = false) {
+    edit(at, count, come, typed = false, name = this.name) {
         const gone = this.lines.slice(at, at + count);
         const last = this.done[this.done.length - 1];
         if (typed && last && last.typed && last.at === at && count === 1 && come.length === 1) last.come = come;
-        else this.done.push({ at, gone, come, typed });
+        else this.done.push({ at, gone, come, names: [this.name, name], typed, saved: false });
         this.undone = [];
+        this.name = name;
         this.put(at, count, come);
     }
 
@@ -78,6 +113,7 @@ export class ScriptLines {
         const edit = this.done.pop();
         if (edit === undefined) return -1;
         this.undone.push(edit);
+        [this.name] = edit.names;
         this.put(edit.at, edit.come.length, edit.gone);
         return edit.at;
     }
@@ -87,6 +123,7 @@ export class ScriptLines {
         const edit = this.undone.pop();
         if (edit === undefined) return -1;
         this.done.push(edit);
+        [, this.name] = edit.names;
         this.put(edit.at, edit.gone.length, edit.come);
         return edit.at + edit.come.length - 1;
     }

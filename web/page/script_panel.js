@@ -1,19 +1,23 @@
 // The panel Script: the editor with what its line with the caret means, Check and Apply, and the log.
 
+import { blocksText } from '../core/runs.js';
 import { Refusal } from '../core/script.js';
 import { undoScript } from '../core/undo.js';
 import { CheckCard } from './check_card.js';
-import { button, byId, countOf, counted, element, fill, isDisabled, setDisabled } from './dom.js';
+import { askBeforeLeaving, button, byId, countOf, counted, element, fill, isDisabled, keepFocus, setDisabled } from './dom.js';
 import { ScriptEditor } from './editor.js';
-import { listenToEditor } from './editor_input.js';
+import { listenToEditor, turnBack } from './editor_input.js';
 import { explainLine } from './explain.js';
 import { downloadBytes, downloadText } from './files_out.js';
-import { copyText, showNotice, showFailure } from './say.js';
+import { watched } from './patch_job.js';
+import { jobBar } from './progress.js';
+import { clearNotices, copyText, isCancelled, showFailure, showNotice } from './say.js';
 import { ScriptLines } from './script_lines.js';
 import { helpOfFault, helpOfRefusal } from './script_words.js';
 
 /** @typedef {import('./state.js').App} App */
 /** @typedef {import('./editor.js').LineHelp} LineHelp */
+/** @typedef {import('./script_lines.js').Edit} Edit */
 /** @typedef {import('./dom.js').Child} Child */
 
 const MOST_LOG = 200000;
@@ -54,14 +58,17 @@ class ScriptPanel {
             this.editor.box, this.strip),
             this.side), this.opening);
         panel.addEventListener('keydown', event => this.pressed(event));
+        this.lines.setText(NEW_SCRIPT);
+        this.share();
+        this.drawAll();
         this.listen();
-        this.load();
     }
 
     listen() {
         const { app } = this;
+        askBeforeLeaving(() => this.isLost());
         app.on('script', from => {
-            if (from !== 'editor') this.load();
+            if (from !== 'editor') this.load(from);
         });
         app.on('image', () => {
             this.check.forget();
@@ -76,23 +83,48 @@ class ScriptPanel {
         });
     }
 
-    /** Takes the script of the page, which somebody else has changed. */
-    load() {
-        const text = this.app.script.text || NEW_SCRIPT;
-        const own = this.lines.text();
-        if (text !== own && own.endsWith('\n') && text.startsWith(own)) {
-            this.lines.edit(this.lines.lines.length - 1, 1, text.slice(own.length).split('\n'));
-        } else if (text !== own) this.lines.setText(text);
-        this.editor.current = Math.min(this.editor.current, this.lines.lines.length - 1);
+    /** Whether there is a script that is in no file. */
+    isLost() {
+        return !this.lines.isSaved() && this.app.script.text !== '';
+    }
+
+    /**
+     * Takes the script of the page, which somebody else has changed. What it was is an undo away, which is said of one that is in no file.
+     * @param {string} from 'file', 'made' for a new script, 'lines' for more of this one
+     */
+    load(from) {
+        const { lines, app } = this;
+        const { name, text } = app.script;
+        const old = lines.text();
+        const lost = from !== 'lines' && !lines.isSaved() && old !== NEW_SCRIPT && old !== text;
+        if (text !== old || name !== lines.name) lines.replace(text || NEW_SCRIPT, name, from === 'lines');
+        if (from === 'file') lines.noteSaved();
+        this.editor.current = Math.min(this.editor.current, lines.lines.length - 1);
         this.share();
         this.drawAll();
+        if (lost) queueMicrotask(() => this.offerBack(lines.done[lines.done.length - 1]));
+    }
+
+    /** @param {Edit} edit with which a script in no file went */
+    offerBack(edit) {
+        const { editor, lines } = this;
+        const back = () => {
+            let line = -1;
+            while (lines.done.includes(edit)) line = lines.undo();
+            clearNotices();
+            turnBack(editor, line);
+        };
+        showNotice('warn', 'Your script was in no file, and has made way for this one.', element('div', { class: 'row' },
+            button('slim', back, 'Bring it back')));
     }
 
     /** The text of the page is that of the lines, which is joined only if somebody asks for it; '' if nothing was written yet. */
     share() {
-        const { lines, app } = this;
-        const { name } = app.script;
-        app.script = { name, get text() { return lines.text() === NEW_SCRIPT ? '' : lines.text(); } };
+        const { lines } = this;
+        this.app.script = {
+            get name() { return lines.name; },
+            get text() { return lines.text() === NEW_SCRIPT ? '' : lines.text(); },
+        };
     }
 
     changed() {
@@ -123,8 +155,8 @@ class ScriptPanel {
         setDisabled(undo, fault || app.image === null || lines.patches === 0);
         fill(this.head, element('h2', { class: name ? 'mono' : '' }, name || 'New script'),
             element('span', { class: `tag${fault ? ' bad' : ''}` }, tag),
-            button('slim bare', () => this.opening.click(), 'Open…'),
-            button('slim bare', () => downloadText(lines.text(), name || 'script.txt'), 'Save script…'), undo);
+            this.isLost() && element('span', { class: 'tag warn' }, 'in no file yet'),
+            button('slim bare', () => this.opening.click(), 'Open…'), button('slim bare', () => this.save(), 'Save script…'), undo);
         const count = byId('count-script');
         count.hidden = !fault && lines.patches === 0;
         count.className = `count${fault ? ' bad' : ''}`;
@@ -184,12 +216,20 @@ class ScriptPanel {
 
     /** @param {KeyboardEvent} event */
     pressed(event) {
-        if (event.key === 'Enter' && (event.ctrlKey || event.metaKey)) this.check.check();
+        const control = event.ctrlKey || event.metaKey;
+        if (event.key === 'Enter' && control) this.check.check();
+        else if (event.key === 's' && control) this.save();
         else if (event.key === 'F8') {
             const line = this.lines.nextWrong(this.editor.current, event.shiftKey ? -1 : 1);
             if (line >= 0) this.goTo(line);
         } else return;
         event.preventDefault();
+    }
+
+    save() {
+        downloadText(this.lines.text(), this.lines.name || 'script.txt');
+        this.lines.noteSaved();
+        keepFocus(this.head, () => this.drawHead(), 'button:nth-last-child(2)');
     }
 
     open() {
@@ -208,15 +248,23 @@ class ScriptPanel {
         if (isDisabled(from) || image === null) return;
         const carry = check.carry.checked;
         try {
-            const made = await undoScript(app.calls, image.reader, [new TextEncoder().encode(lines.text())], { base: image.base, carry });
+            const made = await app.run((signal, cancel) => {
+                const bar = jobBar('Making the undo script', cancel);
+                showNotice('plain', 'Making the undo script', ...bar.parts);
+                const script = [new TextEncoder().encode(lines.text())];
+                return undoScript(app.calls, watched(image.reader, { signal, progress: bar.at }), script, { base: image.base, carry });
+            });
             if (made instanceof Refusal) throw new Error('The script has a fault.');
             const stem = (app.script.name || 'script').replace(/\.[^.]*$/, '');
             downloadBytes(made.script.pieces, `${stem} (undo).txt`);
-            const left = made.left.map(({ first, last }) => first === last ? `${first}` : `${first} to ${last}`).join(', ');
-            const but = left === '' ? '.' : `, but for the damage of ${left}: their address and user data come back.`;
-            showNotice(left ? 'warn' : 'good', 'The undo script is saved.', `On the patched image it makes the old one again${but}`);
+            const left = made.left.length > 0 && `, but for the damage of ${blocksText(made.left, 8)}: their address and user data come back`;
+            const how = carry && ' Apply it with carry, as this script.';
+            const long = made.script.long && ' It is longer than cdpatch and this page take: cdscript applies it with --long.';
+            showNotice(left || long ? 'warn' : 'good', 'The undo script is saved.', 'On the patched image it makes the old one again',
+                left, '.', how, long);
         } catch (error) {
-            showFailure(error, 'No undo script was made.');
+            if (isCancelled(error)) showNotice('plain', 'Cancelled.', 'No undo script was made.');
+            else showFailure(error, 'No undo script was made.');
         }
     }
 

@@ -1,11 +1,12 @@
 // Compare with a second image: where both differ, and the script from one to the other.
 
-import { FIELD_COUNT, SECOND_STATE } from '../core/compare.js';
+import { FIELD_COUNT, SECOND_STATE, tailsDiffer } from '../core/compare.js';
 import { button, element, fill, counted, term } from './dom.js';
 import { jobBar } from './progress.js';
 import { notice } from './say.js';
 import { addDiffering, compareMarks } from './second_marks.js';
-import { patchedStem, writeScript } from './second_script.js';
+import { patchedName } from './save.js';
+import { writeScript } from './second_script.js';
 import { tableCard, tallyOf } from './tally.js';
 
 /** @typedef {import('./state.js').App} App */
@@ -13,7 +14,8 @@ import { tableCard, tallyOf } from './tally.js';
 /** @typedef {import('./second_marks.js').PairMarks} PairMarks */
 /** @typedef {{ block: number, fields: number[], state: number }} FieldRow */
 
-/** @typedef {{ rows: FieldRow[], onlyCodes: number }} Rows */
+/** What was found: the first rows, how many sectors differ only in their codes, and whether the bytes after the last sector differ. */
+/** @typedef {{ rows: FieldRow[], onlyCodes: number, tail: boolean }} Rows */
 
 const MOST_DIFFERING_ROWS = 400;
 
@@ -33,6 +35,7 @@ export class SecondCompare {
         /** @type {FieldRow[]} */
         this.rows = [];
         this.onlyCodes = 0;
+        this.tail = false;
     }
 
     model() {
@@ -40,7 +43,7 @@ export class SecondCompare {
     }
 
     forget() {
-        Object.assign(this, { begun: false, marks: null, rows: [], onlyCodes: 0 });
+        Object.assign(this, { begun: false, marks: null, rows: [], onlyCodes: 0, tail: false });
         fill(this.body);
         fill(this.table);
         fill(this.place);
@@ -54,7 +57,7 @@ export class SecondCompare {
         this.begun = true;
         const marks = compareMarks(survey.marks);
         /** @type {Rows} */
-        const found = { rows: [], onlyCodes: 0 };
+        const found = { rows: [], onlyCodes: 0, tail: false };
         try {
             await app.run((signal, cancel) => {
                 const bar = jobBar('Comparing both images', cancel);
@@ -62,6 +65,7 @@ export class SecondCompare {
                 const how = { base: image.base, signal, progress: bar.sectors };
                 return app.crew.share('differ', [image.reader, second.reader], {}, how, answer => addRows(marks, found, answer));
             });
+            found.tail = await tailsDiffer(image.reader, second.reader);
         } catch (error) {
             if (app.second !== second) return;
             this.begun = false;
@@ -80,15 +84,16 @@ export class SecondCompare {
         const tally = tallyOf([[all, 'sectors differ', ''], [this.onlyCodes, 'only in EDC or parity', ''],
             [damaged, 'damaged in the second', damaged > 0 ? 'bad-ink' : '']]);
         const write = button('main', () => this.write(), 'Write the script');
-        const same = notice('good', 'Both images are the same, sector for sector.');
-        fill(this.body, tally, all === 0 ? same : element('div', { class: 'row' }, write), this.place);
+        const same = notice('good', `Both images are the same, ${this.tail ? 'sector for sector' : 'byte for byte'}.`);
+        const tail = this.tail && notice('warn', 'The bytes after the last sector differ.', 'No script changes them.');
+        fill(this.body, tally, tail, all === 0 ? same : element('div', { class: 'row' }, write), this.place);
         if (all > 0) this.drawTable(all);
     }
 
     write() {
         const { image, second } = this.app;
         if (image !== null && second !== null) {
-            writeScript(this.app, this.place, image, second.reader, patchedStem(second.name, 'changes', '.txt'));
+            writeScript(this.app, this.place, image, second.reader, patchedName(second.name, 'changes', '.txt'));
         }
     }
 

@@ -69,7 +69,7 @@ export class PairMarks {
 
 /** @param {SurveyMarks} survey */
 export function repairMarks(survey) {
-    return new PairMarks(survey, looksOf('nothing to do', ['can be repaired', 'damaged in both']));
+    return new PairMarks(survey, looksOf('nothing to do', ['can be repaired', 'cannot be repaired']));
 }
 
 /** @param {SurveyMarks} survey */

@@ -5,19 +5,21 @@ import { blocksIn } from '../core/runs.js';
 import { mergeImages } from '../core/merge.js';
 import { SECTOR_SIZE } from '../core/sector.js';
 import { readBytes } from '../core/bytes.js';
-import { button, counted, countOf, element, fill, term } from './dom.js';
+import { askBeforeLeaving, button, counted, countOf, element, fill, keepFocus, term } from './dom.js';
 import { pieceReader } from './piece_reader.js';
 import { jobBar } from './progress.js';
+import { patchedName } from './save.js';
 import { failureOfSaving } from './save_card.js';
 import { savePieces } from './save_pieces.js';
 import { notice } from './say.js';
 import { repairMarks } from './second_marks.js';
-import { patchedStem, writeScript } from './second_script.js';
+import { writeScript } from './second_script.js';
 import { tableCard, tallyOf } from './tally.js';
 
 /** @typedef {import('./state.js').App} App */
 /** @typedef {import('../core/merge.js').Repair} Repair */
 /** @typedef {import('../core/bytes.js').Piece} Piece */
+/** @typedef {import('./dom.js').Child} Child */
 /** @typedef {import('./second_marks.js').PairMarks} PairMarks */
 /** @typedef {{ block: number, here: string, there: string, file: string, same: boolean }} DamageRow */
 
@@ -35,6 +37,10 @@ export class SecondRepair {
         this.table = element('div');
         this.marks = /** @type {PairMarks | null} */ (null);
         this.begun = false;
+        this.tail = false;
+        /** Whether a file is being saved, as far as this page can know. */
+        this.saving = false;
+        askBeforeLeaving(() => this.saving);
     }
 
     model() {
@@ -42,7 +48,7 @@ export class SecondRepair {
     }
 
     forget() {
-        this.begun = false;
+        this.begun = this.saving = false;
         this.marks = null;
         fill(this.body);
         fill(this.table);
@@ -65,6 +71,7 @@ export class SecondRepair {
             this.marks = repairMarks(app.survey.marks);
             this.marks.setRuns(repair.taken, 0);
             this.marks.setRuns(repair.damaged, 1);
+            this.tail = repair.tails[0];
             this.draw(repair, pieces);
             this.changed();
             await this.drawTable(repair);
@@ -81,7 +88,7 @@ export class SecondRepair {
      */
     draw(repair, pieces) {
         const [taken, damaged, different] = [blocksIn(repair.taken), blocksIn(repair.damaged), repair.different[0]];
-        const tally = tallyOf([[taken, 'can be repaired', 'good-ink'], [damaged, 'damaged in both', damaged > 0 ? 'bad-ink' : ''],
+        const tally = tallyOf([[taken, 'can be repaired', 'good-ink'], [damaged, 'cannot be repaired', damaged > 0 ? 'bad-ink' : ''],
             [different, 'sound in both, but different', '']]);
         if (repair.refused) {
             fill(this.body, tally, notice('bad', 'This is no dump of the same disc, or it is shifted.',
@@ -91,11 +98,12 @@ export class SecondRepair {
         const save = button('main', () => void this.save(pieces), 'Save repaired image…');
         const script = button('', () => void this.script(pieces), 'Write it as a script');
         const none = taken === 0 ? [notice('plain', 'There is nothing to repair from it.', damaged === 0 ? 'No sector here is damaged.'
-            : 'No sector that is damaged here is sound there.')] : [];
+            : 'No sector that is damaged here is sound there, with the address of its block.')] : [];
         const warning = different > 0 ? [notice('warn', `${countOf(different, 'sector')} are sound in both, and differ.`,
             'Perhaps it is another release of the disc. They stay as they are here.')] : [];
+        const tail = this.tail && notice('warn', 'The bytes after the last sector differ.', 'They stay as they are here.');
         this.place = element('div', { class: 'stack' });
-        fill(this.body, tally, ...none, ...warning, element('p', { class: 'small quiet' },
+        fill(this.body, tally, ...none, ...warning, tail, element('p', { class: 'small quiet' },
             'Whole sectors are copied, and only those that are damaged here and sound there. A sound sector is never changed. ' +
             'Your file stays as it is.'), taken > 0 && element('div', { class: 'row' }, save, script), this.place);
     }
@@ -105,17 +113,21 @@ export class SecondRepair {
         const { app, place } = this;
         const { image, second } = app;
         if (image === null || second === null || !place) return;
+        const show = (/** @type {Child[]} */ ...parts) => keepFocus(place, () => fill(place, ...parts));
         try {
             const saved = await app.run((signal, cancel) => {
                 const bar = jobBar('Saving', cancel);
-                fill(place, ...bar.parts);
+                show(...bar.parts);
+                this.saving = true;
                 const progress = (/** @type {number} */ done) => bar.at(done, image.reader.size);
-                const name = patchedStem(image.name, 'repaired');
+                const name = patchedName(image.name, 'repaired');
                 return savePieces([image.reader, second.reader], pieces, name, { signal, progress });
             });
-            fill(place, saved && savedWords(saved, image.reader.size));
+            this.saving = saved !== null && !saved.streamed;
+            show(saved && savedWords(saved, image.reader.size));
         } catch (error) {
-            fill(place, failureOfSaving(error, image.reader.size));
+            this.saving = false;
+            show(failureOfSaving(error, image.reader.size));
         }
     }
 
@@ -123,7 +135,7 @@ export class SecondRepair {
     async script(pieces) {
         const { image } = this.app;
         if (image === null || !this.place) return;
-        await writeScript(this.app, this.place, image, pieceReader(image.reader, pieces), patchedStem(image.name, 'repair', '.txt'));
+        await writeScript(this.app, this.place, image, pieceReader(image.reader, pieces), patchedName(image.name, 'repair', '.txt'));
     }
 
     /** @param {Repair} repair */
@@ -144,7 +156,7 @@ export class SecondRepair {
             element('th', {}, 'In the second image'), element('th', {}, 'File'));
         const text = rows.map(({ block, here, there, file }) => `${block}\t${here}\t${there}\t${file}\n`).join('');
         const same = rows.filter(row => row.same).map(row => row.block);
-        fill(this.table, tableCard(`Damaged in both: ${counted(count)}`, head, cells, text, footOf(same, count - rows.length)));
+        fill(this.table, tableCard(`Cannot be repaired: ${counted(count)}`, head, cells, text, footOf(same, count - rows.length)));
     }
 
     /**

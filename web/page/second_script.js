@@ -2,11 +2,11 @@
 
 import { compareImages } from '../core/compare.js';
 import { leftText } from '../core/lines.js';
-import { blocksIn } from '../core/runs.js';
-import { button, counted, countOf, element, fill } from './dom.js';
+import { blocksIn, blocksText } from '../core/runs.js';
+import { button, counted, countOf, element, fill, keepFocus } from './dom.js';
 import { download } from './files_out.js';
 import { jobBar } from './progress.js';
-import { isCancelled, notice } from './say.js';
+import { isCancelled, notice, sentence } from './say.js';
 
 /** @typedef {import('./state.js').App} App */
 /** @typedef {import('./state.js').Image} Image */
@@ -20,17 +20,6 @@ const LONGEST_SHOWN = 1 << 24;
 const MOST_LEFT_NAMED = 8;
 
 /**
- * A name like that of an image, with what is new about it: 'game.bin' becomes 'game (repaired).bin'.
- * @param {string} name
- * @param {string} what
- * @param {string} [ending] instead of its own
- */
-export function patchedStem(name, what, ending) {
-    const [, stem, own] = /^(.*?)(\.[^.]*)?$/.exec(name) || ['', name, ''];
-    return `${stem} (${what})${ending || own || '.bin'}`;
-}
-
-/**
  * Writes the script, and says in a place how it went.
  * @param {App} app
  * @param {HTMLElement} place
@@ -40,19 +29,19 @@ export function patchedStem(name, what, ending) {
  * @param {boolean} [skipDamaged]
  */
 export async function writeScript(app, place, image, fresh, name, skipDamaged = false) {
+    const show = (/** @type {Node[]} */ ...parts) => keepFocus(place, () => fill(place, ...parts));
     try {
         const compared = await app.run((signal, cancel) => {
             const bar = jobBar('Writing the script', cancel);
-            fill(place, ...bar.parts);
+            show(...bar.parts);
             const how = { base: image.base, signal, progress: bar.sectors, skipDamaged };
             return compareImages(app.calls, app.crew, image.reader, fresh, how);
         });
         const again = () => void writeScript(app, place, image, fresh, name, true);
-        fill(place, compared.script === null ? refusal(compared, again) : written(app, compared.script, name, compared.left));
+        show(compared.script === null ? refusal(compared, again) : written(app, compared.script, name, compared.left));
     } catch (error) {
-        const message = error instanceof Error ? error.message : String(error);
         const rest = 'No script was written.';
-        fill(place, isCancelled(error) ? notice('plain', 'Cancelled.', rest) : notice('bad', message, rest));
+        show(isCancelled(error) ? notice('plain', 'Cancelled.', rest) : notice('bad', sentence(error), rest));
     }
 }
 
@@ -65,15 +54,14 @@ export async function writeScript(app, place, image, fresh, name, skipDamaged = 
 function written(app, { pieces, size, patches, long }, name, left) {
     const blob = new Blob(pieces);
     const take = button('main', async () => {
-        app.setScript(await blob.text(), name, 'file');
+        app.setScript(await blob.text(), name, 'made');
         app.showPanel('script');
     }, 'Put it into the panel Script');
-    const count = blocksIn(left);
-    const out = count === 0 ? '' : ` ${countOf(count, 'block')} ${count === 1 ? 'is' : 'are'} left out.`;
+    const but = left.length === 0 ? 'gives just this image' : `gives this image but for ${blocksText(left, MOST_LEFT_NAMED)}, which it leaves as they are`;
     const rest = long ? ' This is more than cdpatch takes: cdscript applies it with --long.' : '';
     const head = element('b', {}, `The script has ${countOf(patches, 'patch', 'patches')}.`);
-    return element('div', { class: 'say good', role: 'status' }, head,
-        `${counted(size)} bytes. It was applied by the proved code, and gives just this image.${out}${rest}`,
+    return element('div', { class: left.length === 0 ? 'say good' : 'say warn', role: 'status' }, head,
+        `${counted(size)} bytes. It was applied by the proved code, and ${but}.${rest}`,
         element('div', { class: 'row' }, size <= LONGEST_SHOWN && !long && take,
             button('', () => download(blob, name), 'Save the script…')));
 }

@@ -2,34 +2,45 @@
 
 import { readBytes } from '../core/bytes.js';
 import { applyPatches } from '../core/patch.js';
-import { Refusal, patchesOf } from '../core/script.js';
+import { CONTENT } from '../core/records.js';
+import { Refusal } from '../core/script.js';
 import { SECTOR_SIZE } from '../core/sector.js';
 
 /** @typedef {import('./state.js').App} App */
 /** @typedef {import('./state.js').Image} Image */
+/** @typedef {import('../core/codes.js').Calls} Calls */
 /** @typedef {import('../core/script.js').Patch} Patch */
-
-/** A longer script is not read each time that a sector is shown. */
-const LONGEST_SCRIPT = 1 << 22;
 
 /** A patch changes bytes of so many blocks at most. */
 const BLOCKS_OF_PATCH = 3;
 
-/** @type {{ text: string, patches: Promise<Patch[] | Refusal> }} */
-const readScript = { text: '', patches: Promise.resolve([]) };
+/** A head line, or a verb and a block. */
+const HEADS_AND_BLOCKS = /^[ \t]*(?:cdpatch[ \t]|\w+[ \t]+(\d+)).*/gm;
 
-/** @param {App} app */
-function knownPatches({ calls, script }) {
-    if (script.text !== readScript.text) {
-        readScript.text = script.text;
-        const long = script.text.length > LONGEST_SCRIPT;
-        readScript.patches = long ? Promise.resolve([]) : patchesOf(calls, [new TextEncoder().encode(script.text)]);
+/**
+ * The patches of a script that may change a block. Only lines that name a block near it are read, and those with a fault are left out.
+ * @param {Calls} calls
+ * @param {string} text
+ * @param {number} block
+ * @returns {Patch[]}
+ */
+export function patchesNear(calls, text, block) {
+    const patches = [];
+    let version = 0;
+    for (const [line, named] of text.matchAll(HEADS_AND_BLOCKS)) {
+        const isHead = named === undefined && version === 0;
+        if (!isHead && !(Number(named) <= block && Number(named) > block - BLOCKS_OF_PATCH)) continue;
+        const bytes = new TextEncoder().encode(line);
+        calls.hold(bytes);
+        const content = calls.readLine(version, 1, 0, 0, bytes.length);
+        if (isHead && content < CONTENT.PATCH) version = content;
+        if (content === CONTENT.PATCH) patches.push({ number: 1, ...calls.patchRead() });
     }
-    return readScript.patches;
+    return patches.sort((a, b) => a.block - b.block);
 }
 
 /**
- * A sector of the open image, before the script and after it.
+ * A sector of the open image, before the script and after it. Damage is carried, so that each patch shows.
  * @param {App} app
  * @param {Image} image
  * @param {number} block
@@ -37,8 +48,7 @@ function knownPatches({ calls, script }) {
 export async function sectorBytes(app, { reader, base }, block) {
     const at = (block - base) * SECTOR_SIZE;
     const old = await readBytes(reader, at, SECTOR_SIZE);
-    const all = app.script.text.trim() === '' ? [] : await knownPatches(app);
-    const patches = all instanceof Refusal ? [] : all.filter(patch => patch.block <= block && patch.block > block - BLOCKS_OF_PATCH);
+    const patches = patchesNear(app.calls, app.script.text, block);
     if (patches.length === 0) return { old, fresh: old };
     const applied = await applyPatches(app.calls, reader, patches, base, true);
     const pieces = applied instanceof Refusal ? [] : applied.pieces;

@@ -29,8 +29,10 @@
 /**
  * What happens: an image was opened or closed (`image`); more of it was surveyed (`survey`), or all (`surveyed`); its hash or its files
  * are known (`hash`, `files`); there is a second image, or none any more (`second`); a place was chosen (`place`); the script has
- * changed (`script`); the encoding was chosen, or a table is new (`encoding`); another panel is shown (`panel`).
- * @typedef {'image' | 'survey' | 'surveyed' | 'hash' | 'files' | 'second' | 'place' | 'script' | 'encoding' | 'panel'} Happening
+ * changed (`script`); the encoding was chosen, or a table is new (`encoding`); another panel is shown (`panel`); the data of a patcher are
+ * to be worked on (`patcher`).
+ * @typedef {'image' | 'survey' | 'surveyed' | 'hash' | 'files' | 'second' | 'place' | 'script' | 'encoding' | 'panel' |
+ *     'patcher'} Happening
  */
 
 /** @typedef {'disc' | 'text' | 'script' | 'publish'} PanelName */

@@ -6,10 +6,10 @@ import { showAround } from './around_card.js';
 import { announce, button, countOf, element, fill, hexOf, term } from './dom.js';
 import { bindEncodings, chosenEncoding, encodingLabel } from './encodings.js';
 import { HitsCard } from './hits_card.js';
-import { filledTo, linesReplacing, placesInScript, userAround } from './hits.js';
+import { filledTo, linesForAll, linesReplacing, placesInScript, userAround } from './hits.js';
 import { jobBar } from './progress.js';
 import { ReplaceCard } from './replace_card.js';
-import { isCancelled, notice, sentence } from './say.js';
+import { isCancelled, messageOf, notice, sentence } from './say.js';
 
 /** @typedef {import('./state.js').App} App */
 /** @typedef {import('./state.js').Image} Image */
@@ -88,7 +88,7 @@ class TextPanel {
                 bytes.length > 24 ? '…' : '', ' · ', ...where);
         } catch (error) {
             this.field.setAttribute('aria-invalid', 'true');
-            return fill(this.hint, element('b', { class: 'bad-ink' }, error instanceof Error ? error.message : String(error)));
+            return fill(this.hint, element('b', { class: 'bad-ink' }, messageOf(error)));
         }
     }
 
@@ -120,7 +120,7 @@ class TextPanel {
         } catch (error) {
             if (number !== this.number) return undefined;
             fill(this.state, isCancelled(error) ? notice('plain', 'Cancelled.', 'The search has not come to its end.')
-                : notice('bad', error instanceof Error ? error.message : String(error)));
+                : notice('bad', messageOf(error)));
         }
         return undefined;
     }
@@ -187,8 +187,8 @@ class TextPanel {
         if (this.found !== found || this.chosen !== index) return;
         const places = placesInScript(app.script.text);
         this.hits.draw(places);
-        const left = found.hits.filter(it => !places.has(`${it.block} ${it.offset}`)).length;
-        const line = places.get(`${hit.block} ${hit.offset}`) || 0;
+        const left = found.hits.filter(it => places.lineAt(it) === 0).length;
+        const line = places.lineAt(hit);
         this.replace.show({ hit, number: index + 1, of: found.count, old: around.user.slice(around.at, around.at + hit.size), left, line });
         this.around.hidden = false;
         showAround(app, this.around, hit, around);
@@ -202,7 +202,7 @@ class TextPanel {
         const count = found.hits.length;
         for (let k = 1; k <= count; k++) {
             const index = (this.chosen + k) % count;
-            if (places.has(`${found.hits[index].block} ${found.hits[index].offset}`)) continue;
+            if (places.lineAt(found.hits[index]) > 0) continue;
             await this.choose(index);
             return;
         }
@@ -241,24 +241,25 @@ class TextPanel {
      * @param {Uint8Array} filling
      */
     async addAll(fresh, filling) {
-        const { app, found } = this;
-        const { image } = app;
+        const [{ app, found }, { image }] = [this, this.app];
         if (found === null || image === null) return;
-        const places = placesInScript(app.script.text);
-        const [lines, left] = [/** @type {string[]} */ ([]), /** @type {string[]} */ ([])];
-        for (const hit of found.hits) {
-            if (places.has(`${hit.block} ${hit.offset}`)) continue;
-            const { user, at } = await userAround(image, hit, 0, 0);
-            const filled = filledTo(fresh, hit.size, filling);
-            if (filled === null) left.push(`block ${hit.block} offset ${hit.offset} has another length`);
-            else await linesReplacing(app.calls, image, hit, filled, user.slice(at, at + hit.size)).then(made => lines.push(...made),
-                error => left.push(sentence(error)));
+        try {
+            const { lines, left } = await app.run((signal, cancel) => {
+                const bar = jobBar('Making the lines', cancel);
+                fill(this.state, element('section', { class: 'card pad stack', 'aria-label': 'Making the lines' }, ...bar.parts));
+                const places = placesInScript(app.script.text);
+                return linesForAll(app.calls, image, found.hits.filter(hit => places.lineAt(hit) === 0),
+                    hit => filledTo(fresh, hit.size, filling), { signal, progress: bar.sectors });
+            });
+            if (app.image !== image || this.found !== found) return;
+            if (lines.length > 0) app.addLines(lines);
+            await this.next();
+            const rest = left.length === 0 ? 'Script and Check say whether they fit.'
+                : `${countOf(left.length, 'hit')} left: ${left.slice(0, 5).join('; ')}${left.length > 5 ? '; …' : '.'}`;
+            fill(this.state, notice(left.length > 0 ? 'warn' : 'good', `${countOf(lines.length, 'line')} added to the script.`, rest));
+        } catch (error) {
+            fill(this.state, notice(isCancelled(error) ? 'plain' : 'bad', 'Nothing was added to the script.', sentence(error)));
         }
-        if (lines.length > 0) app.addLines(lines);
-        await this.next();
-        const rest = left.length === 0 ? 'Script and Check say whether they fit.'
-            : `${countOf(left.length, 'hit')} left: ${left.slice(0, 5).join('; ')}.`;
-        fill(this.state, notice(left.length > 0 ? 'warn' : 'good', `${countOf(lines.length, 'line')} added to the script.`, rest));
     }
 
     async load() {
@@ -284,8 +285,7 @@ class TextPanel {
             app.emit('encoding');
             fill(this.state, notice('good', `${file.name} is loaded.`, 'It is the encoding now, here and where bytes are shown as text.'));
         } catch (error) {
-            fill(this.state, notice('bad', `${file.name} is no table that can be read.`, error instanceof Error ? error.message
-                : String(error)));
+            fill(this.state, notice('bad', `${file.name} is no table that can be read.`, messageOf(error)));
         }
     }
 }

@@ -1,0 +1,36 @@
+// Hits that are replaced: which the script has already, and lines for all of them.
+
+import assert from 'node:assert/strict';
+import { test } from 'node:test';
+import { calls, imageOf, page } from './page.mjs';
+
+const { linesForAll, placesInScript } = await page('hits.js');
+
+const hit = (block, offset, size) => ({ block, offset, size });
+const watch = { signal: { aborted: false }, progress() {} };
+
+test('a hit is in the script if a line writes any byte of it, over a border of blocks too', () => {
+    const places = placesInScript('cdpatch 1\n# set 9 0 41\nset 5 2046 41424344 was 00000000\n fill 7 10 3 20\nset 7 12 4142\nset x 1 41\n');
+    const asked = [[5, 2040, 6], [5, 2040, 7], [6, 0, 1], [6, 2, 4], [7, 8, 2], [7, 8, 3], [7, 11, 9], [7, 14, 2], [9, 0, 1]];
+    assert.deepEqual(asked.map(it => places.lineAt(hit(...it))), [0, 3, 3, 0, 0, 4, 5, 0, 0]);
+});
+
+test('hits that overlap are not replaced both, and what is left is named', async () => {
+    const image = imageOf([Uint8Array.from([7, 7, 7, 0, 7, 7])]);
+    const hits = [hit(0, 0, 2), hit(0, 1, 2), hit(0, 4, 2)];
+    const made = await linesForAll(calls, image, hits, () => Uint8Array.of(1, 2), watch);
+    assert.deepEqual(made.lines, ['set 0 0 0102 was 0707', 'set 0 4 0102 was 0707']);
+    assert.deepEqual(made.left, ['block 0 offset 1 overlaps the hit before it']);
+    const none = await linesForAll(calls, image, hits, () => null, watch);
+    assert.deepEqual([none.lines, none.left.length], [[], 3]);
+});
+
+test('lines for all hits can be cancelled, and their number is told', async () => {
+    const image = imageOf([new Uint8Array(100)]);
+    const told = [];
+    const signal = { aborted: false };
+    const progress = (done, all) => { told.push([done, all]); signal.aborted = done === 1; };
+    const hits = [hit(0, 0, 1), hit(0, 1, 1), hit(0, 2, 1)];
+    await assert.rejects(linesForAll(calls, image, hits, () => Uint8Array.of(1), { signal, progress }), { name: 'JobAborted' });
+    assert.deepEqual(told, [[0, 3], [1, 3]]);
+});

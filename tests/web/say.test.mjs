@@ -1,0 +1,15 @@
+// What the page says of an error.
+
+import assert from 'node:assert/strict';
+import { test } from 'node:test';
+import { page } from './page.mjs';
+
+const { messageOf } = await page('say.js');
+
+test('want of memory is said as that, whichever browser or worker has met it', () => {
+    const texts = ['Array buffer allocation failed', 'Out of memory', 'WebAssembly.Memory.grow(): Maximum memory size exceeded',
+        'failed to grow memory', 'A worker of this page has stopped: Uncaught RangeError: Array buffer allocation failed.'];
+    for (const text of texts) assert.match(messageOf(new RangeError(text)), /not enough memory/, text);
+    assert.equal(messageOf(new Error('block 5 is damaged')), 'block 5 is damaged');
+    assert.equal(messageOf('a text'), 'a text');
+});

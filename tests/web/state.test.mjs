@@ -1,0 +1,32 @@
+// What the page knows: typed bytes and lines of the script, and what Cancel ends.
+
+import assert from 'node:assert/strict';
+import { test } from 'node:test';
+import { page } from './page.mjs';
+
+const { App } = await page('state.js');
+const { Typing } = await page('typing.js');
+
+test('a byte that is typed twice keeps what was there first', () => {
+    const app = new App(null, null, null);
+    const typing = new Typing(app);
+    for (const [offset, byte, before] of [[5, 0x41, 1], [6, 0x42, 2], [5, 0x43, 0x41], [7, 0x44, 3]]) typing.type(9, offset, byte, before);
+    assert.equal(app.script.text, 'cdpatch 1\nset 9 5 434244 was 010203\n');
+    typing.type(9, 100, 0x45, 4);
+    assert.equal(app.script.text, 'cdpatch 1\nset 9 5 434244 was 010203\nset 9 100 45 was 04\n');
+});
+
+test('Cancel ends the job that began last, and then the reading of the image', async () => {
+    const app = new App(null, null, null);
+    assert.equal(app.cancel(), false);
+    app.survey = { over: false };
+    const signals = [];
+    const job = app.run(async signal => {
+        signals.push(signal);
+        assert.equal(app.cancel(), true);
+    });
+    assert.deepEqual([signals[0].aborted, app.reading.signal.aborted], [true, false]);
+    await job;
+    assert.equal(app.cancel(), true);
+    assert.equal(app.reading.signal.aborted, true);
+});
