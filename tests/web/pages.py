@@ -1,7 +1,6 @@
 """What the tests of the page do with it: opening files, pressing buttons, choosing a file to save by a stub, patchers of their own."""
 
 import base64
-import hashlib
 import json
 import unittest
 import zlib
@@ -133,9 +132,9 @@ def applied(image: Path, script: Path, *options: str) -> tuple[int, str, bytes]:
 
 
 def patcher(image: bytes, made: bytes, script: str, **other: Any) -> bytes:
-    """A patcher as the format is described: the page, a line with version, size and SHA-256, and base64 of what is deflated."""
+    """A patcher as the format is described: the page, a line with version, size and SHA-1, and base64 of what is deflated."""
     head = {'title': 'Starlit Detective in English', 'author': 'Team Comet', 'note': 'All menus.\nChapter 1.', 'name': 'Starlit (English).bin',
             'cue': '', 'carry': False, 'base': 0, 'image': {'size': len(image), 'sha1': common.sha1(image)}, 'result': common.sha1(made)}
     packed = zlib.compress(json.dumps({**head, **other}).encode() + b'\n' + script.encode())
-    text = f'cdpatch-data 1 {len(packed)} {hashlib.sha256(packed).hexdigest()}\n{base64.b64encode(packed).decode()}\n'
+    text = f'cdpatch-data 1 {len(packed)} {common.sha1(packed)}\n{base64.b64encode(packed).decode()}\n'
     return common.PAGE.read_bytes() + text.encode()

@@ -4,22 +4,21 @@ import assert from 'node:assert/strict';
 import { createHash } from 'node:crypto';
 import { test } from 'node:test';
 import { deflateSync, inflateSync } from 'node:zlib';
-import { page } from './page.mjs';
+import { calls, page } from './page.mjs';
 
 const { base64Of, comparedWithPage, headFault, patcherText, readPatcherText } = await page('patcher.js');
 const { bytesOfBase64 } = await page('parts.js');
-const { sha256 } = await page('sha256.js');
 
 const data = {
     title: 'Starlit Detective <img src=x onerror=alert(1)>', author: 'Team', note: 'line\n</plaintext>\n日本語', name: 'Starlit (English).bin',
     cue: '', carry: false, base: 0, image: { size: 2352, sha1: '0'.repeat(40) }, result: 'f'.repeat(40), script: 'cdpatch 1\nset 0 0 41\n# \u3042\n',
 };
-const text = await patcherText(data);
+const text = await patcherText(calls, data);
 
 /** The text of data that are packed by another hand. */
 function packed(bytes, more = {}) {
     const deflated = deflateSync(bytes);
-    const sum = more.sum ?? createHash('sha256').update(deflated).digest('hex');
+    const sum = more.sum ?? createHash('sha1').update(deflated).digest('hex');
     return `\ncdpatch-data 1 ${more.size ?? deflated.length} ${sum}\n${deflated.toString('base64')}\n`;
 }
 
@@ -27,56 +26,57 @@ const { script, ...head } = data;
 const plain = Buffer.from(`${JSON.stringify(head)}\n${script}`);
 
 test('what is written is read, and another program reads it as it is described', async () => {
-    assert.deepEqual(await readPatcherText(`\n${text}`), data);
+    assert.deepEqual(await readPatcherText(calls, `\n${text}`), data);
     const [, size, sum, coded] = /^cdpatch-data 1 (\d+) (\w+)\n(.*)\n$/.exec(text);
     const bytes = Buffer.from(coded, 'base64');
     assert.equal(bytes.length, Number(size));
-    assert.equal(createHash('sha256').update(bytes).digest('hex'), sum);
+    assert.equal(createHash('sha1').update(bytes).digest('hex'), sum);
     assert.deepEqual(inflateSync(bytes), plain);
-    assert.deepEqual(await readPatcherText(packed(plain)), data);
+    assert.deepEqual(await readPatcherText(calls, packed(plain)), data);
 });
 
 test('a patcher that came over plain http is read, where a browser has no digest', async () => {
     const known = Object.getOwnPropertyDescriptor(globalThis, 'crypto');
     Object.defineProperty(globalThis, 'crypto', { value: undefined, configurable: true });
     try {
-        assert.deepEqual(await readPatcherText(`\n${await patcherText(data)}`), data);
+        assert.deepEqual(await readPatcherText(calls, `\n${await patcherText(calls, data)}`), data);
     } finally {
         Object.defineProperty(globalThis, 'crypto', known);
     }
 });
 
-test('the SHA-256 is that of others, of any length', () => {
-    for (const size of [...Array.from({ length: 200 }, (_, i) => i), 1 << 20]) {
-        const bytes = Uint8Array.from({ length: size }, (_, i) => i * 89 + size);
-        assert.equal(sha256(bytes), createHash('sha256').update(bytes).digest('hex'), `${size} bytes`);
-    }
+test('the checksum is the SHA-1 of others, also of data that are hashed in pieces', async () => {
+    const noise = createHash('sha1').update('seed').digest('hex');
+    const long = { ...data, script: Array.from({ length: 60000 }, (_, i) => createHash('sha1').update(noise + i).digest('base64')).join('\n') };
+    const [, size, sum, coded] = /^cdpatch-data 1 (\d+) (\w+)\n(.*)\n$/.exec(await patcherText(calls, long));
+    assert.ok(Number(size) > 1 << 20);
+    assert.equal(sum, createHash('sha1').update(Buffer.from(coded, 'base64')).digest('hex'));
 });
 
 test('nothing in the data is a letter of markup', () => {
-    assert.match(text, /^cdpatch-data 1 \d+ [0-9a-f]{64}\n[A-Za-z0-9+/]+={0,2}\n$/);
+    assert.match(text, /^cdpatch-data 1 \d+ [0-9a-f]{40}\n[A-Za-z0-9+/]+={0,2}\n$/);
 });
 
 test('each cut of the data is refused', async () => {
-    for (let end = 0; end < text.length; end++) await assert.rejects(readPatcherText(`\n${text.slice(0, end)}`), `cut at ${end}`);
+    for (let end = 0; end < text.length; end++) await assert.rejects(readPatcherText(calls, `\n${text.slice(0, end)}`), `cut at ${end}`);
 });
 
 test('each changed letter of the data is refused', async () => {
     for (let at = 0; at < text.length; at++) {
         const other = text[at] === '1' ? '2' : '1';
-        await assert.rejects(readPatcherText(`\n${text.slice(0, at)}${other}${text.slice(at + 1)}`), `changed at ${at}`);
+        await assert.rejects(readPatcherText(calls, `\n${text.slice(0, at)}${other}${text.slice(at + 1)}`), `changed at ${at}`);
     }
 });
 
 test('what follows the data, or stands before them, is refused', async () => {
     for (const wrong of [`\n${text}x`, `\n${text}\n`, `${text}`, `\n\n${text}`, `\n${text.replace('\n', '\r\n')}`, `\n ${text}`]) {
-        await assert.rejects(readPatcherText(wrong), { message: /form/ });
+        await assert.rejects(readPatcherText(calls, wrong), { message: /form/ });
     }
 });
 
 test('data that are too long are refused while they are inflated', async () => {
     const bomb = Buffer.concat([Buffer.from(`${JSON.stringify(head)}\n`), Buffer.alloc(69 << 20, 10)]);
-    await assert.rejects(readPatcherText(packed(bomb)), { message: 'the data are too long' });
+    await assert.rejects(readPatcherText(calls, packed(bomb)), { message: 'the data are too long' });
 });
 
 test('data without a right head are refused', async () => {
@@ -84,11 +84,11 @@ test('data without a right head are refused', async () => {
         Buffer.from('no json\n'), Buffer.from('{}\n'), Buffer.from(JSON.stringify(head)), Buffer.from(`[]\n${script}`), Buffer.from('null\n'),
         Buffer.from(`${JSON.stringify({ ...head, more: 1 })}\n`), Buffer.from(`${JSON.stringify({ ...head, title: ['x'] })}\n`),
     ];
-    for (const bytes of wrong) await assert.rejects(readPatcherText(packed(bytes)), { name: 'Error' }, bytes.toString());
-    await assert.rejects(readPatcherText(packed(plain, { size: 5 })), { message: 'the data are cut' });
+    for (const bytes of wrong) await assert.rejects(readPatcherText(calls, packed(bytes)), { name: 'Error' }, bytes.toString());
+    await assert.rejects(readPatcherText(calls, packed(plain, { size: 5 })), { message: 'the data are cut' });
     const notDeflated = Buffer.from('not deflated');
-    const sum = createHash('sha256').update(notDeflated).digest('hex');
-    await assert.rejects(readPatcherText(`\ncdpatch-data 1 12 ${sum}\n${notDeflated.toString('base64')}\n`), { message: /unpacked/ });
+    const sum = createHash('sha1').update(notDeflated).digest('hex');
+    await assert.rejects(readPatcherText(calls, `\ncdpatch-data 1 12 ${sum}\n${notDeflated.toString('base64')}\n`), { message: /unpacked/ });
 });
 
 test('each member of a head has its form', () => {
@@ -105,7 +105,7 @@ test('each member of a head has its form', () => {
 });
 
 test('data with a wrong head are not written', async () => {
-    await assert.rejects(patcherText({ ...data, title: '' }), { message: /title/ });
+    await assert.rejects(patcherText(calls, { ...data, title: '' }), { message: /title/ });
 });
 
 test('base64 is that of others, of any length', () => {
@@ -123,10 +123,10 @@ test('a patcher of this page is the page and data, and any other page is not the
     const bytes = string => new TextEncoder().encode(string);
     const compared = comparedWithPage(bytes(source + text), source);
     assert.equal(compared.same, true);
-    assert.deepEqual(await readPatcherText(compared.text), data);
+    assert.deepEqual(await readPatcherText(calls, compared.text), data);
     assert.deepEqual(comparedWithPage(bytes(source), source), { same: true, text: '\n' });
     const other = source.replace('doctype', 'DOCTYPE') + text;
     assert.equal(comparedWithPage(bytes(other), source).same, false);
-    assert.deepEqual(await readPatcherText(comparedWithPage(bytes(other), source).text), data);
+    assert.deepEqual(await readPatcherText(calls, comparedWithPage(bytes(other), source).text), data);
     assert.equal(comparedWithPage(bytes('<html>'), source), null);
 });

@@ -1,8 +1,10 @@
-// Patchers: the page's own bytes, and data after them. The data are a line with version, size and SHA-256, and base64 of deflated
+// Patchers: the page's own bytes, and data after them. The data are a line with version, size and SHA-1, and base64 of deflated
 // bytes: a line of JSON, and the script.
 
+import { hexOf } from './dom.js';
 import { bytesOfBase64 } from './parts.js';
-import { sha256 } from './sha256.js';
+
+/** @typedef {import('../core/codes.js').Calls} Calls */
 
 /**
  * What a patcher has. `cue` is the text of a cue sheet that names the patched image, or ''; `carry` says how it is applied; `image` is
@@ -13,7 +15,9 @@ import { sha256 } from './sha256.js';
 
 const LARGEST_SCRIPT = 1 << 26;
 const LARGEST_HEAD = 1 << 20;
-const FORM = /^\ncdpatch-data 1 (\d{1,9}) ([0-9a-f]{64})\n([A-Za-z0-9+/]+={0,2})\n$/;
+/** So many bytes are hashed at a time. */
+const HASHED = 1 << 20;
+const FORM = /^\ncdpatch-data 1 (\d{1,9}) ([0-9a-f]{40})\n([A-Za-z0-9+/]+={0,2})\n$/;
 export const DATA_MARK = '\n<plaintext hidden id="data">\n';
 
 /** Why the data of a patcher were not read. */
@@ -100,29 +104,42 @@ export function base64Of(bytes) {
 }
 
 /**
+ * The SHA-1 of bytes.
+ * @param {Calls} calls
+ * @param {Uint8Array} bytes
+ */
+function checksum(calls, bytes) {
+    const state = calls.sha1Begin();
+    for (let at = 0; at < bytes.length; at += HASHED) calls.sha1Add(state, bytes.subarray(at, at + HASHED));
+    return hexOf(calls.sha1End(state)).toLowerCase();
+}
+
+/**
  * What stands after the page's own bytes in a patcher.
+ * @param {Calls} calls
  * @param {PatcherData} data
  */
-export async function patcherText({ script, ...head }) {
+export async function patcherText(calls, { script, ...head }) {
     const fault = headFault(head);
     if (fault) throw new PatcherFault(fault);
     const stream = new Blob([`${JSON.stringify(head)}\n`, script]).stream().pipeThrough(new CompressionStream('deflate'));
     const packed = await streamBytes(stream, LARGEST_SCRIPT + LARGEST_HEAD);
-    return `cdpatch-data 1 ${packed.length} ${sha256(packed)}\n${base64Of(packed)}\n`;
+    return `cdpatch-data 1 ${packed.length} ${checksum(calls, packed)}\n${base64Of(packed)}\n`;
 }
 
 /**
  * The data of a patcher, from the text after the page's last tag. Throws PatcherFault.
+ * @param {Calls} calls
  * @param {string} text
  * @returns {Promise<PatcherData>}
  */
-export async function readPatcherText(text) {
+export async function readPatcherText(calls, text) {
     const found = FORM.exec(text);
     if (!found) throw new PatcherFault('the data do not have the form that they should: the file is cut, or was changed');
     if (found[3].length % 4 !== 0) throw new PatcherFault('the data are cut');
     const packed = bytesOfBase64(found[3]);
     if (packed.length !== Number(found[1])) throw new PatcherFault('the data are cut');
-    if (sha256(packed) !== found[2]) throw new PatcherFault('the data were changed on their way: their checksum is another one');
+    if (checksum(calls, packed) !== found[2]) throw new PatcherFault('the data were changed on their way: their checksum is another one');
     const inflating = new Blob([packed]).stream().pipeThrough(new DecompressionStream('deflate'));
     const bytes = await streamBytes(inflating, LARGEST_SCRIPT + LARGEST_HEAD).catch(error => {
         throw error instanceof PatcherFault ? error : new PatcherFault('the data cannot be unpacked');

@@ -17,7 +17,7 @@ export async function mountPatchers(app) {
     const text = byId('data').textContent || '';
     if (text.trim() === '') return;
     try {
-        showPlayer(app, await readPatcherText(text), { note: null, back: null });
+        showPlayer(app, await readPatcherText(app.calls, text), { note: null, back: null });
     } catch (error) {
         showNotice('bad', 'This patcher cannot be used.', `${sentence(error)}. Get it again from where its author offers it.`);
     }
@@ -38,7 +38,7 @@ async function takePatcher(app, file) {
             compared.same ? 'Byte for byte.' : 'Another version, or one that was changed. It holds no patch.');
         return true;
     }
-    const data = await readPatcherText(compared.text).catch(error => {
+    const data = await readPatcherText(app.calls, compared.text).catch(error => {
         throw new PatcherFault(`${file.name} cannot be used. ${sentence(error)}.`);
     });
     const note = compared.same

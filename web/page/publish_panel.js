@@ -215,7 +215,7 @@ class PublishPanel {
     /** @param {PatcherData} data */
     async saveAs(data) {
         const name = `${data.title.replace(/[\p{Cc}/\\:*?"<>|]+/gu, ' ').trim() || 'patcher'}.html`;
-        download(new Blob([pageSource(), await patcherText(data)], { type: 'text/html' }), name);
+        download(new Blob([pageSource(), await patcherText(this.app.calls, data)], { type: 'text/html' }), name);
         this.edited = false;
         this.say(notice('good', `${name} is saved.`, 'Players open it with a double click, and drop their image there.'));
     }
