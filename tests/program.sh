@@ -254,6 +254,11 @@ refused apply image script out --base -1
 refused apply image script out --base 0 --base 0
 refused list image --carry
 refused audit image --carry
+refused check image script --carry --carry
+refused check image script --carry=true
+refused list image --base x
+refused Apply image script out
+refused help
 run list $'\xff'
 judge 'a word that is no text' ended 2 "$no_text\n"
 run list image --base 449849

@@ -1,9 +1,8 @@
-//! Codes, sectors, changes, texts of scripts, and their patches.
+//! Worked values. What the calls mean beside these their contracts say, and the worked cases of `tests/cases` show it.
 
 mod changes;
 mod codes;
 mod examples;
 mod laws;
-mod patches;
 mod scripts;
 mod sectors;

@@ -1,12 +1,9 @@
-//! Whole calls, at concrete sources and sinks.
+//! The program's calls, at concrete sources and sinks. The worked cases of `tests/cases` show what images and scripts come to.
 
-mod calls;
 mod command_line;
+mod commands;
 mod examples;
 mod hosts;
-mod in_memory;
 mod messages;
-mod patching;
-mod reports;
 mod script;
 mod streams;

@@ -1,61 +1,129 @@
-//! Worked changes, and changed sectors against encoded ones.
+//! Worked changes: the eight of a byte, and of user data.
 
-ghost use Rattle.std.specs.Prelude.{◌+◌, ◌≤◌, length};
+ghost use Rattle.std.specs.Prelude.{◌+◌, ◌<◌, ◌≤◌, length};
 
-mod carrying;
-mod header;
-mod parity;
-mod user_data;
-
-use cd_delta::{carry_header, carry_user, change_header, change_user};
-use cd_sector::{DefectReport, SECTOR_SIZE, Sector, SectorKind, defect, kind};
-use cd_test_images::written_in;
+use cd_delta::{Change, change_byte, change_user, parity_changes};
+use cd_sector::{DefectReport, SECTOR_SIZE, Sector, SectorKind, USER_SIZE, defect, encode, kind};
 use std::process::Abort;
 
-/// The address of block 0.
-const ADDRESS: [u8; 3] = [0x00, 0x02, 0x00];
-
-/// The place of the first byte of a sector that is not the one that is due.
-fn wrong_at(came: &Sector, due: &Sector) -> Option<usize> {
-    written_in(came.bytes(), SECTOR_SIZE, due.bytes()).wrong_at
+/// The changes by an amount at a place, in order: their places, and their amounts.
+#[derive(Clone, Copy)]
+struct Worked {
+    place: u16,
+    d: u8,
+    places: [u16; 8],
+    amounts: [u8; 8],
 }
 
-/// Asserts that a sector is the one that is due, and prints the first byte that is not.
-fn expect_sector(rt: &impl Abort, came: &Sector, due: &Sector, name: &str) {
-    assert_eq!(rt; wrong_at(came, due), None, "{name}");
+/// At the last place.
+const LAST: Worked = Worked {
+    place: 2075,
+    d: 0x01,
+    places: [2161, 2247, 2263, 2315, 2265, 2317, 2267, 2319],
+    amounts: [0x03, 0x02, 0x03, 0x02, 0x05, 0x06, 0x06, 0x04],
+};
+
+const WORKED: &[Worked] = &[
+    Worked {
+        place: 2062,
+        d: 0x01,
+        places: [2148, 2234, 2274, 2326, 2276, 2328, 2278, 2330],
+        amounts: [0x03, 0x02, 0xFF, 0xFE, 0x1C, 0x1F, 0xE3, 0xE1],
+    },
+    Worked {
+        place: 2063,
+        d: 0x01,
+        places: [2149, 2235, 2275, 2327, 2277, 2329, 2279, 2331],
+        amounts: [0x03, 0x02, 0xFF, 0xFE, 0x1C, 0x1F, 0xE3, 0xE1],
+    },
+    Worked {
+        place: 12,
+        d: 0x01,
+        places: [2076, 2162, 2248, 2300, 2296, 2348, 2298, 2350],
+        amounts: [0xF5, 0xF4, 0xAE, 0xAF, 0x3F, 0xCA, 0x91, 0x65],
+    },
+    LAST,
+    Worked {
+        d: 0x00,
+        amounts: [0x00; 8],
+        ..LAST
+    },
+];
+
+/// Compares the eight changes with those that are worked out.
+fn expect_changes(rt: &impl Abort, worked: &Worked)
+    requires from { 12 ≤ worked.now.place }
+    requires below { worked.now.place < 2076 }
+{
+    let came = parity_changes(worked.place, worked.d);
+    let mut due = came;
+    let worked_out = worked.places.iter().zip(&worked.amounts);
+    for (change, (place, d)) in due.iter_mut().zip(worked_out) {
+        *change = Change {
+            place: *place,
+            d: *d,
+        };
+    }
+    assert_eq!(rt; came, due, "{} by {}", worked.place, worked.d);
 }
 
-/// Asserts the first bytes and the damage of a sector of which a byte was damaged.
-fn expect_front(rt: &impl Abort, s: &Sector, front: &[u8], damage: DefectReport, place: usize) {
-    let wrong_at = written_in(s.bytes(), front.len(), front).wrong_at;
-    assert_eq!(rt; wrong_at, None, "byte {place}");
-    assert_eq!(rt; defect(s), damage, "byte {place}");
+#[test]
+fn changes_of_a_byte(rt: HostRuntime) {
+    for worked in WORKED {
+        assert!(rt; 12 <= worked.place && worked.place < 2076);
+        expect_changes(&rt, worked);
+    }
+}
+
+/// Adds an amount to a byte.
+fn add(sector: &mut Sector, place: usize, d: u8) {
+    if place < SECTOR_SIZE {
+        sector.put(place, sector.byte(place) ^ d);
+    }
+}
+
+#[test]
+fn a_byte_and_its_eight(rt: HostRuntime) {
+    let mut due = Sector::from_bytes([0xFF; SECTOR_SIZE]);
+    let mut sector = due;
+    change_byte(&mut sector, 2075, 0xFE);
+    add(&mut due, 2075, 0x01);
+    for (place, d) in LAST.places.iter().zip(&LAST.amounts) {
+        add(&mut due, usize::from(*place), *d);
+    }
+    assert!(rt; sector == due);
 }
 
 /// Changes the user data of a sector that is of Mode 1.
-fn change(rt: &impl Abort, s: &mut Sector, offset: u16, bytes: &[u8])
+fn change(rt: &impl Abort, sector: &mut Sector, offset: u16, bytes: &[u8])
     requires { offset + length bytes.now ≤ 2048 }
 {
-    assert!(rt; kind(s) == SectorKind::Mode1);
-    change_user(s, offset, bytes);
+    assert!(rt; kind(sector) == SectorKind::Mode1);
+    change_user(sector, offset, bytes);
 }
 
-/// Changes the address of a sector that is of Mode 1.
-fn change_to(rt: &impl Abort, s: &mut Sector, bcd: [u8; 3]) {
-    assert!(rt; kind(s) == SectorKind::Mode1);
-    change_header(s, bcd);
+const PARITY_ALONE: DefectReport = DefectReport {
+    zeros: false,
+    edc: false,
+    p: 1,
+    q: 1,
+};
+
+#[test]
+fn only_the_edc_of_a_damaged_sector(rt: HostRuntime) {
+    let sound = encode([0x00, 0x02, 0x00], &[0x00; USER_SIZE]);
+    let mut sector = sound;
+    add(&mut sector, 2064, 0x01);
+    change(&rt, &mut sector, 0, &[]);
+    assert!(rt; sector.bytes()[..2068] == sound.bytes()[..2068]);
+    assert_eq!(rt; defect(&sector), PARITY_ALONE);
 }
 
-/// Carries a sector that is of Mode 1 to other user data.
-fn carry(rt: &impl Abort, s: &mut Sector, offset: u16, bytes: &[u8])
-    requires { offset + length bytes.now ≤ 2048 }
-{
-    assert!(rt; kind(s) == SectorKind::Mode1);
-    carry_user(s, offset, bytes);
-}
-
-/// Carries a sector that is of Mode 1 to another address.
-fn carry_to(rt: &impl Abort, s: &mut Sector, bcd: [u8; 3]) {
-    assert!(rt; kind(s) == SectorKind::Mode1);
-    carry_header(s, bcd);
+#[test]
+fn the_last_byte_of_the_user_data(rt: HostRuntime) {
+    let mut user = [0x00; USER_SIZE];
+    let mut sector = encode([0x00, 0x02, 0x00], &user);
+    change(&rt, &mut sector, 2047, &[0x41]);
+    user[2047] = 0x41;
+    assert!(rt; sector == encode([0x00, 0x02, 0x00], &user));
 }

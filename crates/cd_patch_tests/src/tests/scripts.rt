@@ -1,88 +1,103 @@
-//! What texts say, and their faults.
+//! Worked texts of scripts: the lines of their patches in order, their faults, and the texts of faults.
 
-mod accepted;
-mod by_line;
-mod faults;
-mod large;
-
-use cd_script::{MAX_PATCHES, MAX_TEXT, ScriptFault, parse};
+use cd_script::ScriptFault::{
+    Address, Head, Hex, Length, NoMemory, Number, Offset, TooMany, Verb, Words,
+};
+use cd_script::{MAX_PATCHES, MAX_TEXT, Patch, ScriptFault, parse};
 use std::alloc::{AllocError, Global};
 use std::process::Abort;
 
-/// Texts, or lines, that have one fault, or none of them has any.
-#[derive(Clone, Copy)]
-struct Alike<'a> {
-    fault: Option<ScriptFault>,
-    texts: &'a [&'a str],
+/// A text, and the lines of its patches in their order, or its fault.
+type Read = (&'static str, Result<&'static [u32], ScriptFault>);
+
+const TEXTS: &[Read] = &[
+    ("cdpatch 1\n", Ok(&[])),
+    (
+        "cdpatch 1\nset 5 0 41\nset 4 2047 4242\nset 5 1 43\n",
+        Ok(&[3, 2, 4]),
+    ),
+    ("cdpatch 1\nset 0 9 41\nset 0 3 42\n", Ok(&[2, 3])), // the offset plays no part
+    ("cdpatch 1\nrebuild 0\n", Ok(&[2])),
+    ("cdpatch 01", Err(Head(1))),
+    ("cdpatch 1 x", Err(Head(1))),
+    ("# a\n\n", Err(Head(3))),
+    ("cdpatch 1\nput 0 0 41", Err(Verb(2))),
+    ("cdpatch 1\ncdpatch 1", Err(Verb(2))),
+    ("cdpatch 1\nset 0 0", Err(Words(2))),
+    ("cdpatch 1\nrebuild 0 0", Err(Words(2))),
+    ("cdpatch 1\nset 0 0 41 was", Err(Words(2))),
+    ("cdpatch 1\nset x 9999 4", Err(Number(2))), // the first word decides
+    ("cdpatch 1\nset 1234567890 0 41", Err(Number(2))),
+    ("cdpatch 1\nset 0 2048 4", Err(Offset(2))), // the second word before the third
+    ("cdpatch 1\nset 0 0 4g", Err(Hex(2))),
+    ("cdpatch 1\nfill 0 0 4097 FF", Err(Length(2))),
+    ("cdpatch 1\nfill 0 0 1 FFFF", Err(Length(2))),
+    ("cdpatch 1\nfill 0 0 1 F", Err(Hex(2))),
+];
+
+/// Whether patches are of these lines, in this order.
+fn are_of(patches: &[Patch], lines: &[u32]) -> bool {
+    let each = |(patch, line): (&Patch, &u32)| patch.line == *line;
+    patches.len() == lines.len() && patches.iter().zip(lines).all(each)
 }
 
-/// The most patches of a script.
-const MOST: u32 = MAX_PATCHES as u32;
-
-/// The line after the head line and as many patches, a line each.
-const BEHIND_MOST: u32 = MOST + 2;
-
-/// Asserts the fault of a text, which has none if it is a script.
-fn expect_fault(
-    rt: &impl Abort,
-    alloc: Global,
-    text: &[u8],
-    fault: Option<ScriptFault>,
-    name: &str,
-) {
+fn expect_read(rt: &impl Abort, alloc: Global, row: &Read) {
+    let (text, due) = *row;
     assert!(rt; text.len() <= MAX_TEXT);
-    assert_eq!(rt; parse(alloc, text).err(), fault, "{name}");
+    let read = parse(alloc, text.as_bytes());
+    let is_due = match (&read, due) {
+        (Ok(script), Ok(lines)) => are_of(script.patches(), lines),
+        (Err(came), Err(due)) => *came == due,
+        _ => false,
+    };
+    assert!(rt; is_due, "{text}");
 }
 
-/// Asserts the fault of each text.
-fn expect_alike(rt: &impl Abort, alloc: Global, alike: &Alike) {
-    for text in alike.texts {
-        expect_fault(rt, alloc, text.as_bytes(), alike.fault, text);
+#[test]
+fn texts(rt: HostRuntime) {
+    for row in TEXTS {
+        expect_read(&rt, rt.alloc(), row);
     }
 }
 
-/// The same of all.
-fn expect_faults(rt: &impl Abort, alloc: Global, all: &[Alike]) {
-    for alike in all {
-        expect_alike(rt, alloc, alike);
-    }
-}
+/// What comes after as many patches as there may be, and the number of all, or the fault.
+const MANY: &[(&str, Result<usize, ScriptFault>)] = &[
+    ("", Ok(65_535)),
+    ("set 0 0 41\n", Err(TooMany(65_537))),
+    ("set 0 0 4", Err(Hex(65_537))),
+];
 
-/// Asserts the fault of a script of a head line and one line more.
-fn expect_fault_after(
-    rt: &impl Abort,
-    alloc: Global,
-    head: &str,
-    line: &str,
-    fault: Option<ScriptFault>,
-) -> Result<(), AllocError> {
-    let text = format!(in alloc; "{head}\n{line}\n")?;
-    expect_fault(rt, alloc, text.as_bytes(), fault, &text);
-    Ok(())
-}
-
-/// The same of each line.
-fn expect_alike_after(
-    rt: &impl Abort,
-    alloc: Global,
-    head: &str,
-    alike: &Alike,
-) -> Result<(), AllocError> {
-    for line in alike.texts {
-        expect_fault_after(rt, alloc, head, line, alike.fault)?;
+#[test]
+fn as_many_patches_as_there_may_be(rt: HostRuntime) -> Result<(), AllocError> {
+    let patches = "set 0 0 41\n".repeat(rt.alloc(), MAX_PATCHES)?;
+    for (rest, due) in MANY {
+        let text = format!(in rt.alloc(); "cdpatch 1\n{patches}{rest}")?;
+        assert!(rt; text.len() <= MAX_TEXT);
+        let read = parse(rt.alloc(), text.as_bytes());
+        assert_eq!(rt; read.map(|script| script.patches().len()), *due, "{rest}");
     }
     Ok(())
 }
 
-/// The same of all.
-fn expect_faults_after(
-    rt: &impl Abort,
-    alloc: Global,
-    head: &str,
-    all: &[Alike],
-) -> Result<(), AllocError> {
-    for alike in all {
-        expect_alike_after(rt, alloc, head, alike)?;
+/// A fault, and its text.
+const FAULTS: &[(ScriptFault, &str)] = &[
+    (Head(7), "no cdpatch 1 line"),
+    (Verb(7), "unknown verb"),
+    (Words(7), "wrong number of words"),
+    (Number(7), "bad number"),
+    (Hex(7), "bad hex"),
+    (Length(7), "bad length"),
+    (Offset(7), "offset over 2047"),
+    (TooMany(7), "more than 65535 patches"),
+    (NoMemory, "no memory"),
+    (Address(7), "bad address"),
+];
+
+#[test]
+fn texts_of_faults(rt: HostRuntime) -> Result<(), AllocError> {
+    for (fault, text) in FAULTS {
+        let came = format!(in rt.alloc(); "{fault}")?;
+        assert_eq!(rt; came.as_str(), *text);
     }
     Ok(())
 }

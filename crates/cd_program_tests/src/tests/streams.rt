@@ -1,11 +1,10 @@
 //! Listings and audits of readers of std, and to writers of std, that fail.
 
-use super::calls::list_of;
 use super::messages::READ_FAILED;
-use cd_image::{FailAfter, FromRead, ToWrite, ZeroSource};
+use cd_image::{FailAfter, FromRead, SliceSink, ToWrite, ZeroSource};
 use cd_program::{run_audit, run_list};
-use cd_test_images::{Answer, NO_LIMIT, Written};
 use std::io::{self, ErrorKind, Read, Write};
+use std::process::Abort;
 
 /// A writer that takes all, and cannot pass it on, as on a full disk.
 #[derive(Drop)]
@@ -48,20 +47,19 @@ impl Read for Nothing {
     }
 }
 
+/// A listing of such a reader has this status and this text.
+fn expect_listed(rt: &impl Abort, fails: bool, status: u8, text: &str) {
+    let mut space = [0; 64];
+    let mut out = SliceSink::new(&mut space);
+    let came = run_list(&mut FromRead::new(Nothing { fails }), 0, &mut out);
+    assert!(rt;
+        came == status && out.written() == text.as_bytes(),
+        "{text}"
+    );
+}
+
 #[test]
 fn a_failed_read_and_an_end(rt: HostRuntime) {
-    let mut failing = FromRead::new(Nothing { fails: true });
-    let line = READ_FAILED;
-    let failed = list_of(&mut failing, &NO_LIMIT, line);
-    assert_eq!(rt;
-        (failed.answer, failed.text),
-        (Answer::Status(2), Written::right(line.len()))
-    );
-    let mut ended = FromRead::new(Nothing { fails: false });
-    let text = "sectors 0 tail 0\n";
-    let listed = list_of(&mut ended, &NO_LIMIT, text);
-    assert_eq!(rt;
-        (listed.answer, listed.text),
-        (Answer::Status(0), Written::right(text.len()))
-    );
+    expect_listed(&rt, true, 2, READ_FAILED);
+    expect_listed(&rt, false, 0, "sectors 0 tail 0\n");
 }
