@@ -1,8 +1,8 @@
-//! Tests of cd_image (`apply`, `check`), cd_report (`list`, `audit`) and cd_read, on whole images, and of cd_stream (`streams`).
+//! Tests of cd_image (`apply`, `check`), cd_report (`list`, `audit`) and cd_read on whole images, and of cd_stream (`streams`).
 //!
-//! Rows that are applied: `applied`, `addresses`, `many_patches`, `noise`; refused: `refused`, `cut_images`; with damage carried:
-//! `carried`. Failures at each byte: `failing_patches`, `order`, `windows`, `failing_listings`, `writers`. Reports: `listings`,
-//! `audits`. The largest images and those with no end: `bounds`, `long_images`, `endless`; readers that go on after their end: `resumed`.
+//! `patches`, `noise` and `reports` have a row for each rule; whatever else there is to know of an image and a script stands in the
+//! worked cases (`tests/cases`). Failures at each byte: `failing`, `reports`. The largest images, and one with no end: `large`;
+//! readers that go on after their end: `resumed`. The examples of the rustdoc: `examples`.
 #![tactic(auto)]
 
 #[cfg(test)]

@@ -3,25 +3,9 @@
 use cd_sector::{Sector, address_of, encode, sum_of};
 use std::alloc::{AllocError, Global};
 
-/// User data that hangs on a number, no two bytes in a row alike.
-pub fn mixed_user(number: u8) -> [u8; 2048] {
-    let mut user = [0; 2048];
-    let mut byte = number;
-    for place in user.iter_mut() {
-        byte = byte.wrapping_mul(77).wrapping_add(29) ^ (byte >> 5);
-        *place = byte;
-    }
-    user
-}
-
 /// The consistent sector of a block with this user data.
 pub fn encoded_at(block: u32, user: &[u8; 2048]) -> Sector {
     encode(address_of(block).unwrap_or([0, 0, 0]), user)
-}
-
-/// The consistent sector of a block, its user data mixed from the block's number.
-pub fn mixed_at(block: u8) -> Sector {
-    encoded_at(u32::from(block), &mixed_user(block))
 }
 
 /// The sector that a sector's header and user data are encoded to.

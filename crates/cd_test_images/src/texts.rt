@@ -1,4 +1,4 @@
-//! Texts, and memory that holds them.
+//! Texts.
 
 use std::alloc::{AllocError, Global};
 
@@ -17,18 +17,4 @@ pub fn repeated(
     }
     all.push_str(end)?;
     Ok(all)
-}
-
-/// Whether the memory begins with a text, and holds `00` after it.
-pub fn is_text(space: &[u8], text: &str) -> bool {
-    is_front(space, text, text.len())
-}
-
-/// Whether the memory begins with a number of bytes of a text, and holds `00` after them.
-pub fn is_front(space: &[u8], text: &str, count: usize) -> bool {
-    space.get(..count) == text.as_bytes().get(..count) && space.get(count..).is_some_and(is_blank)
-}
-
-fn is_blank(space: &[u8]) -> bool {
-    space.iter().all(|byte| *byte == 0)
 }

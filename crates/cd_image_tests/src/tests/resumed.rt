@@ -1,135 +1,88 @@
 //! Readers of std that give bytes again after they have answered 0. The first 0 is the end: no call reads on, which no contract
 //! says, since none knows which bytes are still to come.
 
-use super::calls::{audit_of, expect_reported, list_of};
-use super::long_images::{expect_applied, expect_checked};
-use cd_image::{AuditTally, FromRead, ListTally, Source, Tally, fill_buffer};
-use cd_test_images::{Answer, Reported, Resuming, Written, script_of};
+use super::calls::{
+    Answer, NO_LIMIT, Report, check_of, expect_reported, patched, report_of, report_with,
+};
+use cd_image::{AuditTally, FromRead, ListTally, Sink, Source, Tally, ToWrite, apply, fill_buffer};
+use cd_test_images::{Resuming, script_of};
+use std::alloc::AllocError;
+use std::io;
 use std::process::Abort;
 use std::test::Fail;
 
-/// An image that ends after so many bytes, for the first time.
+/// How many bytes there are before the first end, the sectors and the tail that they are, and the lines of a listing before its
+/// last.
 #[derive(Clone, Copy)]
-struct Ended {
-    bytes: usize,
-    sectors: u32,
-    tail: u16,
-    listing: &'static str,
-    audit: &'static str,
-}
+struct Ended(usize, u32, u16, &'static str);
 
 /// At a sector's border, within a sector, after a first byte, and before one.
 const ENDED: &[Ended] = &[
-    Ended {
-        bytes: 2 * 2352,
-        sectors: 2,
-        tail: 0,
-        listing: "0-1 nosync\nsectors 2 tail 0\n",
-        audit: "sectors 2 mode1 0 damaged 0 tail 0\n",
-    },
-    Ended {
-        bytes: 2352 + 3,
-        sectors: 1,
-        tail: 3,
-        listing: "0-0 nosync\nsectors 1 tail 3\n",
-        audit: "sectors 1 mode1 0 damaged 0 tail 3\n",
-    },
-    Ended {
-        bytes: 1,
-        sectors: 0,
-        tail: 1,
-        listing: "sectors 0 tail 1\n",
-        audit: "sectors 0 mode1 0 damaged 0 tail 1\n",
-    },
-    Ended {
-        bytes: 0,
-        sectors: 0,
-        tail: 0,
-        listing: "sectors 0 tail 0\n",
-        audit: "sectors 0 mode1 0 damaged 0 tail 0\n",
-    },
+    Ended(4704, 2, 0, "0-1 nosync\n"),
+    Ended(2355, 1, 3, "0-0 nosync\n"),
+    Ended(1, 0, 1, ""),
+    Ended(0, 0, 0, ""),
 ];
 
-/// A report with this answer and the whole of a text.
-fn whole(answer: Answer, text: &str) -> Reported {
-    Reported {
-        answer,
-        finished: true,
-        text: Written::right(text.len()),
-    }
+/// A report on such an image.
+fn expect_report(rt: &impl Abort, call: Report, bytes: usize, answer: Answer, text: &str) {
+    let mut image = FromRead::new(Resuming::new(bytes));
+    let came = report_of(call, &mut image, 0, NO_LIMIT, text);
+    expect_reported(rt, &came, &report_with(answer, text.len()), bytes, text);
 }
 
 #[test]
-fn listings(rt: HostRuntime) {
-    for ended in ENDED {
-        let tally = ListTally {
-            sectors: ended.sectors,
-            tail: ended.tail,
-        };
-        let listed = list_of(
-            &mut FromRead::new(Resuming::new(ended.bytes)),
-            ended.listing,
-        );
-        let due = whole(Answer::Listed(tally), ended.listing);
-        expect_reported(&rt, &listed, &due, ended.bytes, ended.listing);
-    }
-}
-
-#[test]
-fn audits(rt: HostRuntime) {
-    for ended in ENDED {
+fn reports(rt: HostRuntime) -> Result<(), AllocError> {
+    for Ended(bytes, sectors, tail, runs) in ENDED {
+        let (sectors, tail) = (*sectors, *tail);
+        let text = format!(in rt.alloc(); "{runs}sectors {sectors} tail {tail}\n")?;
+        let tally = ListTally { sectors, tail };
+        expect_report(&rt, Report::List, *bytes, Answer::Listed(tally), &text);
+        let text = format!(in rt.alloc(); "sectors {sectors} mode1 0 damaged 0 tail {tail}\n")?;
         let tally = AuditTally {
-            sectors: ended.sectors,
+            sectors,
             mode1: 0,
             damaged: 0,
             findings: 0,
-            tail: ended.tail,
+            tail,
         };
-        let audited = audit_of(&mut FromRead::new(Resuming::new(ended.bytes)), ended.audit);
-        let due = whole(Answer::Audited(tally), ended.audit);
-        expect_reported(&rt, &audited, &due, ended.bytes, ended.audit);
-    }
-}
-
-/// The block is there in none of these images.
-const SCRIPT: &str = "cdpatch 1\nset 7 0 41\n";
-
-const LOG: &str = "line 2: refused: no block 7\napplied 0 refused 1\n";
-
-/// What the script answers on such an image.
-fn refused(ended: &Ended) -> Answer {
-    Answer::Patched(Tally {
-        applied: 0,
-        refused: 1,
-        sectors: ended.sectors,
-        tail: ended.tail,
-    })
-}
-
-#[test]
-fn patches(rt: HostRuntime) -> Result<(), Fail> {
-    let script = script_of(rt.alloc(), SCRIPT)?;
-    for ended in ENDED {
-        let mut image = FromRead::new(Resuming::new(ended.bytes));
-        expect_applied(&rt, &mut image, &script, 0, refused(ended), LOG);
-        let mut image = FromRead::new(Resuming::new(ended.bytes));
-        expect_checked(&rt, &mut image, &script, 0, refused(ended), LOG);
+        expect_report(&rt, Report::Audit, *bytes, Answer::Audited(tally), &text);
     }
     Ok(())
 }
 
-/// A buffer gets so many bytes, and the others stay as they are.
-fn expect_filled(rt: &impl Abort, count: usize) {
-    let mut into = [7; 8];
-    let mut source = FromRead::new(Resuming::new(count));
-    let answer = fill_buffer(&mut source, &mut into);
-    assert_eq!(rt; (answer, source.failures()), (Ok(count), 0));
-    assert!(rt; into.iter().skip(count).all(|byte| *byte == 7), "{count}");
+const LOG: &str = "line 2: refused: no block 7\napplied 0 refused 1\n";
+
+#[test]
+fn patches(rt: HostRuntime) -> Result<(), Fail> {
+    let script = script_of(rt.alloc(), "cdpatch 1\nset 7 0 41\n")?;
+    for Ended(bytes, sectors, tail, _) in ENDED {
+        let tally = Tally {
+            applied: 0,
+            refused: 1,
+            sectors: *sectors,
+            tail: *tail,
+        };
+        let mut image = FromRead::new(Resuming::new(*bytes));
+        let came = check_of(&mut image, &script, LOG);
+        let due = report_with(Answer::Patched(tally), LOG.len());
+        expect_reported(&rt, &came, &due, *bytes, LOG);
+        let mut image = FromRead::new(Resuming::new(*bytes));
+        let (mut out, mut log) = (ToWrite::new(io::sink()), ToWrite::new(io::sink()));
+        let came = patched(apply(&mut image, &script, 0, false, &mut out, &mut log));
+        assert_eq!(rt; (came, out.finished()), (due.answer, true), "{bytes}");
+    }
+    Ok(())
 }
 
+/// The others of a buffer stay as they are.
 #[test]
 fn buffers(rt: HostRuntime) {
     for count in [0, 1, 7] {
-        expect_filled(&rt, count);
+        let mut into = [7; 8];
+        let mut source = FromRead::new(Resuming::new(count));
+        let answer = fill_buffer(&mut source, &mut into);
+        assert_eq!(rt; (answer, source.failures()), (Ok(count), 0));
+        assert!(rt; into.iter().skip(count).all(|byte| *byte == 7), "{count}");
     }
 }

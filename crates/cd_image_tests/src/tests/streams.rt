@@ -1,8 +1,6 @@
 //! Sources and sinks at concrete types.
 
 mod buffering;
-mod call_counts;
-mod calls;
-mod errors;
 mod forms;
-mod std_streams;
+mod standard;
+mod steps;

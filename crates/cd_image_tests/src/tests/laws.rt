@@ -1,0 +1,16 @@
+//! The laws, which are contracts of functions that do nothing.
+
+use cd_image::{
+    audit_counts_lines, images_are_cut, patched_carries, patched_exists, patched_is_determined,
+    runs_spell_kinds,
+};
+
+#[test]
+fn are_called(_rt: HostRuntime) {
+    audit_counts_lines();
+    images_are_cut();
+    runs_spell_kinds();
+    patched_carries();
+    patched_is_determined();
+    patched_exists();
+}

@@ -1,0 +1,165 @@
+//! Listings and audits of whole images, and of images and sinks that fail at each byte.
+
+use super::calls::{
+    ALL, Answer, Limits, Report, Reported, by_parts, expect_reported, passing, report_within,
+};
+use super::cases::PARTS;
+use cd_image::{Fault, MAX_BASE};
+use cd_test_images::Sample::{self, Blank, Damaged, Mode, Zeros};
+use cd_test_images::{Written, cut_image, flipped, image_of, sector_of};
+use std::alloc::{AllocError, Global};
+use std::process::Abort;
+
+/// From which block on an image is reported on, the report, and how much of it is out once so much of the image is read, until
+/// all is.
+#[derive(Clone, Copy)]
+struct Due<'a>(u32, &'a str, &'a [(usize, usize)]);
+
+/// A report on an image.
+#[derive(Clone, Copy)]
+struct Case<'a> {
+    call: Report,
+    image: &'a [u8],
+    due: Due<'a>,
+}
+
+impl Case<'_> {
+    /// How many bytes of the report are out after a number of bytes of the image.
+    fn sent(&self, read: usize) -> usize {
+        let Due(_, text, begun) = self.due;
+        if self.image.len() < read {
+            return text.len();
+        }
+        let last = begun.iter().filter(|(least, _)| *least <= read).last();
+        last.map_or(0, |(_, sent)| *sent)
+    }
+
+    /// The report ends by this fault, or without one, after a number of bytes.
+    fn expect(&self, rt: &impl Abort, limits: &Limits, fault: Option<Fault>, sent: usize) {
+        let Due(base, text, _) = self.due;
+        assert!(rt; base <= MAX_BASE);
+        let came = report_within(self.call, self.image, base, limits, text);
+        let due = Reported {
+            answer: fault.map_or(came.answer, Answer::Failed),
+            finished: fault.is_none(),
+            text: Written::right(sent),
+        };
+        expect_reported(rt, &came, &due, sent, text);
+    }
+
+    /// By as many bytes a call as there are, and by few; then each byte of the image in turn is the first that cannot be read, and
+    /// each of the report the first that cannot be written.
+    fn expect_each(&self, rt: &impl Abort) {
+        let Due(_, text, _) = self.due;
+        let (size, length) = (self.image.len(), text.len());
+        for most in PARTS {
+            self.expect(rt, &by_parts(*most, *most, *most), None, length);
+        }
+        for count in 0..size.saturating_add(2) {
+            let fault = (count <= size).then_some(Fault::Read);
+            self.expect(
+                rt,
+                &passing(count as u64, ALL, ALL),
+                fault,
+                self.sent(count),
+            );
+        }
+        for count in 0..length.saturating_add(2) {
+            let fault = (count <= length).then_some(Fault::Write);
+            self.expect(
+                rt,
+                &passing(ALL, count as u64, ALL),
+                fault,
+                count.min(length),
+            );
+        }
+    }
+}
+
+fn reports_as(rt: &impl Abort, call: Report, image: &[u8], due: Due) {
+    let case = Case { call, image, due };
+    case.expect_each(rt);
+}
+
+/// The listing of an image.
+fn lists_as(rt: &impl Abort, image: &[u8], due: Due) {
+    reports_as(rt, Report::List, image, due);
+}
+
+/// A sector from block 0 on, and its audit.
+pub fn audits_as(rt: &impl Abort, image: &[u8], text: &str) {
+    let case = Case {
+        call: Report::Audit,
+        image,
+        due: Due(0, text, &[]),
+    };
+    case.expect(rt, &passing(ALL, ALL, ALL), None, text.len());
+}
+
+const RUNS: Due = Due(
+    0,
+    "0-0 mode1\n1-2 mode2\n3-3 nosync\nsectors 4 tail 0\n",
+    &[(4704, 10), (9408, 20)],
+);
+
+const LISTS: &[(&[Sample], Due)] = &[
+    (&[], Due(0, "sectors 0 tail 0\n", &[])),
+    (&[Zeros(0), Mode(2), Mode(2), Blank], RUNS),
+    (&[Mode(1), Mode(2), Mode(2), Blank], RUNS),
+    (&[Mode(1)], Due(7, "7-7 mode1\nsectors 1 tail 0\n", &[])),
+];
+
+/// Cut to 11,759 bytes.
+const CUT: &[Sample] = &[Mode(0), Mode(3), Mode(1), Mode(1), Blank];
+
+const OF_CUT: Due = Due(
+    0,
+    "0-0 mode0\n1-1 other\n2-3 mode1\nsectors 4 tail 2351\n",
+    &[(4704, 10), (7056, 20)],
+);
+
+const NO_SYNC: Due = Due(0, "0-0 nosync\nsectors 1 tail 0\n", &[]);
+
+const ONE_VALUE: Due = Due(0, "0-1 nosync\nsectors 2 tail 1\n", &[]);
+
+#[test]
+fn listings(rt: HostRuntime) -> Result<(), AllocError> {
+    for (samples, due) in LISTS {
+        lists_as(&rt, &image_of(rt.alloc(), samples)?, *due);
+    }
+    lists_as(&rt, &cut_image(rt.alloc(), CUT, 11_759)?, OF_CUT);
+    lists_as(&rt, flipped(&sector_of(&Mode(1)), 11).bytes(), NO_SYNC);
+    lists_as(&rt, &[0x41; 4705], ONE_VALUE);
+    Ok(())
+}
+
+/// Sectors of Mode 1 from a block on, the lines of what is found, which belong to the first, and how many are damaged.
+#[derive(Clone, Copy)]
+struct Found(&'static [Sample], u32, &'static str, u32);
+
+const FOUND: &[Found] = &[
+    Found(&[Damaged(0, 2351, 1)], 0, "0 q=1\n", 1),
+    Found(&[Damaged(0, 2068, 1)], 0, "0 zeros p=1 q=1\n", 1),
+    Found(&[Damaged(0, 2062, 1)], 0, "0 edc p=1 q=1\n", 1),
+    Found(&[Zeros(1)], 0, "0 address\n", 0),
+    Found(&[Zeros(1)], 1, "", 0),
+    Found(&[Zeros(449_849), Zeros(0)], 449_849, "", 0),
+];
+
+fn audit_text(alloc: Global, found: Found) -> Result<String, AllocError> {
+    let Found(samples, _, lines, damaged) = found;
+    let (sectors, mode1) = (samples.len(), samples.len());
+    format!(in alloc; "{lines}sectors {sectors} mode1 {mode1} damaged {damaged} tail 0\n")
+}
+
+#[test]
+fn audits(rt: HostRuntime) -> Result<(), AllocError> {
+    for found in FOUND {
+        let image = image_of(rt.alloc(), found.0)?;
+        let text = audit_text(rt.alloc(), *found)?;
+        let begun = [(2352, found.2.len())];
+        let due = Due(found.1, &text, &begun);
+        reports_as(&rt, Report::Audit, &image, due);
+    }
+    Ok(())
+}
