@@ -211,9 +211,11 @@ def window() -> Chromium:
 
 
 def shared(before_pages: str = '') -> Chromium:
-    """The one window of this run, with nothing downloaded, which runs this script in each page before its own."""
+    """The one window of this run, with nothing downloaded and nothing logged, which runs this script in each page before its own."""
     browser = window()
     browser.before_pages(before_pages)
+    for log in ('performance', 'browser'):
+        browser.driver.get_log(log)
     for path in browser.downloads.iterdir():
         path.unlink()
     return browser

@@ -12,9 +12,10 @@ import common
 
 NO_PICKER = 'delete window.showSaveFilePicker'
 
-# A chosen file that is written in memory: `failing` is the write that fails, from 0, or -1; `slow` makes each write take so long.
+# A chosen file that is written in memory: `failing` is the write that fails, from 0, or -1; writes that `hold` holds wait for `release`.
 PICKER = '''
-globalThis.chosen = { writes: [], state: 'none', failing: -1, slow: 0, own: null, removed: false, asked: 0 };
+globalThis.chosen = { writes: [], state: 'none', failing: -1, held: null, begun: 0, own: null, removed: false, asked: 0,
+    hold() { this.held = new Promise(done => { this.release = done; }); } };
 globalThis.showSaveFilePicker = async ({ suggestedName }) => {
     chosen.asked += 1;
     if (chosen.none) throw new DOMException('nothing was chosen', 'AbortError');
@@ -24,7 +25,8 @@ globalThis.showSaveFilePicker = async ({ suggestedName }) => {
         remove: async () => { chosen.removed = true; },
         createWritable: async () => ({
             async write(bytes) {
-                if (chosen.slow) await new Promise(resolve => setTimeout(resolve, chosen.slow));
+                chosen.begun += 1;
+                await chosen.held;
                 if (chosen.writes.length === chosen.failing) throw new DOMException('no room', 'QuotaExceededError');
                 chosen.writes.push(bytes.slice());
             },

@@ -297,10 +297,11 @@ class Streaming(PageTest):
 
     def test_cancel_in_the_middle_keeps_no_image(self) -> None:
         self.begin()
-        self.browser.run('chosen.slow = 400')
+        self.browser.run('chosen.hold()')
         self.press('Apply and save')
-        common.waited(lambda: self.browser.run('return chosen.writes.length > 0'), 'nothing was written')
+        common.waited(lambda: self.browser.run('return chosen.begun > 0'), 'nothing was written')
         self.press('Cancel')
+        self.browser.run('chosen.release()')
         self.browser.wait('#panel-script .say', 'Cancelled.')
         self.assertIn('No image was kept', self.browser.text('#panel-script .side'))
         self.assertEqual(self.browser.run('return [chosen.state, chosen.removed]'), ['aborted', True])
