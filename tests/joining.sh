@@ -88,10 +88,53 @@ test_page() {
     join page again
     judge 'the same bytes twice' cmp -s page.html again
     judge 'its policy has the hashes of its script and its style' has_its_hashes page.html
-    judge 'spaces stay only in texts' grep -qF "document.title=values.join(', ');" page.html
+    judge 'spaces stay only in texts' grep -qF "document.title=values.join(', ')" page.html
     judge 'its last line takes what comes after it as text' test "$(tail -n 1 page.html)" = '<plaintext hidden id="data">'
     judge 'it names no other file' eval '! grep -oE "(href|src)=.{0,7}" page.html | grep -vE "=.?\"data:"'
-    judge 'the core stands there once' test "$(grep -c 'return n + step' page.html)" = 1
+    judge 'the core stands there once' test "$(grep -c 'return n+step' page.html)" = 1
+}
+
+# squeezes TOOLS OUT: whether the squeeze.py of TOOLS makes of the hard cases what it should.
+squeezes() {
+    mkdir -p "$2"
+    python3 -B "$hard/squeeze_all.py" "$1" "$2" "$hard/program.js" "$hard/style.css" 2> errors &&
+        cmp -s "$2/program.js" "$hard/squeezed/program.js" && cmp -s "$2/style.css" "$hard/squeezed/style.css"
+}
+
+# All programs of the page and of its core, and the hard cases, are the same after it.
+stays_the_same() {
+    local programs=("$hard/program.js" "$top"/web/core/*.js "$top"/web/page/*.js)
+    mkdir -p squeezed
+    python3 -B "$hard/squeeze_all.py" "$top/tools" squeezed "${programs[@]}" &&
+        NODE_PATH=/usr/share/nodejs node "$hard/same_program.cjs" squeezed "${programs[@]}"
+}
+
+# squeezes_wrong NAME SED: a squeeze.py that is changed so makes something else of the hard cases.
+squeezes_wrong() {
+    rm -rf tools wrong
+    mkdir tools
+    sed -E "$2" "$top/tools/squeeze.py" > tools/squeeze.py
+    judge "a wrong squeeze is refused: $1" eval '! cmp -s tools/squeeze.py "$top/tools/squeeze.py" && ! squeezes tools wrong'
+}
+
+test_squeezing() {
+    hard=$tests/squeezing
+    judge 'the hard cases are squeezed as they should be' squeezes "$top/tools" right
+    squeezes_wrong 'two signs become one' "s/'\\+\\+', '--', '\/\/'/'\/\/'/"
+    squeezes_wrong 'markup comes about' "s/, '<!', '<\/'\}/}/"
+    squeezes_wrong 'names grow together' "s/<= NAMES and/<= {'word'} and/"
+    squeezes_wrong 'a pattern is taken for a division' "s/return before.head or/return/"
+    squeezes_wrong 'a division is taken for a pattern' "s/not in GOES_ON\$/not in {'++'}/"
+    squeezes_wrong 'the semicolon of an empty loop is spare' "s/ and not before.head / /"
+    squeezes_wrong 'the semicolon after a label is spare' "s/'else', 'do', ':'/'else', 'do'/"
+    squeezes_wrong 'the end of a line after a brace is spare' "s/and before.text not in GOES_ON or/or/"
+    squeezes_wrong 'a number grows into a point' "s/ or before.kind == 'number' and first == '\.'//"
+    squeezes_wrong 'expressions in texts stay as they are' "s/joined\(list\(self.tokens\('\}'\)\)\)/'x'; list(self.tokens('}'))/"
+    squeezes_wrong 'a pseudo-class loses its element' "s/\(\[\{\};,>\]\)/([{};,>:])/"
+    squeezes_wrong 'texts of a style are squeezed' "s/range\(0, len\(parts\), 2\)/range(len(parts))/"
+    missing node nodejs 'the syntax of what is squeezed' && return
+    missing tsc node-typescript 'the syntax of what is squeezed' && return
+    judge 'what is squeezed keeps its syntax' stays_the_same
 }
 
 test_refusals() {
@@ -124,6 +167,8 @@ test_refusals() {
     refuses command "core/count.js:1: a byte order mark in a part" core/count.js before '\xef\xbb\xbf'
     refuses command "core/count.js:14: </script in a part" core/count.js after "const x = '</SCRIPT>';"
     refuses command "core/count.js:14: <!-- in a part" core/count.js after "const x = '<!--';"
+    refuses page 'a slash after a closing brace: const x = {} / 2;' page/main.js after 'const x = {} / 2;'
+    refuses page 'a pattern does not end: const x = /a;' page/main.js after 'const x = /a;'
     refuses command 'core/count.js: the text is not UTF-8' core/count.js after '// \xff'
     refuses page "page/draw.js:1: the page has no node:fs" page/draw.js before "import { readSync } from 'node:fs';"
     refuses page 'main.js:4: draw is declared in' page/main.js after 'const draw = 1;'
@@ -134,7 +179,7 @@ test_refusals() {
     refuses page 'its last lines are not' page/page.html sed 's/<p id/<script>x<\/script><p id/'
     refuses page 'stands there 0 times, and not once' page/page.html sed '/stylesheet/d'
     refuses page 'stands there 2 times, and not once' page/page.html sed 's/^<meta.*/&&/'
-    refuses page 'bytes, more than 400000' page/style.css sh -c 'yes "p { color: black; }" | head -n 20000'
+    refuses page 'bytes, more than 400000' page/style.css sh -c 'yes "p { color: black; }" | head -n 30000'
 }
 
 typed() { mypy --strict --cache-dir=types "$top"/tools/{join,pages}.py > log || { cat log; false; }; }
@@ -144,6 +189,7 @@ test_all() {
     test_refusals
     missing mypy mypy 'the types of the tools' || judge 'the types of the tools' typed
     test_page
+    test_squeezing
     missing node nodejs 'a joined command' || test_command
 }
 

@@ -8,14 +8,15 @@ Modules of web/core come into a function `core`, which returns what the others i
 - An import is a line `import { a, b } from './x.js';`, for the command also from 'node:x'.
 - `export` stands before function, class or const. There are no defaults, no renames and no dynamic imports.
 - No two top names of a scope are alike, no template literal goes over the end of its line, and nothing is awaited at the top.
-Whole lines of comments are left out, and of the page most spaces that only people need.
+Whole lines of comments are left out. `squeeze.py` takes more out of the page.
 
 The door's first module is `main.js`. A door sees the constant JOINED, in which `module` and `notices` are these files, gzipped, as
 base64. Of the command it is { file, module, notices }, and `file` is the path of the joined file. `main.js` exports `main`, which
 those get who require the file, and `start`, which is called if it is run, in a thread too.
 
-Of the page it is { module, notices, worker, source }: `worker()` returns the text of the program of a worker, which is `worker.js` with
-what it imports, and `source()` the page's own text. `page.html` has these lines, each once, as it needs them without the join too; the
+Of the page it is { module, notices, html, worker, source }: `worker()` returns the text of the program of a worker, which is `worker.js`
+with what it imports, and `source` makes the page's own text of the four pieces of HTML round its policy, style and script, which `html`
+has as JSON, packed like the module. `page.html` has these lines, each once, as it needs them without the join too; the
 policy comes after the first of them:
     <meta charset="utf-8">
     <link rel="icon" href="icon.svg">
@@ -35,6 +36,8 @@ import sys
 from collections.abc import Iterable, Iterator
 from dataclasses import dataclass, field
 from pathlib import Path
+
+from squeeze import SqueezeError, squeezed_program, squeezed_style
 
 LARGEST_PAGE = 400_000
 OLDEST_NODE = 18
@@ -248,12 +251,16 @@ def scope_of(door: list[Module], names: list[str], more: dict[str, str]) -> str:
     return f'const {{ {", ".join(names)} }} = core();\n{code_of(door)}'
 
 
-def packed(path: Path) -> str:
-    """A file, gzipped, as base64."""
+def read_bytes(path: Path) -> bytes:
     try:
-        return base64.b64encode(gzip.compress(path.read_bytes(), 9, mtime=0)).decode()
+        return path.read_bytes()
     except OSError as error:
         raise JoinError(f'{path}: {error.strerror}') from error
+
+
+def packed(content: bytes) -> str:
+    """Bytes, gzipped, as base64."""
+    return base64.b64encode(gzip.compress(content, 9, mtime=0)).decode()
 
 
 # ---- the command
@@ -299,7 +306,7 @@ def join_command(web: Path, wasm: Path, notices: Path) -> str:
         '    process.exit(2);',
         '}',
         *(f"const {{ {', '.join(sorted(given))} }} = require('{source}');" for source, given in sorted(required.items())),
-        f"const JOINED = {{ file: __filename, module: '{packed(wasm)}', notices: '{packed(notices)}' }};",
+        f"const JOINED = {{ file: __filename, module: '{packed(read_bytes(wasm))}', notices: '{packed(read_bytes(notices))}' }};",
     ]
     tail = ['module.exports = { main };', 'if (require.main === module) start();']
     return '\n'.join([*head, core_function(core, names), scope_of(door, names, taken), *tail, ''])
@@ -323,38 +330,25 @@ def page_modules(web: Path) -> tuple[str, str, str]:
             scope_of(page, names, {'workerSide': 'what is joined'}))
 
 
-def string(text: str) -> str:
-    """A text as a string of JavaScript in a page."""
-    return json.dumps(text).replace('</', '<\\/')
-
-
-SPACED = re.compile(r' *(=>|[!=]==|&&|\|\||[<>+*-]=|[{}()\[\];,=<>&|?:*]) *')
-
-
-def squeezed_line(line: str) -> str:
-    """A line without the spaces that only people need. Left alone is one in which a text may be that is not seen as one here."""
-    line = re.sub(r'/\*\*.*?\*/ ?', '', line.strip())
-    parts = re.split(r"('[^'\\]*'|`[^`\\]*`)", line)
-    nested = any(part.count('{') != part.count('}') for part in parts[1::2])
-    if nested or re.search(r'[\'"`/\\]', ''.join(parts[::2])):
-        return line
-    return ''.join(part if i % 2 else SPACED.sub(r'\1', part) for i, part in enumerate(parts))
-
-
 def squeezed(code: str) -> str:
-    return '\n'.join(map(squeezed_line, code.split('\n')))
+    """Code of the page without what only people need."""
+    try:
+        return squeezed_program(code)
+    except SqueezeError as error:
+        line = code[code.rfind('\n', 0, error.place) + 1:].split('\n')[0].strip()
+        raise JoinError(f'{error}: {line}') from error
 
 
 def page_script(web: Path, wasm: Path, notices: Path, pieces: list[str]) -> str:
     core, worker, page = map(squeezed, page_modules(web))
-    strings = [string(piece) for piece in pieces]
-    source = (f"[{strings[0]}, document.querySelector('meta[http-equiv]').content, {strings[1]}, "
-              f"document.querySelector('style').textContent, {strings[2]}, script, {strings[3]}].join('')")
+    html = packed(json.dumps(pieces, ensure_ascii=False).encode())
     return '\n'.join([
         '', "'use strict';", '(script => {', 'const JOINED = {',
-        f"module: '{packed(wasm)}',", f"notices: '{packed(notices)}',",
+        f"module: '{packed(read_bytes(wasm))}',", f"notices: '{packed(read_bytes(notices))}',", f"html: '{html}',",
         "worker: () => `'use strict';\\n(${workerSide})(${core});`,",
-        f'source: () => {source},', '};', core, worker, page, '})(document.currentScript.textContent);', ''])
+        "source: html => [html[0], document.querySelector('meta[http-equiv]').content, html[1],",
+        "document.querySelector('style').textContent, html[2], script, html[3]].join(''),",
+        '};', core, worker, page, '})(document.currentScript.textContent);', ''])
 
 
 def only(text: str, line: str, path: Path) -> tuple[str, str]:
@@ -391,7 +385,7 @@ def hash_of(text: str) -> str:
 
 def join_page(web: Path, wasm: Path, notices: Path) -> str:
     pieces = page_pieces(web)
-    style = '\n' + read_part(web / 'page' / 'style.css', '</style')
+    style = squeezed_style(read_part(web / 'page' / 'style.css', '</style'))
     script = page_script(web, wasm, notices, pieces)
     policy = POLICY.format(script=hash_of(script), style=hash_of(style))
     page = f'{pieces[0]}{policy}{pieces[1]}{style}{pieces[2]}{script}{pieces[3]}'

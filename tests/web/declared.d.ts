@@ -1,6 +1,6 @@
 // What the join gives the page, and what browsers have and this TypeScript does not know.
 
-declare const JOINED: { module: string, notices: string, worker: () => string, source: () => string };
+declare const JOINED: { module: string, notices: string, html: string, worker: () => string, source: (html: string[]) => string };
 
 declare class DecompressionStream {
     constructor(format: string);

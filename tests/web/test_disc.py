@@ -1,13 +1,16 @@
 """The panel Disc: opening, the map, findings, the program's texts, a sector and what is typed there."""
 
+import math
 import random
+import shlex
 import unittest
 import zipfile
+import zlib
 from pathlib import Path
 
 import chromium
 import discs
-from common import PAGE, SECTOR_SIZE, Server, damaged, folder, image_of, run_program, sector, sha1, waited
+from common import PAGE, SECTOR_SIZE, TOP, Server, damaged, folder, image_of, run_program, sector, sha1, waited
 from sector import SYNC
 from selenium.webdriver.common.keys import Keys
 
@@ -144,6 +147,72 @@ class Disc(unittest.TestCase):
                 self.assertIn(name, browser.text('.say.bad'))
                 self.assertEqual(browser.run("return document.querySelector('#start').hidden"), False)
 
+    def test_a_cue_sheet_says_which_files_it_does_not_name(self) -> None:
+        sheet = folder('cue') / 'game.cue'
+        sheet.write_text('FILE "game.bin" BINARY\n  TRACK 01 MODE1/2352\n    INDEX 01 00:00:00\n')
+        browser = self.opened(sheet, file_of(discs.game()), file_of(scratched(), 'other.bin'))
+        browser.wait('#messages', 'Not opened: other.bin.')
+        self.assertIn('game.cue does not name it.', browser.text('#messages'))
+        self.assertEqual(browser.text('#disc-line .name'), 'game.bin')
+
+    def test_a_packed_image_beside_a_script_is_named_as_a_shell_takes_it(self) -> None:
+        browser = self.browser
+        browser.give('#files', [file_of(b'cdpatch 1\n', 'a.txt'), file_of(b'MComprHD' + bytes(5000), "it's $HOME.chd")])
+        browser.wait('.say.bad', "it's $HOME.chd is a CHD")
+        command = browser.text('.say.bad .line-out')
+        self.assertEqual(shlex.split(command), ['chdman', 'extractcd', '-i', "it's $HOME.chd", '-o', 'disc.cue', '-ob', 'disc.bin'])
+
+    def test_an_image_of_audio_is_shown(self) -> None:
+        audio = random.Random(4).randbytes(500 * SECTOR_SIZE)
+        sheet = file_of(b'FILE "game.bin" BINARY\n  TRACK 01 AUDIO\n    INDEX 01 00:00:00\n', 'game.cue')
+        for sheets in ((), (sheet,)):
+            with self.subTest(sheets=len(sheets)):
+                browser = self.opened(file_of(audio), *sheets)
+                browser.wait(VERDICT, 'There is no Mode 1 sector here')
+                browser.wait('.sha1', sha1(audio))
+                browser.find('#map').send_keys(Keys.END)
+                waited(lambda: self.place() == 'Block 499, no sync field: audio, or nothing that is known', self.place())
+
+    def test_more_images_than_one_beside_the_open_one_are_refused(self) -> None:
+        browser = self.opened(file_of(discs.game()))
+        browser.give('#files', [file_of(scratched(), 'a.bin'), file_of(discs.game(), 'b.bin')])
+        browser.wait('.say.bad', 'game.bin is open already.')
+        self.assertIn('Open one more, a.bin or b.bin, to compare it.', browser.text('.say.bad'))
+        self.assertEqual(browser.text('#disc-line .name'), 'game.bin')
+
+    def test_workers_that_can_read_no_file_are_given_bytes(self) -> None:
+        browser = self.browser
+        browser.run('''const real = Worker.prototype.postMessage; globalThis.posted = { files: 0, bytes: 0 };
+            Worker.prototype.postMessage = function (message, ...given) {
+                const pieces = message.pieces?.map(piece => piece.file ? { ...piece, file: new Blob() } : piece);
+                if (pieces) posted[pieces[0].file ? 'files' : 'bytes'] += 1;
+                real.call(this, pieces ? { ...message, pieces } : message, ...given);
+            }''')
+        image = scratched() * 120
+        browser.give('#files', [file_of(image)])
+        browser.wait(VERDICT, '1,080 of 21,600 Mode 1 sectors are damaged')
+        browser.wait('.sha1', sha1(image))
+        files, bytes_given = browser.run('return [posted.files, posted.bytes]')
+        self.assertEqual(bytes_given, math.ceil(len(image) / SECTOR_SIZE / 1024))
+        self.assertTrue(0 < files < bytes_given, files)
+
+    def test_all_hashes_are_copied(self) -> None:
+        browser = self.opened(file_of(discs.game()))
+        browser.wait('.sha1', sha1(discs.game()))
+        browser.run('navigator.clipboard.writeText = async text => { globalThis.copied = text; }')
+        browser.run("[...document.querySelectorAll('#disc-line button')].find(it => it.innerText === 'Copy all hashes').click()")
+        lines = ['game.bin', f'size {len(discs.game())}', f'CRC-32 {zlib.crc32(discs.game()):08x}', f'SHA-1 {sha1(discs.game())}', '']
+        self.assertEqual(browser.run('return globalThis.copied'), '\n'.join(lines))
+
+    def test_the_style_is_that_of_the_sources(self) -> None:
+        """What the join squeezes has the same rules."""
+        rules = '''const source = new CSSStyleSheet(); source.replaceSync(arguments[0]);
+            const text = rule => rule.cssText.replace(/,\\s+/g, ',');
+            return [source, document.styleSheets[0]].map(sheet => [...sheet.cssRules].map(text))'''
+        source, joined = self.browser.run(rules, (TOP / 'web/page/style.css').read_text(encoding='utf-8'))
+        self.assertGreater(len(source), 100)
+        self.assertEqual(joined, source)
+
     def test_two_files_of_one_name_are_refused(self) -> None:
         browser = self.browser
         browser.open(PAGE)
@@ -171,10 +240,9 @@ class Disc(unittest.TestCase):
         browser = self.browser
         browser.open(PAGE)
         browser.wait('#open-files')
-        browser.run('''const real = Blob.prototype.arrayBuffer; globalThis.slow = true;
-            Blob.prototype.arrayBuffer = async function () {
-                if (globalThis.slow && this.size > 1e6) await new Promise(done => setTimeout(done, 300));
-                return real.call(this);
+        browser.run('''const real = Worker.prototype.postMessage; globalThis.slow = true;
+            Worker.prototype.postMessage = function (...given) {
+                setTimeout(() => real.apply(this, given), globalThis.slow && given[0].pieces ? 300 : 0);
             }''')
         browser.give('#files', [file_of(discs.game() * 120)])
         browser.wait(VERDICT, 'Reading the disc')

@@ -1,5 +1,6 @@
 """The panel Script: what is typed, faults, Check, Apply and save, and the undo script, beside what the program prints and writes."""
 
+import zlib
 from pathlib import Path
 
 import common
@@ -34,6 +35,10 @@ class Script(PageTest):
         self.browser.wait('#panel-script .side', 'without 3 of 8 patches')
         self.assertEqual(self.browser.run('return document.querySelector("pre.log").textContent'), text)
         self.browser.wait('#saved-sha1', common.sha1(out))
+        self.assertEqual(self.browser.text('#saved-crc32'), f'{zlib.crc32(out):08x}')
+        self.press('Open the new image')
+        self.browser.wait('#disc-line .name', 'game (patched).bin')
+        self.browser.wait('#disc-line .sha1', common.sha1(out))
         self.assertEqual((status, self.browser.attempts()), (1, []))
 
     def test_carry_patches_damaged_sectors_too(self) -> None:

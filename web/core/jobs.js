@@ -19,7 +19,7 @@ import { surveyRange } from './survey.js';
  * how many sectors the range has; the bytes may have more, if borders count. What it returns can be posted.
  * @typedef {(calls: Calls, pieces: Uint8Array[], first: number, args: any) => any} Job
  */
-/** @typedef {{ number: number, job: string, pieces: Uint8Array[], first: number, args: any }} Message */
+/** @typedef {{ number: number, job: string, pieces: any[], first: number, args: any }} Message what is not bytes, the hand reads */
 /** @typedef {{ number: number, answer?: any, fault?: { name: string, message: string, isFault?: boolean } }} Reply */
 /**
  * Who works: a worker, or this thread. The door calls `onreply` with what `serving` has returned, and `onfault` if the worker itself
@@ -155,6 +155,18 @@ export class Crew {
     }
 
     /**
+     * What a hand is given of the same sectors of several images: their bytes. A crew whose hands read files gives them something else.
+     * @param {Reader[]} readers
+     * @param {number} first
+     * @param {number} count
+     * @param {number[]} units the bytes of a sector in each
+     * @returns {Promise<any[]>}
+     */
+    pieces(readers, first, count, units) {
+        return readRange(readers, first, count, units);
+    }
+
+    /**
      * Hands a range to the hand that has fewest, and returns its reply.
      * @param {Omit<Message, 'number'>} range
      * @returns {Promise<Reply>}
@@ -164,11 +176,11 @@ export class Crew {
         if (this.fault) return Promise.resolve({ number, fault: this.fault });
         const [[hand, load]] = [...this.loads].sort(([, a], [, b]) => a - b);
         this.loads.set(hand, load + 1);
-        const pieces = range.pieces.map(ownBytes);
+        const pieces = range.pieces.map(piece => piece instanceof Uint8Array ? ownBytes(piece) : piece);
         return new Promise(resolve => {
             this.waiting.set(number, resolve);
             try {
-                hand.post({ ...range, number, pieces }, pieces.map(bytes => /** @type {ArrayBuffer} */ (bytes.buffer)));
+                hand.post({ ...range, number, pieces }, pieces.flatMap(piece => piece instanceof Uint8Array ? piece.buffer : []));
             } catch (error) {
                 this.settle(hand, { number, fault: errorFault(error) });
             }
@@ -201,7 +213,7 @@ export class Crew {
             if (replies.length === most) await takeNext();
             assertWanted(signal);
             const count = Math.min(step, all - first);
-            const pieces = await readRange(readers, first, Math.min(count + beyond, all - first), units);
+            const pieces = await this.pieces(readers, first, Math.min(count + beyond, all - first), units);
             replies.push(this.reply({ job, pieces, first: base + first, args: { ...args, count } }));
         }
         while (replies.length > 0) await takeNext();

@@ -2,7 +2,9 @@
 
 import { readBytes } from '../core/bytes.js';
 import { Crew, JobAborted } from '../core/jobs.js';
+import { SECTOR_SIZE } from '../core/sector.js';
 import { hexOf } from './dom.js';
+import { fileOf, fileReader } from './reading.js';
 
 /** @typedef {import('../core/bytes.js').Reader} Reader */
 /** @typedef {import('../core/jobs.js').Message} Message */
@@ -52,22 +54,59 @@ function startedWorker({ module, newWorker }, heard, failed) {
 }
 
 /**
+ * A crew whose workers read files for themselves, each its next range while it works on the last one. A browser may let them read none,
+ * as WebKit does on a page that is a file: then this thread reads for them.
+ */
+class ReadingCrew extends Crew {
+    /** @param {WorkerHand[]} hands */
+    constructor(hands) {
+        super(hands);
+        this.lends = true;
+    }
+
+    /** @type {Crew['pieces']} */
+    async pieces(readers, first, count, units) {
+        const files = this.lends ? readers.map(fileOf) : [null];
+        if (files.includes(null)) return super.pieces(readers, first, count, units);
+        return files.map((file, i) => {
+            const unit = units[i] || SECTOR_SIZE;
+            return { file, from: first * unit, size: count * unit };
+        });
+    }
+
+    /** @type {Crew['reply']} */
+    async reply(range) {
+        const reply = await super.reply(range);
+        if (!reply.fault || reply.fault.name !== 'Unread') return reply;
+        this.lends = false;
+        try {
+            const read = range.pieces.map(({ file, from, size }) => readBytes(fileReader(file), from, size));
+            return super.reply({ ...range, pieces: await Promise.all(read) });
+        } catch (error) {
+            return { number: reply.number, fault: /** @type {Error} */ (error) };
+        }
+    }
+}
+
+/**
  * The crew: a hand for each processor, up to some.
  * @param {Parts} parts
  */
 export function crewOf(parts) {
     const count = Math.min(navigator.hardwareConcurrency || 2, MOST_WORKERS);
-    return new Crew(Array.from({ length: count }, () => new WorkerHand(parts)));
+    return new ReadingCrew(Array.from({ length: count }, () => new WorkerHand(parts)));
 }
 
-/** A SHA-1 that grows with what is added, in a worker of its own. */
+/** @typedef {{ sha1: string, crc32: string }} Sums in digits as others print them */
+
+/** A SHA-1 and a CRC-32 that grow with what is added, in a worker of its own. */
 export class RunningHash {
     /** @param {Parts} parts */
     constructor(parts) {
-        /** @type {{ resolve: (digest: Uint8Array) => void, reject: (error: Error) => void }[]} */
+        /** @type {{ resolve: (reply: any) => void, reject: (error: Error) => void }[]} */
         this.waiting = [];
         this.fault = /** @type {Error | null} */ (null);
-        this.worker = startedWorker(parts, ({ data }) => (this.waiting.shift() || { resolve() {} }).resolve(data.digest),
+        this.worker = startedWorker(parts, ({ data }) => (this.waiting.shift() || { resolve() {} }).resolve(data),
             error => {
                 this.fault = error;
                 this.waiting.forEach(({ reject }) => reject(error));
@@ -89,7 +128,7 @@ export class RunningHash {
     /**
      * @param {Uint8Array | null} bytes
      * @param {ArrayBufferLike[]} transfer
-     * @returns {Promise<Uint8Array>}
+     * @returns {Promise<any>}
      */
     post(bytes, transfer) {
         return new Promise((resolve, reject) => {
@@ -99,10 +138,16 @@ export class RunningHash {
         });
     }
 
-    /** The SHA-1 of all, in digits as others print it. */
-    async end() {
+    /** @returns {Promise<Sums>} those of all */
+    async sums() {
         await this.before;
-        return hexOf(await this.post(null, [])).toLowerCase();
+        const { digest, crc } = await this.post(null, []);
+        return { sha1: hexOf(digest).toLowerCase(), crc32: crc.toString(16).padStart(8, '0') };
+    }
+
+    /** The SHA-1 of all. */
+    async end() {
+        return (await this.sums()).sha1;
     }
 
     close() {
@@ -111,13 +156,24 @@ export class RunningHash {
 }
 
 /**
- * The SHA-1 of an image, in digits as others print it. Throws JobAborted, and what reading throws.
+ * The SHA-1 of an image. Throws JobAborted, and what reading throws.
  * @param {Parts} parts
  * @param {Reader} reader
  * @param {{ aborted: boolean }} signal
  * @param {(done: number) => void} progress is given the bytes that were hashed
  */
 export async function sha1Of(parts, reader, signal, progress) {
+    return (await sumsOf(parts, reader, signal, progress)).sha1;
+}
+
+/**
+ * The SHA-1 and the CRC-32 of an image, as sha1Of has them.
+ * @param {Parts} parts
+ * @param {Reader} reader
+ * @param {{ aborted: boolean }} signal
+ * @param {(done: number) => void} progress
+ */
+export async function sumsOf(parts, reader, signal, progress) {
     const hash = new RunningHash(parts);
     try {
         for (let at = 0; at < reader.size; at += HASH_STEP) {
@@ -127,7 +183,7 @@ export async function sha1Of(parts, reader, signal, progress) {
             await hash.add(bytes);
             progress(at + size);
         }
-        return await hash.end();
+        return await hash.sums();
     } finally {
         hash.close();
     }

@@ -122,11 +122,11 @@ function shaWaits({ reader }, { hashed }) {
  * @returns {Child[]}
  */
 function shaOf(image, drawn, length) {
-    const { sha1 } = image;
+    const { sha1, crc32 } = image;
     if (sha1 === '') return [element('span', { class: 'mono quiet sha-wait' }, shaWaits(image, drawn))];
     const shown = length < sha1.length ? `${sha1.slice(0, length)}…` : sha1;
-    return [element('span', { class: 'mono sha1' }, shown), ' ', button('slim bare tiny', () => copyText(sha1), 'Copy',
-        element('span', { class: 'hide' }, ' the SHA-1'))];
+    const all = `${image.name}\nsize ${image.reader.size}\nCRC-32 ${crc32}\nSHA-1 ${sha1}\n`;
+    return [element('span', { class: 'mono sha1' }, shown), ' ', button('slim bare tiny', () => copyText(all), 'Copy all hashes')];
 }
 
 /**

@@ -5,7 +5,7 @@ import { DiscFault, dataTrack, openDisc } from '../core/disc.js';
 import { natureOf } from '../core/image.js';
 import { CONTENT } from '../core/records.js';
 import { MOST_SCRIPT_BYTES } from '../core/script.js';
-import { MOST_SECTORS, imageTooLong } from '../core/sector.js';
+import { MOST_SECTORS, SECTOR_SIZE, imageTooLong, sectorCount } from '../core/sector.js';
 import { textOfFile } from '../core/text.js';
 import { byId, counted } from './dom.js';
 import { exampleFile } from './example.js';
@@ -106,9 +106,13 @@ function isScript({ calls }, text) {
  * @param {File[]} files
  */
 async function openImages(app, files) {
-    const names = files.map(file => file.name.toLowerCase());
-    if (new Set(names).size < names.length) throw new DiscFault('Two of these files have one name. Open one of them.');
+    const names = files.map(file => file.name);
+    const different = new Set(names.map(name => name.toLowerCase())).size;
+    if (different < names.length) throw new DiscFault('Two of these files have one name. Open one of them.');
     const two = files.length === 2 && (await Promise.all(files.map(file => isRaw(app, file)))).every(it => it);
+    if (two && app.image !== null) {
+        throw new DiscFault(`${app.image.name} is open already. Open one more, ${names.join(' or ')}, to compare it.`);
+    }
     const images = [];
     for (const group of two ? [[files[0]], [files[1]]] : [files]) images.push(await imageOf(app, group));
     if (app.image === null) {
@@ -121,6 +125,20 @@ async function openImages(app, files) {
         app.emit('second');
         app.showPanel('disc');
     }
+    sayLeftOut(files, two ? null : images[0] || app.image);
+}
+
+/**
+ * Says which files were left out, since the cue sheet that was opened does not name them.
+ * @param {File[]} files
+ * @param {Image | null} image
+ */
+function sayLeftOut(files, image) {
+    if (image === null || image.from === '') return;
+    const taken = [image.from, ...image.disc.files.map(({ name }) => name)];
+    const names = files.map(file => file.name).filter(name => !taken.includes(name));
+    if (names.length === 0) return;
+    showNotice('warn', `Not opened: ${names.join(', ')}.`, `${image.from} does not name ${names.length === 1 ? 'it' : 'them'}.`);
 }
 
 /**
@@ -142,18 +160,30 @@ async function imageOf(app, files) {
 }
 
 /**
- * The image in which a track of a disc lies: the one of a number, or the first with data.
+ * The image in which a track of a disc lies: the one of a number, or the first with data; of a disc of audio, the first that is open.
  * @param {Disc} disc
  * @param {string} sheet
  * @param {number | null} number
  * @returns {Image}
  */
 export function imageOfTrack(disc, sheet, number) {
-    const { image, part, number: own } = dataTrack(disc, number);
+    const { image, part, number: own } = (number === null && audioTrack(disc)) || dataTrack(disc, number);
     if (imageTooLong(image.reader.size)) {
         throw new DiscFault(`${image.name} is too long. An image has at most ${counted(MOST_SECTORS)} sectors.`);
     }
-    return { ...image, part, from: disc.sheet || '', sheet, disc, number: own, sha1: '' };
+    return { ...image, part, from: disc.sheet || '', sheet, disc, number: own, sha1: '', crc32: '' };
+}
+
+/**
+ * The first track with bytes of a disc that has no data, to be looked at; of other discs null.
+ * @param {Disc} disc
+ */
+function audioTrack({ files, tracks }) {
+    const track = tracks.find(it => it.file >= 0 && it.sectors !== null);
+    if (!track || tracks.some(it => it.image !== null || !['', 'AUDIO'].includes(it.type))) return null;
+    const { name, reader } = files[track.file];
+    const image = { name, reader, base: 0, addressed: null, sectors: sectorCount(reader.size), tail: reader.size % SECTOR_SIZE };
+    return { number: track.number, image, part: image };
 }
 
 /**
@@ -163,10 +193,18 @@ export function imageOfTrack(disc, sheet, number) {
  * @param {unknown} error
  */
 async function showOpeningFailure(app, files, error) {
-    const [first] = files;
-    const kind = error instanceof DiscFault ? (await natureOf(app.calls, fileReader(first))).kind : 'unknown';
-    if (kind !== 'chd') return showFailure(error);
-    return showNotice('bad', `${first.name} is a CHD, a compressed image. cdpatch cannot read it.`,
+    const kinds = files.map(file => natureOf(app.calls, fileReader(file)).then(({ kind }) => kind, () => 'unknown'));
+    const packed = files[error instanceof DiscFault ? (await Promise.all(kinds)).indexOf('chd') : -1];
+    if (!packed) return showFailure(error);
+    return showNotice('bad', `${packed.name} is a CHD, a compressed image. cdpatch cannot read it.`,
         'Make a raw image of it first, in a terminal. Then open the new .cue and .bin here.',
-        ...copyable(`chdman extractcd -i "${first.name}" -o disc.cue -ob disc.bin`));
+        ...copyable(`chdman extractcd -i ${quoted(packed.name)} -o disc.cue -ob disc.bin`));
+}
+
+/**
+ * A file's name as a shell takes it whole. Windows has no name with a double quote, and its own shell knows no single ones.
+ * @param {string} name
+ */
+function quoted(name) {
+    return /["$\x60\\!]/.test(name) ? `'${name.replace(/'/g, "'\\''")}'` : `"${name}"`;
 }

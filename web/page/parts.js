@@ -33,6 +33,9 @@ export async function inflatedText(text) {
     return text === '' ? '' : inflated(text).text();
 }
 
+/** @type {string[]} the HTML round the policy, the style and the script of the joined page */
+const OWN_HTML = [];
+
 /**
  * The module and the workers of the joined page.
  * @returns {Promise<Parts>}
@@ -40,6 +43,7 @@ export async function inflatedText(text) {
 export async function joinedParts() {
     const bytes = await inflated(JOINED.module).arrayBuffer();
     const url = workerUrl(new Blob([JOINED.worker()], { type: 'text/javascript' }));
+    OWN_HTML.push(...JSON.parse(await inflatedText(JOINED.html)));
     return { module: await WebAssembly.compile(bytes), newWorker: () => new Worker(url) };
 }
 
@@ -56,5 +60,5 @@ function workerUrl(program) {
 
 /** The page's own text, to its last tag. */
 export function pageSource() {
-    return JOINED.source();
+    return JOINED.source(OWN_HTML);
 }

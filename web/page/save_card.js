@@ -1,7 +1,7 @@
 // Saving the patched image, as its card says it: progress, what was saved, and what is left after a cancel or a failure.
 
 import { RESULT } from '../core/records.js';
-import { sha1Of } from './crew.js';
+import { sha1Of, sumsOf } from './crew.js';
 import { askBeforeLeaving, button, countOf, counted, element, fill } from './dom.js';
 import { downloadText } from './files_out.js';
 import { WorkRefused, saveWork } from './patch_job.js';
@@ -10,6 +10,7 @@ import { fileReader } from './reading.js';
 import { SaveFault, patchedName } from './save.js';
 import { isCancelled, messageOf, notice } from './say.js';
 import { sheetFor } from './sheet.js';
+import { readImage } from './survey_image.js';
 
 /** @typedef {import('./state.js').App} App */
 /** @typedef {import('./state.js').Image} Image */
@@ -104,27 +105,42 @@ export class SaveCard {
         const sheet = sheetFor(image, name);
         fill(this.checked);
         this.show(streamed ? 'Saved' : 'Saving by your browser', notice(refused === 0 ? 'good' : 'warn', head, rest),
-            element('dl', { class: 'hashes' }, element('dt', {}, 'size'), element('dd', {}, counted(size)), element('dt', {}, 'SHA-1'),
-                this.shaOf(saved)),
+            element('dl', { class: 'hashes' }, element('dt', {}, 'size'), element('dd', {}, counted(size)), ...this.sumsOf(saved)),
             !streamed && element('p', { class: 'small quiet' }, 'To check what was saved, drop the file on this page.'), this.checked,
             element('div', { class: 'row' }, sheet !== '' && button('', () => downloadText(sheet, name.replace(/\.[^.]*$/, '.cue')),
                 'Save a cue sheet…'),
+                (saved.blob || saved.file) && button('', () => this.openNew(saved), 'Open the new image'),
                 button('', () => this.close(), 'Back to Check')));
     }
 
     /**
-     * The SHA-1 of what was saved, as soon as it is known.
+     * Opens what was saved in place of the open image.
      * @param {Saved} saved
      */
-    shaOf(saved) {
+    openNew({ blob, file, name }) {
+        this.close();
+        readImage(this.app, null);
+        this.app.open([file || new File([/** @type {Blob} */ (blob)], name)]);
+    }
+
+    /**
+     * The SHA-1 and CRC-32 of what was saved, as soon as they are known.
+     * @param {Saved} saved
+     */
+    sumsOf(saved) {
+        const [sha1, crc32] = ['saved-sha1', 'saved-crc32'].map(id => element('dd', { id }, '…'));
         const file = saved.blob || saved.file;
-        const place = element('dd', { id: 'saved-sha1' }, file ? '…' : 'not known, for the browser does not read the file again');
-        if (file === null) return place;
-        this.sum = sha1Of(this.app.parts, fileReader(new File([file], saved.name)), { aborted: false }, done => {
-            place.textContent = `(${Math.floor(100 * done / saved.size)} %)`;
+        const parts = [element('dt', {}, 'SHA-1'), sha1, element('dt', {}, 'CRC-32'), crc32];
+        if (file === null) return parts;
+        const sums = sumsOf(this.app.parts, fileReader(new File([file], saved.name)), { aborted: false }, done => {
+            sha1.textContent = `(${Math.floor(100 * done / saved.size)} %)`;
         });
-        this.sum.then(sha1 => { place.textContent = sha1; }, error => { place.textContent = error.message; });
-        return place;
+        this.sum = sums.then(it => it.sha1);
+        sums.then(it => {
+            sha1.textContent = it.sha1;
+            crc32.textContent = it.crc32;
+        }, error => { sha1.textContent = error.message; });
+        return parts;
     }
 
     /**

@@ -15,8 +15,8 @@
 
 /**
  * An image that was opened. `from` is the name of the cue sheet and `sheet` its text, or both are ''; `number` is that of the track
- * which is meant, and `part` that track alone; `sha1` is '' until it is known.
- * @typedef {DiscImage & { part: DiscImage, from: string, sheet: string, disc: Disc, number: number, sha1: string }} Image
+ * which is meant, and `part` only that track; `sha1` is '' until it is known, and `crc32` too.
+ * @typedef {DiscImage & { part: DiscImage, from: string, sheet: string, disc: Disc, number: number, sha1: string, crc32: string }} Image
  */
 
 /**

@@ -3,7 +3,7 @@
 import { filesOf } from '../core/iso.js';
 import { JobAborted } from '../core/jobs.js';
 import { RECORD_SIZE } from '../core/records.js';
-import { sha1Of } from './crew.js';
+import { sumsOf } from './crew.js';
 import { SurveyMarks } from './marks.js';
 import { isCancelled, showFailure } from './say.js';
 
@@ -86,7 +86,7 @@ async function listFiles(app, { part }, signal) {
  * @param {AbortSignal} signal
  */
 async function hashImage(app, image, signal) {
-    image.sha1 = await sha1Of(app.parts, image.reader, signal, done => app.emit('hash', done));
+    Object.assign(image, await sumsOf(app.parts, image.reader, signal, done => app.emit('hash', done)));
     if (signal.aborted) throw new JobAborted();
     app.emit('hash', image.reader.size);
 }

@@ -1,13 +1,25 @@
-// The program of a worker: ranges of jobs, and one long SHA-1.
+// The program of a worker: ranges of jobs, and one long SHA-1 and CRC-32.
 
 import { Calls } from '../core/codes.js';
 import { serving, transfersOf } from '../core/jobs.js';
+import { crc32 } from './crc32.js';
 
 /** @typedef {import('../core/jobs.js').Message} Message */
 /**
  * What a worker is told: the module, before all else; a range of a job; or bytes to hash after those before, null at the end.
  * @typedef {{ module: WebAssembly.Module } | Message | { hash: Uint8Array | null }} Order
  */
+
+/**
+ * The bytes of a range, or of a slice of a file, which is read here.
+ * @param {Uint8Array | { file: File, from: number, size: number }} piece
+ */
+async function readPiece(piece) {
+    if (piece instanceof Uint8Array) return piece;
+    const bytes = new Uint8Array(await piece.file.slice(piece.from, piece.from + piece.size).arrayBuffer());
+    if (bytes.length < piece.size) throw new RangeError('the file has become shorter');
+    return bytes;
+}
 
 /** What a worker does with the module that it is given. */
 class Bench {
@@ -16,18 +28,23 @@ class Bench {
         this.calls = new Calls(module);
         this.serve = serving(this.calls);
         this.state = this.calls.sha1Begin();
+        this.crc = 0;
     }
 
     /** @param {Message} message */
-    work(message) {
-        const reply = this.serve(message);
-        self.postMessage(reply, { transfer: transfersOf(reply) });
+    async work(message) {
+        const pieces = await Promise.all(message.pieces.map(readPiece)).catch(() => null);
+        if (pieces === null) return self.postMessage({ number: message.number, fault: { name: 'Unread', message: '' } });
+        const reply = this.serve({ ...message, pieces });
+        return self.postMessage(reply, { transfer: transfersOf(reply) });
     }
 
     /** @param {Uint8Array | null} bytes */
     hash(bytes) {
-        if (bytes !== null) this.calls.sha1Add(this.state, bytes);
-        self.postMessage({ digest: bytes === null ? this.calls.sha1End(this.state) : null });
+        if (bytes === null) return self.postMessage({ digest: this.calls.sha1End(this.state), crc: this.crc });
+        this.calls.sha1Add(this.state, bytes);
+        this.crc = crc32(this.crc, bytes);
+        return self.postMessage({});
     }
 }
 
