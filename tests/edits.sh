@@ -11,14 +11,16 @@ read_edit() {
     done < "$1"
 }
 
-# apply_edit FILE: changes the one place of a file that is as the edit says.
+# apply_edit FILE: changes the one place of a file that is as the edit says, by lines, since bash is slow with long texts.
 apply_edit() {
-    local text before after
-    text=$(< "$1")
-    before=${text%%"${said[old]}"*}
-    after=${text#*"${said[old]}"}
-    [ "$before" != "$text" ] && [ "${after#*"${said[old]}"}" = "$after" ] || return
-    printf '%s\n' "$before${said[new]}$after" > "$1"
+    OLD=${said[old]} NEW=${said[new]} LC_ALL=C awk '
+        BEGIN { old = ENVIRON["OLD"] }
+        at = index($0, old) {
+            found += index(substr($0, at + 1), old) ? 2 : 1
+            $0 = substr($0, 1, at - 1) ENVIRON["NEW"] substr($0, at + length(old))
+        }
+        { print }
+        END { exit found != 1 }' "$1" > edited && cat edited > "$1"
 }
 
 # refuse_edits WHAT FOLDER PREPARE: for each edit in a folder, whether the test that it names fails on what is changed so, which the
