@@ -25,7 +25,7 @@ class HashWorker {
         if (module) return;
         if (hash) calls.sha1Add(this.state, hash);
         const digest = hash ? null : calls.sha1End(this.state);
-        setImmediate(() => this.onmessage({ data: { digest } }));
+        setImmediate(() => this.onmessage({ data: { digest, crc: 0 } }));
     }
 
     terminate() {}
