@@ -29,7 +29,8 @@ export function crc32(before, bytes) {
     const words = new Int32Array(buffer, byteOffset, length >> 3 << 1);
     let sum = ~before;
     for (let i = 0; i < words.length; i += 2) {
-        const [near, far] = [words[i] ^ sum, words[i + 1]];
+        const near = words[i] ^ sum;
+        const far = words[i + 1];
         sum = t7[near & 255] ^ t6[near >>> 8 & 255] ^ t5[near >>> 16 & 255] ^ t4[near >>> 24]
             ^ t3[far & 255] ^ t2[far >>> 8 & 255] ^ t1[far >>> 16 & 255] ^ t0[far >>> 24];
     }
