@@ -29,7 +29,7 @@ export function mountHelp(app) {
         'Every sector that this page makes, every line of a script that it reads, and every finding comes from code whose promises are ' +
         'proved theorems: libcdpatch, which is in this file as WebAssembly.',
         'JavaScript opens the files, moves the bytes, adds up the counts and draws. It is tested against the program cdpatch, byte for ' +
-        'byte, and not proved. So are the compiler that makes WebAssembly of proved code, and your browser, taken on trust.',
+        'byte, and not proved. The compiler, the tool that makes this module of the proved one of 64 bits, and your browser are trusted.',
         'Scripts of two images, of new texts and to undo were applied by the proved code before you see them, and gave just what they ' +
         'should. That a sector inside Mode 1 has lost its sync or mode is a guess of JavaScript.'));
     fill(byId('about'), element('b', {}, `cdpatch ${number}`), ...paragraphs(
