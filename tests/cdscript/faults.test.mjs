@@ -182,14 +182,16 @@ test('a signal leaves no half file', () => inDirectory(async room => {
     write(room, { image: Buffer.concat([image, image, image, image]), script: 'cdpatch 1\n' });
     for (const [signal, words] of [['SIGINT', ['apply', 'image', 'script', 'out']], ['SIGTERM', ['user', 'image', 'out']],
         ['SIGHUP', ['merge', 'image', 'image', 'out']]]) {
-        const child = spawn(process.execPath, ['-r', preload, command, ...words], { cwd: room, env: { ...process.env, SLOW: '300' }, stdio: 'ignore' });
+        const child = spawn(process.execPath, ['-r', preload, command, ...words], { cwd: room, env: { ...process.env, SLOW: '1000' }, stdio: 'ignore' });
         const ended = new Promise(resolve => child.on('exit', (_, by) => resolve(by)));
         for (let i = 0; i < 400 && !(existsSync(join(room, 'out')) && read(room, 'out').length > 0); i++) {
             await new Promise(resolve => setTimeout(resolve, 20));
         }
         assert.ok(existsSync(join(room, 'out')), 'the file is begun');
         child.kill(signal);
+        const late = setTimeout(() => child.kill('SIGKILL'), 6000); // All that is left to write takes longer.
         assert.equal(await ended, signal);
+        clearTimeout(late);
         assert.equal(existsSync(join(room, 'out')), false, signal);
     }
 }));
