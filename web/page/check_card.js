@@ -49,7 +49,7 @@ export class CheckCard {
     }
 
     draw() {
-        if (!this.busy) keepFocus(this.card, () => this.drawCard());
+        if (!this.busy) keepFocus(this.card, () => this.drawCard(), '.back');
     }
 
     drawCard() {

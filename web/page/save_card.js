@@ -85,7 +85,7 @@ export class SaveCard {
         } catch (error) {
             this.leaving = false;
             this.show('Not saved', failureOfSaving(error, work.reader.size),
-                element('div', { class: 'row' }, button('', () => this.close(), 'Back')));
+                element('div', { class: 'row' }, button('back', () => this.close(), 'Back')));
             return null;
         }
     }
@@ -110,7 +110,7 @@ export class SaveCard {
             element('div', { class: 'row' }, sheet !== '' && button('', () => downloadText(sheet, name.replace(/\.[^.]*$/, '.cue')),
                 'Save a cue sheet…'),
                 (saved.blob || saved.file) && button('', () => this.openNew(saved), 'Open the new image'),
-                button('', () => this.close(), 'Back to Check')));
+                button('back', () => this.close(), 'Back to Check')));
     }
 
     /**
