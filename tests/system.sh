@@ -244,7 +244,7 @@ traced 'no other file is touched' no_other_file_is_touched leaves_a_file_here le
 row 'a limit on file sizes kills' size_limit_kills ignores_the_limit_on_file_sizes
 traced 'OUT has what was sent' out_has_what_was_sent drops_what_is_held
 states docs/DECISIONS.md 'OUT is opened only to be written'
-states docs/DECISIONS.md "so after a fault of the image or of the log, where \`apply\` ends early, the program passes on what OUT's buffer still"
+states docs/DECISIONS.md "if the image or the log fails and \`apply\` ends early,"
 states docs/TRUST.md "If another stream fails, the output's buffer is still written, so OUT has all that was sent to it."
 states man/cdpatch.1 'A limit on file sizes .Pq Ql ulimit -f ends a run in the same way, by SIGXFSZ: the status is 153.'
 

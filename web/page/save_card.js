@@ -130,8 +130,10 @@ export class SaveCard {
     sumsOf(saved) {
         const [sha1, crc32] = ['saved-sha1', 'saved-crc32'].map(id => element('dd', { id }, '…'));
         const file = saved.blob || saved.file;
-        const parts = [element('dt', {}, 'SHA-1'), sha1, element('dt', {}, 'CRC-32'), crc32];
-        if (file === null) return parts;
+        if (file === null) {
+            sha1.textContent = 'not known, for the browser does not read the file again';
+            return [element('dt', {}, 'SHA-1'), sha1];
+        }
         const sums = sumsOf(this.app.parts, fileReader(new File([file], saved.name)), { aborted: false }, done => {
             sha1.textContent = `(${Math.floor(100 * done / saved.size)} %)`;
         });
@@ -139,8 +141,11 @@ export class SaveCard {
         sums.then(it => {
             sha1.textContent = it.sha1;
             crc32.textContent = it.crc32;
-        }, error => { sha1.textContent = error.message; });
-        return parts;
+        }, error => {
+            sha1.textContent = messageOf(error);
+            crc32.textContent = 'not known';
+        });
+        return [element('dt', {}, 'SHA-1'), sha1, element('dt', {}, 'CRC-32'), crc32];
     }
 
     /**

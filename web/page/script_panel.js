@@ -257,7 +257,8 @@ class ScriptPanel {
             if (made instanceof Refusal) throw new Error('The script has a fault.');
             const stem = (app.script.name || 'script').replace(/\.[^.]*$/, '');
             downloadBytes(made.script.pieces, `${stem} (undo).txt`);
-            const left = made.left.length > 0 && `, but for the damage of ${blocksText(made.left, 8)}: their address and user data come back`;
+            const left = made.left.length > 0
+                && `, but for the damage of ${blocksText(made.left, 8)}: their address and user data come back`;
             const how = carry && ' Apply it with carry, as this script.';
             const long = made.script.long && ' It is longer than cdpatch and this page take: cdscript applies it with --long.';
             showNotice(left || long ? 'warn' : 'good', 'The undo script is saved.', 'On the patched image it makes the old one again',

@@ -57,7 +57,8 @@ function written(app, { pieces, size, patches, long }, name, left) {
         app.setScript(await blob.text(), name, 'made');
         app.showPanel('script');
     }, 'Put it into the panel Script');
-    const but = left.length === 0 ? 'gives just this image' : `gives this image but for ${blocksText(left, MOST_LEFT_NAMED)}, which it leaves as they are`;
+    const but = left.length === 0 ? 'gives just this image'
+        : `gives this image but for ${blocksText(left, MOST_LEFT_NAMED)}, which it leaves as they are`;
     const rest = long ? ' This is more than cdpatch takes: cdscript applies it with --long.' : '';
     const head = element('b', {}, `The script has ${countOf(patches, 'patch', 'patches')}.`);
     return element('div', { class: left.length === 0 ? 'say good' : 'say warn', role: 'status' }, head,
