@@ -174,9 +174,11 @@ class Chromium:
         return paths
 
     def wider(self, width: int) -> int:
-        """By how many pixels the page is wider than a window of this width."""
+        """By how many pixels the page is wider than a window of this width, when it has drawn itself anew."""
         self.size(width)
-        over = int(self.run('return document.documentElement.scrollWidth')) - width
+        drawn = """const [done] = arguments;
+            requestAnimationFrame(() => requestAnimationFrame(() => done(document.documentElement.scrollWidth)))"""
+        over = int(self.driver.execute_async_script(drawn)) - width
         self.size(1280)
         return over
 
