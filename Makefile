@@ -25,7 +25,7 @@ include install.mk
 # The README of the sources is for those who build; the tarball has this one under that name.
 README = tools/README.tarball.md
 
-# tools/prove.sh knows how the toolchain works inside, and is faster. rt by itself proves and builds the same.
+# tools/prove.py calls the module of rt, and is faster. rt by itself proves and builds the same.
 cdpatch: FORCE
 	@bash tools/toolchain.sh || true
 ifeq ($(SIMPLE),1)
@@ -36,7 +36,7 @@ ifeq ($(SIMPLE),1)
 	done
 	$(if $(MODULES),bash tools/wasm.sh library)
 else
-	@bash tools/prove.sh '$(strip cdpatch $(LIBRARY_CRATES) $(MODULES))' '$(AT_ONCE)' '$(CPU)'
+	@python3 tools/prove.py '$(strip cdpatch $(LIBRARY_CRATES) $(MODULES))' '$(AT_ONCE)' '$(CPU)'
 endif
 	cp crates/cdpatch/out/cdpatch cdpatch
 	bash tools/library.sh library
@@ -47,7 +47,7 @@ FORCE:
 
 wasm:
 	@[ -n '$(MODULES)' ] || { echo "library/cdpatch.wasm wants wasm-opt (Debian's package binaryen)." >&2; exit 1; }
-	@bash tools/prove.sh wasm '$(AT_ONCE)'
+	@python3 tools/prove.py wasm '$(AT_ONCE)'
 
 web: wasm
 	bash tools/notices.sh library/NOTICES

@@ -1,5 +1,5 @@
 #!/usr/bin/env bash
-# libcdpatch from C and from Python, as tools/prove.sh has built it of the crates of tools/library_crates.sh, its examples, and
+# libcdpatch from C and from Python, as tools/prove.py has built it of the crates of tools/library_crates.sh, its examples, and
 # clients of an installed tarball: `bash tests/library.sh [PROGRAM]`. The last line is 'N passed, M failed'.
 set -u
 . "$(dirname "$0")/helpers.sh"
@@ -16,7 +16,7 @@ others=("$top"/crates/{cd_args/src/fault,cd_program/src/commands,cd_script/src/c
 header=$top/include/cdpatch.h
 strict=(-Wall -Wextra -Werror -pedantic -I "$top/include")
 if ! bash "$top/tools/library.sh" library 2> errors; then
-    judge "the library is built (bash tools/prove.sh '${crates[*]}'): $(tail -n 1 errors)" false
+    judge "the library is built (python3 tools/prove.py '${crates[*]}'): $(tail -n 1 errors)" false
     finish
     exit
 fi

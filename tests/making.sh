@@ -6,7 +6,7 @@ top=$(cd "$(dirname "$0")/.." && pwd)
 . "$top/tests/judging.sh"
 cd "$scratch" || exit 1
 
-# A repository whose rt, tools/prove.sh, tools/library.sh, tools/wasm.sh and tests/run write into `called` what they are called for,
+# A repository whose rt, tools/prove.py, tools/library.sh, tools/wasm.sh and tests/run write into `called` what they are called for,
 # and of whose toolchain tools/toolchain.sh says that its logic is another.
 mkdir -p crates/cdpatch crates/cd_c crates/cd_c_images tools tests bin
 cp "$top/Makefile" "$top/install.mk" .
@@ -27,11 +27,14 @@ echo 'by rt' > "$made"
 chmod +x "$made"
 EOF_RT
 chmod +x bin/rt
-cat > tools/prove.sh << 'EOF_PROVE'
-echo "prove.sh: $*" >> "$CALLED"
-mkdir -p crates/cdpatch/out
-echo 'by prove.sh' > crates/cdpatch/out/cdpatch
-chmod +x crates/cdpatch/out/cdpatch
+cat > tools/prove.py << 'EOF_PROVE'
+import os, sys
+with open(os.environ["CALLED"], "a") as called:
+    print("prove.py:", *sys.argv[1:], file=called)
+os.makedirs("crates/cdpatch/out", exist_ok=True)
+with open("crates/cdpatch/out/cdpatch", "w") as program:
+    print("by prove.py", file=program)
+os.chmod("crates/cdpatch/out/cdpatch", 0o755)
 EOF_PROVE
 echo 'echo "library.sh: $*" >> "$CALLED"' > tools/library.sh
 echo 'echo "another logic"; exit 1' > tools/toolchain.sh
@@ -83,13 +86,13 @@ if ! missing make make 'what the Makefile does'; then
     judge 'no program is not tested' test "$status" = 2 -a ! -s called
     judge 'and that is said' grep -q 'There is no cdpatch to test: run make first' log
     makes
-    judge 'without SIMPLE tools/prove.sh proves' called 'prove.sh: cdpatch cd_c cd_c_images  ' 'library.sh: library'
-    judge 'the program is what it built' test "$(cat cdpatch)" = 'by prove.sh'
+    judge 'without SIMPLE tools/prove.py proves' called 'prove.py: cdpatch cd_c cd_c_images  ' 'library.sh: library'
+    judge 'the program is what it built' test "$(cat cdpatch)" = 'by prove.py'
     judge 'another logic is said in the first line' test "$(head -n 1 log)" = 'another logic'
     makes SIMPLE=
-    judge 'an empty SIMPLE is none' called 'prove.sh: cdpatch cd_c cd_c_images  ' 'library.sh: library'
+    judge 'an empty SIMPLE is none' called 'prove.py: cdpatch cd_c cd_c_images  ' 'library.sh: library'
     makes -j 3 CPU=x86-64-v3
-    judge 'it gets the number and the processor' called 'prove.sh: cdpatch cd_c cd_c_images 3 x86-64-v3' 'library.sh: library'
+    judge 'it gets the number and the processor' called 'prove.py: cdpatch cd_c cd_c_images 3 x86-64-v3' 'library.sh: library'
     judge 'its end says what was made, what was not, with the package, and what to try' ended \
         'made: cdpatch library/libcdpatch.a library/libcdpatch.so.1' \
         "not made: library/cdpatch.wasm cdscript cdpatch.html, which want wasm-opt (Debian's package binaryen)" \
@@ -98,7 +101,7 @@ if ! missing make make 'what the Makefile does'; then
     judge 'make wasm without wasm-opt' test "$status" = 2 -a ! -s called
     judge 'names the package too' grep -q 'package binaryen' log
     MODULES=wasm makes
-    judge 'the modules are one more goal' called 'prove.sh: cdpatch cd_c cd_c_images wasm  ' 'library.sh: library' \
+    judge 'the modules are one more goal' called 'prove.py: cdpatch cd_c cd_c_images wasm  ' 'library.sh: library' \
         'web.sh: library .'
     judge 'which are then made too' ended \
         'made: cdpatch library/libcdpatch.a library/libcdpatch.so.1 library/cdpatch.wasm cdscript cdpatch.html' \
@@ -107,15 +110,15 @@ if ! missing make make 'what the Makefile does'; then
     judge 'with SIMPLE they come after the libraries' called 'rt in cdpatch: run' "${libraries[@]:0:4}" 'wasm.sh: library' \
         'library.sh: library' 'web.sh: library .'
     MODULES=wasm makes wasm
-    judge 'make wasm makes only the modules' called 'prove.sh: wasm '
+    judge 'make wasm makes only the modules' called 'prove.py: wasm '
     MODULES=wasm makes web
-    judge 'make web joins what they are for too' called 'prove.sh: wasm ' 'notices.sh: library/NOTICES' 'web.sh: library .'
+    judge 'make web joins what they are for too' called 'prove.py: wasm ' 'notices.sh: library/NOTICES' 'web.sh: library .'
     makes check
     judge 'make check tests what make left' called 'tests: cdpatch '
     makes check WHOLE=1
     judge 'WHOLE is handed on' called 'tests: cdpatch 1'
     makes quick
-    judge 'make quick proves and tests' called 'prove.sh: cdpatch cd_c cd_c_images  ' 'library.sh: library' 'tests: cdpatch '
+    judge 'make quick proves and tests' called 'prove.py: cdpatch cd_c cd_c_images  ' 'library.sh: library' 'tests: cdpatch '
 
     mkdir -p bench/src
     cp "$top/bench/build" bench

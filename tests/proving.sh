@@ -1,182 +1,192 @@
 #!/usr/bin/env bash
-# How tools/prove.sh goes about it, with an rt that proves nothing: `bash tests/proving.sh`. The last line is
+# How tools/prove.py goes about it, with a toolchain that proves nothing: `bash tests/proving.sh`. The last line is
 # 'N passed, M failed'.
 set -u
 top=$(cd "$(dirname "$0")/.." && pwd)
 . "$top/tests/judging.sh"
 cd "$scratch" || exit 1
+if ! command -v python3 > /dev/null; then
+    skip "tools/prove.py, which needs python3 (Debian's package python3)"
+    finish
+    exit
+fi
 
 # A repository in which `right` and `left` stand on `low`, the program on all three, tests on the program, and a static library on
 # `left`.
-mkdir -p tools kit/{bin,rlibs} crates/{low,left,right,program,tests,for_c}/src
-cp "$top/tools/prove.sh" tools
-touch crates/program/src/main.rt kit/START-HERE.md
-printf '%s\n' 'program: left right' 'left: low bstr' '# the lowest' 'right: low' 'low:' 'tests: program' 'for_c staticlib: left' > crates.txt
+mkdir -p tools kit/bin crates/{low,left,right,program,tests,for_c}/src
+cp "$top/tools/prove.py" tools
+touch crates/program/src/main.rt
 
-# An rt that writes to `calls` what it is called for, which of a crate's libraries lack, and whether its earlier work is there.
+# An rt for the program: it says what it is called for, and that it runs the program.
 cat > kit/bin/rt << 'EOF_RT'
 #!/usr/bin/env bash
-kit=$(dirname "$(dirname "$(realpath "$0")")")
-if [ "$1" = doc ]; then
-    echo "$kit/START-HERE.md"
-    exit
-fi
-name=$(basename "$PWD")
-grep -qE "^$name( staticlib)?:" ../../crates.txt || exit 1
-below=$(sed -nE "s/^$name( staticlib)?: *//p" ../../crates.txt)
-for crate in $below; do
-    [ ! -d "../$crate" ] || [ -e "../$crate/out/rlib/built" ] || echo "$name lacks $crate" >> "$CALLS"
-done
-# A static library is built each time, whatever was kept of the work.
-if grep -q "^$name staticlib" ../../crates.txt; then
-    echo "$name begins: $*" | tee -a "$CALLS" > "out/lib$name.a"
-    exec "$kit/bin/rattle" build --crate-name "$name" --incremental out/incremental -o out/it
-fi
-if [ -e out/rlib/built ] || [ -e out/rlib/stamp ]; then
-    [ "$1" = lib ] || printf '%s\n' 'rt: nothing has changed since the last proved build' "rt: running out/$name" >&2
-    exit 0
-fi
-[ ! -e out/incremental/begun ] || echo "$name goes on" >> "$CALLS"
-echo "$name begins: $*" >> "$CALLS"
-echo "rt: chose --jobs 4 for $name" >&2
-program=
-[ "$1" = lib ] || program='--toolchain tools'
-"$kit/bin/rattle" build --crate-name "$name" --incremental out/incremental $program -o out/it || exit
-echo "$name ends" >> "$CALLS"
+echo "program begins: $*" >> "$CALLS"
+echo 'rt: running out/program' >&2
+[ -e out/program ] || echo proved >&2
+mkdir -p out && touch out/program
+echo 'what the program prints'
 EOF_RT
 
-# A rattle that writes its arguments, but for the crate's name.
-cat > kit/bin/rattle << 'EOF_RATTLE'
-#!/usr/bin/env bash
-name=$(basename "$PWD")
-words="$* "
-echo "$name ${words/--crate-name $name /}" >> "$CALLS"
-sleep "$([ "$name" = "${SLOW-}" ] && echo 60 || echo 0.2)"
-if [ "$name" = "${BROKEN-}" ]; then
-    printf '%s\n' 'a note' './proofs/Answers.antt:1:1: error: it is false' 'another'
-    exit 1
-fi
-mkdir -p out/rlib
-touch out/rlib/built
-EOF_RATTLE
-
-# What prove.sh asks of rt's own module.
+# rt's own module: each build of a crate says to `calls` what it is, and what of the crates below lacks.
 cat > kit/bin/rtlib.py << 'EOF_RTLIB'
-import glob
+import os
+import sys
+import time
+from pathlib import Path
+
+STANDS_ON = {"low": [], "left": ["low"], "right": ["low"], "program": ["left", "right"], "tests": ["program"], "for_c": ["left"]}
+
+
+def say(text):
+    with open(os.environ["CALLS"], "a", encoding="utf-8") as calls:
+        calls.write(f"{text}\n")
+
+
+def crates_below(top):
+    crates = {}
+    for name, below in STANDS_ON.items():
+        crates[name] = Crate(f"{top}/crates/{name}", name, [crates[low] for low in below])
+    return list(crates.values())
+
+
+def lock(crates):
+    return [os.open(crate.folder, os.O_RDONLY) for crate in crates]
+
+
+def guarded():
+    return []
+
+
+def fits(*needs):
+    return len(needs) <= 4
 
 
 class Crate:
-    def __init__(self, folder):
-        self.folder = folder
+    cuts_libraries = False
+
+    def __init__(self, folder, name, deps):
+        self.folder, self.name, self.deps = folder, name, deps
+        self.is_program, self.is_static, self.out = name in ("program", "tests"), name == "for_c", sys.stdout
         self.rlib = f"{folder}/out/rlib/it.rlib"
 
     def stamp(self):
         return "up to date"
 
+    def is_built(self):
+        stamp = Path(self.folder, "out/rlib/stamp")
+        return stamp.exists() and stamp.read_text(encoding="utf-8") == self.stamp()
 
-def crates_below(top):
-    return [Crate(folder) for folder in glob.glob(f"{top}/crates/*")]
+    def has_kept(self):
+        return Path(self.folder, "out/incremental").is_dir()
+
+    def build(self, what):
+        say(f"{self.name} begins: {what}")
+        for low in self.deps:
+            if not low.is_built():
+                say(f"{self.name} lacks {low.name}")
+        time.sleep(60 if self.name == os.environ.get("SLOW") else 0.2)
+        say(f"{self.name} ends")
+        if self.name == os.environ.get("BROKEN"):
+            print("a note", "./proofs/Answers.antt:1:1: error: it is false", "another", sep="\n", file=self.out)
+            return 1
+        print("rt: chose --jobs 4", "proved", sep="\n", file=self.out)
+        return 0
+
+    def build_rlib(self, flags, anew):
+        status = self.build(f"{'of statements' * (anew and self.cuts_libraries)}{'with what was kept' * (not anew)}{' '.join(flags)}")
+        os.makedirs(self.rlib, exist_ok=True)
+        return status
+
+    def build_static(self, flags):
+        os.makedirs(f"{self.folder}/out", exist_ok=True)
+        Path(self.folder, "out", f"lib{self.name}.a").write_text(f"for {' '.join(flags)}\n", encoding="utf-8")
+        return self.build(" ".join(["static", *flags]))
 EOF_RTLIB
-chmod +x kit/bin/*
-export CALLS=$scratch/calls PATH="$scratch/kit/bin:$PATH"
+chmod +x kit/bin/rt
+export CALLS=$scratch/calls PATH="$scratch/kit/bin:$PATH" PYTHONDONTWRITEBYTECODE=1
 
-# keep CRATE: what `rt check` keeps of its work on a crate.
-keep() {
-    mkdir -p "crates/$1/out/incremental"
-    touch "crates/$1/out/incremental/begun"
-}
-
-# prove WORD..: a run of tools/prove.sh with these words, its text in `log` and its status in `status`.
+# prove ARGUMENT..: a run of tools/prove.py with these arguments, its text in `log` and its status in `status`.
 prove() {
     : > calls
-    bash tools/prove.sh "${goals:-program}" "$@" > log 2> errors < /dev/null
+    python3 tools/prove.py "${goals:-program}" "$@" > log 2> errors < /dev/null
     status=$?
 }
 
-# Whether the last run wrote these lines, whatever the time in the last.
-wrote() { sed 's/ in [0-9]* min [0-9]* s$//; s/ after [0-9]* min [0-9]* s$//' log | cmp -s - <(printf '%s\n' "$@") && [ ! -s errors ]; }
+# Whether the last run printed these lines, whatever the time in the last.
+printed() { sed -E 's/ [0-9]+ min [0-9]+ s$//' log | cmp -s - <(printf '%s\n' "$@") && [ ! -s errors ]; }
 
-in_calls() { grep -qx "$1" calls; }
-not_in_calls() { ! grep -q "$1" calls; }
+called() { grep -qxF "$1" calls; }
+begun() { sed -n 's/ begins:.*//p' calls | paste -sd ' '; }
+never() { ! grep -q "$1" calls; }
 
 prove 1
 judge 'a whole proof' test "$status" = 0
-judge 'its lines' wrote 'proving low' 'proved low, 1 of 4' 'proving left' 'proved left, 2 of 4' 'proving right' 'proved right, 3 of 4' \
-    'proving program' 'proved program, 4 of 4' 'proved and built program'
-judge 'one at a time' cmp -s <(grep ' begins\| ends' calls) <(printf '%s\n' 'low begins: lib' 'low ends' 'left begins: lib' 'left ends' \
-    'right begins: lib' 'right ends' 'program begins: run --jobs 1' 'program ends')
-judge 'of a library the statements are kept' in_calls 'left build --statements -o out/it '
-judge 'the program is built as rt does it' in_calls 'program build --incremental out/incremental --toolchain tools -o out/it '
-judge 'no directory is left' test -z "$(find crates -name room)"
+judge 'its lines' printed 'proved low, 1 of 4' 'proved right, 2 of 4' 'proved left, 3 of 4' 'proved program, 4 of 4' \
+    'proved and built program in'
+judge 'one at a time' cmp -s <(awk '/begins/ { n++ } /ends/ { n-- } n > 1' calls) /dev/null
+judge 'of a library the statements are kept' called 'left begins: of statements'
+judge 'the program is built by rt' called 'program begins: run --jobs 1'
 
 prove
-judge 'what has not changed is not proved' test "$status" = 0 -a ! -s calls
+judge 'what has not changed is not proved' test "$status" = 0 -a "$(begun)" = program
 judge 'and is named' test "$(grep -c '^unchanged ' log)" = 4
 
 rm -r crates/*/out
 prove 8 x86-64-v3
-judge 'several at a time' test "$status" = 0 -a "$(grep -c ends calls)" = 4
-judge 'each after those below it' not_in_calls lacks
-judge 'the processor is handed on' in_calls 'program begins: run --jobs 1 --cpu x86-64-v3'
+judge 'several at a time' test "$status" = 0 -a "$(awk '/begins/ { n++ } /ends/ { n-- } n == 2' calls | wc -l)" -gt 0
+judge 'each after those below it' never lacks
+judge 'the processor is handed on' called 'program begins: run --jobs 1 --cpu x86-64-v3'
 
 rm -r crates/*/out
 goals='program for_c' prove 2
-judge 'a program and a static library' test "$status" = 0 -a "$(grep -c '^proved [a-z_]*, ' log)" = 4
+judge 'a program and a static library' test "$status" = 0 -a "$(grep -c '^proved [a-z_]*, ' log)" = 5
 judge 'are both named' grep -q '^proved and built program for_c in ' log
 judge 'the library is built for any processor and for a newer one' cmp -s <(cat crates/for_c/out/libfor_c{,-x86-64-v3}.a) \
-    <(printf '%s\n' 'for_c begins: lib' 'for_c begins: lib --cpu x86-64-v3')
-judge 'with the work of the first kept for the second' in_calls 'for_c build --incremental out/incremental -o out/it '
-judge 'it comes after those below it' not_in_calls lacks
+    <(printf '%s\n' 'for ' 'for --cpu x86-64-v3')
+judge 'it comes after those below it' never lacks
 rm -r crates/*/out
 goals=for_c prove 2
-judge 'what a static library does not need is not proved' cmp -s <(sed -n 's/ begins:.*//p' calls) <(printf '%s\n' low left for_c for_c)
+judge 'what a static library does not need is not proved' test "$(begun)" = 'low left for_c for_c'
 
 rm -r crates/*/out
 mkdir -p crates/{low,left,right}/out/rlib/it.rlib
 prove 2
-judge 'what rt ci has left is proved again' test "$(sed -n 's/ begins:.*//p' calls | sort | paste -sd ' ')" = 'left low program right'
+judge 'what rt ci has left is proved again' test "$(begun | tr ' ' '\n' | sort | paste -sd ' ')" = 'left low program right'
 rm -r crates/*/out
 mkdir -p crates/{low,left,right}/out/rlib/it.rlib
 echo another > crates/right/out/rlib/stamp
 AFTER_CI=1 prove 2
 judge 'and with AFTER_CI taken as it is' test "$status" = 0 -a "$(cat crates/{low,left}/out/rlib/stamp)" = 'up to dateup to date'
-judge 'so only the program is proved' cmp -s <(sed -n 's/ begins:.*//p' calls) <(echo program)
-judge 'a stamp that is there stays' grep -qx another crates/right/out/rlib/stamp
+judge 'but a stamp that is there decides' test "$(begun)" = 'right program'
 
 rm -r crates/*/out
-BROKEN=left prove 1
+mkdir -p crates/left/out/incremental
+BROKEN=low prove 1
 judge 'a crate that fails' test "$status" = 1
-judge 'its first error, and how to see all' wrote 'proving low' 'proved low, 1 of 4' 'proving left' \
-    'FAILED left: ./proofs/Answers.antt:1:1: error: it is false' '  all of it: (cd crates/left && rt check)' 'not proved,'
-judge 'nothing begins after it' not_in_calls '^\(right\|program\) begins'
-keep left
+judge 'its first error, and how to see all' printed 'FAILED low: ./proofs/Answers.antt:1:1: error: it is false' \
+    '  all of it: (cd crates/low && rt check)' 'not proved, after'
+judge 'nothing begins after it' test "$(begun)" = low
 prove
-judge 'corrected, it goes on with what rt check had' in_calls 'left goes on'
-judge 'as rt does it' in_calls 'left build --incremental out/incremental -o out/it '
+judge 'what rt check has kept is not proved again' called 'left begins: with what was kept'
 
 rm -r crates/*/out
-keep low
 : > calls
-SLOW=low bash tools/prove.sh program > log 2> errors < /dev/null &
+SLOW=low python3 tools/prove.py program > log 2> errors < /dev/null &
 until grep -q begins calls; do sleep 0.1; done
 kill $!
 wait $!
-judge 'a run that is stopped' test $? = 130
-prove
-judge 'and begun again' test "$status" = 0
-judge 'goes on with what it had' in_calls 'low goes on'
+judge 'a run that is stopped' test $? = 143
+judge 'leaves no library' test ! -e crates/low/out/rlib/stamp
 
-rm -r crates/*/out
-yes '// long' | head -n 100 > crates/right/src/lib.rt
+rm -rf crates/*/out
+yes '// long' | head -n 100 > crates/left/src/lib.rt
 prove 1
-judge 'the crates on the longest way come first' test "$(sed -n 's/ begins.*//p' calls | paste -sd ' ')" = 'low right left program'
+judge 'the crates on the longest way come first' test "$(begun)" = 'low left right program'
 
-PATH=/usr/bin:/bin prove
-judge 'with no rt nothing begins' test "$status" = 1 -a ! -s log
-
-printf '%s\n' 'program: low' 'low: program' > crates.txt
-prove
-judge 'crates that stand on one another' test "$status" = 1
-judge 'are named' grep -q 'stands on itself$' errors
+python=$(command -v python3)
+PATH=/usr/bin:/bin "$python" tools/prove.py program > log 2> errors
+judge 'with no rt nothing begins' test $? = 1 -a ! -s log
+goals=missing prove
+judge 'an unknown crate is named' grep -qx 'crates.txt has no missing' errors
 
 finish

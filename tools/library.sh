@@ -1,5 +1,5 @@
 #!/usr/bin/env bash
-# `tools/library.sh DIRECTORY` makes libcdpatch from what tools/prove.sh has built of the crates of tools/library_crates.sh: in DIRECTORY
+# `tools/library.sh DIRECTORY` makes libcdpatch from what tools/prove.py has built of the crates of tools/library_crates.sh: in DIRECTORY
 # libcdpatch.a, libcdpatch.so.1 and NOTICES, and in x86-64-v3/ there the shared library for that processor. It uses the toolchain's
 # own archiver, linker and C library.
 set -euo pipefail

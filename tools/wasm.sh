@@ -1,8 +1,8 @@
 #!/usr/bin/env bash
 # `tools/wasm.sh DIRECTORY` makes two WebAssembly modules in DIRECTORY of the calls of libcdpatch that take no memory:
 # cdpatch-wasm64.wasm, which is proved for that target, and of it cdpatch.wasm, whose memory has 32-bit addresses, so that engines
-# without 64-bit memories run it too; and cdpatch-wasm64.txt, the verdict. It needs the libraries that tools/prove.sh has built, and
-# wasm-opt. RT is the rt that it runs.
+# without 64-bit memories run it too; and cdpatch-wasm64.txt, the verdict. It needs the libraries that tools/prove.py has built, and
+# wasm-opt.
 #
 # A module has one crate of exports. So the crates of exports are joined to one, in a copy of the repository: the merge gate takes
 # no crate for wasm64. Their modules keep their names, and the paths to them lose the crate's.
@@ -78,7 +78,7 @@ find "$made" -type f -exec sed -i -E "s/\\bRattle\\.($(paste -sd '|' <<< "$expor
 # Vectors are compiled a lane at a time for this target, so here the survey works on words of 64 bits, under the same contracts.
 sed -i 's/use cd_sector::/use cd_words::/' "$made/src/bodies.rt"
 
-(cd "$made" && "${RT:-rt}" lib 2>&1) > "$room/log" || { cat "$room/log"; exit 1; }
+(cd "$made" && rt lib 2>&1) > "$room/log" || { cat "$room/log"; exit 1; }
 cat "$room/log"
 mv "$made/out/$crate.wasm" "$directory/cdpatch-wasm64.wasm"
 wasm-opt --enable-memory64 --enable-bulk-memory --enable-sign-ext --enable-mutable-globals --enable-nontrapping-float-to-int \

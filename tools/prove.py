@@ -1,0 +1,140 @@
+#!/usr/bin/env python3
+"""Proves programs and static libraries and the crates below them, and builds them: `prove.py 'NAME ..' [AT_ONCE [CPU]]`.
+
+A crate begins once all below it are proved, at most AT_ONCE of them side by side, and no more than there are processors and memory for;
+those on the longest way up to a goal come first. CPU is the processor that they are built for, if it is not any x86-64-v2; a static
+library NAME is out/libNAME.a, and built for x86-64-v3 as well, as out/libNAME-x86-64-v3.a. The goal `wasm` makes the WebAssembly modules,
+by tools/wasm.sh. With AFTER_CI=1 the libraries that `rt ci` has just proved and built are taken as they are.
+
+It calls rt's own module, so that libraries are built as `rt ci` builds them: with only their statements, over which the crates above are
+proved in half the time. rt has no flag for that, and a run of rt keeps every other run out of all crates below its own until it ends.
+"""
+
+import copy
+import os
+import re
+import shutil
+import subprocess
+import sys
+import tempfile
+import time
+from concurrent.futures import FIRST_COMPLETED, ThreadPoolExecutor, wait
+from graphlib import TopologicalSorter
+from pathlib import Path
+
+sys.path.insert(0, str(Path(shutil.which('rt') or sys.exit('There is no rt on the path.')).resolve().parent))
+import rtlib  # noqa: E402
+
+TOP = Path(__file__).resolve().parent.parent
+MEMORY = 2_000_000_000  # bytes, the most that the proof of a crate takes
+
+
+def crates_of(goals):
+    """Each crate that the goals need, and the names of those that it stands on. The modules stand on what their crates of exports do."""
+    crates = {crate.name: crate for crate in rtlib.crates_below(str(TOP))}
+    needs = {name: {low.name for low in crate.deps} for name, crate in crates.items()}
+    needs['wasm'] = {'cd_words'}.union(*(needs[name] for name, crate in crates.items() if crate.is_static and name != 'cd_c_images'))
+    graph = {}
+    while goals:
+        for name in goals - set(needs):
+            sys.exit(f'crates.txt has no {name}')
+        graph |= {name: needs[name] for name in goals}
+        goals = set().union(*graph.values()) - set(graph)
+    return crates, graph
+
+
+def size(name):
+    """The bytes of a crate's text: roughly how long its proof takes."""
+    folders = [Path('crates', name)] if name != 'wasm' else Path('crates').glob('cd_c*')
+    return 1 + sum(file.stat().st_size for folder in folders for end in ('src/**/*.rt', '*/**/*.antt') for file in folder.glob(end))
+
+
+def ways(graph):
+    """The bytes of the crates on the longest way from each up to a goal."""
+    longest = {}
+    for name in reversed(list(TopologicalSorter(graph).static_order())):
+        longest[name] = size(name) + max((longest[above] for above in longest if name in graph[above]), default=0)
+    return longest
+
+
+def stamp(crate):
+    """Notes that a library is up to date, as rt does of those that hold their proofs too."""
+    Path(crate.rlib).with_name('stamp').write_text(crate.stamp(), encoding='utf-8')
+
+
+def prove_library(crate):
+    """What `rt check` has kept of its work is not proved again."""
+    status = 0 if crate.is_built() else crate.build_rlib([], anew=not crate.has_kept())
+    if status == 0:
+        stamp(crate)
+    return status
+
+
+def prove_static(crate, cpu):
+    """The second build takes what the first has proved."""
+    made = f'{crate.folder}/out/lib{crate.name}'
+    status = crate.build_static(['--cpu', 'x86-64-v3'])
+    if status == 0:
+        os.replace(f'{made}.a', f'{made}-x86-64-v3.a')
+    return status or crate.build_static(cpu)
+
+
+def prove(name, crate, cpu):
+    """The status of a crate's proof, and what it printed: nothing if nothing has changed."""
+    with tempfile.TemporaryFile('w+', errors='replace') as out:
+        if name == 'wasm':
+            status = subprocess.run([*rtlib.guarded(), 'bash', 'tools/wasm.sh', 'library'], stdout=out, stderr=out).returncode
+        elif crate.is_program:
+            # One short function is left to prove: copies of rattle that share the work would make it longer.
+            words = [*rtlib.guarded(), 'rt', 'run', '--jobs', '1', *cpu]
+            status = subprocess.run(words, cwd=crate.folder, stdin=subprocess.DEVNULL, stdout=subprocess.DEVNULL, stderr=out).returncode
+        else:
+            crate, held = copy.copy(crate), rtlib.lock([crate])
+            crate.out = out
+            status = prove_static(crate, cpu) if crate.is_static else prove_library(crate)
+            os.close(*held)
+        out.seek(0)
+        return status, re.sub('rt: (nothing has changed|running|chose) .*\n', '', out.read())
+
+
+def prove_all(crates, graph, at_once, cpu):
+    """Whether all crates are proved. After one that is not, none begins."""
+    sorter, longest, ready, running, proved = TopologicalSorter(graph), ways(graph), [], {}, 0
+    sorter.prepare()
+    with ThreadPoolExecutor(at_once) as pool:
+        while sorter.is_active():
+            ready = sorted([*ready, *sorter.get_ready()], key=lambda name: (longest[name], name))
+            while ready and len(running) < at_once:
+                name = ready.pop()
+                running[pool.submit(prove, name, crates.get(name), cpu)] = name
+            for future in wait(running, return_when=FIRST_COMPLETED).done:
+                name, (status, text) = running.pop(future), future.result()
+                if status:
+                    said = re.search('^.*: error.*', text, re.MULTILINE) or re.search('.*$', text.strip())
+                    print(f'FAILED {name}: {said[0][:240]}\n  all of it: (cd crates/{name} && rt check)', flush=True)
+                    return False
+                proved += 1
+                print('proved' if text else 'unchanged', f'{name}, {proved} of {len(graph)}', flush=True)
+                sorter.done(name)
+    return True
+
+
+def main(goals, at_once='', cpu=''):
+    begun = time.monotonic()
+    rtlib.guarded()  # all that runs from here on ends with this
+    rtlib.Crate.cuts_libraries = True
+    os.chdir(TOP)
+    crates, graph = crates_of(set(goals.split()))
+    if os.environ.get('AFTER_CI'):
+        for crate in crates.values():
+            if os.path.isdir(crate.rlib) and not Path(crate.rlib).with_name('stamp').exists():
+                stamp(crate)
+    fitting = [number for number in range(1, int(at_once or 64) + 1) if rtlib.fits(*[MEMORY] * number)]
+    done = prove_all(crates, graph, max(fitting, default=1), ['--cpu', cpu] if cpu else [])
+    minutes, seconds = divmod(round(time.monotonic() - begun), 60)
+    print(f'proved and built {goals} in' if done else 'not proved, after', f'{minutes} min {seconds} s')
+    return 0 if done else 1
+
+
+if __name__ == '__main__':
+    sys.exit(main(*sys.argv[1:]))
