@@ -61,6 +61,10 @@ def fits(*needs):
     return len(needs) <= 4
 
 
+def share(runs):
+    return 4 // runs
+
+
 class Crate:
     cuts_libraries = False
 
@@ -79,8 +83,10 @@ class Crate:
     def has_kept(self):
         return Path(self.folder, "out/incremental").is_dir()
 
-    def build(self, what):
-        say(f"{self.name} begins: {what}")
+    def build(self, what, flags):
+        say(f"{self.name} takes {flags.pop(flags.index('--jobs') + 1)}")
+        flags.remove("--jobs")
+        say(f"{self.name} begins: {' '.join([what, *flags])}")
         for low in self.deps:
             if not low.is_built():
                 say(f"{self.name} lacks {low.name}")
@@ -93,14 +99,14 @@ class Crate:
         return 0
 
     def build_rlib(self, flags, anew):
-        status = self.build(f"{'of statements' * (anew and self.cuts_libraries)}{'with what was kept' * (not anew)}{' '.join(flags)}")
+        status = self.build(f"{'of statements' * (anew and self.cuts_libraries)}{'with what was kept' * (not anew)}", [*flags])
         os.makedirs(self.rlib, exist_ok=True)
         return status
 
     def build_static(self, flags):
         os.makedirs(f"{self.folder}/out", exist_ok=True)
         Path(self.folder, "out", f"lib{self.name}.a").write_text(f"for {' '.join(flags)}\n", encoding="utf-8")
-        return self.build(" ".join(["static", *flags]))
+        return self.build("static", [*flags])
 EOF_RTLIB
 chmod +x kit/bin/rt
 export CALLS=$scratch/calls PATH="$scratch/kit/bin:$PATH" PYTHONDONTWRITEBYTECODE=1
@@ -135,14 +141,16 @@ rm -r crates/*/out
 prove 8 x86-64-v3
 judge 'several at a time' test "$status" = 0 -a "$(awk '/begins/ { n++ } /ends/ { n-- } n == 2' calls | wc -l)" -gt 0
 judge 'each after those below it' never lacks
+judge 'one alone takes all processors' called 'low takes 4'
+judge 'two side by side take half' test "$(grep -cE '^(left|right) takes 2$' calls)" = 2
 judge 'the processor is handed on' called 'program begins: run --jobs 1 --cpu x86-64-v3'
 
 rm -r crates/*/out
 goals='program for_c' prove 2
 judge 'a program and a static library' test "$status" = 0 -a "$(grep -c '^proved [a-z_]*, ' log)" = 5
 judge 'are both named' grep -q '^proved and built program for_c in ' log
-judge 'the library is built for any processor and for a newer one' cmp -s <(cat crates/for_c/out/libfor_c{,-x86-64-v3}.a) \
-    <(printf '%s\n' 'for ' 'for --cpu x86-64-v3')
+judge 'the library is built for any processor and for a newer one' cmp -s \
+    <(sed 's/ --jobs [0-9]//' crates/for_c/out/libfor_c{,-x86-64-v3}.a) <(printf '%s\n' 'for' 'for --cpu x86-64-v3')
 judge 'it comes after those below it' never lacks
 rm -r crates/*/out
 goals=for_c prove 2
@@ -172,7 +180,7 @@ judge 'what rt check has kept is not proved again' called 'left begins: with wha
 rm -r crates/*/out
 : > calls
 SLOW=low python3 tools/prove.py program > log 2> errors < /dev/null &
-until grep -q begins calls; do sleep 0.1; done
+until grep -q begins calls || ! kill -0 $!; do sleep 0.1; done
 kill $!
 wait $!
 judge 'a run that is stopped' test $? = 143

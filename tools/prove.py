@@ -62,24 +62,24 @@ def stamp(crate):
     Path(crate.rlib).with_name('stamp').write_text(crate.stamp(), encoding='utf-8')
 
 
-def prove_library(crate):
+def prove_library(crate, jobs):
     """What `rt check` has kept of its work is not proved again."""
-    status = 0 if crate.is_built() else crate.build_rlib([], anew=not crate.has_kept())
+    status = 0 if crate.is_built() else crate.build_rlib(jobs, anew=not crate.has_kept())
     if status == 0:
         stamp(crate)
     return status
 
 
-def prove_static(crate, cpu):
+def prove_static(crate, jobs, cpu):
     """The second build takes what the first has proved."""
     made = f'{crate.folder}/out/lib{crate.name}'
-    status = crate.build_static(['--cpu', 'x86-64-v3'])
+    status = crate.build_static([*jobs, '--cpu', 'x86-64-v3'])
     if status == 0:
         os.replace(f'{made}.a', f'{made}-x86-64-v3.a')
-    return status or crate.build_static(cpu)
+    return status or crate.build_static([*jobs, *cpu])
 
 
-def prove(name, crate, cpu):
+def prove(name, crate, jobs, cpu):
     """The status of a crate's proof, and what it printed: nothing if nothing has changed."""
     with tempfile.TemporaryFile('w+', errors='replace') as out:
         if name == 'wasm':
@@ -91,7 +91,7 @@ def prove(name, crate, cpu):
         else:
             crate, held = copy.copy(crate), rtlib.lock([crate])
             crate.out = out
-            status = prove_static(crate, cpu) if crate.is_static else prove_library(crate)
+            status = prove_static(crate, jobs, cpu) if crate.is_static else prove_library(crate, jobs)
             os.close(*held)
         out.seek(0)
         return status, re.sub('rt: (nothing has changed|running|chose) .*\n', '', out.read())
@@ -105,8 +105,10 @@ def prove_all(crates, graph, at_once, cpu):
         while sorter.is_active():
             ready = sorted([*ready, *sorter.get_ready()], key=lambda name: (longest[name], name))
             while ready and len(running) < at_once:
+                # Several processors at one proof take more of them in all: only what nothing else wants.
+                jobs = ['--jobs', str(rtlib.share(min(len(running) + len(ready), at_once)))]
                 name = ready.pop()
-                running[pool.submit(prove, name, crates.get(name), cpu)] = name
+                running[pool.submit(prove, name, crates.get(name), jobs, cpu)] = name
             for future in wait(running, return_when=FIRST_COMPLETED).done:
                 name, (status, text) = running.pop(future), future.result()
                 if status:
