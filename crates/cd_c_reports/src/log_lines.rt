@@ -5,9 +5,10 @@ ghost use Rattle.cd_image.specs.PatchLog.{counts_line, outcome_line};
 ghost use Rattle.cd_program.specs.Messages.{script_fault_line};
 ghost use Rattle.cd_c_reports.specs.LogLines.{fault_of, outcome_of};
 
-use cd_image::{LINE_SIZE, Line, Outcome, counts_line, outcome_line};
+use cd_image::{Outcome, counts_line, outcome_line};
 use cd_program::script_fault_line;
 use cd_script::ScriptFault;
+use cd_stream::{LINE_SIZE, Line};
 
 /// The patch is applied.
 pub const OK: u32 = 0;

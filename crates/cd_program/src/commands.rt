@@ -14,10 +14,9 @@ ghost use Rattle.cd_read.specs.Image.{base_limit};
 
 use crate::messages::fault_line;
 use cd_args::{DONE, FAILED};
-use cd_image::{
-    AuditTally, Fault, Sink, SinkFailed, Source, Tally, apply, audit, check, list, write_all,
-};
+use cd_image::{AuditTally, Fault, Sink, SinkFailed, Source, Tally, apply, audit, check, list};
 use cd_script::Script;
+use cd_stream::write_all;
 
 /// The status of an audit with a finding.
 const FOUND: u8 = 1;

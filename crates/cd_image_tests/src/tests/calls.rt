@@ -4,10 +4,12 @@ ghost use Rattle.std.specs.Prelude.{◌≤◌};
 ghost use Rattle.cd_stream.specs.Stream.{CanCountFailure};
 
 use cd_image::{
-    AuditTally, FailAfter, Fault, ListTally, MAX_BASE, Short, Sink, SliceSink, SliceSource, Source,
-    Tally, apply, audit, check, fill_buffer, list,
+    AuditTally, FailAfter, Fault, ListTally, Short, Sink, SliceSink, SliceSource, Source, Tally,
+    apply, audit, check, list,
 };
+use cd_report::MAX_BASE;
 use cd_script::Script;
+use cd_stream::fill_buffer;
 use cd_test_images::{UNTOUCHED, Written, written_in};
 use std::alloc::{AllocError, Global};
 use std::process::Abort;

@@ -4,7 +4,8 @@
 use super::calls::{
     Answer, NO_LIMIT, Report, check_of, expect_reported, patched, report_of, report_with,
 };
-use cd_image::{AuditTally, FromRead, ListTally, Sink, Source, Tally, ToWrite, apply, fill_buffer};
+use cd_image::{AuditTally, FromRead, ListTally, Sink, Source, Tally, ToWrite, apply};
+use cd_stream::fill_buffer;
 use cd_test_images::{Resuming, script_of};
 use std::alloc::AllocError;
 use std::io;
