@@ -1,5 +1,5 @@
 //! The commands that take a script to an image in memory, each to a room. A base that no image has
-//! is answered as a failure, with nothing written.
+//! is a failure, with nothing written.
 
 ghost use Rattle.std.specs.Prelude.{◌≡◌, ◌<◌};
 ghost use Rattle.cd_c_images.specs.Images.{AppliesInMemory, ChecksInMemory, TakesText};

@@ -96,8 +96,8 @@ fn record_of(sector: &Sector, block: u32) -> SectorRecord
     }
 }
 
-/// Writes a record of each sector, the first of which is that of `block`, and answers true. It
-/// answers false and writes nothing if there are not as many records as sectors, or if `block` and
+/// Writes a record of each sector, the first of which is that of `block`, and returns true. It
+/// returns false and writes nothing if there are not as many records as sectors, or if `block` and
 /// their number have a sum above 4,294,967,295.
 #[unsafe(no_mangle)]
 pub extern "C" fn cdpatch_survey(

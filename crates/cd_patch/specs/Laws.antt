@@ -1,4 +1,4 @@
--- What follows from the definitions; each law is the contract of a function of `laws.rt`.
+-- What follows from the definitions of patches; each law is a contract of `laws.rt`.
 use Rattle.std.specs.Prelude.{◌≡◌, ◌↔◌, ℕ, ◌+◌, ◌≤◌, ◌≢◌, Bool, true, false, List, All, take, slice_get, Some}
 use Rattle.std.specs.List.Sorted.{IsNonDecreasingBy}
 use Rattle.cd_script.specs.Patch.{IsPatch}

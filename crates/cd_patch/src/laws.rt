@@ -1,4 +1,4 @@
-//! Laws of the definitions, each the contract of a function that does nothing.
+//! Laws of what patches do to sectors, each the contract of a function that does nothing.
 
 ghost use Rattle.cd_patch.specs.Laws.{HandSequenceIsRun, HandStandsForImage, LeavesOne, NeverDamaged, NothingToCarry, SequenceExists, SequenceIsDetermined, SequenceLeavesOthers, SequencesAgree};
 

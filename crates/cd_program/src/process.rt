@@ -20,7 +20,7 @@ use std::io::{self, ErrorKind};
 use std::os::fd::AsFd;
 use std::{env, fs};
 
-/// Does what the arguments after the program's name ask for, and answers the status. Every text
+/// Does what the arguments after the program's name ask for, and returns the status. Every text
 /// goes to the standard output; the line that says that there is no memory for its buffer goes out
 /// without one.
 ///
@@ -60,7 +60,7 @@ fn has_standard_streams(rt: &HostRuntime) -> bool {
         && rt.stderr().as_fd().try_clone_to_owned().is_ok()
 }
 
-/// Proof step: does what the arguments ask for, or says why there are none, and answers the status.
+/// Proof step: does what the arguments ask for, or says why there are none, and returns the status.
 /// The contract of the whole program, which `run_program` can't state of a process. std gives the
 /// arguments all or none, so no command is looked for among others that are not text.
 fn run_or_explain<H: Host, O: Sink>(

@@ -1,4 +1,4 @@
-//! The laws, which are contracts of functions that do nothing.
+//! The laws of images, reports and patched images, which are contracts of functions that do nothing.
 
 use cd_image::{patched_carries, patched_exists, patched_is_determined};
 use cd_read::images_are_cut;

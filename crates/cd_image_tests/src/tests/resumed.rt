@@ -1,4 +1,4 @@
-//! Readers of std that give bytes again after they have answered 0. The first 0 is the end: no call reads on, which no contract
+//! Readers of std that give bytes again after they have returned 0. The first 0 is the end: no call reads on, which no contract
 //! says, since none knows which bytes are still to come.
 
 use super::calls::{
