@@ -11,7 +11,7 @@ use crate::bodies::defect;
 use cd_report::{Findings, has_other_address};
 use cd_sector::{DefectReport, Sector, SectorKind, kind};
 
-/// The number of the kind whose records say more.
+/// The number of Mode 1, the kind whose records have findings.
 pub const MODE1: u8 = 2;
 
 /// What is found of a sector, as C's `struct cdpatch_record`. All but `kind` are 0 if it is not of

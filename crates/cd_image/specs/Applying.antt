@@ -212,15 +212,15 @@ WritesLog carry patches base image log log' tally =
     (log'.written ≡ Some (earlier ++ log_text patches outcomes))
     × (tally ≡ patch_tally bytes outcomes))
 
--- `image` could be what we were reading when this fault came
+-- `image` may be the image that was read when this fault came
 abbrev pub MayBeImageAfter : Fault → Option (List ℕ) → List ℕ → List ℕ → Type 0
 MayBeImageAfter Read left read whole = MayBeImage read whole
 MayBeImageAfter Write left read whole = MayBeImageAtEnd left read whole
 MayBeImageAfter Log left read whole = MayBeImageAtEnd left read whole
 MayBeImageAfter TooLong left read whole = MayBeImage read whole
 
--- after a fault: what the log has got begins the log of each run on each image that could be the
--- one that was being read
+-- after a fault: what the log has got begins the log of each run on each image that may be the
+-- one that was read
 pub record BeginsLog (carry : Bool) (patches : List Patch) (base : ℕ) (image image' : Incoming)
     (log log' : Outgoing) (fault : Fault) : Type 0 where
   pub read : List ℕ

@@ -48,7 +48,7 @@ SequenceLeavesOthers =
     → All IsPatch ps → All IsSector old
     → PatchSequence carry ps os base old last → LeavesOthers carry ps os base old last
 
--- what `LeavesOthers` says has only one result
+-- the conditions of `LeavesOthers` determine the result of a run
 abbrev pub LeavesOne : Type 0
 LeavesOne =
     (carry : Bool) (ps : List Patch) (os : List Outcome) (base : ℕ) (old last last' : List (List ℕ))

@@ -25,8 +25,7 @@ pub fn sequence_leaves_others()
     ensures { SequenceLeavesOthers }
 {}
 
-/// What `sequence_leaves_others` says has only one result: sectors of which it holds are those of
-/// the run.
+/// The conditions of `sequence_leaves_others` determine the result of a run.
 pub fn leaves_one()
     ensures { LeavesOne }
 {}

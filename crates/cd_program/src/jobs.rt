@@ -225,8 +225,8 @@ fn run_job<H: Host, O: Sink>(alloc: Global, host: &mut H, job: &Job, out: &mut O
     }
 }
 
-/// Prints why the arguments ask for no job, and returns the status. If that fails, help that was
-/// asked for is a failure too: a text that was lost is not success.
+/// Prints why the arguments ask for no job, and returns the status. If help cannot be written, the
+/// status is 2.
 fn explain<O: Sink>(alloc: Global, fault: &LineFault, out: &mut O) -> u8
     requires { CanCountFailure (O.seen out.old).failures }
     ensures { PrintsFault fault.now (O.seen out.old) (O.seen out.new) result }

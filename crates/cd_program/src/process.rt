@@ -21,8 +21,7 @@ use std::os::fd::AsFd;
 use std::{env, fs};
 
 /// Does what the arguments after the program's name ask for, and returns the status. Every text
-/// goes to the standard output; the line that says that there is no memory for its buffer goes out
-/// without one.
+/// goes to the standard output, which is buffered, except for the line for want of memory.
 ///
 /// It has no example: it is the whole of `main`, and [`run_args`] is what a test runs.
 pub fn run_program(rt: &HostRuntime) -> u8

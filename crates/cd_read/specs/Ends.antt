@@ -7,7 +7,7 @@ use Rattle.cd_read.specs.declared.fault.Fault.{Fault}
 use Rattle.cd_read.specs.declared.fault.Fault.TheVariants.{TooLong}
 use Rattle.cd_stream.specs.Stream.{Incoming, IsBeginning, Outgoing}
 
--- `image` could be what we are reading: it has at most 2,352,000,000 bytes, and begins with what
+-- `image` may be the image that is read: it has at most 2,352,000,000 bytes, and begins with what
 -- was read
 pub record MayBeImage (read image : List ℕ) : Type 0 where
   pub within : length image ≤ image_limit
