@@ -111,7 +111,7 @@ enum cdpatch_result cdpatch_carry_address(uint8_t *sector, const uint8_t *addres
 bool cdpatch_first_line(const uint8_t *text, size_t size, struct cdpatch_line *line);
 /* Reads a line of `size` bytes, without its end, and returns what it has; never CDPATCH_NO_MEMORY. For CDPATCH_PATCH writes the
  * record of the patch, and its new and old bytes, if it has some, to the first of CDPATCH_PATCH_SIZE bytes each; the others stay.
- * For any other answer nothing is written. CDPATCH_NO_VERSION: `version` is not 0, 1 or 2. */
+ * For any other result nothing is written. CDPATCH_NO_VERSION: `version` is not 0, 1 or 2. */
 enum cdpatch_content cdpatch_read_line(uint32_t version, uint32_t number, size_t earlier, const uint8_t *line, size_t size,
                                        struct cdpatch_patch *patch, uint8_t *new_bytes, uint8_t *old_bytes);
 /* Makes a patch, with CDPATCH_PATCH_SIZE bytes each of room for its new and its old bytes, on `count` sectors from its

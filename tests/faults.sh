@@ -17,7 +17,7 @@ in_hand=1
 prepare_large
 make_large 2351
 
-# struck CALLS FILE FAULT WORD..: the program with these words. A fault is put into its calls on a file, or none where FAULT is
+# struck CALLS FILE FAULT WORD..: the program with these words. A fault is put into its calls on a file, or none if FAULT is
 # empty; those calls are in `trace`, a line each. `$input` is its standard input.
 struck() {
     local calls=$1 file=$2 fault=$3

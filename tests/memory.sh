@@ -71,7 +71,7 @@ falling() {
 }
 
 # refusing WORD..: the program with these words. The shim refuses it memory when it asks for the `number`th time, and from then
-# on where `REFUSE_REST` is set.
+# on if `REFUSE_REST` is set.
 refusing() {
     rm -f out refused
     local -x REFUSE=$number REFUSED=refused LD_PRELOAD=$scratch/refuse.so

@@ -1,5 +1,5 @@
-/* The calls of libcdpatch from C: `check SAMPLES`, a file of consistent sectors of other encoders. Prints what fails, and answers
- * whether nothing does. Each call is made on memory that ends, and on memory that begins, where no byte may be touched. */
+/* The calls of libcdpatch from C: `check SAMPLES`, a file of consistent sectors of other encoders. Prints what fails, and returns
+ * whether nothing does. Each call is made on memory that ends, and on memory that begins, where no byte may be read or written. */
 #define _DEFAULT_SOURCE
 #include "fenced.h"
 

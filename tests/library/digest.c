@@ -1,5 +1,5 @@
 /* SHA-1 as libcdpatch gives it: the examples of FIPS 180, in pieces of each size, on memory that ends, and on memory that begins,
- * where no byte may be touched. Prints what fails, and answers whether nothing does. */
+ * where no byte may be read or written. Prints what fails, and returns whether nothing does. */
 #define _DEFAULT_SOURCE
 #include "fenced.h"
 
@@ -76,7 +76,7 @@ static void check_pieces(struct room room, uint8_t *bytes) {
     }
 }
 
-/* A state that was never begun answers something, and nothing else is touched. */
+/* A state that was never begun has some digest, and nothing else is written. */
 static void check_no_state(struct room room, uint8_t *bytes) {
     for (unsigned value = 0; value < 256; value++) {
         memset(room.state, (int)value, sizeof *room.state);

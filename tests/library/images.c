@@ -1,6 +1,6 @@
 /* The calls of libcdpatch on images, from C: `images SAMPLES [long]`, a file of consistent sectors of the blocks from 0; with
- * `long` also on an image and a script that are too long. Prints what fails, and answers whether nothing does. What a call reads
- * and writes lies in memory that ends, and in memory that begins, where no byte may be touched. Compiled with REFUSES, and linked
+ * `long` also on an image and a script that are too long. Prints what fails, and returns whether nothing does. What a call reads
+ * and writes lies in memory that ends, and in memory that begins, where no byte may be read or written. Compiled with REFUSES, and linked
  * so that the library's calls of malloc, realloc and free go to `__wrap_malloc` and so on, it refuses memory too. */
 #define _DEFAULT_SOURCE
 #include "fenced.h"
@@ -10,7 +10,7 @@ enum { LIST, AUDIT, CHECK, APPLY };
 
 static const char *const names[] = {"list", "audit", "check", "apply"};
 
-/* A call, the image and the script that it is passed, and what it answers. */
+/* A call, the image and the script that it is passed, and what it returns. */
 struct asked {
     int call;
     const uint8_t *image;

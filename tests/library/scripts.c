@@ -1,6 +1,6 @@
 /* The calls of libcdpatch on lines, patches and sectors in hand, from C: `scripts SAMPLES [long]`, a file of consistent sectors of
- * the blocks from 0; with `long` also on a line of 67108864 bytes. Prints what fails, and answers whether nothing does. What a
- * call reads and writes lies in memory that ends, and in memory that begins, where no byte may be touched. What it must not write
+ * the blocks from 0; with `long` also on a line of 67108864 bytes. Prints what fails, and returns whether nothing does. What a
+ * call reads and writes lies in memory that ends, and in memory that begins, where no byte may be read or written. What it must not write
  * is filled before, and compared after. */
 #define _DEFAULT_SOURCE
 #include "fenced.h"
@@ -185,7 +185,7 @@ static void check_cutting(const struct room *it, bool at_end) {
 
 /* ---- patches on the sectors in hand */
 
-/* Makes the record on `count` sectors, and judges what it answers and that a refusal leaves the sectors. */
+/* Makes the record on `count` sectors, and judges what it returns and that a refusal leaves the sectors. */
 static void expect(const struct room *it, const uint8_t *samples, struct cdpatch_patch record, size_t count, bool carry,
                    uint32_t result, uint32_t block, uint16_t offset, const char *what) {
     uint8_t *sectors = it->sectors + (count < SAMPLES ? SAMPLES - count : 0) * SECTOR;

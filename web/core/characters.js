@@ -44,7 +44,7 @@ export class CharacterTable {
     }
 
     /**
-     * Adds bytes and what they mean. What was added first is the usual spelling. Answers whether the bytes were new.
+     * Adds bytes and what they mean. What was added first is the usual spelling. Returns whether the bytes were new.
      * @param {Uint8Array} bytes
      * @param {string} text
      */

@@ -112,7 +112,7 @@ export function localHand(calls) {
 }
 
 /**
- * Bytes whose memory is theirs alone.
+ * Bytes whose memory is only theirs.
  * @param {Uint8Array} bytes
  */
 function ownBytes(bytes) {

@@ -21,7 +21,7 @@ const SURVEY_STEP = 4096;
 /**
  * The records of a range of sectors. A job for a worker.
  * @param {Calls} calls
- * @param {Uint8Array} bytes whole sectors; what comes after them is left alone
+ * @param {Uint8Array} bytes whole sectors; what comes after them is not read
  * @param {number} block that of the first
  * @returns {Survey}
  */

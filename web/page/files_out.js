@@ -1,4 +1,4 @@
-// Giving files to the user: as a stream to a file that he chooses, where the browser can, else as a download.
+// Giving files to the user: as a stream to a file that he chooses, if the browser can, else as a download.
 
 import { element } from './dom.js';
 

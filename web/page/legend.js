@@ -1,4 +1,4 @@
-// The legend of the map, whose entries show one mark alone.
+// The legend of the map, whose entries show only one mark.
 
 import { counted, element, fill } from './dom.js';
 import { oneStop } from './groups.js';

@@ -13,7 +13,6 @@ use clap::{Arg, ArgAction, Command, value_parser};
 use std::alloc::{AllocError, Global};
 
 /// The largest number that the first block of an image may have: the last block with an address.
-// Its own number, since for one constant this crate would wait for cd_sector's proof. The clauses name it, so both are checked.
 pub const MAX_BASE: u32 = 449_849;
 
 /// A text that a command needs.

@@ -19,7 +19,7 @@ pub const NO_MEMORY: &str = "cdpatch: no memory\n";
 /// Why the command line gives no job. It keeps the parser's error, so it needs clap.
 #[derive(Debug, Drop, Error)]
 pub enum LineFault {
-    /// The parser refuses the arguments, or answers them by help.
+    /// The parser refuses the arguments, or they ask for help.
     #[error("{0}")]
     Parser(clap::Error),
     /// Memory ran out, in the parser or outside of it.

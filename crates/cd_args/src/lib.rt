@@ -14,8 +14,8 @@
 //! | `apply IMAGE SCRIPT OUT [--carry] [--base N]` | [`Job::Apply`] |
 //!
 //! N is 0 to [`MAX_BASE`], the last block with an address (ECMA-130, 14). clap parses the arguments
-//! and makes the help. The parser takes memory, and `cdpatch: no memory` is the answer if there is
-//! none.
+//! and makes the help. The parser takes memory; if there is none, the line is
+//! `cdpatch: no memory`.
 //!
 //! Tests: `crates/cd_program_tests`.
 #![tactic(auto)]

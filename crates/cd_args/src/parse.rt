@@ -142,7 +142,7 @@ fn standard_input_job(alloc: Global) -> Result<Job, AllocError>
 ///
 /// # Errors
 ///
-/// The parser refuses the arguments or answers them by help, or memory runs out.
+/// The parser refuses the arguments, or they ask for help, or memory runs out.
 ///
 /// # Examples
 ///

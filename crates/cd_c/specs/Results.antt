@@ -1,4 +1,4 @@
--- The numbers that calls of C answer.
+-- The numbers that calls of C return.
 use Rattle.std.specs.Prelude.{ℕ, ◌+◌, nat_lt, Bool, not, if◌then◌else◌, List}
 use Rattle.cd_sector.specs.Consistent.{consistent, is_mode1}
 use Rattle.cd_sector.specs.Kind.{kind_of}
@@ -13,12 +13,12 @@ as_byte b = if b then 1 else 0
 abbrev pub is_inside : ℕ → ℕ → Bool
 is_inside offset count = nat_lt (offset + count) (USER_SIZE + 1)
 
--- what a change that carries damage answers, by the sector and whether what it writes lies inside
+-- what a change that carries damage returns, by the sector and whether what it writes lies inside
 abbrev pub carry_result : List ℕ → Bool → ℕ
 carry_result sector inside =
     if not (is_mode1 (kind_of sector)) then NOT_MODE1 else if inside then OK else OUT_OF_RANGE
 
--- what a change that refuses a damaged sector answers: by the kind, then damage, then the range
+-- what a change that refuses a damaged sector returns: by the kind, then damage, then the range
 abbrev pub change_result : List ℕ → Bool → ℕ
 change_result sector inside =
     if not (is_mode1 (kind_of sector)) then NOT_MODE1

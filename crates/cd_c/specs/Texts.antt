@@ -1,4 +1,4 @@
--- Words for what a call answers.
+-- Words for what a call of C returns.
 use Rattle.std.specs.Prelude.{ℕ, ◌==◌, if◌then◌else◌, List, [], codes}
 use Rattle.cd_c.specs.declared.results.TheConstants.{OK, NOT_MODE1, DAMAGED, OUT_OF_RANGE, NO_BLOCK, DIFFERS}
 use Rattle.cd_c.specs.declared.results.TheConstants.{NO_PATCH}

@@ -1,4 +1,4 @@
-//! Changes of a sector. One that is refused leaves the sector as it was.
+//! Calls of C that change a sector. One that is refused leaves the sector as it was.
 
 ghost use Rattle.std.specs.Prelude.{◌≡◌, ◌≢◌, ℕ, ◌++◌, ◌<◌, ◌≤◌, ◌⊎◌, List, bit_xor, drop, length, slice_index, slice_range, take, true};
 ghost use Rattle.std.specs.Int.{from_le_bytes, w32};

@@ -1,4 +1,4 @@
-//! What changes and patches answer.
+//! The numbers that calls of C return for changes and patches.
 
 ghost use Rattle.std.specs.Prelude.{◌≡◌, ◌+◌, ◌≤◌, length, true};
 ghost use Rattle.cd_sector.specs.Kind.{kind_of};
@@ -36,7 +36,7 @@ pub(crate) fn is_inside(offset: usize, bytes: &[u8]) -> bool
     offset <= USER_SIZE && bytes.len() <= USER_SIZE - offset
 }
 
-/// What a change of a sector answers that carries its damage.
+/// What a change of a sector returns that carries its damage.
 pub(crate) fn carry_result(sector: &Sector, inside: bool) -> u32
     ensures result { result ≡ carry_result sector.now inside }
     ensures mode { result ≡ OK → kind_of sector.now ≡ Mode1 }
@@ -49,7 +49,7 @@ pub(crate) fn carry_result(sector: &Sector, inside: bool) -> u32
     }
 }
 
-/// What a change of a sector answers that refuses a damaged one. The kind is tested first, then
+/// What a change of a sector returns that refuses a damaged one. The kind is tested first, then
 /// damage, then the range: the order of `apply`.
 pub(crate) fn change_result(sector: &Sector, inside: bool) -> u32
     ensures result { result ≡ change_result sector.now inside }

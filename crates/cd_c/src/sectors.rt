@@ -54,7 +54,7 @@ pub extern "C" fn cdpatch_kind(sector: &Sector) -> u32
     }
 }
 
-/// Writes the address of a block to `bcd`, as [`address_of`], and answers whether it has one. Else `bcd` stays.
+/// Writes the address of a block to `bcd`, as [`address_of`], and returns whether it has one. Else `bcd` stays.
 #[unsafe(no_mangle)]
 pub extern "C" fn cdpatch_address(block: u32, bcd: &mut [u8; 3]) -> bool
     ensures value { result ≡ true → address block ≡ Some bcd.new }

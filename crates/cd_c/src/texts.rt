@@ -1,4 +1,4 @@
-//! Words for what a call answers.
+//! Words for what a call of C returns.
 
 ghost use Rattle.std.specs.Prelude.{◌≡◌, ◌++◌, ◌≤◌, drop, length};
 ghost use Rattle.cd_c.specs.Texts.{result_text};

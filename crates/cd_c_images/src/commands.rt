@@ -1,13 +1,13 @@
 //! The commands that take a script to an image in memory, each to a room. A base that no image has
-//! is answered as a failure, with nothing written.
+//! is a failure, with nothing written.
 
 ghost use Rattle.std.specs.Prelude.{◌≡◌, ◌<◌};
 ghost use Rattle.cd_c_images.specs.Images.{AppliesInMemory, ChecksInMemory, TakesText};
 ghost use Rattle.cd_rooms.specs.Rooms.{FillsRoom, lent_to, room_outgoing};
 ghost use Rattle.cd_stream.specs.Stream.{CanCountFailure};
 
-use cd_args::FAILED;
-use cd_image::{MAX_BASE, Sink, SliceSource};
+use cd_args::{FAILED, MAX_BASE};
+use cd_image::{Sink, SliceSource};
 use cd_program::{LoadFault, load_fault_line, print_and_fail, read_script, run_apply, run_check};
 use cd_rooms::Room;
 use cd_script::{MAX_TEXT, Script};

@@ -1,4 +1,4 @@
-//! Calls that take a script to an image.
+//! Calls of C that take a script to an image.
 
 ghost use Rattle.std.specs.Prelude.{◌≡◌, ◌≢◌};
 ghost use Rattle.cd_args.specs.Fault.{failed_status};
@@ -10,7 +10,7 @@ use crate::commands::{apply_image, check_image};
 use cd_rooms::Room;
 use std::alloc::Global;
 
-/// Decides each patch of a script on an image, as the command `check`, and answers its status.
+/// Decides each patch of a script on an image, as the command `check`, and returns its status.
 /// `log` gets what the command prints, and `length` the number of bytes of it that were written.
 #[unsafe(no_mangle)]
 pub extern "C" fn cdpatch_check(
@@ -38,7 +38,7 @@ pub extern "C" fn cdpatch_check(
     u32::from(status)
 }
 
-/// Patches an image to `out`, as the command `apply`, and answers its status. `log` gets what the
+/// Patches an image to `out`, as the command `apply`, and returns its status. `log` gets what the
 /// command prints, and `length` the number of bytes of it that were written.
 #[unsafe(no_mangle)]
 pub extern "C" fn cdpatch_apply(

@@ -5,9 +5,10 @@ ghost use Rattle.cd_image.specs.PatchLog.{counts_line, outcome_line};
 ghost use Rattle.cd_program.specs.Messages.{script_fault_line};
 ghost use Rattle.cd_c_reports.specs.LogLines.{fault_of, outcome_of};
 
-use cd_image::{LINE_SIZE, Line, Outcome, counts_line, outcome_line};
+use cd_image::{Outcome, counts_line, outcome_line};
 use cd_program::script_fault_line;
 use cd_script::ScriptFault;
+use cd_stream::{LINE_SIZE, Line};
 
 /// The patch is applied.
 pub const OK: u32 = 0;
@@ -58,7 +59,7 @@ fn fault_of(number: u32, line: u32) -> Option<ScriptFault>
     }
 }
 
-/// Writes a line to the front of `text`, and answers its size.
+/// Writes a line to the front of `text`, and returns its size.
 fn write_line(line: &Line, text: &mut [u8; LINE_SIZE]) -> usize
     requires { length line.now ≤ LINE_SIZE }
     ensures size { result ≡ length line.now }
@@ -71,8 +72,8 @@ fn write_line(line: &Line, text: &mut [u8; LINE_SIZE]) -> usize
 }
 
 /// Writes the line of a log for the patch in line `number` of a script to the front of `text`, as
-/// [`outcome_line`], and answers its size in bytes. The outcome is a number of `enum
-/// cdpatch_result`; for one that is none of an outcome it writes nothing, and answers 0.
+/// [`outcome_line`], and returns its size in bytes. The outcome is a number of `enum
+/// cdpatch_result`; for one that is none of an outcome it writes nothing, and returns 0.
 #[unsafe(no_mangle)]
 pub extern "C" fn cdpatch_outcome_line(
     number: u32,
@@ -94,7 +95,7 @@ pub extern "C" fn cdpatch_outcome_line(
     }
 }
 
-/// Writes the last line of a log to the front of `text`, as [`counts_line`], and answers its size in
+/// Writes the last line of a log to the front of `text`, as [`counts_line`], and returns its size in
 /// bytes.
 #[unsafe(no_mangle)]
 pub extern "C" fn cdpatch_last_line(applied: u32, refused: u32, text: &mut [u8; LINE_SIZE]) -> usize
@@ -107,8 +108,8 @@ pub extern "C" fn cdpatch_last_line(applied: u32, refused: u32, text: &mut [u8; 
 }
 
 /// Writes the line of the fault in line `number` of a script to the front of `text`, as
-/// [`script_fault_line`], and answers its size in bytes. The fault is a number of `enum
-/// cdpatch_content`; for one that is none of a fault it writes nothing, and answers 0.
+/// [`script_fault_line`], and returns its size in bytes. The fault is a number of `enum
+/// cdpatch_content`; for one that is none of a fault it writes nothing, and returns 0.
 #[unsafe(no_mangle)]
 pub extern "C" fn cdpatch_fault_line(number: u32, fault: u32, text: &mut [u8; LINE_SIZE]) -> usize
     ensures line { IfSome (fault_of fault number)

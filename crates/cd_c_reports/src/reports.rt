@@ -1,4 +1,4 @@
-//! Calls that describe an image.
+//! Calls of C that describe an image.
 
 ghost use Rattle.std.specs.Prelude.{◌≡◌, ◌≢◌};
 ghost use Rattle.cd_args.specs.Fault.{done_status, failed_status};
@@ -10,7 +10,7 @@ ghost use Rattle.cd_rooms.specs.Rooms.{FillsCounted};
 
 use cd_rooms::{Room, audit_image, list_image};
 
-/// Lists an image to `text`, as the command `list`, and answers its status. `length` gets the
+/// Lists an image to `text`, as the command `list`, and returns its status. `length` gets the
 /// number of bytes that were written.
 #[unsafe(no_mangle)]
 pub extern "C" fn cdpatch_list(image: &[u8], base: u32, text: &mut [u8], length: &mut usize) -> u32
@@ -30,7 +30,7 @@ pub extern "C" fn cdpatch_list(image: &[u8], base: u32, text: &mut [u8], length:
     u32::from(status)
 }
 
-/// Audits an image to `text`, as the command `audit`, and answers its status. `length` gets the
+/// Audits an image to `text`, as the command `audit`, and returns its status. `length` gets the
 /// number of bytes that were written.
 #[unsafe(no_mangle)]
 pub extern "C" fn cdpatch_audit(image: &[u8], base: u32, text: &mut [u8], length: &mut usize) -> u32

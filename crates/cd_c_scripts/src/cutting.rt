@@ -1,11 +1,11 @@
-//! The call that cuts a text into lines.
+//! The call of C that cuts a script's text into lines.
 
 ghost use Rattle.std.specs.Prelude.{◌≡◌, ◌∷◌, ◌<◌, ◌≤◌, [], drop, false, length, take, true};
 ghost use Rattle.std.specs.Str.Lines.{lines};
 
 use cd_script::{TextLine, first_line};
 
-/// Finds the first line of a text, as [`first_line`], and answers whether there is one. What follows
+/// Finds the first line of a text, as [`first_line`], and returns whether there is one. What follows
 /// it is the text of the next call.
 #[unsafe(no_mangle)]
 pub extern "C" fn cdpatch_first_line(text: &[u8], line: &mut TextLine) -> bool

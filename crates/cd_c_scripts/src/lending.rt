@@ -9,7 +9,7 @@ ghost use Rattle.cd_c_scripts.specs.FlatPatch.{flag_of, flat_edit, new_of, old_o
 use crate::flat_patch::{ADDRESS, FILL, FlatPatch, REBUILD, SET};
 use cd_script::{Edit, HexEdit, HexPatch, HexWord};
 
-/// Writes the bytes of a hex word to the front of a room, and answers how many they are.
+/// Writes the bytes of a hex word to the front of a room, and returns how many they are.
 fn lend_bytes(word: &HexWord<'_>, room: &mut [u8]) -> u16
     requires most { length word.now ≤ bytes_limit }
     requires room { bytes_limit ≤ length room.old }
@@ -21,7 +21,7 @@ fn lend_bytes(word: &HexWord<'_>, room: &mut [u8]) -> u16
     word.len() as u16
 }
 
-/// Writes `count` old bytes, if there are some, and answers `has_old`.
+/// Writes `count` old bytes, if there are some, and returns `has_old`.
 fn lend_old(was: &Option<HexWord<'_>>, count: u16, room: &mut [u8]) -> u8
     requires same { IfSome was.now (λ old. length old ≡ count) }
     requires most { count ≤ bytes_limit }

@@ -1,9 +1,9 @@
 //! The calls on a script's lines and patches that C programs make, `cdpatch_*` of `cdpatch.h`: a text
 //! is cut into lines, a line is read, and a patch is taken on the sectors in hand. Each passes on to a
 //! function of the crates below and states its clauses again. None takes memory: a patch is a flat
-//! record, whose bytes stand in rooms that C lends. What C can break is tested and answered; that
-//! pointers are valid and not null, and that what is written overlaps nothing else that is passed, C
-//! has to see to.
+//! record, whose bytes stand in rooms that C lends. Each tests what C can get wrong, but not that
+//! pointers are valid and not null, and that what is written overlaps nothing else that is passed: C
+//! has to see to that.
 #![tactic(auto)]
 
 mod cutting;

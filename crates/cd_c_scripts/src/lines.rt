@@ -1,4 +1,4 @@
-//! The call that reads a line of a script.
+//! The call of C that reads a line of a script.
 
 ghost use Rattle.std.specs.Prelude.{◌≡◌, ◌≢◌, IfSome, Some};
 ghost use Rattle.cd_c_scripts.specs.FlatPatch.{IsSomePatch, flat_patch, new_of, old_of, record_of, with_front};
@@ -45,8 +45,8 @@ fn version_of(version: u32) -> Option<Option<Version>>
     }
 }
 
-/// Reads one line of a script without its end, as [`read_line`], and answers a number of `enum
-/// cdpatch_content`. `version` is 0 while there was no head line, then what that was answered;
+/// Reads one line of a script without its end, as [`read_line`], and returns a number of `enum
+/// cdpatch_content`. `version` is 0 while there was no head line, then what that returned;
 /// `earlier` is how many patches were read before. A patch goes to `patch`, and its new and old
 /// bytes to the front of `new_bytes` and `old_bytes`; if the line has none, nothing is written.
 #[unsafe(no_mangle)]

@@ -1,4 +1,4 @@
-//! The call that takes a patch on the sectors in hand.
+//! The call of C that takes a patch on the sectors in hand.
 
 ghost use Rattle.std.specs.Prelude.{◌≡◌, ◌≢◌, ◌↔◌, IfSome};
 ghost use Rattle.cd_script.specs.Patch.{IsPatch};
@@ -55,7 +55,7 @@ fn note_place(outcome: Outcome, place: &mut Place)
 /// Decides a patch on the sectors from its first block on, and makes it if it is accepted, as
 /// [`apply_lent`]; `sectors` has as many as the image has from there, of which at most three are
 /// looked at. The patch is that of `patch`, with its bytes at the front of `new_bytes` and
-/// `old_bytes`, as `cdpatch_read_line` writes them. Answers a number of `enum cdpatch_result`;
+/// `old_bytes`, as `cdpatch_read_line` writes them. Returns a number of `enum cdpatch_result`;
 /// `place` gets the block and the byte if the patch is refused. A record of no patch changes nothing.
 #[unsafe(no_mangle)]
 pub extern "C" fn cdpatch_apply_patch(

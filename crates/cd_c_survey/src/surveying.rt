@@ -11,7 +11,7 @@ use crate::bodies::defect;
 use cd_report::{Findings, has_other_address};
 use cd_sector::{DefectReport, Sector, SectorKind, kind};
 
-/// The number of the kind whose records say more.
+/// The number of Mode 1, the kind whose records have findings.
 pub const MODE1: u8 = 2;
 
 /// What is found of a sector, as C's `struct cdpatch_record`. All but `kind` are 0 if it is not of
@@ -96,8 +96,8 @@ fn record_of(sector: &Sector, block: u32) -> SectorRecord
     }
 }
 
-/// Writes a record of each sector, the first of which is that of `block`, and answers true. It
-/// answers false and writes nothing if there are not as many records as sectors, or if `block` and
+/// Writes a record of each sector, the first of which is that of `block`, and returns true. It
+/// returns false and writes nothing if there are not as many records as sectors, or if `block` and
 /// their number have a sum above 4,294,967,295.
 #[unsafe(no_mangle)]
 pub extern "C" fn cdpatch_survey(

@@ -1,4 +1,4 @@
--- What follows from the definitions; each law is the contract of a function of `laws.rt`.
+-- What follows from the definitions of codes; each law is a contract of `laws.rt`.
 use Rattle.std.specs.Prelude.{◌≡◌, ℕ, ◌==◌, ◌+◌, ◌*◌, ◌/◌, ◌%◌, ◌<◌, if◌then◌else◌, bit_xor, List, length, slice_index}
 use Rattle.cd_code.specs.Field.{AreBytes, IsSum, double, product}
 use Rattle.cd_code.specs.Edc.{IsEdc, bits, remainder}

@@ -1,4 +1,4 @@
-//! Laws of the definitions, each the contract of a function that does nothing.
+//! Laws of the EDC, products and parity pairs, each the contract of a function that does nothing.
 
 ghost use Rattle.cd_code.specs.Laws.{EdcIsUnique, EdcOfSum, PairIsUnique, ProductByBits, ProductOfNone, RemainderOfSum, SumByBits};
 

@@ -146,7 +146,7 @@ AreDifferences-more {s} {offset} {n} {bytes} {sums} x below h is =
           ∙ h.outside k (elim out [ inl low ↦ inl low | inr high ↦ inr (omega arith) ]);
     }
 
--- zeros in front of a list change nothing
+-- zeros before a list change nothing
 after-none : (k : ℕ) → after 0 (replicate k 0) ≡ 0
 after-none zero = refl
 after-none (suc k) = ap (λ r. after r (replicate k 0)) (after_bits-zero 8) ∙ after-none k

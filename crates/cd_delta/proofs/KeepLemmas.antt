@@ -44,7 +44,7 @@ IsDiagonalPair plane row column d t =
     let n = diagonal_at row column in
     IsPair plane (1118 + n) (1144 + n) 45 column d t
 
--- a byte in front of the parity changes, and the eight changes follow from it
+-- a byte before the parity changes, and the eight changes follow from it
 pub record AreCarried (byte : Change) (t : Eight) : Type 0 where
   pub plane : ℕ
   pub row : ℕ

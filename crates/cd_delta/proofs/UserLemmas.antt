@@ -140,7 +140,7 @@ WithEdc-written old new four w error size each fits word at h =
 
 -- ---- both
 
--- bytes in front of the EDC, and then the EDC
+-- bytes before the EDC, and then the EDC
 pub IsChanged-carried : (old t new : List ℕ) (place : ℕ) (bytes : List ℕ) (error : ℕ)
     → place + length bytes ≤ 2064
     → IsWritten old t place (length bytes) bytes → WithEdc t new error

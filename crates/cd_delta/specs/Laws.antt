@@ -1,4 +1,4 @@
--- What follows from the definitions; each law is the contract of a function of `laws.rt`.
+-- What follows from the definition of diagonals; the law is a contract of `laws.rt`.
 use Rattle.std.specs.Prelude.{◌≡◌, ◌↔◌, ℕ, ◌+◌, ◌*◌, ◌<◌, slice_index}
 use Rattle.cd_sector.specs.CodeWords.{diagonal_places, place_of}
 use Rattle.cd_delta.specs.ParityChanges.{diagonal_at}

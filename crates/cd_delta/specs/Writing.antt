@@ -42,7 +42,7 @@ pub record IsChanged (old new : List ℕ) (place : ℕ) (bytes : List ℕ) (erro
   pub edc : StoresEdc new error
   pub syndromes : SameSyndromes new old
 
--- what `carry_bytes` does: as `IsChanged`, and `error` is what the EDC was wrong by before
+-- what `carry_bytes` does: as `IsChanged`, and `error` is the error that the EDC had before
 pub record KeepsError (old new : List ℕ) (place : ℕ) (bytes : List ℕ) : Type 0 where
   pub error : ℕ
   pub before : StoresEdc old error

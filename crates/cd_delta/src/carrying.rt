@@ -1,5 +1,5 @@
-//! Writing into a Mode 1 sector that may be damaged, so that what was wrong in it stays wrong and
-//! nothing else becomes so (ECMA-130, 14 and Annex A).
+//! Writing into a Mode 1 sector that may be damaged, so that its damage stays and nothing else
+//! becomes wrong (ECMA-130, 14 and Annex A).
 
 ghost use Rattle.std.specs.Prelude.{◌≡◌, ℕ, ◌+◌, ◌++◌, ◌<◌, ◌≤◌, ◌⊎◌, List, bit_xor, drop, length, slice_index, slice_range, take};
 ghost use Rattle.std.specs.Int.{from_le_bytes, w32};
@@ -115,9 +115,8 @@ fn differences(s: &Sector, offset: usize, bytes: &[u8]) -> [u8; USER_SIZE]
     sums
 }
 
-/// Writes bytes between the sync field and the EDC, and leaves the EDC wrong by what it was wrong
-/// by. So the stored EDC changes by the sum of the right words before and after, and a carried
-/// change costs one EDC more.
+/// Writes bytes between the sync field and the EDC, and keeps the EDC's error. So the stored EDC
+/// changes by the sum of the right words before and after, and a carried change costs one EDC more.
 fn carry_bytes(s: &mut Sector, place: usize, bytes: &[u8])
     requires from { 12 ≤ place }
     requires below { place + length bytes.now ≤ 2064 }
@@ -127,7 +126,7 @@ fn carry_bytes(s: &mut Sector, place: usize, bytes: &[u8])
     change_bytes(s, place, bytes, error);
 }
 
-/// What the stored EDC differs by from the EDC of bytes 0 to 2063; 0 if it is right.
+/// The error of the stored EDC: its difference from that of bytes 0 to 2063, 0 if it is right.
 fn edc_error(s: &Sector) -> u32
     ensures { StoresEdc s.now result }
 {

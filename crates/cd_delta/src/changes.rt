@@ -13,7 +13,7 @@ use cd_sector::{
     SECOND_P_ROW, SECOND_Q,
 };
 
-/// The byte at `place` is to be added (by xor) with `d` (ECMA-130, Annex A).
+/// `d` is to be added (by xor) to the byte at `place` (ECMA-130, Annex A).
 #[derive(Clone, Copy, Debug, PartialEq, Eq)]
 pub struct Change {
     /// The place of the byte in the sector, from 0 on.

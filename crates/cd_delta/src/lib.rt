@@ -11,7 +11,7 @@
 //! its column, two of its diagonal, and two of each diagonal through those of its column.
 //!
 //! [`change_user`] and [`change_header`] write user data and an address, and the right EDC
-//! (ECMA-130, 14). [`carry_user`] and [`carry_header`] leave the EDC wrong by what it was wrong by.
+//! (ECMA-130, 14). [`carry_user`] and [`carry_header`] keep the EDC's error.
 //! All four keep the 276 syndromes as they were. No call takes memory.
 //!
 //! Tests: `crates/cd_patch_tests/src/tests/changes/`.

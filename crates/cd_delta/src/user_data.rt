@@ -47,8 +47,8 @@ pub fn change_user(s: &mut Sector, offset: u16, bytes: &[u8])
 }
 
 /// Writes bytes between the sync field and the EDC, then the EDC with `error` added to it, and
-/// carries both into the parity. The one body of all four calls: `error` is 0, or what the EDC was
-/// wrong by if damage is carried.
+/// carries both into the parity. The one body of all four calls: `error` is 0, or the EDC's
+/// error if damage is carried.
 pub(crate) fn change_bytes(s: &mut Sector, place: usize, bytes: &[u8], error: u32)
     requires from { 12 ≤ place }
     requires below { place + length bytes.now ≤ 2064 }

@@ -1,4 +1,4 @@
--- What `apply` and `check` have done, whatever they answer. Their plain clauses, at the end of this
+-- What `apply` and `check` have done, whatever they return. Their plain clauses, at the end of this
 -- file, follow from `Applies`.
 use Rattle.std.specs.Prelude.{◌≡◌, ◌↔◌, ℕ, ◌+◌, ◌*◌, ◌<◌, ◌≤◌, Bool, true, false, List, [], ◌++◌}
 use Rattle.std.specs.Prelude.{length, Option, None, Some, Result, Ok, Err}
@@ -139,7 +139,7 @@ pub record StopsBeyond (carry : Bool) (patches : List Patch) (base : ℕ)
       (λ outcomes last. log_bytes ≡ log_when_too_long patches outcomes base)
   pub sent_before : length sent ≡ sent_when_too_long patches base
 
--- what was read, sent and logged, by the answer: the whole patching, or what each fault leaves
+-- what was read, sent and logged, by the result: the whole patching, or what each fault leaves
 abbrev pub AppliesBy : Bool → List Patch → ℕ → List ℕ → List ℕ → List ℕ → Streams → Streams
     → Result Tally Fault → Type 0
 AppliesBy carry patches base read sent log_bytes old new (Ok tally) =
@@ -157,7 +157,7 @@ AppliesBy carry patches base read sent log_bytes old new (Err TooLong) =
 abbrev pub bytes_in_hand : ℕ
 bytes_in_hand = SECTOR_SIZE * block_limit
 
--- the whole contract of `apply`: it read some bytes, sent some and logged some, and answered by
+-- the whole contract of `apply`: it read some bytes, sent some, logged some, and returned what fits
 -- these. Each of the three has counted its own. At most `bytes_in_hand` more were read than sent
 pub record Applies (carry : Bool) (patches : List Patch) (base : ℕ) (old new : Streams)
     (result : Result Tally Fault) : Type 0 where
@@ -212,15 +212,15 @@ WritesLog carry patches base image log log' tally =
     (log'.written ≡ Some (earlier ++ log_text patches outcomes))
     × (tally ≡ patch_tally bytes outcomes))
 
--- `image` could be what we were reading when this fault came
+-- `image` may be the image that was read when this fault came
 abbrev pub MayBeImageAfter : Fault → Option (List ℕ) → List ℕ → List ℕ → Type 0
 MayBeImageAfter Read left read whole = MayBeImage read whole
 MayBeImageAfter Write left read whole = MayBeImageAtEnd left read whole
 MayBeImageAfter Log left read whole = MayBeImageAtEnd left read whole
 MayBeImageAfter TooLong left read whole = MayBeImage read whole
 
--- after a fault: what the log has got begins the log of each run on each image that could be the
--- one that was being read
+-- after a fault: what the log has got begins the log of each run on each image that may be the
+-- one that was read
 pub record BeginsLog (carry : Bool) (patches : List Patch) (base : ℕ) (image image' : Incoming)
     (log log' : Outgoing) (fault : Fault) : Type 0 where
   pub read : List ℕ

@@ -35,7 +35,7 @@ pub record GainsTail (count : ℕ) (old new : WindowView) (image image' : Incomi
   pub sectors : new.sectors ≡ old.sectors
   pub tail : new.tail ≡ Some (take left bytes)
 
--- one read of a sector, after `count` others: the answer is whether one has come
+-- one read of a sector, after `count` others: it returns whether one has come
 abbrev pub ReadsNext : ℕ → WindowView → WindowView → Incoming → Incoming → Result Bool Fault
     → Type 0
 ReadsNext count old new image image' (Ok true) = GainsSector count old new image image'

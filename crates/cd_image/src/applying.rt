@@ -93,7 +93,7 @@ pub fn apply<I: Source, O: Sink, L: Sink>(
         (streams (I.seen image.old) (O.seen out.old) (L.seen log.old))
         (streams (I.seen image.new) (O.seen out.new) (L.seen log.new)) }
 {
-    // Proof step: the clauses of `apply` are proved from the one record that this call answers
+    // Proof step: the clauses of `apply` are proved from the one record that this call returns
     // with.
     apply_patches(image, script.patches(), base, carry, out, log)
 }

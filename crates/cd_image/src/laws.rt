@@ -1,4 +1,4 @@
-//! Laws of the definitions, each the contract of a function that does nothing.
+//! Laws of patched images, each the contract of a function that does nothing.
 
 ghost use Rattle.cd_image.specs.Patched.{PatchedCarries, PatchedExists, PatchedIsDetermined};
 

@@ -1,6 +1,5 @@
 //! Patching an image of raw CD sectors (ECMA-130, 14) on its way from a source to a sink, in one
-//! pass. What cd_stream, cd_read and cd_report offer is exported here too, so a user names one
-//! crate.
+//! pass. The sources and sinks of cd_stream and the reports of cd_report are exported here too.
 //!
 //! ```
 //! let script = parse(rt.alloc(), b"cdpatch 1\nset 0 0 41\n")?;
@@ -20,7 +19,7 @@
 //! | `applied A refused R` | at the end |
 //!
 //! [`apply`] holds no more sectors than a patch may meet, three, and takes no memory. An image has
-//! at most a million sectors, and its first block a number of at most [`MAX_BASE`].
+//! at most a million sectors, and its first block a number of at most 449,849.
 //!
 //! Tests: `crates/cd_image_tests`.
 #![tactic(auto)]
@@ -34,13 +33,11 @@ mod window;
 
 pub use applying::{apply, check};
 pub use cd_patch::Outcome;
-pub use cd_read::{Fault, MAX_SECTORS, images_are_cut};
-pub use cd_report::{
-    AuditTally, ListTally, MAX_BASE, audit, audit_counts_lines, list, runs_spell_kinds,
-};
+pub use cd_read::Fault;
+pub use cd_report::{AuditTally, ListTally, audit, list};
 pub use cd_stream::{
-    Buffered, Count, FailAfter, FromRead, LINE_SIZE, Line, Short, Sink, SinkFailed, SliceSink,
-    SliceSource, Source, SourceFailed, ToWrite, ZeroSource, fill_buffer, write_all,
+    Buffered, FailAfter, FromRead, Short, Sink, SinkFailed, SliceSink, SliceSource, Source,
+    SourceFailed, ToWrite, ZeroSource,
 };
 pub use laws::{patched_carries, patched_exists, patched_is_determined};
 pub use patch_log::{Tally, counts_line, outcome_line};

@@ -145,7 +145,7 @@ impl Pass {
     }
 
     /// One step: reads a sector, if fewer are in hand than the front block needs and the image has
-    /// not ended; else applies the patch that begins there, or sends the front sector. Answers
+    /// not ended; else applies the patch that begins there, or sends the front sector. Returns
     /// whether there was anything to do. So the byte after the millionth sector is read before the
     /// patches are decided that reach past that sector; if it comes, they have no line.
     pub(crate) fn advance<I: Source, O: Sink, L: Sink>(

@@ -25,8 +25,8 @@ pub struct Tally {
     pub tail: u16,
 }
 
-/// A write to the log failed, or its flush. The sink has counted it. Its own type, since a
-/// `SinkFailed` becomes the `Fault` of the output.
+/// A write to the log failed, or its flush. The sink has counted it. A separate type, so that `?`
+/// maps it to `Fault::Log`: a `SinkFailed` becomes the `Fault` of the output.
 #[derive(Clone, Copy, Debug)]
 pub(crate) struct LogFailed;
 

@@ -105,7 +105,7 @@ impl Window {
         }
     }
 
-    /// Reads the next sector of an image, after `count` others, or its tail, to its place. Answers
+    /// Reads the next sector of an image, after `count` others, or its tail, to its place. Returns
     /// whether it was a sector.
     pub(crate) fn read_next<I: Source>(&mut self, image: &mut I, count: u32) -> Result<bool, Fault>
         requires countable { CanCountFailure (I.seen image.old).failures }

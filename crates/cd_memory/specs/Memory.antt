@@ -1,5 +1,4 @@
--- What the host in memory answers to each question, and what is left of it then: everything is
--- known.
+-- What the host in memory returns for each file, and what is left of it then: everything is known.
 use Rattle.std.specs.Prelude.{◌≡◌, ℕ, Bool, false, true, ◌||◌, List, [], ◌∷◌, ◌++◌, length, is_some}
 use Rattle.std.specs.Prelude.{Option, None, Some, Result, Ok, Err}
 use Rattle.cd_stream.specs.Stream.{Incoming, Outgoing}

@@ -74,7 +74,7 @@ pub record HasPatches (before : Environment) (name : List ℕ) (patches : List P
   pub reads : (ps : List Patch) × (script text ≡ Ok ps) × (patches ≡ order ps)
 
 -- why there are no patches, and the line that says so. Want of memory leaves a file unread, or a
--- script without its patches; a text that has a fault is answered by it
+-- script without its patches; if a text has a fault, the line is that of the fault
 pub data NoPatches (before : Environment) (name line : List ℕ) : Type 0 where
   absent : file_bytes before.files name ≡ None → line ≡ no_script → NoPatches before name line
   too_long : (text : List ℕ) → file_bytes before.files name ≡ Some text → text_limit < length text

@@ -18,7 +18,7 @@ use Rattle.cd_patch.specs.Blocks.{blocks_met, sector_at}
 use Rattle.cd_patch.specs.EditMeaning.{keeps_old, new_header}
 use Rattle.cd_patch.specs.Deciding.{outcome}
 use Rattle.cd_patch.specs.Effect.{EditResult, Effect, EffectOf, IsApplied, patched_user, user_part}
-use Rattle.cd_patch.specs.BySector.{IsSector, LeavesOthers, SameDamage, byte_by, byte_left, header_left, is_rebuilt, is_touched, meets}
+use Rattle.cd_patch.specs.BySector.{IsSector, LeavesOthers, SameDamage, byte_by, byte_left, header_left, is_met, is_rebuilt, meets}
 use Rattle.cd_patch.specs.Outcome.{is_applied}
 use Rattle.cd_patch.specs.Sequence.{PatchSequence}
 use Rattle.cd_patch.specs.declared.outcome.Outcome.{Outcome}
@@ -292,15 +292,15 @@ LeavesOthers-more carry p ps o os base old next last one rest = record {
   count = rest.count ∙ one.count;
   sectors = rest.sectors;
   others = λ block h.
-      let parts = or_parts (is_applied o && meets p block) (is_touched ps os block) h in
+      let parts = or_parts (is_applied o && meets p block) (is_met ps os block) h in
       rest.others block parts.1 ∙ one.others block parts.0;
-  consistent = λ block before after none h is was. elim (cases_Bool (is_touched ps os block)) [
-    | inl touched ↦
+  consistent = λ block before after none h is was. elim (cases_Bool (is_met ps os block)) [
+    | inl later ↦
         let middle = sector_at-other old next base block before one.count is in
-        rest.consistent block middle.0 after none touched middle.1 was
-    | inr left ↦ elim (or_cases (is_applied o && meets p block) (is_touched ps os block) h) [
+        rest.consistent block middle.0 after none later middle.1 was
+    | inr left ↦ elim (or_cases (is_applied o && meets p block) (is_met ps os block) h) [
       | inl met ↦ one.consistent block before after none met is (sym (rest.others block left) ∙ was)
-      | inr touched ↦ absurd (false≢true (sym left ∙ touched))
+      | inr later ↦ absurd (false≢true (sym left ∙ later))
     ]
   ];
   rebuilt = λ block before after h is was.
@@ -366,20 +366,20 @@ pub leaves-one : (carry : Bool) (ps : List Patch) (os : List Outcome) (base : �
     → LeavesOthers carry ps os base old last' → last ≡ last'
 leaves-one carry ps os base old last last' h h' =
     same_sectors last' last base
-    (λ block. elim (cases_Bool (is_touched ps os block)) [
+    (λ block. elim (cases_Bool (is_met ps os block)) [
       | inr left ↦ h.others block left ∙ sym (h'.others block left)
-      | inl touched ↦ elim (cases_Option (sector_at old base block)) [
+      | inl met ↦ elim (cases_Option (sector_at old base block)) [
         | inl none ↦
             sector_at-none old last base block h.count none
             ∙ sym (sector_at-none old last' base block h'.count none)
-        | inr some ↦ equal block some.0 touched some.1
+        | inr some ↦ equal block some.0 met some.1
       ]
     ])
   where
-    equal : (block : ℕ) (before : List ℕ) → is_touched ps os block ≡ true
+    equal : (block : ℕ) (before : List ℕ) → is_met ps os block ≡ true
         → sector_at old base block ≡ Some before
         → sector_at last base block ≡ sector_at last' base block
-    equal block before touched is =
+    equal block before met is =
         let after = sector_at-other old last base block before h.count is in
         let after' = sector_at-other old last' base block before h'.count is in
         let c = IsSector-at last base block after.0 h.sectors after.1 in
@@ -399,8 +399,8 @@ leaves-one carry ps os base old last last' h h' =
         λ one other. sector_unique after.0 after'.0 one other headers users in
         let same : after.0 ≡ after'.0 = elim (cases_Bool carry) [
           | inr none ↦
-              sound (h.consistent block before after.0 none touched is after.1)
-              (h'.consistent block before after'.0 none touched is after'.1)
+              sound (h.consistent block before after.0 none met is after.1)
+              (h'.consistent block before after'.0 none met is after'.1)
           | inl carries ↦ elim (cases_Bool (is_rebuilt ps os block)) [
             | inl again ↦
                 sound (h.rebuilt block before after.0 again is after.1)

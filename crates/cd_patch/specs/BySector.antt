@@ -22,10 +22,10 @@ abbrev pub meets : Patch → ℕ → Bool
 meets p block = nat_le p.block block && nat_lt block (p.block + blocks_met p)
 
 -- an accepted patch meets the block
-abbrev pub is_touched : List Patch → List Outcome → ℕ → Bool
-is_touched [] os block = false
-is_touched (p ∷ ps) [] block = false
-is_touched (p ∷ ps) (o ∷ os) block = (is_applied o && meets p block) || is_touched ps os block
+abbrev pub is_met : List Patch → List Outcome → ℕ → Bool
+is_met [] os block = false
+is_met (p ∷ ps) [] block = false
+is_met (p ∷ ps) (o ∷ os) block = (is_applied o && meets p block) || is_met ps os block
 
 -- the user byte at an offset of a block that an accepted patch leaves: its own if its range has the
 -- place, else the byte before
@@ -71,10 +71,10 @@ pub record LeavesOthers (carry : Bool) (ps : List Patch) (os : List Outcome) (ba
     (old last : List (List ℕ)) : Type 0 where
   pub count : length last ≡ length old
   pub sectors : All IsSector last
-  pub others : (block : ℕ) → is_touched ps os block ≡ false
+  pub others : (block : ℕ) → is_met ps os block ≡ false
       → sector_at last base block ≡ sector_at old base block
   pub consistent : (block : ℕ) (before after : List ℕ) → carry ≡ false
-      → is_touched ps os block ≡ true
+      → is_met ps os block ≡ true
       → sector_at old base block ≡ Some before → sector_at last base block ≡ Some after
       → IsConsistent after
   pub rebuilt : (block : ℕ) (before after : List ℕ) → is_rebuilt ps os block ≡ true

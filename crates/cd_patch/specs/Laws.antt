@@ -1,4 +1,4 @@
--- What follows from the definitions; each law is the contract of a function of `laws.rt`.
+-- What follows from the definitions of patches; each law is a contract of `laws.rt`.
 use Rattle.std.specs.Prelude.{◌≡◌, ◌↔◌, ℕ, ◌+◌, ◌≤◌, ◌≢◌, Bool, true, false, List, All, take, slice_get, Some}
 use Rattle.std.specs.List.Sorted.{IsNonDecreasingBy}
 use Rattle.cd_script.specs.Patch.{IsPatch}
@@ -48,7 +48,7 @@ SequenceLeavesOthers =
     → All IsPatch ps → All IsSector old
     → PatchSequence carry ps os base old last → LeavesOthers carry ps os base old last
 
--- what `LeavesOthers` says has only one result
+-- the conditions of `LeavesOthers` determine the result of a run
 abbrev pub LeavesOne : Type 0
 LeavesOne =
     (carry : Bool) (ps : List Patch) (os : List Outcome) (base : ℕ) (old last last' : List (List ℕ))

@@ -1,4 +1,4 @@
-//! Laws of the definitions, each the contract of a function that does nothing.
+//! Laws of what patches do to sectors, each the contract of a function that does nothing.
 
 ghost use Rattle.cd_patch.specs.Laws.{HandSequenceIsRun, HandStandsForImage, LeavesOne, NeverDamaged, NothingToCarry, SequenceExists, SequenceIsDetermined, SequenceLeavesOthers, SequencesAgree};
 
@@ -25,8 +25,7 @@ pub fn sequence_leaves_others()
     ensures { SequenceLeavesOthers }
 {}
 
-/// What `sequence_leaves_others` says has only one result: sectors of which it holds are those of
-/// the run.
+/// The conditions of `sequence_leaves_others` determine the result of a run.
 pub fn leaves_one()
     ensures { LeavesOne }
 {}

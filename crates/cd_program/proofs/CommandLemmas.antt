@@ -26,7 +26,7 @@ module _ (line : List ℕ) (before after : Outgoing) where
     unflushed = λ short. sends.flushes;
   }
 
-  -- the line went out, and the flush answered
+  -- the line went out, and the flush returned
   pub PrintsLine-whole : (middle : Outgoing) (sent : Unit {0})
       (flushed : Result (Unit {0}) SinkFailed) → Sends {E = SinkFailed} before middle line (Ok sent)
       → Flushes middle after flushed → PrintsLine line before after

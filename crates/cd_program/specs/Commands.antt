@@ -1,4 +1,4 @@
--- What the program does with the answer of a call on an image: the fault's line, and the status.
+-- What the program does with the result of a call on an image: the fault's line, and the status.
 use Rattle.std.specs.Prelude.{◌≡◌, ◌≢◌, ℕ, ◌==◌, ◌+◌, ◌<◌, if◌then◌else◌, Bool, List, [], ◌++◌, length, Some, false, true, Result, Ok, Err, OnOk}
 use Rattle.cd_stream.specs.Stream.{Incoming, IsBeginning, Outgoing}
 use Rattle.cd_stream.specs.Transfer.{Counts, CountsFlush, Takes}
@@ -47,7 +47,7 @@ audit_status tally = if tally.findings == 0 then done_status else found_status
 abbrev pub script_status : Tally → ℕ
 script_status tally = if tally.refused == 0 then done_status else refused_status
 
--- after a call's answer: its status, or the fault's line and the status of a failure
+-- after a call's result: its status, or the fault's line and the status of a failure
 abbrev pub Ends : {T : Type 0} → Fault → (T → ℕ) → Result T Fault → Outgoing → Outgoing → ℕ → Type 0
 Ends own status_of (Ok reported) before after status = (after ≡ before)
     × (status ≡ status_of reported)
@@ -55,7 +55,7 @@ Ends own status_of (Err fault) before after status = PrintsFaultLine own fault b
     × (status ≡ failed_status)
 
 -- a call, and then the line of its fault: what the call did is stated of the sink in the `middle` and
--- of its answer; `own` is the fault that gets no line, since it is that of the sink itself
+-- of its result; `own` is the fault that gets no line, since it is that of the sink itself
 pub record CallThenLine {T : Type 0} (Does : Outgoing → Result T Fault → Type 0) (own : Fault)
     (status_of : T → ℕ) (after : Outgoing) (status : ℕ) : Type 0 where
   pub result : Result T Fault

@@ -14,10 +14,9 @@ ghost use Rattle.cd_read.specs.Image.{base_limit};
 
 use crate::messages::fault_line;
 use cd_args::{DONE, FAILED};
-use cd_image::{
-    AuditTally, Fault, Sink, SinkFailed, Source, Tally, apply, audit, check, list, write_all,
-};
+use cd_image::{AuditTally, Fault, Sink, SinkFailed, Source, Tally, apply, audit, check, list};
 use cd_script::Script;
+use cd_stream::write_all;
 
 /// The status of an audit with a finding.
 const FOUND: u8 = 1;
@@ -39,7 +38,7 @@ pub(crate) fn print_line<O: Sink>(line: &[u8], out: &mut O) -> Result<(), SinkFa
     out.finish()
 }
 
-/// Prints a line, and answers the status 2.
+/// Prints a line, and returns the status 2.
 ///
 /// # Examples
 ///
@@ -59,7 +58,7 @@ pub fn print_and_fail<O: Sink>(line: &[u8], out: &mut O) -> u8
     FAILED
 }
 
-/// Prints the line of a fault to `out`, and answers the status 2. No line is printed for `own`, the
+/// Prints the line of a fault to `out`, and returns the status 2. No line is printed for `own`, the
 /// fault of `out` itself.
 fn report_fault<O: Sink>(fault: Fault, own: Fault, out: &mut O) -> u8
     requires { fault ≢ own → CanCountFailure (O.seen out.old).failures }
@@ -72,7 +71,7 @@ fn report_fault<O: Sink>(fault: Fault, own: Fault, out: &mut O) -> u8
     print_and_fail(fault_line(fault).as_bytes(), out)
 }
 
-/// Lists an image to `out`, whose first block has the number `base`, and answers the status: 0, or
+/// Lists an image to `out`, whose first block has the number `base`, and returns the status: 0, or
 /// 2 after the line of a fault.
 ///
 /// # Examples
@@ -116,7 +115,7 @@ fn audit_status_of(tally: &AuditTally) -> u8
     if tally.findings == 0 { DONE } else { FOUND }
 }
 
-/// Audits an image to `out`, whose first block has the number `base`, and answers the status: 0, 1
+/// Audits an image to `out`, whose first block has the number `base`, and returns the status: 0, 1
 /// if it has a finding, or 2 after the line of a fault.
 ///
 /// # Examples
@@ -161,8 +160,8 @@ fn status_of(tally: &Tally) -> u8
     if tally.refused == 0 { DONE } else { REFUSED }
 }
 
-/// Decides each patch of a script on an image, and writes its line to `log`: the answer is the
-/// status, 0, 1 if a patch is refused, or 2 after the line of a fault. A log that has failed gets
+/// Decides each patch of a script on an image, writes its line to `log`, and returns the
+/// status: 0, 1 if a patch is refused, or 2 after the line of a fault. A log that has failed gets
 /// no line. Damage is carried or refused.
 ///
 /// # Examples
@@ -206,7 +205,7 @@ pub fn run_check<I: Source, L: Sink>(
     }
 }
 
-/// Patches an image to `out`, and writes the line of each patch to `log`: the answer is the status,
+/// Patches an image to `out`, writes the line of each patch to `log`, and returns the status:
 /// 0, 1 if a patch is refused, or 2 after the line of a fault. A log that has failed gets no line.
 ///
 /// # Examples

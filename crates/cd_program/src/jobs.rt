@@ -34,7 +34,7 @@ pub struct Settings {
     pub carry: bool,
 }
 
-/// Prints why there is no file, and answers the status. `line` is the line for a file that was
+/// Prints why there is no file, and returns the status. `line` is the line for a file that was
 /// refused.
 fn report_open_fault<O: Sink>(fault: OpenFault, line: &'static str, out: &mut O) -> u8
     requires { CanCountFailure (O.seen out.old).failures }
@@ -56,7 +56,7 @@ fn image_at<H: Host>(host: &mut H, name: &str) -> Result<H::Input, OpenFault>
     }
 }
 
-/// The script of a file. For a fault prints its line to `log`, and answers the status.
+/// The script of a file. For a fault prints its line to `log`, and returns the status.
 fn script_of<I: Source, L: Sink>(alloc: Global, file: &mut I, log: &mut L) -> Result<Script, u8>
     requires file_countable { CanCountFailure (I.seen file.old).failures }
     requires log_countable { CanCountFailure (L.seen log.old).failures }
@@ -67,7 +67,7 @@ fn script_of<I: Source, L: Sink>(alloc: Global, file: &mut I, log: &mut L) -> Re
     read_script(alloc, text.as_slice(), log)
 }
 
-/// The script in the file at a path. For a fault prints its line to `log`, and answers the status.
+/// The script in the file at a path. For a fault prints its line to `log`, and returns the status.
 fn script_at<H: Host, L: Sink>(
     alloc: Global,
     host: &mut H,
@@ -185,7 +185,7 @@ fn open_and_apply<H: Host, L: Sink>(
     status
 }
 
-/// Proof step: does a job, and answers the status. One clause for the four commands, from which
+/// Proof step: does a job, and returns the status. One clause for the four commands, from which
 /// that of `run_args` follows.
 fn run_job<H: Host, O: Sink>(alloc: Global, host: &mut H, job: &Job, out: &mut O) -> u8
     requires base { base_in job.now ≤ base_limit }
@@ -225,8 +225,8 @@ fn run_job<H: Host, O: Sink>(alloc: Global, host: &mut H, job: &Job, out: &mut O
     }
 }
 
-/// Prints why the arguments ask for no job, and answers the status. If that fails, help that was
-/// asked for is a failure too: a text that was lost is not success.
+/// Prints why the arguments ask for no job, and returns the status. If help cannot be written, the
+/// status is 2.
 fn explain<O: Sink>(alloc: Global, fault: &LineFault, out: &mut O) -> u8
     requires { CanCountFailure (O.seen out.old).failures }
     ensures { PrintsFault fault.now (O.seen out.old) (O.seen out.new) result }
@@ -240,7 +240,7 @@ fn explain<O: Sink>(alloc: Global, fault: &LineFault, out: &mut O) -> u8
     }
 }
 
-/// Does what the arguments after the program's name ask for, and answers the status: 0, 1 if
+/// Does what the arguments after the program's name ask for, and returns the status: 0, 1 if
 /// `audit` has a finding or a patch was refused, 2 after a fault. Every text goes to `out`.
 ///
 /// # Examples

@@ -7,8 +7,9 @@ ghost use Rattle.cd_program.specs.Messages.{fault_line, load_fault_line, numbere
 use crate::host::OpenFault;
 use crate::script::LoadFault;
 use cd_args::NO_MEMORY;
-use cd_image::{Fault, LINE_SIZE, Line};
+use cd_image::Fault;
 use cd_script::{MAX_PATCHES, ScriptFault};
+use cd_stream::{LINE_SIZE, Line};
 
 /// There is no file of a script, or a read of it failed.
 pub(crate) const NO_SCRIPT: &str = "cdpatch: cannot read the script\n";

@@ -20,9 +20,8 @@ use std::io::{self, ErrorKind};
 use std::os::fd::AsFd;
 use std::{env, fs};
 
-/// Does what the arguments after the program's name ask for, and answers the status. Every text
-/// goes to the standard output; the line that says that there is no memory for its buffer goes out
-/// without one.
+/// Does what the arguments after the program's name ask for, and returns the status. Every text
+/// goes to the standard output, which is buffered, except for the line for want of memory.
 ///
 /// It has no example: it is the whole of `main`, and [`run_args`] is what a test runs.
 pub fn run_program(rt: &HostRuntime) -> u8
@@ -60,7 +59,7 @@ fn has_standard_streams(rt: &HostRuntime) -> bool {
         && rt.stderr().as_fd().try_clone_to_owned().is_ok()
 }
 
-/// Proof step: does what the arguments ask for, or says why there are none, and answers the status.
+/// Proof step: does what the arguments ask for, or says why there are none, and returns the status.
 /// The contract of the whole program, which `run_program` can't state of a process. std gives the
 /// arguments all or none, so no command is looked for among others that are not text.
 fn run_or_explain<H: Host, O: Sink>(

@@ -1,4 +1,4 @@
-//! Scripts: how the file of one is read, and what its text says.
+//! How the file of a script is read, and what its text says.
 
 ghost use Rattle.std.specs.Prelude.{◌≡◌, ◌+◌, ◌<◌, ◌≤◌, List, Ok, IfOk, IfErr, IfSome, OnOk, OnErr, length};
 ghost use Rattle.cd_args.specs.Fault.{failed_status};

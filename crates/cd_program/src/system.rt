@@ -49,8 +49,8 @@ impl Read for Reader {
 
 /// A file whose flush succeeds when the system has written its data to the disk, so that an error
 /// that comes late (a full disk, a file on another machine) is a failed flush. `sync_data` also
-/// syncs the file's length; its name, which is data of its directory, is not synced. std makes an
-/// interrupted sync again, which moves no byte.
+/// syncs the file's length; its name, which is data of its directory, is not synced. std repeats an
+/// interrupted sync, which moves no byte.
 #[derive(Debug, Drop)]
 pub struct Synced(File);
 

@@ -7,7 +7,7 @@ use Rattle.std.proofs.lemmas.List.Elements.{All-head, All-tail}
 use Rattle.cd_read.proofs.general.Chunks.{length-first_chunks, first_chunks-each}
 use Rattle.cd_read.specs.Image.{IsCut, bytes_of, sectors, tail}
 
--- a sector in front of more
+-- a sector before more
 pub sectors-sector : (sector more : List ℕ) → length sector ≡ 2352
     → sectors (sector ++ more) ≡ sector ∷ sectors more
 unfolding sectors
@@ -101,7 +101,7 @@ IsCut-only image whole rest cut =
     subst (λ bytes. (whole ≡ sectors bytes) × (rest ≡ tail bytes)) cut.joined
     (cut_of_joined whole rest cut.each cut.short)
 
--- sectors in front of more bytes
+-- sectors before more bytes
 pub sectors-bytes_of : (whole : List (List ℕ)) (more : List ℕ)
     → All (λ sector. length sector ≡ 2352) whole
     → sectors (bytes_of whole ++ more) ≡ whole ++ sectors more

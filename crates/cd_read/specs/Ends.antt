@@ -1,5 +1,5 @@
 -- How a call that reads an image ends: which images may be the one that was being read, and what
--- the call's answer says of it.
+-- the call's result says of it.
 use Rattle.std.specs.Prelude.{◌≡◌, ◌↔◌, ℕ, ◌+◌, ◌<◌, ◌≤◌, IsOk, false, true, List, [], ◌∷◌, length}
 use Rattle.std.specs.Prelude.{take, Option, None, Some, Result, Err}
 use Rattle.cd_read.specs.Image.{image_limit}
@@ -7,7 +7,7 @@ use Rattle.cd_read.specs.declared.fault.Fault.{Fault}
 use Rattle.cd_read.specs.declared.fault.Fault.TheVariants.{TooLong}
 use Rattle.cd_stream.specs.Stream.{Incoming, IsBeginning, Outgoing}
 
--- `image` could be what we are reading: it has at most 2,352,000,000 bytes, and begins with what
+-- `image` may be the image that is read: it has at most 2,352,000,000 bytes, and begins with what
 -- was read
 pub record MayBeImage (read image : List ℕ) : Type 0 where
   pub within : length image ≤ image_limit
@@ -20,14 +20,14 @@ MayBeImageAtEnd None read image = image ≡ read
 MayBeImageAtEnd (Some []) read image = image ≡ read
 MayBeImageAtEnd (Some (x ∷ xs)) read image = MayBeImage read image
 
--- if the source's bytes are known: the answer is `TooLong` exactly if a byte was read after the
+-- if the source's bytes are known: the call returns `TooLong` exactly if a byte was read after the
 -- millionth sector
 abbrev pub AnswersTooLong : {T : Type 0} → Incoming → Incoming → Result T Fault → Type 0
 AnswersTooLong image image' result =
     (bytes left : List ℕ) → image.rest ≡ Some bytes → image'.rest ≡ Some left
     → (result ≡ Err TooLong) ↔ (image_limit + length left < length bytes)
 
--- if the source's bytes are known: the answer is Ok for an image of at most 2,352,000,000 bytes,
+-- if the source's bytes are known: the call returns Ok for an image of at most 2,352,000,000 bytes,
 -- and `TooLong` for a longer one. The clause `by_length` of all four calls says it if no failure
 -- was counted
 abbrev pub AnswersByLength : {T : Type 0} → Incoming → Result T Fault → Type 0
@@ -35,7 +35,7 @@ AnswersByLength image result =
     (bytes : List ℕ) → image.rest ≡ Some bytes → (length bytes ≤ image_limit → IsOk result)
     × (image_limit < length bytes → result ≡ Err TooLong)
 
--- the answer is Ok if the source's last read answered 0 bytes, and else `TooLong`. The clause
+-- the call returns Ok if the source's last read returned 0 bytes, and else `TooLong`. The clause
 -- `by_end` of all four calls says it if no failure was counted. It serves sources of any kind: one
 -- that never ends gives `TooLong`
 abbrev pub AnswersByEnd : {T : Type 0} → Incoming → Result T Fault → Type 0

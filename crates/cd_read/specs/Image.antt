@@ -3,6 +3,7 @@
 use Rattle.std.specs.Prelude.{◌≡◌, ℕ, ◌*◌, ◌/◌, ◌<◌, ◌++◌, All, List, length, drop}
 use Rattle.std.specs.List.{flat_map}
 use Rattle.std.specs.Simd.{first_chunks}
+use Rattle.cd_sector.specs.Address.{last_block}
 use Rattle.cd_sector.specs.declared.sector.TheConstants.{SECTOR_SIZE}
 
 -- the whole sectors, in order
@@ -25,9 +26,9 @@ sector_limit = 1000000
 abbrev pub image_limit : ℕ
 image_limit = SECTOR_SIZE * sector_limit
 
--- the largest number that an image's first block may have: that of the last block with an address
+-- the largest number that an image's first block may have
 abbrev pub base_limit : ℕ
-base_limit = 449849
+base_limit = last_block
 
 -- these sectors and this tail together are the image
 pub record IsCut (image : List ℕ) (whole : List (List ℕ)) (rest : List ℕ) : Type 0 where

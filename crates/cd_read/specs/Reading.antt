@@ -49,7 +49,7 @@ pub record TooMuchComes (count : ℕ) (image image' : Incoming) : Type 0 where
   pub unended : image'.ended ≡ false
   pub full : SECTOR_SIZE * count ≡ image_limit
 
--- the answer is the length of the tail once the image has ended
+-- the call returns the length of the tail once the image has ended
 abbrev pub ReadsSector : ℕ → List ℕ → Incoming → Incoming → Result (Option ℕ) Fault → Type 0
 ReadsSector count bytes image image' (Ok None) = SectorComes count bytes image image'
 ReadsSector count bytes image image' (Ok (Some left)) = EndComes count left bytes image image'

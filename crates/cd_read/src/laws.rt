@@ -1,4 +1,4 @@
-//! Laws of the definitions, each the contract of a function that does nothing.
+//! The law of cutting an image, the contract of a function that does nothing.
 
 ghost use Rattle.cd_read.specs.Image.{ImagesAreCut};
 

@@ -11,8 +11,8 @@ use cd_sector::{SECTOR_SIZE, Sector};
 use cd_stream::{Source, fill_buffer};
 
 /// Reads the next sector of an image, after `count` others, to `sector`, in the place of its bytes.
-/// At the end of the image the answer is the number of bytes of its tail, which is then at the
-/// front of `sector`. The one call by which `list`, `audit`, `apply` and `check` read an image and
+/// At the end of the image returns the number of bytes of its tail, which is then at the front
+/// of `sector`. The one call by which `list`, `audit`, `apply` and `check` read an image and
 /// keep to its limit.
 ///
 /// # Errors

@@ -21,7 +21,7 @@ abbrev pub is_other_address : Option (List ℕ) → List ℕ → Bool
 is_other_address None header = false
 is_other_address (Some due) header = not (starts_with nat_eq header due)
 
--- which parts of a sector are wrong, as `defect` answers
+-- which parts of a sector are wrong, as `defect` returns
 unfoldable pub report_of : List ℕ → DefectReport
 report_of sector = record {
   zeros = list_any is_nonzero (defect_of sector).zeros;

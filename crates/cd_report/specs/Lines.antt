@@ -1,4 +1,4 @@
--- Lines of a text.
+-- The lines of a report.
 use Rattle.std.specs.Prelude.{ℕ, ◌==◌, List, [], ◌∷◌, count_by}
 use Rattle.std.specs.List.{flat_map}
 

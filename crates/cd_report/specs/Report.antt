@@ -68,7 +68,7 @@ pub record StopsTooLong {T : Type 0} (spec : ReportSpec T) (read sent : List ℕ
   pub due_sent : sent ≡ text_of (spec.due read)
   pub beginning : (whole : List ℕ) → MayBeImage read whole → IsBeginning sent (spec.text whole)
 
--- what was read and sent, by the answer: the whole report, or what each fault leaves
+-- what was read and sent, by the result: the whole report, or what each fault leaves
 abbrev pub ReportAnswers : {T : Type 0} → ReportSpec T → List ℕ → List ℕ → Incoming → Incoming
     → Outgoing
     → Outgoing → Result T Fault → Type 0
@@ -82,8 +82,8 @@ ReportAnswers spec read sent image image' out out' (Err Log) = ⊥
 ReportAnswers spec read sent image image' out out' (Err TooLong) =
     StopsTooLong spec read sent image image' out out'
 
--- a call's whole contract: it read some bytes, sent some, made one flush at the end, and answered
--- by these. It serves sources and sinks whose bytes are known, and others
+-- a call's whole contract: it read some bytes, sent some, made one flush at the end, and returned
+-- what fits these. It serves sources and sinks whose bytes are known, and others
 pub record Reports {T : Type 0} (spec : ReportSpec T) (image image' : Incoming)
     (out out' : Outgoing) (result : Result T Fault) : Type 0 where
   pub read : List ℕ

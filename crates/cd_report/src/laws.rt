@@ -1,4 +1,4 @@
-//! Laws of the definitions, each the contract of a function that does nothing.
+//! Laws of the texts of reports, each the contract of a function that does nothing.
 
 ghost use Rattle.cd_report.specs.AuditText.{AuditCountsLines};
 ghost use Rattle.cd_report.specs.Runs.{RunsSpellKinds};

@@ -35,5 +35,5 @@ pub use laws::{audit_counts_lines, runs_spell_kinds};
 pub use listing::{ListTally, list};
 
 /// The largest number that the first block of an image may have: the last block with an address.
-/// The clauses of `list` and `audit` have the number itself, so a smaller constant is refused.
+/// The clauses of `list` and `audit` cite its definition, so a smaller constant is refused.
 pub const MAX_BASE: u32 = MAX_BLOCK;

@@ -1,5 +1,5 @@
 //! The commands that need no script on an image in memory, each to a room. A base that no image has
-//! is answered as a failure, with nothing written.
+//! is a failure, with nothing written.
 
 ghost use Rattle.std.specs.Prelude.{◌≡◌, ◌<◌};
 ghost use Rattle.cd_args.specs.Fault.{done_status};
@@ -16,7 +16,7 @@ use cd_program::{run_audit, run_list};
 use cd_report::MAX_BASE;
 use cd_stream::SliceSource;
 
-/// Lists an image to `out`, whose first block has the number `base`, as [`run_list`], and answers
+/// Lists an image to `out`, whose first block has the number `base`, as [`run_list`], and returns
 /// the status: 0; or 2 if no image has the base, the image is too long, or the room is full.
 ///
 /// # Examples
@@ -41,7 +41,7 @@ pub fn list_image(image: &[u8], base: u32, out: &mut Room<'_>) -> u8
     run_list(&mut SliceSource::new(image), base, out)
 }
 
-/// Audits an image to `out`, whose first block has the number `base`, as [`run_audit`], and answers
+/// Audits an image to `out`, whose first block has the number `base`, as [`run_audit`], and returns
 /// the status: 0; 1 if it has a finding; or 2 if no image has the base, the image is too long, or
 /// the room is full.
 ///

@@ -16,7 +16,7 @@ use Rattle.cd_script.specs.Script.{at_limit, is_passed_over, head_version, line_
 use Rattle.cd_script.specs.Words.{words}
 use Rattle.cd_script.proofs.WordLemmas.{is_passed_over-take, head_version-take, patch_by-take}
 
--- if a reading has no fault, neither has what was answered for it
+-- if a reading has no fault, neither has what was returned for it
 pub reads_ok : {X : Type 0} (r read : Result X ScriptFault) → r ≡ read
     → ((e : ScriptFault) → read ≡ Err e → ⊥) → IsOk r
 reads_ok (Ok x) read h sound = refl

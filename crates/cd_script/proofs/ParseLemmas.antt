@@ -41,7 +41,7 @@ sorted-order ps qs sorted stable =
     ∙ stable (record { line = 0; block = k; offset = 0; edit = Rebuild })
     ∙ filter-same test (stands_in k) same ps)
 
--- what a stable sort by a closure that answers the block gives
+-- what a stable sort by a closure that returns the block gives
 pub in_order : {F : Type 0} {g : Mut F (Bor Patch × Unit {0}) ℕ} {f : F} (ps qs : List Patch)
     → ((key : Patch → ℕ) → ComputesKey g key f → IsSortedByKey key nat_cmp qs)
     → ((key : Patch → ℕ) → ComputesKey g key f → IsStableByKey key nat_cmp ps qs)

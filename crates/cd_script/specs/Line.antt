@@ -73,8 +73,8 @@ abbrev pub address_line : ℕ → List (List ℕ) → Result Patch ScriptFault
 address_line line (block ∷ address ∷ []) = address_patch line block address
 address_line line other = Err (Words line)
 
--- the patch that the words of a line spell in version 1 of the language. It stands as before there
--- was a version 2
+-- the patch that the words of a line spell in version 1 of the language. Version 2 has not changed
+-- this definition
 unfoldable pub patch_at : ℕ → List (List ℕ) → Result Patch ScriptFault
 patch_at line [] = Err (Verb line)
 patch_at line (verb ∷ rest) =

@@ -1,4 +1,4 @@
--- The words of a line.
+-- The words of a line of a script.
 use Rattle.std.specs.Prelude.{ℕ, ◌==◌, ◌||◌, not, Bool, List, length, filter}
 use Rattle.std.specs.List.{slice_split}
 

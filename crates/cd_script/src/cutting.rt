@@ -1,4 +1,4 @@
-//! Cutting a text into its lines.
+//! Cutting a script's text into its lines.
 
 ghost use Rattle.std.specs.Prelude.{◌≡◌, ◌==◌, ◌∷◌, ◌<◌, ◌≤◌, [], IfNone, IfSome, drop, length, take};
 ghost use Rattle.std.specs.Str.Lines.{lines, strip_carriage_return};

@@ -11,8 +11,8 @@ use thiserror::Error;
 #[derive(Clone, Copy, Debug, PartialEq, Eq, Error)]
 pub enum ScriptFault {
     /// The first line that is neither blank nor a comment is not the head line, or there is none:
-    /// then the number of lines and one more. The message names version 1 also if a script means a
-    /// version that there is not.
+    /// then the number of lines and one more. The message names version 1 even if a script names a
+    /// version that does not exist.
     #[error("no cdpatch 1 line")]
     Head(u32),
     /// The first word is not a verb. So is a second head line.

@@ -21,7 +21,7 @@
 //! words from the left, and last of all whether the patch is one too many. A script's patches are ordered
 //! by their first blocks, those of one block as in the script; offsets play no part.
 //!
-//! [`parse`] reads a text, and answers a [`Script`] or the [`ScriptFault`] of its first faulty line:
+//! [`parse`] reads a text, and returns a [`Script`] or the [`ScriptFault`] of its first faulty line:
 //!
 //! ```
 //! let script = parse(rt.alloc(), b"cdpatch 1\nrebuild 16\nset 5 0 4869\n")?;

@@ -1,4 +1,4 @@
-//! The forms of a patch line.
+//! The forms of a line of a script.
 #![tactic(auto, using(crate::proofs::FormLemmas::forms))]
 
 ghost use Rattle.std.specs.Prelude.{◌≡◌, map};

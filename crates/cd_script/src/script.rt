@@ -1,4 +1,4 @@
-//! Scripts, and how they are read.
+//! A script in memory, and how its text is read.
 
 ghost use Rattle.std.specs.Prelude.{◌≡◌, ◌≢◌, ◌+◌, ◌≤◌, ◌++◌, List, length, map, vec_len, All, IsOk, IfOk, IfErr, OnOk};
 ghost use Rattle.std.specs.Fn.{Called};
@@ -248,7 +248,7 @@ fn read_patches(alloc: Global, head: Head, rest: &[u8]) -> Result<Vec<Patch>, Sc
     Ok(patches)
 }
 
-/// Proof step: sorts patches by the block that `key` answers, those of one block as they stand.
+/// Proof step: sorts patches by the block that `key` returns, those of one block as they stand.
 /// Another key is refused at the call that passes it, and `put_in_order` is proved from contracts.
 fn sort_by<F: FnMut(&Patch) -> u32>(patches: &mut Vec<Patch>, key: F) -> Result<(), AllocError>
     requires callable { F.IsAlwaysCallable key }

@@ -1,4 +1,4 @@
-//! The versions of the language.
+//! The versions of the script language.
 
 /// A version, which the head line names.
 #[derive(Clone, Copy, Debug, PartialEq, Eq, Drop)]

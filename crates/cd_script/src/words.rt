@@ -1,4 +1,4 @@
-//! The words of a line.
+//! The words of a line of a script.
 
 ghost use Rattle.std.specs.Prelude.{◌≡◌, ◌<◌, ◌≤◌, ◌↔◌, ◌∷◌, ◌++◌, [], IsTrue, filter, length, map, take};
 ghost use Rattle.memchr.specs.Find.{IsFirstByte};

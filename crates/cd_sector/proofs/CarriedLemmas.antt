@@ -229,7 +229,7 @@ same_defect-decided a b sum r la lb ls h e =
     ))
     known
 
--- equal bytes in front of the EDC, and equal defects
+-- equal bytes before the EDC, and equal defects
 pub same_defect-unique : (a b : List ℕ) → length a ≡ 2352 → AreBytes a → length b ≡ 2352 → AreBytes b
     → take 2064 a ≡ take 2064 b → defect_of a ≡ defect_of b → a ≡ b
 same_defect-unique a b la ha lb hb front same =

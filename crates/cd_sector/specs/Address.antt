@@ -1,6 +1,6 @@
 -- The address of a block as a header has it: minute, second and fraction in BCD (ECMA-130, 14),
 -- with block 0 at two seconds.
-use Rattle.std.specs.Prelude.{ℕ, ◌+◌, ◌*◌, ◌/◌, ◌%◌, nat_lt, if◌then◌else◌, List, [], ◌∷◌, Option, Some, None}
+use Rattle.std.specs.Prelude.{ℕ, ◌+◌, ◌*◌, ◌/◌, ◌%◌, nat_le, if◌then◌else◌, List, [], ◌∷◌, Option, Some, None}
 
 -- two decimal digits in one byte
 abbrev pub bcd : ℕ → ℕ
@@ -10,6 +10,10 @@ bcd n = 16 * (n / 10) + n % 10
 abbrev pub bcd_address : ℕ → List ℕ
 bcd_address t = bcd (t / 4500) ∷ bcd (t / 75 % 60) ∷ bcd (t % 75) ∷ []
 
+-- the last block that has an address, which is 99:59:74
+abbrev pub last_block : ℕ
+last_block = 449849
+
 -- the address of a block; past minute 99 there is none
 unfoldable pub address : ℕ → Option (List ℕ)
-address block = if nat_lt block 449850 then Some (bcd_address (block + 150)) else None
+address block = if nat_le block last_block then Some (bcd_address (block + 150)) else None

@@ -1,4 +1,4 @@
--- What follows from the definitions; each law is the contract of a function of `laws.rt`.
+-- What follows from the definitions of sectors; each law is a contract of `laws.rt`.
 use Rattle.std.specs.Prelude.{◌≡◌, ◌↔◌, ℕ, IsTrue, List, [], ◌∷◌, ◌++◌, length, slice_index}
 use Rattle.cd_code.specs.Field.{AreBytes}
 use Rattle.cd_sector.specs.Carried.{IsCarried, sync_of}

@@ -51,8 +51,8 @@ pub fn put_edc(bytes: &mut [u8; SECTOR_SIZE], word: u32)
     put_part(bytes, EDC, &edc_bytes(word));
 }
 
-/// Writes the EDC of bytes 0 to 2063 after them, with `error` added: 0, or what the EDC of a
-/// damaged sector was wrong by (ECMA-130, 14).
+/// Writes the EDC of bytes 0 to 2063 after them, with `error` added: 0, or the error of a
+/// damaged sector's EDC (ECMA-130, 14).
 ///
 /// # Examples
 ///

@@ -1,4 +1,5 @@
-//! Laws of the definitions, each the contract of a function that does nothing.
+//! Laws of consistent sectors and of carried damage, each the contract of a function that does
+//! nothing.
 
 ghost use Rattle.cd_sector.specs.Laws.{CarriedExists, CarriedIsUnique, CarriedOfConsistent, ConsistentByParts, ConsistentIsCarried, SectorByDefect, SectorExists, SectorIsUnique};
 

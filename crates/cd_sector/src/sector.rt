@@ -114,9 +114,9 @@ impl Sector {
         self.bytes[place] = b;
     }
 
-    /// Proof step: calls `f` with `context` and the 2352 bytes, where they stand, and gives its
-    /// answer. The toolchain does not prove a method that returns the loan, and knows nothing of
-    /// what a closure captured by `&mut`, so the bytes, and what else `f` changes, go through a
+    /// Proof step: calls `f` with `context` and the 2352 bytes, where they stand, and returns
+    /// its result. The toolchain does not prove a method that returns the loan, and knows nothing
+    /// of what a closure captured by `&mut`, so the bytes, and what else `f` changes, go through a
     /// call.
     ///
     /// # Examples

@@ -2,8 +2,8 @@
 use Rattle.std.specs.Prelude.{◌≡◌, ℕ, ◌<◌, Bool, List, ◌++◌, Option}
 
 -- of a source: the bytes that are still to come, if they are known; how many its reads have given,
--- known or not; how many of its reads have failed; and whether its last read answered 0 bytes. One
--- that was not read yet answers no, unless it stands over one that has ended
+-- known or not; how many of its reads have failed; and whether its last read returned 0 bytes: not
+-- before its first one, unless it stands over one that has ended
 pub record Incoming : Type 0 where
   pub rest : Option (List ℕ)
   pub given : ℕ

@@ -9,7 +9,7 @@ abbrev pub Counts : {X E : Type 0} → ℕ → ℕ → Result X E → Type 0
 Counts old new (Ok x) = new ≡ old
 Counts old new (Err e) = new ≡ old + 1
 
--- as many as the answer says, and at Err none
+-- as many as the result says, and at Err none
 abbrev pub moved : {E : Type 0} → Result ℕ E → ℕ
 moved (Ok n) = n
 moved (Err e) = 0
@@ -36,7 +36,7 @@ GotSome old new buffer (Ok n) =
     (n ≤ length buffer) × Consumes old.rest new.rest (take n buffer) × (n ≡ 0 → IsAtEnd new.rest)
 GotSome old new buffer (Err e) = Keeps old.rest new.rest
 
--- whether a read answers that no byte came
+-- whether a read returns that no byte came
 abbrev pub is_end : {E : Type 0} → Result ℕ E → Bool
 is_end (Ok n) = nat_eq n 0
 is_end (Err e) = false
@@ -90,7 +90,7 @@ abbrev pub CountsGiven : {E : Type 0} → Incoming → Incoming → List ℕ →
 CountsGiven old new buffer (Ok n) = Gives old new (take n buffer)
 CountsGiven old new buffer (Err e) = (n : ℕ) × (n < length buffer) × Gives old new (take n buffer)
 
--- if a buffer is left with room, the last read answered that no byte came; if it is full, or a read
+-- if a buffer is left with room, the last read returned that no byte came; if it is full, or a read
 -- failed, the last one did not
 abbrev pub EndFlag : {E : Type 0} → Incoming → List ℕ → Result ℕ E → Type 0
 EndFlag new buffer (Ok n) =

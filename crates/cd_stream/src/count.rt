@@ -9,7 +9,7 @@ use std::marker::Model;
 use std::mem::{self, ManuallyDrop};
 use std::snapshot::Snapshot;
 
-/// So many more, after those before. A contract sees all of them, the last ones first.
+/// One increment, linked to the earlier ones. A contract sees all of them, the last one first.
 #[derive(Drop)]
 struct More {
     before: ManuallyDrop<Snapshot<Option<More>>>,

@@ -8,7 +8,7 @@
 //! assert_eq!(rt; into, *b"abc\0");
 //! ```
 //!
-//! A [`Source`] reads some bytes a call and answers 0 at the end; a [`Sink`] writes some, and
+//! A [`Source`] reads some bytes a call and returns 0 at the end; a [`Sink`] writes some, and
 //! `finish` passes on what it holds back. Nothing is tried again: a call that fails has moved no
 //! byte, and one failure more is counted. So a caller, and its contract, can say afterwards which
 //! side has failed.

@@ -1,4 +1,4 @@
-//! One line of a text, made in place.
+//! One line of a report, a log or a message, made in place.
 
 ghost use Rattle.std.specs.Prelude.{◌≡◌, ◌+◌, ◌≤◌, [], ◌++◌, decimal, length};
 

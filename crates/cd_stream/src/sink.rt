@@ -16,7 +16,7 @@ pub trait Sink {
     // What a contract sees of it.
     ghost seen: { Self → Outgoing };
 
-    /// Writes some bytes from the front of `bytes`, which is not empty, and answers how many: at
+    /// Writes some bytes from the front of `bytes`, which is not empty, and returns how many: at
     /// least 1.
     ///
     /// # Errors

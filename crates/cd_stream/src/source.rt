@@ -13,13 +13,13 @@ pub struct SourceFailed;
 
 /// Bytes that come once, from front to back. Each failed read is counted.
 ///
-/// A source need not show the bytes that are still to come; whether its last read answered 0 is
+/// A source need not show the bytes that are still to come; whether its last read returned 0 is
 /// known of each.
 pub trait Source {
     // What a contract sees of it.
     ghost seen: { Self → Incoming };
 
-    /// Reads some bytes to the front of `into`, which is not empty, and answers how many: 0 only at
+    /// Reads some bytes to the front of `into`, which is not empty, and returns how many: 0 only at
     /// the end.
     ///
     /// # Errors

@@ -8,7 +8,7 @@ ghost use Rattle.cd_stream.specs.Stream.{CanCountFailure};
 use crate::sink::{Sink, SinkFailed};
 use crate::source::{Source, SourceFailed};
 
-/// Reads until `into` is full or nothing is left, and answers how many bytes came: fewer than
+/// Reads until `into` is full or nothing is left, and returns how many bytes came: fewer than
 /// `into` holds only at the end.
 ///
 /// # Errors

@@ -2,7 +2,7 @@
 
 use std::io::{self, Read};
 
-/// A reader that answers 0 once, after so many bytes `00`, and then gives bytes `00` without an end, as a terminal can. Who has
+/// A reader that returns 0 once, after so many bytes `00`, and then gives bytes `00` without an end, as a terminal can. Who has
 /// met the end sees none of those after it.
 #[derive(Drop)]
 pub struct Resuming {

@@ -1,4 +1,4 @@
-//! Scripts of texts.
+//! The script of a text.
 
 use cd_script::{MAX_TEXT, Script, parse};
 use std::alloc::Global;

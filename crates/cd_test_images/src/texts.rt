@@ -1,4 +1,4 @@
-//! Texts.
+//! Texts of scripts with a repeated part.
 
 use std::alloc::{AllocError, Global};
 

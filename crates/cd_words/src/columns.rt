@@ -1,4 +1,4 @@
-//! The 86 columns, eight at a time.
+//! The syndromes of the 86 columns, eight at a time in words of 64 bits.
 
 ghost use Rattle.std.specs.Prelude.{ℕ, ◌+◌, ◌%◌, ◌≤◌};
 ghost use Rattle.cd_sector.specs.CodeWords.{SumsOf, column_of};

@@ -1,4 +1,4 @@
-//! The 52 diagonals, eight at a time.
+//! The syndromes of the 52 diagonals, eight at a time in words of 64 bits.
 
 ghost use Rattle.std.specs.Prelude.{ℕ, ◌+◌, ◌*◌, ◌%◌, ◌<◌, ◌≤◌, slice_index};
 ghost use Rattle.cd_sector.specs.CodeWords.{SumsOf, diagonal_of};
@@ -17,7 +17,7 @@ static ROW: [u8; 98] = [
 ];
 
 /// The bytes that the diagonals n + 3 to n have in step k, of both planes. They stand side by side in
-/// one row, in this order: diagonal n + 3 is three columns behind diagonal n. In the first and last
+/// one row, in this order: diagonal n + 3 is three columns before diagonal n. In the first and last
 /// three steps some of the eight stand before column 0 or after column 42, and are none of theirs.
 #[inline(always)]
 fn row_word(bytes: &[u8; SECTOR_SIZE], n: usize, k: usize) -> u64

@@ -1,18 +1,20 @@
-//! The four calls on images in memory: a number of bytes pass, and a call is described by what it answers and what it wrote.
+//! The four calls on images in memory: a number of bytes pass, and a call is described by what it returns and what it wrote.
 
 ghost use Rattle.std.specs.Prelude.{◌≤◌};
 ghost use Rattle.cd_stream.specs.Stream.{CanCountFailure};
 
 use cd_image::{
-    AuditTally, FailAfter, Fault, ListTally, MAX_BASE, Short, Sink, SliceSink, SliceSource, Source,
-    Tally, apply, audit, check, fill_buffer, list,
+    AuditTally, FailAfter, Fault, ListTally, Short, Sink, SliceSink, SliceSource, Source, Tally,
+    apply, audit, check, list,
 };
+use cd_report::MAX_BASE;
 use cd_script::Script;
+use cd_stream::fill_buffer;
 use cd_test_images::{UNTOUCHED, Written, written_in};
 use std::alloc::{AllocError, Global};
 use std::process::Abort;
 
-/// What a call answers.
+/// What a call returns.
 #[derive(Clone, Copy, Debug, PartialEq, Eq)]
 pub enum Answer {
     Patched(Tally),
@@ -21,7 +23,7 @@ pub enum Answer {
     Failed(Fault),
 }
 
-/// What `apply` and `check` answer.
+/// What `apply` and `check` return.
 pub fn patched(answer: Result<Tally, Fault>) -> Answer {
     match answer {
         Ok(tally) => Answer::Patched(tally),
@@ -200,7 +202,7 @@ pub struct Reported {
     pub text: Written,
 }
 
-/// With this answer, and so many bytes of the text. It is finished unless it has failed.
+/// With this result, and so many bytes of the text. It is finished unless it has failed.
 pub fn report_with(answer: Answer, sent: usize) -> Reported {
     Reported {
         answer,

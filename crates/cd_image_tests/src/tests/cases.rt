@@ -3,7 +3,8 @@
 ghost use Rattle.std.specs.Prelude.{◌≤◌};
 
 use super::calls::{Call, apply_within, by_parts, check_within, done, expect_ending};
-use cd_image::{MAX_BASE, Tally};
+use cd_image::Tally;
+use cd_report::MAX_BASE;
 use cd_sector::{SECTOR_SIZE, Sector};
 use cd_test_images::{Sample, cut_image, joined, script_of};
 use std::alloc::Global;

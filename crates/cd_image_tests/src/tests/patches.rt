@@ -4,7 +4,7 @@ ghost use Rattle.std.specs.Prelude.{◌≤◌};
 
 use super::cases::{CARRYING, PLAIN, Row, Way, expect_row, expect_sectors};
 use super::reports::audits_as;
-use cd_image::MAX_BASE;
+use cd_report::MAX_BASE;
 use cd_test_images::Sample::{self, Blank, Damaged, Filled, Mode, Zeros};
 use cd_test_images::{carried, flipped, repeated, sector_of, with_added, with_bytes};
 use std::alloc::Global;

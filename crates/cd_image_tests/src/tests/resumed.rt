@@ -1,10 +1,11 @@
-//! Readers of std that give bytes again after they have answered 0. The first 0 is the end: no call reads on, which no contract
+//! Readers of std that give bytes again after they have returned 0. The first 0 is the end: no call reads on, which no contract
 //! says, since none knows which bytes are still to come.
 
 use super::calls::{
     Answer, NO_LIMIT, Report, check_of, expect_reported, patched, report_of, report_with,
 };
-use cd_image::{AuditTally, FromRead, ListTally, Sink, Source, Tally, ToWrite, apply, fill_buffer};
+use cd_image::{AuditTally, FromRead, ListTally, Sink, Source, Tally, ToWrite, apply};
+use cd_stream::fill_buffer;
 use cd_test_images::{Resuming, script_of};
 use std::alloc::AllocError;
 use std::io;

@@ -1,4 +1,4 @@
-//! Scripts: the lines of their faults, and how a script's file is read.
+//! The lines of a script's faults, and how its file is read.
 
 use super::commands::ALL;
 use super::messages::{LONG_SCRIPT, NO_SCRIPT};

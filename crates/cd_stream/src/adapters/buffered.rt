@@ -12,9 +12,8 @@ use crate::sink::{Sink, SinkFailed};
 /// A write or flush below that fails is a failure of the call that made it, and is made again only
 /// by a further call. What it still holds when it is dropped is lost.
 ///
-/// It stands in the place of std's `BufWriter`. That one makes an interrupted write again, and a
-/// write that failed once more at a drop, and std's contract does not say which calls it makes
-/// below.
+/// It stands in the place of std's `BufWriter`, which repeats an interrupted write, and at a drop one
+/// that failed; std's contract does not say which calls it makes below.
 #[derive(Debug, Drop)]
 pub struct Buffered<S> {
     inner: S,
@@ -182,7 +181,7 @@ impl<S: Sink> Sink for Buffered<S> {
         ensures finished { result ≡ (buffered_outgoing S.seen self.now).finished }
         ensures passed { IsTrue result → HasDrained S.seen self.now }
     {
-        // The flag of its own, so that a new one over a finished sink is not finished.
+        // Its own flag, so that a new one over a finished sink is not finished.
         self.finished && self.inner.finished() && self.start == self.end
     }
 

@@ -1,4 +1,4 @@
-//! Readers and writers of std: a read, a write and a `finish` are one call below, and answer as that did, by whichever kind of error
+//! Readers and writers of std: a read, a write and a `finish` are one call below, and return what that did, by whichever kind of error
 //! it failed. The next call is made all the same.
 
 use super::steps::Step::{self, Flush, Write as Put};

@@ -1,4 +1,4 @@
-//! Calls of a sink in a row, each with what it answers, and a writer of std that is given calls in a row.
+//! Calls of a sink in a row, each with what it returns, and a writer of std that is given calls in a row.
 
 use cd_stream::{Sink, SinkFailed};
 use std::io::{self, ErrorKind, Write};
@@ -10,7 +10,7 @@ pub enum Step {
     Flush(Option<()>),
 }
 
-/// Whether the call answers so, and leaves the sink finished only if it is a `finish` that succeeds. A write of which nothing is
+/// Whether the call returns so, and leaves the sink finished only if it is a `finish` that succeeds. A write of which nothing is
 /// taken fails.
 fn answers<S: Sink>(sink: &mut S, step: Step) -> bool {
     if sink.failures() == u32::MAX {
@@ -33,7 +33,7 @@ fn fails(step: Step) -> bool {
     matches!(step, Step::Write(_, Some(0) | None) | Step::Flush(None))
 }
 
-/// Whether a sink answers these calls so, one after the other, and counts one failure for each that fails.
+/// Whether a sink returns these from the calls, one after the other, and counts one failure for each that fails.
 pub fn all_answer<S: Sink>(sink: &mut S, steps: &[Step]) -> bool {
     let mut failures = 0u32;
     let mut so = sink.failures() == failures;

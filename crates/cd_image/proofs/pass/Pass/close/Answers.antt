@@ -9,7 +9,7 @@ returns-in_err-write_all g c = λ carry base start image going.
     Applies-fault c.from_residual.ensures.1
     (Closes-tail _ c.requires.ended c.tail-tail.ensures.bytes going c.in_err-write_all.ensures)
 
--- the log fails in the lines, with nothing in front of them, or after them in the last line
+-- the log fails in the lines, with nothing before them, or after them in the last line
 pub returns-in_err-send_missing : goal.returns-in_err-send_missing
 returns-in_err-send_missing g c = λ carry base start image going.
     Applies-fault c.from_residual-in_err-send_missing.ensures.1
