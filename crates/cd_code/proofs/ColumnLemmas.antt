@@ -58,24 +58,6 @@ AreSums-row word longer at row lanes sums next bytes room is more are plain weig
     (λ i h. more (at + i) (omega arith) ∙ ap (λ b. word (at + i) ++ b ∷ []) (sym (is i h)))
     plain weighted
 
-pub AreSums-from_zero : (word : ℕ → List ℕ) (sums : LaneSums) → AreSums (λ i. word (0 + i)) sums
-    → AreSums word sums
-AreSums-from_zero word sums are = record {
-  plain = λ i h.
-      are.plain i h ∙ (let e : 0 + i ≡ i = omega arith in ap (λ k. first_syndrome (word k)) e);
-  weighted = λ i h.
-      are.weighted i h ∙ (let e : 0 + i ≡ i = omega arith in ap (λ k. second_syndrome (word k)) e);
-}
-
-pub AreSums-to_zero : (word : ℕ → List ℕ) (sums : LaneSums) → AreSums word sums
-    → AreSums (λ i. word (0 + i)) sums
-AreSums-to_zero word sums are = record {
-  plain = λ i h.
-      are.plain i h ∙ (let e : i ≡ 0 + i = omega arith in ap (λ k. first_syndrome (word k)) e);
-  weighted = λ i h.
-      are.weighted i h ∙ (let e : i ≡ 0 + i = omega arith in ap (λ k. second_syndrome (word k)) e);
-}
-
 -- one more row under the columns
 pub column_of_rows-more : (rows : List (List ℕ)) (d : List ℕ) (k c : ℕ) → k < length rows
     → column_of_rows (take (k + 1) rows) c

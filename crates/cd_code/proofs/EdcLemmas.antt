@@ -1,9 +1,9 @@
 -- The division of the EDC is linear, so the word of a sum is the sum of the words.
-use Rattle.std.proofs.Common.{◌≡◌, ℕ, zero, suc, ◌+◌, ◌-◌, ◌*◌, ◌/◌, ◌%◌, ◌^◌, ◌<◌, ◌≤◌, inl, inr, nat_lt, List, [], ◌∷◌, ◌++◌, length, get_or, replicate, fold, bit_xor, refl, sym, ap, ◌∙◌, arith, lit<, lit≤, pow-add, append_assoc}
+use Rattle.std.proofs.Common.{◌≡◌, ℕ, zero, suc, ◌+◌, ◌-◌, ◌*◌, ◌/◌, ◌%◌, ◌^◌, ◌<◌, ◌≤◌, inl, inr, nat_lt, List, [], ◌∷◌, ◌++◌, length, get_or, replicate, fold, bit_xor, refl, sym, ap, ap₂, ◌∙◌, arith, lit<, lit≤, pow-add, append_assoc}
 use Rattle.std.specs.Int.Bits.{xor_self, xor_zero_l, xor_zero_r}
 use Rattle.std.specs.Int.{from_le_bytes, to_le_bytes, w32}
 use Rattle.std.proofs.Math.Nat.{pow-le-pow_right, pow-suc}
-use Rattle.std.proofs.lemmas.Nat.{xor_lt, xor_shr, xor_block, shr_below, shr-shr, mod-pow-add, pow_pos}
+use Rattle.std.proofs.lemmas.Nat.{xor_lt, xor_shr, xor_block, shr-shr, mod-pow-add, pow_pos}
 use Rattle.std.proofs.lemmas.Bool.{cond-true, cond-false, lt-ltb, le-ltb, cases_lt}
 use Rattle.std.proofs.lemmas.List.Sums.{fold-append}
 use Rattle.cd_code.specs.Edc.{IsEdc, low_bits, bits, generator, divide_step, remainder}
@@ -12,7 +12,7 @@ use Rattle.cd_code.specs.Laws.{DifferAtMostInLast}
 use Rattle.cd_code.proofs.ByteLemmas.{AreBytes-four, AreBytes-tail, AreBytes-word}
 use Rattle.cd_code.proofs.ListLemmas.{DifferAtMostInLast-tail}
 use Rattle.cd_code.proofs.general.Lists.{list_of_eight}
-use Rattle.cd_code.proofs.general.Xor.{xor_half, xor_low, xor_twice_left, xor_swap, same_from_xor}
+use Rattle.cd_code.proofs.general.Xor.{half_below, linear_at_bits, xor_half, xor_low, xor_twice_left, xor_swap, same_from_xor}
 
 -- ---- one step
 
@@ -20,15 +20,6 @@ use Rattle.cd_code.proofs.general.Xor.{xor_half, xor_low, xor_twice_left, xor_sw
 abbrev carry : ℕ → ℕ
 carry zero = 0
 carry (suc n) = generator
-
-carry-xor : (x y : ℕ) → x < 2 → y < 2 → carry (bit_xor x y) ≡ bit_xor (carry x) (carry y)
-carry-xor zero zero _ _ = refl
-carry-xor zero (suc zero) _ _ = refl
-carry-xor (suc zero) zero _ _ = refl
-carry-xor (suc zero) (suc zero) _ _ = refl
-carry-xor zero (suc (suc y)) _ h = absurd (omega arith)
-carry-xor (suc zero) (suc (suc y)) _ h = absurd (omega arith)
-carry-xor (suc (suc x)) y h _ = absurd (omega arith)
 
 step-low : (r b : ℕ) → r * 2 + b < 2 ^ 32 → divide_step r b ≡ r * 2 + b
 unfolding divide_step
@@ -81,7 +72,8 @@ step-xor r s b c hr hs hb hc =
     step-carry (bit_xor r s) (bit_xor b c) (xor_lt 32 r s hr hs) (xor_lt 1 b c hb hc)
     ∙ ap (λ z. bit_xor z (carry (bit_xor r s / 2 ^ 31))) (bits_joined r s b c hb hc)
     ∙ ap (bit_xor (bit_xor (r * 2 + b) (s * 2 + c)))
-    (ap carry (xor_shr r s 31) ∙ carry-xor (r / 2 ^ 31) (s / 2 ^ 31) (omega arith) (omega arith))
+    (ap carry (xor_shr r s 31)
+    ∙ linear_at_bits carry refl (r / 2 ^ 31) (s / 2 ^ 31) (omega arith) (omega arith))
     ∙ xor_swap (r * 2 + b) (s * 2 + c) (carry (r / 2 ^ 31)) (carry (s / 2 ^ 31))
     ∙ sym (ap (λ z. bit_xor z (divide_step s c)) (step-carry r b hr hb)
     ∙ ap (bit_xor (bit_xor (r * 2 + b) (carry (r / 2 ^ 31)))) (step-carry s c hs hc))
@@ -168,9 +160,6 @@ after_bits-none (suc n) k r x e hr hx none =
     after_bits-none n (suc k) (r * 2 + x % 2) (x / 2) (omega arith) fits (half_below n x hx)
     (ap (λ z. after_bits n z (x / 2)) (sym low) ∙ none) in
     (omega (arith, rest.0), omega (arith, rest.0, rest.1))
-  where
-    half_below : (n x : ℕ) → x < 2 ^ suc n → x / 2 < 2 ^ n
-    half_below n x h = shr_below x n 1 (let e : n + 1 ≡ suc n = omega arith in rw e h)
 
 pub after_bits-injective : (n r x y : ℕ) → n ≤ 32 → r < 2 ^ 32 → x < 2 ^ n → y < 2 ^ n
     → after_bits n r x ≡ after_bits n r y → x ≡ y
@@ -243,8 +232,6 @@ after-number r (x ∷ v) h =
 pub number-injective : (v w : List ℕ) → AreBytes v → AreBytes w → length v ≡ length w
     → number v ≡ number w → v ≡ w
 number-injective [] [] hv hw e same = refl
-number-injective [] (y ∷ w) hv hw e same = absurd (omega arith)
-number-injective (x ∷ v) [] hv hw e same = absurd (omega arith)
 number-injective (x ∷ v) (y ∷ w) hv hw e same =
     let a : x < 256 = hv 0 in
     let b : y < 256 = hw 0 in
@@ -252,7 +239,8 @@ number-injective (x ∷ v) (y ∷ w) hv hw e same =
     let rest =
     number-injective v w (AreBytes-tail x v hv) (AreBytes-tail y w hw) (omega arith)
     (omega arith) in
-    ap (λ z. z ∷ v) first ∙ ap (λ z. y ∷ z) rest
+    ap₂ (λ z u. z ∷ u) first rest
+number-injective _ _ hv hw e same = absurd (omega arith)
 
 pub after-word : (r w : ℕ) → w < 2 ^ 32 → after r (to_le_bytes w32 w) ≡ after_bits 32 r w
 after-word r w h =
@@ -397,8 +385,6 @@ IsEdc-unique v w u h k =
 same_from_after : (r : ℕ) (v w : List ℕ) → r < 2 ^ 32 → DifferAtMostInLast 4 v w
     → after r v ≡ after r w → v ≡ w
 same_from_after r [] [] hr d same = refl
-same_from_after r [] (y ∷ w) hr d same = let e = d.same_length in absurd (omega arith)
-same_from_after r (x ∷ v) [] hr d same = let e = d.same_length in absurd (omega arith)
 same_from_after r (x ∷ v) (y ∷ w) hr d same = elim (cases_lt (length v) 4) [
   | inl short ↦
       let n = 8 * suc (length v) in
@@ -417,8 +403,9 @@ same_from_after r (x ∷ v) (y ∷ w) hr d same = elim (cases_lt (length v) 4) [
       same_from_after (after_bits 8 r x) v w (after_bits-lt 8 r x hr)
       (DifferAtMostInLast-tail 4 x y v w d)
       (same ∙ ap (λ z. after (after_bits 8 r z) w) (sym first)) in
-      ap (λ z. z ∷ v) first ∙ ap (λ z. y ∷ z) rest
+      ap₂ (λ z u. z ∷ u) first rest
 ]
+same_from_after r _ _ hr d same = absurd (omega arith)
 
 pub edc_unique : (v w : List ℕ) → DifferAtMostInLast 4 v w → remainder (bits v) ≡ remainder (bits w)
     → v ≡ w
@@ -470,16 +457,13 @@ pub after-sum : (r s : ℕ) (u v w : List ℕ) → r < 2 ^ 32 → s < 2 ^ 32 →
     → ((i : ℕ) → i < length u → get_or u i 0 ≡ bit_xor (get_or v i 0) (get_or w i 0))
     → after (bit_xor r s) u ≡ bit_xor (after r v) (after s w)
 after-sum r s [] [] [] hr hs e f h = refl
-after-sum r s [] [] (z ∷ w) hr hs e f h = absurd (omega arith)
-after-sum r s [] (y ∷ v) w hr hs e f h = absurd (omega arith)
-after-sum r s (x ∷ u) [] w hr hs e f h = absurd (omega arith)
-after-sum r s (x ∷ u) (y ∷ v) [] hr hs e f h = absurd (omega arith)
 after-sum r s (x ∷ u) (y ∷ v) (z ∷ w) hr hs e f h =
     ap (λ n. after (after_bits 8 (bit_xor r s) n) u) (h 0 (omega arith))
     ∙ ap (λ n. after n u) (after_bits-xor 8 r s y z hr hs)
     ∙ after-sum (after_bits 8 r y) (after_bits 8 s z) u v w (after_bits-lt 8 r y hr)
     (after_bits-lt 8 s z hs)
     (omega arith) (omega arith) (λ i k. h (suc i) (omega arith))
+after-sum r s _ _ _ hr hs e f h = absurd (omega arith)
 
 pub remainder-sum : (u v w : List ℕ) → length u ≡ length v → length u ≡ length w → IsSum u v w
     → remainder (bits u) ≡ bit_xor (remainder (bits v)) (remainder (bits w))

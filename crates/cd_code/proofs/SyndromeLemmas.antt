@@ -1,6 +1,6 @@
 -- The two syndromes of lists: at the end of a list, at a changed byte, and with a parity pair
 -- after it.
-use Rattle.std.proofs.Common.{◌≡◌, ◌≢◌, ℕ, zero, suc, ◌+◌, ◌-◌, ◌<◌, List, [], ◌∷◌, ◌++◌, length, get_or, bit_xor, refl, sym, ap, ◌∙◌, arith, lit<, append_assoc, subst}
+use Rattle.std.proofs.Common.{◌≡◌, ◌≢◌, ℕ, zero, suc, ◌+◌, ◌-◌, ◌<◌, List, [], ◌∷◌, ◌++◌, length, get_or, bit_xor, refl, sym, ap, ap₂, ◌∙◌, arith, lit<, append_assoc, subst}
 use Rattle.std.specs.Int.Bits.{xor_self, xor_zero_l, xor_zero_r, xor_assoc}
 use Rattle.std.proofs.lemmas.Nat.{xor_comm, xor_lt}
 use Rattle.std.proofs.lemmas.List.{length-set}
@@ -258,21 +258,15 @@ SameSums-tail x v w e s = record {
 -- lists that differ at most in their last two bytes, and have the same sums, are equal
 pub pair_unique : (v w : List ℕ) → DifferAtMostInLast 2 v w → SameSums v w → v ≡ w
 pair_unique [] [] d s = refl
-pair_unique [] (y ∷ w) d s = let e = d.same_length in absurd (omega arith)
-pair_unique (x ∷ v) [] d s = let e = d.same_length in absurd (omega arith)
 pair_unique (x ∷ []) (y ∷ []) d s =
     ap (λ z. z ∷ []) (sym (first_syndrome-one x) ∙ s.first ∙ first_syndrome-one y)
-pair_unique (x ∷ []) (y ∷ z ∷ w) d s = let e = d.same_length in absurd (omega arith)
-pair_unique (x ∷ z ∷ v) (y ∷ []) d s = let e = d.same_length in absurd (omega arith)
 pair_unique (a ∷ b ∷ []) (c ∷ d ∷ []) h s =
     let same =
     pair_same a b c d (h.bytes_left 0) (h.bytes_left 1) (h.bytes_right 0) (h.bytes_right 1)
     (sym (first_syndrome-two a b) ∙ s.first ∙ first_syndrome-two c d)
     (sym (second_syndrome-two a b (h.bytes_left 0) (h.bytes_left 1)) ∙ s.second
     ∙ second_syndrome-two c d (h.bytes_right 0) (h.bytes_right 1)) in
-    ap (λ z. z ∷ b ∷ []) same.0 ∙ ap (λ z. c ∷ z ∷ []) same.1
-pair_unique (a ∷ b ∷ []) (c ∷ d ∷ z ∷ w) h s = let e = h.same_length in absurd (omega arith)
-pair_unique (a ∷ b ∷ z ∷ v) (c ∷ d ∷ []) h s = let e = h.same_length in absurd (omega arith)
+    ap₂ (λ y z. y ∷ z ∷ []) same.0 same.1
 pair_unique (x ∷ a ∷ b ∷ v) (y ∷ c ∷ e ∷ w) d s =
     let first : x ≡ y = d.front 0 (omega arith) in
     let lengths = d.same_length in
@@ -282,7 +276,8 @@ pair_unique (x ∷ a ∷ b ∷ v) (y ∷ c ∷ e ∷ w) d s =
     (SameSums-tail x (a ∷ b ∷ v) (c ∷ e ∷ w) (omega arith)
     (let P : ℕ → Type 0 = λ z.
     SameSums (x ∷ a ∷ b ∷ v) (z ∷ c ∷ e ∷ w) in subst P (sym first) s)) in
-    ap (λ z. z ∷ a ∷ b ∷ v) first ∙ ap (λ z. y ∷ z) rest
+    ap₂ (λ z u. z ∷ u) first rest
+pair_unique _ _ d s = absurd (omega arith)
 
 -- the syndromes of a sum, byte by byte, of two lists
 pub first_syndrome-sum : (u v w : List ℕ) → length u ≡ length v → length u ≡ length w
@@ -290,25 +285,18 @@ pub first_syndrome-sum : (u v w : List ℕ) → length u ≡ length v → length
     → first_syndrome u ≡ bit_xor (first_syndrome v) (first_syndrome w)
 unfolding first_syndrome
 first_syndrome-sum [] [] [] e f h = refl
-first_syndrome-sum [] [] (z ∷ w) e f h = absurd (omega arith)
-first_syndrome-sum [] (y ∷ v) w e f h = absurd (omega arith)
-first_syndrome-sum (x ∷ u) [] w e f h = absurd (omega arith)
-first_syndrome-sum (x ∷ u) (y ∷ v) [] e f h = absurd (omega arith)
 first_syndrome-sum (x ∷ u) (y ∷ v) (z ∷ w) e f h =
     ap (λ n. bit_xor n (first_syndrome u)) (h 0 (omega arith))
     ∙ ap (bit_xor (bit_xor y z))
     (first_syndrome-sum u v w (omega arith) (omega arith) (λ i k. h (suc i) (omega arith)))
     ∙ xor_swap y z (first_syndrome v) (first_syndrome w)
+first_syndrome-sum _ _ _ e f h = absurd (omega arith)
 
 pub second_syndrome-sum : (u v w : List ℕ) → length u ≡ length v → length u ≡ length w
     → ((i : ℕ) → i < length u → get_or u i 0 ≡ bit_xor (get_or v i 0) (get_or w i 0))
     → second_syndrome u ≡ bit_xor (second_syndrome v) (second_syndrome w)
 unfolding second_syndrome
 second_syndrome-sum [] [] [] e f h = refl
-second_syndrome-sum [] [] (z ∷ w) e f h = absurd (omega arith)
-second_syndrome-sum [] (y ∷ v) w e f h = absurd (omega arith)
-second_syndrome-sum (x ∷ u) [] w e f h = absurd (omega arith)
-second_syndrome-sum (x ∷ u) (y ∷ v) [] e f h = absurd (omega arith)
 second_syndrome-sum (x ∷ u) (y ∷ v) (z ∷ w) e f h =
     let left : length u ≡ length v = omega arith in
     let right : length u ≡ length w = omega arith in
@@ -323,3 +311,4 @@ second_syndrome-sum (x ∷ u) (y ∷ v) (z ∷ w) e f h =
     (bit_xor b (second_syndrome w))) left
     ∙ ap (λ n. bit_xor (bit_xor (product (power (length v)) y) (second_syndrome v))
     (bit_xor (product (power n) z) (second_syndrome w))) right
+second_syndrome-sum _ _ _ e f h = absurd (omega arith)

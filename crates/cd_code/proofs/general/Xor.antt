@@ -1,7 +1,7 @@
 -- Sums of field elements: `bit_xor` as a group in which each element is its own inverse.
-use Rattle.std.proofs.Common.{◌≡◌, ℕ, ◌+◌, ◌*◌, ◌/◌, ◌%◌, bit_xor, sym, ap, ◌∙◌, arith, lit<}
+use Rattle.std.proofs.Common.{◌≡◌, ℕ, zero, suc, ◌+◌, ◌*◌, ◌/◌, ◌%◌, ◌^◌, ◌<◌, bit_xor, sym, ap, ◌∙◌, arith, lit<}
 use Rattle.std.specs.Int.Bits.{xor_self, xor_zero_l, xor_zero_r, xor_assoc}
-use Rattle.std.proofs.lemmas.Nat.{xor_comm, xor_shr, xor_mod, xor_block}
+use Rattle.std.proofs.lemmas.Nat.{xor_comm, xor_shr, xor_mod, xor_block, shr_below}
 use Rattle.std.proofs.lemmas.Nat.Bits.{bit_at_lowest, bit_at_xor}
 
 -- what is added twice goes away
@@ -19,6 +19,12 @@ xor_swap a b c d =
     ∙ ap (bit_xor a)
     (sym (xor_assoc b c d) ∙ ap (λ z. bit_xor z d) (xor_comm b c) ∙ xor_assoc c b d)
     ∙ sym (xor_assoc a c (bit_xor b d))
+
+-- a term that two sums have in common goes away
+pub xor_common : (a b c : ℕ) → bit_xor (bit_xor a b) (bit_xor a c) ≡ bit_xor c b
+xor_common a b c =
+    xor_swap a b a c ∙ ap (λ z. bit_xor z (bit_xor b c)) (xor_self a) ∙ xor_zero_l (bit_xor b c)
+    ∙ xor_comm b c
 
 -- equal terms on the left go away
 pub xor_cancel : (a b c : ℕ) → bit_xor a b ≡ bit_xor a c → b ≡ c
@@ -60,3 +66,16 @@ xor_by_bits a b =
     let low = xor_low a b in
     let bits = xor_bits a b in
     omega arith
+
+-- a function of a bit that is 0 at 0 is linear
+pub linear_at_bits : (f : ℕ → ℕ) → f 0 ≡ 0 → (x y : ℕ) → x < 2 → y < 2
+    → f (bit_xor x y) ≡ bit_xor (f x) (f y)
+linear_at_bits f none zero zero _ _ = none ∙ sym (xor_self (f 0))
+linear_at_bits f none zero (suc zero) _ _ =
+    sym (ap (λ z. bit_xor z (f 1)) none ∙ xor_zero_l (f 1))
+linear_at_bits f none (suc zero) zero _ _ = sym (ap (bit_xor (f 1)) none ∙ xor_zero_r (f 1))
+linear_at_bits f none (suc zero) (suc zero) _ _ = none ∙ sym (xor_self (f 1))
+linear_at_bits f none _ _ h k = absurd (omega arith)
+
+pub half_below : (n x : ℕ) → x < 2 ^ suc n → x / 2 < 2 ^ n
+half_below n x h = shr_below x n 1 (let e : n + 1 ≡ suc n = omega arith in rw e h)
