@@ -1,11 +1,12 @@
 -- The division of the EDC is linear, so the word of a sum is the sum of the words.
-use Rattle.std.proofs.Common.{◌≡◌, ℕ, zero, suc, ◌+◌, ◌-◌, ◌*◌, ◌/◌, ◌%◌, ◌^◌, ◌<◌, ◌≤◌, inl, inr, nat_lt, List, [], ◌∷◌, ◌++◌, length, get_or, replicate, fold, bit_xor, refl, sym, ap, ap₂, ◌∙◌, arith, lit<, lit≤, pow-add, append_assoc}
+use Rattle.std.proofs.Common.{◌≡◌, ℕ, zero, suc, ◌+◌, ◌-◌, ◌*◌, ◌/◌, ◌%◌, ◌^◌, ◌<◌, ◌≤◌, inl, inr, List, [], ◌∷◌, ◌++◌, length, get_or, replicate, fold, bit_xor, refl, sym, ap, ap₂, ◌∙◌, arith, lit<, lit≤, pow-add, append_assoc}
 use Rattle.std.specs.Int.Bits.{xor_self, xor_zero_l, xor_zero_r}
 use Rattle.std.specs.Int.{from_le_bytes, to_le_bytes, w32}
 use Rattle.std.proofs.Math.Nat.{pow-le-pow_right, pow-suc}
 use Rattle.std.proofs.lemmas.Nat.{xor_lt, xor_shr, xor_block, shr-shr, mod-pow-add, pow_pos}
-use Rattle.std.proofs.lemmas.Bool.{cond-true, cond-false, lt-ltb, le-ltb, cases_lt}
+use Rattle.std.proofs.lemmas.Bool.{cases_lt}
 use Rattle.std.proofs.lemmas.List.Sums.{fold-append}
+use Rattle.std.proofs.lemmas.Bool.Decides.{nat_tests}
 use Rattle.cd_code.specs.Edc.{IsEdc, low_bits, bits, generator, divide_step, remainder}
 use Rattle.cd_code.specs.Field.{AreBytes, IsSum}
 use Rattle.cd_code.specs.Laws.{DifferAtMostInLast}
@@ -23,15 +24,11 @@ carry (suc n) = generator
 
 step-low : (r b : ℕ) → r * 2 + b < 2 ^ 32 → divide_step r b ≡ r * 2 + b
 unfolding divide_step
-step-low r b h =
-    cond-true (nat_lt (r * 2 + b) (2 ^ 32)) (r * 2 + b) (bit_xor (r * 2 + b) generator)
-    (lt-ltb (r * 2 + b) (2 ^ 32) h)
+step-low r b h = grind (arith, nat_tests)
 
 step-high : (r b : ℕ) → 2 ^ 32 ≤ r * 2 + b → divide_step r b ≡ bit_xor (r * 2 + b) generator
 unfolding divide_step
-step-high r b h =
-    cond-false (nat_lt (r * 2 + b) (2 ^ 32)) (r * 2 + b) (bit_xor (r * 2 + b) generator)
-    (le-ltb (r * 2 + b) (2 ^ 32) h)
+step-high r b h = grind (arith, nat_tests)
 
 step-carry : (r b : ℕ) → r < 2 ^ 32 → b < 2
     → divide_step r b ≡ bit_xor (r * 2 + b) (carry (r / 2 ^ 31))
@@ -62,21 +59,14 @@ step-lt r b hr hb = elim (cases_lt (r * 2 + b) (2 ^ 32)) [
       rw e small
 ]
 
-bits_joined : (r s b c : ℕ) → b < 2 → c < 2
-    → bit_xor r s * 2 + bit_xor b c ≡ bit_xor (r * 2 + b) (s * 2 + c)
-bits_joined r s b c hb hc = sym (xor_block 1 r s b c hb hc)
-
 pub step-xor : (r s b c : ℕ) → r < 2 ^ 32 → s < 2 ^ 32 → b < 2 → c < 2
     → divide_step (bit_xor r s) (bit_xor b c) ≡ bit_xor (divide_step r b) (divide_step s c)
 step-xor r s b c hr hs hb hc =
     step-carry (bit_xor r s) (bit_xor b c) (xor_lt 32 r s hr hs) (xor_lt 1 b c hb hc)
-    ∙ ap (λ z. bit_xor z (carry (bit_xor r s / 2 ^ 31))) (bits_joined r s b c hb hc)
-    ∙ ap (bit_xor (bit_xor (r * 2 + b) (s * 2 + c)))
-    (ap carry (xor_shr r s 31)
+    ∙ ap₂ bit_xor (sym (xor_block 1 r s b c hb hc)) (ap carry (xor_shr r s 31)
     ∙ linear_at_bits carry refl (r / 2 ^ 31) (s / 2 ^ 31) (omega arith) (omega arith))
     ∙ xor_swap (r * 2 + b) (s * 2 + c) (carry (r / 2 ^ 31)) (carry (s / 2 ^ 31))
-    ∙ sym (ap (λ z. bit_xor z (divide_step s c)) (step-carry r b hr hb)
-    ∙ ap (bit_xor (bit_xor (r * 2 + b) (carry (r / 2 ^ 31)))) (step-carry s c hs hc))
+    ∙ sym (ap₂ bit_xor (step-carry r b hr hb) (step-carry s c hs hc))
 
 -- ---- n bits of a number
 
@@ -98,10 +88,10 @@ pub after_bits-xor : (n r s x y : ℕ) → r < 2 ^ 32 → s < 2 ^ 32
     → after_bits n (bit_xor r s) (bit_xor x y) ≡ bit_xor (after_bits n r x) (after_bits n s y)
 after_bits-xor zero r s x y hr hs = refl
 after_bits-xor (suc n) r s x y hr hs =
-    ap (λ z. after_bits n (divide_step (bit_xor r s) z) (bit_xor x y / 2)) (xor_low x y)
-    ∙ ap (after_bits n (divide_step (bit_xor r s) (bit_xor (x % 2) (y % 2)))) (xor_half x y)
-    ∙ ap (λ z. after_bits n z (bit_xor (x / 2) (y / 2)))
-    (step-xor r s (x % 2) (y % 2) hr hs (omega arith) (omega arith))
+    ap₂ (after_bits n)
+    (ap (divide_step (bit_xor r s)) (xor_low x y)
+    ∙ step-xor r s (x % 2) (y % 2) hr hs (omega arith) (omega arith))
+    (xor_half x y)
     ∙ after_bits-xor n (divide_step r (x % 2)) (divide_step s (y % 2)) (x / 2) (y / 2)
     (step-lt r (x % 2) hr (omega arith)) (step-lt s (y % 2) hs (omega arith))
 

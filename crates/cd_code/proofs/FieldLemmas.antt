@@ -1,9 +1,9 @@
 -- The field of the specification: doubling and multiplying are linear.
-use Rattle.std.proofs.Common.{◌≡◌, ℕ, zero, suc, ◌-◌, ◌*◌, ◌/◌, ◌%◌, ◌^◌, ◌<◌, ◌≤◌, Bool, true, false, bit_xor, nat_lt, refl, sym, ap, ◌∙◌, arith, lit<}
+use Rattle.std.proofs.Common.{◌≡◌, ℕ, zero, suc, ◌-◌, ◌*◌, ◌/◌, ◌%◌, ◌^◌, ◌<◌, ◌≤◌, Bool, true, false, bit_xor, refl, sym, ap, ap₂, ◌∙◌, arith, lit<}
 use Rattle.std.specs.Bool.{if◌then◌else◌, ◌==◌}
 use Rattle.std.specs.Int.Bits.{xor_zero_l}
 use Rattle.std.proofs.lemmas.Nat.{xor_shr, xor_lt}
-use Rattle.std.proofs.lemmas.Bool.{cond-true, cond-false, lt-ltb, le-ltb}
+use Rattle.std.proofs.lemmas.Bool.Decides.{nat_tests}
 use Rattle.cd_code.specs.Field.{double, power, product, product_of_bits}
 use Rattle.cd_code.proofs.general.Tables.{bounded_below, equal_below}
 use Rattle.cd_code.proofs.general.Xor.{half_below, linear_at_bits, xor_half, xor_low, xor_twofold, xor_swap}
@@ -28,12 +28,9 @@ double-xor a b ha hb =
     let whole = double-lift (bit_xor a b) (xor_lt 8 a b ha hb) in
     let tops : lift (bit_xor a b / 128) ≡ bit_xor (lift (a / 128)) (lift (b / 128)) =
     ap lift (xor_shr a b 7) ∙ linear_at_bits lift refl (a / 128) (b / 128) (omega arith) (omega arith) in
-    whole
-    ∙ ap (λ z. bit_xor z (lift (bit_xor a b / 128))) (xor_twofold a b)
-    ∙ ap (bit_xor (bit_xor (a * 2) (b * 2))) tops
+    whole ∙ ap₂ bit_xor (xor_twofold a b) tops
     ∙ xor_swap (a * 2) (b * 2) (lift (a / 128)) (lift (b / 128))
-    ∙ sym (ap (λ z. bit_xor z (double b)) (double-lift a ha)
-    ∙ ap (bit_xor (bit_xor (a * 2) (lift (a / 128)))) (double-lift b hb))
+    ∙ sym (ap₂ bit_xor (double-lift a ha) (double-lift b hb))
 
 -- the term of a product at one bit
 abbrev pub term : ℕ → ℕ → ℕ
@@ -62,11 +59,9 @@ product_of_bits-xor : (n a b c : ℕ)
     → product_of_bits n a (bit_xor b c) ≡ bit_xor (product_of_bits n a b) (product_of_bits n a c)
 product_of_bits-xor zero a b c = refl
 product_of_bits-xor (suc n) a b c =
-    ap (λ z. bit_xor (product_of_bits n (double a) z) (term (bit_xor b c % 2) a)) (xor_half b c)
-    ∙ ap (λ z. bit_xor z (term (bit_xor b c % 2) a))
-    (product_of_bits-xor n (double a) (b / 2) (c / 2))
-    ∙ ap (bit_xor (bit_xor (product_of_bits n (double a) (b / 2))
-    (product_of_bits n (double a) (c / 2))))
+    ap₂ bit_xor
+    (ap (product_of_bits n (double a)) (xor_half b c)
+    ∙ product_of_bits-xor n (double a) (b / 2) (c / 2))
     (ap (λ z. term z a) (xor_low b c)
     ∙ linear_at_bits (λ z. term z a) refl (b % 2) (c % 2) (omega arith) (omega arith))
     ∙ xor_swap (product_of_bits n (double a) (b / 2)) (product_of_bits n (double a) (c / 2))
@@ -90,9 +85,8 @@ product_of_bits-double : (n a b : ℕ) → a < 256
     → product_of_bits n (double a) b ≡ double (product_of_bits n a b)
 product_of_bits-double zero a b h = sym double-zero
 product_of_bits-double (suc n) a b h =
-    ap (λ z. bit_xor z (term (b % 2) (double a)))
-    (product_of_bits-double n (double a) (b / 2) (double-lt a h))
-    ∙ ap (bit_xor (double (product_of_bits n (double a) (b / 2)))) (double-term (b % 2) a)
+    ap₂ bit_xor (product_of_bits-double n (double a) (b / 2) (double-lt a h))
+    (double-term (b % 2) a)
     ∙ sym (double-xor (product_of_bits n (double a) (b / 2)) (term (b % 2) a)
     (product_of_bits-lt n (double a) (b / 2) (double-lt a h)) (term-lt (b % 2) a h))
 
@@ -156,15 +150,11 @@ product-by_bits a b h =
 -- the two cases of doubling
 pub double-below : (b : ℕ) → b < 128 → double b ≡ b * 2
 unfolding double
-double-below b h =
-    cond-true (nat_lt (b * 2) 256) (b * 2) (bit_xor (b * 2 - 256) 29)
-    (lt-ltb (b * 2) 256 (omega arith))
+double-below b h = grind (arith, nat_tests)
 
 pub double-above : (b : ℕ) → 128 ≤ b → double b ≡ bit_xor (b * 2 - 256) 29
 unfolding double
-double-above b h =
-    cond-false (nat_lt (b * 2) 256) (b * 2) (bit_xor (b * 2 - 256) 29)
-    (le-ltb (b * 2) 256 (omega arith))
+double-above b h = grind (arith, nat_tests)
 
 product_of_bits-zero_left : (n b : ℕ) → product_of_bits n 0 b ≡ 0
 product_of_bits-zero_left zero b = refl

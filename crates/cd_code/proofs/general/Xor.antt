@@ -2,7 +2,7 @@
 use Rattle.std.proofs.Common.{◌≡◌, ℕ, zero, suc, ◌+◌, ◌*◌, ◌/◌, ◌%◌, ◌^◌, ◌<◌, bit_xor, sym, ap, ◌∙◌, arith, lit<}
 use Rattle.std.specs.Int.Bits.{xor_self, xor_zero_l, xor_zero_r, xor_assoc}
 use Rattle.std.proofs.lemmas.Nat.{xor_comm, xor_shr, xor_mod, xor_block, shr_below}
-use Rattle.std.proofs.lemmas.Nat.Bits.{bit_at_lowest, bit_at_xor}
+use Rattle.std.proofs.lemmas.Nat.Bits.{bit_at_lowest, bit_at_xor, same_from_bits}
 
 -- what is added twice goes away
 pub xor_twice : (a b : ℕ) → bit_xor (bit_xor a b) b ≡ a
@@ -14,11 +14,7 @@ xor_twice_left a b = sym (xor_assoc a a b) ∙ ap (λ z. bit_xor z b) (xor_self 
 -- two pairs of terms change places
 pub xor_swap : (a b c d : ℕ)
     → bit_xor (bit_xor a b) (bit_xor c d) ≡ bit_xor (bit_xor a c) (bit_xor b d)
-xor_swap a b c d =
-    xor_assoc a b (bit_xor c d)
-    ∙ ap (bit_xor a)
-    (sym (xor_assoc b c d) ∙ ap (λ z. bit_xor z d) (xor_comm b c) ∙ xor_assoc c b d)
-    ∙ sym (xor_assoc a c (bit_xor b d))
+xor_swap a b c d = same_from_bits _ _ (λ i. simp bit_at_xor (omega arith))
 
 -- a term that two sums have in common goes away
 pub xor_common : (a b c : ℕ) → bit_xor (bit_xor a b) (bit_xor a c) ≡ bit_xor c b
