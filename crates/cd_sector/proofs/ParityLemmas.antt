@@ -2,9 +2,9 @@
 -- other.
 use Rattle.std.proofs.Common.{◌≡◌, ℕ, ◌+◌, ◌-◌, ◌*◌, ◌/◌, ◌%◌, ◌<◌, ◌≤◌, ◌⊎◌, inl, inr, List, [], ◌∷◌, ◌++◌, length, get_or, take, drop, bit_xor, refl, sym, ap, ◌∙◌, arith}
 use Rattle.std.proofs.lemmas.Bool.{cases_lt}
-use Rattle.std.proofs.lemmas.List.{ext_get_or, get_or-map, length-map, take_more, get_or-take, get_or-drop, length-take-le, length-drop}
+use Rattle.std.proofs.lemmas.List.{ext_get_or, get_or-map, length-map, take_more, get_or-take, get_or-drop}
 use Rattle.std.specs.Simd.{first_chunks}
-use Rattle.cd_code.proofs.general.Lists.{get_or-part}
+use Rattle.cd_code.proofs.general.Lists.{get_or-part, length-part}
 use Rattle.cd_code.proofs.ColumnLemmas.{chunk_row}
 use Rattle.std.proofs.lemmas.List.FromFn.{get_or-map-range_with_len}
 use Rattle.cd_code.specs.Field.{AreBytes, double}
@@ -103,10 +103,7 @@ AreColumns-same word other lanes same are = record {
 }
 
 pub rows_of_columns : (s : List ℕ) → length s ≡ 2352 → length (take 2064 (drop 12 s)) / 86 ≡ 24
-rows_of_columns s long =
-    let e : length (take 2064 (drop 12 s)) ≡ 2064 =
-    length-take-le 2064 (drop 12 s) (omega (arith, length-drop 12 s)) in
-    ap (λ n. n / 86) e
+rows_of_columns s long = ap (λ n. n / 86) (length-part s 12 2064 (omega arith))
 
 -- the sums of the columns, from the 26 rows from byte 12 on
 pub SumsOf-columns : (s rows plain weighted : List ℕ) → rows ≡ take 2236 (take 2236 (drop 12 s))

@@ -1,5 +1,5 @@
--- The sum of two sectors, byte by byte: its loop, its syndromes and its remainder.
-use Rattle.std.proofs.Common.{◌≡◌, ℕ, ◌<◌, ◌≤◌, List, length, get_or, take, bit_xor, sym, ap, ap₂, ◌∙◌, arith}
+-- The sum of two sectors, byte by byte: its syndromes and its remainder.
+use Rattle.std.proofs.Common.{◌≡◌, ℕ, ◌<◌, List, length, get_or, take, bit_xor, sym, ap, ap₂, ◌∙◌, arith}
 use Rattle.std.specs.Int.Bits.{xor_self, xor_zero_r}
 use Rattle.std.proofs.lemmas.List.{get_or-take, length-take, length-take-le}
 use Rattle.cd_code.specs.Edc.{bits, remainder}
@@ -128,18 +128,3 @@ remainder_of_sum u s t h hu hs ht =
     (long_u ∙ sym (length-take-le 2068 s (omega (arith, hs))))
     (long_u ∙ sym (length-take-le 2068 t (omega (arith, ht))))
     (take-sum u s t 2068 h)
-
--- ---- the loop of it
-
--- the first `count` bytes of u are those of the sum of s and t, and the others those of s
-pub record AreSums (s t : List ℕ) (count : ℕ) (u : List ℕ) : Type 0 where
-  pub size : length u ≡ 2352
-  pub below : (k : ℕ) → k < count → get_or u k 0 ≡ bit_xor (get_or s k 0) (get_or t k 0)
-  pub from : (k : ℕ) → count ≤ k → get_or u k 0 ≡ get_or s k 0
-
-pub AreSums-all : (s t u : List ℕ) {count : ℕ} → length s ≡ 2352 → length t ≡ 2352 → 2352 ≤ count
-    → AreSums s t count u → IsSum u s t
-AreSums-all s t u {count} ls lt all h =
-    let lu = h.size in
-    IsSum-below u s t 2352 (omega arith) (omega arith) (omega arith)
-    (λ i inside. h.below i (omega arith))
