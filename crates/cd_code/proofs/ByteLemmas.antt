@@ -1,5 +1,5 @@
 -- Lists of bytes, and their sums.
-use Rattle.std.proofs.Common.{◌≡◌, ℕ, zero, suc, ◌+◌, ◌%◌, ◌<◌, ◌≤◌, inl, inr, List, [], ◌∷◌, ◌++◌, length, get_or, map, take, drop, replicate, bit_xor, sym, ap₂, ◌∙◌, arith, lit<}
+use Rattle.std.proofs.Common.{◌≡◌, ℕ, zero, suc, ◌+◌, ◌%◌, ◌<◌, ◌≤◌, inl, inr, List, [], ◌∷◌, ◌++◌, length, get_or, map, take, drop, replicate, bit_xor, refl, sym, ap₂, ◌∙◌, arith, lit<}
 use Rattle.std.specs.Prelude.{slice_set}
 use Rattle.std.specs.Int.{to_le_bytes, w32}
 use Rattle.std.specs.Simd.Lanes.{zip2}
@@ -8,6 +8,7 @@ use Rattle.std.proofs.lemmas.List.{get_or-drop, get_or_past}
 use Rattle.std.proofs.lemmas.Nat.{xor_lt}
 use Rattle.std.proofs.lemmas.Simd.{get_or-zip2, length-zip2}
 use Rattle.cd_code.specs.Field.{AreBytes, IsSum}
+use Rattle.cd_code.specs.Laws.{DifferAtMostInLast}
 
 pub AreBytes-tail : (x : ℕ) (v : List ℕ) → AreBytes (x ∷ v) → AreBytes v
 AreBytes-tail x v h = λ i. h (suc i)
@@ -48,6 +49,11 @@ pub AreBytes-replicate : (n : ℕ) → AreBytes (replicate n 0)
 AreBytes-replicate zero = λ i. lit< tt
 AreBytes-replicate (suc n) = AreBytes-cons 0 (replicate n 0) (lit< tt) (AreBytes-replicate n)
 
+pub replicate-byte : (n i : ℕ) → get_or (replicate {A = ℕ} n 0) i 0 ≡ 0
+replicate-byte zero i = refl
+replicate-byte (suc n) zero = refl
+replicate-byte (suc n) (suc i) = replicate-byte n i
+
 -- the four bytes of a word
 pub AreBytes-four : (a b c d : ℕ) → a < 256 → b < 256 → c < 256 → d < 256
     → AreBytes (a ∷ b ∷ c ∷ d ∷ [])
@@ -58,6 +64,16 @@ AreBytes-four a b c d ha hb hc hd =
 pub AreBytes-word : (w : ℕ) → AreBytes (to_le_bytes w32 w)
 AreBytes-word w =
     AreBytes-four (w % 256) _ _ _ (omega arith) (omega arith) (omega arith) (omega arith)
+
+-- the rest of lists that differ at most in their last bytes
+pub DifferAtMostInLast-tail : (n x y : ℕ) (v w : List ℕ) → DifferAtMostInLast n (x ∷ v) (y ∷ w)
+    → DifferAtMostInLast n v w
+DifferAtMostInLast-tail n x y v w d = record {
+  bytes_left = λ i. d.bytes_left (suc i);
+  bytes_right = λ i. d.bytes_right (suc i);
+  same_length = (let e = d.same_length in omega arith);
+  front = λ i h. d.front (suc i) (omega arith);
+}
 
 -- ---- sums
 

@@ -10,8 +10,7 @@ use Rattle.std.proofs.lemmas.Bool.Decides.{nat_tests}
 use Rattle.cd_code.specs.Edc.{IsEdc, low_bits, bits, generator, divide_step, remainder}
 use Rattle.cd_code.specs.Field.{AreBytes, IsSum}
 use Rattle.cd_code.specs.Laws.{DifferAtMostInLast}
-use Rattle.cd_code.proofs.ByteLemmas.{AreBytes-four, AreBytes-tail, AreBytes-word}
-use Rattle.cd_code.proofs.ListLemmas.{DifferAtMostInLast-tail}
+use Rattle.cd_code.proofs.ByteLemmas.{AreBytes-four, AreBytes-tail, AreBytes-word, DifferAtMostInLast-tail}
 use Rattle.cd_code.proofs.general.Lists.{list_of_eight}
 use Rattle.cd_code.proofs.general.Xor.{half_below, linear_at_bits, xor_half, xor_low, xor_twice_left, xor_swap, same_from_xor}
 
@@ -214,8 +213,7 @@ after-number r (x ∷ v) h =
     let first : x % 2 ^ 8 ≡ n % 2 ^ 8 = omega arith in
     let rest : number v ≡ n / 2 ^ 8 = omega arith in
     after-number (after_bits 8 r x) v (λ i. h (suc i))
-    ∙ ap (λ z. after_bits (8 * length v) z (number v)) (after_bits-mod 8 r x n first)
-    ∙ ap (after_bits (8 * length v) (after_bits 8 r n)) rest
+    ∙ ap₂ (after_bits (8 * length v)) (after_bits-mod 8 r x n first) rest
     ∙ sym (after_bits-more 8 (8 * length v) r n)
     ∙ ap (λ k. after_bits k r n) more
 
@@ -284,9 +282,7 @@ Ends-shift r w h =
       fits = omega arith;
       ends =
           after_bits-more 24 8 (after_bits 8 r (w % 256)) (w / 256)
-          ∙ ap (λ z. after_bits 8 z (w / 256 / 2 ^ 24)) three
-          ∙ ap (after_bits 8 0) high
-          ∙ after_bits-zero 8;
+          ∙ ap₂ (after_bits 8) three high ∙ after_bits-zero 8;
     }
 
 -- the empty list
@@ -313,8 +309,7 @@ IsEdc-push v w x t h k =
     let y = bit_xor (w % 256) x in
     let e : bit_xor (after_bits 8 r (w % 256)) (after_bits 8 0 y) ≡ after 0 (v ++ x ∷ []) =
     sym (after-append 0 v (x ∷ [])
-    ∙ ap (after_bits 8 r) (sym (xor_twice_left (w % 256) x))
-    ∙ ap (λ z. after_bits 8 z (bit_xor (w % 256) y)) (sym (xor_zero_r r))
+    ∙ ap₂ (after_bits 8) (sym (xor_zero_r r)) (sym (xor_twice_left (w % 256) x))
     ∙ after_bits-xor 8 r 0 (w % 256) y (after-lt 0 v (lit< tt)) (lit< tt)) in
     IsEdc-from (v ++ x ∷ []) (bit_xor (w / 256) t)
     (rw e at (Ends-xor (after_bits 8 r (w % 256)) (after_bits 8 0 y) (w / 256) t
@@ -342,6 +337,13 @@ IsEdc-cons y v t w h k =
     (rw e at (Ends-xor (after r (replicate (length v) 0)) (after 0 v) t w
     (Ends-from (y ∷ replicate (length v) 0) t h) (Ends-from v w k)))
 
+-- what is added to the word is fed as if nothing were left
+pub Ends-more : {r w : ℕ} → Ends r w → (y : ℕ) → after_bits 32 r (bit_xor w y) ≡ after_bits 32 0 y
+Ends-more {r} {w} ends y =
+    ap (λ z. after_bits 32 z (bit_xor w y)) (sym (xor_zero_r r))
+    ∙ after_bits-xor 32 r 0 w y ends.left (lit< tt)
+    ∙ ap (λ z. bit_xor z (after_bits 32 0 y)) ends.ends ∙ xor_zero_l (after_bits 32 0 y)
+
 -- four bytes after a list, and its word: the bytes of their sum
 pub after-four : (v : List ℕ) (w : ℕ) (four : List ℕ) → IsEdc v w → AreBytes four → length four ≡ 4
     → after 0 (v ++ four) ≡ after 0 (to_le_bytes w32 (bit_xor w (number four)))
@@ -350,18 +352,13 @@ after-four v w four h bytes long =
     let n = number four in
     let y = bit_xor w n in
     let ends = Ends-from v w h in
-    let n_lt : n < 2 ^ 32 =
-    (let e : 8 * length four ≡ 32 = omega arith in rw e at (number-lt four bytes)) in
-    let y_lt : y < 2 ^ 32 = xor_lt 32 w n h.fits n_lt in
     let eights : 8 * length four ≡ 32 = omega arith in
+    let n_lt : n < 2 ^ 32 = rw eights at (number-lt four bytes) in
+    let y_lt : y < 2 ^ 32 = xor_lt 32 w n h.fits n_lt in
     after-append 0 v four
     ∙ after-number r four bytes
     ∙ ap (λ k. after_bits k r n) eights
-    ∙ ap (after_bits 32 r) (sym (xor_twice_left w n))
-    ∙ ap (λ z. after_bits 32 z (bit_xor w y)) (sym (xor_zero_r r))
-    ∙ after_bits-xor 32 r 0 w y ends.left (lit< tt)
-    ∙ ap (λ z. bit_xor z (after_bits 32 0 y)) ends.ends
-    ∙ xor_zero_l (after_bits 32 0 y)
+    ∙ ap (after_bits 32 r) (sym (xor_twice_left w n)) ∙ Ends-more ends y
     ∙ sym (after-word 0 y y_lt)
 
 -- the word is the only one
@@ -459,8 +456,7 @@ pub remainder-sum : (u v w : List ℕ) → length u ≡ length v → length u �
     → remainder (bits u) ≡ bit_xor (remainder (bits v)) (remainder (bits w))
 remainder-sum u v w e f h =
     remainder-after u ∙ after-sum 0 0 u v w (lit< tt) (lit< tt) e f (λ i _. h.byte i)
-    ∙ sym (ap (λ n. bit_xor n (remainder (bits w))) (remainder-after v)
-    ∙ ap (bit_xor (after 0 v)) (remainder-after w))
+    ∙ sym (ap₂ bit_xor (remainder-after v) (remainder-after w))
 
 pub IsEdc-sum : (u v w : List ℕ) → length u ≡ length v → length u ≡ length w → IsSum u v w
     → (a b : ℕ) → IsEdc v a → IsEdc w b → IsEdc u (bit_xor a b)

@@ -1,17 +1,17 @@
 -- Sixteen bytes at a time leave what all the bytes leave.
 use Rattle.std.proofs.Common.{◌≡◌, ℕ, zero, suc, ◌+◌, ◌*◌, ◌/◌, ◌%◌, ◌^◌, ◌<◌, ◌≤◌, List, [], ◌∷◌, ◌++◌, length, take, drop, replicate, bit_xor, refl, sym, ap, ap₂, ◌∙◌, arith, lit<, lit≤, append_assoc, length-append, length-take, length-drop}
-use Rattle.std.specs.Int.Bits.{xor_self, xor_zero_l, xor_zero_r}
+use Rattle.std.specs.Int.Bits.{xor_zero_l, xor_zero_r}
 use Rattle.std.specs.List.{range_with_len}
 use Rattle.std.specs.Simd.Lanes.{zip2, pick_l}
 use Rattle.std.proofs.Math.Seq.{take-add, take-append-add}
-use Rattle.std.proofs.lemmas.Nat.{xor_lt}
+use Rattle.std.proofs.lemmas.Nat.{xor_comm, xor_lt}
 use Rattle.std.proofs.lemmas.Nat.Bits.{bit_at_xor, same_from_bits}
 use Rattle.std.proofs.lemmas.List.{take-append-drop, drop-append-le, take_all}
 use Rattle.std.proofs.lemmas.Simd.{length-zip2, get_or-zip2, pick_l-range_with_len}
 use Rattle.cd_code.specs.Edc.{bits, divide_step, remainder}
 use Rattle.cd_code.specs.Folding.{IsFolded, with_folded}
 use Rattle.cd_code.proofs.EdcLemmas.{step-xor, step-lt, after, after-lt, after-append, after-sum, after-xor_zeros, after_bits, after_bits-lt, after_bits-xor, after_bits-zero, remainder-after}
-use Rattle.cd_code.proofs.general.Xor.{xor_swap}
+use Rattle.cd_code.proofs.general.Xor.{xor_common, xor_swap}
 
 -- ---- k bytes 00
 
@@ -173,9 +173,7 @@ left-window m n a b ha hb h =
     ap (after 0) window ∙ left-append rest front
     ∙ ap (λ k. bit_xor (zeros k d) (after 0 front)) front_len
     ∙ sym (ap (λ z. bit_xor z (bit_xor (zeros n p) (after 0 front))) whole
-    ∙ xor_swap (zeros n p) (zeros m d) (zeros n p) (after 0 front)
-    ∙ ap (λ z. bit_xor z (bit_xor (zeros m d) (after 0 front))) (xor_self (zeros n p))
-    ∙ xor_zero_l (bit_xor (zeros m d) (after 0 front)))
+    ∙ xor_common (zeros n p) (zeros m d) (after 0 front) ∙ xor_comm (after 0 front) (zeros m d))
 
 -- what sixteen folded bytes leave
 left-folded : (a b c : List ℕ) → length a ≡ 16 → length b ≡ 16 → length c ≡ 16
@@ -272,9 +270,7 @@ IsFolded-step v a b c h hc =
     (bit_xor (zeros 16 rb) (zeros 16 ra)) (zeros 16 rp)) (zeros 16 rq)) =
     ap (zeros 16) left
     ∙ x 16 (zeros 16 ra) (bit_xor (bit_xor (bit_xor rb ra) rp) rq) (zeros-lt 16 ra la) four
-    ∙ ap (λ z. bit_xor z (zeros 16 (bit_xor (bit_xor (bit_xor rb ra) rp) rq)))
-    (zeros-more 16 16 ra ∙ four-after 0 a (lit< tt) (four-bit 0 (lit< tt)))
-    ∙ ap (bit_xor (bit_xor (zeros 16 ra) (bit_xor (zeros 4 ra) (zeros 1 ra))))
+    ∙ ap₂ bit_xor (zeros-more 16 16 ra ∙ four-after 0 a (lit< tt) (four-bit 0 (lit< tt)))
     (x 16 (bit_xor (bit_xor rb ra) rp) rq three lq
     ∙ ap (λ z. bit_xor z (zeros 16 rq))
     (x 16 (bit_xor rb ra) rp two lp ∙ ap (λ z. bit_xor z (zeros 16 rp)) (x 16 rb ra lb la))) in

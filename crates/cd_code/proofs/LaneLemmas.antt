@@ -4,7 +4,7 @@ use Rattle.std.specs.Simd.Lanes.{Each1, zip2, sel_l, top, chunk, put_chunk}
 use Rattle.std.proofs.lemmas.List.{length-map, get_or-map}
 use Rattle.std.specs.Int.Bits.{xor_zero_r}
 use Rattle.std.proofs.lemmas.Nat.{and_mask, xor_lt}
-use Rattle.std.proofs.lemmas.Simd.{below_from_Fits, Each1-get_or, length-chunk, length-zip2, get_or-chunk, get_or-zip2, get_or-put_chunk_at, get_or-put_chunk_below, get_or-put_chunk_above}
+use Rattle.std.proofs.lemmas.Simd.{below_from_Fits, Each1-get_or, length-chunk, length-zip2, get_or-chunk, get_or-zip2, get_or-put_chunk_at, get_or-put_chunk_above}
 use lib.Dec.{leb}
 use Rattle.cd_code.specs.Field.{double, product}
 use Rattle.cd_code.proofs.FieldLemmas.{double-zero}
@@ -55,12 +55,7 @@ lanes_added f at n sums row lanes hs hr e c from to =
     ∙ ap (bit_xor (f (get_or sums c 0)))
     (get_or-chunk at n row j 0 (omega arith) ∙ ap (λ k. get_or row k 0) place)
 
--- the sums outside of those lanes stay
-pub lanes_below : (at n : ℕ) (sums row lanes : List ℕ) (c : ℕ) → c < at
-    → get_or (put_chunk at sums (zip2 bit_xor lanes (chunk at n row))) c 0 ≡ get_or sums c 0
-lanes_below at n sums row lanes c h =
-    get_or-put_chunk_below at sums (zip2 bit_xor lanes (chunk at n row)) c 0 h
-
+-- the sums after those lanes stay
 pub lanes_above : (at n : ℕ) (sums row lanes : List ℕ) → at + n ≤ length row → length lanes ≡ n
     → (c : ℕ) → at + n ≤ c
     → get_or (put_chunk at sums (zip2 bit_xor lanes (chunk at n row))) c 0 ≡ get_or sums c 0

@@ -7,7 +7,7 @@ use Rattle.std.proofs.lemmas.List.{length-set, length_push}
 use Rattle.cd_code.specs.Field.{AreBytes, double, power, product}
 use Rattle.cd_code.specs.Syndrome.{first_syndrome, second_syndrome, IsCodeWord, SameSums, with_added}
 use Rattle.cd_code.specs.Laws.{DifferAtMostInLast}
-use Rattle.cd_code.proofs.ListLemmas.{DifferAtMostInLast-tail}
+use Rattle.cd_code.proofs.ByteLemmas.{DifferAtMostInLast-tail}
 use Rattle.cd_code.proofs.general.Xor.{same_from_xor, xor_cancel, xor_cancel_right, xor_swap, xor_twice}
 use Rattle.cd_code.proofs.FieldLemmas.{double-xor, double-lt, double-zero, product-xor, product-lt, product-one, product-power, product-power_suc, power-lt, third_tripled, tripled_third}
 use Rattle.cd_code.proofs.FieldTableLemmas.{product-power_moves, product-power_moves_on}

@@ -32,21 +32,18 @@ pub front-same : (s t : List ℕ) (n : ℕ) → n ≤ length s → n ≤ length 
 front-same s t n inside within h =
     part-same s t 0 n (omega arith) (omega arith) (λ i _ below. h i (omega arith))
 
--- a list that stands there
-pub part-list : (s v : List ℕ) (a : ℕ) → a + length v ≤ length s
-    → ((i : ℕ) → i < length v → get_or s (a + i) 0 ≡ get_or v i 0)
-    → take (length v) (drop a s) ≡ v
-part-list s v a inside h =
-    let one = length-part s a (length v) inside in
-    ext_get_or 0 (take (length v) (drop a s)) v one
-    (λ k within.
-    let below : k < length v = omega arith in
-    get_or-part s a (length v) k below ∙ h k below)
-
 -- the first n elements of a list that agrees with another one, of n, there
 pub front-list : (s v : List ℕ) (n : ℕ) → length v ≡ n → n ≤ length s
     → ((i : ℕ) → i < n → get_or s i 0 ≡ get_or v i 0) → take n s ≡ v
 front-list s v n long inside h = front-same s v n inside (omega arith) h ∙ take_all n v (omega arith)
+
+-- a list that stands at a place
+pub part-list : (s v : List ℕ) (a : ℕ) → a + length v ≤ length s
+    → ((i : ℕ) → i < length v → get_or s (a + i) 0 ≡ get_or v i 0)
+    → take (length v) (drop a s) ≡ v
+part-list s v a inside h =
+    front-list (drop a s) v (length v) refl (omega (arith, length-drop a s))
+    (λ i below. get_or-drop a s i 0 ∙ h i below)
 
 -- a part of the first n
 pub part-of_front : (s front : List ℕ) (n a m : ℕ) → a + m ≤ n → take n s ≡ front

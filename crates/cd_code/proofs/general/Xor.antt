@@ -1,7 +1,7 @@
 -- Sums of field elements: `bit_xor` as a group in which each element is its own inverse.
 use Rattle.std.proofs.Common.{◌≡◌, ℕ, zero, suc, ◌+◌, ◌*◌, ◌/◌, ◌%◌, ◌^◌, ◌<◌, bit_xor, sym, ap, ◌∙◌, arith, lit<}
 use Rattle.std.specs.Int.Bits.{xor_self, xor_zero_l, xor_zero_r, xor_assoc}
-use Rattle.std.proofs.lemmas.Nat.{xor_comm, xor_shr, xor_mod, xor_block, shr_below}
+use Rattle.std.proofs.lemmas.Nat.{xor_shr, xor_mod, xor_block, shr_below}
 use Rattle.std.proofs.lemmas.Nat.Bits.{bit_at_lowest, bit_at_xor, same_from_bits}
 
 -- what is added twice goes away
@@ -18,9 +18,7 @@ xor_swap a b c d = same_from_bits _ _ (λ i. simp bit_at_xor (omega arith))
 
 -- a term that two sums have in common goes away
 pub xor_common : (a b c : ℕ) → bit_xor (bit_xor a b) (bit_xor a c) ≡ bit_xor c b
-xor_common a b c =
-    xor_swap a b a c ∙ ap (λ z. bit_xor z (bit_xor b c)) (xor_self a) ∙ xor_zero_l (bit_xor b c)
-    ∙ xor_comm b c
+xor_common a b c = same_from_bits _ _ (λ i. simp bit_at_xor (omega arith))
 
 -- equal terms on the left go away
 pub xor_cancel : (a b c : ℕ) → bit_xor a b ≡ bit_xor a c → b ≡ c
