@@ -1,9 +1,8 @@
 -- The EDC in its place: written there, and compared with what stands there.
-use Rattle.std.proofs.Common.{◌≡◌, ℕ, ◌+◌, ◌-◌, ◌^◌, ◌<◌, ◌≤◌, ◌⊎◌, inl, Bool, Decides, List, [], ◌∷◌, ◌++◌, length, get_or, take, drop, bit_xor, sym, ap, ◌∙◌, arith, lit<}
+use Rattle.std.proofs.Common.{◌≡◌, ℕ, ◌+◌, ◌-◌, ◌^◌, ◌<◌, ◌≤◌, ◌⊎◌, inl, Bool, Decides, List, [], ◌∷◌, ◌++◌, length, get_or, take, drop, bit_xor, sym, ap, ◌∙◌, arith}
 use Rattle.std.specs.Bool.{◌==◌, one_answer}
 use Rattle.std.specs.Prelude.{slice_range}
 use Rattle.std.specs.Int.{from_le_bytes, to_le_bytes, w32}
-use Rattle.std.specs.Int.Bits.{xor_zero_l, xor_zero_r}
 use Rattle.std.proofs.lemmas.Bool.Decides.{Decides-eqb, Decides-like}
 use Rattle.std.proofs.lemmas.Nat.{le_bytes_4, xor_lt}
 use Rattle.std.proofs.Math.Seq.{take-add}
@@ -11,7 +10,7 @@ use Rattle.cd_code.specs.Edc.{IsEdc, bits, remainder}
 use Rattle.cd_code.specs.Field.{AreBytes}
 use Rattle.cd_code.proofs.ByteLemmas.{AreBytes-drop, AreBytes-take}
 use Rattle.cd_code.proofs.general.Lists.{front-same, length-part}
-use Rattle.cd_code.proofs.EdcLemmas.{Ends-from, IsEdc-unique, after, after-append, after-lt, after-word, after_bits, after_bits-xor, remainder-after}
+use Rattle.cd_code.proofs.EdcLemmas.{Ends-from, Ends-more, IsEdc-unique, after, after-append, after-word, after_bits, remainder-after}
 use Rattle.cd_sector.specs.EdcField.{StoresEdc}
 
 -- the word of the first bytes, put after them
@@ -32,15 +31,10 @@ StoresEdc-remainder {s} {error} h =
     let front = take 2064 s in
     let four = to_le_bytes w32 (bit_xor h.word error) in
     let rest = after 0 front in
-    let below : rest < 2 ^ 32 = after-lt 0 front (lit< tt) in
-    let ends = Ends-from front h.word h.is_word in
     ap (λ v. remainder (bits v)) (take-add 2064 4 s ∙ ap (λ v. front ++ v) h.at_end)
     ∙ remainder-after (front ++ four) ∙ after-append 0 front four
     ∙ after-word rest (bit_xor h.word error) (xor_lt 32 h.word error h.is_word.fits h.fits)
-    ∙ ap (λ r. after_bits 32 r (bit_xor h.word error)) (sym (xor_zero_r rest))
-    ∙ after_bits-xor 32 rest 0 h.word error below (lit< tt)
-    ∙ ap (λ n. bit_xor n (after_bits 32 0 error)) ends.ends
-    ∙ xor_zero_l (after_bits 32 0 error)
+    ∙ Ends-more (Ends-from front h.word h.is_word) error
 
 stored_lt : (v : List ℕ) → length v ≡ 4 → AreBytes v → from_le_bytes w32 v < 2 ^ 32
 stored_lt (a ∷ b ∷ c ∷ d ∷ []) long h =

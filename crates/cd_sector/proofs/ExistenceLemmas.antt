@@ -6,15 +6,16 @@ use Rattle.std.specs.List.{range_with_len}
 use Rattle.std.specs.Int.{to_le_bytes, w32}
 use Rattle.std.specs.Int.Bits.{xor_self, xor_zero_r}
 use Rattle.std.specs.Simd.Lanes.{zip2}
+use Rattle.std.proofs.Math.Seq.{take-suc}
 use Rattle.std.proofs.lemmas.Bool.{cases_lt}
-use Rattle.std.proofs.lemmas.List.{get_or_append_left, get_or-append_right, get_or-drop, get_or_past, get_or-replicate, get_or-take, take_more, length-take-le, length-drop, length-append, length-replicate}
+use Rattle.std.proofs.lemmas.List.{get_or_append_left, get_or-append_right, get_or-drop, get_or_past, get_or-take, length-take-le, length-drop, length-append, length-replicate}
 use Rattle.std.proofs.lemmas.List.FromFn.{get_or-map-range_with_len, length-map-range_with_len}
 use Rattle.std.proofs.lemmas.Nat.{xor_lt}
 use Rattle.std.proofs.lemmas.Simd.{length-zip2}
 use Rattle.cd_code.specs.Edc.{IsEdc, bits, remainder}
 use Rattle.cd_code.specs.Field.{AreBytes, IsSum, double, product}
 use Rattle.cd_code.specs.Syndrome.{first_syndrome, second_syndrome}
-use Rattle.cd_code.proofs.ByteLemmas.{AreBytes-append, AreBytes-cons, AreBytes-drop, AreBytes-map, AreBytes-replicate, AreBytes-sum, AreBytes-take, AreBytes-word, IsSum-zip}
+use Rattle.cd_code.proofs.ByteLemmas.{AreBytes-append, AreBytes-cons, AreBytes-drop, AreBytes-map, AreBytes-replicate, AreBytes-sum, AreBytes-take, AreBytes-word, IsSum-zip, replicate-byte}
 use Rattle.cd_code.proofs.general.Lists.{first-part, front-same, get_or-second, part-same}
 use Rattle.cd_code.proofs.general.Tables.{bounded_below}
 use Rattle.cd_code.proofs.general.Xor.{xor_twice_left}
@@ -44,9 +45,7 @@ edc_of_front v h (suc n) k =
     let x = get_or v n 0 in
     let low : before.0 % 256 < 256 = omega arith in
     let t = one_byte (bit_xor (before.0 % 256) x) (xor_lt 8 (before.0 % 256) x low (h n)) in
-    let longer : take n v ++ x ∷ [] ≡ take (suc n) v =
-    sym (take_more v n 0 (omega arith))
-    ∙ (let e : n + 1 ≡ suc n = omega arith in ap (λ m. take m v) e) in
+    let longer = sym (take-suc v n 0 (omega arith)) in
     (bit_xor (before.0 / 256) t.0, rw longer at (IsEdc-push (take n v) before.0 x t.0 before.1 t.1))
 
 -- ---- parity
@@ -267,10 +266,7 @@ AreBytes-nothing = AreBytes-replicate 2352
 
 nothing-byte : (i : ℕ) → get_or nothing i 0 ≡ 0
 unfolding nothing
-nothing-byte i = elim (cases_lt i 2352) [
-  | inl inside ↦ get_or-replicate 2352 i 0 0 inside
-  | inr past ↦ get_or_past (replicate 2352 0) i 0 (omega (arith, length-replicate {A = ℕ} 2352 0))
-]
+nothing-byte i = replicate-byte 2352 i
 
 pub sector_found : (header user : List ℕ) → AreBytes header → length header ≡ 3 → AreBytes user
     → length user ≡ 2048
