@@ -4,11 +4,11 @@ use Rattle.std.specs.Prelude.{slice_range}
 use Rattle.std.specs.Int.{from_le_bytes, to_le_bytes, w32}
 use Rattle.std.specs.Int.Bits.{xor_zero_r}
 use Rattle.std.proofs.lemmas.Bool.{cases_lt}
-use Rattle.std.proofs.lemmas.List.{get_or_append_left, get_or-append_right, get_or_past, get_or-replicate, get_or-take, length-append, length-replicate, length-take-le}
+use Rattle.std.proofs.lemmas.List.{get_or_append_left, get_or-append_right, get_or-take, length-append, length-replicate, length-take-le}
 use Rattle.std.proofs.lemmas.Nat.{from_le_bytes-to_le_bytes_4, le_bytes_4, xor_lt}
 use Rattle.cd_code.specs.Edc.{IsEdc}
 use Rattle.cd_code.specs.Field.{AreBytes}
-use Rattle.cd_code.proofs.ByteLemmas.{AreBytes-drop, AreBytes-take, IsSum-below}
+use Rattle.cd_code.proofs.ByteLemmas.{AreBytes-drop, AreBytes-take, IsSum-below, replicate-byte}
 use Rattle.cd_code.proofs.general.Lists.{length-part, part-same}
 use Rattle.cd_code.proofs.EdcLemmas.{IsEdc-same, IsEdc-sum, IsEdc-unique, after, after-append, after_bits-zero}
 use Rattle.cd_code.proofs.general.Xor.{xor_common, xor_twice_left}
@@ -109,11 +109,7 @@ pub AreDifferences-none : (s : List ℕ) (offset : ℕ) (bytes : List ℕ)
 AreDifferences-none s offset bytes = record {
   size = length-replicate {A = ℕ} 2048 0;
   inside = λ i h. absurd (omega arith);
-  outside = λ k _. elim (cases_lt k 2048) [
-    | inl below ↦ get_or-replicate 2048 k 0 0 below
-    | inr past ↦ get_or_past (replicate 2048 0) k 0
-        (let e = length-replicate {A = ℕ} 2048 0 in omega (arith, e))
-  ];
+  outside = λ k _. replicate-byte 2048 k;
 }
 
 -- zeros in front of a list change nothing
@@ -142,8 +138,7 @@ front-byte old new sums offset bytes fits sum written i h =
     elim (cases_lt i 16) [
       | inl low ↦
           other (inl (omega arith))
-          (get_or_append_left (replicate 16 0) sums 0 i (omega (arith, none))
-          ∙ get_or-replicate 16 i 0 0 low)
+          (get_or_append_left (replicate 16 0) sums 0 i (omega (arith, none)) ∙ replicate-byte 16 i)
       | inr from ↦
           let at : added ≡ get_or sums (i - 16) 0 =
           get_or-append_right (replicate 16 0) sums 16 i 0 none from in
