@@ -37,11 +37,10 @@ abbrev pub term : ℕ → ℕ → ℕ
 term bit a = if bit == 1 then a else 0
 
 term-lt : (x a : ℕ) → a < 256 → term x a < 256
-term-lt x a h = cond_below (x == 1)
-  where
-    cond_below : (t : Bool) → (if t then a else 0) < 256
-    cond_below true = h
-    cond_below false = lit< tt
+term-lt x a h = grind (arith, nat_tests)
+
+term-zero : (x : ℕ) → term x 0 ≡ 0
+term-zero x = grind (arith, nat_tests)
 
 pub double-zero : double 0 ≡ 0
 unfolding double
@@ -161,11 +160,7 @@ product_of_bits-zero_left zero b = refl
 product_of_bits-zero_left (suc n) b =
     ap (λ z. bit_xor (product_of_bits n z (b / 2)) (term (b % 2) 0)) double-zero
     ∙ ap (λ z. bit_xor z (term (b % 2) 0)) (product_of_bits-zero_left n (b / 2))
-    ∙ xor_zero_l (term (b % 2) 0) ∙ same_either (b % 2 == 1) 0
-  where
-    same_either : (t : Bool) (z : ℕ) → (if t then z else z) ≡ z
-    same_either true z = refl
-    same_either false z = refl
+    ∙ xor_zero_l (term (b % 2) 0) ∙ term-zero (b % 2)
 
 pub product-zero_left : (b : ℕ) → product 0 b ≡ 0
 unfolding product
