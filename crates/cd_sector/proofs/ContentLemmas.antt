@@ -92,24 +92,21 @@ Puts-front at front part old new put room size before =
     (part-list new part at (omega arith) put.inside)
 
 pub content_put : (header user s a b c d : List ℕ) → length header ≡ 3 → length user ≡ 2048
-    → (length s ≡ 2352) × (length a ≡ 2352) × (length b ≡ 2352) × (length c ≡ 2352)
-    × (length d ≡ 2352)
+    → length s ≡ 2352 → length a ≡ 2352 → length b ≡ 2352 → length c ≡ 2352 → length d ≡ 2352
     → Puts 0 sync_field s a → Puts 12 header a b → Puts 15 (1 ∷ []) b c → Puts 16 user c d
     → (k : ℕ) → k < 2064 → get_or d k 0 ≡ get_or (content_of header user) k 0
-content_put header user s a b c d size long sizes sync head mode tail k h =
+content_put header user s a b c d size long ls la lb lc ld sync head mode tail k h =
     let one : take 12 a ≡ sync_field =
-    Puts-front 0 [] sync_field s a sync (omega (arith, sizes.0))
-    (sizes.1 ∙ sym sizes.0) refl in
+    Puts-front 0 [] sync_field s a sync (omega arith) (la ∙ sym ls) refl in
     let two : take 15 b ≡ sync_field ++ header =
     ap (λ n. take (12 + n) b) (sym size)
-    ∙ Puts-front 12 sync_field header a b head (omega (arith, sizes.1))
-    (sizes.2 ∙ sym sizes.1) one in
+    ∙ Puts-front 12 sync_field header a b head (omega arith) (lb ∙ sym la) one in
     let three = Puts-front 15 (sync_field ++ header) (1 ∷ []) b c mode
-    (omega (arith, sizes.2)) (sizes.3 ∙ sym sizes.2) two in
+    (omega arith) (lc ∙ sym lb) two in
     let four : take 2064 d ≡ ((sync_field ++ header) ++ 1 ∷ []) ++ user =
     ap (λ n. take (16 + n) d) (sym long)
     ∙ Puts-front 16 ((sync_field ++ header) ++ 1 ∷ []) user c d tail
-    (omega (arith, sizes.3)) (sizes.4 ∙ sym sizes.3) three in
+    (omega arith) (ld ∙ sym lc) three in
     let joined : ((sync_field ++ header) ++ 1 ∷ []) ++ user ≡ content_of header user =
     append_assoc (sync_field ++ header) (1 ∷ []) user ∙ append_assoc sync_field header (1 ∷ user) in
     sym (get_or-take 2064 d k 0 h) ∙ ap (λ v. get_or v k 0) (four ∙ joined)

@@ -2,7 +2,7 @@
 -- other.
 use Rattle.std.proofs.Common.{◌≡◌, ℕ, ◌+◌, ◌-◌, ◌*◌, ◌/◌, ◌%◌, ◌<◌, ◌≤◌, ◌⊎◌, inl, inr, List, [], ◌∷◌, ◌++◌, length, get_or, take, drop, bit_xor, refl, sym, ap, ◌∙◌, arith}
 use Rattle.std.proofs.lemmas.Bool.{cases_lt}
-use Rattle.std.proofs.lemmas.List.{ext_get_or, get_or-map, length-map, take_more, get_or-take, get_or-drop}
+use Rattle.std.proofs.lemmas.List.{ext_get_or, get_or-map, length-map, take_more, get_or-take}
 use Rattle.std.specs.Simd.{first_chunks}
 use Rattle.cd_code.proofs.general.Lists.{get_or-part, length-part}
 use Rattle.cd_code.proofs.ColumnLemmas.{chunk_row}
@@ -114,8 +114,7 @@ SumsOf-columns s rows plain weighted e firsts seconds =
     let same : (k : ℕ) → k < 2236 → get_or rows k 0 ≡ get_or s (12 + k) 0 =
     (λ k h.
     ap (λ v. get_or v k 0) e ∙ get_or-take 2236 (take 2236 (drop 12 s)) k 0 h
-    ∙ get_or-take 2236 (drop 12 s) k 0 h
-    ∙ get_or-drop 12 s k 0) in
+    ∙ get_or-part s 12 2236 k h) in
     record {
       first = λ i h. firsts i h ∙ ap first_syndrome (column-rows s rows i h same);
       second = λ i h. seconds i h ∙ ap second_syndrome (column-rows s rows i h same);
@@ -149,9 +148,9 @@ pub Filled-put : (word : ℕ → List ℕ) (start count from lanes n : ℕ) (sum
 Filled-put word start count from lanes n sums old mid new begun room few are put filled = record {
   pairs = λ i h. elim (cases_lt i from) [
     | inl lower ↦
-        rw (put.before (start + i) (omega arith),
-        put.between (start + count + i) (omega arith) (omega arith))
-        (filled.pairs i (omega arith))
+        let first = put.before (start + i) (omega arith) in
+        let second = put.between (start + count + i) (omega arith) (omega arith) in
+        rw (first, second) (filled.pairs i (omega arith))
     | inr upper ↦
         let k = i - from in
         let within : k < lanes = omega arith in

@@ -56,11 +56,9 @@ SameSums-sum : (u s t ps : List ℕ) → IsSum u s t → IsCodeWord (bytes_at t 
     → SameSums (bytes_at u ps) (bytes_at s ps)
 SameSums-sum u s t ps h word =
     let sums = sums_add u s t ps h in
-    let p = first_syndrome (bytes_at s ps) in
-    let q = second_syndrome (bytes_at s ps) in
     record {
-      first = sums.0 ∙ ap (bit_xor p) word.first ∙ xor_zero_r p;
-      second = sums.1 ∙ ap (bit_xor q) word.second ∙ xor_zero_r q;
+      first = sums.0 ∙ ap (bit_xor _) word.first ∙ xor_zero_r _;
+      second = sums.1 ∙ ap (bit_xor _) word.second ∙ xor_zero_r _;
     }
 
 pub SameSyndromes-sum : (u s t : List ℕ) → IsSum u s t → AllCodeWords t → SameSyndromes u s
