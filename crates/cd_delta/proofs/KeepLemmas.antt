@@ -59,11 +59,6 @@ pub record AreCarried (byte : Change) (t : Eight) : Type 0 where
   pub of_first : IsDiagonalPair plane 24 column t.column.0.d t.first
   pub of_second : IsDiagonalPair plane 25 column t.column.1.d t.second
 
--- the same at an equal index
-pub Balances-at : {len index j d a b : ℕ} → index ≡ j → Balances len index d a b
-    → Balances len j d a b
-Balances-at {len} {index} {j} {d} {a} {b} e h = rw e at h
-
 -- changes of places after the rows are in no column
 past_columns : (l n : ℕ) → l < 2 → n < 43 → (cs : List Change)
     → AllByRecursion (λ c. 2248 ≤ c.place) cs

@@ -248,10 +248,6 @@ user-of offset {old} {new} {bytes} h =
     range-written old new 16 2048 offset bytes (omega arith) (omega (arith, long-of h)) h.same_size
     h.range (λ i _ below out. h.front i below out)
 
-pub user-kind : (offset : ℕ) {old new bytes : List ℕ} {error : ℕ}
-    → IsChanged old new (16 + offset) bytes error → kind_of new ≡ kind_of old
-user-kind offset h = kind-of h (omega arith) (inl (omega arith))
-
 pub user-header : (offset : ℕ) {old new bytes : List ℕ} {error : ℕ}
     → IsChanged old new (16 + offset) bytes error → header_of new ≡ header_of old
 user-header offset {old} {new} h =
@@ -272,10 +268,6 @@ header-stays h three i out = elim out [
     | inr zeros ↦ h.zeros i zeros.0 zeros.1
   ]
 ]
-
-pub header-kind : {old new bytes : List ℕ} {error : ℕ} → IsChanged old new 12 bytes error
-    → length bytes ≡ 3 → kind_of new ≡ kind_of old
-header-kind h three = kind-of h (omega arith) (inr (omega arith))
 
 pub header-user : {old new bytes : List ℕ} {error : ℕ} → IsChanged old new 12 bytes error
     → length bytes ≡ 3 → user_of new ≡ user_of old
