@@ -1,15 +1,15 @@
 -- Sums of words side by side, a row of bytes at a time.
-use Rattle.std.proofs.Common.{◌≡◌, ℕ, ◌+◌, ◌-◌, ◌*◌, ◌<◌, ◌≤◌, ◌⊎◌, inl, inr, List, [], ◌∷◌, ◌++◌, length, get_or, replicate, take, drop, bit_xor, refl, sym, ap, ◌∙◌, arith}
+use Rattle.std.proofs.Common.{◌≡◌, ℕ, ◌+◌, ◌-◌, ◌*◌, ◌<◌, ◌≤◌, ◌⊎◌, inl, inr, List, [], ◌∷◌, ◌++◌, length, get_or, replicate, take, bit_xor, refl, sym, ap, ◌∙◌, arith, ap₂}
 use Rattle.std.specs.Simd.{first_chunks}
 use Rattle.std.proofs.lemmas.Bool.{cases_lt}
-use Rattle.std.proofs.lemmas.List.{ext_get_or, get_or-map, get_or-take, get_or-drop, length-map, map-append, take_more}
+use Rattle.std.proofs.lemmas.List.{ext_get_or, get_or-map, length-map, map-append, take_more}
 use Rattle.std.proofs.lemmas.List.FromFn.{get_or-map-range_with_len}
 use Rattle.std.proofs.lemmas.Simd.{get_or-replicate}
 use Rattle.cd_code.specs.Field.{AreBytes, double}
 use Rattle.cd_code.specs.LaneWords.{AreSums, column_of_rows}
 use Rattle.cd_code.specs.Syndrome.{column, first_syndrome, second_syndrome}
 use Rattle.cd_code.specs.declared.lane_sums.LaneSums.{LaneSums}
-use Rattle.cd_code.proofs.general.Lists.{get_or-first_chunks}
+use Rattle.cd_code.proofs.general.Lists.{get_or-first_chunks, get_or-part}
 use Rattle.cd_code.proofs.SyndromeLemmas.{first_syndrome-nil, second_syndrome-nil, first_syndrome-push, second_syndrome-push}
 
 -- no byte yet
@@ -21,27 +21,7 @@ AreSums-none sums e f = record {
       ap (λ v. get_or v i 0) f ∙ get_or-replicate 32 i 0 0 h ∙ sym second_syndrome-nil;
 }
 
--- one byte more in each word
-pub AreSums-more : (word longer : ℕ → List ℕ) (sums next : LaneSums) (lanes : List ℕ)
-    → AreSums word sums
-    → ((i : ℕ) → i < 32 → get_or lanes i 0 < 256)
-    → ((i : ℕ) → i < 32 → longer i ≡ word i ++ get_or lanes i 0 ∷ [])
-    → ((i : ℕ) → i < 32
-    → get_or next.plain i 0 ≡ bit_xor (get_or sums.plain i 0) (get_or lanes i 0))
-    → ((i : ℕ) → i < 32
-    → get_or next.weighted i 0 ≡ bit_xor (double (get_or sums.weighted i 0)) (get_or lanes i 0))
-    → AreSums longer next
-AreSums-more word longer sums next lanes are bytes more plain weighted = record {
-  plain = λ i h.
-      plain i h ∙ ap (λ z. bit_xor z (get_or lanes i 0)) (are.plain i h)
-      ∙ sym (ap first_syndrome (more i h) ∙ first_syndrome-push (word i) (get_or lanes i 0));
-  weighted = λ i h.
-      weighted i h ∙ ap (λ z. bit_xor (double z) (get_or lanes i 0)) (are.weighted i h)
-      ∙ sym (ap second_syndrome (more i h)
-      ∙ second_syndrome-push (word i) (get_or lanes i 0) (bytes i h));
-}
-
--- 32 bytes of a row, from place `at` on
+-- one byte more in each word: 32 bytes of a row, from place `at` on
 pub AreSums-row : (word longer : ℕ → List ℕ) (at : ℕ) (row lanes : List ℕ) (sums next : LaneSums)
     → AreBytes row → at + 32 ≤ 86
     → ((i : ℕ) → i < 32 → get_or lanes i 0 ≡ get_or row (at + i) 0)
@@ -52,28 +32,15 @@ pub AreSums-row : (word longer : ℕ → List ℕ) (at : ℕ) (row lanes : List 
     → ((i : ℕ) → i < 32
     → get_or next.weighted i 0 ≡ bit_xor (double (get_or sums.weighted i 0)) (get_or lanes i 0))
     → AreSums (λ i. longer (at + i)) next
-AreSums-row word longer at row lanes sums next bytes room is more are plain weighted =
-    AreSums-more (λ i. word (at + i)) (λ i. longer (at + i)) sums next lanes are
-    (λ i h. rw (is i h) (bytes (at + i)))
-    (λ i h. more (at + i) (omega arith) ∙ ap (λ b. word (at + i) ++ b ∷ []) (sym (is i h)))
-    plain weighted
-
-pub AreSums-from_zero : (word : ℕ → List ℕ) (sums : LaneSums) → AreSums (λ i. word (0 + i)) sums
-    → AreSums word sums
-AreSums-from_zero word sums are = record {
+AreSums-row word longer at row lanes sums next bytes room is more are plain weighted = record {
   plain = λ i h.
-      are.plain i h ∙ (let e : 0 + i ≡ i = omega arith in ap (λ k. first_syndrome (word k)) e);
+      plain i h ∙ ap₂ bit_xor (are.plain i h) (is i h)
+      ∙ sym (ap first_syndrome (more (at + i) (omega arith))
+      ∙ first_syndrome-push (word (at + i)) (get_or row (at + i) 0));
   weighted = λ i h.
-      are.weighted i h ∙ (let e : 0 + i ≡ i = omega arith in ap (λ k. second_syndrome (word k)) e);
-}
-
-pub AreSums-to_zero : (word : ℕ → List ℕ) (sums : LaneSums) → AreSums word sums
-    → AreSums (λ i. word (0 + i)) sums
-AreSums-to_zero word sums are = record {
-  plain = λ i h.
-      are.plain i h ∙ (let e : i ≡ 0 + i = omega arith in ap (λ k. first_syndrome (word k)) e);
-  weighted = λ i h.
-      are.weighted i h ∙ (let e : i ≡ 0 + i = omega arith in ap (λ k. second_syndrome (word k)) e);
+      weighted i h ∙ ap₂ (λ w b. bit_xor (double w) b) (are.weighted i h) (is i h)
+      ∙ sym (ap second_syndrome (more (at + i) (omega arith))
+      ∙ second_syndrome-push (word (at + i)) (get_or row (at + i) 0) (bytes (at + i)));
 }
 
 -- one more row under the columns
@@ -111,6 +78,16 @@ put_thrice zero one two three front middle back p q q' r r' value a b e c h = el
       ∙ ap value place
 ]
 
+-- byte k of row m of a list in chunks of 86 bytes
+pub chunk_row : (flat : List ℕ) (chunks : List (List ℕ)) (n m k : ℕ) (d : List ℕ)
+    → chunks ≡ first_chunks 86 n flat → m < n → k < 86
+    → get_or (get_or chunks m d) k 0 ≡ get_or flat (86 * m + k) 0
+chunk_row flat chunks n m k d front below h =
+    let place : m * 86 + k ≡ 86 * m + k = omega arith in
+    ap (λ z. get_or (get_or z m d) k 0) front
+    ∙ ap (λ z. get_or z k 0) (get_or-first_chunks 86 n flat d m below)
+    ∙ get_or-part flat (m * 86) 86 k h ∙ ap (λ i. get_or flat i 0) place
+
 -- a column of the 26 chunks of 86 bytes
 pub column_of_chunks : (flat : List ℕ) (chunks : List (List ℕ)) (n c : ℕ)
     → chunks ≡ first_chunks 86 n flat → n ≡ 26 → length chunks ≡ n → c < 86
@@ -122,12 +99,7 @@ column_of_chunks flat chunks n c front number long h =
     ext_get_or 0 (column_of_rows chunks c) (column flat c) (size ∙ sym other)
     (λ m inside.
     let below : m < 26 = omega (arith, size) in
-    let place : m * 86 + c ≡ 86 * m + c = omega arith in
     get_or-map (λ row. get_or row c 0) chunks m [] 0 (omega arith)
-    ∙ ap (λ z. get_or (get_or z m []) c 0) front
-    ∙ ap (λ z. get_or z c 0) (get_or-first_chunks 86 n flat [] m (omega arith))
-    ∙ get_or-take 86 (drop (m * 86) flat) c 0 h
-    ∙ get_or-drop (m * 86) flat c 0
-    ∙ ap (λ k. get_or flat k 0) place
+    ∙ chunk_row flat chunks n m c [] front (omega arith) h
     ∙ sym (get_or-map-range_with_len (λ k. get_or flat (86 * k + c) 0) 0 26 m m 0 below
     (omega arith)))

@@ -1,18 +1,18 @@
 -- The division of the EDC is linear, so the word of a sum is the sum of the words.
-use Rattle.std.proofs.Common.{◌≡◌, ℕ, zero, suc, ◌+◌, ◌-◌, ◌*◌, ◌/◌, ◌%◌, ◌^◌, ◌<◌, ◌≤◌, inl, inr, nat_lt, List, [], ◌∷◌, ◌++◌, length, get_or, replicate, fold, bit_xor, refl, sym, ap, ◌∙◌, arith, lit<, lit≤, pow-add, append_assoc}
+use Rattle.std.proofs.Common.{◌≡◌, ℕ, zero, suc, ◌+◌, ◌-◌, ◌*◌, ◌/◌, ◌%◌, ◌^◌, ◌<◌, ◌≤◌, inl, inr, List, [], ◌∷◌, ◌++◌, length, get_or, replicate, fold, bit_xor, refl, sym, ap, ap₂, ◌∙◌, arith, lit<, lit≤, pow-add, append_assoc}
 use Rattle.std.specs.Int.Bits.{xor_self, xor_zero_l, xor_zero_r}
 use Rattle.std.specs.Int.{from_le_bytes, to_le_bytes, w32}
 use Rattle.std.proofs.Math.Nat.{pow-le-pow_right, pow-suc}
-use Rattle.std.proofs.lemmas.Nat.{xor_lt, xor_shr, xor_block, shr_below, shr-shr, mod-pow-add, pow_pos}
-use Rattle.std.proofs.lemmas.Bool.{cond-true, cond-false, lt-ltb, le-ltb, cases_lt}
+use Rattle.std.proofs.lemmas.Nat.{xor_lt, xor_shr, xor_block, shr-shr, mod-pow-add, pow_pos}
+use Rattle.std.proofs.lemmas.Bool.{cases_lt}
 use Rattle.std.proofs.lemmas.List.Sums.{fold-append}
+use Rattle.std.proofs.lemmas.Bool.Decides.{nat_tests}
 use Rattle.cd_code.specs.Edc.{IsEdc, low_bits, bits, generator, divide_step, remainder}
 use Rattle.cd_code.specs.Field.{AreBytes, IsSum}
 use Rattle.cd_code.specs.Laws.{DifferAtMostInLast}
-use Rattle.cd_code.proofs.ByteLemmas.{AreBytes-four, AreBytes-tail, AreBytes-word}
-use Rattle.cd_code.proofs.ListLemmas.{DifferAtMostInLast-tail}
+use Rattle.cd_code.proofs.ByteLemmas.{AreBytes-four, AreBytes-tail, AreBytes-word, DifferAtMostInLast-tail}
 use Rattle.cd_code.proofs.general.Lists.{list_of_eight}
-use Rattle.cd_code.proofs.general.Xor.{xor_half, xor_low, xor_twice_left, xor_swap, same_from_xor}
+use Rattle.cd_code.proofs.general.Xor.{half_below, linear_at_bits, xor_half, xor_low, xor_twice_left, xor_swap, same_from_xor}
 
 -- ---- one step
 
@@ -21,26 +21,13 @@ abbrev carry : ℕ → ℕ
 carry zero = 0
 carry (suc n) = generator
 
-carry-xor : (x y : ℕ) → x < 2 → y < 2 → carry (bit_xor x y) ≡ bit_xor (carry x) (carry y)
-carry-xor zero zero _ _ = refl
-carry-xor zero (suc zero) _ _ = refl
-carry-xor (suc zero) zero _ _ = refl
-carry-xor (suc zero) (suc zero) _ _ = refl
-carry-xor zero (suc (suc y)) _ h = absurd (omega arith)
-carry-xor (suc zero) (suc (suc y)) _ h = absurd (omega arith)
-carry-xor (suc (suc x)) y h _ = absurd (omega arith)
-
 step-low : (r b : ℕ) → r * 2 + b < 2 ^ 32 → divide_step r b ≡ r * 2 + b
 unfolding divide_step
-step-low r b h =
-    cond-true (nat_lt (r * 2 + b) (2 ^ 32)) (r * 2 + b) (bit_xor (r * 2 + b) generator)
-    (lt-ltb (r * 2 + b) (2 ^ 32) h)
+step-low r b h = grind (arith, nat_tests)
 
 step-high : (r b : ℕ) → 2 ^ 32 ≤ r * 2 + b → divide_step r b ≡ bit_xor (r * 2 + b) generator
 unfolding divide_step
-step-high r b h =
-    cond-false (nat_lt (r * 2 + b) (2 ^ 32)) (r * 2 + b) (bit_xor (r * 2 + b) generator)
-    (le-ltb (r * 2 + b) (2 ^ 32) h)
+step-high r b h = grind (arith, nat_tests)
 
 step-carry : (r b : ℕ) → r < 2 ^ 32 → b < 2
     → divide_step r b ≡ bit_xor (r * 2 + b) (carry (r / 2 ^ 31))
@@ -71,20 +58,14 @@ step-lt r b hr hb = elim (cases_lt (r * 2 + b) (2 ^ 32)) [
       rw e small
 ]
 
-bits_joined : (r s b c : ℕ) → b < 2 → c < 2
-    → bit_xor r s * 2 + bit_xor b c ≡ bit_xor (r * 2 + b) (s * 2 + c)
-bits_joined r s b c hb hc = sym (xor_block 1 r s b c hb hc)
-
 pub step-xor : (r s b c : ℕ) → r < 2 ^ 32 → s < 2 ^ 32 → b < 2 → c < 2
     → divide_step (bit_xor r s) (bit_xor b c) ≡ bit_xor (divide_step r b) (divide_step s c)
 step-xor r s b c hr hs hb hc =
     step-carry (bit_xor r s) (bit_xor b c) (xor_lt 32 r s hr hs) (xor_lt 1 b c hb hc)
-    ∙ ap (λ z. bit_xor z (carry (bit_xor r s / 2 ^ 31))) (bits_joined r s b c hb hc)
-    ∙ ap (bit_xor (bit_xor (r * 2 + b) (s * 2 + c)))
-    (ap carry (xor_shr r s 31) ∙ carry-xor (r / 2 ^ 31) (s / 2 ^ 31) (omega arith) (omega arith))
+    ∙ ap₂ bit_xor (sym (xor_block 1 r s b c hb hc)) (ap carry (xor_shr r s 31)
+    ∙ linear_at_bits carry refl (r / 2 ^ 31) (s / 2 ^ 31) (omega arith) (omega arith))
     ∙ xor_swap (r * 2 + b) (s * 2 + c) (carry (r / 2 ^ 31)) (carry (s / 2 ^ 31))
-    ∙ sym (ap (λ z. bit_xor z (divide_step s c)) (step-carry r b hr hb)
-    ∙ ap (bit_xor (bit_xor (r * 2 + b) (carry (r / 2 ^ 31)))) (step-carry s c hs hc))
+    ∙ sym (ap₂ bit_xor (step-carry r b hr hb) (step-carry s c hs hc))
 
 -- ---- n bits of a number
 
@@ -106,10 +87,10 @@ pub after_bits-xor : (n r s x y : ℕ) → r < 2 ^ 32 → s < 2 ^ 32
     → after_bits n (bit_xor r s) (bit_xor x y) ≡ bit_xor (after_bits n r x) (after_bits n s y)
 after_bits-xor zero r s x y hr hs = refl
 after_bits-xor (suc n) r s x y hr hs =
-    ap (λ z. after_bits n (divide_step (bit_xor r s) z) (bit_xor x y / 2)) (xor_low x y)
-    ∙ ap (after_bits n (divide_step (bit_xor r s) (bit_xor (x % 2) (y % 2)))) (xor_half x y)
-    ∙ ap (λ z. after_bits n z (bit_xor (x / 2) (y / 2)))
-    (step-xor r s (x % 2) (y % 2) hr hs (omega arith) (omega arith))
+    ap₂ (after_bits n)
+    (ap (divide_step (bit_xor r s)) (xor_low x y)
+    ∙ step-xor r s (x % 2) (y % 2) hr hs (omega arith) (omega arith))
+    (xor_half x y)
     ∙ after_bits-xor n (divide_step r (x % 2)) (divide_step s (y % 2)) (x / 2) (y / 2)
     (step-lt r (x % 2) hr (omega arith)) (step-lt s (y % 2) hs (omega arith))
 
@@ -168,9 +149,6 @@ after_bits-none (suc n) k r x e hr hx none =
     after_bits-none n (suc k) (r * 2 + x % 2) (x / 2) (omega arith) fits (half_below n x hx)
     (ap (λ z. after_bits n z (x / 2)) (sym low) ∙ none) in
     (omega (arith, rest.0), omega (arith, rest.0, rest.1))
-  where
-    half_below : (n x : ℕ) → x < 2 ^ suc n → x / 2 < 2 ^ n
-    half_below n x h = shr_below x n 1 (let e : n + 1 ≡ suc n = omega arith in rw e h)
 
 pub after_bits-injective : (n r x y : ℕ) → n ≤ 32 → r < 2 ^ 32 → x < 2 ^ n → y < 2 ^ n
     → after_bits n r x ≡ after_bits n r y → x ≡ y
@@ -235,16 +213,13 @@ after-number r (x ∷ v) h =
     let first : x % 2 ^ 8 ≡ n % 2 ^ 8 = omega arith in
     let rest : number v ≡ n / 2 ^ 8 = omega arith in
     after-number (after_bits 8 r x) v (λ i. h (suc i))
-    ∙ ap (λ z. after_bits (8 * length v) z (number v)) (after_bits-mod 8 r x n first)
-    ∙ ap (after_bits (8 * length v) (after_bits 8 r n)) rest
+    ∙ ap₂ (after_bits (8 * length v)) (after_bits-mod 8 r x n first) rest
     ∙ sym (after_bits-more 8 (8 * length v) r n)
     ∙ ap (λ k. after_bits k r n) more
 
 pub number-injective : (v w : List ℕ) → AreBytes v → AreBytes w → length v ≡ length w
     → number v ≡ number w → v ≡ w
 number-injective [] [] hv hw e same = refl
-number-injective [] (y ∷ w) hv hw e same = absurd (omega arith)
-number-injective (x ∷ v) [] hv hw e same = absurd (omega arith)
 number-injective (x ∷ v) (y ∷ w) hv hw e same =
     let a : x < 256 = hv 0 in
     let b : y < 256 = hw 0 in
@@ -252,7 +227,8 @@ number-injective (x ∷ v) (y ∷ w) hv hw e same =
     let rest =
     number-injective v w (AreBytes-tail x v hv) (AreBytes-tail y w hw) (omega arith)
     (omega arith) in
-    ap (λ z. z ∷ v) first ∙ ap (λ z. y ∷ z) rest
+    ap₂ (λ z u. z ∷ u) first rest
+number-injective _ _ hv hw e same = absurd (omega arith)
 
 pub after-word : (r w : ℕ) → w < 2 ^ 32 → after r (to_le_bytes w32 w) ≡ after_bits 32 r w
 after-word r w h =
@@ -306,9 +282,7 @@ Ends-shift r w h =
       fits = omega arith;
       ends =
           after_bits-more 24 8 (after_bits 8 r (w % 256)) (w / 256)
-          ∙ ap (λ z. after_bits 8 z (w / 256 / 2 ^ 24)) three
-          ∙ ap (after_bits 8 0) high
-          ∙ after_bits-zero 8;
+          ∙ ap₂ (after_bits 8) three high ∙ after_bits-zero 8;
     }
 
 -- the empty list
@@ -335,8 +309,7 @@ IsEdc-push v w x t h k =
     let y = bit_xor (w % 256) x in
     let e : bit_xor (after_bits 8 r (w % 256)) (after_bits 8 0 y) ≡ after 0 (v ++ x ∷ []) =
     sym (after-append 0 v (x ∷ [])
-    ∙ ap (after_bits 8 r) (sym (xor_twice_left (w % 256) x))
-    ∙ ap (λ z. after_bits 8 z (bit_xor (w % 256) y)) (sym (xor_zero_r r))
+    ∙ ap₂ (after_bits 8) (sym (xor_zero_r r)) (sym (xor_twice_left (w % 256) x))
     ∙ after_bits-xor 8 r 0 (w % 256) y (after-lt 0 v (lit< tt)) (lit< tt)) in
     IsEdc-from (v ++ x ∷ []) (bit_xor (w / 256) t)
     (rw e at (Ends-xor (after_bits 8 r (w % 256)) (after_bits 8 0 y) (w / 256) t
@@ -364,6 +337,13 @@ IsEdc-cons y v t w h k =
     (rw e at (Ends-xor (after r (replicate (length v) 0)) (after 0 v) t w
     (Ends-from (y ∷ replicate (length v) 0) t h) (Ends-from v w k)))
 
+-- what is added to the word is fed as if nothing were left
+pub Ends-more : {r w : ℕ} → Ends r w → (y : ℕ) → after_bits 32 r (bit_xor w y) ≡ after_bits 32 0 y
+Ends-more {r} {w} ends y =
+    ap (λ z. after_bits 32 z (bit_xor w y)) (sym (xor_zero_r r))
+    ∙ after_bits-xor 32 r 0 w y ends.left (lit< tt)
+    ∙ ap (λ z. bit_xor z (after_bits 32 0 y)) ends.ends ∙ xor_zero_l (after_bits 32 0 y)
+
 -- four bytes after a list, and its word: the bytes of their sum
 pub after-four : (v : List ℕ) (w : ℕ) (four : List ℕ) → IsEdc v w → AreBytes four → length four ≡ 4
     → after 0 (v ++ four) ≡ after 0 (to_le_bytes w32 (bit_xor w (number four)))
@@ -372,18 +352,13 @@ after-four v w four h bytes long =
     let n = number four in
     let y = bit_xor w n in
     let ends = Ends-from v w h in
-    let n_lt : n < 2 ^ 32 =
-    (let e : 8 * length four ≡ 32 = omega arith in rw e at (number-lt four bytes)) in
-    let y_lt : y < 2 ^ 32 = xor_lt 32 w n h.fits n_lt in
     let eights : 8 * length four ≡ 32 = omega arith in
+    let n_lt : n < 2 ^ 32 = rw eights at (number-lt four bytes) in
+    let y_lt : y < 2 ^ 32 = xor_lt 32 w n h.fits n_lt in
     after-append 0 v four
     ∙ after-number r four bytes
     ∙ ap (λ k. after_bits k r n) eights
-    ∙ ap (after_bits 32 r) (sym (xor_twice_left w n))
-    ∙ ap (λ z. after_bits 32 z (bit_xor w y)) (sym (xor_zero_r r))
-    ∙ after_bits-xor 32 r 0 w y ends.left (lit< tt)
-    ∙ ap (λ z. bit_xor z (after_bits 32 0 y)) ends.ends
-    ∙ xor_zero_l (after_bits 32 0 y)
+    ∙ ap (after_bits 32 r) (sym (xor_twice_left w n)) ∙ Ends-more ends y
     ∙ sym (after-word 0 y y_lt)
 
 -- the word is the only one
@@ -397,8 +372,6 @@ IsEdc-unique v w u h k =
 same_from_after : (r : ℕ) (v w : List ℕ) → r < 2 ^ 32 → DifferAtMostInLast 4 v w
     → after r v ≡ after r w → v ≡ w
 same_from_after r [] [] hr d same = refl
-same_from_after r [] (y ∷ w) hr d same = let e = d.same_length in absurd (omega arith)
-same_from_after r (x ∷ v) [] hr d same = let e = d.same_length in absurd (omega arith)
 same_from_after r (x ∷ v) (y ∷ w) hr d same = elim (cases_lt (length v) 4) [
   | inl short ↦
       let n = 8 * suc (length v) in
@@ -417,8 +390,9 @@ same_from_after r (x ∷ v) (y ∷ w) hr d same = elim (cases_lt (length v) 4) [
       same_from_after (after_bits 8 r x) v w (after_bits-lt 8 r x hr)
       (DifferAtMostInLast-tail 4 x y v w d)
       (same ∙ ap (λ z. after (after_bits 8 r z) w) (sym first)) in
-      ap (λ z. z ∷ v) first ∙ ap (λ z. y ∷ z) rest
+      ap₂ (λ z u. z ∷ u) first rest
 ]
+same_from_after r _ _ hr d same = absurd (omega arith)
 
 pub edc_unique : (v w : List ℕ) → DifferAtMostInLast 4 v w → remainder (bits v) ≡ remainder (bits w)
     → v ≡ w
@@ -470,23 +444,19 @@ pub after-sum : (r s : ℕ) (u v w : List ℕ) → r < 2 ^ 32 → s < 2 ^ 32 →
     → ((i : ℕ) → i < length u → get_or u i 0 ≡ bit_xor (get_or v i 0) (get_or w i 0))
     → after (bit_xor r s) u ≡ bit_xor (after r v) (after s w)
 after-sum r s [] [] [] hr hs e f h = refl
-after-sum r s [] [] (z ∷ w) hr hs e f h = absurd (omega arith)
-after-sum r s [] (y ∷ v) w hr hs e f h = absurd (omega arith)
-after-sum r s (x ∷ u) [] w hr hs e f h = absurd (omega arith)
-after-sum r s (x ∷ u) (y ∷ v) [] hr hs e f h = absurd (omega arith)
 after-sum r s (x ∷ u) (y ∷ v) (z ∷ w) hr hs e f h =
     ap (λ n. after (after_bits 8 (bit_xor r s) n) u) (h 0 (omega arith))
     ∙ ap (λ n. after n u) (after_bits-xor 8 r s y z hr hs)
     ∙ after-sum (after_bits 8 r y) (after_bits 8 s z) u v w (after_bits-lt 8 r y hr)
     (after_bits-lt 8 s z hs)
     (omega arith) (omega arith) (λ i k. h (suc i) (omega arith))
+after-sum r s _ _ _ hr hs e f h = absurd (omega arith)
 
 pub remainder-sum : (u v w : List ℕ) → length u ≡ length v → length u ≡ length w → IsSum u v w
     → remainder (bits u) ≡ bit_xor (remainder (bits v)) (remainder (bits w))
 remainder-sum u v w e f h =
     remainder-after u ∙ after-sum 0 0 u v w (lit< tt) (lit< tt) e f (λ i _. h.byte i)
-    ∙ sym (ap (λ n. bit_xor n (remainder (bits w))) (remainder-after v)
-    ∙ ap (bit_xor (after 0 v)) (remainder-after w))
+    ∙ sym (ap₂ bit_xor (remainder-after v) (remainder-after w))
 
 pub IsEdc-sum : (u v w : List ℕ) → length u ≡ length v → length u ≡ length w → IsSum u v w
     → (a b : ℕ) → IsEdc v a → IsEdc w b → IsEdc u (bit_xor a b)

@@ -1,48 +1,25 @@
 -- The field of the specification: doubling and multiplying are linear.
-use Rattle.std.proofs.Common.{◌≡◌, ℕ, zero, suc, ◌+◌, ◌-◌, ◌*◌, ◌/◌, ◌%◌, ◌^◌, ◌<◌, ◌≤◌, Bool, true, false, bit_xor, nat_lt, refl, sym, ap, ◌∙◌, arith, lit<}
+use Rattle.std.proofs.Common.{◌≡◌, ℕ, zero, suc, ◌-◌, ◌*◌, ◌/◌, ◌%◌, ◌^◌, ◌<◌, ◌≤◌, Bool, true, false, bit_xor, refl, sym, ap, ap₂, ◌∙◌, arith, lit<}
 use Rattle.std.specs.Bool.{if◌then◌else◌, ◌==◌}
-use Rattle.std.specs.Int.Bits.{xor_self, xor_zero_l, xor_zero_r}
-use Rattle.std.proofs.lemmas.Nat.{xor_shr, xor_lt, shr_below}
-use Rattle.std.proofs.lemmas.Bool.{agree_below, agree_below_at, eqb-true, ltb-true, cond-true, cond-false, lt-ltb, le-ltb}
+use Rattle.std.specs.Int.Bits.{xor_zero_l}
+use Rattle.std.proofs.lemmas.Nat.{xor_shr, xor_lt}
+use Rattle.std.proofs.lemmas.Bool.Decides.{nat_tests}
 use Rattle.cd_code.specs.Field.{double, power, product, product_of_bits}
-use Rattle.cd_code.proofs.general.Xor.{xor_half, xor_low, xor_twofold, xor_swap}
+use Rattle.cd_code.proofs.general.Tables.{bounded_below, equal_below}
+use Rattle.cd_code.proofs.general.Xor.{half_below, linear_at_bits, xor_half, xor_low, xor_twofold, xor_swap}
 
 -- what leaves at the top of a doubled byte: x^8 and the polynomial's other terms
 abbrev pub lift : ℕ → ℕ
 lift zero = 0
 lift (suc n) = 285
 
-abbrev doubles_by_lift : ℕ → Bool
-doubles_by_lift b = double b == bit_xor (b * 2) (lift (b / 128))
-
-abbrev is_byte_doubled : ℕ → Bool
-is_byte_doubled b = nat_lt (double b) 256
-
-doubles_by_lift-all : agree_below doubles_by_lift (λ _. true) 256 ≡ true
-unfolding double
-doubles_by_lift-all = refl
-
-is_byte_doubled-all : agree_below is_byte_doubled (λ _. true) 256 ≡ true
-unfolding double
-is_byte_doubled-all = refl
-
 pub double-lift : (b : ℕ) → b < 256 → double b ≡ bit_xor (b * 2) (lift (b / 128))
-double-lift b h =
-    eqb-true (double b) (bit_xor (b * 2) (lift (b / 128)))
-    (agree_below_at doubles_by_lift (λ _. true) 256 b doubles_by_lift-all h)
+unfolding double
+double-lift = equal_below double (λ b. bit_xor (b * 2) (lift (b / 128))) 256 refl
 
 pub double-lt : (b : ℕ) → b < 256 → double b < 256
-double-lt b h =
-    ltb-true (double b) 256 (agree_below_at is_byte_doubled (λ _. true) 256 b is_byte_doubled-all h)
-
-lift-xor : (x y : ℕ) → x < 2 → y < 2 → lift (bit_xor x y) ≡ bit_xor (lift x) (lift y)
-lift-xor zero zero _ _ = refl
-lift-xor zero (suc zero) _ _ = refl
-lift-xor (suc zero) zero _ _ = refl
-lift-xor (suc zero) (suc zero) _ _ = refl
-lift-xor zero (suc (suc y)) _ h = absurd (omega arith)
-lift-xor (suc zero) (suc (suc y)) _ h = absurd (omega arith)
-lift-xor (suc (suc x)) y h _ = absurd (omega arith)
+unfolding double
+double-lt = bounded_below double 256 256 refl
 
 -- doubling is linear
 pub double-xor : (a b : ℕ) → a < 256 → b < 256
@@ -50,33 +27,20 @@ pub double-xor : (a b : ℕ) → a < 256 → b < 256
 double-xor a b ha hb =
     let whole = double-lift (bit_xor a b) (xor_lt 8 a b ha hb) in
     let tops : lift (bit_xor a b / 128) ≡ bit_xor (lift (a / 128)) (lift (b / 128)) =
-    ap lift (xor_shr a b 7) ∙ lift-xor (a / 128) (b / 128) (omega arith) (omega arith) in
-    whole
-    ∙ ap (λ z. bit_xor z (lift (bit_xor a b / 128))) (xor_twofold a b)
-    ∙ ap (bit_xor (bit_xor (a * 2) (b * 2))) tops
+    ap lift (xor_shr a b 7) ∙ linear_at_bits lift refl (a / 128) (b / 128) (omega arith) (omega arith) in
+    whole ∙ ap₂ bit_xor (xor_twofold a b) tops
     ∙ xor_swap (a * 2) (b * 2) (lift (a / 128)) (lift (b / 128))
-    ∙ sym (ap (λ z. bit_xor z (double b)) (double-lift a ha)
-    ∙ ap (bit_xor (bit_xor (a * 2) (lift (a / 128)))) (double-lift b hb))
+    ∙ sym (ap₂ bit_xor (double-lift a ha) (double-lift b hb))
 
 -- the term of a product at one bit
 abbrev pub term : ℕ → ℕ → ℕ
 term bit a = if bit == 1 then a else 0
 
-term-xor : (x y a : ℕ) → x < 2 → y < 2 → term (bit_xor x y) a ≡ bit_xor (term x a) (term y a)
-term-xor zero zero a _ _ = refl
-term-xor zero (suc zero) a _ _ = refl
-term-xor (suc zero) zero a _ _ = sym (xor_zero_r a)
-term-xor (suc zero) (suc zero) a _ _ = sym (xor_self a)
-term-xor zero (suc (suc y)) a _ h = absurd (omega arith)
-term-xor (suc zero) (suc (suc y)) a _ h = absurd (omega arith)
-term-xor (suc (suc x)) y a h _ = absurd (omega arith)
-
 term-lt : (x a : ℕ) → a < 256 → term x a < 256
-term-lt x a h = cond_below (x == 1)
-  where
-    cond_below : (t : Bool) → (if t then a else 0) < 256
-    cond_below true = h
-    cond_below false = lit< tt
+term-lt x a h = grind (arith, nat_tests)
+
+term-zero : (x : ℕ) → term x 0 ≡ 0
+term-zero x = grind (arith, nat_tests)
 
 pub double-zero : double 0 ≡ 0
 unfolding double
@@ -94,12 +58,11 @@ product_of_bits-xor : (n a b c : ℕ)
     → product_of_bits n a (bit_xor b c) ≡ bit_xor (product_of_bits n a b) (product_of_bits n a c)
 product_of_bits-xor zero a b c = refl
 product_of_bits-xor (suc n) a b c =
-    ap (λ z. bit_xor (product_of_bits n (double a) z) (term (bit_xor b c % 2) a)) (xor_half b c)
-    ∙ ap (λ z. bit_xor z (term (bit_xor b c % 2) a))
-    (product_of_bits-xor n (double a) (b / 2) (c / 2))
-    ∙ ap (bit_xor (bit_xor (product_of_bits n (double a) (b / 2))
-    (product_of_bits n (double a) (c / 2))))
-    (ap (λ z. term z a) (xor_low b c) ∙ term-xor (b % 2) (c % 2) a (omega arith) (omega arith))
+    ap₂ bit_xor
+    (ap (product_of_bits n (double a)) (xor_half b c)
+    ∙ product_of_bits-xor n (double a) (b / 2) (c / 2))
+    (ap (λ z. term z a) (xor_low b c)
+    ∙ linear_at_bits (λ z. term z a) refl (b % 2) (c % 2) (omega arith) (omega arith))
     ∙ xor_swap (product_of_bits n (double a) (b / 2)) (product_of_bits n (double a) (c / 2))
     (term (b % 2) a) (term (c % 2) a)
 
@@ -121,9 +84,8 @@ product_of_bits-double : (n a b : ℕ) → a < 256
     → product_of_bits n (double a) b ≡ double (product_of_bits n a b)
 product_of_bits-double zero a b h = sym double-zero
 product_of_bits-double (suc n) a b h =
-    ap (λ z. bit_xor z (term (b % 2) (double a)))
-    (product_of_bits-double n (double a) (b / 2) (double-lt a h))
-    ∙ ap (bit_xor (double (product_of_bits n (double a) (b / 2)))) (double-term (b % 2) a)
+    ap₂ bit_xor (product_of_bits-double n (double a) (b / 2) (double-lt a h))
+    (double-term (b % 2) a)
     ∙ sym (double-xor (product_of_bits n (double a) (b / 2)) (term (b % 2) a)
     (product_of_bits-lt n (double a) (b / 2) (double-lt a h)) (term-lt (b % 2) a h))
 
@@ -132,16 +94,9 @@ pub product-double : (a b : ℕ) → a < 256 → product (double a) b ≡ double
 unfolding product
 product-double a b h = product_of_bits-double 8 a b h
 
-abbrev is_one_neutral : ℕ → Bool
-is_one_neutral b = product 1 b == b
-
-is_one_neutral-all : agree_below is_one_neutral (λ _. true) 256 ≡ true
-unfolding product double
-is_one_neutral-all = refl
-
 pub product-one : (b : ℕ) → b < 256 → product 1 b ≡ b
-product-one b h =
-    eqb-true (product 1 b) b (agree_below_at is_one_neutral (λ _. true) 256 b is_one_neutral-all h)
+unfolding product double
+product-one = equal_below (product 1) (λ b. b) 256 refl
 
 -- n doublings
 abbrev pub doubles : ℕ → ℕ → ℕ
@@ -166,29 +121,14 @@ pub product-power_suc : (n b : ℕ) → product (power (suc n)) b ≡ double (pr
 product-power_suc n b = product-double (power n) b (power-lt n)
 
 -- 3 and F4 are inverse
-abbrev is_undone_by_inverse : ℕ → Bool
-is_undone_by_inverse b = bit_xor (double (product 244 b)) (product 244 b) == b
-
-is_undone_by_inverse-all : agree_below is_undone_by_inverse (λ _. true) 256 ≡ true
-unfolding product double
-is_undone_by_inverse-all = refl
-
 pub third_tripled : (b : ℕ) → b < 256 → bit_xor (double (product 244 b)) (product 244 b) ≡ b
-third_tripled b h =
-    eqb-true (bit_xor (double (product 244 b)) (product 244 b)) b
-    (agree_below_at is_undone_by_inverse (λ _. true) 256 b is_undone_by_inverse-all h)
-
-abbrev is_redone_by_inverse : ℕ → Bool
-is_redone_by_inverse b = product 244 (bit_xor (double b) b) == b
-
-is_redone_by_inverse-all : agree_below is_redone_by_inverse (λ _. true) 256 ≡ true
 unfolding product double
-is_redone_by_inverse-all = refl
+third_tripled =
+    equal_below (λ b. bit_xor (double (product 244 b)) (product 244 b)) (λ b. b) 256 refl
 
 pub tripled_third : (b : ℕ) → b < 256 → product 244 (bit_xor (double b) b) ≡ b
-tripled_third b h =
-    eqb-true (product 244 (bit_xor (double b) b)) b
-    (agree_below_at is_redone_by_inverse (λ _. true) 256 b is_redone_by_inverse-all h)
+unfolding product double
+tripled_third = equal_below (λ b. product 244 (bit_xor (double b) b)) (λ b. b) 256 refl
 
 -- one more bit of fuel changes nothing if the factor has no such bit
 product_of_bits-fuel : (n a b : ℕ) → b < 2 ^ n → product_of_bits (suc n) a b ≡ product_of_bits n a b
@@ -198,9 +138,6 @@ product_of_bits-fuel zero a b h =
 product_of_bits-fuel (suc n) a b h =
     ap (λ z. bit_xor z (term (b % 2) a))
     (product_of_bits-fuel n (double a) (b / 2) (half_below n b h))
-  where
-    half_below : (n b : ℕ) → b < 2 ^ suc n → b / 2 < 2 ^ n
-    half_below n b h = shr_below b n 1 (let e : n + 1 ≡ suc n = omega arith in rw e h)
 
 pub product-by_bits : (a b : ℕ) → b < 256
     → product a b ≡ bit_xor (product (double a) (b / 2)) (term (b % 2) a)
@@ -212,26 +149,18 @@ product-by_bits a b h =
 -- the two cases of doubling
 pub double-below : (b : ℕ) → b < 128 → double b ≡ b * 2
 unfolding double
-double-below b h =
-    cond-true (nat_lt (b * 2) 256) (b * 2) (bit_xor (b * 2 - 256) 29)
-    (lt-ltb (b * 2) 256 (omega arith))
+double-below b h = grind (arith, nat_tests)
 
 pub double-above : (b : ℕ) → 128 ≤ b → double b ≡ bit_xor (b * 2 - 256) 29
 unfolding double
-double-above b h =
-    cond-false (nat_lt (b * 2) 256) (b * 2) (bit_xor (b * 2 - 256) 29)
-    (le-ltb (b * 2) 256 (omega arith))
+double-above b h = grind (arith, nat_tests)
 
 product_of_bits-zero_left : (n b : ℕ) → product_of_bits n 0 b ≡ 0
 product_of_bits-zero_left zero b = refl
 product_of_bits-zero_left (suc n) b =
     ap (λ z. bit_xor (product_of_bits n z (b / 2)) (term (b % 2) 0)) double-zero
     ∙ ap (λ z. bit_xor z (term (b % 2) 0)) (product_of_bits-zero_left n (b / 2))
-    ∙ xor_zero_l (term (b % 2) 0) ∙ same_either (b % 2 == 1) 0
-  where
-    same_either : (t : Bool) (z : ℕ) → (if t then z else z) ≡ z
-    same_either true z = refl
-    same_either false z = refl
+    ∙ xor_zero_l (term (b % 2) 0) ∙ term-zero (b % 2)
 
 pub product-zero_left : (b : ℕ) → product 0 b ≡ 0
 unfolding product

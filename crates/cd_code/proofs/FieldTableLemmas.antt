@@ -1,61 +1,35 @@
 -- The tables of powers and logarithms: one computed test over each, and the rule at each entry.
-use Rattle.std.proofs.Common.{◌≡◌, ℕ, zero, suc, ◌+◌, ◌-◌, ◌*◌, ◌/◌, ◌%◌, ◌<◌, Bool, true, false, ◌&&◌, nat_lt, get_or, refl, sym, ap, ◌∙◌, arith, lit<}
-use Rattle.std.specs.Bool.{◌==◌}
-use Rattle.std.proofs.lemmas.Bool.{agree_below, agree_below_at, eqb-false, eqb-true, ltb-true, and_parts}
+use Rattle.std.proofs.Common.{◌≡◌, ℕ, zero, suc, ◌+◌, ◌-◌, ◌*◌, ◌/◌, ◌%◌, ◌<◌, get_or, refl, sym, ap, ◌∙◌, arith, lit<}
 use Rattle.cd_code.specs.Field.{double, power, product}
 use Rattle.cd_code.specs.declared.field_tables.TheConstants.{EXPONENTS, LOGARITHMS}
+use Rattle.cd_code.proofs.general.Tables.{bounded_below, equal_below}
 use Rattle.cd_code.proofs.FieldLemmas.{doubles, power-lt, power-doubles, product-power}
 
 -- each entry is the one before it, doubled
-abbrev doubles_the_last : ℕ → Bool
-doubles_the_last n = get_or EXPONENTS (n + 1) 0 == double (get_or EXPONENTS n 0)
-
-doubles_the_last-all : agree_below doubles_the_last (λ _. true) 509 ≡ true
+exponents-next : (n : ℕ) → n < 509 → get_or EXPONENTS (n + 1) 0 ≡ double (get_or EXPONENTS n 0)
 unfolding double
-doubles_the_last-all = refl
+exponents-next =
+    equal_below (λ n. get_or EXPONENTS (n + 1) 0) (λ n. double (get_or EXPONENTS n 0)) 509 refl
 
 pub exponents-power : (n : ℕ) → n < 510 → get_or EXPONENTS n 0 ≡ power n
 exponents-power zero h = refl
 exponents-power (suc n) h =
-    let step =
-    eqb-true (get_or EXPONENTS (n + 1) 0) (double (get_or EXPONENTS n 0))
-    (agree_below_at doubles_the_last (λ _. true) 509 n doubles_the_last-all (omega arith)) in
     let next : n + 1 ≡ suc n = omega arith in
-    ap (λ k. get_or EXPONENTS k 0) (sym next) ∙ step ∙ ap double (exponents-power n (omega arith))
-
--- each element but 0 has its logarithm
-abbrev has_logarithm : ℕ → Bool
-has_logarithm n =
-    nat_lt (get_or LOGARITHMS (n + 1) 0) 255 &&
-    (get_or EXPONENTS (get_or LOGARITHMS (n + 1) 0) 0 == n + 1)
-
-has_logarithm-all : agree_below has_logarithm (λ _. true) 255 ≡ true
-has_logarithm-all = refl
-
-logarithms_at : (n : ℕ) → n < 255
-    → (get_or LOGARITHMS (n + 1) 0 < 255) × (power (get_or LOGARITHMS (n + 1) 0) ≡ n + 1)
-logarithms_at n h =
-    let log = get_or LOGARITHMS (n + 1) 0 in
-    let parts =
-    and_parts (nat_lt log 255) (get_or EXPONENTS log 0 == n + 1)
-    (agree_below_at has_logarithm (λ _. true) 255 n has_logarithm-all h) in
-    let below : log < 255 = ltb-true log 255 parts.0 in (
-      below,
-      sym (exponents-power log (omega arith))
-          ∙ eqb-true (get_or EXPONENTS log 0) (n + 1) parts.1,
-    )
+    ap (λ k. get_or EXPONENTS k 0) (sym next) ∙ exponents-next n (omega arith)
+    ∙ ap double (exponents-power n (omega arith))
 
 pub logarithms-lt : (a : ℕ) → 0 < a → a < 256 → get_or LOGARITHMS a 0 < 255
-logarithms-lt a some below =
-    let e : a - 1 + 1 ≡ a = omega arith in
-    let at = logarithms_at (a - 1) (omega arith) in
-    rw e at at.0
+logarithms-lt a some below = bounded_below (λ k. get_or LOGARITHMS k 0) 255 256 refl a below
 
+-- each element but 0 has its logarithm
 pub power-logarithms : (a : ℕ) → 0 < a → a < 256 → power (get_or LOGARITHMS a 0) ≡ a
 power-logarithms a some below =
     let e : a - 1 + 1 ≡ a = omega arith in
-    let at = logarithms_at (a - 1) (omega arith) in
-    rw e at at.1
+    let low = logarithms-lt a some below in
+    let entry =
+    equal_below (λ n. get_or EXPONENTS (get_or LOGARITHMS (n + 1) 0) 0) (λ n. n + 1) 255 refl
+    (a - 1) (omega arith) in
+    sym (exponents-power (get_or LOGARITHMS a 0) (omega arith)) ∙ rw e at entry
 
 doubles-doubles : (m n b : ℕ) → doubles m (doubles n b) ≡ doubles (m + n) b
 doubles-doubles zero n b = let e : n ≡ zero + n = omega arith in ap (λ k. doubles k b) e
@@ -89,20 +63,14 @@ power-mod n =
     let e : n / 255 * 255 + n % 255 ≡ n = omega arith in
     sym (power-turns (n / 255) (n % 255)) ∙ ap power e
 
--- no lower power than the 255th is 1
-abbrev is_one_above : ℕ → Bool
-is_one_above n = get_or EXPONENTS (n + 1) 0 == 1
-
-is_one_above-none : agree_below is_one_above (λ _. false) 254 ≡ true
-is_one_above-none = refl
-
+-- no lower power than the 255th is 1: each has its own logarithm
 power-one : (n : ℕ) → 0 < n → n < 255 → power n ≡ 1 → ⊥
 power-one n some below one =
-    let e : n - 1 + 1 ≡ n = omega arith in
-    let never =
-    eqb-false (get_or EXPONENTS (n - 1 + 1) 0) 1
-    (agree_below_at is_one_above (λ _. false) 254 (n - 1) is_one_above-none (omega arith)) in
-    never (exponents-power (n - 1 + 1) (omega arith) ∙ ap power e ∙ one)
+    let own = equal_below (λ k. get_or LOGARITHMS (get_or EXPONENTS k 0) 0) (λ k. k) 255 refl
+    n below in
+    let none : n ≡ 0 =
+    sym own ∙ ap (λ z. get_or LOGARITHMS z 0) (exponents-power n (omega arith) ∙ one) in
+    omega arith
 
 -- an element but 0 is another one n doublings later, up to the 255th
 pub product-power_moves : (n d : ℕ) → 0 < n → n < 255 → 0 < d → d < 256 → product (power n) d ≡ d

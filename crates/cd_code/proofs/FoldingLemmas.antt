@@ -1,17 +1,17 @@
 -- Sixteen bytes at a time leave what all the bytes leave.
-use Rattle.std.proofs.Common.{◌≡◌, ℕ, zero, suc, ◌+◌, ◌*◌, ◌/◌, ◌%◌, ◌^◌, ◌<◌, ◌≤◌, List, [], ◌∷◌, ◌++◌, length, take, drop, replicate, bit_xor, refl, sym, ap, ◌∙◌, arith, lit<, lit≤, append_assoc, length-append, length-take, length-drop}
-use Rattle.std.specs.Int.Bits.{xor_self, xor_zero_l, xor_zero_r}
+use Rattle.std.proofs.Common.{◌≡◌, ℕ, zero, suc, ◌+◌, ◌*◌, ◌/◌, ◌%◌, ◌^◌, ◌<◌, ◌≤◌, List, [], ◌∷◌, ◌++◌, length, take, drop, replicate, bit_xor, refl, sym, ap, ap₂, ◌∙◌, arith, lit<, lit≤, append_assoc, length-append, length-take, length-drop}
+use Rattle.std.specs.Int.Bits.{xor_zero_l, xor_zero_r}
 use Rattle.std.specs.List.{range_with_len}
 use Rattle.std.specs.Simd.Lanes.{zip2, pick_l}
 use Rattle.std.proofs.Math.Seq.{take-add, take-append-add}
-use Rattle.std.proofs.lemmas.Nat.{xor_lt}
+use Rattle.std.proofs.lemmas.Nat.{xor_comm, xor_lt}
 use Rattle.std.proofs.lemmas.Nat.Bits.{bit_at_xor, same_from_bits}
 use Rattle.std.proofs.lemmas.List.{take-append-drop, drop-append-le, take_all}
 use Rattle.std.proofs.lemmas.Simd.{length-zip2, get_or-zip2, pick_l-range_with_len}
 use Rattle.cd_code.specs.Edc.{bits, divide_step, remainder}
 use Rattle.cd_code.specs.Folding.{IsFolded, with_folded}
 use Rattle.cd_code.proofs.EdcLemmas.{step-xor, step-lt, after, after-lt, after-append, after-sum, after-xor_zeros, after_bits, after_bits-lt, after_bits-xor, after_bits-zero, remainder-after}
-use Rattle.cd_code.proofs.general.Xor.{xor_swap}
+use Rattle.cd_code.proofs.general.Xor.{xor_common, xor_swap}
 
 -- ---- k bytes 00
 
@@ -65,65 +65,50 @@ after-zeros (suc k) r =
 abbrev HasFour : ℕ → Type 0
 HasFour r = zeros 32 r ≡ bit_xor (zeros 16 r) (bit_xor (zeros 4 r) (zeros 1 r))
 
-four-zero : HasFour 0
-unfolding zeros divide_step
-four-zero = refl
-
-four-one : HasFour 1
-unfolding zeros divide_step
-four-one = refl
-
 four-bit : (b : ℕ) → b < 2 → HasFour b
-four-bit zero h = four-zero
-four-bit (suc zero) h = four-one
-four-bit (suc (suc b)) h = absurd (omega arith)
+unfolding zeros divide_step
+four-bit zero h = refl
+four-bit (suc zero) h = refl
+four-bit _ h = absurd (omega arith)
 
 step-bit : (b : ℕ) → b < 2 → divide_step 0 b ≡ b
 unfolding divide_step
 step-bit zero h = refl
 step-bit (suc zero) h = refl
-step-bit (suc (suc b)) h = absurd (omega arith)
+step-bit _ h = absurd (omega arith)
 
--- one step before zeros is a step after them, and the bit's own zeros
-zeros-after_step : (k r b : ℕ) → r < 2 ^ 32 → b < 2
-    → zeros k (divide_step r b) ≡ bit_xor (divide_step (zeros k r) 0) (zeros k b)
-zeros-after_step k r b hr hb =
-    let parts : divide_step r b ≡ bit_xor (divide_step r 0) b =
-    ap (λ z. divide_step z b) (sym (xor_zero_r r))
-    ∙ ap (divide_step (bit_xor r 0)) (sym (xor_zero_l b))
-    ∙ step-xor r 0 0 b hr (lit< tt) (lit< tt) hb ∙ ap (bit_xor (divide_step r 0)) (step-bit b hb) in
-    let small : b < 2 ^ 32 = omega arith in
-    ap (zeros k) parts ∙ zeros-xor k (divide_step r 0) b (step-lt r 0 hr (lit< tt)) small
-    ∙ ap (λ z. bit_xor z (zeros k b)) (zeros-step k r)
+-- a step is one with the bit 0, to which the bit is added
+step-parts : (r b : ℕ) → r < 2 ^ 32 → b < 2 → divide_step r b ≡ bit_xor (divide_step r 0) b
+step-parts r b hr hb =
+    sym (ap₂ divide_step (xor_zero_r r) (xor_zero_l b))
+    ∙ step-xor r 0 0 b hr (lit< tt) (lit< tt) hb ∙ ap (bit_xor (divide_step r 0)) (step-bit b hb)
+
+four-xor : (r s : ℕ) → r < 2 ^ 32 → s < 2 ^ 32 → HasFour r → HasFour s → HasFour (bit_xor r s)
+four-xor r s hr hs h k =
+    zeros-xor 32 r s hr hs ∙ ap₂ bit_xor h k
+    ∙ xor_swap (zeros 16 r) (bit_xor (zeros 4 r) (zeros 1 r)) (zeros 16 s)
+    (bit_xor (zeros 4 s) (zeros 1 s))
+    ∙ ap (bit_xor (bit_xor (zeros 16 r) (zeros 16 s)))
+    (xor_swap (zeros 4 r) (zeros 1 r) (zeros 4 s) (zeros 1 s))
+    ∙ sym (ap₂ bit_xor (zeros-xor 16 r s hr hs)
+    (ap₂ bit_xor (zeros-xor 4 r s hr hs) (zeros-xor 1 r s hr hs)))
+
+four-step_zero : (r : ℕ) → r < 2 ^ 32 → HasFour r → HasFour (divide_step r 0)
+four-step_zero r hr h =
+    let lt : (k : ℕ) → zeros k r < 2 ^ 32 = λ k. zeros-lt k r hr in
+    let both = xor_lt 32 (zeros 4 r) (zeros 1 r) (lt 4) (lt 1) in
+    zeros-step 32 r ∙ ap (λ s. divide_step s 0) h
+    ∙ step-xor (zeros 16 r) (bit_xor (zeros 4 r) (zeros 1 r)) 0 0 (lt 16) both (lit< tt) (lit< tt)
+    ∙ ap (bit_xor (divide_step (zeros 16 r) 0))
+    (step-xor (zeros 4 r) (zeros 1 r) 0 0 (lt 4) (lt 1) (lit< tt) (lit< tt))
+    ∙ sym (ap₂ bit_xor (zeros-step 16 r) (ap₂ bit_xor (zeros-step 4 r) (zeros-step 1 r)))
 
 four-step : (r b : ℕ) → r < 2 ^ 32 → b < 2 → HasFour r → HasFour (divide_step r b)
 four-step r b hr hb h =
-    let x = zeros 16 r in
-    let y = zeros 4 r in
-    let z = zeros 1 r in
-    let x_lt : x < 2 ^ 32 = zeros-lt 16 r hr in
-    let y_lt : y < 2 ^ 32 = zeros-lt 4 r hr in
-    let z_lt : z < 2 ^ 32 = zeros-lt 1 r hr in
-    let step : (s t : ℕ) → s < 2 ^ 32 → t < 2 ^ 32
-    → divide_step (bit_xor s t) 0 ≡ bit_xor (divide_step s 0) (divide_step t 0) =
-    λ s t hs ht. step-xor s t 0 0 hs ht (lit< tt) (lit< tt) in
-    let stepped : divide_step (zeros 32 r) 0
-    ≡ bit_xor (divide_step x 0) (bit_xor (divide_step y 0) (divide_step z 0)) =
-    ap (λ s. divide_step s 0) h ∙ step x (bit_xor y z) x_lt (xor_lt 32 y z y_lt z_lt)
-    ∙ ap (bit_xor (divide_step x 0)) (step y z y_lt z_lt) in
-    zeros-after_step 32 r b hr hb
-    ∙ ap (λ s. bit_xor s (zeros 32 b)) stepped
-    ∙ ap (bit_xor (bit_xor (divide_step x 0) (bit_xor (divide_step y 0) (divide_step z 0))))
-    (four-bit b hb)
-    ∙ xor_swap (divide_step x 0) (bit_xor (divide_step y 0) (divide_step z 0)) (zeros 16 b)
-    (bit_xor (zeros 4 b) (zeros 1 b))
-    ∙ ap (bit_xor (bit_xor (divide_step x 0) (zeros 16 b)))
-    (xor_swap (divide_step y 0) (divide_step z 0) (zeros 4 b) (zeros 1 b))
-    ∙ sym (ap (λ s. bit_xor s (bit_xor (zeros 4 (divide_step r b)) (zeros 1 (divide_step r b))))
-    (zeros-after_step 16 r b hr hb)
-    ∙ ap (bit_xor (bit_xor (divide_step x 0) (zeros 16 b)))
-    (ap (λ s. bit_xor s (zeros 1 (divide_step r b))) (zeros-after_step 4 r b hr hb)
-    ∙ ap (bit_xor (bit_xor (divide_step y 0) (zeros 4 b))) (zeros-after_step 1 r b hr hb)))
+    let small : b < 2 ^ 32 = omega arith in
+    rw (step-parts r b hr hb)
+    (four-xor (divide_step r 0) b (step-lt r 0 hr (lit< tt)) small (four-step_zero r hr h)
+    (four-bit b hb))
 
 four-bits : (n r x : ℕ) → r < 2 ^ 32 → HasFour r → HasFour (after_bits n r x)
 four-bits zero r x hr h = h
@@ -148,13 +133,21 @@ left-append u v =
     ∙ after-xor_zeros (after 0 u) 0 v (left-lt u) (lit< tt)
     ∙ ap (λ z. bit_xor z (after 0 v)) (after-zeros (length v) (after 0 u))
 
--- a sum of two lists
-left-sum : (u v : List ℕ) → length u ≡ length v
+-- a sum of two lists of sixteen bytes
+left-sum : (u v : List ℕ) → length u ≡ 16 → length v ≡ 16
     → after 0 (zip2 bit_xor u v) ≡ bit_xor (after 0 u) (after 0 v)
-left-sum u v e =
-    let long = length-zip2 bit_xor u v e in
+left-sum u v hu hv =
+    let long = length-zip2 bit_xor u v (hu ∙ sym hv) in
     after-sum 0 0 (zip2 bit_xor u v) u v (lit< tt) (lit< tt) long (omega arith)
     (λ i h. get_or-zip2 bit_xor u v i 0 0 0 (omega arith) (omega arith))
+
+length-sum : (u v : List ℕ) → length u ≡ 16 → length v ≡ 16 → length (zip2 bit_xor u v) ≡ 16
+length-sum u v hu hv = length-zip2 bit_xor u v (hu ∙ sym hv) ∙ hu
+
+length-window : (k : ℕ) (a b : List ℕ) → length a ≡ 16 → length b ≡ 16 → k ≤ 16
+    → length (take 16 (drop k (a ++ b))) ≡ 16
+length-window k a b ha hb h =
+    omega (arith, length-take 16 (drop k (a ++ b)), length-drop k (a ++ b), length-append a b)
 
 -- n bytes of two lists of n, from place m on
 left-window : (m n : ℕ) (a b : List ℕ) → length a ≡ n → length b ≡ n → m ≤ n
@@ -180,9 +173,7 @@ left-window m n a b ha hb h =
     ap (after 0) window ∙ left-append rest front
     ∙ ap (λ k. bit_xor (zeros k d) (after 0 front)) front_len
     ∙ sym (ap (λ z. bit_xor z (bit_xor (zeros n p) (after 0 front))) whole
-    ∙ xor_swap (zeros n p) (zeros m d) (zeros n p) (after 0 front)
-    ∙ ap (λ z. bit_xor z (bit_xor (zeros m d) (after 0 front))) (xor_self (zeros n p))
-    ∙ xor_zero_l (bit_xor (zeros m d) (after 0 front)))
+    ∙ xor_common (zeros n p) (zeros m d) (after 0 front) ∙ xor_comm (after 0 front) (zeros m d))
 
 -- what sixteen folded bytes leave
 left-folded : (a b c : List ℕ) → length a ≡ 16 → length b ≡ 16 → length c ≡ 16
@@ -192,39 +183,24 @@ left-folded : (a b c : List ℕ) → length a ≡ 16 → length b ≡ 16 → len
 left-folded a b c ha hb hc =
     let far = take 16 (drop 4 (a ++ b)) in
     let near = take 16 (drop 1 (a ++ b)) in
-    let both : length (a ++ b) ≡ 32 = omega (arith, length-append a b) in
-    let far_len : length far ≡ 16 =
-    omega (arith, length-take 16 (drop 4 (a ++ b)), length-drop 4 (a ++ b)) in
-    let near_len : length near ≡ 16 =
-    omega (arith, length-take 16 (drop 1 (a ++ b)), length-drop 1 (a ++ b)) in
+    let far_len = length-window 4 a b ha hb (lit≤ tt) in
     let one = zip2 bit_xor c b in
-    let one_len : length one ≡ 16 = length-zip2 bit_xor c b (hc ∙ sym hb) ∙ hc in
-    let two = zip2 bit_xor one far in
-    let two_len : length two ≡ 16 = length-zip2 bit_xor one far (one_len ∙ sym far_len) ∙ one_len in
-    left-sum two near (two_len ∙ sym near_len)
-    ∙ ap (λ z. bit_xor z (after 0 near)) (left-sum one far (one_len ∙ sym far_len))
-    ∙ ap (λ z. bit_xor (bit_xor z (after 0 far)) (after 0 near)) (left-sum c b (hc ∙ sym hb))
-    ∙ ap (λ z. bit_xor (bit_xor (bit_xor (after 0 c) (after 0 b)) z) (after 0 near))
-    (left-window 4 16 a b ha hb (lit≤ tt))
-    ∙ ap (bit_xor (bit_xor (bit_xor (after 0 c) (after 0 b))
-    (bit_xor (zeros 4 (after 0 a)) (bit_xor (zeros 16 (after 0 (take 4 a))) (after 0 (take 4 b))))))
+    let one_len = length-sum c b hc hb in
+    left-sum (zip2 bit_xor one far) near (length-sum one far one_len far_len)
+    (length-window 1 a b ha hb (lit≤ tt))
+    ∙ ap₂ bit_xor
+    (left-sum one far one_len far_len
+    ∙ ap₂ bit_xor (left-sum c b hc hb) (left-window 4 16 a b ha hb (lit≤ tt)))
     (left-window 1 16 a b ha hb (lit≤ tt))
 
 length-folded : (a b c : List ℕ) → length a ≡ 16 → length b ≡ 16 → length c ≡ 16
     → length (with_folded a b c) ≡ 16
 length-folded a b c ha hb hc =
-    let both : length (a ++ b) ≡ 32 = omega (arith, length-append a b) in
-    let far = take 16 (drop 4 (a ++ b)) in
-    let near = take 16 (drop 1 (a ++ b)) in
-    let far_len : length far ≡ 16 =
-    omega (arith, length-take 16 (drop 4 (a ++ b)), length-drop 4 (a ++ b)) in
-    let near_len : length near ≡ 16 =
-    omega (arith, length-take 16 (drop 1 (a ++ b)), length-drop 1 (a ++ b)) in
-    let one_len : length (zip2 bit_xor c b) ≡ 16 = length-zip2 bit_xor c b (hc ∙ sym hb) ∙ hc in
-    let two_len : length (zip2 bit_xor (zip2 bit_xor c b) far) ≡ 16 =
-    length-zip2 bit_xor (zip2 bit_xor c b) far (one_len ∙ sym far_len) ∙ one_len in
-    length-zip2 bit_xor (zip2 bit_xor (zip2 bit_xor c b) far) near (two_len ∙ sym near_len)
-    ∙ two_len
+    length-sum (zip2 bit_xor (zip2 bit_xor c b) (take 16 (drop 4 (a ++ b))))
+    (take 16 (drop 1 (a ++ b)))
+    (length-sum (zip2 bit_xor c b) (take 16 (drop 4 (a ++ b))) (length-sum c b hc hb)
+    (length-window 4 a b ha hb (lit≤ tt)))
+    (length-window 1 a b ha hb (lit≤ tt))
 
 -- what the 32 bytes of two registers leave
 abbrev left_of : List ℕ → List ℕ → ℕ
@@ -242,10 +218,8 @@ left-registers a b ha hb =
     let clear : (k n s : ℕ)
     → bit_xor (zeros k (after 0 zs)) (bit_xor (zeros 16 (after 0 (replicate n 0))) s) ≡ s =
     λ k n s.
-    ap (λ z. bit_xor (zeros k z) (bit_xor (zeros 16 (after 0 (replicate n 0))) s)) (none 16)
-    ∙ ap (λ z. bit_xor z (bit_xor (zeros 16 (after 0 (replicate n 0))) s)) (zeros-zero k)
-    ∙ xor_zero_l (bit_xor (zeros 16 (after 0 (replicate n 0))) s)
-    ∙ ap (λ z. bit_xor (zeros 16 z) s) (none n) ∙ ap (λ z. bit_xor z s) (zeros-zero 16)
+    ap₂ bit_xor (ap (zeros k) (none 16) ∙ zeros-zero k)
+    (ap (λ z. bit_xor z s) (ap (zeros 16) (none n) ∙ zeros-zero 16) ∙ xor_zero_l s)
     ∙ xor_zero_l s in
     left-append a (with_folded zs a b)
     ∙ ap (λ k. bit_xor (zeros k (after 0 a)) (after 0 (with_folded zs a b)))
@@ -265,42 +239,7 @@ ten_terms : (za ya xa zb zp zq b c p q : ℕ)
     (bit_xor (bit_xor (bit_xor c b) (bit_xor ya (bit_xor zp p)))
     (bit_xor xa (bit_xor zq q))) b) p) q)
 ten_terms za ya xa zb zp zq b c p q =
-    same_from_bits (bit_xor
-    (bit_xor (bit_xor za (bit_xor ya xa)) (bit_xor (bit_xor (bit_xor zb za) zp) zq)) c)
-    (bit_xor zb (bit_xor
-    (bit_xor (bit_xor
-    (bit_xor (bit_xor (bit_xor c b) (bit_xor ya (bit_xor zp p)))
-    (bit_xor xa (bit_xor zq q))) b) p) q)) (λ i.
-    omega (
-      arith,
-      bit_at_xor ya xa i,
-      bit_at_xor za (bit_xor ya xa) i,
-      bit_at_xor zb za i,
-      bit_at_xor (bit_xor zb za) zp i,
-      bit_at_xor (bit_xor (bit_xor zb za) zp) zq i,
-      bit_at_xor (bit_xor za (bit_xor ya xa)) (bit_xor (bit_xor (bit_xor zb za) zp) zq) i,
-      bit_at_xor (bit_xor (bit_xor za (bit_xor ya xa))
-          (bit_xor (bit_xor (bit_xor zb za) zp) zq)) c i,
-      bit_at_xor c b i,
-      bit_at_xor zp p i,
-      bit_at_xor ya (bit_xor zp p) i,
-      bit_at_xor (bit_xor c b) (bit_xor ya (bit_xor zp p)) i,
-      bit_at_xor zq q i,
-      bit_at_xor xa (bit_xor zq q) i,
-      bit_at_xor (bit_xor (bit_xor c b) (bit_xor ya (bit_xor zp p))) (bit_xor xa (bit_xor zq q)) i,
-      bit_at_xor (bit_xor (bit_xor (bit_xor c b) (bit_xor ya (bit_xor zp p)))
-          (bit_xor xa (bit_xor zq q))) b i,
-      bit_at_xor (bit_xor
-          (bit_xor (bit_xor (bit_xor c b) (bit_xor ya (bit_xor zp p)))
-          (bit_xor xa (bit_xor zq q))) b) p i,
-      bit_at_xor (bit_xor
-          (bit_xor (bit_xor (bit_xor (bit_xor c b) (bit_xor ya (bit_xor zp p)))
-          (bit_xor xa (bit_xor zq q))) b) p) q i,
-      bit_at_xor zb (bit_xor
-          (bit_xor (bit_xor
-          (bit_xor (bit_xor (bit_xor c b) (bit_xor ya (bit_xor zp p)))
-          (bit_xor xa (bit_xor zq q))) b) p) q) i,
-    ))
+    same_from_bits _ _ (λ i. simp bit_at_xor (omega arith))
 
 -- sixteen more bytes
 pub IsFolded-step : (v a b c : List ℕ) → IsFolded v a b → length c ≡ 16
@@ -331,9 +270,7 @@ IsFolded-step v a b c h hc =
     (bit_xor (zeros 16 rb) (zeros 16 ra)) (zeros 16 rp)) (zeros 16 rq)) =
     ap (zeros 16) left
     ∙ x 16 (zeros 16 ra) (bit_xor (bit_xor (bit_xor rb ra) rp) rq) (zeros-lt 16 ra la) four
-    ∙ ap (λ z. bit_xor z (zeros 16 (bit_xor (bit_xor (bit_xor rb ra) rp) rq)))
-    (zeros-more 16 16 ra ∙ four-after 0 a (lit< tt) four-zero)
-    ∙ ap (bit_xor (bit_xor (zeros 16 ra) (bit_xor (zeros 4 ra) (zeros 1 ra))))
+    ∙ ap₂ bit_xor (zeros-more 16 16 ra ∙ four-after 0 a (lit< tt) (four-bit 0 (lit< tt)))
     (x 16 (bit_xor (bit_xor rb ra) rp) rq three lq
     ∙ ap (λ z. bit_xor z (zeros 16 rq))
     (x 16 (bit_xor rb ra) rp two lp ∙ ap (λ z. bit_xor z (zeros 16 rp)) (x 16 rb ra lb la))) in

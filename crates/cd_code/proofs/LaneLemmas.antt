@@ -1,15 +1,14 @@
 -- Lanes of field elements: a vector that is doubled, and one that is added to the sums at a place.
-use Rattle.std.proofs.Common.{◌≡◌, ℕ, zero, suc, ◌+◌, ◌-◌, ◌%◌, ◌<◌, ◌≤◌, Bool, true, cond, List, [], ◌∷◌, length, map, replicate, get_or, bit_and, bit_xor, refl, sym, ap, ◌∙◌, arith}
-use Rattle.std.specs.Bool.{◌==◌}
+use Rattle.std.proofs.Common.{◌≡◌, ℕ, zero, suc, ◌+◌, ◌-◌, ◌%◌, ◌<◌, ◌≤◌, cond, List, [], ◌∷◌, length, map, replicate, get_or, bit_and, bit_xor, refl, sym, ap, ap₂, ◌∙◌, arith}
 use Rattle.std.specs.Simd.Lanes.{Each1, zip2, sel_l, top, chunk, put_chunk}
-use Rattle.std.proofs.lemmas.Bool.{agree_below, agree_below_at, eqb-true}
 use Rattle.std.proofs.lemmas.List.{length-map, get_or-map}
 use Rattle.std.specs.Int.Bits.{xor_zero_r}
 use Rattle.std.proofs.lemmas.Nat.{and_mask, xor_lt}
-use Rattle.std.proofs.lemmas.Simd.{below_from_Fits, Each1-get_or, length-chunk, length-zip2, get_or-chunk, get_or-zip2, get_or-put_chunk_at, get_or-put_chunk_below, get_or-put_chunk_above}
+use Rattle.std.proofs.lemmas.Simd.{below_from_Fits, Each1-get_or, length-chunk, length-zip2, get_or-chunk, get_or-zip2, get_or-put_chunk_at, get_or-put_chunk_above}
 use lib.Dec.{leb}
 use Rattle.cd_code.specs.Field.{double, product}
 use Rattle.cd_code.proofs.FieldLemmas.{double-zero}
+use Rattle.cd_code.proofs.general.Tables.{equal_below}
 use Rattle.cd_code.proofs.general.Xor.{xor_twice_left}
 use mir.Syntax.{w8}
 use mir.Val.{Fits}
@@ -18,12 +17,9 @@ use mir.Val.{Fits}
 abbrev lane_doubled : ℕ → ℕ
 lane_doubled x = bit_xor ((x + x) % 256) (cond (top 7 (cond (leb 128 x) 255 0)) 29 0)
 
-abbrev is_lane_double : ℕ → Bool
-is_lane_double x = lane_doubled x == double x
-
-is_lane_double-all : agree_below is_lane_double (λ _. true) 256 ≡ true
+lane_doubled-double : (x : ℕ) → x < 256 → lane_doubled x ≡ double x
 unfolding double
-is_lane_double-all = refl
+lane_doubled-double = equal_below lane_doubled double 256 refl
 
 pub lanes_doubled : (v : List ℕ) → Each1 (λ x. x < 256) v
     → zip2 bit_xor (zip2 (λ a b. (a + b) % 256) v v)
@@ -32,13 +28,7 @@ pub lanes_doubled : (v : List ℕ) → Each1 (λ x. x < 256) v
     ≡ map double v
 lanes_doubled [] h = refl
 lanes_doubled (x ∷ v) h =
-    let here : lane_doubled x ≡ double x =
-    eqb-true (lane_doubled x) (double x)
-    (agree_below_at is_lane_double (λ _. true) 256 x is_lane_double-all h.0) in
-    both here (lanes_doubled v h.1)
-  where
-    both : {x y : ℕ} {v w : List ℕ} → x ≡ y → v ≡ w → x ∷ v ≡ y ∷ w
-    both {x} {y} {v} {w} e f = ap (λ z. z ∷ v) e ∙ ap (λ z. y ∷ z) f
+    ap₂ (λ y w. y ∷ w) (lane_doubled-double x h.0) (lanes_doubled v h.1)
 
 -- the n bytes of a row from a place on, added to n lanes that are put back there
 pub lanes_added : (f : ℕ → ℕ) (at n : ℕ) (sums row lanes : List ℕ) → at + n ≤ length sums
@@ -65,12 +55,7 @@ lanes_added f at n sums row lanes hs hr e c from to =
     ∙ ap (bit_xor (f (get_or sums c 0)))
     (get_or-chunk at n row j 0 (omega arith) ∙ ap (λ k. get_or row k 0) place)
 
--- the sums outside of those lanes stay
-pub lanes_below : (at n : ℕ) (sums row lanes : List ℕ) (c : ℕ) → c < at
-    → get_or (put_chunk at sums (zip2 bit_xor lanes (chunk at n row))) c 0 ≡ get_or sums c 0
-lanes_below at n sums row lanes c h =
-    get_or-put_chunk_below at sums (zip2 bit_xor lanes (chunk at n row)) c 0 h
-
+-- the sums after those lanes stay
 pub lanes_above : (at n : ℕ) (sums row lanes : List ℕ) → at + n ≤ length row → length lanes ≡ n
     → (c : ℕ) → at + n ≤ c
     → get_or (put_chunk at sums (zip2 bit_xor lanes (chunk at n row))) c 0 ≡ get_or sums c 0
@@ -105,17 +90,9 @@ times_f4 x =
     double (double (bit_xor
     (double (double (bit_xor (double (bit_xor (double (bit_xor (double x) x)) x)) x))) x))
 
-abbrev is_times_f4 : ℕ → Bool
-is_times_f4 x = times_f4 x == product 244 x
-
-is_times_f4-all : agree_below is_times_f4 (λ _. true) 256 ≡ true
-unfolding double product
-is_times_f4-all = refl
-
 pub times_inverse : (x : ℕ) → x < 256 → times_f4 x ≡ product 244 x
-times_inverse x h =
-    eqb-true (times_f4 x) (product 244 x)
-    (agree_below_at is_times_f4 (λ _. true) 256 x is_times_f4-all h)
+unfolding double product
+times_inverse = equal_below times_f4 (product 244) 256 refl
 
 -- a lane of the two that a mask chooses from
 select_lanes-lane : (old new mask : List ℕ) → length old ≡ 32 → length new ≡ 32 → length mask ≡ 32

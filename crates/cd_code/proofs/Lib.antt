@@ -6,6 +6,5 @@ pub mod FieldLemmas
 pub mod FieldTableLemmas
 pub mod FoldingLemmas
 pub mod LaneLemmas
-pub mod ListLemmas
 pub mod SyndromeLemmas
 pub mod general

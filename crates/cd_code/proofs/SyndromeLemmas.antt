@@ -1,13 +1,13 @@
 -- The two syndromes of lists: at the end of a list, at a changed byte, and with a parity pair
 -- after it.
-use Rattle.std.proofs.Common.{◌≡◌, ◌≢◌, ℕ, zero, suc, ◌+◌, ◌-◌, ◌<◌, List, [], ◌∷◌, ◌++◌, length, get_or, bit_xor, refl, sym, ap, ◌∙◌, arith, lit<, append_assoc, subst}
+use Rattle.std.proofs.Common.{◌≡◌, ◌≢◌, ℕ, zero, suc, ◌+◌, ◌-◌, ◌<◌, List, [], ◌∷◌, ◌++◌, length, get_or, bit_xor, refl, sym, ap, ap₂, ◌∙◌, arith, lit<, append_assoc, subst}
 use Rattle.std.specs.Int.Bits.{xor_self, xor_zero_l, xor_zero_r, xor_assoc}
 use Rattle.std.proofs.lemmas.Nat.{xor_comm, xor_lt}
-use Rattle.std.proofs.lemmas.List.{length-set}
+use Rattle.std.proofs.lemmas.List.{length-set, length_push}
 use Rattle.cd_code.specs.Field.{AreBytes, double, power, product}
 use Rattle.cd_code.specs.Syndrome.{first_syndrome, second_syndrome, IsCodeWord, SameSums, with_added}
 use Rattle.cd_code.specs.Laws.{DifferAtMostInLast}
-use Rattle.cd_code.proofs.ListLemmas.{DifferAtMostInLast-tail}
+use Rattle.cd_code.proofs.ByteLemmas.{DifferAtMostInLast-tail}
 use Rattle.cd_code.proofs.general.Xor.{same_from_xor, xor_cancel, xor_cancel_right, xor_swap, xor_twice}
 use Rattle.cd_code.proofs.FieldLemmas.{double-xor, double-lt, double-zero, product-xor, product-lt, product-one, product-power, product-power_suc, power-lt, third_tripled, tripled_third}
 use Rattle.cd_code.proofs.FieldTableLemmas.{product-power_moves, product-power_moves_on}
@@ -19,16 +19,6 @@ first_syndrome-nil = refl
 pub second_syndrome-nil : second_syndrome [] ≡ 0
 unfolding second_syndrome
 second_syndrome-nil = refl
-
-pub first_syndrome-cons : (x : ℕ) (v : List ℕ)
-    → first_syndrome (x ∷ v) ≡ bit_xor x (first_syndrome v)
-unfolding first_syndrome
-first_syndrome-cons x v = refl
-
-pub second_syndrome-cons : (x : ℕ) (v : List ℕ)
-    → second_syndrome (x ∷ v) ≡ bit_xor (product (power (length v)) x) (second_syndrome v)
-unfolding second_syndrome
-second_syndrome-cons x v = refl
 
 -- one more byte after a list
 pub first_syndrome-push : (v : List ℕ) (x : ℕ)
@@ -45,10 +35,6 @@ second_syndrome-lt (y ∷ v) =
     xor_lt 8 (product (power (length v)) y) (second_syndrome v)
     (product-lt (power (length v)) y (power-lt (length v))) (second_syndrome-lt v)
 
-length_pushed : (v : List ℕ) (x : ℕ) → length (v ++ x ∷ []) ≡ suc (length v)
-length_pushed [] x = refl
-length_pushed (y ∷ v) x = ap suc (length_pushed v x)
-
 -- the step of Horner's rule
 pub second_syndrome-push : (v : List ℕ) (x : ℕ) → x < 256
     → second_syndrome (v ++ x ∷ []) ≡ bit_xor (double (second_syndrome v)) x
@@ -57,9 +43,9 @@ second_syndrome-push [] x h =
     xor_zero_r (product 1 x) ∙ product-one x h ∙ sym (xor_zero_l x)
     ∙ ap (λ z. bit_xor z x) (sym double-zero)
 second_syndrome-push (y ∷ v) x h =
-    ap (λ n. bit_xor (product (power n) y) (second_syndrome (v ++ x ∷ []))) (length_pushed v x)
-    ∙ ap (λ z. bit_xor z (second_syndrome (v ++ x ∷ []))) (product-power_suc (length v) y)
-    ∙ ap (bit_xor (double (product (power (length v)) y))) (second_syndrome-push v x h)
+    let longer : length (v ++ x ∷ []) ≡ suc (length v) = omega (arith, length_push v x) in
+    ap₂ bit_xor (ap (λ n. product (power n) y) longer ∙ product-power_suc (length v) y)
+    (second_syndrome-push v x h)
     ∙ sym (xor_assoc (double (product (power (length v)) y)) (double (second_syndrome v)) x)
     ∙ ap (λ z. bit_xor z x)
     (sym (double-xor (product (power (length v)) y) (second_syndrome v)
@@ -126,12 +112,8 @@ IsCodeWord-pair v plain weighted a below firsts seconds e =
     double-lt weighted (rw (← seconds) (second_syndrome-lt v)) in
     let three : bit_xor (double (bit_xor (double weighted) a)) b ≡ 0 =
     ap (λ z. bit_xor z b) (double-xor (double weighted) a weighted_lt a_lt)
-    ∙ xor_assoc fours (double a) b
-    ∙ ap (bit_xor fours)
-    (ap (bit_xor (double a)) (xor_comm plain a) ∙ sym (xor_assoc (double a) a plain)
-    ∙ ap (λ z. bit_xor z plain) tripled
-    ∙ ap (λ z. bit_xor z plain) (xor_comm plain fours) ∙ xor_twice fours plain)
-    ∙ xor_self fours in
+    ∙ xor_swap fours (double a) plain a
+    ∙ ap₂ bit_xor (xor_comm fours plain) tripled ∙ xor_self (bit_xor plain fours) in
     record {
       first =
           ap first_syndrome (sym shape) ∙ first_syndrome-push (v ++ a ∷ []) b
@@ -172,21 +154,18 @@ SameSums-change v len place d moved p long inside below moves e =
           first_syndrome-added two (len - 1) q (omega arith)
           ∙ ap (λ z. bit_xor z q)
           (first_syndrome-added one (len - 2) p (omega arith)
-          ∙ ap (λ z. bit_xor z p) (first_syndrome-added v place d (omega arith)))
-          ∙ ap (λ z. bit_xor z q) (xor_assoc f d p ∙ ap (bit_xor f) (xor_comm d p))
+          ∙ ap (λ z. bit_xor z p) (first_syndrome-added v place d (omega arith))
+          ∙ xor_assoc f d p ∙ ap (bit_xor f) (xor_comm d p))
           ∙ xor_twice f q;
       second =
           second_syndrome-added two (len - 1) q 0 (omega arith)
-          ∙ ap (λ z. bit_xor z (product 1 q))
+          ∙ ap₂ bit_xor
           (second_syndrome-added one (len - 2) p 1 (omega arith)
-          ∙ ap (λ z. bit_xor z (product (power 1) p))
-          (second_syndrome-added v place d (len - 1 - place) (omega arith)))
-          ∙ ap (λ z. bit_xor
-          (bit_xor (bit_xor s (product (power (len - 1 - place)) d)) (product (power 1) p)) z)
+          ∙ ap₂ bit_xor
+          (second_syndrome-added v place d (len - 1 - place) (omega arith)
+          ∙ ap (bit_xor s) (sym moves))
+          (product-power 1 p p_lt))
           (product-one q q_lt)
-          ∙ ap (λ z. bit_xor (bit_xor (bit_xor s (product (power (len - 1 - place)) d)) z) q)
-          (product-power 1 p p_lt)
-          ∙ ap (λ z. bit_xor (bit_xor (bit_xor s z) (double p)) q) (sym moves)
           ∙ xor_assoc (bit_xor s moved) (double p) q
           ∙ ap (bit_xor (bit_xor s moved)) back
           ∙ xor_twice s moved;
@@ -229,50 +208,41 @@ pair_same a b c d ha hb hc hd plain weighted =
     (same, xor_cancel c b d (ap (λ z. bit_xor z b) (sym same) ∙ plain))
 
 first_syndrome-one : (x : ℕ) → first_syndrome (x ∷ []) ≡ x
-first_syndrome-one x = first_syndrome-cons x [] ∙ ap (bit_xor x) first_syndrome-nil ∙ xor_zero_r x
+unfolding first_syndrome
+first_syndrome-one x = xor_zero_r x
 
 first_syndrome-two : (x y : ℕ) → first_syndrome (x ∷ y ∷ []) ≡ bit_xor x y
-first_syndrome-two x y = first_syndrome-cons x (y ∷ []) ∙ ap (bit_xor x) (first_syndrome-one y)
+unfolding first_syndrome
+first_syndrome-two x y = ap (bit_xor x) (xor_zero_r y)
 
 second_syndrome-two : (x y : ℕ) → x < 256 → y < 256
     → second_syndrome (x ∷ y ∷ []) ≡ bit_xor (double x) y
+unfolding second_syndrome
 second_syndrome-two x y hx hy =
-    second_syndrome-cons x (y ∷ [])
-    ∙ ap (λ z. bit_xor z (second_syndrome (y ∷ []))) (product-power 1 x hx)
-    ∙ ap (bit_xor (double x))
-    (second_syndrome-cons y [] ∙ ap (bit_xor (product 1 y)) second_syndrome-nil
-    ∙ xor_zero_r (product 1 y) ∙ product-one y hy)
+    ap₂ bit_xor (product-power 1 x hx) (xor_zero_r (product 1 y) ∙ product-one y hy)
 
 SameSums-tail : (x : ℕ) (v w : List ℕ) → length v ≡ length w → SameSums (x ∷ v) (x ∷ w)
     → SameSums v w
+unfolding first_syndrome second_syndrome
 SameSums-tail x v w e s = record {
-  first =
-      xor_cancel x (first_syndrome v) (first_syndrome w)
-      (sym (first_syndrome-cons x v) ∙ s.first ∙ first_syndrome-cons x w);
+  first = xor_cancel x (first_syndrome v) (first_syndrome w) s.first;
   second =
       xor_cancel (product (power (length v)) x) (second_syndrome v) (second_syndrome w)
-      (sym (second_syndrome-cons x v) ∙ s.second ∙ second_syndrome-cons x w
-      ∙ ap (λ n. bit_xor (product (power n) x) (second_syndrome w)) (sym e));
+      (s.second ∙ ap (λ n. bit_xor (product (power n) x) (second_syndrome w)) (sym e));
 }
 
 -- lists that differ at most in their last two bytes, and have the same sums, are equal
 pub pair_unique : (v w : List ℕ) → DifferAtMostInLast 2 v w → SameSums v w → v ≡ w
 pair_unique [] [] d s = refl
-pair_unique [] (y ∷ w) d s = let e = d.same_length in absurd (omega arith)
-pair_unique (x ∷ v) [] d s = let e = d.same_length in absurd (omega arith)
 pair_unique (x ∷ []) (y ∷ []) d s =
     ap (λ z. z ∷ []) (sym (first_syndrome-one x) ∙ s.first ∙ first_syndrome-one y)
-pair_unique (x ∷ []) (y ∷ z ∷ w) d s = let e = d.same_length in absurd (omega arith)
-pair_unique (x ∷ z ∷ v) (y ∷ []) d s = let e = d.same_length in absurd (omega arith)
 pair_unique (a ∷ b ∷ []) (c ∷ d ∷ []) h s =
     let same =
     pair_same a b c d (h.bytes_left 0) (h.bytes_left 1) (h.bytes_right 0) (h.bytes_right 1)
     (sym (first_syndrome-two a b) ∙ s.first ∙ first_syndrome-two c d)
     (sym (second_syndrome-two a b (h.bytes_left 0) (h.bytes_left 1)) ∙ s.second
     ∙ second_syndrome-two c d (h.bytes_right 0) (h.bytes_right 1)) in
-    ap (λ z. z ∷ b ∷ []) same.0 ∙ ap (λ z. c ∷ z ∷ []) same.1
-pair_unique (a ∷ b ∷ []) (c ∷ d ∷ z ∷ w) h s = let e = h.same_length in absurd (omega arith)
-pair_unique (a ∷ b ∷ z ∷ v) (c ∷ d ∷ []) h s = let e = h.same_length in absurd (omega arith)
+    ap₂ (λ y z. y ∷ z ∷ []) same.0 same.1
 pair_unique (x ∷ a ∷ b ∷ v) (y ∷ c ∷ e ∷ w) d s =
     let first : x ≡ y = d.front 0 (omega arith) in
     let lengths = d.same_length in
@@ -282,7 +252,8 @@ pair_unique (x ∷ a ∷ b ∷ v) (y ∷ c ∷ e ∷ w) d s =
     (SameSums-tail x (a ∷ b ∷ v) (c ∷ e ∷ w) (omega arith)
     (let P : ℕ → Type 0 = λ z.
     SameSums (x ∷ a ∷ b ∷ v) (z ∷ c ∷ e ∷ w) in subst P (sym first) s)) in
-    ap (λ z. z ∷ a ∷ b ∷ v) first ∙ ap (λ z. y ∷ z) rest
+    ap₂ (λ z u. z ∷ u) first rest
+pair_unique _ _ d s = absurd (omega arith)
 
 -- the syndromes of a sum, byte by byte, of two lists
 pub first_syndrome-sum : (u v w : List ℕ) → length u ≡ length v → length u ≡ length w
@@ -290,36 +261,26 @@ pub first_syndrome-sum : (u v w : List ℕ) → length u ≡ length v → length
     → first_syndrome u ≡ bit_xor (first_syndrome v) (first_syndrome w)
 unfolding first_syndrome
 first_syndrome-sum [] [] [] e f h = refl
-first_syndrome-sum [] [] (z ∷ w) e f h = absurd (omega arith)
-first_syndrome-sum [] (y ∷ v) w e f h = absurd (omega arith)
-first_syndrome-sum (x ∷ u) [] w e f h = absurd (omega arith)
-first_syndrome-sum (x ∷ u) (y ∷ v) [] e f h = absurd (omega arith)
 first_syndrome-sum (x ∷ u) (y ∷ v) (z ∷ w) e f h =
-    ap (λ n. bit_xor n (first_syndrome u)) (h 0 (omega arith))
-    ∙ ap (bit_xor (bit_xor y z))
+    ap₂ bit_xor (h 0 (omega arith))
     (first_syndrome-sum u v w (omega arith) (omega arith) (λ i k. h (suc i) (omega arith)))
     ∙ xor_swap y z (first_syndrome v) (first_syndrome w)
+first_syndrome-sum _ _ _ e f h = absurd (omega arith)
 
 pub second_syndrome-sum : (u v w : List ℕ) → length u ≡ length v → length u ≡ length w
     → ((i : ℕ) → i < length u → get_or u i 0 ≡ bit_xor (get_or v i 0) (get_or w i 0))
     → second_syndrome u ≡ bit_xor (second_syndrome v) (second_syndrome w)
 unfolding second_syndrome
 second_syndrome-sum [] [] [] e f h = refl
-second_syndrome-sum [] [] (z ∷ w) e f h = absurd (omega arith)
-second_syndrome-sum [] (y ∷ v) w e f h = absurd (omega arith)
-second_syndrome-sum (x ∷ u) [] w e f h = absurd (omega arith)
-second_syndrome-sum (x ∷ u) (y ∷ v) [] e f h = absurd (omega arith)
 second_syndrome-sum (x ∷ u) (y ∷ v) (z ∷ w) e f h =
     let left : length u ≡ length v = omega arith in
     let right : length u ≡ length w = omega arith in
     let a = product (power (length u)) y in
     let b = product (power (length u)) z in
-    ap (λ n. bit_xor (product (power (length u)) n) (second_syndrome u)) (h 0 (omega arith))
-    ∙ ap (λ n. bit_xor n (second_syndrome u)) (product-xor (power (length u)) y z)
-    ∙ ap (bit_xor (bit_xor a b))
+    ap₂ bit_xor
+    (ap (product (power (length u))) (h 0 (omega arith)) ∙ product-xor (power (length u)) y z)
     (second_syndrome-sum u v w left right (λ i k. h (suc i) (omega arith)))
     ∙ xor_swap a b (second_syndrome v) (second_syndrome w)
-    ∙ ap (λ n. bit_xor (bit_xor (product (power n) y) (second_syndrome v))
-    (bit_xor b (second_syndrome w))) left
-    ∙ ap (λ n. bit_xor (bit_xor (product (power (length v)) y) (second_syndrome v))
-    (bit_xor (product (power n) z) (second_syndrome w))) right
+    ∙ ap₂ (λ m n. bit_xor (bit_xor (product (power m) y) (second_syndrome v))
+    (bit_xor (product (power n) z) (second_syndrome w))) left right
+second_syndrome-sum _ _ _ e f h = absurd (omega arith)

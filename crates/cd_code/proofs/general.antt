@@ -1,3 +1,4 @@
 -- Lemmas that name nothing of this crate.
 pub mod Lists
+pub mod Tables
 pub mod Xor

@@ -23,18 +23,16 @@ use Rattle.cd_delta.proofs.WritingLemmas.{SameSyndromes-trans}
 
 -- ---- none is 0
 
+All-each : (P : Change → Type 0) (cs : List Change) → AllByRecursion P cs → All P cs
+All-each P (c ∷ cs) each zero d h = each.0
+All-each P (c ∷ cs) each (suc i) d h = All-each P cs each.1 i d (omega arith)
+All-each P _ each i d h = absurd (omega arith)
+
 All-eight : (P : Change → Type 0) (t : Eight) → (P t.column.0 × P t.column.1)
     → (P t.own.0 × P t.own.1) → (P t.first.0 × P t.first.1)
     → (P t.second.0 × P t.second.1) → All P (listed t)
-All-eight P t p q r s zero c h = p.0
-All-eight P t p q r s (suc zero) c h = p.1
-All-eight P t p q r s (suc (suc zero)) c h = q.0
-All-eight P t p q r s (suc (suc (suc zero))) c h = q.1
-All-eight P t p q r s (suc (suc (suc (suc zero)))) c h = r.0
-All-eight P t p q r s (suc (suc (suc (suc (suc zero))))) c h = r.1
-All-eight P t p q r s (suc (suc (suc (suc (suc (suc zero)))))) c h = s.0
-All-eight P t p q r s (suc (suc (suc (suc (suc (suc (suc zero))))))) c h = s.1
-All-eight P t p q r s (suc (suc (suc (suc (suc (suc (suc (suc i)))))))) c h = absurd (omega arith)
+All-eight P t p q r s =
+    All-each P (listed t) (p.0, (p.1, (q.0, (q.1, (r.0, (r.1, (s.0, (s.1, tt))))))))
 
 -- if the byte changes, each of the eight does
 pub nonzero-carried : {byte : Change} {t : Eight} → AreCarried byte t → byte.d ≢ 0

@@ -1,17 +1,17 @@
 -- A sector whose bytes were changed with the error that its EDC had: its damage is carried.
-use Rattle.std.proofs.Common.{◌≡◌, ℕ, zero, suc, ◌+◌, ◌-◌, ◌^◌, ◌<◌, ◌≤◌, ◌⊎◌, inl, inr, List, ◌++◌, length, get_or, set, take, replicate, bit_xor, refl, sym, ap, ◌∙◌, arith}
+use Rattle.std.proofs.Common.{◌≡◌, ℕ, zero, suc, ◌+◌, ◌-◌, ◌^◌, ◌<◌, ◌≤◌, ◌⊎◌, inl, inr, List, ◌++◌, length, get_or, take, replicate, bit_xor, refl, sym, ap, ap₂, ◌∙◌, arith}
 use Rattle.std.specs.Prelude.{slice_range}
 use Rattle.std.specs.Int.{from_le_bytes, to_le_bytes, w32}
-use Rattle.std.specs.Int.Bits.{xor_self, xor_zero_l, xor_zero_r}
+use Rattle.std.specs.Int.Bits.{xor_zero_r}
 use Rattle.std.proofs.lemmas.Bool.{cases_lt}
-use Rattle.std.proofs.lemmas.List.{get_or_append_left, get_or-append_right, get_or_past, get_or-replicate, get_or-set_other, get_or-set_same, get_or-take, length-append, length-replicate, length-set, length-take-le}
-use Rattle.std.proofs.lemmas.Nat.{from_le_bytes-to_le_bytes_4, le_bytes_4, xor_comm, xor_lt}
+use Rattle.std.proofs.lemmas.List.{get_or_append_left, get_or-append_right, get_or-take, length-append, length-replicate, length-take-le}
+use Rattle.std.proofs.lemmas.Nat.{from_le_bytes-to_le_bytes_4, le_bytes_4, xor_lt}
 use Rattle.cd_code.specs.Edc.{IsEdc}
 use Rattle.cd_code.specs.Field.{AreBytes}
-use Rattle.cd_code.proofs.ByteLemmas.{AreBytes-drop, AreBytes-take}
+use Rattle.cd_code.proofs.ByteLemmas.{AreBytes-drop, AreBytes-take, IsSum-below, replicate-byte}
 use Rattle.cd_code.proofs.general.Lists.{length-part, part-same}
 use Rattle.cd_code.proofs.EdcLemmas.{IsEdc-same, IsEdc-sum, IsEdc-unique, after, after-append, after_bits-zero}
-use Rattle.cd_code.proofs.general.Xor.{xor_swap, xor_twice_left}
+use Rattle.cd_code.proofs.general.Xor.{xor_common, xor_twice_left}
 use Rattle.cd_sector.specs.Carried.{IsCarried, sync_of}
 use Rattle.cd_sector.specs.Consistent.{IsConsistent, header_of, user_of}
 use Rattle.cd_sector.specs.EdcField.{StoresEdc}
@@ -57,17 +57,12 @@ pub stored-sum : {old new : List ℕ} {error : ℕ} → StoresEdc old error → 
 stored-sum {old} {new} {error} h k before after one two =
     let w = h.word in
     let v = k.word in
-    let both : bit_xor (bit_xor w error) (bit_xor w v) ≡ bit_xor v error =
-    xor_swap w error w v ∙ ap (λ n. bit_xor n (bit_xor error v)) (xor_self w)
-    ∙ xor_zero_l (bit_xor error v) ∙ xor_comm error v in
     StoresEdc-word k
     ∙ sym
-    (ap (λ n. bit_xor n (bit_xor before after)) (StoresEdc-word h)
-    ∙ ap (λ n. bit_xor (bit_xor w error) (bit_xor n after))
-    (IsEdc-unique (take 2064 old) before w one h.is_word)
-    ∙ ap (λ n. bit_xor (bit_xor w error) (bit_xor w n))
-    (IsEdc-unique (take 2064 new) after v two k.is_word)
-    ∙ both)
+    (ap₂ bit_xor (StoresEdc-word h)
+    (ap₂ bit_xor (IsEdc-unique (take 2064 old) before w one h.is_word)
+    (IsEdc-unique (take 2064 new) after v two k.is_word))
+    ∙ xor_common w error v)
 
 -- ---- the sector
 
@@ -114,39 +109,10 @@ pub AreDifferences-none : (s : List ℕ) (offset : ℕ) (bytes : List ℕ)
 AreDifferences-none s offset bytes = record {
   size = length-replicate {A = ℕ} 2048 0;
   inside = λ i h. absurd (omega arith);
-  outside = λ k _. elim (cases_lt k 2048) [
-    | inl below ↦ get_or-replicate 2048 k 0 0 below
-    | inr past ↦ get_or_past (replicate 2048 0) k 0
-        (let e = length-replicate {A = ℕ} 2048 0 in omega (arith, e))
-  ];
+  outside = λ k _. replicate-byte 2048 k;
 }
 
-pub AreDifferences-more : {s : List ℕ} {offset n : ℕ} {bytes sums : List ℕ} (x : ℕ)
-    → offset + n < 2048
-    → AreDifferences s offset n bytes sums
-    → x ≡ bit_xor (get_or s (16 + offset + n) 0) (get_or bytes n 0)
-    → AreDifferences s offset (n + 1) bytes (set sums (offset + n) x)
-AreDifferences-more {s} {offset} {n} {bytes} {sums} x below h is =
-    let size = h.size in
-    record {
-      size = length-set sums (offset + n) x ∙ size;
-      inside = λ i within. elim (cases_lt i n) [
-        | inl lower ↦ get_or-set_other sums (offset + n) (offset + i) x 0
-            (λ e. absurd (omega (arith, e))) ∙ h.inside i lower
-        | inr from ↦
-            let e : i ≡ n = omega arith in
-            rw e (get_or-set_same sums (offset + n) x 0 (omega arith) ∙ is)
-      ];
-      outside = λ k out.
-          get_or-set_other sums (offset + n) k x 0
-          (λ e. elim out [
-            | inl low ↦ absurd (omega (arith, e))
-            | inr high ↦ absurd (omega (arith, e))
-          ])
-          ∙ h.outside k (elim out [ inl low ↦ inl low | inr high ↦ inr (omega arith) ]);
-    }
-
--- zeros before a list change nothing
+-- zeros in front of a list change nothing
 after-none : (k : ℕ) → after 0 (replicate k 0) ≡ 0
 after-none zero = refl
 after-none (suc k) = ap (λ r. after r (replicate k 0)) (after_bits-zero 8) ∙ after-none k
@@ -172,8 +138,7 @@ front-byte old new sums offset bytes fits sum written i h =
     elim (cases_lt i 16) [
       | inl low ↦
           other (inl (omega arith))
-          (get_or_append_left (replicate 16 0) sums 0 i (omega (arith, none))
-          ∙ get_or-replicate 16 i 0 0 low)
+          (get_or_append_left (replicate 16 0) sums 0 i (omega (arith, none)) ∙ replicate-byte 16 i)
       | inr from ↦
           let at : added ≡ get_or sums (i - 16) 0 =
           get_or-append_right (replicate 16 0) sums 16 i 0 none from in
@@ -208,27 +173,17 @@ front-edc old new sums offset bytes w change size fits sum written one two =
     length-take-le 2064 new (omega (arith, size, same_size)) in
     let old_long : length (take 2064 old) ≡ 2064 = length-take-le 2064 old (omega (arith, size)) in
     let sums_size = sum.size in
-    let none : length (replicate {A = ℕ} 16 0) ≡ 16 = length-replicate {A = ℕ} 16 0 in
-    let joined = length-append (replicate 16 0) sums in
-    let sum_long : length (replicate 16 0 ++ sums) ≡ 2064 =
-    omega (arith, joined, none, sums_size) in
-    IsEdc-sum (take 2064 new) (take 2064 old) (replicate 16 0 ++ sums) (new_long ∙ sym old_long)
+    let added = replicate 16 0 ++ sums in
+    let sum_long : length added ≡ 2064 =
+    omega (arith, length-append (replicate 16 0) sums, length-replicate {A = ℕ} 16 0) in
+    IsEdc-sum (take 2064 new) (take 2064 old) added (new_long ∙ sym old_long)
     (new_long ∙ sym sum_long)
-    (record {
-      byte = λ i. elim (cases_lt i 2064) [
-        | inl low ↦
-            get_or-take 2064 new i 0 low
-            ∙ front-byte old new sums offset bytes fits sum written i low
-            ∙ ap (λ n. bit_xor n (get_or (replicate 16 0 ++ sums) i 0))
-            (sym (get_or-take 2064 old i 0 low))
-        | inr past ↦
-            get_or_past (take 2064 new) i 0 (omega (arith, new_long))
-            ∙ sym
-            (ap (λ n. bit_xor n (get_or (replicate 16 0 ++ sums) i 0))
-            (get_or_past (take 2064 old) i 0 (omega (arith, old_long)))
-            ∙ ap (bit_xor 0) (get_or_past (replicate 16 0 ++ sums) i 0 (omega (arith, sum_long))))
-      ];
-    })
+    (IsSum-below (take 2064 new) (take 2064 old) added 2064 (omega arith) (omega arith)
+    (omega arith)
+    (λ i low.
+    get_or-take 2064 new i 0 low
+    ∙ front-byte old new sums offset bytes fits sum written i low
+    ∙ ap (λ n. bit_xor n (get_or added i 0)) (sym (get_or-take 2064 old i 0 low))))
     w change one (IsEdc-after_zeros 16 sums change two)
 
 -- with the word of the differences added to the stored one
@@ -246,11 +201,7 @@ few-carried old t new sums four offset bytes stored change size each fits sum ed
     let w = before.0 in
     let held = StoresEdc-read old w stored size each before.1 stored_fits same in
     let word = front-edc old t sums offset bytes w change size fits sum first before.1 edc in
-    let added : bit_xor stored change ≡ bit_xor (bit_xor w change) (bit_xor w stored) =
-    sym
-    (xor_swap w change w stored ∙ ap (λ n. bit_xor n (bit_xor change stored)) (xor_self w)
-    ∙ xor_zero_l (bit_xor change stored)
-    ∙ xor_comm change stored) in
+    let added = sym (xor_common w change stored) in
     record {
       error = bit_xor w stored;
       before = held;

@@ -2,7 +2,7 @@
 -- (ECMA-130, Annex A).
 use Rattle.std.proofs.Common.{◌≡◌, ◌≢◌, ℕ, ◌+◌, ◌*◌, ◌-◌, ◌/◌, ◌%◌, ◌<◌, ◌≤◌, List, [], ◌∷◌}
 use Rattle.std.proofs.Common.{length, nat_eq, sym, ◌∙◌, arith}
-use Rattle.std.specs.List.{IsDistinct}
+use Rattle.std.specs.List.{AllByRecursion, IsDistinct}
 use Rattle.std.proofs.lemmas.Bool.Decides.{nat_tests}
 use Rattle.cd_code.specs.Field.{AreBytes}
 use Rattle.cd_code.specs.Syndrome.{Balances}
@@ -13,7 +13,7 @@ use Rattle.cd_delta.specs.ParityChanges.{diagonal_at, parity_places, with_change
 use Rattle.cd_delta.proofs.AddLemmas.{changed-past, places_of}
 use Rattle.cd_delta.proofs.PlaceFacts.{columns, columns_apart, in_column, misses_column}
 use Rattle.cd_delta.proofs.PlaceFacts.{diagonals, diagonals_apart, in_diagonal}
-use Rattle.cd_delta.proofs.WordLemmas.{IsSector, IsTrio, KeepsSums}
+use Rattle.cd_delta.proofs.WordLemmas.{IsSector, IsTrio, KeepsSums, Misses}
 use Rattle.cd_delta.proofs.WordLemmas.{misses_all, trio_keeps, trio_sector}
 use Rattle.cd_delta.proofs.WritingLemmas.{SameSums-trans}
 
@@ -59,10 +59,13 @@ pub record AreCarried (byte : Change) (t : Eight) : Type 0 where
   pub of_first : IsDiagonalPair plane 24 column t.column.0.d t.first
   pub of_second : IsDiagonalPair plane 25 column t.column.1.d t.second
 
--- the same at an equal index
-pub Balances-at : {len index j d a b : ℕ} → index ≡ j → Balances len index d a b
-    → Balances len j d a b
-Balances-at {len} {index} {j} {d} {a} {b} e h = rw e at h
+-- changes of places after the rows are in no column
+past_columns : (l n : ℕ) → l < 2 → n < 43 → (cs : List Change)
+    → AllByRecursion (λ c. 2248 ≤ c.place) cs
+    → AllByRecursion (λ c. Misses (column_places l n) c.place) cs
+past_columns l n hl hn [] after = tt
+past_columns l n hl hn (c ∷ cs) after =
+    (misses_column l n c.place hl hn after.0, past_columns l n hl hn cs after.1)
 
 -- the byte and the column's pair are in one column, and the other six in none
 columns_keep : {byte : Change} {t : Eight} → AreCarried byte t → (s : List ℕ) → IsSector s
@@ -81,21 +84,9 @@ columns_keep {byte} {t} c s sector l n hl hn =
       balances = c.of_column.balances;
       low = (c.in_bytes, c.of_column.bytes.0, c.of_column.bytes.1);
     } in
-    let miss = λ (q : ℕ) (after : 2248 ≤ q). misses_column l n q hl hn after in
     let rest : bytes_at (with_changes three six) ps ≡ bytes_at three ps =
-    misses_all six ps three (
-      miss t.own.0.place (omega arith),
-      (
-        miss t.own.1.place (omega arith),
-        (
-          miss t.first.0.place (omega arith),
-          (
-            miss t.first.1.place (omega arith),
-            (miss t.second.0.place (omega arith), (miss t.second.1.place (omega arith), tt)),
-          ),
-        ),
-      ),
-    ) in
+    misses_all six ps three (past_columns l n hl hn six
+    (omega arith, (omega arith, (omega arith, (omega arith, (omega arith, (omega arith, tt))))))) in
     rw rest (trio_keeps columns_apart trio s sector l n hl hn)
 
 -- a byte of a row and the two parity bytes of its diagonal are in that diagonal

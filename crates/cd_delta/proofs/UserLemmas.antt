@@ -1,14 +1,14 @@
 -- A sector into whose user data bytes were written, and then the EDC.
-use Rattle.std.proofs.Common.{◌≡◌, ◌⊎◌, ℕ, ◌+◌, ◌-◌, ◌^◌, ◌<◌, ◌≤◌, inl, inr, List, ◌++◌, length, get_or, take, drop, bit_xor, refl, sym, ap, subst, ◌∙◌, arith}
+use Rattle.std.proofs.Common.{◌≡◌, ◌⊎◌, ℕ, ◌+◌, ◌-◌, ◌^◌, ◌<◌, ◌≤◌, inl, inr, List, ◌++◌, length, get_or, take, drop, bit_xor, refl, sym, ap, ap₂, ◌∙◌, arith}
 use Rattle.std.specs.Prelude.{slice_range}
 use Rattle.std.specs.Int.{from_le_bytes, to_le_bytes, w32}
 use Rattle.std.specs.Int.Bits.{xor_zero_r}
-use Rattle.std.proofs.lemmas.Bool.{cases_lt}
-use Rattle.std.proofs.lemmas.List.{ext_get_or, get_or-append_right, get_or_append_left, get_or-drop, get_or-take, length-append, length-drop, length-take-le}
+use Rattle.std.proofs.Math.Seq.{take-add}
+use Rattle.std.proofs.lemmas.List.{drop-drop, drop-take, get_or-append_right, get_or_append_left, get_or-drop, get_or-take, length-append, length-drop, length-take-le, take-take}
 use Rattle.std.proofs.lemmas.Nat.{from_le_bytes-to_le_bytes_4}
 use Rattle.cd_code.specs.Edc.{IsEdc, bits, remainder}
 use Rattle.cd_code.specs.Field.{AreBytes}
-use Rattle.cd_code.proofs.general.Lists.{front-same, get_or-part, length-part, part-list, part-same}
+use Rattle.cd_code.proofs.general.Lists.{front-same, get_or-second, part-list, part-same}
 use Rattle.cd_code.proofs.EdcLemmas.{after_bits-zero}
 use Rattle.cd_sector.specs.CodeWords.{SameSyndromes}
 use Rattle.cd_sector.specs.Consistent.{IsConsistent, header_of, user_of}
@@ -40,10 +40,8 @@ pub written-range : (user : List ℕ) (offset : ℕ) (bytes : List ℕ) (k : ℕ
 unfolding with_range
 written-range user offset bytes k h below =
     let back = drop (offset + length bytes) user in
-    let front = length-take-le offset user (omega arith) in
-    let index : offset + k - offset ≡ k = omega arith in
-    get_or-append_right (take offset user) (bytes ++ back) offset (offset + k) 0 front (omega arith)
-    ∙ ap (λ n. get_or (bytes ++ back) n 0) index
+    get_or-second (take offset user) (bytes ++ back) offset k
+    (length-take-le offset user (omega arith))
     ∙ get_or_append_left bytes back 0 k below
 
 pub written-other : (user : List ℕ) (offset : ℕ) (bytes : List ℕ) (k : ℕ)
@@ -66,44 +64,35 @@ written-other user offset bytes k h out =
           ∙ ap (λ n. get_or user n 0) index
     ]
 
-pub user_of-written : (old new : List ℕ) (offset : ℕ) (bytes : List ℕ)
-    → offset + length bytes ≤ 2048
-    → length old ≡ 2352 → length new ≡ length old
-    → ((i : ℕ) → i < length bytes → get_or new (16 + offset + i) 0 ≡ get_or bytes i 0)
-    → ((i : ℕ) → i < 2064 → (i < 16 + offset) ⊎ (16 + offset + length bytes ≤ i)
+-- m bytes from a on, in which bytes stand from an offset on, and nothing else has changed
+range-written : (old new : List ℕ) (a m offset : ℕ) (bytes : List ℕ) → offset + length bytes ≤ m
+    → a + m ≤ length old → length new ≡ length old
+    → ((i : ℕ) → i < length bytes → get_or new (a + offset + i) 0 ≡ get_or bytes i 0)
+    → ((i : ℕ) → a ≤ i → i < a + m → (i < a + offset) ⊎ (a + offset + length bytes ≤ i)
     → get_or new i 0 ≡ get_or old i 0)
-    → user_of new ≡ with_range (user_of old) offset bytes
-unfolding user_of
-user_of-written old new offset bytes inside size same_size range others =
-    let user = take 2048 (drop 16 old) in
-    let long = length-part old 16 2048 (omega arith) in
-    let new_long = length-part new 16 2048 (omega arith) in
-    let fits : offset + length bytes ≤ length user = omega arith in
-    let whole = length-written user offset bytes fits in
-    let other : (k : ℕ) → k < 2048 → (k < offset) ⊎ (offset + length bytes ≤ k)
-    → get_or (take 2048 (drop 16 new)) k 0 ≡ get_or (with_range user offset bytes) k 0 =
-    λ k below out.
-    let there : (16 + k < 16 + offset) ⊎ (16 + offset + length bytes ≤ 16 + k) =
-    elim out [ inl before ↦ inl (omega arith) | inr after ↦ inr (omega arith) ] in
-    get_or-part new 16 2048 k below ∙ others (16 + k) (omega arith) there
-    ∙ sym (get_or-part old 16 2048 k below) ∙ sym (written-other user offset bytes k fits out) in
-    ext_get_or 0 (take 2048 (drop 16 new)) (with_range user offset bytes) (omega arith)
-    (λ k within.
-    let below : k < 2048 = omega arith in
-    elim (cases_lt k offset) [
-      | inl before ↦ other k below (inl before)
-      | inr from ↦ elim (cases_lt k (offset + length bytes)) [
-        | inl here ↦
-            let j : k ≡ offset + (k - offset) = omega arith in
-            let at : 16 + k ≡ 16 + offset + (k - offset) = omega arith in
-            get_or-part new 16 2048 k below
-            ∙ ap (λ n. get_or new n 0) at
-            ∙ range (k - offset) (omega arith)
-            ∙ sym (written-range user offset bytes (k - offset) fits (omega arith))
-            ∙ ap (λ n. get_or (with_range user offset bytes) n 0) (sym j)
-        | inr after ↦ other k below (inr after)
-      ]
-    ])
+    → take m (drop a new) ≡ with_range (take m (drop a old)) offset bytes
+unfolding with_range
+range-written old new a m offset bytes fits inside same_size range others =
+    let n = length bytes in
+    let rest = m - (offset + n) in
+    let whole : offset + (n + rest) ≡ m = omega arith in
+    let parts : offset + n + rest ≡ m = omega arith in
+    let before : take offset (drop a new) ≡ take offset (take m (drop a old)) =
+    part-same new old a offset (omega arith) (omega arith)
+    (λ i from below. others i from (omega arith) (inl below))
+    ∙ sym (take-take offset m (drop a old) (omega arith)) in
+    let here : take n (drop offset (drop a new)) ≡ bytes =
+    ap (take n) (drop-drop offset a new) ∙ part-list new bytes (a + offset) (omega arith) range in
+    let after : take rest (drop n (drop offset (drop a new))) ≡ drop (offset + n) (take m (drop a old)) =
+    ap (take rest) (drop-drop n offset (drop a new) ∙ drop-drop (offset + n) a new)
+    ∙ part-same new old (a + (offset + n)) rest (omega arith) (omega arith)
+    (λ i from below. others i (omega arith) (omega arith) (inr (omega arith)))
+    ∙ sym
+    (ap (λ k. drop (offset + n) (take k (drop a old))) (sym parts)
+    ∙ drop-take (offset + n) rest (drop a old) ∙ ap (take rest) (drop-drop (offset + n) a old)) in
+    ap (λ k. take k (drop a new)) (sym whole) ∙ take-add offset (n + rest) (drop a new)
+    ∙ ap₂ (λ v w. v ++ w) before
+    (take-add n rest (drop offset (drop a new)) ∙ ap₂ (λ v w. v ++ w) here after)
 
 -- ---- the EDC
 
@@ -200,9 +189,7 @@ long-of h = sym h.same_size ∙ h.size
 pub IsChanged-same : {old new : List ℕ} {place : ℕ} {bytes others : List ℕ} {error other : ℕ}
     → IsChanged old new place bytes error
     → bytes ≡ others → error ≡ other → IsChanged old new place others other
-IsChanged-same {old} {new} {place} {bytes} {others} {error} {other} h same equal =
-    subst (λ e. IsChanged old new place others e) equal
-    (subst (λ b. IsChanged old new place b error) same h)
+IsChanged-same h same equal = rw (same, equal) at h
 
 -- without an error
 pub edc-of : {old new : List ℕ} {place : ℕ} {bytes : List ℕ} → IsChanged old new place bytes 0
@@ -255,14 +242,11 @@ user-stays offset h i out = elim out [
 pub user-of : (offset : ℕ) {old new bytes : List ℕ} {error : ℕ}
     → IsChanged old new (16 + offset) bytes error
     → user_of new ≡ with_range (user_of old) offset bytes
+unfolding user_of
 user-of offset {old} {new} {bytes} h =
     let fits = h.fits in
-    user_of-written old new offset bytes (omega arith) (long-of h) h.same_size h.range
-    (λ i below out. h.front i below out)
-
-pub user-kind : (offset : ℕ) {old new bytes : List ℕ} {error : ℕ}
-    → IsChanged old new (16 + offset) bytes error → kind_of new ≡ kind_of old
-user-kind offset h = kind-of h (omega arith) (inl (omega arith))
+    range-written old new 16 2048 offset bytes (omega arith) (omega (arith, long-of h)) h.same_size
+    h.range (λ i _ below out. h.front i below out)
 
 pub user-header : (offset : ℕ) {old new bytes : List ℕ} {error : ℕ}
     → IsChanged old new (16 + offset) bytes error → header_of new ≡ header_of old
@@ -285,10 +269,6 @@ header-stays h three i out = elim out [
   ]
 ]
 
-pub header-kind : {old new bytes : List ℕ} {error : ℕ} → IsChanged old new 12 bytes error
-    → length bytes ≡ 3 → kind_of new ≡ kind_of old
-header-kind h three = kind-of h (omega arith) (inr (omega arith))
-
 pub header-user : {old new bytes : List ℕ} {error : ℕ} → IsChanged old new 12 bytes error
     → length bytes ≡ 3 → user_of new ≡ user_of old
 unfolding user_of
@@ -300,25 +280,9 @@ header-user {old} {new} h three =
 -- the three bytes of the address, and the old mode byte
 pub header-of : {old new bytes : List ℕ} {error : ℕ} → IsChanged old new 12 bytes error
     → length bytes ≡ 3 → header_of new ≡ bytes ++ drop 3 (header_of old)
-unfolding header_of
+unfolding header_of with_range
 header-of {old} {new} {bytes} h three =
-    let size = h.size in
-    let header = take 4 (drop 12 old) in
-    let long = length-part old 12 4 (omega (arith, long-of h)) in
-    let new_long = length-part new 12 4 (omega arith) in
-    let whole = length-append bytes (drop 3 header) in
-    let rest = length-drop 3 header in
-    ext_get_or 0 (take 4 (drop 12 new)) (bytes ++ drop 3 header) (omega arith)
-    (λ k within.
-    let below : k < 4 = omega arith in
-    elim (cases_lt k 3) [
-      | inl lower ↦ get_or-part new 12 4 k below ∙ h.range k (omega arith)
-          ∙ sym (get_or_append_left bytes (drop 3 header) 0 k (omega arith))
-      | inr higher ↦
-          let index : 3 + (k - 3) ≡ k = omega arith in
-          let other : get_or (bytes ++ drop 3 header) k 0 ≡ get_or header k 0 =
-          get_or-append_right bytes (drop 3 header) 3 k 0 three higher
-          ∙ get_or-drop 3 header (k - 3) 0 ∙ ap (λ n. get_or header n 0) index in
-          get_or-part new 12 4 k below ∙ h.front (12 + k) (omega arith) (inr (omega arith))
-          ∙ sym (get_or-part old 12 4 k below) ∙ sym other
-    ])
+    let number : 0 + length bytes ≡ 3 = omega arith in
+    range-written old new 12 4 0 bytes (omega arith) (omega (arith, long-of h)) h.same_size h.range
+    (λ i _ below out. h.front i (omega arith) out)
+    ∙ ap (λ n. bytes ++ drop n (header_of old)) number

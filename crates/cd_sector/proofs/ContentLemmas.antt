@@ -1,28 +1,17 @@
 -- A sector as it is made: its content in its places, and the parts after it.
-use Rattle.std.proofs.Common.{◌≡◌, ℕ, zero, suc, ◌+◌, ◌-◌, ◌<◌, ◌≤◌, ◌⊎◌, inl, inr, List, [], ◌∷◌, ◌++◌, length, get_or, take, drop, refl, sym, ap, ◌∙◌, arith, lit<, lit≤}
+use Rattle.std.proofs.Common.{◌≡◌, ℕ, suc, ◌+◌, ◌-◌, ◌<◌, ◌≤◌, ◌⊎◌, inl, List, [], ◌∷◌, ◌++◌, length, get_or, take, drop, refl, sym, ap, ap₂, ◌∙◌, arith, lit<, lit≤, append_assoc}
 use Rattle.std.specs.List.{slice_range}
-use Rattle.std.proofs.lemmas.Bool.{cases_lt}
-use Rattle.std.proofs.lemmas.List.{ext_get_or, get_or-take, get_or_append_left, get_or-append-add, get_or-append_right, length-take-le, length-append, take-append-drop}
+use Rattle.std.proofs.Math.Seq.{take-add}
+use Rattle.std.proofs.lemmas.List.{get_or-drop, get_or-take, length-append, length-drop, take-append-drop, take_all}
 use Rattle.cd_code.specs.Edc.{bits, remainder}
 use Rattle.cd_code.specs.Field.{AreBytes}
-use Rattle.cd_code.proofs.general.Lists.{part-same}
+use Rattle.cd_code.proofs.general.Lists.{first-part, front-list, front-same, get_or-part, get_or-second, part-list, part-of_front, part-same, second-part}
 use Rattle.cd_sector.specs.CodeWords.{AllCodeWords}
 use Rattle.cd_sector.specs.Consistent.{IsConsistent, header_of, user_of}
 use Rattle.cd_sector.specs.Kind.{kind_of, sync_field}
 use Rattle.cd_sector.specs.Laws.{IsEncoded}
 use Rattle.cd_sector.specs.declared.kinds.SectorKind.TheVariants.{Mode1}
-use Rattle.cd_sector.proofs.DefectLemmas.{range-byte, length-range}
 use Rattle.cd_sector.proofs.SectorLemmas.{header_of-same, kind_of-same, mode1-from, sector_unique}
-
--- a list by its places
-pub range-is : (s v : List ℕ) (a b : ℕ) → a ≤ b → b ≤ length s → length v ≡ b - a
-    → ((i : ℕ) → i < b - a → get_or s (a + i) 0 ≡ get_or v i 0) → slice_range s a b ≡ v
-range-is s v a b h k long same =
-    let size = length-range s a b h k in
-    ext_get_or 0 (slice_range s a b) v (size ∙ sym long)
-    (λ i inside.
-    let below : i < b - a = omega (arith, size) in
-    range-byte s a b i (omega arith) ∙ same i below)
 
 -- ---- the content
 
@@ -30,38 +19,12 @@ range-is s v a b h k long same =
 abbrev pub content_of : List ℕ → List ℕ → List ℕ
 content_of header user = sync_field ++ (header ++ 1 ∷ user)
 
-content-sync : (header user : List ℕ) (i : ℕ) → i < 12
-    → get_or (content_of header user) i 0 ≡ get_or sync_field i 0
-content-sync header user i h = get_or_append_left sync_field (header ++ 1 ∷ user) 0 i h
-
-content-past_sync : (header user : List ℕ) (i : ℕ)
-    → get_or (content_of header user) (12 + i) 0 ≡ get_or (header ++ 1 ∷ user) i 0
-content-past_sync header user i = get_or-append-add sync_field (header ++ 1 ∷ user) i 0
-
-content-header : (header user : List ℕ) → length header ≡ 3 → (i : ℕ) → i < 4
-    → get_or (content_of header user) (12 + i) 0 ≡ get_or (header ++ 1 ∷ []) i 0
-content-header header user size i h =
-    content-past_sync header user i
-    ∙ (elim (cases_lt i 3) [
-      | inl low ↦
-          get_or_append_left header (1 ∷ user) 0 i (omega (arith, size))
-          ∙ sym (get_or_append_left header (1 ∷ []) 0 i (omega (arith, size)))
-      | inr high ↦
-          let e : i - 3 ≡ 0 = omega arith in
-          get_or-append_right header (1 ∷ user) 3 i 0 size high ∙ ap (λ n. get_or (1 ∷ user) n 0) e
-          ∙ sym (get_or-append_right header (1 ∷ []) 3 i 0 size high
-          ∙ ap (λ n. get_or (1 ∷ []) n 0) e)
-    ])
-
-content-user : (header user : List ℕ) → length header ≡ 3 → (i : ℕ)
-    → get_or (content_of header user) (16 + i) 0 ≡ get_or user i 0
-content-user header user size i =
-    let e : 16 + i ≡ 12 + (4 + i) = omega arith in
-    let f : 4 + i - 3 ≡ suc i = omega arith in
-    ap (λ n. get_or (content_of header user) n 0) e
-    ∙ content-past_sync header user (4 + i)
-    ∙ get_or-append_right header (1 ∷ user) 3 (4 + i) 0 size (omega arith)
-    ∙ ap (λ n. get_or (1 ∷ user) n 0) f
+pub length-content : (header user : List ℕ) → length header ≡ 3 → length user ≡ 2048
+    → length (content_of header user) ≡ 2064
+length-content header user h k =
+    let a : length (header ++ 1 ∷ user) ≡ 2052 =
+    length-append header (1 ∷ user) ∙ ap₂ (λ m n. m + suc n) h k in
+    length-append sync_field (header ++ 1 ∷ user) ∙ ap (λ n. 12 + n) a
 
 -- a sector with such a front, and what stands after it
 pub encoded : (header user s : List ℕ) → length header ≡ 3 → length user ≡ 2048
@@ -71,18 +34,27 @@ pub encoded : (header user s : List ℕ) → length header ≡ 3 → length user
     → remainder (bits (take 2068 s)) ≡ 0 → AllCodeWords s → IsEncoded header user s
 unfolding header_of user_of
 encoded header user s size long s_size bytes front zeros divides words =
-    let sync : take 12 s ≡ sync_field =
-    ext_get_or 0 (take 12 s) sync_field (length-take-le 12 s (omega (arith, s_size)))
-    (λ i inside.
-    let below : i < 12 = omega (arith, length-take-le 12 s (omega (arith, s_size))) in
-    get_or-take 12 s i 0 below ∙ front i (omega arith) ∙ content-sync header user i below) in
+    let content = content_of header user in
+    let whole : take 2064 s ≡ content =
+    front-list s content 2064 (length-content header user size long) (omega (arith, s_size)) front in
+    let head = header ++ 1 ∷ [] in
+    let head_size : length head ≡ 4 = length-append header (1 ∷ []) ∙ ap (λ n. n + 1) size in
+    let joined : header ++ 1 ∷ user ≡ head ++ user = sym (append_assoc header (1 ∷ []) user) in
     let begins : s ≡ sync_field ++ drop 12 s =
-    sym (take-append-drop 12 s) ∙ ap (λ v. v ++ drop 12 s) sync in
-    let header_size : length (header ++ 1 ∷ []) ≡ 4 =
-    length-append header (1 ∷ []) ∙ ap (λ n. n + 1) size in
+    sym (take-append-drop 12 s)
+    ∙ ap (λ v. v ++ drop 12 s) (part-of_front s content 2064 0 12 (lit≤ tt) whole) in
+    let has_header : take 4 (drop 12 s) ≡ head =
+    part-of_front s content 2064 12 4 (lit≤ tt) whole
+    ∙ second-part sync_field (header ++ 1 ∷ user) 12 0 4 refl ∙ ap (take 4) joined
+    ∙ first-part head user 4 head_size in
+    let has_user : take 2048 (drop 16 s) ≡ user =
+    part-of_front s content 2064 16 2048 (lit≤ tt) whole
+    ∙ second-part sync_field (header ++ 1 ∷ user) 12 4 2048 refl
+    ∙ ap (λ v. take 2048 (drop 4 v)) joined
+    ∙ second-part head user 4 0 2048 head_size ∙ take_all 2048 user (omega arith) in
     let mode : get_or s 15 0 ≡ 1 =
-    front 15 (lit< tt) ∙ content-header header user size 3 (lit< tt)
-    ∙ get_or-append_right header (1 ∷ []) 3 3 0 size (lit≤ tt) in
+    sym (get_or-part s 12 4 3 (lit< tt)) ∙ ap (λ v. get_or v 3 0) has_header
+    ∙ get_or-second header (1 ∷ []) 3 0 size in
     record {
       is_consistent = record {
         size = s_size;
@@ -92,12 +64,8 @@ encoded header user s size long s_size bytes front zeros divides words =
         edc = divides;
         words = words;
       };
-      has_header =
-          range-is s (header ++ 1 ∷ []) 12 16 (lit≤ tt) (omega (arith, s_size)) header_size
-          (λ i h. front (12 + i) (omega arith) ∙ content-header header user size i h);
-      has_user =
-          range-is s user 16 2064 (lit≤ tt) (omega (arith, s_size)) long
-          (λ i h. front (16 + i) (omega arith) ∙ content-user header user size i);
+      has_header = has_header;
+      has_user = has_user;
     }
 
 -- the only one
@@ -113,41 +81,40 @@ pub record Puts (at : ℕ) (part old new : List ℕ) : Type 0 where
   pub inside : (i : ℕ) → i < length part → get_or new (at + i) 0 ≡ get_or part i 0
   pub outside : (k : ℕ) → (k < at) ⊎ (at + length part ≤ k) → get_or new k 0 ≡ get_or old k 0
 
+-- a part that is put after a front
+Puts-front : (at : ℕ) (front part old new : List ℕ) → Puts at part old new
+    → at + length part ≤ length old → length new ≡ length old → take at old ≡ front
+    → take (at + length part) new ≡ front ++ part
+Puts-front at front part old new put room size before =
+    take-add at (length part) new
+    ∙ ap₂ (λ v w. v ++ w)
+    (front-same new old at (omega arith) (omega arith) (λ i h. put.outside i (inl h)) ∙ before)
+    (part-list new part at (omega arith) put.inside)
+
 pub content_put : (header user s a b c d : List ℕ) → length header ≡ 3 → length user ≡ 2048
+    → length s ≡ 2352 → length a ≡ 2352 → length b ≡ 2352 → length c ≡ 2352 → length d ≡ 2352
     → Puts 0 sync_field s a → Puts 12 header a b → Puts 15 (1 ∷ []) b c → Puts 16 user c d
     → (k : ℕ) → k < 2064 → get_or d k 0 ≡ get_or (content_of header user) k 0
-content_put header user s a b c d size long sync head mode tail k h = elim (cases_lt k 12) [
-  | inl low ↦
-      tail.outside k (inl (omega arith)) ∙ mode.outside k (inl (omega arith))
-      ∙ head.outside k (inl low)
-      ∙ (let e : 0 + k ≡ k = omega arith in ap (λ n. get_or a n 0) (sym e) ∙ sync.inside k low)
-      ∙ sym (content-sync header user k low)
-  | inr past_sync ↦ elim (cases_lt k 15) [
-    | inl low ↦
-        let i = k - 12 in
-        let e : 12 + i ≡ k = omega arith in
-        let below : i < length header = omega (arith, size) in
-        tail.outside k (inl (omega arith)) ∙ mode.outside k (inl low)
-        ∙ ap (λ n. get_or b n 0) (sym e) ∙ head.inside i below
-        ∙ sym (ap (λ n. get_or (content_of header user) n 0) (sym e)
-        ∙ content-header header user size i (omega arith)
-        ∙ get_or_append_left header (1 ∷ []) 0 i below)
-    | inr past_header ↦ elim (cases_lt k 16) [
-      | inl low ↦
-          let e : k ≡ 15 = omega arith in
-          tail.outside k (inl low) ∙ ap (λ n. get_or c n 0) e ∙ mode.inside 0 (lit< tt)
-          ∙ sym (ap (λ n. get_or (content_of header user) n 0) e
-          ∙ content-header header user size 3 (lit< tt)
-          ∙ get_or-append_right header (1 ∷ []) 3 3 0 size (lit≤ tt))
-      | inr past_mode ↦
-          let i = k - 16 in
-          let e : 16 + i ≡ k = omega arith in
-          ap (λ n. get_or d n 0) (sym e) ∙ tail.inside i (omega (arith, long))
-          ∙ sym (ap (λ n. get_or (content_of header user) n 0) (sym e)
-          ∙ content-user header user size i)
-    ]
-  ]
-]
+content_put header user s a b c d size long ls la lb lc ld sync head mode tail k h =
+    let one : take 12 a ≡ sync_field =
+    Puts-front 0 [] sync_field s a sync (omega arith) (la ∙ sym ls) refl in
+    let two : take 15 b ≡ sync_field ++ header =
+    ap (λ n. take (12 + n) b) (sym size)
+    ∙ Puts-front 12 sync_field header a b head (omega arith) (lb ∙ sym la) one in
+    let three = Puts-front 15 (sync_field ++ header) (1 ∷ []) b c mode
+    (omega arith) (lc ∙ sym lb) two in
+    let four : take 2064 d ≡ ((sync_field ++ header) ++ 1 ∷ []) ++ user =
+    ap (λ n. take (16 + n) d) (sym long)
+    ∙ Puts-front 16 ((sync_field ++ header) ++ 1 ∷ []) user c d tail
+    (omega arith) (ld ∙ sym lc) three in
+    let joined : ((sync_field ++ header) ++ 1 ∷ []) ++ user ≡ content_of header user =
+    append_assoc (sync_field ++ header) (1 ∷ []) user ∙ append_assoc sync_field header (1 ∷ user) in
+    sym (get_or-take 2064 d k 0 h) ∙ ap (λ v. get_or v k 0) (four ∙ joined)
+
+first_four : (v : List ℕ) → 4 ≤ length v
+    → get_or v 0 0 ∷ get_or v 1 0 ∷ get_or v 2 0 ∷ get_or v 3 0 ∷ [] ≡ take 4 v
+first_four (a ∷ b ∷ c ∷ d ∷ v) h = refl
+first_four _ h = absurd (omega arith)
 
 -- the four bytes of the header, one by one
 pub header_bytes : (bytes s : List ℕ) → bytes ≡ s → length bytes ≡ 2352
@@ -155,19 +122,8 @@ pub header_bytes : (bytes s : List ℕ) → bytes ≡ s → length bytes ≡ 235
     ≡ header_of s
 unfolding header_of
 header_bytes bytes s same size =
-    let four = get_or bytes 12 0 ∷ get_or bytes 13 0 ∷ get_or bytes 14 0 ∷ get_or bytes 15 0 ∷ [] in
-    sym (range-is bytes four 12 16 (lit≤ tt) (omega (arith, size)) refl (by_place bytes))
+    simp get_or-drop at (first_four (drop 12 bytes) (omega (arith, length-drop 12 bytes)))
     ∙ ap (λ v. slice_range v 12 16) same
-  where
-    by_place : (bytes : List ℕ) (i : ℕ) → i < 4
-        → get_or bytes (12 + i) 0
-        ≡ get_or (get_or bytes 12 0 ∷ get_or bytes 13 0 ∷ get_or bytes 14 0
-        ∷ get_or bytes 15 0 ∷ []) i 0
-    by_place bytes zero h = refl
-    by_place bytes (suc zero) h = refl
-    by_place bytes (suc (suc zero)) h = refl
-    by_place bytes (suc (suc (suc zero))) h = refl
-    by_place bytes (suc (suc (suc (suc i)))) h = absurd (omega arith)
 
 -- ---- a sector that is rebuilt
 

@@ -1,11 +1,11 @@
 -- Counting words that are not code words, and the test of a whole sector.
-use Rattle.std.proofs.Common.{◌≡◌, ℕ, ◌+◌, ◌-◌, ◌/◌, ◌%◌, ◌<◌, ◌≤◌, inl, inr, Bool, true, false, not, ◌&&◌, ◌||◌, cond, Decides, List, [], ◌∷◌, length, map, get_or, take, drop, refl, sym, ap, subst, ◌∙◌, arith, lit<, lit≤}
+use Rattle.std.proofs.Common.{◌≡◌, ℕ, ◌+◌, ◌-◌, ◌/◌, ◌%◌, ◌<◌, ◌≤◌, inl, inr, Bool, true, false, not, ◌&&◌, ◌||◌, cond, Decides, List, [], ◌∷◌, length, get_or, take, drop, refl, sym, ap, ap₂, subst, ◌∙◌, arith, lit<}
 use Rattle.std.specs.Bool.{◌==◌, nat_lt}
-use Rattle.std.specs.List.{count_by, list_all, list_any, range_with_len, slice_range}
+use Rattle.std.specs.List.{count_by, list_all, list_any, slice_range}
 use Rattle.std.proofs.Math.Bool.{and-false}
-use Rattle.std.proofs.lemmas.Bool.{cases_lt, and_parts}
+use Rattle.std.proofs.lemmas.Bool.{cases_lt}
 use Rattle.std.proofs.lemmas.Bool.Decides.{Decides-eqb, Decides-ltb, Decides-and, Decides-at, Decides-like, Decides-by_and}
-use Rattle.std.proofs.lemmas.List.{get_or_past, get_or_default, get_or-take, get_or-drop, length-take-le, length-drop}
+use Rattle.std.proofs.lemmas.List.{get_or_past, get_or_default, get_or-take, get_or-drop, length-take, length-take-le, length-drop}
 use Rattle.std.proofs.lemmas.List.Folds.{sum_by-zero}
 use Rattle.std.proofs.lemmas.List.FromFn.{sum_by-map-range_with_len_more, get_or-map-range_with_len, length-map-range_with_len}
 use Rattle.cd_code.specs.Edc.{bits, remainder}
@@ -124,40 +124,51 @@ whole_word w =
     Decides-at (not (is_broken w)) ((w.0 == 0) && (w.1 == 0)) (both_zero (w.0 == 0) (w.1 == 0))
     (Decides-and (w.0 == 0) (w.1 == 0) (Decides-eqb w.0 0) (Decides-eqb w.1 0))
 
+-- both syndromes of each word
+pub length-syndromes : (word : ℕ → List ℕ) (n : ℕ) → length (all_syndromes word n) ≡ n
+unfolding all_syndromes
+length-syndromes word n =
+    length-map-range_with_len (λ i. (first_syndrome (word i), second_syndrome (word i))) 0 n
+
+pub syndromes-at : (word : ℕ → List ℕ) (n i : ℕ) (d : ℕ × ℕ) → i < n
+    → get_or (all_syndromes word n) i d ≡ (first_syndrome (word i), second_syndrome (word i))
+unfolding all_syndromes
+syndromes-at word n i d h =
+    get_or-map-range_with_len (λ k. (first_syndrome (word k), second_syndrome (word k))) 0 n i i d h
+    (omega arith)
+
 pub whole_words : (word : ℕ → List ℕ) (n : ℕ)
     → Decides (list_all (λ w. not (is_broken w)) (all_syndromes word n))
     ((i : ℕ) → i < n → IsCodeWord (word i))
-unfolding all_syndromes
 whole_words word n =
-    let f : ℕ → ℕ × ℕ = λ i. (first_syndrome (word i), second_syndrome (word i)) in
     let P : ℕ × ℕ → Type 0 = λ w. (w.0 ≡ 0) × (w.1 ≡ 0) in
-    let ws = map f (range_with_len 0 n) in
-    let long : length ws ≡ n = length-map-range_with_len f 0 n in
-    let at : (i : ℕ) (d : ℕ × ℕ) → i < n → get_or ws i d ≡ f i =
-    λ i d h. get_or-map-range_with_len f 0 n i i d h (omega arith) in
-    let each = Decides-by_and (λ w. not (is_broken w)) P (list_all (λ w. not (is_broken w)))
-    whole_word refl (λ x xs. refl) ws in
+    let ws = all_syndromes word n in
+    let long = length-syndromes word n in
     Decides-like (list_all (λ w. not (is_broken w)) ws)
     (λ all i h.
-    let k : i < length ws = omega (arith, long) in
-    let both = rw (at i (0, 0) h) at (all i (0, 0) k) in
+    let k : i < length ws = omega arith in
+    let both = rw (syndromes-at word n i (0, 0) h) at (all i (0, 0) k) in
     record { first = both.0; second = both.1 })
     (λ words i d h.
-    let k : i < n = omega (arith, long) in
-    rw (at i d k) ((words i k).first, (words i k).second))
-    each
+    let k : i < n = omega arith in
+    rw (syndromes-at word n i d k) ((words i k).first, (words i k).second))
+    (Decides-by_and (λ w. not (is_broken w)) P (list_all (λ w. not (is_broken w))) whole_word refl
+    (λ x xs. refl) ws)
 
-all_bytes : (s : List ℕ) → Decides (list_all (λ b. nat_lt b 256) s) (AreBytes s)
-all_bytes s =
-    Decides-like (list_all (λ b. nat_lt b 256) s)
+-- a test of each element, which what stands past the end passes
+all_at : (p : ℕ → Bool) (P : ℕ → Type 0) → ((x : ℕ) → Decides (p x) (P x)) → P 0 → (s : List ℕ)
+    → Decides (list_all p s) ((i : ℕ) → P (get_or s i 0))
+all_at p P each none s =
+    Decides-like (list_all p s)
     (λ all i. elim (cases_lt i (length s)) [
       | inl inside ↦ all i 0 inside
-      | inr past ↦ let none : get_or s i 0 ≡ 0 = get_or_past s i 0 past in rw none (lit< tt)
+      | inr past ↦ rw (get_or_past s i 0 past) none
     ])
-    (λ bytes i d h. let same : get_or s i d ≡ get_or s i 0 =
-    get_or_default s i d 0 h in rw same (bytes i))
-    (Decides-by_and (λ b. nat_lt b 256) (λ b. b < 256) (list_all (λ b. nat_lt b 256))
-    (λ b. Decides-ltb b 256) refl (λ x xs. refl) s)
+    (λ at i d h. rw (get_or_default s i d 0 h) (at i))
+    (Decides-by_and p P (list_all p) each refl (λ x xs. refl) s)
+
+all_bytes : (s : List ℕ) → Decides (list_all (λ b. nat_lt b 256) s) (AreBytes s)
+all_bytes = all_at (λ b. nat_lt b 256) (λ b. b < 256) (λ b. Decides-ltb b 256) (lit< tt)
 
 pub mode1_decided : (k : SectorKind) → Decides (is_mode1 k) (k ≡ Mode1)
 mode1_decided NoSync = (λ e. absurd cc, λ e. absurd cc)
@@ -165,6 +176,13 @@ mode1_decided Mode0 = (λ e. absurd cc, λ e. absurd cc)
 mode1_decided Mode1 = (λ e. refl, λ e. refl)
 mode1_decided Mode2 = (λ e. absurd cc, λ e. absurd cc)
 mode1_decided Other = (λ e. absurd cc, λ e. absurd cc)
+
+-- the Intermediate field is all 00, and the division leaves nothing
+abbrev pub zeros_of : List ℕ → Bool
+zeros_of s = list_all (λ b. b == 0) (slice_range s 2068 2076)
+
+abbrev pub divides_of : List ℕ → Bool
+divides_of s = remainder (bits (take 2068 s)) == 0
 
 pub range-byte : (s : List ℕ) (a b i : ℕ) → a + i < b
     → get_or (slice_range s a b) i 0 ≡ get_or s (a + i) 0
@@ -174,29 +192,26 @@ pub length-range : (s : List ℕ) (a b : ℕ) → a ≤ b → b ≤ length s
     → length (slice_range s a b) ≡ b - a
 length-range s a b h k = length-take-le (b - a) (drop a s) (omega (arith, length-drop a s))
 
-all_zeros : (s : List ℕ) → length s ≡ 2352
-    → Decides (list_all (λ b. b == 0) (slice_range s 2068 2076))
-    ((i : ℕ) → 2068 ≤ i → i < 2076 → get_or s i 0 ≡ 0)
-all_zeros s size =
+all_zeros : (s : List ℕ)
+    → Decides (zeros_of s) ((i : ℕ) → 2068 ≤ i → i < 2076 → get_or s i 0 ≡ 0)
+all_zeros s =
     let zs = slice_range s 2068 2076 in
-    let long : length zs ≡ 8 = length-range s 2068 2076 (lit≤ tt) (omega (arith, size)) in
-    Decides-like (list_all (λ b. b == 0) zs)
+    Decides-like (zeros_of s)
     (λ all i low high.
-    let k : i - 2068 < length zs = omega (arith, long) in
     let e : 2068 + (i - 2068) ≡ i = omega arith in
     sym (range-byte s 2068 2076 (i - 2068) (omega arith) ∙ ap (λ n. get_or s n 0) e)
-    ∙ all (i - 2068) 0 k)
-    (λ zero_at i d h.
-    let k : i < 8 = omega (arith, long) in
-    get_or_default zs i d 0 h ∙ range-byte s 2068 2076 i (omega arith)
-    ∙ zero_at (2068 + i) (omega arith) (omega arith))
-    (Decides-by_and (λ b. b == 0) (λ b. b ≡ 0) (list_all (λ b. b == 0)) (λ b. Decides-eqb b 0) refl
-    (λ x xs. refl) zs)
+    ∙ all (i - 2068))
+    (λ zero_at i. elim (cases_lt i 8) [
+      | inl inside ↦ range-byte s 2068 2076 i (omega arith)
+          ∙ zero_at (2068 + i) (omega arith) (omega arith)
+      | inr past ↦ get_or_past zs i 0 (omega (arith, length-take 8 (drop 2068 s)))
+    ])
+    (all_at (λ b. b == 0) (λ b. b ≡ 0) (λ b. Decides-eqb b 0) refl zs)
 
 -- the test by its parts
 abbrev pub parts_of : List ℕ → Bool
 parts_of s =
-    ((list_all (λ b. b == 0) (slice_range s 2068 2076) && (remainder (bits (take 2068 s)) == 0))
+    ((zeros_of s && divides_of s)
     && list_all (λ w. not (is_broken w)) (all_syndromes (column_of s) 86))
     && list_all (λ w. not (is_broken w)) (all_syndromes (diagonal_of s) 52)
 
@@ -219,16 +234,14 @@ IsWhole s =
     × ((i : ℕ) → i < 86 → IsCodeWord (column_of s i)))
     × ((i : ℕ) → i < 52 → IsCodeWord (diagonal_of s i)))
 
-parts_decided : (s : List ℕ) → length s ≡ 2352 → Decides (parts_of s) (IsWhole s)
-parts_decided s size =
-    let a = list_all (λ b. b == 0) (slice_range s 2068 2076) in
-    let b = remainder (bits (take 2068 s)) == 0 in
+parts_decided : (s : List ℕ) → Decides (parts_of s) (IsWhole s)
+parts_decided s =
     let c = list_all (λ w. not (is_broken w)) (all_syndromes (column_of s) 86) in
     let d = list_all (λ w. not (is_broken w)) (all_syndromes (diagonal_of s) 52) in
-    Decides-and ((a && b) && c) d
-    (Decides-and (a && b) c
-    (Decides-and a b (all_zeros s size) (Decides-eqb (remainder (bits (take 2068 s))) 0))
-    (whole_words (column_of s) 86))
+    let rest = Decides-eqb (remainder (bits (take 2068 s))) 0 in
+    Decides-and ((zeros_of s && divides_of s) && c) d
+    (Decides-and (zeros_of s && divides_of s) c
+    (Decides-and (zeros_of s) (divides_of s) (all_zeros s) rest) (whole_words (column_of s) 86))
     (whole_words (diagonal_of s) 52)
 
 by_plane : (s : List ℕ) → IsConsistent s → IsWhole s
@@ -242,94 +255,58 @@ pub consistent-decided : (s : List ℕ) → Decides (consistent s) (IsConsistent
 consistent-decided s =
     let size = length s == 2352 in
     let bytes = list_all (λ b. nat_lt b 256) s in
-    let mode = is_mode1 (kind_of s) in (
-      λ e.
-          let outer = and_parts ((size && bytes) && mode) (parts_of s)
-          (sym (consistent-parts s) ∙ e) in
-          let inner = and_parts (size && bytes) mode outer.0 in
-          let first = and_parts size bytes inner.0 in
-          let long : length s ≡ 2352 = (Decides-eqb (length s) 2352).0 first.0 in
-          let whole = (parts_decided s long).0 outer.1 in
-          record {
-            size = long;
-            bytes = (all_bytes s).0 first.1;
-            mode = (mode1_decided (kind_of s)).0 inner.1;
-            zeros = whole.0.0.0;
-            edc = whole.0.0.1;
-            words = AllCodeWords-by_number s whole.0.1 whole.1;
-          },
-      λ h.
-          let one : size ≡ true = (Decides-eqb (length s) 2352).1 h.size in
-          let two : bytes ≡ true = (all_bytes s).1 h.bytes in
-          let three : mode ≡ true = (mode1_decided (kind_of s)).1 h.mode in
-          let four : parts_of s ≡ true = (parts_decided s h.size).1 (by_plane s h) in
-          consistent-parts s
-          ∙ ap (λ b. ((b && bytes) && mode) && parts_of s) one
-          ∙ ap (λ b. ((true && b) && mode) && parts_of s) two
-          ∙ ap (λ b. ((true && true) && b) && parts_of s) three
-          ∙ ap (λ b. ((true && true) && true) && b) four,
-    )
+    let mode = is_mode1 (kind_of s) in
+    Decides-like (consistent s)
+    (λ tested. record {
+      size = tested.0.0.0;
+      bytes = tested.0.0.1;
+      mode = tested.0.1;
+      zeros = tested.1.0.0.0;
+      edc = tested.1.0.0.1;
+      words = AllCodeWords-by_number s tested.1.0.1 tested.1.1;
+    })
+    (λ h. (((h.size, h.bytes), h.mode), by_plane s h))
+    (Decides-at (consistent s) (((size && bytes) && mode) && parts_of s) (consistent-parts s)
+    (Decides-and ((size && bytes) && mode) (parts_of s)
+    (Decides-and (size && bytes) mode
+    (Decides-and size bytes (Decides-eqb (length s) 2352) (all_bytes s))
+    (mode1_decided (kind_of s)))
+    (parts_decided s)))
 
 -- the test by the counts of broken words
-abbrev counts_of : List ℕ → Bool
-counts_of s =
-    ((list_all (λ b. b == 0) (slice_range s 2068 2076) && (remainder (bits (take 2068 s)) == 0))
-    && (count_by is_broken (all_syndromes (column_of s) 86) == 0))
-    && (count_by is_broken (all_syndromes (diagonal_of s) 52) == 0)
+abbrev pub columns_of : List ℕ → Bool
+columns_of s = count_by is_broken (all_syndromes (column_of s) 86) == 0
 
-pub sound-counts : (s : List ℕ) → is_sound (defect_of s) ≡ counts_of s
+abbrev pub diagonals_of : List ℕ → Bool
+diagonals_of s = count_by is_broken (all_syndromes (diagonal_of s) 52) == 0
+
+sound-counts : (s : List ℕ)
+    → is_sound (defect_of s) ≡ (((zeros_of s && divides_of s) && columns_of s) && diagonals_of s)
 sound-counts s =
-    let front = list_all (λ b. b == 0) (slice_range s 2068 2076)
-    && (remainder (bits (take 2068 s)) == 0) in
-    let ws = all_syndromes (column_of s) 86 in
-    let us = all_syndromes (diagonal_of s) 52 in
     sound-parts s
-    ∙ ap (λ t. (front && t) && list_all (λ w. not (is_broken w)) us) (sym (none_broken ws))
-    ∙ ap (λ t. (front && (count_by is_broken ws == 0)) && t) (sym (none_broken us))
+    ∙ sym (ap₂ (λ t u. ((zeros_of s && divides_of s) && t) && u)
+    (none_broken (all_syndromes (column_of s) 86)) (none_broken (all_syndromes (diagonal_of s) 52)))
 
 -- the way of the code through the four parts: all hold, or the first that fails
-module _ (s : List ℕ) where
-  pub sound-all : (zeros edc : Bool) (p q : ℕ)
-      → zeros ≡ list_all (λ b. b == 0) (slice_range s 2068 2076) → zeros ≡ true
-      → edc ≡ (remainder (bits (take 2068 s)) == 0) → edc ≡ true
-      → p ≡ count_by is_broken (all_syndromes (column_of s) 86)
-      → (p == 0) ≡ true → q ≡ count_by is_broken (all_syndromes (diagonal_of s) 52)
-      → (q == 0) ≡ is_sound (defect_of s)
-  sound-all zeros edc p q a holds_a b holds_b c holds_c d =
-      let edc_of_s = remainder (bits (take 2068 s)) == 0 in
-      let columns = count_by is_broken (all_syndromes (column_of s) 86) == 0 in
-      let diagonals = count_by is_broken (all_syndromes (diagonal_of s) 52) == 0 in
-      sym (sound-counts s
-      ∙ ap (λ t. ((t && edc_of_s) && columns) && diagonals) (sym a ∙ holds_a)
-      ∙ ap (λ t. (t && columns) && diagonals) (sym b ∙ holds_b)
-      ∙ ap (λ t. t && diagonals) (ap (λ n. n == 0) (sym c) ∙ holds_c)
-      ∙ ap (λ n. n == 0) (sym d))
+pub sound-all : (s : List ℕ) → zeros_of s ≡ true → divides_of s ≡ true → columns_of s ≡ true
+    → diagonals_of s ≡ is_sound (defect_of s)
+sound-all s zeros edc columns =
+    sym (sound-counts s ∙ ap₂ (λ f t. (f && t) && diagonals_of s)
+    (ap₂ (λ z e. z && e) zeros edc) columns)
 
-  pub unsound-zeros : (zeros : Bool) → zeros ≡ list_all (λ b. b == 0) (slice_range s 2068 2076)
-      → zeros ≡ false → false ≡ is_sound (defect_of s)
-  unsound-zeros zeros a fails =
-      let edc_of_s = remainder (bits (take 2068 s)) == 0 in
-      let columns = count_by is_broken (all_syndromes (column_of s) 86) == 0 in
-      let diagonals = count_by is_broken (all_syndromes (diagonal_of s) 52) == 0 in
-      sym (sound-counts s ∙ ap (λ t. ((t && edc_of_s) && columns) && diagonals) (sym a ∙ fails))
+pub unsound-zeros : (s : List ℕ) → zeros_of s ≡ false → false ≡ is_sound (defect_of s)
+unsound-zeros s fails =
+    sym (sound-counts s ∙ ap (λ t. ((t && divides_of s) && columns_of s) && diagonals_of s) fails)
 
-  pub unsound-edc : (edc : Bool) → edc ≡ (remainder (bits (take 2068 s)) == 0) → edc ≡ false
-      → false ≡ is_sound (defect_of s)
-  unsound-edc edc b fails =
-      let zeros = list_all (λ b. b == 0) (slice_range s 2068 2076) in
-      let columns = count_by is_broken (all_syndromes (column_of s) 86) == 0 in
-      let diagonals = count_by is_broken (all_syndromes (diagonal_of s) 52) == 0 in
-      sym (sound-counts s ∙ ap (λ t. ((zeros && t) && columns) && diagonals) (sym b ∙ fails)
-      ∙ ap (λ t. (t && columns) && diagonals) (and-false zeros))
+pub unsound-edc : (s : List ℕ) → divides_of s ≡ false → false ≡ is_sound (defect_of s)
+unsound-edc s fails =
+    sym (sound-counts s ∙ ap (λ t. (t && columns_of s) && diagonals_of s)
+    (ap (λ e. zeros_of s && e) fails ∙ and-false (zeros_of s)))
 
-  pub unsound-columns : (p : ℕ) → p ≡ count_by is_broken (all_syndromes (column_of s) 86)
-      → (p == 0) ≡ false → false ≡ is_sound (defect_of s)
-  unsound-columns p c fails =
-      let front = list_all (λ b. b == 0) (slice_range s 2068 2076)
-      && (remainder (bits (take 2068 s)) == 0) in
-      let diagonals = count_by is_broken (all_syndromes (diagonal_of s) 52) == 0 in
-      sym (sound-counts s ∙ ap (λ t. (front && t) && diagonals) (ap (λ n. n == 0) (sym c) ∙ fails)
-      ∙ ap (λ t. t && diagonals) (and-false front))
+pub unsound-columns : (s : List ℕ) → columns_of s ≡ false → false ≡ is_sound (defect_of s)
+unsound-columns s fails =
+    sym (sound-counts s ∙ ap (λ t. t && diagonals_of s)
+    (ap (λ c. (zeros_of s && divides_of s) && c) fails ∙ and-false (zeros_of s && divides_of s)))
 
 -- of a list that is a sector only the kind and the defect are asked
 pub consistent-sector : (s : List ℕ) → length s ≡ 2352 → AreBytes s
@@ -343,19 +320,11 @@ consistent-sector s long bytes =
     ∙ ap (λ t. ((true && t) && mode) && sound) ((all_bytes s).1 bytes)
 
 -- the test of a defect's members
-pub sound_decided : (s : List ℕ) → length s ≡ 2352 → Decides (is_sound (defect_of s)) (IsWhole s)
-sound_decided s size =
-    Decides-at (is_sound (defect_of s)) (parts_of s) (sound-parts s) (parts_decided s size)
+pub sound_decided : (s : List ℕ) → Decides (is_sound (defect_of s)) (IsWhole s)
+sound_decided s =
+    Decides-at (is_sound (defect_of s)) (parts_of s) (sound-parts s) (parts_decided s)
 
--- the way of the code, if the kind is right, and if it is not
-pub consistent-true : (s bytes : List ℕ) (mode whole : Bool) → length s ≡ 2352
-    → AreBytes s → bytes ≡ s
-    → mode ≡ is_mode1 (kind_of s) → mode ≡ true → whole ≡ is_sound (defect_of bytes)
-    → whole ≡ consistent s
-consistent-true s bytes mode whole size each same e held f =
-    sym (consistent-sector s size each ∙ ap (λ t. t && is_sound (defect_of s)) (sym e ∙ held)
-    ∙ ap (λ v. is_sound (defect_of v)) (sym same) ∙ sym f)
-
+-- of another kind
 pub consistent-false : (s : List ℕ) (mode : Bool) → mode ≡ is_mode1 (kind_of s) → mode ≡ false
     → false ≡ consistent s
 consistent-false s mode e fails =

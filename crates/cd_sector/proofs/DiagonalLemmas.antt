@@ -1,16 +1,18 @@
 -- Sixteen diagonals of both planes side by side: the bytes that their lanes take, and the sums in
 -- their order.
-use Rattle.std.proofs.Common.{◌≡◌, ℕ, ◌+◌, ◌-◌, ◌*◌, ◌/◌, ◌%◌, ◌<◌, ◌≤◌, ◌⊎◌, inl, inr, Bool, true, nat_lt, List, [], ◌∷◌, ◌++◌, length, get_or, set, replicate, take, bit_and, bit_xor, refl, sym, ap, ◌∙◌, arith, lit≤, append_assoc}
+use Rattle.std.proofs.Common.{◌≡◌, ℕ, ◌+◌, ◌-◌, ◌*◌, ◌/◌, ◌%◌, ◌<◌, ◌≤◌, ◌⊎◌, inl, inr, nat_lt, List, [], ◌∷◌, ◌++◌, length, get_or, set, replicate, take, bit_and, bit_xor, refl, sym, ap, ap₂, ◌∙◌, arith, append_assoc}
 use Rattle.std.specs.Int.Bits.{xor_zero_r}
-use Rattle.std.specs.Bool.{◌==◌, if◌then◌else◌}
+use Rattle.std.specs.Bool.{if◌then◌else◌}
 use Rattle.std.specs.Simd.Lanes.{Each1, pick_l, zip2}
-use Rattle.std.proofs.lemmas.Bool.{agree_below, agree_below_at, cases_lt, cond-false, cond-true, eqb-true, le-ltb, lt-ltb}
+use Rattle.std.proofs.lemmas.Bool.{cases_lt}
+use Rattle.std.proofs.lemmas.Bool.Decides.{nat_tests}
 use Rattle.std.proofs.lemmas.List.{get_or-map, get_or-set_other, get_or_append_left, take_all}
 use Rattle.std.proofs.lemmas.Nat.{and_mask}
 use Rattle.std.proofs.lemmas.Simd.{below_from_Fits, Each1-get_or, get_or-replicate, get_or-zip2}
 use Rattle.cd_code.specs.Field.{AreBytes, double}
 use Rattle.cd_code.specs.Syndrome.{first_syndrome, second_syndrome}
 use Rattle.cd_code.proofs.FieldLemmas.{double-zero}
+use Rattle.cd_code.proofs.general.Tables.{equal_below}
 use Rattle.cd_code.proofs.SyndromeLemmas.{first_syndrome-nil, second_syndrome-nil, first_syndrome-push, second_syndrome-push}
 use Rattle.cd_sector.specs.CodeWords.{SumsOf, place_of, bytes_at, diagonal_input, diagonal_of}
 use Rattle.cd_sector.specs.DiagonalSteps.{SumsUpTo, bytes_up_to, lane_place}
@@ -18,7 +20,7 @@ use Rattle.cd_sector.specs.declared.diagonals.TheConstants.{RISING, LANE_MASKS}
 use Rattle.cd_sector.proofs.ParityLemmas.{SumsOf-more, take-row}
 use mir.Syntax.{w8}
 use mir.Val.{Fits}
-use Rattle.cd_sector.proofs.PlaceLemmas.{length-bytes_at, bytes_at-byte, length-diagonal_input, diagonal_input_place, diagonal_bytes-parts}
+use Rattle.cd_sector.proofs.PlaceLemmas.{length-bytes_at, bytes_at-byte, length-diagonal_input, diagonal_input_place, diagonal_of-parts}
 
 -- ---- the bytes of a lane
 
@@ -82,7 +84,7 @@ SumsUpTo-none s top step h =
     }
 
 -- the weighted sum of a lane that has not begun
-pub weighted-unbegun : (s : List ℕ) (top step : ℕ) (plain weighted : List ℕ)
+weighted-unbegun : (s : List ℕ) (top step : ℕ) (plain weighted : List ℕ)
     → SumsUpTo s top step plain weighted
     → (i : ℕ) → i < 32 → step + i / 2 < top → get_or weighted i 0 ≡ 0
 weighted-unbegun s top step plain weighted sums i h before =
@@ -136,58 +138,50 @@ SumsUpTo-step s top step plain weighted next next_weighted bytes least sums take
     ] in
     record { first = λ i h. (lane i h).0; second = λ i h. (lane i h).1 }
 
--- the first step of diagonals 15 to 0, at which only the last one takes a byte
-pub SumsUpTo-first : (s zeros zeros_weighted lanes next next_weighted : List ℕ) → AreBytes s
-    → zeros ≡ replicate 32 0 → zeros_weighted ≡ replicate 32 0
-    → ((i : ℕ) → i < 30 → get_or lanes i 0 ≡ 0)
-    → get_or lanes 30 0 ≡ get_or s 12 0 → get_or lanes 31 0 ≡ get_or s 13 0
-    → ((i : ℕ) → i < 32 → get_or next i 0 ≡ bit_xor (get_or zeros i 0) (get_or lanes i 0))
+-- a step at which no lane has ended: those that have not begun take a byte 00, which leaves them
+pub SumsUpTo-begin : (s : List ℕ) (top step : ℕ) (plain weighted lanes next next_weighted : List ℕ)
+    → AreBytes s → 15 ≤ top → step < top + 28 → SumsUpTo s top step plain weighted
+    → ((i : ℕ) → i < 32 → top ≤ step + i / 2
+    → get_or lanes i 0 ≡ get_or s (lane_place top step i) 0)
+    → ((i : ℕ) → i < 32 → step + i / 2 < top → get_or lanes i 0 ≡ 0)
+    → ((i : ℕ) → i < 32 → get_or next i 0 ≡ bit_xor (get_or plain i 0) (get_or lanes i 0))
     → ((i : ℕ) → i < 32
-    → get_or next_weighted i 0 ≡ bit_xor (double (get_or zeros_weighted i 0)) (get_or lanes i 0))
-    → SumsUpTo s 15 1 next next_weighted
-SumsUpTo-first s zeros zeros_weighted lanes next next_weighted bytes e f none low high plain
-    weighted =
-    let lane_is : (i : ℕ) → i < 32 → 15 ≤ i / 2
-    → get_or lanes i 0 ≡ get_or s (lane_place 15 0 i) 0 =
-    λ i h last. elim (cases_lt i 31) [
-      | inl lower ↦
-          let here : i ≡ 30 = omega arith in
-          let place : lane_place 15 0 30 ≡ 12 = omega arith in
-          ap (λ k. get_or lanes k 0) here ∙ low ∙ ap (λ p. get_or s p 0) (sym place)
-          ∙ ap (λ k. get_or s (lane_place 15 0 k) 0) (sym here)
-      | inr upper ↦
-          let here : i ≡ 31 = omega arith in
-          let place : lane_place 15 0 31 ≡ 13 = omega arith in
-          ap (λ k. get_or lanes k 0) here ∙ high ∙ ap (λ p. get_or s p 0) (sym place)
-          ∙ ap (λ k. get_or s (lane_place 15 0 k) 0) (sym here)
-    ] in
-    let zero_is : (i : ℕ) → i < 32 → get_or zeros_weighted i 0 ≡ 0 =
-    λ i h. ap (λ v. get_or v i 0) f ∙ get_or-replicate 32 i 0 0 h in
-    SumsUpTo-step s 15 0 zeros zeros_weighted next next_weighted bytes (lit≤ tt)
-    (rw e (rw f (SumsUpTo-none s 15 0 (lit≤ tt))))
-    (λ i h begun running.
-    let lane = lane_is i h (omega arith) in (
-      plain i h ∙ ap (bit_xor (get_or zeros i 0)) lane,
-      weighted i h ∙ ap (bit_xor (double (get_or zeros_weighted i 0))) lane,
+    → get_or next_weighted i 0 ≡ bit_xor (double (get_or weighted i 0)) (get_or lanes i 0))
+    → SumsUpTo s top (step + 1) next next_weighted
+SumsUpTo-begin s top step plain weighted lanes next next_weighted bytes least most sums begun
+    unbegun first second =
+    SumsUpTo-step s top step plain weighted next next_weighted bytes least sums
+    (λ i h from _.
+    let lane = begun i h from in (
+      first i h ∙ ap (bit_xor (get_or plain i 0)) lane,
+      second i h ∙ ap (bit_xor (double (get_or weighted i 0))) lane,
     ))
     (λ i h outside.
-    let lane = none i (early i h outside) in (
-      plain i h ∙ ap (bit_xor (get_or zeros i 0)) lane ∙ xor_zero_r (get_or zeros i 0),
-      weighted i h ∙ ap (bit_xor (double (get_or zeros_weighted i 0))) lane
-          ∙ xor_zero_r (double (get_or zeros_weighted i 0))
-          ∙ ap double (zero_is i h) ∙ double-zero ∙ sym (zero_is i h),
+    let before : step + i / 2 < top =
+    elim outside [ inl before ↦ before | inr past ↦ absurd (omega arith) ] in
+    let lane = unbegun i h before in
+    let zero = weighted-unbegun s top step plain weighted sums i h before in (
+      first i h ∙ ap (bit_xor (get_or plain i 0)) lane ∙ xor_zero_r (get_or plain i 0),
+      second i h ∙ ap₂ (λ w b. bit_xor (double w) b) zero lane ∙ xor_zero_r (double 0)
+          ∙ double-zero ∙ sym zero,
     ))
-  where
-    early : (i : ℕ) → i < 32 → (0 + i / 2 < 15) ⊎ (15 + 43 ≤ 0 + i / 2) → i < 30
-    early i h (inl before) = omega arith
-    early i h (inr past) = absurd (omega arith)
 
--- the lanes of that step, of which the others are 00
-pub corner_none : (x y i : ℕ) → i < 30 → get_or (set (set (replicate 32 0) 30 x) 31 y) i 0 ≡ 0
-corner_none x y i h =
-    get_or-set_other (set (replicate 32 0) 30 x) 31 i y 0 (omega arith)
-    ∙ get_or-set_other (replicate 32 0) 30 i x 0 (omega arith)
-    ∙ get_or-replicate 32 i 0 0 (omega arith)
+-- the lanes of the first step of diagonals 15 to 0: only those of the last one take a byte
+abbrev pub corner : List ℕ → List ℕ
+corner s = set (set (replicate 32 0) 30 (get_or s 12 0)) 31 (get_or s 13 0)
+
+pub corner-takes : (s : List ℕ) (i : ℕ) → i < 32 → 15 ≤ 0 + i / 2
+    → get_or (corner s) i 0 ≡ get_or s (lane_place 15 0 i) 0
+corner-takes s i h last = elim (cases_lt i 31) [
+  | inl lower ↦ let here : i ≡ 30 = omega arith in rw here refl
+  | inr upper ↦ let here : i ≡ 31 = omega arith in rw here refl
+]
+
+pub corner-none : (s : List ℕ) (i : ℕ) → i < 32 → 0 + i / 2 < 15 → get_or (corner s) i 0 ≡ 0
+corner-none s i h before =
+    get_or-set_other (set (replicate 32 0) 30 (get_or s 12 0)) 31 i (get_or s 13 0) 0 (omega arith)
+    ∙ get_or-set_other (replicate 32 0) 30 i (get_or s 12 0) 0 (omega arith)
+    ∙ get_or-replicate 32 i 0 0 h
 
 -- ---- diagonals in their order
 
@@ -280,14 +274,9 @@ SumsOf-parity s count number first second plain weighted one one_weighted two tw
     two_weighted step
     (λ i k. rw (seconds i (omega arith)) (bytes (2300 + number i)))
     (λ i k.
-    let n = number i in
-    let p : place_of (n % 2) (1118 + n / 2) ≡ 2248 + n = omega arith in
-    let q : place_of (n % 2) (1144 + n / 2) ≡ 2300 + n = omega arith in
-    diagonal_bytes-parts s (n % 2) (n / 2)
-    ∙ ap (λ a. input i ++ a ∷ get_or s (place_of (n % 2) (1144 + n / 2)) 0 ∷ [])
-    (ap (λ k. get_or s k 0) p ∙ sym (firsts i (omega arith)))
-    ∙ ap (λ b. input i ++ get_or first i 0 ∷ b ∷ [])
-    (ap (λ k. get_or s k 0) q ∙ sym (seconds i (omega arith)))
+    diagonal_of-parts s (number i)
+    ∙ ap₂ (λ a b. input i ++ a ∷ b ∷ []) (sym (firsts i (omega arith)))
+    (sym (seconds i (omega arith)))
     ∙ sym (append_assoc (input i) (get_or first i 0 ∷ []) (get_or second i 0 ∷ [])))
     (λ i k. f2 i (omega arith)) (λ i k. s2 i (omega arith))
 
@@ -296,29 +285,16 @@ SumsOf-parity s count number first second plain weighted one one_weighted two tw
 abbrev mask_at : ℕ → ℕ
 mask_at k = if nat_lt k 30 then 0 else if nat_lt k 116 then 255 else 0
 
-abbrev is_mask : ℕ → Bool
-is_mask k = get_or LANE_MASKS k 0 == mask_at k
-
-is_mask-all : agree_below is_mask (λ _. true) 146 ≡ true
-is_mask-all = refl
-
 lane_mask-entry : (k : ℕ) → k < 146 → get_or LANE_MASKS k 0 ≡ mask_at k
-lane_mask-entry k h = eqb-true (get_or LANE_MASKS k 0) (mask_at k)
-    (agree_below_at is_mask (λ _. true) 146 k is_mask-all h)
+lane_mask-entry = equal_below (λ k. get_or LANE_MASKS k 0) mask_at 146 refl
 
 pub lane_mask-yes : (k : ℕ) → 30 ≤ k → k < 116 → get_or LANE_MASKS k 0 ≡ 255
 lane_mask-yes k low high =
-    lane_mask-entry k (omega arith)
-    ∙ cond-false (nat_lt k 30) 0 (if nat_lt k 116 then 255 else 0) (le-ltb k 30 low)
-    ∙ cond-true (nat_lt k 116) 255 0 (lt-ltb k 116 high)
+    let e : mask_at k ≡ 255 = grind (arith, nat_tests) in lane_mask-entry k (omega arith) ∙ e
 
 pub lane_mask-no : (k : ℕ) → k < 146 → (k < 30) ⊎ (116 ≤ k) → get_or LANE_MASKS k 0 ≡ 0
-lane_mask-no k h (inl before) = lane_mask-entry k h
-    ∙ cond-true (nat_lt k 30) 0 (if nat_lt k 116 then 255 else 0) (lt-ltb k 30 before)
-lane_mask-no k h (inr past) =
-    lane_mask-entry k h
-    ∙ cond-false (nat_lt k 30) 0 (if nat_lt k 116 then 255 else 0) (le-ltb k 30 (omega arith))
-    ∙ cond-false (nat_lt k 116) 255 0 (le-ltb k 116 past)
+lane_mask-no k h outside =
+    let e : mask_at k ≡ 0 = grind (arith, nat_tests) in lane_mask-entry k h ∙ e
 
 -- lanes under a mask
 mask_lanes-lane : (lanes mask : List ℕ) → length lanes ≡ 32 → length mask ≡ 32 → (i : ℕ) → i < 32
@@ -344,19 +320,12 @@ mask_lanes-leaves lanes mask hl ht i h e =
     let none : x % 1 ≡ 0 = omega arith in
     mask_lanes-lane lanes mask hl ht i h ∙ ap (bit_and x) e ∙ and_mask x 0 ∙ none
 
-abbrev is_rising : ℕ → Bool
-is_rising i = get_or RISING i 0 == 2 * (15 - i / 2) + i % 2
-
-is_rising-all : agree_below is_rising (λ _. true) 32 ≡ true
-is_rising-all = refl
-
 -- lanes by the places of the table
 pub rising_lane : (v w : List ℕ) → length v ≡ 32 → (i : ℕ) → i < 32
     → get_or (pick_l 0 (v ++ w) RISING) i 0 ≡ get_or v (2 * (15 - i / 2) + i % 2) 0
 rising_lane v w long i h =
     let place : get_or RISING i 0 ≡ 2 * (15 - i / 2) + i % 2 =
-    eqb-true (get_or RISING i 0) (2 * (15 - i / 2) + i % 2)
-    (agree_below_at is_rising (λ _. true) 32 i is_rising-all h) in
+    equal_below (λ k. get_or RISING k 0) (λ k. 2 * (15 - k / 2) + k % 2) 32 refl i h in
     get_or-map (λ k. get_or (v ++ w) k 0) RISING i 0 0 h
     ∙ ap (λ k. get_or (v ++ w) k 0) place
     ∙ get_or_append_left v w 0 (2 * (15 - i / 2) + i % 2) (omega arith)

@@ -1,10 +1,10 @@
 -- A code word as a list of places, and the bytes of a sector at them.
-use Rattle.std.proofs.Common.{◌≡◌, ℕ, ◌+◌, ◌*◌, ◌%◌, ◌<◌, inl, inr, List, [], ◌∷◌, ◌++◌, length, get_or, refl, sym, ap, ◌∙◌, arith, lit<}
-use Rattle.std.proofs.lemmas.Bool.{cases_lt}
-use Rattle.std.proofs.lemmas.List.{ext_get_or, get_or-map, get_or_append_left, get_or_past, length-map, map-append}
+use Rattle.std.proofs.Common.{◌≡◌, ℕ, ◌+◌, ◌*◌, ◌/◌, ◌%◌, ◌<◌, List, [], ◌∷◌, ◌++◌, length, get_or, refl, sym, ap, ap₂, ◌∙◌, arith}
+use Rattle.std.proofs.lemmas.List.{ext_get_or, get_or-map, get_or_append_left, length-map, map-append}
 use Rattle.std.proofs.lemmas.List.FromFn.{get_or-map-range_with_len}
 use Rattle.cd_code.specs.Field.{AreBytes}
-use Rattle.cd_sector.specs.CodeWords.{place_of, column_places, column_input, diagonal_pair, diagonal_places, diagonal_input, bytes_at}
+use Rattle.cd_code.proofs.ByteLemmas.{AreBytes-map}
+use Rattle.cd_sector.specs.CodeWords.{place_of, column_of, column_places, column_input, diagonal_of, diagonal_pair, diagonal_places, diagonal_input, bytes_at}
 
 -- ---- the places
 
@@ -94,13 +94,8 @@ unfolding bytes_at
 bytes_at-two s p q = refl
 
 pub AreBytes-bytes_at : (s ps : List ℕ) → AreBytes s → AreBytes (bytes_at s ps)
-AreBytes-bytes_at s ps h = λ k. elim (cases_lt k (length ps)) [
-  | inl inside ↦ rw (bytes_at-byte s ps k inside) (h (get_or ps k 0))
-  | inr past ↦
-      let none : get_or (bytes_at s ps) k 0 ≡ 0 =
-      get_or_past (bytes_at s ps) k 0 (omega (arith, length-bytes_at s ps)) in
-      rw none (lit< tt)
-]
+unfolding bytes_at
+AreBytes-bytes_at s ps h = AreBytes-map (λ p. get_or s p 0) ps h
 
 -- the bytes of two sectors that agree at the places
 pub bytes_at-same : (s t ps : List ℕ)
@@ -112,26 +107,37 @@ bytes_at-same s t ps h =
     let below : k < length ps = omega (arith, length-bytes_at s ps) in
     bytes_at-byte s ps k below ∙ h k below ∙ sym (bytes_at-byte t ps k below))
 
--- a diagonal's bytes are those of its input and its pair
-pub diagonal_bytes-parts : (s : List ℕ) (plane n : ℕ)
-    → bytes_at s (diagonal_places plane n)
-    ≡ bytes_at s (diagonal_input plane n) ++ get_or s (place_of plane (1118 + n)) 0
-    ∷ get_or s (place_of plane (1144 + n)) 0 ∷ []
-diagonal_bytes-parts s plane n =
-    let pair = place_of plane (1118 + n) ∷ place_of plane (1144 + n) ∷ [] in
-    ap (bytes_at s) (diagonal_places-parts plane n)
-    ∙ bytes_at-append s (diagonal_input plane n) pair
-    ∙ ap (λ v. bytes_at s (diagonal_input plane n) ++ v)
-    (bytes_at-two s (place_of plane (1118 + n)) (place_of plane (1144 + n)))
+-- a word's bytes are those of its input and its pair
+word-parts : (s input : List ℕ) (p q a b : ℕ) → p ≡ a → q ≡ b
+    → bytes_at s (input ++ p ∷ q ∷ []) ≡ bytes_at s input ++ get_or s a 0 ∷ get_or s b 0 ∷ []
+word-parts s input p q a b e f =
+    bytes_at-append s input (p ∷ q ∷ [])
+    ∙ ap (λ v. bytes_at s input ++ v)
+    (bytes_at-two s p q ∙ ap₂ (λ x y. get_or s x 0 ∷ get_or s y 0 ∷ []) e f)
 
--- and a column's
-pub column_bytes-parts : (s : List ℕ) (plane n : ℕ)
-    → bytes_at s (column_places plane n)
-    ≡ bytes_at s (column_input plane n) ++ get_or s (place_of plane (1032 + n)) 0
-    ∷ get_or s (place_of plane (1075 + n)) 0 ∷ []
-column_bytes-parts s plane n =
-    let pair = place_of plane (1032 + n) ∷ place_of plane (1075 + n) ∷ [] in
-    ap (bytes_at s) (column_places-parts plane n)
-    ∙ bytes_at-append s (column_input plane n) pair
-    ∙ ap (λ v. bytes_at s (column_input plane n) ++ v)
-    (bytes_at-two s (place_of plane (1032 + n)) (place_of plane (1075 + n)))
+pub column_of-parts : (s : List ℕ) (i : ℕ)
+    → column_of s i
+    ≡ bytes_at s (column_input (i % 2) (i / 2)) ++ get_or s (2076 + i) 0
+    ∷ get_or s (2076 + 86 + i) 0 ∷ []
+column_of-parts s i =
+    ap (bytes_at s) (column_places-parts (i % 2) (i / 2))
+    ∙ word-parts s (column_input (i % 2) (i / 2)) (place_of (i % 2) (1032 + i / 2))
+    (place_of (i % 2) (1075 + i / 2)) (2076 + i) (2076 + 86 + i) (omega arith) (omega arith)
+
+pub diagonal_of-parts : (s : List ℕ) (i : ℕ)
+    → diagonal_of s i
+    ≡ bytes_at s (diagonal_input (i % 2) (i / 2)) ++ get_or s (2248 + i) 0
+    ∷ get_or s (2248 + 52 + i) 0 ∷ []
+diagonal_of-parts s i =
+    ap (bytes_at s) (diagonal_places-parts (i % 2) (i / 2))
+    ∙ word-parts s (diagonal_input (i % 2) (i / 2)) (place_of (i % 2) (1118 + i / 2))
+    (place_of (i % 2) (1144 + i / 2)) (2248 + i) (2248 + 52 + i) (omega arith) (omega arith)
+
+-- what holds of the words by number holds of them by plane
+pub plane-by_number : (P : ℕ → ℕ → Type 0) (count : ℕ)
+    → ((i : ℕ) → i < 2 * count → P (i % 2) (i / 2))
+    → (plane n : ℕ) → plane < 2 → n < count → P plane n
+plane-by_number P count h plane n hp hn =
+    let e : (2 * n + plane) % 2 ≡ plane = omega arith in
+    let f : (2 * n + plane) / 2 ≡ n = omega arith in
+    rw e at (rw f at (h (2 * n + plane) (omega arith)))

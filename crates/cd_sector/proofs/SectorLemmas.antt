@@ -1,11 +1,11 @@
 -- Why a sector's content leaves only one consistent sector.
-use Rattle.std.proofs.Common.{◌≡◌, ℕ, ◌+◌, ◌-◌, ◌*◌, ◌/◌, ◌%◌, ◌<◌, ◌≤◌, inl, inr, Bool, true, false, cond, List, ◌++◌, length, get_or, take, drop, refl, sym, ap, ◌∙◌, arith, lit<}
+use Rattle.std.proofs.Common.{◌≡◌, ℕ, ◌+◌, ◌-◌, ◌*◌, ◌/◌, ◌%◌, ◌<◌, ◌≤◌, inl, inr, Bool, true, false, List, ◌++◌, length, get_or, take, drop, refl, sym, ap, ◌∙◌, arith, lit<}
 use lib.Pointwise.{pointwise}
-use Rattle.std.specs.Bool.{◌==◌, nat_eq, if◌then◌else◌}
+use Rattle.std.specs.Bool.{nat_eq, if◌then◌else◌}
 use Rattle.std.specs.List.{slice_range, starts_with}
 use Rattle.std.proofs.lemmas.Bool.{cases_lt}
-use Rattle.std.proofs.lemmas.Bool.Decides.{Decides-eqb, eqb_tells}
-use Rattle.std.proofs.lemmas.List.{ext_get_or, get_or-take, get_or_append_left, length-take-le}
+use Rattle.std.proofs.lemmas.Bool.Decides.{Decides-eqb, nat_tests}
+use Rattle.std.proofs.lemmas.List.{ext_get_or, get_or-take, length-take-le}
 use Rattle.std.proofs.lemmas.Slice.Eq.{starts_is}
 use Rattle.cd_code.specs.Edc.{bits, remainder}
 use Rattle.cd_code.specs.Field.{AreBytes}
@@ -14,11 +14,12 @@ use Rattle.cd_code.proofs.ByteLemmas.{AreBytes-take}
 use Rattle.cd_code.proofs.general.Lists.{front-same, part-same}
 use Rattle.cd_code.proofs.EdcLemmas.{edc_unique}
 use Rattle.cd_code.proofs.SyndromeLemmas.{pair_unique}
-use Rattle.cd_sector.specs.CodeWords.{AllCodeWords, SameSyndromes, place_of, bytes_at, column_places, diagonal_places}
+use Rattle.cd_sector.specs.Carried.{sync_of}
+use Rattle.cd_sector.specs.CodeWords.{AllCodeWords, SameSyndromes, bytes_at, column_places, diagonal_places}
 use Rattle.cd_sector.specs.Consistent.{IsConsistent, header_of, user_of}
 use Rattle.cd_sector.specs.Kind.{kind_of, kind_of_mode, sync_field}
 use Rattle.cd_sector.specs.declared.kinds.SectorKind.{SectorKind}
-use Rattle.cd_sector.specs.declared.kinds.SectorKind.TheVariants.{NoSync, Mode0, Mode1, Mode2, Other}
+use Rattle.cd_sector.specs.declared.kinds.SectorKind.TheVariants.{NoSync, Mode1}
 use Rattle.cd_sector.proofs.DefectLemmas.{range-byte}
 use Rattle.cd_sector.proofs.PlaceLemmas.{length-bytes_at, bytes_at-byte, AreBytes-bytes_at, length-column_places, column_place, length-diagonal_places, diagonal_place, diagonal_place-first, diagonal_place-second}
 
@@ -38,22 +39,8 @@ range-agree s t a b same i low high =
 
 -- ---- sync and mode
 
-not_mode1 : (x y : Bool)
-    → cond {A = SectorKind} x Mode0 (cond {A = SectorKind} y Mode2 Other) ≡ Mode1 → ⊥
-not_mode1 true y e = cc
-not_mode1 false true e = cc
-not_mode1 false false e = cc
-
 mode_is : (m : ℕ) → kind_of_mode m ≡ Mode1 → m ≡ 1
-mode_is m e = elim (eqb_tells m 1) [
-  | inl one ↦ one.1
-  | inr other ↦
-      let f : cond {A = SectorKind} (m == 0) Mode0 (cond {A = SectorKind} (m == 2) Mode2 Other)
-      ≡ kind_of_mode m =
-      ap (λ b. cond {A = SectorKind} (m == 0) Mode0
-      (cond {A = SectorKind} b Mode1 (cond {A = SectorKind} (m == 2) Mode2 Other))) (sym other.0) in
-      absurd (not_mode1 (m == 0) (m == 2) (f ∙ e))
-]
+mode_is m e = grind (arith, nat_tests)
 
 kind_parts : (b : Bool) (m : ℕ) → (if b then kind_of_mode m else NoSync) ≡ Mode1
     → (b ≡ true) × (m ≡ 1)
@@ -117,6 +104,33 @@ word_agrees s t ps n hs ht same inside sums k h =
     sums in
     sym (bytes_at-byte s ps k h) ∙ ap (λ v. get_or v k 0) equal ∙ bytes_at-byte t ps k h
 
+-- words whose last two bytes are the next ones, first one byte of each word and then the other
+words_agree : (s t : List ℕ) (n count len : ℕ) (places : ℕ → List ℕ) → AreBytes s → AreBytes t
+    → Agree s t n → ((i : ℕ) → length (places i) ≡ len + 2)
+    → ((i k : ℕ) → i < count → k < len → get_or (places i) k 0 < n)
+    → ((i : ℕ) → i < count → get_or (places i) len 0 ≡ n + i)
+    → ((i : ℕ) → i < count → get_or (places i) (len + 1) 0 ≡ n + count + i)
+    → ((i : ℕ) → i < count → SameSums (bytes_at s (places i)) (bytes_at t (places i)))
+    → Agree s t (n + 2 * count)
+words_agree s t n count len places hs ht same long inside first second sums k h =
+    let byte : (i m : ℕ) → i < count → m < len + 2 → get_or (places i) m 0 ≡ k
+    → get_or s k 0 ≡ get_or t k 0 =
+    (λ i m hi hm at.
+    let size = long i in
+    rw at at (word_agrees s t (places i) n hs ht same
+    (λ j below. inside i j hi (omega arith)) (sums i hi) m (omega arith))) in
+    elim (cases_lt k n) [
+      | inl low ↦ same k low
+      | inr from ↦ elim (cases_lt k (n + count)) [
+        | inl one ↦
+            let i = k - n in
+            byte i len (omega arith) (omega arith) (first i (omega arith) ∙ omega arith)
+        | inr two ↦
+            let i = k - n - count in
+            byte i (len + 1) (omega arith) (omega arith) (second i (omega arith) ∙ omega arith)
+      ]
+    ]
+
 -- a sector's front, and what its remainder and syndromes are, leave one sector
 pub sector_same : (s t : List ℕ) → length s ≡ 2352 → length t ≡ 2352 → AreBytes s → AreBytes t
     → Agree s t 2064 → remainder (bits (take 2068 s)) ≡ remainder (bits (take 2068 t))
@@ -142,55 +156,20 @@ sector_same s t ls lt hs ht front rest zeros sums =
           ∙ get_or-take 2068 t i 0 low
       | inr high ↦ zeros i high below
     ]) in
-    let column_byte : (c m : ℕ) → c < 86 → m < 26
-    → get_or s (place_of (c % 2) (43 * m + c / 2)) 0
-    ≡ get_or t (place_of (c % 2) (43 * m + c / 2)) 0 =
-    (λ c m hc hm.
-    let ps = column_places (c % 2) (c / 2) in
-    let long = length-column_places (c % 2) (c / 2) in
-    let at = column_place (c % 2) (c / 2) m hm in
-    rw at at (word_agrees s t ps 2076 hs ht to_zeros
-    (λ k below. let p =
-    column_place (c % 2) (c / 2) k (omega (arith, long)) in omega (arith, p, long))
-    (sums.columns (c % 2) (c / 2) (omega arith) (omega arith)) m (omega (arith, long)))) in
     let to_p : Agree s t 2248 =
-    (λ i below. elim (cases_lt i 2076) [
-      | inl low ↦ to_zeros i low
-      | inr high ↦ elim (cases_lt i 2162) [
-        | inl one ↦
-            let e : place_of ((i - 2076) % 2) (43 * 24 + (i - 2076) / 2) ≡ i = omega arith in
-            rw e at (column_byte (i - 2076) 24 (omega arith) (lit< tt))
-        | inr two ↦
-            let e : place_of ((i - 2162) % 2) (43 * 25 + (i - 2162) / 2) ≡ i = omega arith in
-            rw e at (column_byte (i - 2162) 25 (omega arith) (lit< tt))
-      ]
-    ]) in
-    let diagonal_byte : (c m : ℕ) → c < 52 → m < 45
-    → get_or s (get_or (diagonal_places (c % 2) (c / 2)) m 0) 0
-    ≡ get_or t (get_or (diagonal_places (c % 2) (c / 2)) m 0) 0 =
-    (λ c m hc hm.
-    let ps = diagonal_places (c % 2) (c / 2) in
-    let long = length-diagonal_places (c % 2) (c / 2) in
-    word_agrees s t ps 2248 hs ht to_p
-    (λ k below. let p =
-    diagonal_place (c % 2) (c / 2) k (omega (arith, long)) in omega (arith, p, long))
-    (sums.diagonals (c % 2) (c / 2) (omega arith) (omega arith)) m (omega (arith, long))) in
+    words_agree s t 2076 86 24 (λ i. column_places (i % 2) (i / 2)) hs ht to_zeros
+    (λ i. length-column_places (i % 2) (i / 2))
+    (λ i k hi hk. let p = column_place (i % 2) (i / 2) k (omega arith) in omega arith)
+    (λ i hi. column_place (i % 2) (i / 2) 24 (lit< tt) ∙ omega arith)
+    (λ i hi. column_place (i % 2) (i / 2) 25 (lit< tt) ∙ omega arith)
+    (λ i hi. sums.columns (i % 2) (i / 2) (omega arith) (omega arith)) in
     let to_q : Agree s t 2352 =
-    (λ i below. elim (cases_lt i 2248) [
-      | inl low ↦ to_p i low
-      | inr high ↦ elim (cases_lt i 2300) [
-        | inl one ↦
-            let c = i - 2248 in
-            let e : get_or (diagonal_places (c % 2) (c / 2)) 43 0 ≡ i =
-            diagonal_place-first (c % 2) (c / 2) ∙ omega arith in
-            rw e at (diagonal_byte c 43 (omega arith) (lit< tt))
-        | inr two ↦
-            let c = i - 2300 in
-            let e : get_or (diagonal_places (c % 2) (c / 2)) 44 0 ≡ i =
-            diagonal_place-second (c % 2) (c / 2) ∙ omega arith in
-            rw e at (diagonal_byte c 44 (omega arith) (lit< tt))
-      ]
-    ]) in
+    words_agree s t 2248 52 43 (λ i. diagonal_places (i % 2) (i / 2)) hs ht to_p
+    (λ i. length-diagonal_places (i % 2) (i / 2))
+    (λ i k hi hk. let p = diagonal_place (i % 2) (i / 2) k hk in omega arith)
+    (λ i hi. diagonal_place-first (i % 2) (i / 2) ∙ omega arith)
+    (λ i hi. diagonal_place-second (i % 2) (i / 2) ∙ omega arith)
+    (λ i hi. sums.diagonals (i % 2) (i / 2) (omega arith) (omega arith)) in
     ext_get_or 0 s t (ls ∙ sym lt) (λ i inside. to_q i (omega (arith, ls)))
 
 SameSums-code_words : (v w : List ℕ) → IsCodeWord v → IsCodeWord w → SameSums v w
@@ -204,27 +183,29 @@ SameSyndromes-code_words s t h k = record {
       (k.diagonals plane n p q);
 }
 
--- equal sync, header and user data
-front_agrees : (s t : List ℕ) → (s ≡ sync_field ++ drop 12 s) → (t ≡ sync_field ++ drop 12 t)
-    → slice_range s 12 16 ≡ slice_range t 12 16 → slice_range s 16 2064 ≡ slice_range t 16 2064
-    → Agree s t 2064
-front_agrees s t es et header user i h = elim (cases_lt i 12) [
-  | inl low ↦
-      ap (λ v. get_or v i 0) es ∙ get_or_append_left sync_field (drop 12 s) 0 i low
-      ∙ sym (ap (λ v. get_or v i 0) et ∙ get_or_append_left sync_field (drop 12 t) 0 i low)
+-- the front by its parts
+pub front-parts : (s t : List ℕ) → sync_of s ≡ sync_of t → header_of s ≡ header_of t
+    → user_of s ≡ user_of t → Agree s t 2064
+unfolding sync_of header_of user_of
+front-parts s t sync header user i h = elim (cases_lt i 12) [
+  | inl low ↦ range-agree s t 0 12 sync i (omega arith) low
   | inr past ↦ elim (cases_lt i 16) [
     | inl low ↦ range-agree s t 12 16 header i past low
     | inr over ↦ range-agree s t 16 2064 user i over h
   ]
 ]
 
+pub sync-field : (s rest : List ℕ) → s ≡ sync_field ++ rest → sync_of s ≡ sync_field
+unfolding sync_of
+sync-field s rest e = ap (λ v. slice_range v 0 12) e
+
 -- two consistent sectors with equal content are equal
 pub sector_unique : (s t : List ℕ) → IsConsistent s → IsConsistent t → header_of s ≡ header_of t
     → user_of s ≡ user_of t → s ≡ t
-unfolding header_of user_of
 sector_unique s t hs ht header user =
-    sector_same s t hs.size ht.size hs.bytes ht.bytes
-    (front_agrees s t (mode1-parts s hs.mode).0 (mode1-parts t ht.mode).0 header user)
+    let sync = sync-field s (drop 12 s) (mode1-parts s hs.mode).0
+    ∙ sym (sync-field t (drop 12 t) (mode1-parts t ht.mode).0) in
+    sector_same s t hs.size ht.size hs.bytes ht.bytes (front-parts s t sync header user)
     (hs.edc ∙ sym ht.edc)
     (λ i low high. hs.zeros i low high ∙ sym (ht.zeros i low high))
     (SameSyndromes-code_words s t hs.words ht.words)

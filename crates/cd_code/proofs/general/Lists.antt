@@ -1,8 +1,8 @@
 -- Parts of lists by their places, and lists in chunks.
-use Rattle.std.proofs.Common.{◌≡◌, ℕ, zero, suc, ◌+◌, ◌*◌, ◌<◌, ◌≤◌, List, [], ◌∷◌, ◌++◌, length, get_or, take, drop, refl, sym, ap, ◌∙◌, arith}
+use Rattle.std.proofs.Common.{◌≡◌, ℕ, zero, suc, ◌+◌, ◌-◌, ◌*◌, ◌<◌, ◌≤◌, List, [], ◌∷◌, ◌++◌, length, get_or, take, drop, refl, sym, ap, ◌∙◌, arith}
 use Rattle.std.specs.Simd.{first_chunks}
-use Rattle.std.proofs.Math.Seq.{take-add}
-use Rattle.std.proofs.lemmas.List.{drop-drop, ext_get_or, get_or-drop, get_or-take, length-drop, length-take-le}
+use Rattle.std.proofs.Math.Seq.{drop-append-add, take-add, take-append_seam}
+use Rattle.std.proofs.lemmas.List.{drop-drop, drop-take, ext_get_or, get_or-append-add, get_or-drop, get_or-take, length-drop, length-take-le, take-take, take_all}
 
 -- ---- n elements from a on
 
@@ -32,16 +32,44 @@ pub front-same : (s t : List ℕ) (n : ℕ) → n ≤ length s → n ≤ length 
 front-same s t n inside within h =
     part-same s t 0 n (omega arith) (omega arith) (λ i _ below. h i (omega arith))
 
--- a list that stands there
+-- the first n elements of a list that agrees with another one, of n, there
+pub front-list : (s v : List ℕ) (n : ℕ) → length v ≡ n → n ≤ length s
+    → ((i : ℕ) → i < n → get_or s i 0 ≡ get_or v i 0) → take n s ≡ v
+front-list s v n long inside h = front-same s v n inside (omega arith) h ∙ take_all n v (omega arith)
+
+-- a list that stands at a place
 pub part-list : (s v : List ℕ) (a : ℕ) → a + length v ≤ length s
     → ((i : ℕ) → i < length v → get_or s (a + i) 0 ≡ get_or v i 0)
     → take (length v) (drop a s) ≡ v
 part-list s v a inside h =
-    let one = length-part s a (length v) inside in
-    ext_get_or 0 (take (length v) (drop a s)) v one
-    (λ k within.
-    let below : k < length v = omega arith in
-    get_or-part s a (length v) k below ∙ h k below)
+    front-list (drop a s) v (length v) refl (omega (arith, length-drop a s))
+    (λ i below. get_or-drop a s i 0 ∙ h i below)
+
+-- a part of the first n
+pub part-of_front : (s front : List ℕ) (n a m : ℕ) → a + m ≤ n → take n s ≡ front
+    → take m (drop a s) ≡ take m (drop a front)
+part-of_front s front n a m h e =
+    let whole : a + (n - a) ≡ n = omega arith in
+    sym
+    (ap (λ v. take m (drop a v)) (sym e ∙ ap (λ k. take k s) (sym whole))
+    ∙ ap (take m) (drop-take a (n - a) s) ∙ take-take m (n - a) (drop a s) (omega arith))
+
+-- ---- joined lists
+
+pub first-part : (v w : List ℕ) (n : ℕ) → length v ≡ n → take n (v ++ w) ≡ v
+first-part v w n long = ap (λ k. take k (v ++ w)) (sym long) ∙ take-append_seam v w
+
+-- m elements, from a on after the first n
+pub second-part : (v w : List ℕ) (n a m : ℕ) → length v ≡ n
+    → take m (drop (n + a) (v ++ w)) ≡ take m (drop a w)
+second-part v w n a m long =
+    ap (λ k. take m (drop (k + a) (v ++ w))) (sym long) ∙ ap (take m) (drop-append-add v w a)
+
+-- element k after the first n
+pub get_or-second : (v w : List ℕ) (n k : ℕ) → length v ≡ n
+    → get_or (v ++ w) (n + k) 0 ≡ get_or w k 0
+get_or-second v w n k long =
+    ap (λ i. get_or (v ++ w) (i + k) 0) (sym long) ∙ get_or-append-add v w k 0
 
 -- ---- chunks
 

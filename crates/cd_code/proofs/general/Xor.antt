@@ -1,8 +1,8 @@
 -- Sums of field elements: `bit_xor` as a group in which each element is its own inverse.
-use Rattle.std.proofs.Common.{◌≡◌, ℕ, ◌+◌, ◌*◌, ◌/◌, ◌%◌, bit_xor, sym, ap, ◌∙◌, arith, lit<}
+use Rattle.std.proofs.Common.{◌≡◌, ℕ, zero, suc, ◌+◌, ◌*◌, ◌/◌, ◌%◌, ◌^◌, ◌<◌, bit_xor, sym, ap, ◌∙◌, arith, lit<}
 use Rattle.std.specs.Int.Bits.{xor_self, xor_zero_l, xor_zero_r, xor_assoc}
-use Rattle.std.proofs.lemmas.Nat.{xor_comm, xor_shr, xor_mod, xor_block}
-use Rattle.std.proofs.lemmas.Nat.Bits.{bit_at_lowest, bit_at_xor}
+use Rattle.std.proofs.lemmas.Nat.{xor_shr, xor_mod, xor_block, shr_below}
+use Rattle.std.proofs.lemmas.Nat.Bits.{bit_at_lowest, bit_at_xor, same_from_bits}
 
 -- what is added twice goes away
 pub xor_twice : (a b : ℕ) → bit_xor (bit_xor a b) b ≡ a
@@ -14,11 +14,11 @@ xor_twice_left a b = sym (xor_assoc a a b) ∙ ap (λ z. bit_xor z b) (xor_self 
 -- two pairs of terms change places
 pub xor_swap : (a b c d : ℕ)
     → bit_xor (bit_xor a b) (bit_xor c d) ≡ bit_xor (bit_xor a c) (bit_xor b d)
-xor_swap a b c d =
-    xor_assoc a b (bit_xor c d)
-    ∙ ap (bit_xor a)
-    (sym (xor_assoc b c d) ∙ ap (λ z. bit_xor z d) (xor_comm b c) ∙ xor_assoc c b d)
-    ∙ sym (xor_assoc a c (bit_xor b d))
+xor_swap a b c d = same_from_bits _ _ (λ i. simp bit_at_xor (omega arith))
+
+-- a term that two sums have in common goes away
+pub xor_common : (a b c : ℕ) → bit_xor (bit_xor a b) (bit_xor a c) ≡ bit_xor c b
+xor_common a b c = same_from_bits _ _ (λ i. simp bit_at_xor (omega arith))
 
 -- equal terms on the left go away
 pub xor_cancel : (a b c : ℕ) → bit_xor a b ≡ bit_xor a c → b ≡ c
@@ -60,3 +60,16 @@ xor_by_bits a b =
     let low = xor_low a b in
     let bits = xor_bits a b in
     omega arith
+
+-- a function of a bit that is 0 at 0 is linear
+pub linear_at_bits : (f : ℕ → ℕ) → f 0 ≡ 0 → (x y : ℕ) → x < 2 → y < 2
+    → f (bit_xor x y) ≡ bit_xor (f x) (f y)
+linear_at_bits f none zero zero _ _ = none ∙ sym (xor_self (f 0))
+linear_at_bits f none zero (suc zero) _ _ =
+    sym (ap (λ z. bit_xor z (f 1)) none ∙ xor_zero_l (f 1))
+linear_at_bits f none (suc zero) zero _ _ = sym (ap (bit_xor (f 1)) none ∙ xor_zero_r (f 1))
+linear_at_bits f none (suc zero) (suc zero) _ _ = none ∙ sym (xor_self (f 1))
+linear_at_bits f none _ _ h k = absurd (omega arith)
+
+pub half_below : (n x : ℕ) → x < 2 ^ suc n → x / 2 < 2 ^ n
+half_below n x h = shr_below x n 1 (let e : n + 1 ≡ suc n = omega arith in rw e h)

@@ -1,9 +1,9 @@
-use Rattle.std.proofs.Common.{◌≡◌, length, ap, ◌∙◌}
-use Rattle.std.specs.Simd.Lanes.{chunk}
+use Rattle.std.proofs.Common.{◌≡◌, length, bit_xor, ap, ◌∙◌}
+use Rattle.std.specs.Simd.Lanes.{chunk, zip2}
 use Rattle.std.proofs.lemmas.List.{length-map}
-use Rattle.std.proofs.lemmas.Simd.{length-chunk}
+use Rattle.std.proofs.lemmas.Simd.{get_or-put_chunk_below, length-chunk}
 use Rattle.cd_code.specs.Field.{double}
-use Rattle.cd_code.proofs.LaneLemmas.{lanes_added, lanes_below, lanes_above}
+use Rattle.cd_code.proofs.LaneLemmas.{lanes_added, lanes_above}
 use Rattle.cd_code.proofs.lanes.double_and_add_lanes.Goals as goal
 
 pub returns-clause-added : goal.returns-clause-added
@@ -13,7 +13,8 @@ returns-clause-added c =
 
 pub returns-clause-below : goal.returns-clause-below
 returns-clause-below c =
-    lanes_below c.args.at 32 c.args.sums.now c.args.row.now c.doubled_lanes.result
+    λ k h. get_or-put_chunk_below c.args.at c.args.sums.now
+    (zip2 bit_xor c.doubled_lanes.result (chunk c.args.at 32 c.args.row.now)) k 0 h
 
 pub returns-clause-above : goal.returns-clause-above
 returns-clause-above c =

@@ -1,7 +1,7 @@
 use Rattle.std.proofs.Common.{sym, ◌∙◌, arith, rules}
 use Rattle.cd_delta.specs.declared.changes.Change.{Change}
 use Rattle.cd_delta.proofs.AmountLemmas.{unique-carried, nonzero-carried}
-use Rattle.cd_delta.proofs.KeepLemmas.{AreCarried, Balances-at, Eight, IsDistinct-carried}
+use Rattle.cd_delta.proofs.KeepLemmas.{AreCarried, Eight, IsDistinct-carried}
 use Rattle.cd_delta.proofs.KeepLemmas.{SameSyndromes-carried, parity_places-carried}
 use Rattle.cd_delta.proofs.changes.parity_changes.Goals as goal
 
@@ -44,14 +44,14 @@ returns c =
       of_first = record {
         first_at = omega arith;
         second_at = omega arith;
-        balances = Balances-at c.in_row.ensures.column c.diagonal_changes-2.ensures.balances;
+        balances = rw c.in_row.ensures.column at c.diagonal_changes-2.ensures.balances;
         nonzero = c.diagonal_changes-2.ensures.nonzero;
         bytes = (omega arith, omega arith);
       };
       of_second = record {
         first_at = omega arith;
         second_at = omega arith;
-        balances = Balances-at c.in_row-2.ensures.column c.diagonal_changes-3.ensures.balances;
+        balances = rw c.in_row-2.ensures.column at c.diagonal_changes-3.ensures.balances;
         nonzero = c.diagonal_changes-3.ensures.nonzero;
         bytes = (omega arith, omega arith);
       };

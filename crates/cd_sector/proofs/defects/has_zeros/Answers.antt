@@ -1,16 +1,15 @@
-use Rattle.std.proofs.Common.{◌≡◌, ℕ, List, [], ◌∷◌, length, refl, ap, ap₂, sym, ◌∙◌, arith, zero, suc, Bool, ◌&&◌}
+use Rattle.std.proofs.Common.{◌≡◌, ℕ, List, [], ◌∷◌, length, refl, ap, ap₂, ◌∙◌, arith, zero, suc, ◌&&◌}
 use Rattle.std.specs.Prelude.{nat_eq, replicate}
 use Rattle.std.specs.Bool.{◌==◌}
 use Rattle.std.specs.List.{list_all, slice_range}
 use Rattle.std.specs.Cmp.Lexicographic.{pointwise}
 use Rattle.std.proofs.lemmas.List.{take_all}
-use Rattle.std.proofs.Math.Dec.{eqb-suc-zero, eqb-zero-suc}
+use Rattle.std.proofs.lemmas.Bool.Decides.{nat_tests}
 use Rattle.cd_sector.proofs.defects.has_zeros.Goals as goal
 
 -- zero on either side of the comparison
 same : (x : ℕ) → nat_eq 0 x ≡ (x == 0)
-same zero = refl
-same (suc n) = eqb-zero-suc n ∙ sym (eqb-suc-zero n)
+same x = grind (arith, nat_tests)
 
 -- a list that is compared with zeros, of its own length, is tested for zeros
 zeros : (n : ℕ) (xs : List ℕ) → length xs ≡ n

@@ -1,4 +1,5 @@
-use Rattle.std.proofs.Common.{◌≡◌, true, false, sym, ◌∙◌}
+use Rattle.std.proofs.Common.{◌≡◌, true, false, sym, ap, ◌∙◌}
+use Rattle.std.specs.Bool.{◌==◌}
 use Rattle.cd_sector.proofs.DefectLemmas.{sound-all, unsound-columns, unsound-edc, unsound-zeros}
 use Rattle.cd_sector.proofs.defects.is_sound.Goals.{then-has_zeros, else-has_zeros, then-has_edc, else-has_edc}
 use Rattle.cd_sector.proofs.defects.is_sound.Goals as goal
@@ -7,12 +8,11 @@ pub returns-then-count_broken_columns-eq0 : goal.returns-then-count_broken_colum
 returns-then-count_broken_columns-eq0 c = elim c.if-has_edc.branch [
   | then-has_edc w ↦ elim c.if-has_zeros.branch [
     | then-has_zeros v ↦
-        sound-all c.args.bytes.now c.has_zeros.result v.has_edc.result w.count_broken_columns.result
-        c.count_broken_diagonals.result
-        c.has_zeros.ensures v.if-has_zeros.true v.has_edc.ensures
-        (sym v.value-is ∙ w.if-has_edc.true)
-        w.count_broken_columns.ensures (sym w.value-is ∙ c.if-count_broken_columns-eq0.true)
-        c.count_broken_diagonals.ensures
+        ap (λ n. n == 0) c.count_broken_diagonals.ensures
+        ∙ sound-all c.args.bytes.now (sym c.has_zeros.ensures ∙ v.if-has_zeros.true)
+        (sym v.has_edc.ensures ∙ sym v.value-is ∙ w.if-has_edc.true)
+        (ap (λ n. n == 0) (sym w.count_broken_columns.ensures)
+        ∙ sym w.value-is ∙ c.if-count_broken_columns-eq0.true)
     | else-has_zeros v ↦
         let both : true ≡ false =
         sym w.if-has_edc.true ∙ v.value-is ∙ v.if-has_zeros.false in absurd cc
@@ -25,18 +25,13 @@ pub returns-else-count_broken_columns-eq0 : goal.returns-else-count_broken_colum
 returns-else-count_broken_columns-eq0 c =
     let s = c.args.bytes.now in
     c.if-count_broken_columns-eq0.false
-    ∙ elim c.if-has_edc.branch [
-      | then-has_edc w ↦ elim c.if-has_zeros.branch [
-        | then-has_zeros v ↦
-            unsound-columns s w.count_broken_columns.result w.count_broken_columns.ensures
-            (sym w.value-is ∙ c.if-count_broken_columns-eq0.false)
-        | else-has_zeros v ↦
-            unsound-zeros s c.has_zeros.result c.has_zeros.ensures v.if-has_zeros.false
-      ]
-      | else-has_edc w ↦ elim c.if-has_zeros.branch [
-        | then-has_zeros v ↦
-            unsound-edc s v.has_edc.result v.has_edc.ensures (sym v.value-is ∙ w.if-has_edc.false)
-        | else-has_zeros v ↦
-            unsound-zeros s c.has_zeros.result c.has_zeros.ensures v.if-has_zeros.false
+    ∙ elim c.if-has_zeros.branch [
+      | else-has_zeros v ↦ unsound-zeros s (sym c.has_zeros.ensures ∙ v.if-has_zeros.false)
+      | then-has_zeros v ↦ elim c.if-has_edc.branch [
+        | then-has_edc w ↦
+            unsound-columns s (ap (λ n. n == 0) (sym w.count_broken_columns.ensures)
+            ∙ sym w.value-is ∙ c.if-count_broken_columns-eq0.false)
+        | else-has_edc w ↦
+            unsound-edc s (sym v.has_edc.ensures ∙ sym v.value-is ∙ w.if-has_edc.false)
       ]
     ]

@@ -1,4 +1,3 @@
-use Rattle.std.proofs.Common.{rules}
 use Rattle.cd_sector.specs.CodeWords.{column_of}
 use Rattle.cd_sector.proofs.DefectLemmas.{marks_of}
 use Rattle.cd_sector.proofs.defects.mark_columns.Goals as goal

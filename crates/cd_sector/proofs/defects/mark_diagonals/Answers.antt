@@ -1,4 +1,3 @@
-use Rattle.std.proofs.Common.{rules}
 use Rattle.cd_sector.specs.CodeWords.{diagonal_of}
 use Rattle.cd_sector.proofs.DefectLemmas.{marks_of}
 use Rattle.cd_sector.proofs.defects.mark_diagonals.Goals as goal

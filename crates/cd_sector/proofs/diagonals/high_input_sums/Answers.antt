@@ -1,14 +1,11 @@
-use Rattle.std.proofs.Common.{◌≡◌, ◌+◌, ◌∙◌, arith, lit≤}
+use Rattle.std.proofs.Common.{◌≡◌, ◌+◌, arith, lit≤}
 use Rattle.cd_sector.proofs.DiagonalLemmas.{SumsOf-rising}
 use Rattle.cd_sector.proofs.diagonals.high_input_sums.Goals as goal
 
 pub returns : goal.returns
 returns c =
     let last = c.epilogue-2.result in
-    let running : c.steady-3.result.top ≡ 25 =
-    c.steady-3.ensures.top ∙ c.steady-2.ensures.top ∙ c.steady.ensures.top
-    ∙ c.prologue-2.ensures.top ∙ c.prologue.ensures.top ∙ c.high.ensures.top in
-    let top : last.top ≡ 25 = c.epilogue-2.ensures.top ∙ c.epilogue.ensures.top ∙ running in
+    let top : last.top ≡ 25 = omega arith in
     SumsOf-rising c.args.bytes.now last.top 68 32 (λ i. 20 + i) last.sums.plain last.sums.weighted
     c.rising.result.plain c.rising.result.weighted
     (lit≤ tt) (λ i h. (omega arith, (omega arith, omega arith))) c.epilogue-2.ensures.taken

@@ -1,14 +1,11 @@
-use Rattle.std.proofs.Common.{◌≡◌, ◌∙◌, arith, lit≤}
+use Rattle.std.proofs.Common.{◌≡◌, arith, lit≤}
 use Rattle.cd_sector.proofs.DiagonalLemmas.{SumsOf-rising}
 use Rattle.cd_sector.proofs.diagonals.low_input_sums.Goals as goal
 
 pub returns : goal.returns
 returns c =
     let last = c.epilogue.result in
-    let running : c.steady-2.result.top ≡ 15 =
-    c.steady-2.ensures.top ∙ c.steady.ensures.top
-    ∙ c.prologue-2.ensures.top ∙ c.prologue.ensures.top ∙ c.low.ensures.top in
-    let top : last.top ≡ 15 = c.epilogue.ensures.top ∙ running in
+    let top : last.top ≡ 15 = omega arith in
     SumsOf-rising c.args.bytes.now last.top 52 20 (λ i. i) last.sums.plain last.sums.weighted
     c.rising.result.plain c.rising.result.weighted
     (lit≤ tt) (λ i h. (omega arith, (omega arith, omega arith))) c.epilogue.ensures.taken

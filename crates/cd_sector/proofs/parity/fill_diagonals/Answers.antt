@@ -1,20 +1,21 @@
-use Rattle.std.proofs.Common.{◌/◌, ◌%◌, inl}
-use Rattle.cd_code.specs.Syndrome.{IsPair, first_syndrome, second_syndrome}
+use Rattle.std.proofs.Common.{ℕ, ◌/◌, ◌%◌, inl, lit≤}
+use Rattle.std.proofs.Math.Nat.{zero-add}
 use Rattle.cd_sector.specs.CodeWords.{bytes_at, diagonal_input}
-use Rattle.cd_sector.proofs.ParityLemmas.{Filled, diagonals_made, diagonals_put}
+use Rattle.cd_sector.proofs.ParityLemmas.{Filled, Filled-none, Filled-put, diagonals_made}
 use Rattle.cd_sector.proofs.parity.fill_diagonals.Goals as goal
 
 filled : (c : goal.After-put_pairs-2)
-    → Filled (λ i. IsPair
-    (first_syndrome (bytes_at c.args.bytes.now (diagonal_input (i % 2) (i / 2))))
-    (second_syndrome (bytes_at c.args.bytes.now (diagonal_input (i % 2) (i / 2)))))
-    2248 52 52 c.args.bytes.now c.put_pairs-2.new.bytes
+    → Filled (λ i. bytes_at c.args.bytes.now (diagonal_input (i % 2) (i / 2))) 2248 52 52
+    c.args.bytes.now c.put_pairs-2.new.bytes
 filled c =
-    diagonals_put (λ i. bytes_at c.args.bytes.now (diagonal_input (i % 2) (i / 2)))
-    c.low_input_sums-low.result c.high_input_sums-high.result
-    c.args.bytes.now c.put_pairs.new.bytes c.put_pairs-2.new.bytes c.low_input_sums-low.ensures
-    c.high_input_sums-high.ensures
-    c.put_pairs.ensures c.put_pairs-2.ensures
+    let old = c.args.bytes.now in
+    let one = c.put_pairs.new.bytes in
+    let word = λ (i : ℕ). bytes_at old (diagonal_input (i % 2) (i / 2)) in
+    Filled-put word 2248 52 20 32 20 c.high_input_sums-high.result old one c.put_pairs-2.new.bytes
+    (lit≤ tt) (lit≤ tt) (lit≤ tt) c.high_input_sums-high.ensures c.put_pairs-2.ensures
+    (Filled-put word 2248 52 0 20 0 c.low_input_sums-low.result old old one
+    (lit≤ tt) (lit≤ tt) (lit≤ tt) (simp zero-add c.low_input_sums-low.ensures) c.put_pairs.ensures
+    (Filled-none word 2248 52 old))
 
 pub returns-clause-words : goal.returns-clause-words
 returns-clause-words c =

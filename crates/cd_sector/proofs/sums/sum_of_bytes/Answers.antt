@@ -1,13 +1,9 @@
-use Rattle.std.proofs.Common.{arith}
-use Rattle.cd_sector.proofs.SumLemmas.{AreSums-all, AreSums-none, AreSums-more}
+use Rattle.std.proofs.Common.{◌≡◌, length, arith}
+use Rattle.cd_code.proofs.ByteLemmas.{IsSum-below}
 use Rattle.cd_sector.proofs.sums.sum_of_bytes.Goals as goal
 
-pub loop-i-init : goal.loop-i-init
-loop-i-init c = AreSums-none c.args.s.now c.args.t.now c.told-s
-
-pub loop-i-preserved : goal.loop-i-preserved
-loop-i-preserved c = AreSums-more (omega arith) c.loop-i.invariant
-
 pub returns : goal.returns
-returns c = AreSums-all c.args.s.now c.args.t.now c.loop-i.sum c.told-s c.told-t (omega arith)
-    c.loop-i.invariant
+returns c =
+    let size : length c.loop-i.sum ≡ 2352 = c.loop-i.invariant.size in
+    IsSum-below c.loop-i.sum c.args.s.now c.args.t.now 2352 (omega arith) (omega arith) (omega arith)
+    (λ i inside. c.loop-i.invariant.below i (omega arith))

@@ -1,5 +1,6 @@
 use Rattle.std.proofs.Common.{lit≤}
-use Rattle.cd_code.proofs.ColumnLemmas.{AreSums-row, AreSums-from_zero, AreSums-to_zero}
+use Rattle.std.proofs.Math.Nat.{zero-add}
+use Rattle.cd_code.proofs.ColumnLemmas.{AreSums-row}
 use Rattle.cd_code.proofs.columns.ColumnLanes.with_row.Goals as goal
 
 pub returns : goal.returns
@@ -7,11 +8,9 @@ returns c = λ word longer are more.
     let row = c.args.row.now in
     record {
       front =
-          AreSums-from_zero longer c.with_lanes.result
-          (AreSums-row word longer 0 row c.lanes_at.result c.args.self.front c.with_lanes.result
-          c.fits-row (lit≤ tt) c.lanes_at.ensures more
-          (AreSums-to_zero word c.args.self.front are.front) c.with_lanes.ensures.plain
-          c.with_lanes.ensures.weighted);
+          simp zero-add at (AreSums-row word longer 0 row c.lanes_at.result c.args.self.front
+          c.with_lanes.result c.fits-row (lit≤ tt) c.lanes_at.ensures more
+          (simp zero-add are.front) c.with_lanes.ensures.plain c.with_lanes.ensures.weighted);
       middle =
           AreSums-row word longer 32 row c.lanes_at-2.result c.args.self.middle
           c.with_lanes-2.result c.fits-row (lit≤ tt) c.lanes_at-2.ensures more
