@@ -22,10 +22,6 @@ pub HasPart-written : (carried : Bool) (k offset place first end : ℕ)
     → HasPart carried k offset bytes header before after
 HasPart-written carried k offset place first end bytes part header before after at size long
     same is_made =
-    let rises = at.rises in
-    let within = at.within in
-    let fits = at.fits in
-    let lies = at.lies in
     let room : place + length part ≤ length (user_of before) = omega arith in
     let user =
     Becomes-user carried before header (with_range (user_of before) place part) after is_made in
@@ -115,10 +111,9 @@ pub MadeBelow-more : (Rule : ℕ → List ℕ → List ℕ → Type 0) (k : ℕ)
     → MadeBelow Rule k old new → k < length old → Rule k (get_or old k []) after
     → MadeBelow Rule (k + 1) old (set new k after)
 MadeBelow-more Rule k old new after below inside here =
-    let size = below.size in
     let at : get_or (set new k after) k [] ≡ after = get_or-set_same new k after [] (omega arith) in
     record {
-      size = length-set new k after ∙ size;
+      size = length-set new k after ∙ below.size;
       made = below_more _ _
           (λ i less.
           let apart : i ≢ k = omega arith in
@@ -131,11 +126,9 @@ MadeBelow-more Rule k old new after below inside here =
     }
 
 -- the sector that a loop reads is still the old one
-pub read_old : (Rule : ℕ → List ℕ → List ℕ → Type 0) (k : ℕ) (old new : List (List ℕ)) (d : List ℕ)
-    → MadeBelow Rule k old new → k < length old
-    → get_or new k d ≡ get_or old k []
-read_old Rule k old new d below inside =
-    let size = below.size in
+pub read_old : {Rule : ℕ → List ℕ → List ℕ → Type 0} {k : ℕ} {old new : List (List ℕ)} (d : List ℕ)
+    → MadeBelow Rule k old new → k < length old → get_or new k d ≡ get_or old k []
+read_old {Rule} {k} {old} {new} d below inside =
     get_or_default new k d [] (omega arith) ∙ below.others k (omega arith)
 
 -- ---- bytes that are copied, or equal
@@ -149,8 +142,6 @@ pub HasPart-copied : (carried : Bool) (k offset place first end : ℕ)
     → HasPart carried k offset bytes header before after
 HasPart-copied carried k offset place first end bytes header before after at size is_made =
     let count = end - first in
-    let rises = at.rises in
-    let within = at.within in
     let rest = length-drop first bytes in
     let cut = length-take-le count (drop first bytes) (omega arith) in
     HasPart-written carried k offset place first end bytes
@@ -170,9 +161,6 @@ pub HasPart-filled : (carried : Bool) (k offset place first end count value : �
 HasPart-filled carried k offset place first end count value header before after at size is_made =
     let n = end - first in
     let bytes = replicate 2048 value in
-    let rises = at.rises in
-    let fits = at.fits in
-    let within = at.within in
     let all = length-replicate count value in
     let long = length-replicate 2048 value in
     let cut = length-take-le n bytes (omega arith) in
