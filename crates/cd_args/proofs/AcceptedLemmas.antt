@@ -1,7 +1,7 @@
 -- If the definition gives no kind of error for the arguments, the matches name a command, and have
 -- its texts and a base in its range.
-use Rattle.std.proofs.Common.{inl, inr, ap, length, ℕ, slice_index_or, ◌≡◌, ◌∙◌, ◌⊎◌, ◌&&◌, ◌||◌, Bool, true, false, cond, List, [], ◌∷◌, ◌++◌, Option, Some, None, arith, codes, refl, subst, sym}
-use Rattle.std.specs.Prelude.{IsSome, find, fold, if◌then◌else◌, is_some, not, option_and_then, option_map, pos, slice_get, slice_index}
+use Rattle.std.proofs.Common.{inl, inr, ap, length, ℕ, slice_index_or, ◌≡◌, ◌∙◌, ◌⊎◌, ◌&&◌, ◌||◌, Bool, true, false, cond, List, [], ◌∷◌, ◌++◌, Option, Some, None, codes, refl, sym}
+use Rattle.std.specs.Prelude.{IsSome, find, fold, if◌then◌else◌, is_some, not, option_and_then, option_map, pos, slice_get}
 use Rattle.std.specs.List.{list_any}
 use Rattle.std.specs.Option.{option_map_or}
 use Rattle.std.specs.Str.{bytes_eq}
@@ -264,8 +264,10 @@ patching_rules name = (
 apply_rules : Each (IsUsedBy IsBaseText) (leaf apply_shape).rules
 apply_rules = (
   text_used 1 (codes "image") refl,
-  (text_used 2 (codes "script") refl,
-  (carry_used, (base_used, (text_used 3 (codes "out") refl, (help_used, tt))))),
+  (
+    text_used 2 (codes "script") refl,
+    (carry_used, (base_used, (text_used 3 (codes "out") refl, (help_used, tt)))),
+  ),
 )
 
 -- one that is required, and the others

@@ -3,6 +3,7 @@ use Rattle.std.proofs.Common.{◌≡◌, ◌∙◌, ◌==◌, ℕ, ap, ap₂, ar
 use Rattle.std.specs.Prelude.{Box, is_some, option_map}
 use Rattle.std.specs.Box.{box_value}
 use Rattle.std.proofs.lemmas.Bool.{eqb-true}
+use Rattle.std.proofs.lemmas.List.{nil_from_length}
 use Rattle.clap.specs.Words.{App, HasKind, HasMatchesOf, Row, Text, fault_of, is_simple, is_simple_and_free, kind_of, subcommand_of, subcommand_rows, subcommand_rows_of, takes}
 use Rattle.clap.specs.declared.error.Error.{Error}
 use Rattle.clap.specs.declared.error.kind.ErrorKind.TheVariants.{OutOfMemory}
@@ -144,8 +145,7 @@ entered-parts words m h name rows named found =
 
 pub map-none : {X : Type 0} (f : X → Text) (xs : List X) (n : ℕ) → n ≡ length xs → (n == 0) ≡ true
     → map f xs ≡ []
-map-none f [] n is e = refl
-map-none f (x ∷ xs) n is e = let none : n ≡ 0 = eqb-true n 0 e in absurd (omega arith)
+map-none f xs n is e = ap (map f) (nil_from_length xs (sym is ∙ eqb-true n 0 e))
 
 pub map-some : {X : Type 0} (f : X → Text) (xs : List X) (n : ℕ) → n ≡ length xs → (n == 0) ≡ false
     → map f xs ≡ [] → ⊥

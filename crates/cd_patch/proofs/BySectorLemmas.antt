@@ -254,10 +254,9 @@ leaves-one carry ps os base old last last' h h' =
         let after' = sector_at-other old last' base block before h'.count is in
         let c = IsSector-at last base block after.0 h.sectors after.1 in
         let c' = IsSector-at last' base block after'.0 h'.sectors after'.1 in
-        let long : length (user_of after.0) ≡ USER_SIZE = length-user after.0 c.size in
-        let long' : length (user_of after'.0) ≡ USER_SIZE = length-user after'.0 c'.size in
+        let long = length-user after.0 c.size in
         let users : user_of after.0 ≡ user_of after'.0 =
-        ext_get_or 0 (user_of after.0) (user_of after'.0) (long ∙ sym long')
+        ext_get_or 0 (user_of after.0) (user_of after'.0) (long ∙ sym (length-user after'.0 c'.size))
         (λ i inside.
         let low : i < USER_SIZE = omega (arith, long) in
         h.user block i before after.0 low is after.1

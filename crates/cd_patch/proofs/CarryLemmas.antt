@@ -74,22 +74,16 @@ module _ (base : ℕ) (p : Patch) (old : List (List ℕ))
       accepted-there false old base p accepted (p.block + k) (omega arith) (omega arith) in
       subst IsConsistent (same_Some met.sector before (sym met.is ∙ is)) (met.sound asked)
 
-  made : (k : ℕ) (before after : List ℕ) → k < blocks_met p
-      → sector_at old base (p.block + k) ≡ Some before
-      → EditResult false p.edit before (user_part (patched_user old base p) k) after
-      → EditResult true p.edit before (user_part (patched_user old base p) k) after
-  made k before after below is h =
-      let header = new_header p.edit (header_of before) in
-      let user = user_part (patched_user old base p) k in
-      Becomes-nothing (keeps_defect true p.edit) before header user after (sound k before below is)
-      (subst (λ b. Becomes b before header user after) (keeps-nothing false p.edit refl) h)
-
   applied-carried : (new : List (List ℕ)) → IsApplied false base p old new
       → IsApplied true base p old new
   applied-carried new h = record {
     count = h.count;
     met = λ k before after below is was.
-        made k before after below is (h.met k before after below is was);
+        Becomes-nothing (keeps_defect true p.edit) before (new_header p.edit (header_of before))
+        (user_part (patched_user old base p) k) after (sound k before below is)
+        (subst (λ b. Becomes b before (new_header p.edit (header_of before))
+        (user_part (patched_user old base p) k) after) (keeps-nothing false p.edit refl)
+        (h.met k before after below is was));
     others = h.others;
   }
 

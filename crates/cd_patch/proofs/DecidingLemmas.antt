@@ -277,44 +277,48 @@ joined-place ss base count users room place below =
     (omega arith) (omega arith)
     ∙ ap (λ u. get_or u j 0) (user_at-sector ss base k (omega arith))
 
--- no byte differs
-pub no_difference : (ss : List (List ℕ)) (offset : ℕ) (old : List ℕ)
-    → ((k : ℕ) → k < length old → user_byte ss (offset + k) ≡ get_or old k 0)
-    → (base count : ℕ) → HaveUsers ss count → count ≤ length ss → offset + length old ≤ 2048 * count
-    → first_difference offset (drop offset (joined_user ss base base count)) old ≡ None
-no_difference ss offset old same base count users room fits =
-    let all = joined_user ss base base count in
-    let size =
-    length-joined 2048 ss base base count (BlocksHaveUsers-from ss base count users room) in
-    let rest = length-drop offset all in
-    first_difference-none offset (drop offset all) old (omega arith)
-    (λ k below. get_or-drop offset all k 0
-    ∙ joined-place ss base count users room (offset + k) (omega arith) ∙ same k below)
+module _ (ss : List (List ℕ)) (offset : ℕ) (old : List ℕ) (base count : ℕ)
+    (users : HaveUsers ss count) (room : count ≤ length ss)
+    (fits : offset + length old ≤ 2048 * count) where
+  abbrev from_offset : List ℕ
+  from_offset = drop offset (joined_user ss base base count)
 
--- byte i is the first that does
-pub a_difference : (ss : List (List ℕ)) (offset : ℕ) (old : List ℕ) (i : ℕ) → i < length old
-    → ((k : ℕ) → k < i → user_byte ss (offset + k) ≡ get_or old k 0)
-    → (user_byte ss (offset + i) ≡ get_or old i 0 → ⊥)
-    → (base count : ℕ) → HaveUsers ss count → count ≤ length ss → offset + length old ≤ 2048 * count
-    → first_difference offset (drop offset (joined_user ss base base count)) old ≡ Some (offset + i)
-a_difference ss offset old i within same differs base count users room fits =
-    let all = joined_user ss base base count in
-    let size =
-    length-joined 2048 ss base base count (BlocksHaveUsers-from ss base count users room) in
-    let rest = length-drop offset all in
-    let byte : (k : ℕ) → k < length old → get_or (drop offset all) k 0 ≡ user_byte ss (offset + k) =
-    λ k below. get_or-drop offset all k 0
-    ∙ joined-place ss base count users room (offset + k) (omega arith) in
-    first_difference-some offset (drop offset all) old i within (omega arith)
-    (λ k below. byte k (omega arith) ∙ same k below)
-    (λ e. differs (sym (byte i within) ∙ e))
+  enough : length old ≤ length from_offset
+  enough =
+      omega (
+        arith,
+        length-joined 2048 ss base base count (BlocksHaveUsers-from ss base count users room),
+        length-drop offset (joined_user ss base base count),
+      )
 
-pub read-byte : (ss : List (List ℕ)) (place : ℕ) (sector : List ℕ) → place < 2048 * length ss
-    → sector ≡ get_or ss (place / 2048) sector
-    → get_or (user_of sector) (place % 2048) 0 ≡ user_byte ss place
-read-byte ss place sector inside read =
-    ap (λ s. get_or (user_of s) (place % 2048) 0)
-    (get_or_read ss (place / 2048) sector (omega arith) read [])
+  byte_from : (k : ℕ) → k < length old → get_or from_offset k 0 ≡ user_byte ss (offset + k)
+  byte_from k below =
+      get_or-drop offset (joined_user ss base base count) k 0
+      ∙ joined-place ss base count users room (offset + k) (omega arith)
+
+  -- no byte differs
+  pub no_difference : ((k : ℕ) → k < length old → user_byte ss (offset + k) ≡ get_or old k 0)
+      → first_difference offset from_offset old ≡ None
+  no_difference same =
+      first_difference-none offset from_offset old enough
+      (λ k below. byte_from k below ∙ same k below)
+
+  -- byte i is the first that does
+  pub a_difference : (i : ℕ) → i < length old
+      → ((k : ℕ) → k < i → user_byte ss (offset + k) ≡ get_or old k 0)
+      → (user_byte ss (offset + i) ≡ get_or old i 0 → ⊥)
+      → first_difference offset from_offset old ≡ Some (offset + i)
+  a_difference i within same differs =
+      first_difference-some offset from_offset old i within (omega (arith, enough))
+      (λ k below. byte_from k (omega arith) ∙ same k below)
+      (λ e. differs (sym (byte_from i within) ∙ e))
+
+pub read-byte : (ss : List (List ℕ)) (place : ℕ) (sector user : List ℕ) → user ≡ user_of sector
+    → place < 2048 * length ss → sector ≡ get_or ss (place / 2048) sector
+    → get_or user (place % 2048) 0 ≡ user_byte ss place
+read-byte ss place sector user is inside read =
+    ap (λ u. get_or u (place % 2048) 0)
+    (is ∙ ap user_of (get_or_read ss (place / 2048) sector (omega arith) read []))
 
 -- ---- the search for a refusal
 

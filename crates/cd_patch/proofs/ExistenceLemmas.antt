@@ -80,23 +80,19 @@ IsHeader-new m (Some bcd) header only h = record {
   whole = ap (λ rest. bcd ++ rest) (sym (mode-after header h));
 }
 
-sector_remade : (header user : List ℕ) → IsHeader header → AreBytes user → length user ≡ USER_SIZE
-    → (after : List ℕ) × IsRemade header user after
-sector_remade header user h bytes size =
-    let made = sector_found h.address user h.bytes h.size bytes size in (
-      made.0,
-      record {
-        is_consistent = made.1.is_consistent;
-        has_header = made.1.has_header ∙ h.whole;
-        has_user = made.1.has_user;
-      },
-    )
-
 -- by either rule
 sector_made : (carried : Bool) (old header user : List ℕ) → IsSector old → IsHeader header
     → AreBytes user → length user ≡ USER_SIZE
     → (after : List ℕ) × Becomes carried old header user after
-sector_made false old header user h k bytes size = sector_remade header user k bytes size
+sector_made false old header user h k bytes size =
+    let made = sector_found k.address user k.bytes k.size bytes size in (
+      made.0,
+      record {
+        is_consistent = made.1.is_consistent;
+        has_header = made.1.has_header ∙ k.whole;
+        has_user = made.1.has_user;
+      },
+    )
 sector_made true old header user h k bytes size =
     let four = length-append k.address (1 ∷ []) in
     carried_found old header user h.size h.bytes
