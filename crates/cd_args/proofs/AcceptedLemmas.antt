@@ -1,10 +1,11 @@
 -- If the definition gives no kind of error for the arguments, the matches name a command, and have
 -- its texts and a base in its range.
-use Rattle.std.proofs.Common.{inl, inr, ap, length, ℕ, slice_index_or, ◌≡◌, ◌&&◌, ◌||◌, Bool, true, false, cond, List, [], ◌∷◌, ◌++◌, Option, Some, None, arith, codes, refl, subst}
-use Rattle.std.specs.Prelude.{IsSome, find, fold, if◌then◌else◌, is_some, not, option_and_then, option_map, pos, slice_get, slice_index}
+use Rattle.std.proofs.Common.{inl, inr, ap, length, ℕ, slice_index_or, ◌≡◌, ◌∙◌, ◌⊎◌, ◌&&◌, ◌||◌, Bool, true, false, cond, List, [], ◌∷◌, ◌++◌, Option, Some, None, codes, refl, sym}
+use Rattle.std.specs.Prelude.{IsSome, find, fold, if◌then◌else◌, is_some, not, option_and_then, option_map, pos, slice_get}
 use Rattle.std.specs.List.{list_any}
 use Rattle.std.specs.Option.{option_map_or}
 use Rattle.std.specs.Str.{bytes_eq}
+use Rattle.std.proofs.lemmas.Bool.{and_parts, or_cases}
 use Rattle.std.proofs.lemmas.Slice.Eq.{bytes_eq-Decides}
 use Rattle.clap.specs.Words.{App, IsSignedIn, Row, Rule, Shape, Text, built, fault_of, first_of, subcommand_of, without_minus}
 use Rattle.clap.specs.Facts.{explicit_source}
@@ -13,7 +14,7 @@ use Rattle.clap.specs.Kinds.{check_kinds, or_else, range_kinds, values_kinds}
 use Rattle.clap.specs.Simple.{built_leaf, filled, help_rule, with_index, entered, inherited, label_of, marked_built, names_of, rows_at, with_leaf_noted}
 use Rattle.clap.specs.Takes.{is_given}
 use Rattle.clap.specs.ValueTests.{accepts}
-use Rattle.clap.specs.Walk.{answers_to, at_row, default_rows, finished, has_row, more_values, nothing_held, reading_by, row_text, settled, stop_after, walk, with_default}
+use Rattle.clap.specs.Walk.{action_of, answers_to, at_row, values_or_missing, default_rows, finished, has_row, more_values, nothing_held, reading_by, row_text, settled, stop_after, walk, with_default}
 use Rattle.clap.specs.declared.builder.value_parser.Reading.{Reading}
 use Rattle.clap.specs.declared.builder.value_parser.Reading.TheVariants.{WithoutMinus}
 use Rattle.clap.specs.declared.builder.value_parser.ValueParser.TheVariants as vp
@@ -23,110 +24,80 @@ use Rattle.clap.specs.declared.parser.matches.ValueSource.{ValueSource}
 use Rattle.clap.specs.declared.parser.matches.ValueSource.TheVariants.{DefaultValue}
 use Rattle.clap.proofs.ValueTestLemmas.{accepts-Accepts}
 use Rattle.cd_args.specs.CommandLine.{HasBase, IsComplete, apply_shape, base_rule, command_line, flag_rule, image_shape, max_base, patching_shape, program_shape, text_rule}
-use Rattle.cd_args.proofs.general.Rows.{AllStart, Each, Each-find, IsUsedBy, Starts, Uses, level_parts, level_starts, neither}
+use Rattle.cd_args.proofs.general.Rows.{AllStart, Each, Each-find, IsUsedBy, Starts, Uses, level_parts, level_starts, neither, replaces}
 
 -- ---- the row of an argument with a default
 
-has_row-values : (id : Text) (s : ValueSource) (values : List Text) (missing rows : List Row)
-    → has_row id missing ≡ true
-    → has_row id (at_row id (more_values s values) missing rows) ≡ true
-has_row-values id s values missing [] there = there
-has_row-values id s values missing (r ∷ rs) there =
-    go (bytes_eq r.id id) refl (has_row-values id s values missing rs there)
-  where
-    go : (b : Bool) → bytes_eq r.id id ≡ b
-        → has_row id (at_row id (more_values s values) missing rs) ≡ true
-        → has_row id (cond b (more_values s values r ++ rs)
-        (r ∷ at_row id (more_values s values) missing rs)) ≡ true
-    go true e rest = rw e refl
-    go false e rest = rw e rest
-
-has_row-stays : (wanted id : Text) (s : ValueSource) (values : List Text) (missing rows : List Row)
-    → has_row wanted rows ≡ true
+-- a row is there after a use of the argument `id` if it was there, or is that argument's
+has_row-with : (wanted id : Text) (s : ValueSource) (values : List Text) (missing rows : List Row)
+    → has_row id missing ≡ true → (has_row wanted rows ≡ true) ⊎ (id ≡ wanted)
     → has_row wanted (at_row id (more_values s values) missing rows) ≡ true
-has_row-stays wanted id s values missing [] there = cc
-has_row-stays wanted id s values missing (r ∷ rs) there =
-    go (bytes_eq r.id id) (bytes_eq r.id wanted) refl (has_row-stays wanted id s values missing rs)
+has_row-with wanted id s values missing [] there (inl was) = cc
+has_row-with wanted id s values missing [] there (inr is) = rw is at there
+has_row-with wanted id s values missing (r ∷ rs) there h =
+    go (bytes_eq r.id id) (bytes_eq r.id wanted) refl refl h
+    (has_row-with wanted id s values missing rs there)
   where
-    go : (b t : Bool) → bytes_eq r.id wanted ≡ t
-        → (has_row wanted rs ≡ true
+    go : (b t : Bool) → bytes_eq r.id id ≡ b → bytes_eq r.id wanted ≡ t
+        → (has_row wanted (r ∷ rs) ≡ true) ⊎ (id ≡ wanted)
+        → ((has_row wanted rs ≡ true) ⊎ (id ≡ wanted)
         → has_row wanted (at_row id (more_values s values) missing rs) ≡ true)
         → has_row wanted
         (cond b (more_values s values r ++ rs) (r ∷ at_row id (more_values s values) missing rs))
         ≡ true
-    go true t e rest = there
-    go false true e rest = rw e refl
-    go false false e rest = rw e (rest (rw e at there))
-
-default_stays : (wanted : Text) (a : Rule) (rows : List Row) → has_row wanted rows ≡ true
-    → has_row wanted (with_default rows a) ≡ true
-default_stays wanted a rows there = go (has_row a.id rows) a.defaults
-  where
-    go : (b : Bool) (vs : List Text)
-        → has_row wanted (cond b rows (default_rows a.id (reading_by a) vs rows)) ≡ true
-    go true vs = there
-    go false [] = there
-    go false (v ∷ vs) = has_row-stays wanted a.id DefaultValue (v ∷ vs) _ rows there
-
-default_there : (a : Rule) (v : Text) (vs : List Text) (rows : List Row) → a.defaults ≡ v ∷ vs
-    → bytes_eq a.id a.id ≡ true → has_row a.id (with_default rows a) ≡ true
-default_there a v vs rows e same = go (has_row a.id rows) refl
-  where
-    go : (b : Bool) → has_row a.id rows ≡ b
-        → has_row a.id (cond b rows (default_rows a.id (reading_by a) a.defaults rows)) ≡ true
-    go true there = there
-    go false none = rw e (has_row-values a.id DefaultValue (v ∷ vs) _ rows (rw same refl))
+    go true true e f h rest = rw f refl
+    go true false e f (inl was) rest = was
+    go true false e f (inr is) rest = let bad : true ≡ false = sym e ∙ rw (← is) at f in cc
+    go false true e f h rest = rw f refl
+    go false false e f (inl was) rest = rw f (rest (inl (rw f at was)))
+    go false false e f (inr is) rest = rw f (rest (inr is))
 
 -- whether there is one
 abbrev has_values : List Text → Bool
 has_values [] = false
 has_values (v ∷ vs) = true
 
-default_of_rule : (a : Rule) (rows : List Row) → bytes_eq a.id a.id ≡ true
-    → has_values a.defaults ≡ true → has_row a.id (with_default rows a) ≡ true
-default_of_rule a rows same some = go a.defaults refl some
+default_has : (wanted : Text) (a : Rule) (rows : List Row) → bytes_eq a.id a.id ≡ true
+    → (has_row wanted rows ≡ true) ⊎ ((a.id ≡ wanted) × (has_values a.defaults ≡ true))
+    → has_row wanted (with_default rows a) ≡ true
+default_has wanted a rows same h = go (has_row a.id rows) a.defaults refl h
   where
-    go : (vs : List Text) → a.defaults ≡ vs → has_values vs ≡ true
-        → has_row a.id (with_default rows a) ≡ true
-    go [] e some = cc
-    go (v ∷ vs) e some = default_there a v vs rows e same
-
-defaults_stay : (wanted : Text) (rules : List Rule) (rows : List Row) → has_row wanted rows ≡ true
-    → has_row wanted (fold with_default rows rules) ≡ true
-defaults_stay wanted [] rows there = there
-defaults_stay wanted (a ∷ others) rows there =
-    defaults_stay wanted others (with_default rows a) (default_stays wanted a rows there)
+    go : (b : Bool) (vs : List Text) → has_row a.id rows ≡ b
+        → (has_row wanted rows ≡ true) ⊎ ((a.id ≡ wanted) × (has_values vs ≡ true))
+        → has_row wanted (cond b rows (default_rows a.id (reading_by a) vs rows)) ≡ true
+    go true vs e (inl was) = was
+    go true vs e (inr is) = rw is.0 at e
+    go false [] e (inl was) = was
+    go false [] e (inr is) = cc is.1
+    go false (v ∷ vs) e (inl was) =
+        has_row-with wanted a.id DefaultValue (v ∷ vs) _ rows (rw same refl) (inl was)
+    go false (v ∷ vs) e (inr is) =
+        has_row-with wanted a.id DefaultValue (v ∷ vs) _ rows (rw same refl) (inr is.0)
 
 -- whether a rule is that of `--base`, with a default
 abbrev is_base : Rule → Bool
 is_base a = bytes_eq a.id (codes "base") && has_values a.defaults
 
-base_there : (a : Rule) (rows : List Row) → is_base a ≡ true
-    → has_row (codes "base") (with_default rows a) ≡ true
-base_there a rows is = go (bytes_eq a.id (codes "base")) refl is
-  where
-    go : (b : Bool) → bytes_eq a.id (codes "base") ≡ b → (b && has_values a.defaults) ≡ true
-        → has_row (codes "base") (with_default rows a) ≡ true
-    go true e some =
-        let same : a.id ≡ codes "base" = (bytes_eq-Decides a.id (codes "base")).0 e in
-        subst (λ (id : Text). has_row id (with_default rows a) ≡ true) same
-        (default_of_rule a rows (rw same refl) some)
-    go false e some = cc
-
--- one of the rules is that of `--base`, so after the defaults it has a row
-based : (rules : List Rule) (rows : List Row) → list_any is_base rules ≡ true
+-- if one of the rules is that of `--base`, it has a row after the defaults
+based : (rules : List Rule) (rows : List Row)
+    → (has_row (codes "base") rows ≡ true) ⊎ (list_any is_base rules ≡ true)
     → has_row (codes "base") (fold with_default rows rules) ≡ true
-based [] rows there = cc
-based (a ∷ others) rows there =
-    go (is_base a) refl there (based others (with_default rows a))
+based [] rows (inl was) = was
+based [] rows (inr some) = cc
+based (a ∷ others) rows h =
+    based others (with_default rows a) (elim h [
+      | inl was ↦ inl (default_has (codes "base") a rows (same a.id) (inl was))
+      | inr some ↦ elim (or_cases (is_base a) (list_any is_base others) some) [
+        | inl here ↦
+            let parts = and_parts (bytes_eq a.id (codes "base")) (has_values a.defaults) here in
+            inl (default_has (codes "base") a rows (same a.id)
+            (inr ((bytes_eq-Decides a.id (codes "base")).0 parts.0, parts.1)))
+        | inr later ↦ inr later
+      ]
+    ])
   where
-    go : (b : Bool) → is_base a ≡ b → (b || list_any is_base others) ≡ true
-        → (list_any is_base others ≡ true
-        → has_row (codes "base") (fold with_default (with_default rows a) others) ≡ true)
-        → has_row (codes "base") (fold with_default (with_default rows a) others) ≡ true
-    go true is rest further =
-        defaults_stay (codes "base") others (with_default rows a) (base_there a rows is)
-    go false is rest further = further rest
+    same : (id : Text) → bytes_eq id id ≡ true
+    same id = (bytes_eq-Decides id id).1 refl
 
 -- a row that is there is found
 pub record Found (id : Text) (rows : List Row) : Type 0 where
@@ -204,38 +175,37 @@ flag_built id = filled (flag_rule id)
 abbrev help_built : Rule
 help_built = filled help_rule
 
-text_use : (index : ℕ) (id : Text) → (id ≡ codes "base" → ⊥)
+-- a use that gives a value to another argument than `--base`
+other_use : (a : Rule) (values : List Text) (v : Text) → (a.id ≡ codes "base" → ⊥)
+    → replaces (action_of a) ≡ true → slice_get (values_or_missing a values) 0 ≡ Some v
+    → Uses IsBaseText a values
+other_use a values v other replacing is = record {
+  replacing = replacing;
+  first = v;
+  is_first = is;
+  holds = λ e. absurd (other e);
+}
+
+-- texts that the test tells apart
+differ : {s t : Text} → s ≡ t → bytes_eq s t ≡ false → ⊥
+differ {s} {t} e test = let bad : true ≡ false = sym ((bytes_eq-Decides s t).1 e) ∙ test in cc
+
+text_use : (index : ℕ) (id : Text) → bytes_eq id (codes "base") ≡ false
     → (again : Bool) (values : List Text) (rows : List Row)
     → use_fault again (text_built index id) values rows ≡ []
     → Uses IsBaseText (text_built index id) values
 text_use index id other again [] rows e = cc
-text_use index id other again (v ∷ vs) rows e = record {
-  replacing = refl;
-  first = v;
-  is_first = refl;
-  holds = λ is. absurd (other is);
-}
-
--- texts that begin with other bytes
-differ : (a b : ℕ) (s t : Text) → (a ≡ b → ⊥) → a ∷ s ≡ b ∷ t → ⊥
-differ a b s t other e = other (ap (λ (l : List ℕ). slice_index l 0) e)
+text_use index id other again (v ∷ vs) rows e =
+    other_use (text_built index id) (v ∷ vs) v (λ is. differ is other) refl refl
 
 -- the text of a flag that is another than `--base`
-flag_use : (id : Text) → (id ≡ codes "base" → ⊥) → (again : Bool) (values : List Text)
+flag_use : (id : Text) → bytes_eq id (codes "base") ≡ false → (again : Bool) (values : List Text)
     (rows : List Row) → use_fault again (flag_built id) values rows ≡ []
     → Uses IsBaseText (flag_built id) values
-flag_use id other again [] rows e = record {
-  replacing = refl;
-  first = codes "true";
-  is_first = refl;
-  holds = λ is. absurd (other is);
-}
-flag_use id other again (v ∷ vs) rows e = record {
-  replacing = refl;
-  first = v;
-  is_first = refl;
-  holds = λ is. absurd (other is);
-}
+flag_use id other again [] rows e =
+    other_use (flag_built id) [] (codes "true") (λ is. differ is other) refl refl
+flag_use id other again (v ∷ vs) rows e =
+    other_use (flag_built id) (v ∷ vs) v (λ is. differ is other) refl refl
 
 base_use : (again : Bool) (values : List Text) (rows : List Row)
     → use_fault again base_built values rows ≡ [] → Uses IsBaseText base_built values
@@ -266,42 +236,39 @@ base_default v vs e is =
     let same : codes "0" ≡ v = ap (λ (ts : List Text). slice_index_or ts 0 v) e in
     (refl, rw (← same) (accepts-Accepts false (vp.Signed (pos 0) (pos max_base)) (codes "0") refl))
 
-text_used : (index : ℕ) (id : Text) → (id ≡ codes "base" → ⊥)
+text_used : (index : ℕ) (id : Text) → bytes_eq id (codes "base") ≡ false
     → IsUsedBy IsBaseText (text_built index id)
 text_used index id other = record { use_of = text_use index id other; default_of = λ v vs e. cc }
-
-image_used : IsUsedBy IsBaseText (text_built 1 (codes "image"))
-image_used = text_used 1 (codes "image") (differ _ _ _ _ (λ e. omega arith))
-
-script_used : IsUsedBy IsBaseText (text_built 2 (codes "script"))
-script_used = text_used 2 (codes "script") (differ _ _ _ _ (λ e. omega arith))
-
-out_used : IsUsedBy IsBaseText (text_built 3 (codes "out"))
-out_used = text_used 3 (codes "out") (differ _ _ _ _ (λ e. omega arith))
 
 base_used : IsUsedBy IsBaseText base_built
 base_used = record { use_of = base_use; default_of = base_default }
 
-flag_used : (id : Text) → (id ≡ codes "base" → ⊥) → IsUsedBy IsBaseText (flag_built id)
-flag_used id other = record {
-  use_of = flag_use id other;
-  default_of = λ v vs e is. absurd (other is);
-}
-
 carry_used : IsUsedBy IsBaseText (flag_built (codes "carry"))
-carry_used = flag_used (codes "carry") (differ _ _ _ _ (λ e. omega arith))
+carry_used = record {
+  use_of = flag_use (codes "carry") refl;
+  default_of = λ v vs e is. absurd (differ is refl);
+}
 
 help_used : IsUsedBy IsBaseText help_built
 help_used = record { use_of = help_use; default_of = λ v vs e. cc }
 
 image_rules : (name : Text) → Each (IsUsedBy IsBaseText) (leaf (image_shape name)).rules
-image_rules name = (image_used, (base_used, (help_used, tt)))
+image_rules name = (text_used 1 (codes "image") refl, (base_used, (help_used, tt)))
 
 patching_rules : (name : Text) → Each (IsUsedBy IsBaseText) (leaf (patching_shape name)).rules
-patching_rules name = (image_used, (script_used, (carry_used, (base_used, (help_used, tt)))))
+patching_rules name = (
+  text_used 1 (codes "image") refl,
+  (text_used 2 (codes "script") refl, (carry_used, (base_used, (help_used, tt)))),
+)
 
 apply_rules : Each (IsUsedBy IsBaseText) (leaf apply_shape).rules
-apply_rules = (image_used, (script_used, (carry_used, (base_used, (out_used, (help_used, tt))))))
+apply_rules = (
+  text_used 1 (codes "image") refl,
+  (
+    text_used 2 (codes "script") refl,
+    (carry_used, (base_used, (text_used 3 (codes "out") refl, (help_used, tt)))),
+  ),
+)
 
 -- one that is required, and the others
 required_given : (b rest : Bool) → (not b || rest) ≡ false → (b ≡ true) × (rest ≡ false)
@@ -352,27 +319,7 @@ module _ (s : Shape) (by : Each (IsUsedBy IsBaseText) s.rules) (words : List Tex
 
   -- the option `--base` has a row after its default
   level_base : list_any is_base s.rules ≡ true → HasBase level_rows
-  level_base there = base_read level_rows level_start (based s.rules held_rows there)
-
--- the image and the base of a command's matches
-pub record HasImage (rows : List Row) : Type 0 where
-  pub image : IsSome (first_of (codes "image") rows)
-  pub base : HasBase rows
-
-image_level : (name : Text) (words : List Text)
-    → level_fault (leaf (image_shape name)) [] nothing_held words false [] ≡ []
-    → HasImage (rows_at (leaf (image_shape name)) words).1
-image_level name words e =
-    let s = leaf (image_shape name) in
-    let rows = level_rows s (image_rules name) words e in
-    let starts = level_start s (image_rules name) words e in
-    let image =
-    required_given (is_given (codes "image") rows) false
-    (level_checked s (image_rules name) words e) in
-    record {
-      image = first_given (codes "image") rows starts image.0;
-      base = level_base s (image_rules name) words e refl;
-    }
+  level_base there = base_read level_rows level_start (based s.rules held_rows (inr there))
 
 -- ---- the program
 
@@ -382,36 +329,21 @@ IsSound s =
     (words : List Text) → level_fault s [] nothing_held words false [] ≡ []
     → IsComplete (rows_at s words)
 
-list_sound : IsSound (leaf (image_shape (codes "list")))
-list_sound words e =
-    let has = image_level (codes "list") words e in
+-- a command that reads only an image
+reading_sound : (name : Text) → (name ≡ codes "list") ⊎ (name ≡ codes "audit")
+    → bytes_eq name (codes "check") ≡ false → bytes_eq name (codes "apply") ≡ false
+    → IsSound (leaf (image_shape name))
+reading_sound name is check apply words e =
+    let s = leaf (image_shape name) in
+    let by = image_rules name in
+    let rows = level_rows s by words e in
+    let image = required_given (is_given (codes "image") rows) false (level_checked s by words e) in
     record {
-      name = inl refl;
-      image = has.image;
-      script = λ is. elim is [
-        | inl e ↦ absurd (differ 108 99 _ _ (λ e. omega arith) e)
-        | inr e ↦ absurd (differ 108 97 _ _ (λ e. omega arith) e)
-      ];
-      out = λ e. absurd (differ 108 97 _ _ (λ e. omega arith) e);
-      base = has.base;
-    }
-
--- texts that differ in their second bytes
-differ_next : (x a b : ℕ) (s t : Text) → (a ≡ b → ⊥) → x ∷ a ∷ s ≡ x ∷ b ∷ t → ⊥
-differ_next x a b s t other e = other (ap (λ (l : List ℕ). slice_index l 1) e)
-
-audit_sound : IsSound (leaf (image_shape (codes "audit")))
-audit_sound words e =
-    let has = image_level (codes "audit") words e in
-    record {
-      name = inr (inl refl);
-      image = has.image;
-      script = λ is. elim is [
-        | inl e ↦ absurd (differ 97 99 _ _ (λ e. omega arith) e)
-        | inr e ↦ absurd (differ_next 97 117 112 _ _ (λ e. omega arith) e)
-      ];
-      out = λ e. absurd (differ_next 97 117 112 _ _ (λ e. omega arith) e);
-      base = has.base;
+      name = elim is [ inl list ↦ inl list | inr audit ↦ inr (inl audit) ];
+      image = first_given (codes "image") rows (level_start s by words e) image.0;
+      script = λ is. absurd (elim is [ inl e ↦ differ e check | inr e ↦ differ e apply ]);
+      out = λ is. absurd (differ is apply);
+      base = level_base s by words e refl;
     }
 
 check_sound : IsSound (leaf (patching_shape (codes "check")))
@@ -426,7 +358,7 @@ check_sound words e =
       name = inr (inr (inl refl));
       image = first_given (codes "image") rows starts image.0;
       script = λ is. first_given (codes "script") rows starts script.0;
-      out = λ e. absurd (differ 99 97 _ _ (λ e. omega arith) e);
+      out = λ is. absurd (differ is refl);
       base = level_base s by words e refl;
     }
 
@@ -482,6 +414,8 @@ no_fault-named words e =
     (is_some (entered program stop)) parts.checks in
     let there = subcommand_met (is_some (entered program stop)) checked.0 in
     let named =
-    named_at program stop
-    (list_sound, (audit_sound, (check_sound, (apply_sound, tt)))) parts.enters there in
+    named_at program stop (
+      reading_sound (codes "list") (inl refl) refl refl,
+      (reading_sound (codes "audit") (inr refl) refl refl, (check_sound, (apply_sound, tt))),
+    ) parts.enters there in
     record { matches = named.0; is = named.1; complete = named.2 }

@@ -7,22 +7,20 @@ use Rattle.clap.specs.declared.builder.command.Command.TheViews.{out-Command}
 use Rattle.cd_args.specs.CommandLine.{with_rule}
 
 module _ {E : Type 0} where
-  pub shape-with : (was made : Result Command E) (a b : Rule) (s : Shape)
-      → IfOk was (λ c. shape_of c ≡ s)
-      → IfOk made (λ c. IsOkAnd was (λ w. shape_of c ≡ with_rule (shape_of w) a)) → a ≡ b
-      → IfOk made (λ c. shape_of c ≡ with_rule s b)
-  shape-with (Ok w) (Ok c) a b s before after same = after ∙ ap₂ with_rule before same
-  shape-with (Err e) (Ok c) a b s before after same = absurd after
-  shape-with was (Err e) a b s before after same = tt
+  -- a command that was made has this shape and no global argument
+  abbrev pub IsMade : Result Command E → Shape → Type 0
+  IsMade made s =
+      IfOk made (λ c. shape_of c ≡ s) × IfOk made (λ c. (out-Command c).has_globals ≡ false)
 
-  pub local-with : (was made : Result Command E)
-      → IfOk was (λ c. (out-Command c).has_globals ≡ false)
+  pub made-with : (was made : Result Command E) (s : Shape) {a b : Rule} → IsMade was s
+      → IfOk made (λ c. IsOkAnd was (λ w. shape_of c ≡ with_rule (shape_of w) a))
       → IfOk made (λ c.
       IsOkAnd was (λ w. (out-Command c).has_globals ≡ (out-Command w).has_globals))
-      → IfOk made (λ c. (out-Command c).has_globals ≡ false)
-  local-with (Ok w) (Ok c) before after = after ∙ before
-  local-with (Err e) (Ok c) before after = absurd after
-  local-with was (Err e) before after = tt
+      → a ≡ b → IsMade made (with_rule s b)
+  made-with (Ok w) (Ok c) s before shape local same =
+      (shape ∙ ap₂ with_rule before.0 same, local ∙ before.1)
+  made-with (Err e) (Ok c) s before shape local same = absurd shape
+  made-with was (Err e) s before shape local same = (tt, tt)
 
   pub app-with : (was sub made : Result Command E) (a : App) (s : Shape)
       → IfOk was (λ c. app_of c ≡ a) → IfOk sub (λ c. shape_of c ≡ s)

@@ -3,6 +3,7 @@ use Rattle.std.proofs.Common.{◌≡◌, ◌∙◌, ◌==◌, ℕ, ap, ap₂, ar
 use Rattle.std.specs.Prelude.{Box, is_some, option_map}
 use Rattle.std.specs.Box.{box_value}
 use Rattle.std.proofs.lemmas.Bool.{eqb-true}
+use Rattle.std.proofs.lemmas.List.{nil_from_length}
 use Rattle.clap.specs.Words.{App, HasKind, HasMatchesOf, Row, Text, fault_of, is_simple, is_simple_and_free, kind_of, subcommand_of, subcommand_rows, subcommand_rows_of, takes}
 use Rattle.clap.specs.declared.error.Error.{Error}
 use Rattle.clap.specs.declared.error.kind.ErrorKind.TheVariants.{OutOfMemory}
@@ -27,32 +28,47 @@ pub command_line_free : is_simple_and_free command_line ≡ true
 unfolding command_line clap_on_literals
 command_line_free = refl
 
+-- ---- if there are arguments
+
+accepted-takes : (words : List Text) → (words ≡ [] → ⊥) → IsAccepted words
+    → takes command_line words ≡ true
+unfolding IsAccepted
+accepted-takes [] some taken = absurd (some refl)
+accepted-takes (w ∷ ws) some taken = taken
+
+pub some-error_kinds : (words : List Text) → (words ≡ [] → ⊥)
+    → error_kinds words ≡ fault_of command_line words
+unfolding error_kinds
+some-error_kinds [] some = absurd (some refl)
+some-error_kinds (w ∷ ws) some = refl
+
 -- ---- refusals
 
-module _ (app : App) (is : app ≡ command_line) where
-  pub taken-no_memory : (words : List Text) (e : Error) (fault : LineFault) → (words ≡ [] → ⊥)
-      → (takes app words ≡ true → kind_of e ≡ OutOfMemory)
+-- what the parser's clauses say of the words of the arguments
+module _ (app : App) (is : app ≡ command_line) (ws words : List Text) (given : ws ≡ words) where
+  pub taken-no_memory : (e : Error) (fault : LineFault) → (words ≡ [] → ⊥)
+      → (takes app ws ≡ true → kind_of e ≡ OutOfMemory)
       → fault ≡ fault_from e → IsAccepted words → fault ≡ NoMemory
-  unfolding IsAccepted
-  taken-no_memory [] e fault some passes made taken = absurd (some refl)
-  taken-no_memory (w ∷ ws) e fault some passes made taken =
-      let memory = passes (ap (λ a. takes a (w ∷ ws)) is ∙ taken) in
+  taken-no_memory e fault some passes made taken =
+      let memory = passes (ap₂ takes is given ∙ accepted-takes words some taken) in
       made ∙ rw memory refl
 
-  pub fault-has_kind : (words : List Text) (e : Error) (fault : LineFault) → (words ≡ [] → ⊥)
-      → (is_simple_and_free app ≡ true → HasKind (fault_of app words) e) → fault ≡ fault_from e
+  -- no kind of fault is found in them
+  pub unfaulted : (is_simple_and_free app ≡ true → fault_of app ws ≡ [])
+      → fault_of command_line words ≡ []
+  unfaulted kinds =
+      ap₂ fault_of (sym is) (sym given) ∙ kinds (ap is_simple_and_free is ∙ command_line_free)
+
+  pub fault-has_kind : (e : Error) (fault : LineFault) → (words ≡ [] → ⊥)
+      → (is_simple_and_free app ≡ true → HasKind (fault_of app ws) e) → fault ≡ fault_from e
       → HasKindOf words fault
-  unfolding error_kinds
-  fault-has_kind [] e fault some kinds made = absurd (some refl)
-  fault-has_kind (w ∷ ws) e fault some kinds made =
-      let of_line : HasKind (fault_of command_line (w ∷ ws)) e =
-      subst (λ (a : App). HasKind (fault_of a (w ∷ ws)) e) is
-      (kinds (ap is_simple_and_free is ∙ command_line_free)) in
-      rw made (go (is_out_of_memory (kind_of e)) refl of_line)
+  fault-has_kind e fault some kinds made =
+      rw made (go (is_out_of_memory (kind_of e)) refl
+      (subst (λ ks. HasKind ks e) (ap₂ fault_of is given ∙ sym (some-error_kinds words some))
+      (kinds (ap is_simple_and_free is ∙ command_line_free))))
     where
-      go : (b : Bool) → is_out_of_memory (kind_of e) ≡ b
-          → HasKind (fault_of command_line (w ∷ ws)) e
-          → HasKindOf (w ∷ ws) (cond b NoMemory (Parser e))
+      go : (b : Bool) → is_out_of_memory (kind_of e) ≡ b → HasKind (error_kinds words) e
+          → HasKindOf words (cond b NoMemory (Parser e))
       go true out h = tt
       go false out (inl memory) = let bad : true ≡ false = rw memory at out in cc
       go false out (inr among) = among
@@ -62,13 +78,6 @@ module _ (app : App) (is : app ≡ command_line) where
 pub none-kinds : (words : List Text) → words ≡ [] → error_kinds words ≡ []
 unfolding error_kinds
 none-kinds words none = rw none refl
-
-pub some-kinds : (app : App) (words : List Text) → app ≡ command_line
-    → (is_simple_and_free app ≡ true → fault_of app words ≡ []) → error_kinds words ≡ []
-unfolding error_kinds
-some-kinds app [] is kinds = refl
-some-kinds app (w ∷ ws) is kinds =
-    ap (λ a. fault_of a (w ∷ ws)) (sym is) ∙ kinds (ap is_simple_and_free is ∙ command_line_free)
 
 pub none-asks : (words : List Text) (job : Job) → words ≡ [] → IsListJob (45 ∷ []) 0 job
     → IsJobOf words job
@@ -88,18 +97,15 @@ pub record IsEntered (words : List Text) (m : ArgMatches) : Type 0 where
   pub is : subcommand_of command_line words ≡ Some matches
   pub complete : IsComplete matches
 
-pub entered : (app : App) (words : List Text) (m : ArgMatches) → app ≡ command_line
-    → HasMatchesOf app words m
-    → (is_simple_and_free app ≡ true → fault_of app words ≡ []) → IsEntered words m
-entered app words m is has kinds =
-    let none : fault_of command_line words ≡ [] =
-    ap (λ a. fault_of a words) (sym is)
-    ∙ kinds (ap is_simple_and_free is ∙ command_line_free) in
-    let named = no_fault-named words none in
+pub entered : {app : App} {ws words : List Text} {m : ArgMatches} → app ≡ command_line
+    → ws ≡ words → HasMatchesOf app ws m
+    → (is_simple_and_free app ≡ true → fault_of app ws ≡ []) → IsEntered words m
+entered {app} {ws} {words} {m} is given has kinds =
+    let named = no_fault-named words (unfaulted app is ws words given kinds) in
     let rows = (has (ap is_simple is ∙ command_line_simple)).1 in
     record {
       matches = named.matches;
-      rows = rows ∙ (ap (λ a. subcommand_of a words) is ∙ named.is);
+      rows = rows ∙ (ap₂ subcommand_of is given ∙ named.is);
       is = named.is;
       complete = named.complete;
     }
@@ -139,8 +145,7 @@ entered-parts words m h name rows named found =
 
 pub map-none : {X : Type 0} (f : X → Text) (xs : List X) (n : ℕ) → n ≡ length xs → (n == 0) ≡ true
     → map f xs ≡ []
-map-none f [] n is e = refl
-map-none f (x ∷ xs) n is e = let none : n ≡ 0 = eqb-true n 0 e in absurd (omega arith)
+map-none f xs n is e = ap (map f) (nil_from_length xs (sym is ∙ eqb-true n 0 e))
 
 pub map-some : {X : Type 0} (f : X → Text) (xs : List X) (n : ℕ) → n ≡ length xs → (n == 0) ≡ false
     → map f xs ≡ [] → ⊥

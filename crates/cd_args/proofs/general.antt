@@ -1,3 +1,2 @@
 -- Lemmas on arguments that name nothing of this crate.
-pub mod Getters
 pub mod Rows

@@ -1,6 +1,6 @@
 -- Why the command line gives no job, and what is printed then.
 use Rattle.std.specs.Prelude.{⊤, ℕ, Bool, true, false, List, Option, Some, None, codes}
-use Rattle.std.specs.Prelude.{if◌then◌else◌, is_some, ◌++◌, ◌∷◌, []}
+use Rattle.std.specs.Prelude.{if◌then◌else◌, is_some, ◌∷◌, []}
 use Rattle.clap.specs.Words.{IsAmong, Kinds, Text, fault_of, kind_of}
 use Rattle.clap.specs.declared.error.Error.{Error}
 use Rattle.clap.specs.declared.error.kind.ErrorKind.{ErrorKind}

@@ -112,7 +112,7 @@ AreDifferences-none s offset bytes = record {
   outside = λ k _. replicate-byte 2048 k;
 }
 
--- zeros in front of a list change nothing
+-- zeros before a list change nothing
 after-none : (k : ℕ) → after 0 (replicate k 0) ≡ 0
 after-none zero = refl
 after-none (suc k) = ap (λ r. after r (replicate k 0)) (after_bits-zero 8) ∙ after-none k

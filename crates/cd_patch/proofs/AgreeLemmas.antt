@@ -3,6 +3,7 @@
 use Rattle.std.proofs.Common.{◌≡◌, ℕ, zero, suc, ◌+◌, ◌<◌, ◌≤◌, inl, inr, Bool, List, [], ◌∷◌, get_or, take, Some, refl, sym, ap, ◌∙◌, arith}
 use Rattle.std.specs.List.{All, slice_get}
 use Rattle.std.specs.List.Sorted.{IsNonDecreasingBy}
+use Rattle.std.proofs.lemmas.List.Sorted.{IsNonDecreasingBy-drop}
 use Rattle.std.proofs.lemmas.Bool.{cases_lt}
 use Rattle.std.proofs.lemmas.List.Elements.{All-head, All-tail}
 use Rattle.std.proofs.lemmas.Option.{get_or_from_slice_get, slice_get_within}
@@ -13,7 +14,6 @@ use Rattle.cd_patch.specs.Sequence.{PatchSequence}
 use Rattle.cd_patch.specs.declared.outcome.Outcome.{Outcome}
 use Rattle.cd_patch.proofs.FrameLemmas.{outcome-same}
 use Rattle.cd_patch.proofs.RangeLemmas.{blocks_met-most}
-use Rattle.cd_patch.proofs.RisingLemmas.{rising-from, rising-tail}
 use Rattle.cd_patch.proofs.SequenceLemmas.{Effects-agree, PatchSequence-keeps}
 use Rattle.cd_patch.proofs.SectorAtLemmas.{same_front, same_front-at}
 
@@ -27,6 +27,14 @@ abbrev SameUpTo : List Patch → List Outcome → List Outcome → ℕ → Type 
 SameUpTo ps os os' block =
     (k : ℕ) (p : Patch) → slice_get ps k ≡ Some p → p.block ≤ block
     → slice_get os k ≡ slice_get os' k
+
+-- all begin at a block or later if the first does
+rising-from : (p : Patch) (ps : List Patch) (bound : ℕ)
+    → IsNonDecreasingBy (λ q. q.block) (p ∷ ps) → bound ≤ p.block
+    → All (λ q. bound ≤ q.block) (p ∷ ps)
+rising-from p ps bound rises from = λ k d inside.
+    let low : p.block ≤ (get_or (p ∷ ps) k d).block = rises 0 k d (omega arith) inside in
+    omega arith
 
 agree_after : (carry : Bool) (ps : List Patch) (os os' : List Outcome) (base block : ℕ)
     (old old' last last' : List (List ℕ)) → All (λ q. block + 1 ≤ q.block) ps
@@ -74,7 +82,7 @@ agree carry i base (p ∷ ps) (o ∷ os) (o' ∷ os') old old' last last' each r
           ∙ sym h'.decided in
           let rest =
           agree carry i base ps os os' h.next h'.next last last' (All-tail IsPatch p ps each)
-          (rising-tail p ps rises) next h.others h'.others in
+          (IsNonDecreasingBy-drop (λ q. q.block) 1 (p ∷ ps) rises) next h.others h'.others in
           (first_equal p ps o o' os os' (base + i) equal rest.0, rest.1)
     ]
   where

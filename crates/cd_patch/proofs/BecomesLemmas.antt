@@ -62,26 +62,6 @@ Becomes-nothing true old header user new sound h =
 
 -- ---- by an edit
 
-pub EditResult-sector : (carry : Bool) (edit : Edit) (old user new : List ℕ)
-    → EditResult carry edit old user new → IsSector new
-EditResult-sector carry edit old user new h =
-    Becomes-sector (keeps_defect carry edit) old (new_header edit (header_of old)) user new h
-
-pub EditResult-header : (carry : Bool) (edit : Edit) (old user new : List ℕ)
-    → EditResult carry edit old user new → header_of new ≡ new_header edit (header_of old)
-EditResult-header carry edit old user new h =
-    Becomes-header (keeps_defect carry edit) old (new_header edit (header_of old)) user new h
-
-pub EditResult-user : (carry : Bool) (edit : Edit) (old user new : List ℕ)
-    → EditResult carry edit old user new → user_of new ≡ user
-EditResult-user carry edit old user new h =
-    Becomes-user (keeps_defect carry edit) old (new_header edit (header_of old)) user new h
-
-pub EditResult-unique : (carry : Bool) (edit : Edit) (old user s t : List ℕ)
-    → EditResult carry edit old user s → EditResult carry edit old user t → s ≡ t
-EditResult-unique carry edit old user s t h k =
-    Becomes-unique (keeps_defect carry edit) old (new_header edit (header_of old)) user s t h k
-
 -- if it does not keep the defect
 pub EditResult-encoded : (carry : Bool) (edit : Edit) (old user new : List ℕ)
     → keeps_defect carry edit ≡ false → EditResult carry edit old user new → IsConsistent new

@@ -1,10 +1,11 @@
--- Which blocks a patch meets, what an accepted one has found there, and the bytes of joined user
+-- Which blocks refuse a patch, what an accepted one has found there, and the bytes of joined user
 -- data.
-use Rattle.std.proofs.Common.{◌≡◌, ℕ, zero, suc, ◌+◌, ◌-◌, ◌*◌, ◌/◌, ◌%◌, ◌<◌, ◌≤◌, inl, inr, Bool, true, false, cond, List, [], ◌∷◌, ◌++◌, length, get_or, drop, Option, Some, None, refl, sym, ap, subst, ◌∙◌, eq-eqb, arith}
+use Rattle.std.proofs.Common.{◌≡◌, ℕ, zero, suc, ◌+◌, ◌-◌, ◌*◌, ◌/◌, ◌%◌, ◌<◌, ◌≤◌, inl, inr, Bool, true, false, cond, List, [], ◌∷◌, ◌++◌, length, get_or, drop, Option, Some, None, refl, sym, ap, ap₂, subst, ◌∙◌, eq-eqb, arith}
 use Rattle.std.specs.Prelude.{not, ◌&&◌, if◌then◌else◌, is_some, slice_get, unwrap_or}
-use Rattle.std.proofs.lemmas.Bool.{cases_lt, ne_eqb}
+use Rattle.std.specs.Option.{IfSome}
+use Rattle.std.proofs.lemmas.Bool.{cases_eq, cases_lt, ne_eqb}
 use Rattle.std.proofs.lemmas.List.{get_or_append_left, get_or-append_right, get_or-drop, get_or_read, length-append, length-drop}
-use Rattle.std.proofs.lemmas.Option.{slice_get-get_or, slice_get_past}
+use Rattle.std.proofs.lemmas.Option.{get_or_from_slice_get, slice_get-get_or, slice_get_within}
 use Rattle.cd_script.specs.Patch.{IsPatch}
 use Rattle.cd_script.specs.PatchForm.{Patch}
 use Rattle.cd_sector.proofs.DefectLemmas.{consistent-decided, mode1_decided}
@@ -18,80 +19,136 @@ use Rattle.cd_patch.specs.Parts.{HaveUsers}
 use Rattle.cd_patch.proofs.RangeLemmas.{old-fits}
 use Rattle.cd_patch.proofs.SectorAtLemmas.{sector_at-add}
 use Rattle.cd_patch.specs.declared.outcome.Outcome.{Outcome}
-use Rattle.cd_patch.specs.declared.outcome.Outcome.TheVariants.{Damaged, Differs, NotMode1}
+use Rattle.cd_patch.specs.declared.outcome.Outcome.TheVariants.{Applied, Damaged, Differs, NoBlock, NotMode1}
 
 -- ---- refusals
 
 -- a block that does not refuse has a sector of Mode 1, which is consistent if that is asked
-abbrev pub IsMet : Bool → Option (List ℕ) → Type 0
-IsMet must_be_consistent None = ⊥
-IsMet must_be_consistent (Some sector) = (kind_of sector ≡ Mode1) × (must_be_consistent ≡ true → consistent sector ≡ true)
+pub record IsMet (must_be_consistent : Bool) (found : Option (List ℕ)) : Type 0 where
+  pub sector : List ℕ
+  pub is : found ≡ Some sector
+  pub mode : kind_of sector ≡ Mode1
+  pub sound : must_be_consistent ≡ true → IsConsistent sector
 
 no_refusal : (mode must_be_consistent sound : Bool) (block : ℕ)
-    → (if not mode then Some (NotMode1 block) else if must_be_consistent && not sound then Some (Damaged block)
-    else None) ≡ None
+    → (if not mode then Some (NotMode1 block)
+    else if must_be_consistent && not sound then Some (Damaged block) else None) ≡ None
     → (mode ≡ true) × (must_be_consistent ≡ true → sound ≡ true)
 no_refusal true true true block h = (refl, λ _. refl)
 no_refusal true true false block h = cc
 no_refusal true false sound block h = (refl, λ e. cc)
 no_refusal false must_be_consistent sound block h = cc
 
-pub refusal_at-none : (must_be_consistent : Bool) (block : ℕ) (sector : Option (List ℕ))
-    → refusal_at must_be_consistent block sector ≡ None → IsMet must_be_consistent sector
-refusal_at-none must_be_consistent block None h = cc
+refusal_at-none : (must_be_consistent : Bool) (block : ℕ) (found : Option (List ℕ))
+    → refusal_at must_be_consistent block found ≡ None → IsMet must_be_consistent found
+refusal_at-none must_be_consistent block None h = absurd cc
 refusal_at-none must_be_consistent block (Some sector) h =
-    let both = no_refusal (is_mode1 (kind_of sector)) must_be_consistent (consistent sector) block h in
-    ((mode1_decided (kind_of sector)).0 both.0, both.1)
+    let both =
+    no_refusal (is_mode1 (kind_of sector)) must_be_consistent (consistent sector) block h in
+    record {
+      sector = sector;
+      is = refl;
+      mode = (mode1_decided (kind_of sector)).0 both.0;
+      sound = λ asked. (consistent-decided sector).0 (both.1 asked);
+    }
 
 pub first_of-none : (a b : Option Outcome) → either_refusal a b ≡ None → (a ≡ None) × (b ≡ None)
 first_of-none None b h = (refl, h)
 first_of-none (Some x) b h = cc
 
 -- no block has refused
-pub first_refusal-none : (ss : List (List ℕ)) (base : ℕ) (must_be_consistent : Bool) (block count : ℕ)
-    → first_refusal ss base must_be_consistent block count ≡ None
-    → (k : ℕ) → k < count → IsMet must_be_consistent (sector_at ss base (block + k))
-first_refusal-none ss base must_be_consistent block zero h k below = absurd (omega arith)
-first_refusal-none ss base must_be_consistent block (suc count) h zero below =
+pub first_refusal-none : (ss : List (List ℕ)) (base : ℕ) (must_be_consistent : Bool)
+    (first count : ℕ) → first_refusal ss base must_be_consistent first count ≡ None
+    → (block : ℕ) → first ≤ block → block < first + count
+    → IsMet must_be_consistent (sector_at ss base block)
+first_refusal-none ss base must_be_consistent first zero h block from to = absurd (omega arith)
+first_refusal-none ss base must_be_consistent first (suc count) h block from to =
     let both =
-    first_of-none (refusal_at must_be_consistent block (sector_at ss base block))
-    (first_refusal ss base must_be_consistent (block + 1) count) h in
-    let here : block ≡ block + 0 = omega arith in
-    subst (λ b. IsMet must_be_consistent (sector_at ss base b)) here
-    (refusal_at-none must_be_consistent block (sector_at ss base block) both.0)
-first_refusal-none ss base must_be_consistent block (suc count) h (suc k) below =
-    let both =
-    first_of-none (refusal_at must_be_consistent block (sector_at ss base block))
-    (first_refusal ss base must_be_consistent (block + 1) count) h in
-    let there : block + 1 + k ≡ block + suc k = omega arith in
-    subst (λ b. IsMet must_be_consistent (sector_at ss base b)) there
-    (first_refusal-none ss base must_be_consistent (block + 1) count both.1 k (omega arith))
+    first_of-none (refusal_at must_be_consistent first (sector_at ss base first))
+    (first_refusal ss base must_be_consistent (first + 1) count) h in
+    elim (cases_eq first block) [
+      | inl here ↦
+          subst (λ b. IsMet must_be_consistent (sector_at ss base b)) here
+          (refusal_at-none must_be_consistent first (sector_at ss base first) both.0)
+      | inr other ↦
+          first_refusal-none ss base must_be_consistent (first + 1) count both.1 block
+          (omega arith) (omega arith)
+    ]
 
--- the next block is asked if one does not refuse
-pub first_refusal-next : (ss : List (List ℕ)) (base : ℕ) (must_be_consistent : Bool) (block count : ℕ)
-    → refusal_at must_be_consistent block (sector_at ss base block) ≡ None
-    → first_refusal ss base must_be_consistent block (suc count) ≡ first_refusal ss base must_be_consistent (block + 1) count
-first_refusal-next ss base must_be_consistent block count h =
-    ap (λ r. either_refusal r (first_refusal ss base must_be_consistent (block + 1) count)) h
+-- what refuses a patch is no acceptance, and damage only if it is asked for
+abbrev pub is_refusal : Bool → Outcome → Bool
+is_refusal must_be_consistent (NoBlock block) = true
+is_refusal must_be_consistent (NotMode1 block) = true
+is_refusal must_be_consistent (Damaged block) = must_be_consistent
+is_refusal must_be_consistent Applied = false
+is_refusal must_be_consistent (Differs block offset) = false
 
--- the first that refuses decides
-pub first_refusal-here : (ss : List (List ℕ)) (base : ℕ) (must_be_consistent : Bool) (block count : ℕ)
-    (refusal : Outcome)
-    → refusal_at must_be_consistent block (sector_at ss base block) ≡ Some refusal
-    → first_refusal ss base must_be_consistent block (suc count) ≡ Some refusal
-first_refusal-here ss base must_be_consistent block count refusal h =
-    ap (λ r. either_refusal r (first_refusal ss base must_be_consistent (block + 1) count)) h
+abbrev pub IsRefusal : Bool → Option Outcome → Type 0
+IsRefusal must_be_consistent found = IfSome found (λ r. is_refusal must_be_consistent r ≡ true)
+
+refusal-is : (mode must_be_consistent sound : Bool) (block : ℕ)
+    → IsRefusal must_be_consistent (if not mode then Some (NotMode1 block)
+    else if must_be_consistent && not sound then Some (Damaged block) else None)
+refusal-is true true true block = tt
+refusal-is true true false block = refl
+refusal-is true false sound block = tt
+refusal-is false must_be_consistent sound block = refl
+
+refusal_at-is : (must_be_consistent : Bool) (block : ℕ) (found : Option (List ℕ))
+    → IsRefusal must_be_consistent (refusal_at must_be_consistent block found)
+refusal_at-is must_be_consistent block None = refl
+refusal_at-is must_be_consistent block (Some sector) =
+    refusal-is (is_mode1 (kind_of sector)) must_be_consistent (consistent sector) block
+
+either_refusal-is : (must_be_consistent : Bool) (a b : Option Outcome)
+    → IsRefusal must_be_consistent a → IsRefusal must_be_consistent b
+    → IsRefusal must_be_consistent (either_refusal a b)
+either_refusal-is must_be_consistent None b one two = two
+either_refusal-is must_be_consistent (Some r) b one two = one
+
+pub first_refusal-is : (ss : List (List ℕ)) (base : ℕ) (must_be_consistent : Bool)
+    (block count : ℕ)
+    → IsRefusal must_be_consistent (first_refusal ss base must_be_consistent block count)
+first_refusal-is ss base must_be_consistent block zero = tt
+first_refusal-is ss base must_be_consistent block (suc count) =
+    either_refusal-is must_be_consistent _ _
+    (refusal_at-is must_be_consistent block (sector_at ss base block))
+    (first_refusal-is ss base must_be_consistent (block + 1) count)
+
+applied-unrefused : (must_be_consistent : Bool) (found : Option Outcome) (other : Outcome)
+    → IsRefusal must_be_consistent found → unwrap_or found other ≡ Applied → found ≡ None
+applied-unrefused must_be_consistent None other is h = refl
+applied-unrefused must_be_consistent (Some r) other is h = let no = rw h at is in cc
+
+-- an accepted patch was refused by no block
+pub unrefused : (carry : Bool) (ss : List (List ℕ)) (base : ℕ) (p : Patch)
+    → outcome carry ss base p ≡ Applied
+    → first_refusal ss base (needs_consistent carry p.edit) p.block (blocks_met p) ≡ None
+unfolding outcome
+unrefused carry ss base p h =
+    applied-unrefused (needs_consistent carry p.edit) _ _
+    (first_refusal-is ss base (needs_consistent carry p.edit) p.block (blocks_met p)) h
+
+-- each block that a patch meets is there and of Mode 1
+abbrev pub AreThere : Bool → List (List ℕ) → ℕ → Patch → Type 0
+AreThere carry ss base p =
+    (block : ℕ) → p.block ≤ block → block < p.block + blocks_met p
+    → IsMet (needs_consistent carry p.edit) (sector_at ss base block)
+
+pub accepted-there : (carry : Bool) (ss : List (List ℕ)) (base : ℕ) (p : Patch)
+    → outcome carry ss base p ≡ Applied → AreThere carry ss base p
+accepted-there carry ss base p h =
+    first_refusal-none ss base (needs_consistent carry p.edit) p.block (blocks_met p)
+    (unrefused carry ss base p h)
 
 -- what was searched is what the patch asks for
-pub refusal-asked : (carry builds must_be_consistent : Bool) (ss : List (List ℕ)) (p : Patch) (count : ℕ)
-    (found : Option Outcome)
-    → found ≡ first_refusal ss p.block must_be_consistent p.block count → must_be_consistent ≡ (builds && not carry)
-    → builds ≡ keeps_old p.edit → count ≡ blocks_met p
+pub refusal-asked : (p : Patch) (carry : Bool) (ss : List (List ℕ))
+    {keeps must_be_consistent : Bool} {count : ℕ} {found : Option Outcome} → found ≡ first_refusal ss p.block must_be_consistent p.block count
+    → must_be_consistent ≡ (keeps && not carry) → keeps ≡ keeps_old p.edit → count ≡ blocks_met p
     → found ≡ first_refusal ss p.block (needs_consistent carry p.edit) p.block (blocks_met p)
-refusal-asked carry builds must_be_consistent ss p count found known asked row met =
+refusal-asked p carry ss {keeps} {must_be_consistent} {count} known asked row met =
     known
-    ∙ ap (λ a. first_refusal ss p.block a p.block count) (asked ∙ ap (λ b. b && not carry) row)
-    ∙ ap (first_refusal ss p.block (needs_consistent carry p.edit) p.block) met
+    ∙ ap₂ (λ a n. first_refusal ss p.block a p.block n) (asked ∙ ap (λ b. b && not carry) row) met
 
 -- ---- joined user data
 
@@ -220,76 +277,69 @@ joined-place ss base count users room place below =
     (omega arith) (omega arith)
     ∙ ap (λ u. get_or u j 0) (user_at-sector ss base k (omega arith))
 
--- no byte differs
-pub no_difference : (ss : List (List ℕ)) (offset : ℕ) (old : List ℕ)
-    → ((k : ℕ) → k < length old → user_byte ss (offset + k) ≡ get_or old k 0)
-    → (base count : ℕ) → HaveUsers ss count → count ≤ length ss → offset + length old ≤ 2048 * count
-    → first_difference offset (drop offset (joined_user ss base base count)) old ≡ None
-no_difference ss offset old same base count users room fits =
-    let all = joined_user ss base base count in
-    let size =
-    length-joined 2048 ss base base count (BlocksHaveUsers-from ss base count users room) in
-    let rest = length-drop offset all in
-    first_difference-none offset (drop offset all) old (omega arith)
-    (λ k below. get_or-drop offset all k 0
-    ∙ joined-place ss base count users room (offset + k) (omega arith) ∙ same k below)
+module _ (ss : List (List ℕ)) (offset : ℕ) (old : List ℕ) (base count : ℕ)
+    (users : HaveUsers ss count) (room : count ≤ length ss)
+    (fits : offset + length old ≤ 2048 * count) where
+  abbrev from_offset : List ℕ
+  from_offset = drop offset (joined_user ss base base count)
 
--- byte i is the first that does
-pub a_difference : (ss : List (List ℕ)) (offset : ℕ) (old : List ℕ) (i : ℕ) → i < length old
-    → ((k : ℕ) → k < i → user_byte ss (offset + k) ≡ get_or old k 0)
-    → (user_byte ss (offset + i) ≡ get_or old i 0 → ⊥)
-    → (base count : ℕ) → HaveUsers ss count → count ≤ length ss → offset + length old ≤ 2048 * count
-    → first_difference offset (drop offset (joined_user ss base base count)) old ≡ Some (offset + i)
-a_difference ss offset old i within same differs base count users room fits =
-    let all = joined_user ss base base count in
-    let size =
-    length-joined 2048 ss base base count (BlocksHaveUsers-from ss base count users room) in
-    let rest = length-drop offset all in
-    let byte : (k : ℕ) → k < length old → get_or (drop offset all) k 0 ≡ user_byte ss (offset + k) =
-    λ k below. get_or-drop offset all k 0
-    ∙ joined-place ss base count users room (offset + k) (omega arith) in
-    first_difference-some offset (drop offset all) old i within (omega arith)
-    (λ k below. byte k (omega arith) ∙ same k below)
-    (λ e. differs (sym (byte i within) ∙ e))
+  enough : length old ≤ length from_offset
+  enough =
+      omega (
+        arith,
+        length-joined 2048 ss base base count (BlocksHaveUsers-from ss base count users room),
+        length-drop offset (joined_user ss base base count),
+      )
 
-pub read-byte : (ss : List (List ℕ)) (place : ℕ) (sector : List ℕ) → place < 2048 * length ss
-    → sector ≡ get_or ss (place / 2048) sector
-    → get_or (user_of sector) (place % 2048) 0 ≡ user_byte ss place
-read-byte ss place sector inside read =
-    ap (λ s. get_or (user_of s) (place % 2048) 0)
-    (get_or_read ss (place / 2048) sector (omega arith) read [])
+  byte_from : (k : ℕ) → k < length old → get_or from_offset k 0 ≡ user_byte ss (offset + k)
+  byte_from k below =
+      get_or-drop offset (joined_user ss base base count) k 0
+      ∙ joined-place ss base count users room (offset + k) (omega arith)
+
+  -- no byte differs
+  pub no_difference : ((k : ℕ) → k < length old → user_byte ss (offset + k) ≡ get_or old k 0)
+      → first_difference offset from_offset old ≡ None
+  no_difference same =
+      first_difference-none offset from_offset old enough
+      (λ k below. byte_from k below ∙ same k below)
+
+  -- byte i is the first that does
+  pub a_difference : (i : ℕ) → i < length old
+      → ((k : ℕ) → k < i → user_byte ss (offset + k) ≡ get_or old k 0)
+      → (user_byte ss (offset + i) ≡ get_or old i 0 → ⊥)
+      → first_difference offset from_offset old ≡ Some (offset + i)
+  a_difference i within same differs =
+      first_difference-some offset from_offset old i within (omega (arith, enough))
+      (λ k below. byte_from k (omega arith) ∙ same k below)
+      (λ e. differs (sym (byte_from i within) ∙ e))
+
+pub read-byte : (ss : List (List ℕ)) (place : ℕ) (sector user : List ℕ) → user ≡ user_of sector
+    → place < 2048 * length ss → sector ≡ get_or ss (place / 2048) sector
+    → get_or user (place % 2048) 0 ≡ user_byte ss place
+read-byte ss place sector user is inside read =
+    ap (λ u. get_or u (place % 2048) 0)
+    (is ∙ ap user_of (get_or_read ss (place / 2048) sector (omega arith) read []))
 
 -- ---- the search for a refusal
 
--- what was asked of the sector at `i` in the name of a block is what is asked of block base + k
-pub asked_at : (ss : List (List ℕ)) (base : ℕ) (must_be_consistent : Bool) (k i block : ℕ)
-    (refusal : Option Outcome)
+-- block base + k is asked, by the sector at i, and then the blocks after it
+pub first_refusal-at : (ss : List (List ℕ)) (base : ℕ) (must_be_consistent : Bool)
+    (k count i block : ℕ) (refusal : Option Outcome)
     → refusal ≡ refusal_at must_be_consistent block (slice_get ss i) → i ≡ k → block ≡ base + k
-    → refusal_at must_be_consistent (base + k) (sector_at ss base (base + k)) ≡ refusal
-asked_at ss base must_be_consistent k i block refusal known here named =
-    ap (refusal_at must_be_consistent (base + k)) (sector_at-add ss base k)
-    ∙ ap (λ n. refusal_at must_be_consistent (base + k) (slice_get ss n)) (sym here)
-    ∙ ap (λ b. refusal_at must_be_consistent b (slice_get ss i)) (sym named)
-    ∙ sym known
-
-pub first_refusal-more : (ss : List (List ℕ)) (base : ℕ) (must_be_consistent : Bool) (k count : ℕ)
-    (refusal : Option Outcome)
-    → refusal_at must_be_consistent (base + k) (sector_at ss base (base + k)) ≡ refusal → is_some refusal ≡ false
     → first_refusal ss base must_be_consistent (base + k) (suc count)
-    ≡ first_refusal ss base must_be_consistent (base + (k + 1)) count
-first_refusal-more ss base must_be_consistent k count None known none =
+    ≡ either_refusal refusal (first_refusal ss base must_be_consistent (base + (k + 1)) count)
+first_refusal-at ss base must_be_consistent k count i block refusal known here named =
     let next : base + k + 1 ≡ base + (k + 1) = omega arith in
-    first_refusal-next ss base must_be_consistent (base + k) count known
-    ∙ ap (λ b. first_refusal ss base must_be_consistent b count) next
-first_refusal-more ss base must_be_consistent k count (Some refusal) known none = cc
+    rw (known, here, named, sector_at-add ss base k, next) refl
 
-pub first_refusal-stop : (ss : List (List ℕ)) (base : ℕ) (must_be_consistent : Bool) (k count : ℕ)
-    (refusal : Option Outcome)
-    → refusal_at must_be_consistent (base + k) (sector_at ss base (base + k)) ≡ refusal → is_some refusal ≡ true
-    → first_refusal ss base must_be_consistent (base + k) (suc count) ≡ refusal
-first_refusal-stop ss base must_be_consistent k count None known some = cc
-first_refusal-stop ss base must_be_consistent k count (Some refusal) known some =
-    first_refusal-here ss base must_be_consistent (base + k) count refusal known
+pub either-none : (refusal other : Option Outcome) → refusal ≡ None
+    → either_refusal refusal other ≡ other
+either-none refusal other none = ap (λ r. either_refusal r other) none
+
+pub either-some : (refusal other : Option Outcome) → is_some refusal ≡ true
+    → either_refusal refusal other ≡ refusal
+either-some None other some = cc
+either-some (Some r) other some = refl
 
 -- ---- what an accepted patch has found
 
@@ -299,36 +349,24 @@ pub record AreMet (must_be_consistent : Bool) (ss : List (List ℕ)) (count : �
   pub mode : (k : ℕ) → k < count → kind_of (get_or ss k []) ≡ Mode1
   pub sound : must_be_consistent ≡ true → (k : ℕ) → k < count → IsConsistent (get_or ss k [])
 
-IsMet-sector : (ss : List (List ℕ)) (base : ℕ) (must_be_consistent : Bool) (k : ℕ)
-    → IsMet must_be_consistent (sector_at ss base (base + k)) → IsMet must_be_consistent (slice_get ss k)
-IsMet-sector ss base must_be_consistent k h = subst (IsMet must_be_consistent) (sector_at-add ss base k) h
-
-met_inside : (ss : List (List ℕ)) (must_be_consistent : Bool) (k : ℕ) → IsMet must_be_consistent (slice_get ss k)
-    → k < length ss
-met_inside ss must_be_consistent k h = elim (cases_lt k (length ss)) [
-  | inl inside ↦ inside
-  | inr past ↦ absurd (subst (IsMet must_be_consistent) (slice_get_past ss k past) h)
-]
-
-met_sector : (ss : List (List ℕ)) (must_be_consistent : Bool) (k : ℕ) → IsMet must_be_consistent (slice_get ss k)
-    → k < length ss → IsMet must_be_consistent (Some (get_or ss k []))
-met_sector ss must_be_consistent k h inside = subst (IsMet must_be_consistent) (slice_get-get_or ss k [] inside) h
-
 pub AreMet-from : (ss : List (List ℕ)) (base : ℕ) (must_be_consistent : Bool) (count : ℕ)
     → first_refusal ss base must_be_consistent base count ≡ None → AreMet must_be_consistent ss count
 AreMet-from ss base must_be_consistent count none =
     let each : (k : ℕ) → k < count → IsMet must_be_consistent (slice_get ss k) = λ k below.
-    IsMet-sector ss base must_be_consistent k (first_refusal-none ss base must_be_consistent base count none k below) in
-    let one : (k : ℕ) → k < count → IsMet must_be_consistent (Some (get_or ss k [])) = λ k below.
-    met_sector ss must_be_consistent k (each k below) (met_inside ss must_be_consistent k (each k below)) in
-    let enough : count ≤ length ss = elim (cases_lt (length ss) count) [
-      | inl short ↦ absurd (omega (arith, met_inside ss must_be_consistent (length ss) (each (length ss) short)))
-      | inr long ↦ long
-    ] in
+    subst (IsMet must_be_consistent) (sector_at-add ss base k)
+    (first_refusal-none ss base must_be_consistent base count none (base + k) (omega arith)
+    (omega arith)) in
+    let here : (k : ℕ) (below : k < count) → (each k below).sector ≡ get_or ss k [] = λ k below.
+    sym (get_or_from_slice_get ss k _ [] (each k below).is) in
     record {
-      enough = enough;
-      mode = λ k below. (one k below).0;
-      sound = λ asked k below. (consistent-decided (get_or ss k [])).0 ((one k below).1 asked);
+      enough = elim (cases_lt (length ss) count) [
+        | inl short ↦
+            absurd (omega (arith, slice_get_within ss (length ss) _ (each (length ss) short).is))
+        | inr long ↦ long
+      ];
+      mode = λ k below.
+          subst (λ s. kind_of s ≡ Mode1) (here k below) (each k below).mode;
+      sound = λ asked k below. subst IsConsistent (here k below) ((each k below).sound asked);
     }
 
 -- ---- the outcome
@@ -337,37 +375,7 @@ pub outcome-refused : (carry : Bool) (ss : List (List ℕ)) (base : ℕ) (p : Pa
     → first_refusal ss base (needs_consistent carry p.edit) p.block (blocks_met p) ≡ Some refusal
     → outcome carry ss base p ≡ refusal
 unfolding outcome
-outcome-refused carry ss base p refusal h =
-    ap (λ r. unwrap_or r
-    (by_difference p.block
-    (first_difference p.offset (drop p.offset (user_met ss base p)) (old_bytes p.edit)))) h
-
-outcome-decided : (carry : Bool) (ss : List (List ℕ)) (base : ℕ) (p : Patch) (place : Option ℕ)
-    → first_refusal ss base (needs_consistent carry p.edit) p.block (blocks_met p) ≡ None
-    → place ≡ first_difference p.offset (drop p.offset (user_met ss base p)) (old_bytes p.edit)
-    → outcome carry ss base p ≡ by_difference p.block place
-unfolding outcome
-outcome-decided carry ss base p place none known =
-    ap (λ r. unwrap_or r
-    (by_difference p.block
-    (first_difference p.offset (drop p.offset (user_met ss base p)) (old_bytes p.edit)))) none
-    ∙ ap (by_difference p.block) (sym known)
-
--- what was found in the sectors is what the patch's blocks have
-difference-found : (ss : List (List ℕ)) (p : Patch) (old : List ℕ) (place : Option ℕ) → IsPatch p
-    → old ≡ old_bytes p.edit
-    → HaveUsers ss (blocks_met p) → blocks_met p ≤ length ss
-    → ((base count : ℕ) → HaveUsers ss count → count ≤ length ss
-    → p.offset + length old ≤ 2048 * count
-    → place ≡ first_difference p.offset (drop p.offset (joined_user ss base base count)) old)
-    → place ≡ first_difference p.offset (drop p.offset (user_met ss p.block p)) (old_bytes p.edit)
-unfolding user_met
-difference-found ss p old place patch is users enough value =
-    let fits = old-fits p patch in
-    let size = ap length is in
-    value p.block (blocks_met p) users enough (omega (arith, fits.0))
-    ∙ ap (first_difference p.offset
-    (drop p.offset (joined_user ss p.block p.block (blocks_met p)))) is
+outcome-refused carry ss base p refusal h = rw h refl
 
 -- if no block refuses, the difference that was found decides
 pub outcome-found : (carry : Bool) (ss : List (List ℕ)) (p : Patch) (old : List ℕ) (place : Option ℕ)
@@ -378,15 +386,17 @@ pub outcome-found : (carry : Bool) (ss : List (List ℕ)) (p : Patch) (old : Lis
     → p.offset + length old ≤ 2048 * count
     → place ≡ first_difference p.offset (drop p.offset (joined_user ss base base count)) old)
     → outcome carry ss p.block p ≡ by_difference p.block place
+unfolding outcome user_met
 outcome-found carry ss p old place patch accepted is users value =
     let met = AreMet-from ss p.block (needs_consistent carry p.edit) (blocks_met p) accepted in
-    outcome-decided carry ss p.block p place accepted
-    (difference-found ss p old place patch is users met.enough value)
+    let fits = old-fits p patch in
+    let found =
+    value p.block (blocks_met p) users met.enough (omega (arith, fits.0, ap length is)) in
+    rw (accepted, ← is) (ap (by_difference p.block) (sym found))
 
 pub Differs-same : (block offset block' offset' : ℕ) → block ≡ block' → offset ≡ offset'
     → Differs block offset ≡ Differs block' offset'
-Differs-same block offset block' offset' one two =
-    ap (λ b. Differs b offset) one ∙ ap (Differs block') two
+Differs-same block offset block' offset' one two = ap₂ Differs one two
 
 pub Some-same : (i j : ℕ) → i ≡ j → Some i ≡ Some j
 Some-same i j same = ap (λ n. Some n) same

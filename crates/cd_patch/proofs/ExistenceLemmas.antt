@@ -6,7 +6,7 @@ use Rattle.std.specs.Option.{IfSome}
 use Rattle.std.proofs.Math.Seq.{drop-append_seam}
 use Rattle.std.proofs.lemmas.List.{get_or-drop, length-append, length-drop, take_more}
 use Rattle.std.proofs.lemmas.List.Elements.{All-cons, All-head, All-nil, All-tail}
-use Rattle.std.proofs.lemmas.Option.{same_Some, slice_get-get_or}
+use Rattle.std.proofs.lemmas.Option.{get_or_from_slice_get, same_Some, slice_get-get_or}
 use Rattle.cd_code.specs.Field.{AreBytes}
 use Rattle.cd_code.proofs.ByteLemmas.{AreBytes-append}
 use Rattle.cd_script.specs.Patch.{IsPatch}
@@ -27,12 +27,13 @@ use Rattle.cd_patch.specs.BySector.{IsSector}
 use Rattle.cd_patch.specs.Sequence.{PatchSequence}
 use Rattle.cd_patch.specs.declared.outcome.Outcome.{Outcome}
 use Rattle.cd_patch.specs.declared.outcome.Outcome.TheVariants.{Applied, Damaged, Differs, NoBlock, NotMode1}
-use Rattle.cd_patch.proofs.AcceptedLemmas.{AreThere, accepted-there}
+use Rattle.cd_patch.proofs.DecidingLemmas.{AreThere, accepted-there}
+use Rattle.cd_patch.proofs.FrameLemmas.{meets-cases}
 use Rattle.cd_patch.proofs.general.Elements.{cases_Option, list_of_choices}
-use Rattle.cd_patch.proofs.BySectorLemmas.{Effect-sectors, meets-cases}
+use Rattle.cd_patch.proofs.BySectorLemmas.{Effect-sectors}
 use Rattle.cd_patch.proofs.MeaningLemmas.{AreBytes-address, AreBytes-all, IsAddressAlone}
 use Rattle.cd_patch.proofs.MeaningLemmas.{patch-fits}
-use Rattle.cd_patch.proofs.SectorAtLemmas.{sector_at-add, sector_at-from, sector_at-none, sector_at-within}
+use Rattle.cd_patch.proofs.SectorAtLemmas.{sector_at-add, sector_at-from, sector_at-none, sector_at-other, sector_at-within}
 use Rattle.cd_patch.proofs.UserLemmas.{AreBytes-range, AreBytes-user_part, IsSector-at}
 use Rattle.cd_patch.proofs.UserLemmas.{length-user_part}
 
@@ -79,23 +80,19 @@ IsHeader-new m (Some bcd) header only h = record {
   whole = ap (λ rest. bcd ++ rest) (sym (mode-after header h));
 }
 
-sector_remade : (header user : List ℕ) → IsHeader header → AreBytes user → length user ≡ USER_SIZE
-    → (after : List ℕ) × IsRemade header user after
-sector_remade header user h bytes size =
-    let made = sector_found h.address user h.bytes h.size bytes size in (
-      made.0,
-      record {
-        is_consistent = made.1.is_consistent;
-        has_header = made.1.has_header ∙ h.whole;
-        has_user = made.1.has_user;
-      },
-    )
-
 -- by either rule
 sector_made : (carried : Bool) (old header user : List ℕ) → IsSector old → IsHeader header
     → AreBytes user → length user ≡ USER_SIZE
     → (after : List ℕ) × Becomes carried old header user after
-sector_made false old header user h k bytes size = sector_remade header user k bytes size
+sector_made false old header user h k bytes size =
+    let made = sector_found k.address user k.bytes k.size bytes size in (
+      made.0,
+      record {
+        is_consistent = made.1.is_consistent;
+        has_header = made.1.has_header ∙ k.whole;
+        has_user = made.1.has_user;
+      },
+    )
 sector_made true old header user h k bytes size =
     let four = length-append k.address (1 ∷ []) in
     carried_found old header user h.size h.bytes
@@ -106,87 +103,80 @@ sector_made true old header user h k bytes size =
 
 -- ---- the sectors that an accepted patch makes
 
--- what stands in a block after an accepted patch
-record Follows (carry : Bool) (base : ℕ) (p : Patch) (old : List (List ℕ)) (block : ℕ)
-    (after : List ℕ) : Type 0 where
-  met : (before : List ℕ) → p.block ≤ block → block < p.block + blocks_met p
-      → sector_at old base block ≡ Some before
-      → EditResult carry p.edit before (user_part (patched_user old base p) (block - p.block)) after
-  others : (block < p.block) ⊎ (p.block + blocks_met p ≤ block)
-      → sector_at old base block ≡ Some after
+-- what stands in a block after an accepted patch: what the patch makes of it, or what stood there
+abbrev Follows : Bool → ℕ → Patch → List (List ℕ) → ℕ → List ℕ → List ℕ → Type 0
+Follows carry base p old block before after =
+    ((p.block ≤ block) × (block < p.block + blocks_met p)
+    × EditResult carry p.edit before (user_part (patched_user old base p) (block - p.block)) after)
+    ⊎ (((block < p.block) ⊎ (p.block + blocks_met p ≤ block)) × (after ≡ before))
 
 followed : (carry : Bool) (base : ℕ) (p : Patch) (old : List (List ℕ)) → IsPatch p
-    → All IsSector old → AreThere old base p → (block : ℕ) (before : List ℕ)
+    → All IsSector old → AreThere carry old base p → (block : ℕ) (before : List ℕ)
     → sector_at old base block ≡ Some before
-    → (after : List ℕ) × Follows carry base p old block after
+    → (after : List ℕ) × Follows carry base p old block before after
 followed carry base p old kept each there block before is = elim (meets-cases p block) [
   | inl met ↦
-      let t = there block met.0 met.1 in
+      let t = there block met.1 met.2 in
       let m = meaning p.edit in
-      let same : before ≡ t.sector = same_Some before t.sector (sym is ∙ t.is) in
+      let sector = IsSector-at old base block before each is in
+      let mode : kind_of before ≡ Mode1 =
+      ap kind_of (same_Some before t.sector (sym is ∙ t.is)) ∙ t.mode in
       let made =
       sector_made (keeps_defect carry p.edit) before (new_header p.edit (header_of before))
-      (user_part (patched_user old base p) (block - p.block))
-      (IsSector-at old base block before each is)
+      (user_part (patched_user old base p) (block - p.block)) sector
       (IsHeader-new m m.address (header_of before) (patch-fits p kept).address
-      (IsHeader-of before (IsSector-at old base block before each is) (ap kind_of same ∙ t.mode)))
-      (AreBytes-user_part old base p each there kept (block - p.block))
-      (length-user_part old base p each there kept (block - p.block)
-      (omega (arith, met.0, met.1))) in (
-        made.0,
-        record {
-          met = λ b from to was.
-              let e = same_Some before b (sym is ∙ was) in
-              subst
-              (λ s. EditResult carry p.edit s
-              (user_part (patched_user old base p) (block - p.block)) made.0) e made.1;
-          others = λ side.
-              elim side [
-                | inl below ↦ absurd (omega (arith, met.0))
-                | inr after ↦ absurd (omega (arith, met.1))
-              ];
-        },
-      )
-  | inr other ↦ (
-    before,
-    record {
-      met = λ b from to was.
-          elim other [ inl below ↦ absurd (omega arith) | inr after ↦ absurd (omega arith) ];
-      others = λ side. is;
-    },
-  )
+      (IsHeader-of before sector mode))
+      (AreBytes-user_part carry old base p each there kept (block - p.block))
+      (length-user_part carry old base p each there kept (block - p.block)
+      (omega (arith, met.1, met.2))) in
+      (made.0, inl (met.1, met.2, made.1))
+  | inr other ↦ (before, inr (other.1, refl))
 ]
 
 applied_to : (carry : Bool) (base : ℕ) (p : Patch) (old : List (List ℕ)) → IsPatch p
-    → All IsSector old → AreThere old base p
+    → All IsSector old → AreThere carry old base p
     → (new : List (List ℕ)) × IsApplied carry base p old new
 applied_to carry base p old kept each there =
-    let all = list_of_choices (λ i. Follows carry base p old (base + i)) (length old)
+    let all =
+    list_of_choices (λ i. Follows carry base p old (base + i) (get_or old i [])) (length old)
     (λ i below. followed carry base p old kept each there (base + i) (get_or old i [])
     (sector_at-add old base i ∙ slice_get-get_or old i [] below)) in
     (all.0, is_applied_to all.0 all.1 all.2)
   where
     is_applied_to : (new : List (List ℕ)) → length new ≡ length old
         → ((i : ℕ) (after : List ℕ) → slice_get new i ≡ Some after
-        → Follows carry base p old (base + i) after) → IsApplied carry base p old new
+        → Follows carry base p old (base + i) (get_or old i []) after)
+        → IsApplied carry base p old new
     is_applied_to new count follows =
-        let at : (block : ℕ) (after : List ℕ) → sector_at new base block ≡ Some after
-        → Follows carry base p old block after =
-        (λ block after was.
-        let within = sector_at-within new base block after was in
-        let e : base + (block - base) ≡ block = omega (arith, within.0) in
-        subst (λ b. Follows carry base p old b after) e
-        (follows (block - base) after (sym (sector_at-from new base block within.0) ∙ was))) in
+        let at : (block : ℕ) (before after : List ℕ) → sector_at old base block ≡ Some before
+        → sector_at new base block ≡ Some after → Follows carry base p old block before after =
+        (λ block before after is was.
+        let from = (sector_at-within new base block after was).0 in
+        let e : base + (block - base) ≡ block = omega arith in
+        let same : get_or old (block - base) [] ≡ before =
+        get_or_from_slice_get old (block - base) before []
+        (sym (sector_at-from old base block from) ∙ is) in
+        subst (λ s. Follows carry base p old block s after) same
+        (subst (λ b. Follows carry base p old b (get_or old (block - base) []) after) e
+        (follows (block - base) after (sym (sector_at-from new base block from) ∙ was)))) in
         record {
           count = count;
           met = λ k before after inside is was.
               let e : p.block + k - p.block ≡ k = omega arith in
-              subst (λ n. EditResult carry p.edit before
-              (user_part (patched_user old base p) n) after) e
-              ((at (p.block + k) after was).met before (omega arith) (omega arith) is);
+              elim (at (p.block + k) before after is was) [
+                | inl made ↦
+                    subst (λ n. EditResult carry p.edit before
+                    (user_part (patched_user old base p) n) after) e made.2
+                | inr other ↦ absurd (elim other.0 [ inl low ↦ omega arith | inr high ↦ omega arith ])
+              ];
           others = λ block side. elim (cases_Option (sector_at new base block)) [
             | inl none ↦ none ∙ sym (sector_at-none new old base block (sym count) none)
-            | inr some ↦ some.1 ∙ sym ((at block some.0 some.1).others side)
+            | inr some ↦
+                let before = sector_at-other new old base block some.0 (sym count) some.1 in
+                elim (at block before.0 some.0 before.1 some.1) [
+                  | inl made ↦ absurd (elim side [ inl low ↦ omega arith | inr high ↦ omega arith ])
+                  | inr other ↦ some.1 ∙ ap (λ s. Some s) other.1 ∙ sym before.1
+                ]
           ];
         }
 

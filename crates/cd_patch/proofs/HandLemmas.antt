@@ -1,5 +1,5 @@
 -- A patch taken on its hand, and the hand put back, is the patch taken on the whole image.
-use Rattle.std.proofs.Common.{◌≡◌, ◌↔◌, ℕ, ◌+◌, ◌-◌, ◌<◌, ◌≤◌, min, ◌⊎◌, inl, inr, Bool, List, [], ◌∷◌, ◌++◌, length, take, drop, sym, ap, subst, ◌∙◌, arith, append-nil}
+use Rattle.std.proofs.Common.{◌≡◌, ℕ, ◌+◌, ◌-◌, ◌<◌, ◌≤◌, min, ◌⊎◌, inl, inr, Bool, List, [], ◌∷◌, ◌++◌, length, take, drop, None, sym, ap, subst, ◌∙◌, arith, append-nil}
 use Rattle.std.specs.List.{All, slice_get}
 use Rattle.std.proofs.lemmas.Bool.{cases_lt, cond-false, cond-true, le-ltb, lt-ltb}
 use Rattle.std.proofs.lemmas.List.{drop-drop, drop_all, length-drop, length-take, length-take-le, nil_from_length, take-append-drop, take_all}
@@ -8,12 +8,11 @@ use Rattle.cd_script.specs.Patch.{IsPatch}
 use Rattle.cd_script.specs.PatchForm.{Patch}
 use Rattle.cd_patch.specs.Blocks.{block_limit, blocks_met, sector_at}
 use Rattle.cd_patch.specs.Deciding.{outcome}
-use Rattle.cd_patch.specs.Effect.{EditResult, Effect, EffectOf, IsApplied, user_part}
+use Rattle.cd_patch.specs.Effect.{Effect, IsApplied}
 use Rattle.cd_patch.specs.Hand.{HandSequence, hand, put_back}
 use Rattle.cd_patch.specs.Sequence.{PatchSequence}
 use Rattle.cd_patch.specs.declared.outcome.Outcome.{Outcome}
-use Rattle.cd_patch.specs.declared.outcome.Outcome.TheVariants.{Applied, Damaged, Differs, NoBlock, NotMode1}
-use Rattle.cd_patch.proofs.FrameLemmas.{Effect-frame, Effect-length, Effect-missing, outcome-frame, outcome-missing, patched_user-same}
+use Rattle.cd_patch.proofs.FrameLemmas.{Effect-as, Effect-frame, Effect-length, Effect-missing, HaveSame, IsApplied-as, outcome-missing, outcome-same}
 use Rattle.cd_patch.proofs.RangeLemmas.{blocks_met-most}
 use Rattle.cd_patch.proofs.SectorAtLemmas.{sector_at-after, sector_at-below, sector_at-from}
 use Rattle.cd_patch.proofs.SequenceLemmas.{Effect-determined}
@@ -87,9 +86,8 @@ hand-cases sectors base block = elim (cases_lt block base) [
               missing = inr (omega arith);
               empty = window ∙ ap (take block_limit) (drop_all n sectors past);
               stays =
-                  cond-false _ _ _ some
-                  ∙ ap (λ l. take n sectors ++ l) (drop_all (n + block_limit) sectors (omega arith))
-                  ∙ append-nil (take n sectors) ∙ take_all n sectors past;
+                  rw (some, drop_all (n + block_limit) sectors (omega arith), append-nil)
+                  (take_all n sectors past);
             })
         | inl inside ↦
             inr (record {
@@ -97,12 +95,11 @@ hand-cases sectors base block = elim (cases_lt block base) [
               more = drop (n + block_limit) sectors;
               here = omega (arith, length-take-le n sectors (omega arith));
               old =
-                  sym (ap (λ l. take n sectors ++ l)
-                  (ap (λ l. l ++ drop (n + block_limit) sectors) window
-                  ∙ ap (λ l. take block_limit (drop n sectors) ++ l)
-                  (sym (drop-drop block_limit n sectors))
-                  ∙ take-append-drop block_limit (drop n sectors))
-                  ∙ take-append-drop n sectors);
+                  sym (rw (
+                    window,
+                    ← drop-drop block_limit n sectors,
+                    take-append-drop block_limit (drop n sectors),
+                  ) (take-append-drop n sectors));
               new = λ changed. cond-false _ _ _ some;
               room = elim (cases_lt (length sectors) (n + block_limit)) [
                 | inl short ↦ inr (drop_all (n + block_limit) sectors (omega arith))
@@ -126,20 +123,25 @@ hand-room p base sectors lies kept = elim lies.room [
 
 -- ---- a patch on its hand is a patch on the image
 
-outcome-hand : (carry : Bool) (p : Patch) (base : ℕ) (sectors : List (List ℕ)) → IsPatch p
-    → outcome carry (hand sectors base p.block) p.block p ≡ outcome carry sectors base p
-outcome-hand carry p base sectors kept = elim (hand-cases sectors base p.block) [
-  | inl none ↦
-      outcome-missing carry (hand sectors base p.block) p.block p
-      (inr (omega (arith, ap length none.empty)))
-      ∙ sym (outcome-missing carry sectors base p none.missing)
-  | inr lies ↦
-      sym (ap (λ l. outcome carry l base p) lies.old
-      ∙ outcome-frame carry lies.front (hand sectors base p.block) lies.more base p.block p
-      lies.here (omega arith) (hand-room p base sectors lies kept))
+-- the hand has the sectors that the patch meets
+hand-same : (p : Patch) (base : ℕ) (sectors : List (List ℕ)) → IsPatch p → base ≤ p.block
+    → HaveSame sectors base (hand sectors base p.block) p.block p.block (blocks_met p)
+hand-same p base sectors kept from = λ block low high.
+    sym (hand-at sectors base p.block block from low (omega (arith, blocks_met-most p kept)))
+
+pub outcome-hand : (carry : Bool) (p : Patch) (base : ℕ) (sectors : List (List ℕ)) → IsPatch p
+    → outcome carry sectors base p ≡ outcome carry (hand sectors base p.block) p.block p
+outcome-hand carry p base sectors kept = elim (cases_lt p.block base) [
+  | inl below ↦
+      outcome-missing carry sectors base p (inl below)
+      ∙ sym (outcome-missing carry (hand sectors base p.block) p.block p
+      (inr (omega (arith, ap length (hand-below sectors base p.block below)))))
+  | inr from ↦
+      outcome-same carry sectors (hand sectors base p.block) base p.block p
+      (hand-same p base sectors kept from)
 ]
 
-Effect-put_back : (carry : Bool) (p : Patch) (base : ℕ) (sectors changed : List (List ℕ))
+pub Effect-put_back : (carry : Bool) (p : Patch) (base : ℕ) (sectors changed : List (List ℕ))
     → IsPatch p → Effect carry p.block p (hand sectors base p.block) changed
     → Effect carry base p sectors (put_back sectors base p.block changed)
 Effect-put_back carry p base sectors changed kept h = elim (hand-cases sectors base p.block) [
@@ -158,51 +160,33 @@ Effect-put_back carry p base sectors changed kept h = elim (hand-cases sectors b
       (hand-room p base sectors lies kept) h))
 ]
 
-pub hand-stands : (carry : Bool) (base : ℕ) (p : Patch) (sectors changed : List (List ℕ))
-    → IsPatch p
-    → (outcome carry (hand sectors base p.block) p.block p ≡ outcome carry sectors base p)
-    × (Effect carry p.block p (hand sectors base p.block) changed
-    → Effect carry base p sectors (put_back sectors base p.block changed))
-hand-stands carry base p sectors changed kept =
-    (outcome-hand carry p base sectors kept, Effect-put_back carry p base sectors changed kept)
-
 -- ---- a patch on the image is a patch on its hand
 
 IsApplied-hand : (carry : Bool) (p : Patch) (base : ℕ) (old new : List (List ℕ)) → IsPatch p
     → base ≤ p.block → IsApplied carry base p old new
     → IsApplied carry p.block p (hand old base p.block) (hand new base p.block)
 IsApplied-hand carry p base old new kept from h =
-    let most = blocks_met-most p kept in
-    let past =
-    λ (sectors : List (List ℕ)) (block : ℕ) (after : p.block + block_limit ≤ block).
+    let past : (sectors : List (List ℕ)) (block : ℕ) → p.block + block_limit ≤ block
+    → sector_at (hand sectors base p.block) p.block block ≡ None =
+    λ sectors block after.
     sector_at-after (hand sectors base p.block) p.block block
     (omega (arith, length-hand sectors base p.block from)) in
-    record {
-      count =
-          length-hand new base p.block from
-          ∙ ap (λ n. min block_limit (n - (p.block - base))) h.count
-          ∙ sym (length-hand old base p.block from);
-      met = λ k before after inside is was.
-          let low : p.block ≤ p.block + k = omega arith in
-          let high : p.block + k < p.block + block_limit = omega arith in
-          subst (λ user. EditResult carry p.edit before (user_part user k) after)
-          (patched_user-same old (hand old base p.block) base p.block p
-          (λ b first last. sym (hand-at old base p.block b from first (omega arith))))
-          (h.met k before after inside
-          (sym (hand-at old base p.block (p.block + k) from low high) ∙ is)
-          (sym (hand-at new base p.block (p.block + k) from low high) ∙ was));
-      others = λ block side. elim (cases_lt block p.block) [
-        | inl below ↦
-            sector_at-below (hand new base p.block) p.block block below
-            ∙ sym (sector_at-below (hand old base p.block) p.block block below)
-        | inr low ↦ elim (cases_lt block (p.block + block_limit)) [
-          | inl high ↦
-              hand-at new base p.block block from low high ∙ h.others block side
-              ∙ sym (hand-at old base p.block block from low high)
-          | inr after ↦ past new block after ∙ sym (past old block after)
-        ]
-      ];
-    }
+    IsApplied-as carry base p.block p old new (hand old base p.block) (hand new base p.block)
+    (length-hand new base p.block from
+    ∙ ap (λ n. min block_limit (n - (p.block - base))) h.count
+    ∙ sym (length-hand old base p.block from))
+    (hand-same p base old kept from) (hand-same p base new kept from)
+    (λ block side. elim (cases_lt block p.block) [
+      | inl below ↦
+          sector_at-below (hand new base p.block) p.block block below
+          ∙ sym (sector_at-below (hand old base p.block) p.block block below)
+      | inr low ↦ elim (cases_lt block (p.block + block_limit)) [
+        | inl high ↦
+            hand-at new base p.block block from low high ∙ h.others block side
+            ∙ sym (hand-at old base p.block block from low high)
+        | inr after ↦ past new block after ∙ sym (past old block after)
+      ]
+    ]) h
 
 Effect-hand : (carry : Bool) (p : Patch) (base : ℕ) (old new : List (List ℕ)) → IsPatch p
     → Effect carry base p old new
@@ -214,21 +198,13 @@ Effect-hand carry p base old new kept h = elim (cases_lt p.block base) [
       (none ∙ sym (hand-below new base p.block below))
       (Effect-missing carry (hand old base p.block) p.block p (inr (omega (arith, ap length none))))
   | inr from ↦
-      subst (λ o. EffectOf carry o p.block p (hand old base p.block) (hand new base p.block))
-      (sym (outcome-hand carry p base old kept)) (by_outcome from (outcome carry old base p) h)
+      Effect-as carry base p.block p old new _ _ (outcome-hand carry p base old kept)
+      (IsApplied-hand carry p base old new kept from) (ap (λ l. hand l base p.block)) h
 ]
-  where
-    by_outcome : base ≤ p.block → (o : Outcome) → EffectOf carry o base p old new
-        → EffectOf carry o p.block p (hand old base p.block) (hand new base p.block)
-    by_outcome from Applied h = IsApplied-hand carry p base old new kept from h
-    by_outcome from (NoBlock b) h = ap (λ l. hand l base p.block) h
-    by_outcome from (NotMode1 b) h = ap (λ l. hand l base p.block) h
-    by_outcome from (Damaged b) h = ap (λ l. hand l base p.block) h
-    by_outcome from (Differs b offset) h = ap (λ l. hand l base p.block) h
 
 -- ---- runs
 
-to_run : (carry : Bool) (ps : List Patch) (os : List Outcome) (base : ℕ) (old last : List (List ℕ))
+pub to_run : (carry : Bool) (ps : List Patch) (os : List Outcome) (base : ℕ) (old last : List (List ℕ))
     → All IsPatch ps → HandSequence carry ps os base old last
     → PatchSequence carry ps os base old last
 to_run carry [] [] base old last kept h = h
@@ -238,13 +214,13 @@ to_run carry (p ∷ ps) (o ∷ os) base old last kept h =
     let one = All-head IsPatch p ps kept in
     let next = put_back old base p.block h.next in
     record {
-      decided = h.decided ∙ outcome-hand carry p base old one;
+      decided = h.decided ∙ sym (outcome-hand carry p base old one);
       next = next;
       effect = Effect-put_back carry p base old h.next one h.effect;
       others = to_run carry ps os base next last (All-tail IsPatch p ps kept) h.others;
     }
 
-from_run : (carry : Bool) (ps : List Patch) (os : List Outcome) (base : ℕ)
+pub from_run : (carry : Bool) (ps : List Patch) (os : List Outcome) (base : ℕ)
     (old last : List (List ℕ)) → All IsPatch ps → PatchSequence carry ps os base old last
     → HandSequence carry ps os base old last
 from_run carry [] [] base old last kept h = h
@@ -258,16 +234,10 @@ from_run carry (p ∷ ps) (o ∷ os) base old last kept h =
     Effect-determined carry base p old h.next (put_back old base p.block changed) h.effect
     (Effect-put_back carry p base old changed one effect) in
     record {
-      decided = h.decided ∙ sym (outcome-hand carry p base old one);
+      decided = h.decided ∙ outcome-hand carry p base old one;
       next = changed;
       effect = effect;
       others =
           subst (λ l. HandSequence carry ps os base l last) same
           (from_run carry ps os base h.next last (All-tail IsPatch p ps kept) h.others);
     }
-
-pub runs-by_hand : (carry : Bool) (ps : List Patch) (os : List Outcome) (base : ℕ)
-    (old last : List (List ℕ)) → All IsPatch ps
-    → HandSequence carry ps os base old last ↔ PatchSequence carry ps os base old last
-runs-by_hand carry ps os base old last kept =
-    (to_run carry ps os base old last kept, from_run carry ps os base old last kept)

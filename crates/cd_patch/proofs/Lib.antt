@@ -1,4 +1,3 @@
-pub mod AcceptedLemmas
 pub mod AgreeLemmas
 pub mod CarryLemmas
 mod DecidingLemmas
@@ -10,7 +9,6 @@ pub mod BecomesLemmas
 mod MeaningLemmas
 mod PartLemmas
 pub mod RangeLemmas
-pub mod RisingLemmas
 pub mod SequenceLemmas
 pub mod SectorAtLemmas
 mod TakingLemmas

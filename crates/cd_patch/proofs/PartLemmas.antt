@@ -13,19 +13,18 @@ use Rattle.cd_patch.proofs.BecomesLemmas.{Becomes-user}
 
 -- ---- one sector
 
--- the part of the bytes that lies in a sector, written there
-pub HasPart-written : (carried : Bool) (k offset place first end : ℕ)
-    (bytes part header before after : List ℕ) → IsPart k offset (length bytes) place first end
-    → length (user_of before) ≡ 2048 → first + length part ≡ end
-    → ((i : ℕ) → i < length part → get_or part i 0 ≡ get_or bytes (first + i) 0)
-    → Becomes carried before header (with_range (user_of before) place part) after
+-- the part of the bytes that lies in a sector, written there from the front of `source`
+HasPart-written : (carried : Bool) (k offset place first end : ℕ)
+    (bytes source header before after : List ℕ) → IsPart k offset (length bytes) place first end
+    → length (user_of before) ≡ 2048 → end ≤ first + length source
+    → ((i : ℕ) → i < end - first → get_or source i 0 ≡ get_or bytes (first + i) 0)
+    → Becomes carried before header (with_range (user_of before) place (take (end - first) source))
+    after
     → HasPart carried k offset bytes header before after
-HasPart-written carried k offset place first end bytes part header before after at size long
+HasPart-written carried k offset place first end bytes source header before after at size long
     same is_made =
-    let rises = at.rises in
-    let within = at.within in
-    let fits = at.fits in
-    let lies = at.lies in
+    let part = take (end - first) source in
+    let cut = length-take-le (end - first) source (omega arith) in
     let room : place + length part ≤ length (user_of before) = omega arith in
     let user =
     Becomes-user carried before header (with_range (user_of before) place part) after is_made in
@@ -40,7 +39,7 @@ HasPart-written carried k offset place first end bytes part header before after 
           ap (λ u. get_or u j 0) user
           ∙ ap (λ m. get_or (with_range (user_of before) place part) m 0) at_place
           ∙ written-range (user_of before) place part n room (omega arith)
-          ∙ same n (omega arith)
+          ∙ get_or-take (end - first) source n 0 (omega arith) ∙ same n (omega arith)
           ∙ ap (λ m. get_or bytes m 0) at_byte;
       outside = λ j below out.
           let there : (j < place) ⊎ (place + length part ≤ j) =
@@ -115,10 +114,9 @@ pub MadeBelow-more : (Rule : ℕ → List ℕ → List ℕ → Type 0) (k : ℕ)
     → MadeBelow Rule k old new → k < length old → Rule k (get_or old k []) after
     → MadeBelow Rule (k + 1) old (set new k after)
 MadeBelow-more Rule k old new after below inside here =
-    let size = below.size in
     let at : get_or (set new k after) k [] ≡ after = get_or-set_same new k after [] (omega arith) in
     record {
-      size = length-set new k after ∙ size;
+      size = length-set new k after ∙ below.size;
       made = below_more _ _
           (λ i less.
           let apart : i ≢ k = omega arith in
@@ -131,11 +129,9 @@ MadeBelow-more Rule k old new after below inside here =
     }
 
 -- the sector that a loop reads is still the old one
-pub read_old : (Rule : ℕ → List ℕ → List ℕ → Type 0) (k : ℕ) (old new : List (List ℕ)) (d : List ℕ)
-    → MadeBelow Rule k old new → k < length old
-    → get_or new k d ≡ get_or old k []
-read_old Rule k old new d below inside =
-    let size = below.size in
+pub read_old : {Rule : ℕ → List ℕ → List ℕ → Type 0} {k : ℕ} {old new : List (List ℕ)} (d : List ℕ)
+    → MadeBelow Rule k old new → k < length old → get_or new k d ≡ get_or old k []
+read_old {Rule} {k} {old} {new} d below inside =
     get_or_default new k d [] (omega arith) ∙ below.others k (omega arith)
 
 -- ---- bytes that are copied, or equal
@@ -148,16 +144,8 @@ pub HasPart-copied : (carried : Bool) (k offset place first end : ℕ)
     (with_range (user_of before) place (take (end - first) (drop first bytes))) after
     → HasPart carried k offset bytes header before after
 HasPart-copied carried k offset place first end bytes header before after at size is_made =
-    let count = end - first in
-    let rises = at.rises in
-    let within = at.within in
-    let rest = length-drop first bytes in
-    let cut = length-take-le count (drop first bytes) (omega arith) in
-    HasPart-written carried k offset place first end bytes
-    (take count (drop first bytes)) header before after at size (omega arith)
-    (λ i below. get_or-take count (drop first bytes) i 0 (omega arith)
-    ∙ get_or-drop first bytes i 0)
-    is_made
+    HasPart-written carried k offset place first end bytes (drop first bytes) header before after at
+    size (omega (arith, length-drop first bytes)) (λ i below. get_or-drop first bytes i 0) is_made
 
 -- those of a filled range: any of them are the first of a sector of equal bytes
 pub HasPart-filled : (carried : Bool) (k offset place first end count value : ℕ)
@@ -168,19 +156,12 @@ pub HasPart-filled : (carried : Bool) (k offset place first end count value : �
     (with_range (user_of before) place (take (end - first) (replicate 2048 value))) after
     → HasPart carried k offset (replicate count value) header before after
 HasPart-filled carried k offset place first end count value header before after at size is_made =
-    let n = end - first in
-    let bytes = replicate 2048 value in
-    let rises = at.rises in
-    let fits = at.fits in
-    let within = at.within in
     let all = length-replicate count value in
     let long = length-replicate 2048 value in
-    let cut = length-take-le n bytes (omega arith) in
-    HasPart-written carried k offset place first end (replicate count value)
-    (take n bytes) header before after at size (omega arith)
+    HasPart-written carried k offset place first end (replicate count value) (replicate 2048 value)
+    header before after at size (omega arith)
     (λ i below.
-    get_or-take n bytes i 0 (omega arith)
-    ∙ get_or-replicate 2048 i value 0 (omega arith)
+    get_or-replicate 2048 i value 0 (omega arith)
     ∙ sym (get_or-replicate count (first + i) value 0 (omega arith)))
     is_made
 

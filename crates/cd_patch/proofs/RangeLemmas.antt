@@ -8,13 +8,9 @@ use Rattle.cd_patch.specs.Blocks.{block_limit, blocks_met}
 use Rattle.cd_patch.specs.EditMeaning.{new_bytes, old_bytes}
 use Rattle.cd_patch.proofs.MeaningLemmas.{patch-fits}
 
-pub range-room : (p : Patch) → IsPatch p
-    → p.offset + length (new_bytes p.edit) ≤ USER_SIZE * block_limit
-range-room p h = (patch-fits p h).room
-
 pub blocks_met-most : (p : Patch) → IsPatch p → blocks_met p ≤ block_limit
 unfolding blocks_met
-blocks_met-most p h = omega (arith, range-room p h)
+blocks_met-most p h = omega (arith, (patch-fits p h).room)
 
 pub range-inside : (p : Patch) → p.offset + length (new_bytes p.edit) ≤ USER_SIZE * blocks_met p
 unfolding blocks_met
@@ -25,7 +21,7 @@ pub old-fits : (p : Patch) → IsPatch p
     × (p.offset + length (old_bytes p.edit) ≤ USER_SIZE * block_limit)
 old-fits p h =
     let within = (patch-fits p h).must_be_consistent in
-    (omega (arith, range-inside p), omega (arith, range-room p h))
+    (omega (arith, range-inside p), omega (arith, (patch-fits p h).room))
 
 -- a range lies in each of its blocks, and no patch meets more of them than three
 pub record Spans (offset count blocks : ℕ) : Type 0 where
@@ -37,5 +33,5 @@ pub range-spans : (p : Patch) → IsPatch p → 1 ≤ length (new_bytes p.edit)
     → Spans p.offset (length (new_bytes p.edit)) (blocks_met p)
 unfolding blocks_met
 range-spans p h some =
-    let all = range-room p h in
+    let all = (patch-fits p h).room in
     record { few = omega arith; some = omega arith; room = omega arith }

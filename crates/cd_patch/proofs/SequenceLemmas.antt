@@ -2,19 +2,19 @@
 -- there is only one.
 use Rattle.std.proofs.Common.{◌≡◌, ℕ, suc, ◌+◌, ◌-◌, ◌<◌, ◌≤◌, ◌⊎◌, inl, inr, Bool, List, [], ◌∷◌, ◌++◌, length, take, drop, Some, refl, sym, ap, subst, ◌∙◌, arith}
 use Rattle.std.specs.List.{All}
-use Rattle.std.proofs.lemmas.Bool.{cases_lt}
 use Rattle.std.proofs.lemmas.List.{take-append-drop, take_at}
 use Rattle.std.proofs.lemmas.List.Elements.{All-head, All-tail}
 use Rattle.cd_script.specs.PatchForm.{Patch}
 use Rattle.cd_patch.specs.Blocks.{blocks_met, sector_at}
+use Rattle.cd_sector.specs.Consistent.{header_of}
 use Rattle.cd_patch.specs.Deciding.{outcome}
+use Rattle.cd_patch.specs.EditMeaning.{keeps_defect, new_header}
 use Rattle.cd_patch.specs.Effect.{EditResult, Effect, EffectOf, IsApplied, patched_user, user_part}
 use Rattle.cd_patch.specs.Sequence.{PatchSequence}
 use Rattle.cd_patch.specs.declared.outcome.Outcome.{Outcome}
-use Rattle.cd_patch.specs.declared.outcome.Outcome.TheVariants.{Applied, Damaged, Differs, NoBlock, NotMode1}
 use Rattle.cd_patch.proofs.general.Elements.{cases_Option}
-use Rattle.cd_patch.proofs.FrameLemmas.{Effect-length, outcome-same, patched_user-same}
-use Rattle.cd_patch.proofs.BecomesLemmas.{EditResult-unique}
+use Rattle.cd_patch.proofs.FrameLemmas.{Effect-length, EffectOf-refused, by_effect, meets-cases, outcome-same, patched_user-same}
+use Rattle.cd_patch.proofs.BecomesLemmas.{Becomes-unique}
 use Rattle.cd_patch.proofs.SectorAtLemmas.{same_front, same_sectors, sector_at-none, sector_at-other}
 
 -- ---- lengths
@@ -76,15 +76,10 @@ pub Effect-keeps : (carry : Bool) (base : ℕ) (p : Patch) (old new : List (List
     → Effect carry base p old new → (block : ℕ)
     → (block < p.block) ⊎ (p.block + blocks_met p ≤ block)
     → sector_at new base block ≡ sector_at old base block
-Effect-keeps carry base p old new h block side = by_outcome (outcome carry old base p) h
-  where
-    by_outcome : (o : Outcome) → EffectOf carry o base p old new
-        → sector_at new base block ≡ sector_at old base block
-    by_outcome Applied h = h.others block side
-    by_outcome (NoBlock b) h = ap (λ l. sector_at l base block) h
-    by_outcome (NotMode1 b) h = ap (λ l. sector_at l base block) h
-    by_outcome (Damaged b) h = ap (λ l. sector_at l base block) h
-    by_outcome (Differs b offset) h = ap (λ l. sector_at l base block) h
+Effect-keeps carry base p old new h block side =
+    by_effect carry base p old new (λ o. sector_at new base block ≡ sector_at old base block)
+    (λ applied. applied.others block side) (λ o none e. ap (λ l. sector_at l base block) e)
+    (outcome carry old base p) h
 
 pub PatchSequence-keeps : (carry : Bool) (ps : List Patch) (os : List Outcome) (base bound : ℕ)
     (old last : List (List ℕ)) → All (λ p. bound ≤ p.block) ps → PatchSequence carry ps os base old last
@@ -131,18 +126,14 @@ Applied-agree : (carry : Bool) (bound base : ℕ) (p : Patch) (old old' new new'
     → IsApplied carry base p old new → IsApplied carry base p old' new'
     → (block : ℕ) → block < bound → sector_at new base block ≡ sector_at new' base block
 Applied-agree carry bound base p old old' new new' room same h h' block below =
-    elim (cases_lt block p.block) [
-      | inl before ↦
-          h.others block (inl before) ∙ same block below ∙ sym (h'.others block (inl before))
-      | inr from ↦ elim (cases_lt block (p.block + blocks_met p)) [
-        | inr after ↦
-            h.others block (inr after) ∙ same block below ∙ sym (h'.others block (inr after))
-        | inl met ↦ elim (cases_Option (sector_at old base block)) [
-          | inl none ↦
-              sector_at-none old new base block h.count none
-              ∙ sym (sector_at-none old' new' base block h'.count (sym (same block below) ∙ none))
-          | inr some ↦ remade from met some.0 some.1
-        ]
+    elim (meets-cases p block) [
+      | inr other ↦
+          h.others block other.1 ∙ same block below ∙ sym (h'.others block other.1)
+      | inl met ↦ elim (cases_Option (sector_at old base block)) [
+        | inl none ↦
+            sector_at-none old new base block h.count none
+            ∙ sym (sector_at-none old' new' base block h'.count (sym (same block below) ∙ none))
+        | inr some ↦ remade met.1 met.2 some.0 some.1
       ]
     ]
   where
@@ -159,7 +150,7 @@ Applied-agree carry bound base p old old' new new' room same h h' block below =
         let users : patched_user old base p ≡ patched_user old' base p =
         patched_user-same old old' base base p (λ b low high. same b (omega arith)) in
         let equal : after.0 ≡ after'.0 =
-        EditResult-unique carry p.edit before
+        Becomes-unique (keeps_defect carry p.edit) before (new_header p.edit (header_of before))
         (user_part (patched_user old' base p) (block - p.block)) after.0 after'.0
         (subst (λ user. EditResult carry p.edit before
         (user_part user (block - p.block)) after.0) users made) made' in
@@ -174,22 +165,15 @@ pub Effects-agree : (carry : Bool) (bound base : ℕ) (p : Patch) (old old' new 
 Effects-agree carry bound base p old old' new new' room same h h' block below =
     let e : outcome carry old base p ≡ outcome carry old' base p =
     outcome-same carry old old' base base p (λ b low high. same b (omega arith)) in
-    by_outcome (outcome carry old base p) h
-    (subst (λ o. EffectOf carry o base p old' new') (sym e) h')
-  where
-    refused : new ≡ old → new' ≡ old' → sector_at new base block ≡ sector_at new' base block
-    refused e e' =
-        ap (λ l. sector_at l base block) e ∙ same block below
-        ∙ ap (λ l. sector_at l base block) (sym e')
-
-    by_outcome : (o : Outcome) → EffectOf carry o base p old new → EffectOf carry o base p old' new'
-        → sector_at new base block ≡ sector_at new' base block
-    by_outcome Applied h h' =
-        Applied-agree carry bound base p old old' new new' room same h h' block below
-    by_outcome (NoBlock b) h h' = refused h h'
-    by_outcome (NotMode1 b) h h' = refused h h'
-    by_outcome (Damaged b) h h' = refused h h'
-    by_outcome (Differs b offset) h h' = refused h h'
+    by_effect carry base p old new
+    (λ o. EffectOf carry o base p old' new' → sector_at new base block ≡ sector_at new' base block)
+    (λ one other.
+    Applied-agree carry bound base p old old' new new' room same one other block below)
+    (λ o none stays other.
+    ap (λ l. sector_at l base block) stays ∙ same block below
+    ∙ ap (λ l. sector_at l base block)
+    (sym ((EffectOf-refused carry o base p old' new' none).0 other)))
+    (outcome carry old base p) h (subst (λ o. EffectOf carry o base p old' new') (sym e) h')
 
 pub Effect-determined : (carry : Bool) (base : ℕ) (p : Patch) (old new new' : List (List ℕ))
     → Effect carry base p old new → Effect carry base p old new' → new ≡ new'

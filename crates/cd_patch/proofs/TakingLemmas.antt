@@ -1,26 +1,25 @@
 -- What an accepted patch makes of the sectors, and the ranges of edits.
-use Rattle.std.proofs.Common.{◌≡◌, ℕ, zero, suc, ◌+◌, ◌-◌, ◌<◌, ◌≤◌, inl, inr, Bool, true, false, List, [], ◌++◌, length, get_or, take, drop, Option, Some, None, refl, sym, ap, subst, ◌∙◌, arith}
-use Rattle.std.specs.Prelude.{All, not, ◌&&◌, if◌then◌else◌, unwrap_or}
+use Rattle.std.proofs.Common.{◌≡◌, ℕ, ◌+◌, ◌-◌, ◌<◌, ◌≤◌, inl, inr, Bool, true, false, List, [], ◌++◌, length, get_or, take, drop, Option, Some, None, refl, sym, ap, subst, ◌∙◌, arith}
+use Rattle.std.specs.Prelude.{All, ◌&&◌}
 use Rattle.std.proofs.lemmas.List.{get_or_append_left, length-append, length-drop, length-take-le}
 use Rattle.std.proofs.lemmas.Option.{get_or_from_slice_get}
 use Rattle.cd_script.specs.Patch.{IsPatch}
 use Rattle.cd_script.specs.PatchForm.{Patch}
-use Rattle.cd_sector.specs.Consistent.{IsConsistent, consistent, header_of, is_mode1, user_of}
+use Rattle.cd_sector.specs.Consistent.{IsConsistent, header_of, user_of}
 use Rattle.cd_sector.specs.Kind.{kind_of}
 use Rattle.cd_delta.specs.Writing.{with_range}
 use Rattle.cd_sector.specs.declared.kinds.SectorKind.TheVariants.{Mode1}
 use Rattle.cd_patch.specs.Blocks.{blocks_met, sector_at}
 use Rattle.cd_patch.specs.EditMeaning.{EditMeaning, keeps_defect, keeps_old, meaning}
-use Rattle.cd_patch.specs.EditMeaning.{needs_consistent, new_bytes, new_header, old_bytes}
-use Rattle.cd_patch.specs.EditMeaning.{with_address}
-use Rattle.cd_patch.specs.Deciding.{by_difference, either_refusal, first_difference, first_refusal, joined_user, outcome, refusal_at, user_met}
-use Rattle.cd_patch.specs.Effect.{Becomes, Effect, EffectOf, IsApplied, patched_user, user_part}
+use Rattle.cd_patch.specs.EditMeaning.{needs_consistent, new_bytes, new_header, with_address}
+use Rattle.cd_patch.specs.Deciding.{joined_user, outcome, user_met}
+use Rattle.cd_patch.specs.Effect.{Becomes, IsApplied, patched_user, user_part}
 use Rattle.cd_patch.specs.Outcome.{is_applied}
 use Rattle.cd_patch.specs.Parts.{EachBecomes, HasPart, HaveUsers}
 use Rattle.cd_patch.specs.declared.outcome.Outcome.{Outcome}
 use Rattle.cd_patch.specs.declared.outcome.Outcome.TheVariants.{Applied, Damaged, Differs, NoBlock, NotMode1}
 use Rattle.cd_patch.proofs.general.Elements.{get_or-take_default, slice_get-append_drop}
-use Rattle.cd_patch.proofs.DecidingLemmas.{AreMet, AreMet-from, BlocksHaveUsers-from, joined-byte, length-joined, user_at-sector}
+use Rattle.cd_patch.proofs.DecidingLemmas.{AreMet-from, BlocksHaveUsers-from, joined-byte, length-joined, unrefused, user_at-sector}
 use Rattle.cd_patch.proofs.BecomesLemmas.{Becomes-sector}
 use Rattle.cd_patch.proofs.MeaningLemmas.{FitsMeaning, address-only, patch-fits}
 use Rattle.cd_patch.proofs.SectorAtLemmas.{sector_at-add, sector_at-below}
@@ -37,9 +36,11 @@ part_by carry p k before after =
 -- ---- the ways of an edit
 
 -- one that builds on the sector and writes no address writes bytes
-pub part-spans : (p : Patch) → IsPatch p → keeps_old p.edit ≡ true → (meaning p.edit).address ≡ None
+pub part-spans : (p : Patch) {keeps : Bool} {address : Option (List ℕ)} → IsPatch p
+    → keeps ≡ keeps_old p.edit → keeps ≡ true → address ≡ (meaning p.edit).address → address ≡ None
     → Spans p.offset (length (new_bytes p.edit)) (blocks_met p)
-part-spans p patch builds none = range-spans p patch ((patch-fits p patch).some builds none)
+part-spans p patch row builds cell none =
+    range-spans p patch ((patch-fits p patch).some (sym row ∙ builds) (sym cell ∙ none))
 
 -- one that writes an address writes no bytes
 pub part-address : {m : EditMeaning} (carry : Bool) (k offset : ℕ) (address before after : List ℕ)
@@ -65,68 +66,49 @@ part-encoded {m} carry k offset before after fits is made =
     rw (is, neither.1)
     (HasPart-nothing false k offset m.bytes header before after (ap length neither.0) made)
 
--- ---- no refusal is an acceptance
+-- ---- the sectors that an accepted patch meets
 
-refusal-not_applied : (mode must_be_consistent sound : Bool) (block : ℕ)
-    → (if not mode then Some (NotMode1 block) else if must_be_consistent && not sound then Some (Damaged block)
-    else None) ≡ Some Applied → ⊥
-refusal-not_applied true true true block h = cc
-refusal-not_applied true true false block h = cc
-refusal-not_applied true false sound block h = cc
-refusal-not_applied false must_be_consistent sound block h = cc
+-- an accepted patch, and the `n` sectors that it meets
+pub record Taken (carry : Bool) (p : Patch) (ss : List (List ℕ)) (o : Outcome) (n : ℕ)
+    : Type 0 where
+  pub is : o ≡ Applied
+  pub applied : outcome carry ss p.block p ≡ Applied
+  pub room : n ≤ length ss
+  pub size : length (take n ss) ≡ blocks_met p
+  pub mode : All (λ s. kind_of s ≡ Mode1) (take n ss)
+  pub sound : needs_consistent carry p.edit ≡ true → All IsConsistent (take n ss)
 
-refusal_at-not_applied : (must_be_consistent : Bool) (block : ℕ) (sector : Option (List ℕ))
-    → refusal_at must_be_consistent block sector ≡ Some Applied → ⊥
-refusal_at-not_applied must_be_consistent block None h = cc
-refusal_at-not_applied must_be_consistent block (Some sector) h =
-    refusal-not_applied (is_mode1 (kind_of sector)) must_be_consistent (consistent sector) block h
+accepted : (o : Outcome) → is_applied o ≡ true → o ≡ Applied
+accepted Applied h = refl
+accepted (NoBlock block) h = cc
+accepted (NotMode1 block) h = cc
+accepted (Damaged block) h = cc
+accepted (Differs block offset) h = cc
 
-either_refusal-not_applied : (a b : Option Outcome) → (a ≡ Some Applied → ⊥) → (b ≡ Some Applied → ⊥)
-    → either_refusal a b ≡ Some Applied → ⊥
-either_refusal-not_applied None b one two h = two h
-either_refusal-not_applied (Some x) b one two h = one h
+-- what holds of each of the first elements holds of all of the front
+All-front : (P : List ℕ → Type 0) (ss : List (List ℕ)) (n : ℕ) → n ≤ length ss
+    → ((k : ℕ) → k < n → P (get_or ss k [])) → All P (take n ss)
+All-front P ss n room each k d inside =
+    let size = length-take-le n ss room in
+    subst P (sym (get_or-take_default ss n k d [] room inside)) (each k (omega arith))
 
-pub first_refusal-not_applied : (ss : List (List ℕ)) (base : ℕ) (must_be_consistent : Bool) (block count : ℕ)
-    → first_refusal ss base must_be_consistent block count ≡ Some Applied → ⊥
-first_refusal-not_applied ss base must_be_consistent block zero h = cc
-first_refusal-not_applied ss base must_be_consistent block (suc count) h =
-    either_refusal-not_applied (refusal_at must_be_consistent block (sector_at ss base block))
-    (first_refusal ss base must_be_consistent (block + 1) count)
-    (refusal_at-not_applied must_be_consistent block (sector_at ss base block))
-    (first_refusal-not_applied ss base must_be_consistent (block + 1) count) h
-
-pub applied-accepted : (refusal : Option Outcome) (other : Outcome) → (refusal ≡ Some Applied → ⊥)
-    → unwrap_or refusal other ≡ Applied → refusal ≡ None
-applied-accepted None other real h = refl
-applied-accepted (Some r) other real h = absurd (real (ap (λ o. Some o) h))
-
-pub met-where-applied : (carry : Bool) (ss : List (List ℕ)) (p : Patch)
-    → outcome carry ss p.block p ≡ Applied
-    → AreMet (needs_consistent carry p.edit) ss (blocks_met p)
-unfolding outcome
-met-where-applied carry ss p h =
-    let found = first_refusal ss p.block (needs_consistent carry p.edit) p.block (blocks_met p) in
+pub taken : {carry : Bool} {p : Patch} {ss : List (List ℕ)} {o : Outcome} {test : Bool} {n : ℕ}
+    → o ≡ outcome carry ss p.block p → test ≡ is_applied o → test ≡ true → n ≡ blocks_met p
+    → Taken carry p ss o n
+taken {carry} {p} {ss} {o} {test} {n} decided tested passes number =
+    let is : o ≡ Applied = accepted o (sym tested ∙ passes) in
+    let met =
     AreMet-from ss p.block (needs_consistent carry p.edit) (blocks_met p)
-    (applied-accepted found
-    (by_difference p.block
-    (first_difference p.offset (drop p.offset (user_met ss p.block p)) (old_bytes p.edit)))
-    (first_refusal-not_applied ss p.block (needs_consistent carry p.edit) p.block (blocks_met p)) h)
-
--- ---- the sectors before and those after them
-
-pub mode-front : (must_be_consistent : Bool) (ss : List (List ℕ)) (n : ℕ) → AreMet must_be_consistent ss n
-    → All (λ s. kind_of s ≡ Mode1) (take n ss)
-mode-front must_be_consistent ss n met k d inside =
-    let size = length-take-le n ss met.enough in
-    subst (λ s. kind_of s ≡ Mode1) (sym (get_or-take_default ss n k d [] met.enough inside))
-    (met.mode k (omega arith))
-
-pub sound-front : (must_be_consistent : Bool) (ss : List (List ℕ)) (n : ℕ) → AreMet must_be_consistent ss n → must_be_consistent ≡ true
-    → All IsConsistent (take n ss)
-sound-front must_be_consistent ss n met asked k d inside =
-    let size = length-take-le n ss met.enough in
-    subst IsConsistent (sym (get_or-take_default ss n k d [] met.enough inside))
-    (met.sound asked k (omega arith))
+    (unrefused carry ss p.block p (sym decided ∙ is)) in
+    let room : n ≤ length ss = omega (arith, met.enough) in
+    record {
+      is = is;
+      applied = sym decided ∙ is;
+      room = room;
+      size = length-take-le n ss room ∙ number;
+      mode = All-front (λ s. kind_of s ≡ Mode1) ss n room (λ k below. met.mode k (omega arith));
+      sound = λ asked. All-front IsConsistent ss n room (λ k below. met.sound asked k (omega arith));
+    }
 
 -- ---- the effect
 
@@ -186,16 +168,3 @@ IsApplied-from carry p ss front room users each =
                 ∙ sym (sector_at-add ss p.block k))
           ];
     }
-
--- what was accepted, by its test
-pub accepted : (o : Outcome) → is_applied o ≡ true → o ≡ Applied
-accepted Applied h = refl
-accepted (NoBlock block) h = cc
-accepted (NotMode1 block) h = cc
-accepted (Damaged block) h = cc
-accepted (Differs block offset) h = cc
-
-pub Effect-applied : (carry : Bool) (p : Patch) (old new : List (List ℕ))
-    → outcome carry old p.block p ≡ Applied → IsApplied carry p.block p old new
-    → Effect carry p.block p old new
-Effect-applied carry p old new is h = subst (λ o. EffectOf carry o p.block p old new) (sym is) h

@@ -1,5 +1,5 @@
 -- The user data of the blocks that a patch meets, byte by byte, before and after.
-use Rattle.std.proofs.Common.{◌≡◌, ℕ, zero, suc, ◌+◌, ◌-◌, ◌*◌, ◌<◌, ◌≤◌, ◌⊎◌, inl, inr, ◌&&◌, nat_lt, List, [], ◌++◌, length, get_or, take, drop, Some, sym, ap, subst, ◌∙◌, arith, lit<}
+use Rattle.std.proofs.Common.{◌≡◌, ℕ, zero, suc, ◌+◌, ◌-◌, ◌*◌, ◌<◌, ◌≤◌, ◌⊎◌, inl, inr, ◌&&◌, nat_lt, Bool, List, [], ◌++◌, length, get_or, take, drop, Some, sym, ap, subst, ◌∙◌, arith, lit<}
 use Rattle.std.specs.Prelude.{if◌then◌else◌, nat_le, slice_range}
 use Rattle.std.specs.List.{All}
 use Rattle.std.proofs.lemmas.Bool.{and_from, and_left, and_right, cases_lt, cond-false, cond-true, le-leb, le-ltb, lt-leb, lt-ltb}
@@ -18,8 +18,7 @@ use Rattle.cd_patch.specs.EditMeaning.{new_bytes}
 use Rattle.cd_patch.specs.Deciding.{joined_user, user_at, user_met}
 use Rattle.cd_patch.specs.Effect.{patched_user, user_part}
 use Rattle.cd_patch.specs.BySector.{IsSector, byte_by}
-use Rattle.cd_patch.proofs.AcceptedLemmas.{AreThere}
-use Rattle.cd_patch.proofs.DecidingLemmas.{BlocksHaveUsers, joined-byte, length-joined}
+use Rattle.cd_patch.proofs.DecidingLemmas.{AreThere, BlocksHaveUsers, joined-byte, length-joined}
 use Rattle.cd_patch.proofs.general.Elements.{cases_Option}
 use Rattle.cd_patch.proofs.MeaningLemmas.{patch-fits}
 use Rattle.cd_patch.proofs.PartLemmas.{length-user}
@@ -88,8 +87,8 @@ AreBytes-written user offset bytes h k =
     (AreBytes-append bytes (drop (offset + length bytes) user) k
     (AreBytes-drop user (offset + length bytes) h))
 
-module _ (sectors : List (List ℕ)) (base : ℕ) (p : Patch) (each : All IsSector sectors)
-    (there : AreThere sectors base p) where
+module _ (carry : Bool) (sectors : List (List ℕ)) (base : ℕ) (p : Patch)
+    (each : All IsSector sectors) (there : AreThere carry sectors base p) where
   whole : BlocksHaveUsers USER_SIZE sectors base p.block (blocks_met p)
   whole k below =
       let t = there (p.block + k) (omega arith) (omega arith) in

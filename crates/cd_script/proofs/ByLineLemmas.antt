@@ -1,5 +1,5 @@
 -- Lines, each read by itself.
-use Rattle.std.proofs.Common.{◌≡◌, ℕ, ◌+◌, Bool, true, false, cond, List, [], ◌∷◌, length, take, Option, Some, None, Result, Ok, Err, refl, sym, ap, ◌∙◌}
+use Rattle.std.proofs.Common.{◌≡◌, ℕ, ◌+◌, Bool, true, false, cond, List, [], ◌∷◌, length, Option, Some, None, Result, Ok, Err, refl, sym, ap, ◌∙◌}
 use Rattle.std.specs.Prelude.{IfOk, IfSome, ◌<◌}
 use Rattle.std.specs.List.{cons_option}
 use Rattle.std.specs.Option.{option_to_list}
@@ -14,28 +14,8 @@ use Rattle.cd_script.specs.Patch.{IsPatch}
 use Rattle.cd_script.specs.Script.{head_version, is_passed_over, line_at, patches_after, patches_from, script, script_from}
 use Rattle.cd_script.specs.Words.{words}
 use Rattle.cd_script.proofs.PatchLemmas.{line_at-patch}
-use Rattle.cd_script.proofs.WordLemmas.{is_passed_over-take, head_version-take}
 
--- ---- the head line, of which the first seven words were found
-
-pub head_at-passed : (line : ℕ) (text : List ℕ) (found : List (List ℕ))
-    → found ≡ take 7 (words text) → is_passed_over found ≡ true → head_at line text ≡ Ok None
-unfolding head_at
-head_at-passed line text found is passed =
-    let passes : is_passed_over (words text) ≡ true =
-    sym (is_passed_over-take (words text)) ∙ ap is_passed_over (sym is) ∙ passed in
-    rw passes refl
-
-pub head_at-is : (line : ℕ) (text : List ℕ) (found : List (List ℕ)) (named : Option Version)
-    → found ≡ take 7 (words text) → is_passed_over found ≡ false → head_version found ≡ named
-    → head_at line text ≡ head_or_fault line named
-unfolding head_at
-head_at-is line text found named is other head =
-    let passes : is_passed_over (words text) ≡ false =
-    sym (is_passed_over-take (words text)) ∙ ap is_passed_over (sym is) ∙ other in
-    let heads : head_version (words text) ≡ named =
-    sym (head_version-take (words text)) ∙ ap head_version (sym is) ∙ head in
-    rw (passes, heads) refl
+-- ---- the head line
 
 -- the lines after one in which this head line was found
 abbrev pub after_head : ℕ → List (List ℕ) → Option Version → Result (List Patch) ScriptFault

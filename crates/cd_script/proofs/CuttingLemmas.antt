@@ -1,5 +1,5 @@
 -- A text, cut after its first line.
-use Rattle.std.proofs.Common.{◌≡◌, ◌+◌, ◌<◌, ◌≤◌, ℕ, suc, false, List, [], ◌∷◌, ◌++◌, length, length-take, take, drop, slice_index, subst, sym, ap, ◌∙◌, arith, add-one}
+use Rattle.std.proofs.Common.{◌≡◌, ◌+◌, ◌<◌, ◌≤◌, ℕ, suc, false, List, ◌∷◌, ◌++◌, length, length-take, take, drop, slice_index, refl, subst, sym, ap, ◌∙◌, arith, add-one}
 use Rattle.std.specs.Str.Lines.{lines, strip_carriage_return}
 use Rattle.std.proofs.lemmas.Bool.{eqb-true, false_from_ne_true}
 use Rattle.std.proofs.lemmas.List.{get_or-take, get_or_default, take-append-drop, take_all, drop_all, take-take}
@@ -40,6 +40,4 @@ first-last text never some =
     (false_from_ne_true _ (never k (omega arith) lt)) in
     let front = take_all (length text) text (omega arith) in
     let back = drop_all (length text) text (omega arith) in
-    lines-last text none some
-    ∙ ap (λ (l : List ℕ). l ∷ lines []) (sym front)
-    ∙ ap (λ (l : List ℕ). take (length text) text ∷ lines l) (sym back)
+    lines-last text none some ∙ sym (rw (front, back) refl)

@@ -87,20 +87,18 @@ hex_test (high ∷ low ∷ rest) =
     ∙ ap (λ (b : Bool).
     b && (is_hex_digit high && (is_hex_digit low && list_all is_hex_digit rest))) (sym even)
 
-odd_test : (o : Option (List ℕ)) → is_some o ≡ false → None ≡ o
-odd_test None e = refl
-odd_test (Some x) e = cc
+none_from : (o : Option (List ℕ)) → is_some o ≡ false → None ≡ o
+none_from None e = refl
+none_from (Some x) e = cc
 
 pub hex_odd : (s : List ℕ) → length s % 2 ≡ 1 → None ≡ hex_bytes s
 hex_odd s odd =
-    odd_test (hex_bytes s)
-    (hex_test s ∙ ap (λ (b : Bool). b && list_all is_hex_digit s)
-    (ne_eqb (length s % 2) 0 (λ e. omega arith)))
+    let test : (length s % 2 == 0) ≡ false = ne_eqb (length s % 2) 0 (λ e. omega arith) in
+    none_from (hex_bytes s) (hex_test s ∙ rw test refl)
 
 pub hex_other : (s : List ℕ) → list_all is_hex_digit s ≡ false → None ≡ hex_bytes s
 hex_other s other =
-    odd_test (hex_bytes s)
-    (hex_test s ∙ ap (λ (b : Bool). (length s % 2 == 0) && b) other ∙ and-false (length s % 2 == 0))
+    none_from (hex_bytes s) (hex_test s ∙ rw other (and-false (length s % 2 == 0)))
 
 pub hex_some : (s : List ℕ) → length s % 2 ≡ 0 → list_all is_hex_digit s ≡ true
     → IsSome (hex_bytes s)
@@ -112,9 +110,10 @@ length-hex_bytes s bytes e =
     (decode_of-ok s bytes (decoded (decode_of s) bytes (result_ok-decode_of s ∙ e))).2
 
 -- room for as many bytes as a hex word spells takes them
-pub decode_sized-hex : (s bytes : List ℕ) (n : ℕ) → hex_bytes s ≡ Some bytes → n ≡ length bytes
-    → decode_sized s n ≡ Ok bytes
-decode_sized-hex s bytes n e same =
+pub decode_sized-hex : (s bytes : List ℕ) (n : ℕ) → IsSome (hex_bytes s) → spelled_bytes s ≡ bytes
+    → n ≡ length bytes → decode_sized s n ≡ Ok bytes
+decode_sized-hex s bytes n some are same =
+    let e = hex_spells s bytes some are in
     let long = length-hex_bytes s bytes e in
     decode_sized-twice s n (omega arith) ∙ decoded (decode_of s) bytes (result_ok-decode_of s ∙ e)
 

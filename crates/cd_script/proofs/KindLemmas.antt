@@ -264,9 +264,6 @@ address-keeps : (word : List ℕ) → IfSome (address_bytes word) IsAddress
 unfolding address_bytes
 address-keeps word = grind (arith, header_bytes-keeps)
 
-is_digit : (b : ℕ) → 48 ≤ b → b ≤ 57 → is_ascii_digit b ≡ true
-is_digit b low high = grind (arith, nat_tests)
-
 bcd_below-digits : (limit n : ℕ) → n < limit → limit ≤ minute_limit
     → bcd_below limit (high_digit (packed_bcd n)) (low_digit (packed_bcd n)) ≡ Some (packed_bcd n)
 unfolding bcd_below

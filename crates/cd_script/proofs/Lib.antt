@@ -1,7 +1,6 @@
 pub mod FormLemmas
 pub mod HexLemmas
 pub mod KindLemmas
-pub mod WordLemmas
 pub mod LineLemmas
 pub mod OrderLemmas
 pub mod PatchLemmas

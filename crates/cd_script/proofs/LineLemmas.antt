@@ -1,5 +1,5 @@
 -- Lines, read one after the other as a loop does.
-use Rattle.std.proofs.Common.{◌≡◌, ℕ, ◌+◌, ◌≤◌, true, false, List, [], ◌∷◌, ◌++◌, length, take, Option, Some, None, Result, Ok, Err, refl, subst, sym, ap, ◌∙◌, arith}
+use Rattle.std.proofs.Common.{◌≡◌, ℕ, ◌+◌, ◌≤◌, false, List, [], ◌∷◌, ◌++◌, length, take, Option, Some, None, Result, Ok, Err, refl, subst, sym, ap, ◌∙◌, arith}
 use Rattle.std.specs.Prelude.{is_some, IsOk}
 use Rattle.std.specs.Int.{from_bool}
 use Rattle.std.specs.List.{cons_option}
@@ -10,11 +10,10 @@ use Rattle.cd_script.specs.declared.fault.ScriptFault.{ScriptFault}
 use Rattle.cd_script.specs.declared.fault.ScriptFault.TheVariants.{Head}
 use Rattle.cd_script.specs.PatchForm.{Patch}
 use Rattle.cd_script.specs.declared.version.Version.{Version}
-use Rattle.cd_script.specs.Line.{patch_by}
+use Rattle.cd_script.specs.Line.{patch_at, patch_by}
 use Rattle.cd_script.specs.FirstFault.{◌>>=◌}
-use Rattle.cd_script.specs.Script.{at_limit, is_passed_over, head_version, line_at, patches_after, patches_from, script_from}
+use Rattle.cd_script.specs.Script.{at_limit, is_passed_over, line_at, patches_from, script_from}
 use Rattle.cd_script.specs.Words.{words}
-use Rattle.cd_script.proofs.WordLemmas.{is_passed_over-take, head_version-take, patch_by-take}
 
 -- if a reading has no fault, neither has what was returned for it
 pub reads_ok : {X : Type 0} (r read : Result X ScriptFault) → r ≡ read
@@ -22,7 +21,15 @@ pub reads_ok : {X : Type 0} (r read : Result X ScriptFault) → r ≡ read
 reads_ok (Ok x) read h sound = refl
 reads_ok (Err e) read h sound = absurd (sound e (sym h))
 
--- ---- one line, of which the first seven words were found
+-- ---- one line, of which the first seven words were found: they say all that the words of it say
+
+is_passed_over-take : (ws : List (List ℕ)) → is_passed_over (take 7 ws) ≡ is_passed_over ws
+is_passed_over-take ws = grind arith
+
+patch_by-take : (version : Version) (line : ℕ) (ws : List (List ℕ))
+    → patch_by version line (take 7 ws) ≡ patch_by version line ws
+unfolding patch_at patch_by
+patch_by-take version line ws = grind arith
 
 pub line_at-is : (version : Version) (line earlier : ℕ) (text : List ℕ) (found : List (List ℕ))
     (r : Result Patch ScriptFault) → found ≡ take 7 (words text) → is_passed_over found ≡ false
@@ -68,18 +75,11 @@ pub goes_on : (version : Version) (front after : List Patch) (line count earlier
 unfolding patches_from
 goes_on version front after line count earlier later text all rest found total same more grown
     parts read so_far =
-    let reads : line_at version line earlier text ≡ Ok found =
-    ap (λ (n : ℕ). line_at version line n text) (sym same) ∙ read in
-    let step : with_front front (patches_from version line earlier (text ∷ rest))
+    let step : with_front front (patches_from version line earlier all)
     ≡ with_front (front ++ option_to_list found)
     (patches_from version (line + 1) (earlier + length (option_to_list found)) rest) =
-    rw reads (regroup front found
-    (patches_from version (line + 1) (earlier + length (option_to_list found)) rest)) in
-    ap (λ (qs : List Patch). with_front qs (patches_from version (line + 1) later rest)) grown
-    ∙ ap (λ (n : ℕ).
-    with_front (front ++ option_to_list found) (patches_from version (line + 1) n rest)) more
-    ∙ sym step ∙ ap (λ (ls : List (List ℕ)).
-    with_front front (patches_from version line earlier ls)) (sym parts) ∙ so_far
+    rw (parts, ← same, read) (regroup front found _) in
+    rw (grown, more) (sym step ∙ so_far)
 
 -- if the lines have no fault, the next has none
 pub next_sound : (version : Version) (front : List Patch) (line count earlier : ℕ) (text : List ℕ)
@@ -89,13 +89,7 @@ pub next_sound : (version : Version) (front : List Patch) (line count earlier : 
     → line_at version line count text ≡ Err e → ⊥
 unfolding patches_from
 next_sound version front line count earlier text all rest e total same parts so_far sound read =
-    let reads : line_at version line earlier text ≡ Err e =
-    ap (λ (n : ℕ). line_at version line n text) (sym same) ∙ read in
-    let step : with_front front (patches_from version line earlier (text ∷ rest)) ≡ Err e =
-    rw reads refl in
-    let bad : total ≡ Err e =
-    sym so_far ∙ ap (λ (ls : List (List ℕ)).
-    with_front front (patches_from version line earlier ls)) parts ∙ step in
+    let bad : total ≡ Err e = sym so_far ∙ rw (parts, ← same, read) refl in
     let no : IsOk {T = List Patch} {E = ScriptFault} (Err e) = subst IsOk bad sound in
     cc
 
@@ -104,10 +98,7 @@ pub all_read : (version : Version) (front : List Patch) (line earlier : ℕ) (al
     → with_front front (patches_from version line earlier all) ≡ total → total ≡ Ok front
 unfolding patches_from
 all_read version front line earlier all total none so_far =
-    let end : with_front front (patches_from version line earlier []) ≡ Ok front =
-    ap (λ (qs : List Patch). Ok qs) (append-nil front) in
-    sym so_far ∙ ap (λ (ls : List (List ℕ)).
-    with_front front (patches_from version line earlier ls)) none ∙ end
+    sym so_far ∙ rw none (ap (λ (qs : List Patch). Ok qs) (append-nil front))
 
 -- ---- the first fault of lines
 
@@ -117,8 +108,7 @@ pub fault_later : (version : Version) (line earlier : ℕ) (text : List ℕ) (al
     ≡ result_err (patches_from version (line + 1) (earlier + length (option_to_list found)) rest)
 unfolding patches_from
 fault_later version line earlier text all rest found parts read =
-    ap (λ (ls : List (List ℕ)). result_err (patches_from version line earlier ls)) parts
-    ∙ rw read (same_fault
+    rw (parts, read) (same_fault
     (patches_from version (line + 1) (earlier + length (option_to_list found)) rest)
     (cons_option found))
 
@@ -126,15 +116,12 @@ pub fault_here : (version : Version) (line earlier : ℕ) (text : List ℕ) (all
     (e : ScriptFault) → all ≡ text ∷ rest → line_at version line earlier text ≡ Err e
     → result_err (patches_from version line earlier all) ≡ Some e
 unfolding patches_from
-fault_here version line earlier text all rest e parts read =
-    ap (λ (ls : List (List ℕ)). result_err (patches_from version line earlier ls)) parts
-    ∙ rw read refl
+fault_here version line earlier text all rest e parts read = rw (parts, read) refl
 
 pub fault_none : (version : Version) (line earlier : ℕ) (all : List (List ℕ)) → all ≡ []
     → result_err (patches_from version line earlier all) ≡ None
 unfolding patches_from
-fault_none version line earlier all none =
-    ap (λ (ls : List (List ℕ)). result_err (patches_from version line earlier ls)) none
+fault_none version line earlier all none = rw none refl
 
 -- one more if a line has a patch
 pub counted : {X : Type 0} (found : Option X)
@@ -147,27 +134,6 @@ counted-most None = omega arith
 counted-most (Some x) = omega arith
 
 -- ---- the lines down to the head line
-
-pub head_passed : (line : ℕ) (text : List ℕ) (rest found : List (List ℕ))
-    → found ≡ take 7 (words text) → is_passed_over found ≡ true
-    → script_from line (text ∷ rest) ≡ script_from (line + 1) rest
-unfolding script_from
-head_passed line text rest found is passed =
-    let passes : is_passed_over (words text) ≡ true =
-    sym (is_passed_over-take (words text)) ∙ ap is_passed_over (sym is) ∙ passed in
-    rw passes refl
-
--- the lines after a head line, or its fault
-pub head_read : (line : ℕ) (text : List ℕ) (rest found : List (List ℕ)) (named : Option Version)
-    → found ≡ take 7 (words text) → is_passed_over found ≡ false → head_version found ≡ named
-    → script_from line (text ∷ rest) ≡ patches_after line named rest
-unfolding script_from
-head_read line text rest found named is patch head =
-    let passes : is_passed_over (words text) ≡ false =
-    sym (is_passed_over-take (words text)) ∙ ap is_passed_over (sym is) ∙ patch in
-    let heads : head_version (words text) ≡ named =
-    sym (head_version-take (words text)) ∙ ap head_version (sym is) ∙ head in
-    rw (passes, heads) refl
 
 pub head_absent : (line : ℕ) → script_from line [] ≡ Err (Head line)
 unfolding script_from

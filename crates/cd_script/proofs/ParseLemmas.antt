@@ -4,6 +4,7 @@ use Rattle.std.specs.Prelude.{filter, not, ◌==◌, ◌&&◌}
 use Rattle.std.specs.List.Sorted.{IsSortedByKey, IsStableByKey}
 use Rattle.std.specs.Ordering.{nat_cmp, is_lt}
 use Rattle.std.proofs.lemmas.Bool.Decides.{nat_tests}
+use Rattle.std.proofs.lemmas.List.Elements.{filter_agree}
 use Rattle.std.proofs.lemmas.List.Sorted.{answers_always, IsNonDecreasingBy-from_sort, All-permutation, length_permutation}
 use denote.Ref.{Bor}
 use Rattle.std.specs.Fn.{Called, ComputesKey, Mut}
@@ -17,17 +18,10 @@ use Rattle.cd_script.specs.Patch.{IsPatch, IsPatchList}
 use Rattle.cd_script.specs.Script.{patches_from, script, script_from}
 use Rattle.cd_script.proofs.general.Lines.{lines-is}
 use Rattle.cd_script.proofs.OrderLemmas.{order-rises, order-permutes, order-only}
-use Rattle.cd_script.proofs.PatchLemmas.{script-each, script-count}
+use Rattle.cd_script.proofs.PatchLemmas.{script-behind}
 
 tie : (k b : ℕ) → (not (is_lt (nat_cmp k b)) && not (is_lt (nat_cmp b k))) ≡ (b == k)
 tie k b = grind (arith, nat_tests)
-
-filter-same : (p q : Patch → Bool) → ((x : Patch) → p x ≡ q x) → (ps : List Patch)
-    → filter p ps ≡ filter q ps
-filter-same p q same [] = refl
-filter-same p q same (x ∷ ps) =
-    ap (λ (b : Bool). cond b (x ∷ filter p ps) (filter p ps)) (same x)
-    ∙ ap (λ (l : List Patch). cond (q x) (x ∷ l) l) (filter-same p q same ps)
 
 -- what a stable sort by the block gives
 pub sorted-order : (ps qs : List Patch) → IsSortedByKey (λ p. p.block) nat_cmp qs
@@ -37,9 +31,9 @@ sorted-order ps qs sorted stable =
     let test : Patch → Bool = λ p.
     not (is_lt (nat_cmp k p.block)) && not (is_lt (nat_cmp p.block k)) in
     let same : (x : Patch) → test x ≡ stands_in k x = λ x. tie k x.block in
-    sym (filter-same test (stands_in k) same qs)
+    sym (filter_agree test (stands_in k) same qs)
     ∙ stable (record { line = 0; block = k; offset = 0; edit = Rebuild })
-    ∙ filter-same test (stands_in k) same ps)
+    ∙ filter_agree test (stands_in k) same ps)
 
 -- what a stable sort by a closure that returns the block gives
 pub in_order : {F : Type 0} {g : Mut F (Bor Patch × Unit {0}) ℕ} {f : F} (ps qs : List Patch)
@@ -53,12 +47,13 @@ in_order {F} {g} {f} ps qs sorted stable each =
 
 pub order-list : (ls : List (List ℕ)) (ps : List Patch) → script_from 1 ls ≡ Ok ps
     → IsPatchList (order ps)
-order-list ls ps e = record {
-  each = All-permutation IsPatch ps (order ps) (order-permutes ps) (script-each 1 ls ps e);
-  count =
-      omega (arith, length_permutation ps (order ps) (order-permutes ps), script-count 1 ls ps e);
-  rising = order-rises ps;
-}
+order-list ls ps e =
+    let h = script-behind 1 ls ps e in
+    record {
+      each = All-permutation IsPatch ps (order ps) (order-permutes ps) h.each;
+      count = omega (arith, length_permutation ps (order ps) (order-permutes ps));
+      rising = order-rises ps;
+    }
 
 -- the script of a text is what its lines after the head line give
 pub script-rest : (version : Version) (text bytes : List ℕ) (all rest : List (List ℕ)) (head : ℕ)

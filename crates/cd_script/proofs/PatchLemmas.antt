@@ -75,7 +75,7 @@ line_at-patch version line earlier text =
     grind (arith, nat_tests, patch_by-patch version line (words text))
 
 -- patches of lines after so many others
-record AreBehind (earlier : ℕ) (ps : List Patch) : Type 0 where
+pub record AreBehind (earlier : ℕ) (ps : List Patch) : Type 0 where
   pub each : All IsPatch ps
   pub count : earlier + length ps ≤ patch_limit
 
@@ -120,11 +120,6 @@ script_from-patches line (text ∷ rest) =
     cond_keeps _ (is_passed_over (words text)) _ _ (λ _. script_from-patches (line + 1) rest)
     (λ _. patches_after-patches line (head_version (words text)) rest)
 
-pub script-each : (line : ℕ) (ls : List (List ℕ)) (ps : List Patch) → script_from line ls ≡ Ok ps
-    → All IsPatch ps
-script-each line ls ps e = (IfOk-at_ok (AreBehind 0) e (script_from-patches line ls)).each
-
-pub script-count : (line : ℕ) (ls : List (List ℕ)) (ps : List Patch) → script_from line ls ≡ Ok ps
-    → length ps ≤ patch_limit
-script-count line ls ps e =
-    omega (arith, (IfOk-at_ok (AreBehind 0) e (script_from-patches line ls)).count)
+pub script-behind : (line : ℕ) (ls : List (List ℕ)) (ps : List Patch) → script_from line ls ≡ Ok ps
+    → AreBehind 0 ps
+script-behind line ls ps e = IfOk-at_ok (AreBehind 0) e (script_from-patches line ls)

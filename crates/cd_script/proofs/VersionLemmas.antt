@@ -16,34 +16,22 @@ use Rattle.cd_script.specs.Script.{at_limit, head_version, is_passed_over, line_
 use Rattle.cd_script.specs.Versions.{is_first_head, first_line_at, first_patches_from, first_script_from, first_script, version_of, has_new_verb}
 use Rattle.cd_script.specs.Words.{words}
 
--- lines that are read alike after a line that is read
-same_rest : (read : Result (Option Patch) ScriptFault) (earlier : ℕ)
-    (one other : ℕ → Result (List Patch) ScriptFault) → ((n : ℕ) → one n ≡ other n)
-    → (read >>= λ found. one (earlier + length (option_to_list found))
-    >>= λ others. Ok (cons_option found others))
-    ≡ (read >>= λ found. other (earlier + length (option_to_list found))
-    >>= λ others. Ok (cons_option found others))
-same_rest (Ok found) earlier one other same =
-    ap (λ (r : Result (List Patch) ScriptFault). r >>= λ others. Ok (cons_option found others))
-    (same (earlier + length (option_to_list found)))
-same_rest (Err e) earlier one other same = refl
+-- what follows is read alike
+same_rest : {X Y : Type 0} (read : Result X ScriptFault) (one other : X → Result Y ScriptFault)
+    → ((x : X) → one x ≡ other x) → (read >>= one) ≡ (read >>= other)
+same_rest (Ok x) one other same = same x
+same_rest (Err e) one other same = refl
 
 -- ---- the first version
 
-first-line : (line earlier : ℕ) (text : List ℕ)
-    → line_at One line earlier text ≡ first_line_at line earlier text
-unfolding line_at first_line_at patch_by
-first-line line earlier text = refl
-
 first-patches : (line earlier : ℕ) (texts : List (List ℕ))
     → patches_from One line earlier texts ≡ first_patches_from line earlier texts
-unfolding patches_from first_patches_from
+unfolding patches_from first_patches_from line_at first_line_at patch_by
 first-patches line earlier [] = refl
 first-patches line earlier (text ∷ rest) =
-    let here = first-line line earlier text in
-    rw here (same_rest (first_line_at line earlier text) earlier
-    (λ n. patches_from One (line + 1) n rest) (λ n. first_patches_from (line + 1) n rest)
-    (λ n. first-patches (line + 1) n rest))
+    same_rest (first_line_at line earlier text) _ _ (λ found.
+    ap (λ (r : Result (List Patch) ScriptFault). r >>= λ others. Ok (cons_option found others))
+    (first-patches (line + 1) (earlier + length (option_to_list found)) rest))
 
 first-head : (ws : List (List ℕ)) (line : ℕ) (rest : List (List ℕ)) → head_version ws ≢ Some Two
     → patches_after line (head_version ws) rest
@@ -97,6 +85,6 @@ second-extends line earlier (text ∷ rest) old =
     second-line line earlier text
     (All-head (λ text. has_new_verb (words text) ≡ false) text rest old) in
     let later = All-tail (λ text. has_new_verb (words text) ≡ false) text rest old in
-    rw here (same_rest (line_at One line earlier text) earlier
-    (λ n. patches_from Two (line + 1) n rest) (λ n. patches_from One (line + 1) n rest)
-    (λ n. second-extends (line + 1) n rest later))
+    rw here (same_rest (line_at One line earlier text) _ _ (λ found.
+    ap (λ (r : Result (List Patch) ScriptFault). r >>= λ others. Ok (cons_option found others))
+    (second-extends (line + 1) (earlier + length (option_to_list found)) rest later)))

@@ -54,6 +54,14 @@ replaces SetTrue = true
 replaces SetFalse = true
 replaces _ = false
 
+used_as-replaces : (x : ArgAction) (id : Text) (how : Reading) (values : List Text)
+    (rows : List Row) → replaces x ≡ true
+    → used_as x id how values rows ≡ with_values id how CommandLine values (without id rows)
+used_as-replaces Set id how values rows h = refl
+used_as-replaces SetTrue id how values rows h = refl
+used_as-replaces SetFalse id how values rows h = refl
+used_as-replaces _ id how values rows h = cc
+
 -- the row has a first value, of which Q holds
 pub record Starts (Q : Text → Reading → Text → Type 0) (r : Row) : Type 0 where
   pub first : Text
@@ -104,27 +112,16 @@ module _ (Q : Text → Reading → Text → Type 0) where
         tt,
       )) h
 
-  used_as_starts : (x : ArgAction) (id : Text) (how : Reading) (values : List Text) (t : Text)
-      (rows : List Row) → replaces x ≡ true → slice_get values 0 ≡ Some t → Q id how t
-      → AllStart rows → AllStart (used_as x id how values rows)
-  used_as_starts Set id how values t rows r e q h =
-      with_values_starts id how CommandLine values t (without id rows) e q
-      (at_row_starts id (λ _. []) [] rows tt (λ _ _. tt) h)
-  used_as_starts SetTrue id how values t rows r e q h =
-      with_values_starts id how CommandLine values t (without id rows) e q
-      (at_row_starts id (λ _. []) [] rows tt (λ _ _. tt) h)
-  used_as_starts SetFalse id how values t rows r e q h =
-      with_values_starts id how CommandLine values t (without id rows) e q
-      (at_row_starts id (λ _. []) [] rows tt (λ _ _. tt) h)
-  used_as_starts _ id how values t rows r e q h = cc
-
   used_starts : (again : Bool) (a : Rule) (values : List Text) (rows : List Row) → IsUsedBy Q a
       → use_fault again a values rows ≡ []
       → AllStart rows → AllStart (used a values rows)
   used_starts again a values rows by e h =
       let u = by.use_of again values rows e in
-      used_as_starts (action_of a) a.id (reading_by a)
-      (values_or_missing a values) u.first rows u.replacing u.is_first u.holds h
+      rw (used_as-replaces (action_of a) a.id (reading_by a) (values_or_missing a values) rows
+      u.replacing)
+      (with_values_starts a.id (reading_by a) CommandLine (values_or_missing a values) u.first
+      (without a.id rows) u.is_first u.holds
+      (at_row_starts a.id (λ _. []) [] rows tt (λ _ _. tt) h))
 
   default_starts : (a : Rule) (rows : List Row) → IsUsedBy Q a → AllStart rows
       → AllStart (with_default rows a)

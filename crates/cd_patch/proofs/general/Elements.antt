@@ -1,7 +1,7 @@
 -- Lists by `slice_get`: the element at an index, or none.
 use Rattle.std.proofs.Common.{◌≡◌, ℕ, zero, suc, ◌+◌, ◌-◌, ◌<◌, ◌≤◌, ◌⊎◌, inl, inr, List, [], ◌∷◌, ◌++◌, length, get_or, take, drop, Option, Some, None, refl, subst, sym, ap, ◌∙◌, arith}
 use Rattle.std.specs.List.{slice_get}
-use Rattle.std.proofs.lemmas.List.{get_or_default, get_or-take, length-take-le}
+use Rattle.std.proofs.lemmas.List.{get_or_default, get_or-take, length-take-le, take_all}
 use Rattle.std.proofs.lemmas.Option.{none-some, same_Some}
 
 pub slice_get-append_left : {X : Type 0} (xs ys : List X) (i : ℕ) → i < length xs
@@ -47,15 +47,6 @@ slice_get-append_drop front xs n k long after =
     slice_get-append_right front (drop n xs) (k - n) k (omega arith)
     ∙ slice_get-drop n xs (k - n) ∙ ap (slice_get xs) place
 
--- two lists are equal if they have equal elements
-pub same_elements : {X : Type 0} (xs ys : List X) → ((i : ℕ) → slice_get xs i ≡ slice_get ys i)
-    → xs ≡ ys
-same_elements [] [] h = refl
-same_elements [] (y ∷ ys) h = absurd (none-some y (h 0))
-same_elements (x ∷ xs) [] h = absurd (none-some x (sym (h 0)))
-same_elements (x ∷ xs) (y ∷ ys) h =
-    ap (λ t. t ∷ xs) (same_Some x y (h 0)) ∙ ap (λ l. y ∷ l) (same_elements xs ys (λ i. h (suc i)))
-
 pub same_take : {X : Type 0} (n : ℕ) (xs ys : List X)
     → ((i : ℕ) → i < n → slice_get xs i ≡ slice_get ys i) → take n xs ≡ take n ys
 same_take zero xs ys h = refl
@@ -65,6 +56,14 @@ same_take (suc n) (x ∷ xs) [] h = absurd (none-some x (sym (h 0 (omega arith))
 same_take (suc n) (x ∷ xs) (y ∷ ys) h =
     ap (λ t. t ∷ take n xs) (same_Some x y (h 0 (omega arith)))
     ∙ ap (λ l. y ∷ l) (same_take n xs ys (λ i k. h (suc i) (omega arith)))
+
+-- two lists are equal if they have equal elements
+pub same_elements : {X : Type 0} (xs ys : List X) → ((i : ℕ) → slice_get xs i ≡ slice_get ys i)
+    → xs ≡ ys
+same_elements xs ys h =
+    let n = length xs + length ys in
+    sym (take_all n xs (omega arith)) ∙ same_take n xs ys (λ i below. h i)
+    ∙ take_all n ys (omega arith)
 
 pub cases_Option : {X : Type 0} (o : Option X) → (o ≡ None) ⊎ ((x : X) × (o ≡ Some x))
 cases_Option None = inl refl

@@ -61,18 +61,17 @@ lines_of-cut l rest none =
     let back : drop (length l + 1) bs ≡ rest =
     ap (drop (length l + 1)) (regroup l rest)
     ∙ drop_at (l ++ 10 ∷ []) rest (length l + 1) (omega arith) in
-    lines-step bs (omega arith) ∙ ap (λ (n : ℕ). take n bs ∷ lines_of (drop n bs)) first
-    ∙ ap (λ (t : List ℕ). t ∷ lines_of (drop (length l + 1) bs)) front
-    ∙ ap (λ (t : List ℕ). (l ++ 10 ∷ []) ∷ lines_of t) back
+    lines-step bs (omega arith) ∙ rw (first, front, back) refl
 
 lines_of-last : (l : List ℕ) → NoFeed l → 0 < length l → lines_of l ≡ l ∷ []
 lines_of-last l none some =
     lines-step l some
-    ∙ ap (λ (n : ℕ). take n l ∷ lines_of (drop n l))
-    (line_len-none l (λ k lt. no_feed_at l k none lt))
-    ∙ ap (λ (t : List ℕ). t ∷ lines_of (drop (length l) l)) (take_all (length l) l (omega arith))
-    ∙ ap (λ (t : List ℕ). l ∷ lines_of t) (drop_all (length l) l (omega arith))
-    ∙ ap (λ (ls : List (List ℕ)). l ∷ ls) lines-nil
+    ∙ rw (
+      line_len-none l (λ k lt. no_feed_at l k none lt),
+      take_all (length l) l (omega arith),
+      drop_all (length l) l (omega arith),
+      lines-nil,
+    ) refl
 
 no_cr-is : (l : List ℕ) → no_cr l ≡ strip_carriage_return l
 no_cr-is [] = refl

@@ -1,16 +1,10 @@
-use Rattle.std.proofs.Common.{codes}
-use Rattle.cd_args.specs.CommandLine.{patching_shape, text_rule}
-use Rattle.cd_args.proofs.CliLemmas.{local-with, shape-with}
+use Rattle.cd_args.proofs.CliLemmas.{made-with}
 use Rattle.cd_args.proofs.cli.apply_command.Goals as goal
 
-pub returns-clause-shape : goal.returns-clause-shape
-returns-clause-shape c =
-    shape-with c.patching_command-command.result c.with_argument.result _ (text_rule (codes "out"))
-    (patching_shape (codes "apply"))
-    c.patching_command-command.ensures.shape c.with_argument.ensures.shape
-    c.out_argument.ensures.rule
-
-pub returns-clause-local : goal.returns-clause-local
-returns-clause-local c =
-    local-with c.patching_command-command.result c.with_argument.result
-    c.patching_command-command.ensures.local c.with_argument.ensures.local
+pub returns : goal.returns
+returns c =
+    let was = c.patching_command-command.ensures in
+    let made =
+    made-with c.patching_command-command.result c.with_argument.result _ (was.shape, was.local)
+    c.with_argument.ensures.shape c.with_argument.ensures.local c.out_argument.ensures.rule in
+    record { shape = made.0; local = made.1 }

@@ -1,10 +1,15 @@
-use Rattle.std.proofs.Common.{◌≡◌, ◌∙◌, ap, sym, Some}
-use Rattle.std.specs.Prelude.{option_map}
+use Rattle.std.proofs.Common.{◌≡◌, ◌∙◌, ap, subst, sym, Option, Some, None, refl}
+use Rattle.std.specs.Prelude.{IsSome, option_map}
 use Rattle.std.proofs.lemmas.Result.{IfOk-weaker}
 use Rattle.clap.specs.Words.{Text, first_of, found_of, rows_of}
 use Rattle.clap.proofs.WalkLemmas.{first_value-rows}
-use Rattle.cd_args.proofs.general.Getters.{IsSome-from_map}
 use Rattle.cd_args.proofs.parse.text_of.Goals as goal
+
+-- there is a value if what it is mapped to is there
+IsSome-from_map : {X Y : Type 0} (f : X → Y) (o : Option X) (r : Option Y) → option_map f o ≡ r
+    → IsSome r → IsSome o
+IsSome-from_map f None r e h = subst IsSome (sym e) h
+IsSome-from_map f (Some x) r e h = refl
 
 pub unwrap-text-requires : goal.unwrap-text-requires
 unwrap-text-requires c =

@@ -2,7 +2,7 @@ use Rattle.std.proofs.Common.{◌≡◌, suc, ◌+◌, ◌-◌, ap, sym, ◌∙�
 use Rattle.std.specs.Prelude.{is_some}
 use Rattle.std.proofs.lemmas.Bool.{false≢true}
 use Rattle.cd_patch.specs.Deciding.{first_refusal}
-use Rattle.cd_patch.proofs.DecidingLemmas.{asked_at, first_refusal-more, first_refusal-stop, none-not_some}
+use Rattle.cd_patch.proofs.DecidingLemmas.{either-none, either-some, first_refusal-at, none-not_some}
 use Rattle.cd_patch.proofs.deciding.first_refusal.Goals as goal
 
 pub loop-k-init : goal.loop-k-init
@@ -17,28 +17,23 @@ loop-k-init c = (
 
 pub loop-k-preserved : goal.loop-k-preserved
 loop-k-preserved c =
-    let none = sym c.is_some.ensures ∙ c.if-is_some.false in (
+    let none =
+    none-not_some c.refusal_at-refusal.result (sym c.is_some.ensures ∙ c.if-is_some.false) in (
       λ count whole.
           c.loop-k.invariant.0 (suc count) (omega arith)
-          ∙ first_refusal-more c.args.sectors.now c.args.block c.args.must_be_consistent c.loop-k.k count
-          c.refusal_at-refusal.result
-          (asked_at c.args.sectors.now c.args.block c.args.must_be_consistent c.loop-k.k _ _
-          c.refusal_at-refusal.result c.refusal_at-refusal.ensures.refusal (omega arith)
-          (omega arith))
-          none,
-      below_more _ _ c.loop-k.invariant.1
-          (c.refusal_at-refusal.ensures.user (none-not_some c.refusal_at-refusal.result none)),
+          ∙ first_refusal-at c.args.sectors.now c.args.block c.args.must_be_consistent c.loop-k.k
+          count _ _ _ c.refusal_at-refusal.ensures.refusal (omega arith) (omega arith)
+          ∙ either-none c.refusal_at-refusal.result _ none,
+      below_more _ _ c.loop-k.invariant.1 (c.refusal_at-refusal.ensures.user none),
     )
 
 pub returns-then-is_some-clause-refusal : goal.returns-then-is_some-clause-refusal
 returns-then-is_some-clause-refusal c =
     let count = c.args.count - c.loop-k.k - 1 in
     sym (c.loop-k.invariant.0 (suc count) (omega (arith, c.loop-k-test.true))
-    ∙ first_refusal-stop c.args.sectors.now c.args.block c.args.must_be_consistent c.loop-k.k count
-    c.refusal_at-refusal.result
-    (asked_at c.args.sectors.now c.args.block c.args.must_be_consistent c.loop-k.k _ _ c.refusal_at-refusal.result
-    c.refusal_at-refusal.ensures.refusal (omega arith) (omega arith))
-    (sym c.is_some.ensures ∙ c.if-is_some.true))
+    ∙ first_refusal-at c.args.sectors.now c.args.block c.args.must_be_consistent c.loop-k.k
+    count _ _ _ c.refusal_at-refusal.ensures.refusal (omega arith) (omega arith)
+    ∙ either-some c.refusal_at-refusal.result _ (sym c.is_some.ensures ∙ c.if-is_some.true))
 
 pub returns-then-is_some-clause-users : goal.returns-then-is_some-clause-users
 returns-then-is_some-clause-users c = λ none.

@@ -9,34 +9,23 @@ use Rattle.cd_patch.proofs.effect.change_blocks.Goals as goal
 
 pub change_sector-requires-clause-mode : goal.change_sector-requires-clause-mode
 change_sector-requires-clause-mode c =
-    let old = c.args.sectors.now in
-    let k = c.loop-k.k in
-    let same =
-    read_old
-    (part_by c.args.carry c.args.patch.now) k old c.loop-k.sectors c.index-sectors-k.result
-    c.loop-k.invariant c.loop-k-test.true in
-    subst (λ s. kind_of s ≡ Mode1) (sym same)
-    (All-get_or (λ s. kind_of s ≡ Mode1) old k [] c.loop-k-test.true c.requires.mode)
+    subst (λ s. kind_of s ≡ Mode1)
+    (sym (read_old c.index-sectors-k.result c.loop-k.invariant c.loop-k-test.true))
+    (All-get_or (λ s. kind_of s ≡ Mode1) c.args.sectors.now c.loop-k.k [] c.loop-k-test.true
+    c.requires.mode)
 
 pub change_sector-requires-clause-sound : goal.change_sector-requires-clause-sound
 change_sector-requires-clause-sound c = λ asked.
-    let old = c.args.sectors.now in
-    let k = c.loop-k.k in
-    let same =
-    read_old
-    (part_by c.args.carry c.args.patch.now) k old c.loop-k.sectors c.index-sectors-k.result
-    c.loop-k.invariant c.loop-k-test.true in
-    subst IsConsistent (sym same)
-    (All-get_or IsConsistent old k [] c.loop-k-test.true (c.requires.sound asked))
+    subst IsConsistent
+    (sym (read_old c.index-sectors-k.result c.loop-k.invariant c.loop-k-test.true))
+    (All-get_or IsConsistent c.args.sectors.now c.loop-k.k [] c.loop-k-test.true
+    (c.requires.sound asked))
 
 pub loop-k-preserved : goal.loop-k-preserved
 loop-k-preserved c =
-    let old = c.args.sectors.now in
-    let k = c.loop-k.k in
     let rule = part_by c.args.carry c.args.patch.now in
-    let same =
-    read_old rule k old c.loop-k.sectors c.index-sectors-k.result c.loop-k.invariant
-    c.loop-k-test.true in
-    MadeBelow-more rule k old c.loop-k.sectors c.change_sector.new.sector c.loop-k.invariant
-    c.loop-k-test.true
-    (subst (λ before. rule k before c.change_sector.new.sector) same c.change_sector.ensures)
+    MadeBelow-more rule c.loop-k.k c.args.sectors.now c.loop-k.sectors c.change_sector.new.sector
+    c.loop-k.invariant c.loop-k-test.true
+    (subst (λ before. rule c.loop-k.k before c.change_sector.new.sector)
+    (read_old c.index-sectors-k.result c.loop-k.invariant c.loop-k-test.true)
+    c.change_sector.ensures)

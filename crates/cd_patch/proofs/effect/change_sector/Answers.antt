@@ -6,38 +6,29 @@ use Rattle.cd_patch.proofs.effect.change_sector.Goals as goal
 pub write_part-requires-clause-few : goal.write_part-requires-clause-few
 write_part-requires-clause-few c =
     let row = c.meaning-edit.ensures in
-    let spans =
-    part-spans c.args.patch.now c.requires.patch (sym row.keeps_old ∙ c.if-edit.true)
-    (sym row.address ∙ c.in-None.is) in
+    let spans = part-spans c.args.patch.now c.requires.patch row.keeps_old c.if-edit.true row.address c.in-None.is in
     omega (arith, spans.few, c.requires.met)
 
 pub write_part-requires-clause-some : goal.write_part-requires-clause-some
 write_part-requires-clause-some c =
     let row = c.meaning-edit.ensures in
-    let spans =
-    part-spans c.args.patch.now c.requires.patch (sym row.keeps_old ∙ c.if-edit.true)
-    (sym row.address ∙ c.in-None.is) in
+    let spans = part-spans c.args.patch.now c.requires.patch row.keeps_old c.if-edit.true row.address c.in-None.is in
     omega (arith, spans.some, c.requires.met, ap length row.bytes)
 
 pub write_part-requires-clause-room : goal.write_part-requires-clause-room
 write_part-requires-clause-room c =
     let row = c.meaning-edit.ensures in
-    let spans =
-    part-spans c.args.patch.now c.requires.patch (sym row.keeps_old ∙ c.if-edit.true)
-    (sym row.address ∙ c.in-None.is) in
+    let spans = part-spans c.args.patch.now c.requires.patch row.keeps_old c.if-edit.true row.address c.in-None.is in
     omega (arith, spans.few, spans.room, ap length row.bytes)
 
 pub returns-in-Some : goal.returns-in-Some
 returns-in-Some c =
-    let patch = c.args.patch.now in
-    part-address c.args.carry c.args.k patch.offset c.in-Some.bcd c.args.sector.now
-    c.write_address.new.sector (patch-fits patch c.requires.patch)
+    part-address _ _ _ _ _ _ (patch-fits c.args.patch.now c.requires.patch)
     (sym c.meaning-edit.ensures.address ∙ c.in-Some.is) c.write_address.ensures
 
 pub returns-else-edit : goal.returns-else-edit
 returns-else-edit c =
     let made = c.rebuild.ensures in
-    let patch = c.args.patch.now in
-    part-encoded c.args.carry c.args.k patch.offset c.args.sector.now c.rebuild.new.s
-    (patch-fits patch c.requires.patch) (sym c.meaning-edit.ensures.keeps_old ∙ c.if-edit.false)
+    part-encoded _ _ _ _ _ (patch-fits c.args.patch.now c.requires.patch)
+    (sym c.meaning-edit.ensures.keeps_old ∙ c.if-edit.false)
     (record { is_consistent = made.consistent; has_header = made.header; has_user = made.user })

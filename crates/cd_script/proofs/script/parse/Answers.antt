@@ -7,53 +7,33 @@ use Rattle.cd_script.proofs.general.Lines.{lines-is}
 use Rattle.cd_script.proofs.ParseLemmas.{no_fault, order-list, script-rest}
 use Rattle.cd_script.proofs.script.parse.Goals as goal
 
-pub returns-in_err-head-clause-err : goal.returns-in_err-head-clause-err
-returns-in_err-head-clause-err c =
-    let p = err_from_is_err_and c.from_residual.result c.from_residual.ensures.1 in
-    rw (p.1, p.2) (λ _.
-    ap (script_from 1) (sym (c.lines-lines.ensures.value ∙ lines-is c.args.text.now))
-    ∙ c.in_err-head.ensures.err)
-
-pub returns-in_err-head-clause-refused : goal.returns-in_err-head-clause-refused
-returns-in_err-head-clause-refused c =
+pub returns-in_err-head : goal.returns-in_err-head
+returns-in_err-head c =
     let p = err_from_is_err_and c.from_residual.result c.from_residual.ensures.1 in
     let known =
     ap (script_from 1) (sym (c.lines-lines.ensures.value ∙ lines-is c.args.text.now))
     ∙ c.in_err-head.ensures.err in
-    λ e is. p.1 ∙ ap (λ (f : ScriptFault). Err f) p.2 ∙ sym known ∙ is
+    rw (p.1, p.2) (record { ok = tt; err = λ _. known; refused = λ e is. sym known ∙ is })
 
-pub returns-in_err-patches-clause-err : goal.returns-in_err-patches-clause-err
-returns-in_err-patches-clause-err c =
+pub returns-in_err-patches : goal.returns-in_err-patches
+returns-in_err-patches c =
     let p =
     err_from_is_err_and c.from_residual-in_err-patches.result
     c.from_residual-in_err-patches.ensures.1 in
     let known =
     script-rest _ c.args.text.now c.as_bytes.result.now _ _ _ c.lines-lines.ensures.value
     c.in_ok-head.ensures.ok c.as_bytes.ensures in
-    rw (p.1, p.2) (λ other. known ∙ c.in_err-patches.ensures.err other)
-
-pub returns-in_err-patches-clause-refused : goal.returns-in_err-patches-clause-refused
-returns-in_err-patches-clause-refused c =
-    let p =
-    err_from_is_err_and c.from_residual-in_err-patches.result
-    c.from_residual-in_err-patches.ensures.1 in
-    let known =
-    script-rest _ c.args.text.now c.as_bytes.result.now _ _ _ c.lines-lines.ensures.value
-    c.in_ok-head.ensures.ok c.as_bytes.ensures in
-    λ e is.
-    let same : c.in_err-patches.field-0.0 ≡ e =
-    cc (c.in_err-patches.ensures.refused e (sym known ∙ is)) in
-    p.1 ∙ ap (λ (f : ScriptFault). Err f) (p.2 ∙ same)
+    rw (p.1, p.2) (record {
+      ok = tt;
+      err = λ other. known ∙ c.in_err-patches.ensures.err other;
+      refused = λ e is.
+          let same : c.in_err-patches.field-0.0 ≡ e =
+          cc (c.in_err-patches.ensures.refused e (sym known ∙ is)) in
+          ap (λ (f : ScriptFault). Err f) same;
+    })
 
 pub returns-in_err-put_in_order-clause-refused : goal.returns-in_err-put_in_order-clause-refused
 returns-in_err-put_in_order-clause-refused c =
-    let known =
-    script-rest _ c.args.text.now c.as_bytes.result.now _ _ _ c.lines-lines.ensures.value
-    c.in_ok-head.ensures.ok c.as_bytes.ensures in
-    λ e is. absurd (no_fault _ _ e (known ∙ c.in_ok-patches.ensures.ok) is)
-
-pub returns-clause-refused : goal.returns-clause-refused
-returns-clause-refused c =
     let known =
     script-rest _ c.args.text.now c.as_bytes.result.now _ _ _ c.lines-lines.ensures.value
     c.in_ok-head.ensures.ok c.as_bytes.ensures in
@@ -67,9 +47,13 @@ invariant_of-result c =
     subst IsPatchList (sym c.in_ok-put_in_order.ensures)
     (order-list _ _ (known ∙ c.in_ok-patches.ensures.ok))
 
-pub returns-clause-ok : goal.returns-clause-ok
-returns-clause-ok c =
+pub returns : goal.returns
+returns c =
     let known =
     script-rest _ c.args.text.now c.as_bytes.result.now _ _ _ c.lines-lines.ensures.value
     c.in_ok-head.ensures.ok c.as_bytes.ensures in
-    (_, known ∙ c.in_ok-patches.ensures.ok, c.in_ok-put_in_order.ensures)
+    record {
+      ok = (_, known ∙ c.in_ok-patches.ensures.ok, c.in_ok-put_in_order.ensures);
+      err = tt;
+      refused = λ e is. absurd (no_fault _ _ e (known ∙ c.in_ok-patches.ensures.ok) is);
+    }
