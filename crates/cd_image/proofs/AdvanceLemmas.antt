@@ -36,16 +36,19 @@ module _ {carry : Bool} {taken left : List Patch} {base : ℕ} {start now : Stre
     (room : length pass.window.sectors < block_limit)
     (g : HoldsInvariant carry taken left base start now pass) where
   pub Steps-unread : WantsMore left pass.block (length pass.window.sectors)
-      → (bytes : List ℕ) (fault : Fault) → ReadsSector pass.sectors bytes now.image image (Err fault)
+      → (bytes : List ℕ) (fault : Fault)
+      → ReadsSector pass.sectors bytes now.image image (Err fault)
       → Applies carry (taken ++ left) base start (record now { image = image }) (Err fault)
   Steps-unread wants = Applies-unread (rw unended at g) wants room
 
-  pub Steps-read : {window : WindowView} → GainsSector pass.sectors pass.window window now.image image
+  pub Steps-read : {window : WindowView}
+      → GainsSector pass.sectors pass.window window now.image image
       → PassInvariant carry taken left base start (record now { image = image }) window.sectors pass.block
       (pass.sectors + 1) pass.applied window.tail
   Steps-read gains = rw (gains.tail, gains.sectors) (Going-read (rw unended at g) room gains.comes)
 
-  pub Steps-ended : {window : WindowView} → GainsTail pass.sectors pass.window window now.image image
+  pub Steps-ended : {window : WindowView}
+      → GainsTail pass.sectors pass.window window now.image image
       → PassInvariant carry taken left base start (record now { image = image }) window.sectors pass.block
       pass.sectors pass.applied window.tail
   Steps-ended gains = rw (gains.tail, gains.sectors) (Going-end (rw unended at g) room gains.comes)

@@ -48,10 +48,12 @@ module _ {carry : Bool} {taken left : List Patch} {base : ℕ} {start now : Stre
 
   pub Applies-unread : {image : Incoming} → WantsMore left block (length window)
       → length window < block_limit
-      → (bytes : List ℕ) (fault : Fault) → ReadsSector sectors_read bytes now.image image (Err fault)
+      → (bytes : List ℕ) (fault : Fault)
+      → ReadsSector sectors_read bytes now.image image (Err fault)
       → Applies carry (taken ++ left) base start (record now { image = image }) (Err fault)
   Applies-unread wants room bytes Read r =
-      applies (gives_all r.came (record { consumes = r.consumes; counted = r.counted })) g.sends g.logs
+      applies (gives_all r.came (record { consumes = r.consumes; counted = r.counted })) g.sends
+      g.logs
       (omega (arith, length_read r.came, length_sent g)) (record {
         failed = omega arith;
         flushes = omega arith;
@@ -62,7 +64,8 @@ module _ {carry : Bool} {taken left : List Patch} {base : ℕ} {start now : Stre
             begins_now g (Extends-begun _ g.seen_sizes (rw append_assoc at begins.1));
       })
   Applies-unread wants room bytes TooLong r =
-      applies (gives_all r.came (record { consumes = r.consumes; counted = r.counted })) g.sends g.logs
+      applies (gives_all r.came (record { consumes = r.consumes; counted = r.counted })) g.sends
+      g.logs
       (omega (arith, length_read r.came, length_sent g)) (record {
         failed = omega arith;
         flushes = omega arith;
@@ -72,8 +75,10 @@ module _ {carry : Bool} {taken left : List Patch} {base : ℕ} {start now : Stre
         between_sinks = λ whole fits os last patched.
             let k = known_now g (begun whole fits) patched in
             sym (ap (lines_within (base + sector_limit) (taken ++ left)) k.all
-            ∙ lines_within-cut (base + sector_limit) taken left g.outcomes k.back (outcomes_length g) (g.reached refl)
-            (lines_within-none (base + sector_limit) left k.back block (length window) at_end wants));
+            ∙ lines_within-cut (base + sector_limit) taken left g.outcomes k.back
+            (outcomes_length g) (g.reached refl)
+            (lines_within-none (base + sector_limit) left k.back block (length window) at_end
+            wants));
         sent_before =
             omega (
               arith,
@@ -91,7 +96,8 @@ module _ {carry : Bool} {taken left : List Patch} {base : ℕ} {start now : Stre
       begun whole fits =
           let size : length (bytes_of g.seen) ≡ image_limit =
           omega (arith, length-bytes_of g.seen g.seen_sizes) in
-          Extends-begun _ g.seen_sizes (rw (take_at (bytes_of g.seen) r.came _ size) at fits.begins.1)
+          Extends-begun _ g.seen_sizes (rw (take_at (bytes_of g.seen) r.came _ size) at
+          fits.begins.1)
   Applies-unread wants room bytes Write r = elim r [ ]
   Applies-unread wants room bytes Log r = elim r [ ]
 
@@ -131,8 +137,10 @@ module _ {carry : Bool} {taken left : List Patch} {base : ℕ} {start now : Stre
             (omega (arith, length_part, fails.taken.1))
             (omega (arith, length_part, fails.taken.1, size_read g))
             ∙ ap (lines_below (base + length g.done + 1) (taken ++ left)) k.all
-            ∙ lines_below-cut (base + length g.done + 1) taken left g.outcomes k.back (outcomes_length g)
-            (λ i d here. omega (arith, g.due i d here)) (λ i d here. omega (arith, ahead i d here)));
+            ∙ lines_below-cut (base + length g.done + 1) taken left g.outcomes k.back
+            (outcomes_length g)
+            (λ i d here. omega (arith, g.due i d here))
+            (λ i d here. omega (arith, ahead i d here)));
       })
     where
       length_part : length (bytes_of g.done ++ take fails.taken.0 sector)
@@ -161,7 +169,8 @@ module _ {carry : Bool} {taken : List Patch} {p : Patch} {left : List Patch} {ba
     {start now : Streams} {window : List (List ℕ)} {block sectors_read applied : ℕ}
     {end : Option (List ℕ)} {o : Outcome}
     (g : PassInvariant carry taken (p ∷ left) base start now window block sectors_read applied end)
-    (decided : o ≡ outcome carry window block p) (first : p.block ≡ block) (some : 0 < length window)
+    (decided : o ≡ outcome carry window block p) (first : p.block ≡ block)
+    (some : 0 < length window)
     (reach : (blocks_met p ≤ length window) ⊎ IsSome end) where
   -- a run takes this patch next
   next_of : (middle last : List (List ℕ)) (back : List Outcome) → o ≡ outcome carry middle base p
@@ -192,7 +201,8 @@ module _ {carry : Bool} {taken : List Patch} {p : Patch} {left : List Patch} {ba
       (omega (arith, size_read g, length_sent g))
       (StopsAtLog-within cut (omega arith) (omega arith) (omega (arith, size_read g)))
     where
-      cut : (whole : List ℕ) → MayBeImageAtEnd now.image.rest (bytes_of g.seen ++ tail_bytes end) whole
+      cut : (whole : List ℕ)
+          → MayBeImageAtEnd now.image.rest (bytes_of g.seen ++ tail_bytes end) whole
           → EachPatching carry (taken ++ p ∷ left) base whole
           (LogCut (taken ++ p ∷ left) base (bytes_of g.done)
           (log_lines taken g.outcomes ++ take fails.taken.0 (log_line p o)) whole)

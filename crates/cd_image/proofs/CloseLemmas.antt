@@ -49,7 +49,8 @@ module _ {carry : Bool} (below left : List Patch) {base : ℕ}
       let none =
       PatchSequence-missing carry below (sectors whole) base (λ k d inside. inl (under k d inside)) in
       let same =
-      PatchSequence-determined carry below split.0 (missing_outcomes below) base _ _ _ split.4 none in
+      PatchSequence-determined carry below split.0 (missing_outcomes below) base _ _ _ split.4
+      none in
       (split.1, split.3 ∙ ap (λ f. f ++ split.1) same.0)
 
   pub Applies-below : {X E : Type 0} {e : E} {start : Streams} {log : Outgoing}

@@ -221,7 +221,9 @@ extends {now = now} {end = None} g {whole} fits =
 extends {now = now} {end = Some t} g {whole} fits = record {
   more = [];
   cut =
-      ap sectors (MayBeImageAtEnd-end now.image.rest (bytes_of g.seen ++ t) whole (g.ended refl).0 fits)
-      ∙ sectors-bytes_of g.seen t g.seen_sizes ∙ ap (λ ss. g.seen ++ ss) (sectors-short t g.counts.short);
+      ap sectors (MayBeImageAtEnd-end now.image.rest (bytes_of g.seen ++ t) whole (g.ended refl).0
+      fits)
+      ∙ sectors-bytes_of g.seen t g.seen_sizes
+      ∙ ap (λ ss. g.seen ++ ss) (sectors-short t g.counts.short);
   unended = λ some. refl;
 }

@@ -67,7 +67,8 @@ Going-start carry taken left base start log below reached ahead logged = record 
   seen_sizes = All-nil (λ t. length t ≡ SECTOR_SIZE);
   done_sizes = All-nil (λ t. length t ≡ SECTOR_SIZE);
   counts = omega (arith, applied_count-missing_outcomes taken);
-  run = λ more unended. PatchSequence-missing carry taken more base (λ k d inside. inl (below k d inside));
+  run = λ more unended. PatchSequence-missing carry taken more base
+      (λ k d inside. inl (below k d inside));
   due = λ k d inside. omega (arith, below k d inside);
   ahead = ahead;
   reached = λ unended. reached;
@@ -129,7 +130,8 @@ module _ {carry : Bool} {taken left : List Patch} {base : ℕ} {start now : Stre
 module _ {carry : Bool} {taken left : List Patch} {base : ℕ} {start now : Streams}
     {block sectors applied : ℕ} {tail : Option (List ℕ)} where
   -- the first sector of the window has gone out, with no patch left that begins there
-  pub Going-send : {X E : Type 0} {x : X} {sector : List ℕ} {window : List (List ℕ)} {out : Outgoing}
+  pub Going-send : {X E : Type 0} {x : X} {sector : List ℕ} {window : List (List ℕ)}
+      {out : Outgoing}
       → PassInvariant carry taken left base start now (sector ∷ window) block sectors applied tail
       → Sends {X = X} {E = E} now.out out sector (Ok x)
       → length sector ≡ SECTOR_SIZE → All (λ p. block < p.block) left
@@ -178,7 +180,8 @@ module _ {carry : Bool} {taken left : List Patch} {base : ℕ} {start now : Stre
         counts = omega (arith, same_length, count_by_push is_applied g.outcomes o);
         run = λ more unended.
             PatchSequence-append carry taken (p ∷ []) g.outcomes (o ∷ []) base _
-            (g.done ++ (window ++ more)) (g.done ++ (window' ++ more)) (g.run more unended) (record {
+            (g.done ++ (window ++ more)) (g.done ++ (window' ++ more)) (g.run more unended)
+            (record {
               decided =
                   decided
                   ∙ sym (outcome-frame carry g.done window more base block p g.counts.front
@@ -190,7 +193,8 @@ module _ {carry : Bool} {taken left : List Patch} {base : ℕ} {start now : Stre
               others = refl;
             });
         due =
-            All-push (λ q. (q.block ≤ block) × (q.block < base + sectors)) taken p g.due (omega arith);
+            All-push (λ q. (q.block ≤ block) × (q.block < base + sectors)) taken p g.due
+            (omega arith);
         ahead = All-tail (λ q. block ≤ q.block) p left g.ahead;
         reached = λ unended.
             All-push (λ q. q.block + blocks_met q ≤ base + sector_limit) taken p

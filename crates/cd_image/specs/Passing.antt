@@ -41,7 +41,8 @@ pub record PassCounts (base : ℕ) (start now : Streams) (seen done window : Lis
 -- were read, and `applied` patches accepted
 pub record PassInvariant (carry : Bool) (taken left : List Patch) (base : ℕ) (start now : Streams)
     (window : List (List ℕ)) (block sectors applied : ℕ) (tail : Option (List ℕ)) : Type 0 where
-  -- the sectors `seen` were read, `done` have gone out, and the lines of the `outcomes` were written
+  -- the sectors `seen` were read, `done` have gone out, and the lines of the `outcomes` were
+  -- written
   pub seen : List (List ℕ)
   pub done : List (List ℕ)
   pub outcomes : List Outcome

@@ -9,7 +9,6 @@ use Rattle.cd_sector.proofs.DefectLemmas.{some_nonzero}
 use Rattle.cd_stream.specs.Stream.{Outgoing}
 use Rattle.cd_stream.specs.Transfer.{Takes}
 use Rattle.cd_report.specs.AuditText.{audit_end, audit_lines, audit_report, finding_line, found_of, findings_of, is_any, is_damage, is_damaged, line_of, report_of}
-use Rattle.cd_read.specs.Image.{sectors, tail}
 use Rattle.cd_report.specs.Lines.{text_of}
 use Rattle.cd_report.specs.Scanning.{HasFailed, HasVisited, IsTallyOf, audit_remaining, tally_with, tally_with_all, spec_of}
 use Rattle.cd_report.specs.declared.auditing.AuditTally.{AuditTally}

@@ -3,7 +3,6 @@ use Rattle.std.proofs.Common.{◌≡◌, ℕ, suc, ◌+◌, List, [], ◌∷◌,
 use Rattle.cd_sector.specs.Kind.{kind_of}
 use Rattle.cd_stream.specs.Stream.{Outgoing}
 use Rattle.cd_stream.specs.declared.sink.SinkFailed.{SinkFailed}
-use Rattle.cd_read.specs.Image.{sectors, tail}
 use Rattle.cd_report.specs.Lines.{all_but_last, text_of}
 use Rattle.cd_report.specs.ListText.{list_end, list_report, run_line, run_lines}
 use Rattle.cd_report.specs.OpenRun.{open_first, open_kinds}

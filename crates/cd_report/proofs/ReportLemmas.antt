@@ -19,7 +19,8 @@ module _ {T : Type 0} {spec : ReportSpec T} {image image' : Incoming} {out out' 
       → IfOk result (WritesText spec image image' out out')
   Reports-text (Ok reported) report = λ bytes earlier gives holds.
       let all =
-      consumed_all _ image'.rest report.read _ report.gives.consumes report.answers.at_end gives in (
+      consumed_all _ image'.rest report.read _ report.gives.consumes report.answers.at_end
+      gives in (
         all.0,
         appended _ out'.written report.sent _ report.takes.appends holds
             ∙ ap (λ l. Some (earlier ++ l)) (report.answers.whole_sent ∙ ap spec.text all.1),

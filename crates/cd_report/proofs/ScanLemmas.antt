@@ -115,8 +115,8 @@ module _ {T : Type 0} {first now : Remaining T} {image before : Incoming} {out s
 
       -- the pass ends here, with no flush
       stopped : {fault : Fault}
-          → ReportAnswers (spec_of first) (reported.read ++ came) (text_of reported.sent) image after
-          out sunk (Err fault)
+          → ReportAnswers (spec_of first) (reported.read ++ came) (text_of reported.sent)
+          image after out sunk (Err fault)
           → Reports (spec_of first) image after out sunk (Err fault)
       stopped answers = record {
         read = reported.read ++ came;
@@ -271,7 +271,8 @@ module _ {T : Type 0} {first now : Remaining T} {image before : Incoming} {out s
     unfolding came
     tail_is = length-tail reported.read came count reported.size short ∙ comes.size
 
-    text_is : (spec_of first).text (reported.read ++ came) ≡ text_of reported.sent ++ now.end [] left
+    text_is : (spec_of first).text (reported.read ++ came)
+        ≡ text_of reported.sent ++ now.end [] left
     text_is = known came ∙ simp (sectors-short, short, reported.nothing_due, tail_is)
 
     pub ScanInvariant-end : {sunk' : Outgoing} {answer : T} → answer ≡ now.tally [] left

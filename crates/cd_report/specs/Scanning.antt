@@ -65,8 +65,8 @@ abbrev pub Visits : {T X E : Type 0} → Remaining T → Remaining T → List �
 Visits old new sector out out' (Ok x) = HasVisited old new sector out out'
 Visits old new sector out out' (Err e) = HasFailed old sector out out'
 
--- a front of the end of a text has gone out. No flush was made before all of it, nor does all go out
--- if the sink's flush can't fail
+-- a front of the end of a text has gone out. No flush was made before all of it, and not all goes
+-- out if the sink's flush can't fail
 pub record FailsToFinish (text : List ℕ) (out out' : Outgoing) : Type 0 where
   pub sent : List ℕ
   pub takes : Takes out out' sent

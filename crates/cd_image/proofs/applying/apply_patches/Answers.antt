@@ -7,7 +7,8 @@ pub returns-in_err-send_missing : goal.returns-in_err-send_missing
 returns-in_err-send_missing g c =
     let failed = err_from_is_err_and c.from_residual.result c.from_residual.ensures.1 in
     rw (failed.1, failed.2)
-    (Applies-first c.count_below-below.result c.count_below-below.ensures.below c.in_err-send_missing.ensures)
+    (Applies-first c.count_below-below.result c.count_below-below.ensures.below
+    c.in_err-send_missing.ensures)
 
 pub loop-more-init : goal.loop-more-init
 loop-more-init g c =
@@ -15,7 +16,8 @@ loop-more-init g c =
     let below = c.count_below-below.ensures in
     record {
       goes =
-          begun_pass c.args.patches.now c.new-pass.result new.empty new.block new.sectors new.decided new.applied
+          begun_pass c.args.patches.now c.new-pass.result new.empty new.block new.sectors
+          new.decided new.applied
           new.unended c.requires.patches.each below.below below.others c.in_ok-send_missing.ensures;
       known = omega (arith, new.decided, below.within);
       ended = λ never. cc;

@@ -11,7 +11,8 @@ pub returns-in-NotMode1-clause-text : goal.returns-in-NotMode1-clause-text
 unfolding outcome_text
 returns-in-NotMode1-clause-text c =
     rw (c.in-NotMode1.is, c.push_text-in-NotMode1-2.ensures)
-    (rw (c.push_number-in-NotMode1.ensures.line, c.push_text-in-NotMode1.ensures) (simp append_assoc))
+    (rw (c.push_number-in-NotMode1.ensures.line, c.push_text-in-NotMode1.ensures)
+    (simp append_assoc))
 
 pub returns-in-Damaged-clause-text : goal.returns-in-Damaged-clause-text
 unfolding outcome_text

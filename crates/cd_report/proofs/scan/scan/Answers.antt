@@ -54,4 +54,5 @@ pub returns-in-Some : goal.returns-in-Some
 returns-in-Some g c =
     let close = c.in_ok-close-in-Some.ensures in
     ScanInvariant-end c.loop-visitor.invariant.reported
-    (rw c.in-Some.is at c.in_ok-read_sector.ensures) close.tally close.text close.flushes close.count
+    (rw c.in-Some.is at c.in_ok-read_sector.ensures) close.tally close.text close.flushes
+    close.count

@@ -22,7 +22,8 @@ pub returns-in_ok-read_next-clause-goes : goal.returns-in_ok-read_next-clause-go
 returns-in_ok-read_next-clause-goes g c = λ base start going.
     let ps = c.args.patches.now in
     let self = c.args.self.now in
-    rw c.in_ok-read_next.ensures.decided (c.in_ok-read_next.ensures.goes c.args.carry _ _ base start _ _
+    rw c.in_ok-read_next.ensures.decided
+    (c.in_ok-read_next.ensures.goes c.args.carry _ _ base start _ _
     (wants_more (λ r. r.now) ps self.decided self.block (length self.window.sectors)
     c.sectors_wanted.result
     c.patch_at_front-patch.result c.requires.patches.rising going.ahead
@@ -94,7 +95,8 @@ pub returns-in_ok-write_front-clause-goes : goal.returns-in_ok-write_front-claus
 returns-in_ok-write_front-clause-goes g c = λ base start going.
     let ps = c.args.patches.now in
     let self = c.args.self.now in
-    rw c.in_ok-write_front.ensures.decided (c.in_ok-write_front.ensures.goes c.args.carry _ _ base start _ _
+    rw c.in_ok-write_front.ensures.decided
+    (c.in_ok-write_front.ensures.goes c.args.carry _ _ base start _ _
     (strictly_ahead ps self.decided self.block c.requires.patches.rising going.ahead
     c.in_default.ensures.none) going)
 

@@ -9,7 +9,8 @@ returns-in_err-read_next-clause-goes g c =
     let failed = err_from_is_err_and c.from_residual.result c.from_residual.ensures.1 in
     rw (failed.1, failed.2)
     (λ carry taken left base start out log wants going.
-    Steps-unread c.args.self.now c.requires.unended c.requires.room going wants c.in_err-read_next.ensures.0 _
+    Steps-unread c.args.self.now c.requires.unended c.requires.room going wants
+    c.in_err-read_next.ensures.0 _
     c.in_err-read_next.ensures.1)
 
 pub returns-then-branch-clause-goes : goal.returns-then-branch-clause-goes
