@@ -1,5 +1,5 @@
 -- How a call on patches ends before its first read, and after the last sector of the image.
-use Rattle.std.proofs.Common.{take_all, ◌≡◌, ℕ, ◌+◌, ◌-◌, ◌*◌, ◌<◌, ◌≤◌, inl, inr, Bool, List, [], ◌++◌, length, take, drop, Ok, Err, refl, sym, ap, ◌∙◌, subst, arith, append_assoc, append-nil, length-append, take-append-drop}
+use Rattle.std.proofs.Common.{take_all, ◌≡◌, ℕ, ◌+◌, ◌-◌, ◌*◌, ◌<◌, ◌≤◌, inl, inr, Bool, List, [], ◌++◌, length, take, drop, Ok, Err, refl, sym, ap, ◌∙◌, arith, append_assoc, append-nil, length-append, take-append-drop}
 use Rattle.std.specs.Prelude.{All}
 use Rattle.std.proofs.KnownBytes.{Consumes-nil}
 use Rattle.cd_sector.specs.declared.sector.TheConstants.{SECTOR_SIZE}
@@ -25,8 +25,7 @@ use Rattle.cd_read.specs.declared.fault.Fault.TheVariants.{Log, Write}
 use Rattle.cd_image.specs.declared.patch_log.Tally.{Tally}
 use Rattle.cd_read.proofs.general.Counts.{count_by-append}
 use Rattle.cd_read.proofs.ImageLemmas.{cut_of_joined}
-use Rattle.cd_image.proofs.ApplyLemmas.{size_read}
-use Rattle.cd_image.proofs.KnownLemmas.{ahead_of_done, StopsAtLog-within, applies, outcomes_length, unfinished_log}
+use Rattle.cd_image.proofs.KnownLemmas.{StopsAtLog-within, ahead_of_done, applies, cut_at, log_text-append, outcomes_length, size_read}
 use Rattle.cd_read.proofs.EndLemmas.{MayBeImageAtEnd-end}
 use Rattle.cd_image.proofs.PassingLemmas.{length-bytes_of}
 use Rattle.cd_image.proofs.PatchedLemmas.{IsPatched-determined}
@@ -39,88 +38,46 @@ tally applied refused count left =
 
 -- ---- the log fails before the first read, in the lines of the patches below the first block
 
-module _ (carry : Bool) (below left : List Patch) (base : ℕ) (start : Streams) (log : Outgoing)
+module _ {carry : Bool} (below left : List Patch) {base : ℕ}
     (under : All (λ p. p.block < base) below) where
   -- each run begins by refusing these
-  refuses : (os : List Outcome) (whole last : List ℕ)
+  refuses : {os : List Outcome} {whole last : List ℕ}
       → IsPatched carry (below ++ left) os base whole last
       → (back : List Outcome) × (os ≡ missing_outcomes below ++ back)
-  refuses os whole last patched =
-      let split =
-      PatchSequence-split carry below left os base (sectors whole) (sectors last) patched.run in
+  refuses {whole = whole} patched =
+      let split = PatchSequence-split carry below left _ base _ _ patched.run in
       let none =
       PatchSequence-missing carry below (sectors whole) base (λ k d inside. inl (under k d inside)) in
       let same =
-      PatchSequence-determined carry below split.0 (missing_outcomes below) base (sectors whole) split.2
-      (sectors whole) split.4 none in
+      PatchSequence-determined carry below split.0 (missing_outcomes below) base _ _ _ split.4
+      none in
       (split.1, split.3 ∙ ap (λ f. f ++ split.1) same.0)
 
-  pub Applies-below : {X E : Type 0} {e : E}
-      → Sends {X = X} {E = E} start.log log (log_lines below (missing_outcomes below)) (Err e)
+  pub Applies-below : {X E : Type 0} {e : E} {start : Streams} {log : Outgoing}
+      → Sends {X = X} {E = E} start.log log (missing_lines below) (Err e)
       → Applies carry (below ++ left) base start (record start { log = log }) (Err Log)
-  unfolding log_text
-  Applies-below fails =
+  Applies-below {start = start} fails =
+      let n = fails.taken.0 in
+      let lines = missing_lines below in
       applies {read = []} {sent = []}
       (record { consumes = Consumes-nil start.image.rest; counted = omega arith })
       (Takes-nil start.out) fails.taken.2 (omega arith)
-      (StopsAtLog-within (record { reads = omega arith; writes = omega arith; logs = fails.count })
-      (record { outs = omega arith; logs = omega (arith, fails.flushes) }) (omega arith)
-      (λ whole fits os last patched.
-      let r = refuses os whole last patched in (
-        (last, refl),
-        subst (λ u. IsBeginning (take n (log_lines below (missing_outcomes below)))
-            (log_text (below ++ left) u)) (sym r.1) (logged_begins r.0),
-      ))
-      (λ whole fits os last patched.
-      let r = refuses os whole last patched in
-      sym (ap (λ u. sent_when_log_fails (below ++ left) u base whole
-      (length (take n (log_lines below (missing_outcomes below))))) r.1
-      ∙ ap (sent_when_log_fails (below ++ left) (missing_outcomes below ++ r.0) base whole)
-      (length-take-le n (log_lines below (missing_outcomes below)) (omega (arith, inside)))
-      ∙ sent_when_log_fails-alike whole base 0 below left (missing_outcomes below) r.0 n
-      (length-missing_outcomes below)
-      (λ k d here. bytes_before-below whole base _ (under k d here)) inside))
-      (λ whole fits os last patched all.
-      let r = refuses os whole last patched in
-      unfinished_log (below ++ left) (missing_outcomes below ++ r.0)
-      (take n (log_lines below (missing_outcomes below)))
-      (omega (
-        arith,
-        length-take-le n (log_lines below (missing_outcomes below)) (omega (arith, inside)),
-        under_all r.0,
-      )) (all ∙ ap (log_text (below ++ left)) r.1)))
-    where
-      n : ℕ
-      n = fails.taken.0
-
-      inside : n < length (log_lines below (missing_outcomes below))
-      inside = fails.taken.1
-
-      under_all : (back : List Outcome)
-          → n < length (log_lines (below ++ left) (missing_outcomes below ++ back))
-      under_all back =
-          let lines =
-          ap length (log_lines-append below left (missing_outcomes below) back
-          (length-missing_outcomes below))
-          ∙ length-append (log_lines below (missing_outcomes below)) (log_lines left back) in
-          omega (arith, lines, inside)
-
-      logged_begins : (back : List Outcome)
-          → IsBeginning (take n (log_lines below (missing_outcomes below)))
-          (log_text (below ++ left) (missing_outcomes below ++ back))
-      logged_begins back =
-          let lines = log_lines below (missing_outcomes below) in
-          let end =
-          counts_line (applied_count (missing_outcomes below ++ back))
-          (refused_count (missing_outcomes below ++ back)) in (
-            drop n lines ++ (log_lines left back ++ end),
-            ap (λ l. l ++ end)
-                (log_lines-append below left (missing_outcomes below) back
-                (length-missing_outcomes below)
-                ∙ ap (λ l. l ++ log_lines left back) (sym (take-append-drop n lines)))
-                ∙ append_assoc (take n lines ++ drop n lines) (log_lines left back) end
-                ∙ append_assoc (take n lines) (drop n lines) (log_lines left back ++ end),
-          )
+      (StopsAtLog-within (λ whole fits os last patched.
+      let r = refuses patched in
+      record {
+        begins = (last, refl);
+        missing = drop n lines ++ _;
+        some = omega (arith, length-append {A = ℕ}, length-drop n lines, fails.taken.1);
+        cut =
+            ap (log_text (below ++ left)) r.1
+            ∙ log_text-append below left _ r.0 (length-missing_outcomes below)
+            ∙ sym (cut_at n lines _);
+        between_sinks =
+            sym (rw (r.1, length-take-le n lines (omega (arith, fails.taken.1)))
+            (sent_when_log_fails-alike whole base 0 below left (missing_outcomes below) r.0 n
+            (length-missing_outcomes below)
+            (λ k d here. bytes_before-below whole base _ (under k d here)) fails.taken.1));
+      }) (omega arith) (omega arith) (omega arith))
 
 -- ---- after the last sector
 
@@ -165,7 +122,7 @@ module _ {carry : Bool} (ps : List Patch) {base : ℕ} {start now : Streams} {pa
       let image = bytes_of g.seen ++ end in
       let missing = missing_outcomes left in
       let os = g.outcomes ++ missing in
-      let short : length end < SECTOR_SIZE = rw is g.short in
+      let short : length end < SECTOR_SIZE = rw is g.counts.short in
       let old = cut_of_joined g.seen end g.seen_sizes short in
       let new = cut_of_joined g.done end g.done_sizes short in
       let lengths = outcomes_length g in
@@ -179,7 +136,7 @@ module _ {carry : Bool} (ps : List Patch) {base : ℕ} {start now : Streams} {pa
       let done = length-bytes_of g.done g.done_sizes in
       let size : length image ≡ SECTOR_SIZE * pass.sectors + length end = rw is (size_read g) in
       let applied : pass.applied ≡ applied_count os =
-      simp (count_by-append, applied_count-missing_outcomes, add-zero) g.counted in
+      simp (count_by-append, applied_count-missing_outcomes, add-zero) g.counts.counted in
       let refused : length ps - pass.applied ≡ refused_count os = omega (arith, counts-all os) in
       let slice = take_all _ left (le_of_eq (length-drop pass.decided ps)) in
       let lines = rw take-append-drop at (log_lines-append taken left g.outcomes missing lengths) in
@@ -187,17 +144,17 @@ module _ {carry : Bool} (ps : List Patch) {base : ℕ} {start now : Streams} {pa
         read = image;
         outcomes = os;
         gives = rw is g.gives;
-        within = omega (arith, g.within, ap length is);
-        size = omega (arith, g.count, length-append {A = ℕ});
+        within = omega (arith, ap length is);
+        size = omega (arith, length-append {A = ℕ});
         patched = record { run = rw (← old.0, ← new.0) run; same_tail = sym new.1 ∙ old.1 };
         whole_log = simp (slice, lines, ← applied, ← refused, append_assoc);
-        tally_right = cc (applied, refused, g.count, old.0, old.1);
+        tally_right = cc (applied, refused, g.counts.count, old.0, old.1);
         log_at_tail = λ sent inside.
             log_when_out_fails-tail ps os base _ _ pass.sectors (omega arith)
-            (omega (arith, g.count)) inside.1
+            (omega arith) inside.1
             ∙ rw take-append-drop at
             (lines_below-cut (base + pass.sectors) taken left g.outcomes missing lengths
-            (λ k d here. (g.due k d here).1) (λ k d here. omega (arith, ahead k d here, g.count)));
+            (λ k d here. (g.due k d here).1) (λ k d here. omega (arith, ahead k d here)));
         sent_at_log = λ n.
             rw take-append-drop at
             (sent_when_log_fails-later image base taken left g.outcomes missing n lengths)
@@ -224,7 +181,7 @@ module _ {carry : Bool} (ps : List Patch) {base : ℕ} {start now : Streams} {pa
       let inside : (length (bytes_of g.done) ≤ length sent) × (length sent < length r.read) =
       omega (arith, r.size, fails.taken.1, length-append {A = ℕ}, length-take-le n end) in
       applies r.gives (Takes-trans _ _ _ _ _ g.sends fails.taken.2) g.logs
-      (omega (arith, r.size, g.short, ap length is, length-append {A = ℕ})) (record {
+      (omega (arith, r.size, ap length is, length-append {A = ℕ})) (record {
         failed = omega arith;
         out_flushes = 0;
         flushes = omega arith;
@@ -252,16 +209,15 @@ module _ {carry : Bool} (ps : List Patch) {base : ℕ} {start now : Streams} {pa
         let got = front ++ take n part in
         let rest = drop n part ++ begins.0 in
         let cut = rw (← take-append-drop n part) at begins.1 in
-        let whole : log_text ps r.outcomes ≡ (log_bytes ++ got) ++ rest =
-        r.whole_log ∙ simp (cut, append_assoc) in
-        let some : 0 < length rest =
-        omega (arith, fails.taken.1, length-append {A = ℕ}, length-drop n part) in
         applies r.gives all_sent
         (Takes-trans _ _ _ _ _ g.logs (Takes-trans _ _ _ _ _ before fails.taken.2))
-        (omega (arith, r.size)) (StopsAtLog-within (omega arith) (omega arith) r.within
-        (by_run _ (([], sym (append-nil _)), (rest, whole)))
-        (by_run _ (r.size ∙ sym (rw length-append (r.sent_at_log _))))
-        (by_run _ (λ all. absurd (omega (arith, ap length (all ∙ whole), length-append {A = ℕ})))))
+        (omega (arith, r.size)) (StopsAtLog-within (by_run _ (record {
+          begins = ([], sym (append-nil _));
+          missing = rest;
+          some = omega (arith, fails.taken.1, length-append {A = ℕ}, length-drop n part);
+          cut = r.whole_log ∙ simp (cut, append_assoc);
+          between_sinks = r.size ∙ sym (rw length-append (r.sent_at_log _));
+        })) (omega arith) (omega arith) r.within)
 
     module _ {Y F Z G : Type 0} {y : Y} {z : Z} {middle log : Outgoing}
         (logged : Sends {X = Y} {E = F} now.log middle lines (Ok y))

@@ -1,6 +1,6 @@
 -- The log of patches in two parts, and how far one sink has come when the other fails.
 use Rattle.std.proofs.Common.{◌≡◌, ℕ, suc, ◌+◌, ◌-◌, ◌*◌, ◌/◌, ◌<◌, ◌≤◌, ◌⊎◌, inl, inr, Bool, true, false, not, List, [], ◌∷◌, ◌++◌, length, take, drop, refl, sym, ap, ◌∙◌, arith, append_assoc, append-nil, length-append, take-append-drop, add-one, get_or, Err, subst}
-use Rattle.std.specs.Prelude.{All, codes, cond, decimal, nat_lt}
+use Rattle.std.specs.Prelude.{All, codes, cond, decimal}
 use Rattle.std.proofs.Math.Seq.{drop-cons, take-append-add, take-suc}
 use Rattle.std.proofs.lemmas.List.{map-append, take-append-le}
 use Rattle.cd_stream.specs.Stream.{Outgoing}
@@ -32,47 +32,25 @@ log_lines-append (p ∷ ps) qs (o ∷ os) us same =
 
 -- ---- when the output has failed
 
-lines_below-all : (block : ℕ) (ps : List Patch) (os : List Outcome) → All (λ p. p.block < block) ps
-    → lines_below block ps os ≡ log_lines ps os
-lines_below-all block [] os below = refl
-lines_below-all block (p ∷ ps) [] below = refl
-lines_below-all block (p ∷ ps) (o ∷ os) below =
-    ap (λ l. l ++ lines_below block ps os)
-    (cond-true _ (log_line p o) []
-    (lt-ltb p.block block (All-head (λ q. q.block < block) p ps below)))
-    ∙ ap (λ l. log_line p o ++ l)
-    (lines_below-all block ps os (All-tail (λ q. q.block < block) p ps below))
-
 lines_below-none : (block : ℕ) (ps : List Patch) (os : List Outcome) → All (λ p. block ≤ p.block) ps
     → lines_below block ps os ≡ []
 lines_below-none block [] os after = refl
 lines_below-none block (p ∷ ps) [] after = refl
 lines_below-none block (p ∷ ps) (o ∷ os) after =
-    ap (λ l. l ++ lines_below block ps os)
-    (cond-false _ (log_line p o) []
-    (le-ltb p.block block (All-head (λ q. block ≤ q.block) p ps after)))
-    ∙ lines_below-none block ps os (All-tail (λ q. block ≤ q.block) p ps after)
-
-lines_below-append : (block : ℕ) (ps qs : List Patch) (os us : List Outcome) → length os ≡ length ps
-    → lines_below block (ps ++ qs) (os ++ us) ≡ lines_below block ps os ++ lines_below block qs us
-lines_below-append block [] qs [] us same = refl
-lines_below-append block [] qs (o ∷ os) us same = absurd (omega arith)
-lines_below-append block (p ∷ ps) qs [] us same = absurd (omega arith)
-lines_below-append block (p ∷ ps) qs (o ∷ os) us same =
-    ap (λ l. cond (nat_lt p.block block) (log_line p o) [] ++ l)
-    (lines_below-append block ps qs os us (omega arith))
-    ∙ sym (append_assoc (cond (nat_lt p.block block) (log_line p o) []) (lines_below block ps os)
-    (lines_below block qs us))
+    rw (le-ltb p.block block (All-head (λ q. block ≤ q.block) p ps after))
+    (lines_below-none block ps os (All-tail (λ q. block ≤ q.block) p ps after))
 
 -- the first patches begin below the block, and the others do not
 pub lines_below-cut : (block : ℕ) (ps qs : List Patch) (os us : List Outcome)
     → length os ≡ length ps → All (λ p. p.block < block) ps → All (λ p. block ≤ p.block) qs
     → lines_below block (ps ++ qs) (os ++ us) ≡ log_lines ps os
-lines_below-cut block ps qs os us same below after =
-    lines_below-append block ps qs os us same
-    ∙ ap (λ l. l ++ lines_below block qs us) (lines_below-all block ps os below)
-    ∙ ap (λ l. log_lines ps os ++ l) (lines_below-none block qs us after)
-    ∙ append-nil (log_lines ps os)
+lines_below-cut block [] qs [] us same below after = lines_below-none block qs us after
+lines_below-cut block [] qs (o ∷ os) us same below after = absurd (omega arith)
+lines_below-cut block (p ∷ ps) qs [] us same below after = absurd (omega arith)
+lines_below-cut block (p ∷ ps) qs (o ∷ os) us same below after =
+    rw (lt-ltb p.block block (All-head (λ q. q.block < block) p ps below))
+    (ap (λ l. log_line p o ++ l) (lines_below-cut block ps qs os us (omega arith)
+    (All-tail (λ q. q.block < block) p ps below) after))
 
 module _ (ps : List Patch) (os : List Outcome) (base count sent : ℕ) where
   -- within a whole sector
@@ -80,9 +58,8 @@ module _ (ps : List Patch) (os : List Outcome) (base count sent : ℕ) where
       → sent < SECTOR_SIZE * (count / SECTOR_SIZE)
       → log_when_out_fails ps os base count sent ≡ lines_below (base + number + 1) ps os
   unfolding log_when_out_fails
-  log_when_out_fails-sector number at inside =
-      cond-true _ _ _ (lt-ltb sent (SECTOR_SIZE * (count / SECTOR_SIZE)) inside)
-      ∙ ap (λ n. lines_below (base + n + 1) ps os) at
+  log_when_out_fails-sector number which inside =
+      rw (lt-ltb sent (SECTOR_SIZE * (count / SECTOR_SIZE)) inside, which)
 
   -- within the tail
   pub log_when_out_fails-tail : (number : ℕ) → count / SECTOR_SIZE ≡ number
@@ -90,16 +67,15 @@ module _ (ps : List Patch) (os : List Outcome) (base count sent : ℕ) where
       → log_when_out_fails ps os base count sent ≡ lines_below (base + number) ps os
   unfolding log_when_out_fails
   log_when_out_fails-tail number all after inside =
-      cond-false _ _ _ (le-ltb sent (SECTOR_SIZE * (count / SECTOR_SIZE)) after)
-      ∙ cond-true _ _ _ (lt-ltb sent count inside) ∙ ap (λ n. lines_below (base + n) ps os) all
+      rw (le-ltb sent (SECTOR_SIZE * (count / SECTOR_SIZE)) after, lt-ltb sent count inside, all)
 
   -- after all
   pub log_when_out_fails-end : sent ≡ count
       → log_when_out_fails ps os base count sent ≡ log_text ps os
   unfolding log_when_out_fails
   log_when_out_fails-end all =
-      cond-false _ _ _ (le-ltb sent (SECTOR_SIZE * (count / SECTOR_SIZE)) (omega arith))
-      ∙ cond-false _ _ _ (le-ltb sent count (omega arith))
+      rw (le-ltb sent (SECTOR_SIZE * (count / SECTOR_SIZE)) (omega arith))
+      (rw (le-ltb sent count (omega arith)))
 
 -- ---- when the image goes on after its largest size
 
@@ -189,16 +165,14 @@ module _ (image : List ℕ) (base : ℕ) where
   unfolding bytes_before
   bytes_before-within block number at inside =
       let which : block - base ≡ number = omega arith in
-      cond-false _ _ _ (le-ltb block base (omega arith))
-      ∙ cond-true _ _ _ (lt-ltb (block - base) (length (sectors image)) (omega arith))
-      ∙ ap (λ n. SECTOR_SIZE * n) which
+      rw (le-ltb block base (omega arith), which, lt-ltb number (length (sectors image)) inside)
 
   pub bytes_before-after : (block : ℕ) → base + length (sectors image) ≤ block
       → bytes_before image base block ≡ length image
   unfolding bytes_before
   bytes_before-after block after =
-      cond-false _ _ _ (le-ltb block base (omega arith))
-      ∙ cond-false _ _ _ (le-ltb (block - base) (length (sectors image)) (omega arith))
+      rw (le-ltb block base (omega arith))
+      (rw (le-ltb (block - base) (length (sectors image)) (omega arith)))
 
   pub sent_when_log_fails-line : (p : Patch) (qs : List Patch) (o : Outcome) (us : List Outcome) (n : ℕ)
       → n < length (log_line p o)
@@ -292,17 +266,14 @@ applied_count-missing_outcomes (p ∷ ps) = applied_count-missing_outcomes ps
 pub counts-all : (os : List Outcome) → applied_count os + refused_count os ≡ length os
 counts-all [] = refl
 counts-all (o ∷ os) =
-    let others = counts-all os in
-    let accepted = count_by-cons is_applied o os in
-    let refused = count_by-cons (λ u. not (is_applied u)) o os in
-    let both : (cond (is_applied o) 1 0 + applied_count os)
-    + (cond (not (is_applied o)) 1 0 + refused_count os) ≡ suc (length os) =
-    elim (is_applied o) as (λ t. (cond t 1 0 + applied_count os)
-    + (cond (not t) 1 0 + refused_count os) ≡ suc (length os)) [
-      | true ↦ omega arith
-      | false ↦ omega arith
-    ] in
-    omega (arith, both, accepted, refused)
+    omega (arith, counts-all os, count_by-cons is_applied o os, counted, either (is_applied o))
+  where
+    counted : refused_count (o ∷ os) ≡ cond (not (is_applied o)) 1 0 + refused_count os
+    counted = count_by-cons (λ u. not (is_applied u)) o os
+
+    either : (b : Bool) → cond b 1 0 + cond (not b) 1 0 ≡ 1
+    either true = refl
+    either false = refl
 
 -- ---- their lines
 
@@ -331,18 +302,14 @@ module _ (ps : List Patch) (i : ℕ) (p : Patch) (inside : i < length ps)
   pub missing_lines-more : missing_lines (take (i + 1) ps)
       ≡ missing_lines (take i ps) ++ log_line p (NoBlock p.block)
   missing_lines-more =
-      ap (λ n. missing_lines (take n ps)) (add-one i) ∙ ap missing_lines (take-suc ps i p inside)
-      ∙ ap (λ q. missing_lines (take i ps ++ q ∷ [])) (sym is)
-      ∙ missing_lines-append (take i ps) (p ∷ [])
-      ∙ ap (λ l. missing_lines (take i ps) ++ l) (append-nil (log_line p (NoBlock p.block)))
+      rw (add-one, take-suc ps i p inside, ← is, missing_lines-append, append-nil)
 
   all_lines : missing_lines ps
       ≡ missing_lines (take i ps)
       ++ (log_line p (NoBlock p.block) ++ missing_lines (drop (suc i) ps))
   all_lines =
-      ap missing_lines (sym (take-append-drop i ps)) ∙ missing_lines-append (take i ps) (drop i ps)
-      ∙ ap (λ qs. missing_lines (take i ps) ++ missing_lines qs)
-      (drop-cons ps i p inside ∙ ap (λ q. q ∷ drop (suc i) ps) (sym is))
+      ap missing_lines (sym (take-append-drop i ps))
+      ∙ rw (missing_lines-append, drop-cons ps i p inside, ← is)
 
   -- a log that fails in the next line has got a front of all the lines
   pub missing_lines-cut : {X E : Type 0} (old before new : Outgoing) (n : ℕ)
@@ -355,18 +322,15 @@ module _ (ps : List Patch) (i : ℕ) (p : Patch) (inside : i < length ps)
       let front = missing_lines (take i ps) in
       let line = log_line p (NoBlock p.block) in
       let after = missing_lines (drop (suc i) ps) in
-      let size : length (missing_lines ps) ≡ length front + (length line + length after) =
-      ap length all_lines ∙ length-append front (line ++ after)
-      ∙ ap (λ m. length front + m) (length-append line after) in
+      let size = ap length all_lines in
       let part : take (length front + n) (missing_lines ps) ≡ front ++ take n line =
-      ap (take (length front + n)) all_lines ∙ take-append-add front (line ++ after) n
-      ∙ ap (λ l. front ++ l) (take-append-le n line after (omega arith)) in
+      rw (all_lines, take-append-add, take-append-le n line after (omega arith)) in
       let all : Takes old new (take (length front + n) (missing_lines ps)) =
-      subst (Takes old new) (sym part) (Takes-trans old before new front (take n line) log_bytes went) in
+      rw part (Takes-trans old before new front (take n line) log_bytes went) in
       record {
-        bytes = (length front + n, omega (arith, size), all.appends);
-        taken = (length front + n, omega (arith, size), all);
+        bytes = (length front + n, omega (arith, size, length-append {A = ℕ}), all.appends);
+        taken = (length front + n, omega (arith, size, length-append {A = ℕ}), all);
         flushes = unflushed;
-        count = failed ∙ ap (λ m. m + 1) kept;
+        count = omega arith;
         unfinished = λ some. unfinished;
       }

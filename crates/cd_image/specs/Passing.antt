@@ -21,42 +21,45 @@ use Rattle.cd_image.specs.declared.pass.Pass.{Pass}
 abbrev pub missing_outcomes : List Patch → List Outcome
 missing_outcomes ps = map (λ p. NoBlock p.block) ps
 
+-- the numbers of a pass: nothing failed and no sink was flushed; the image is not too long, and no
+-- more is in hand than may be; and the block and the counts that the pass has reached
+pub record PassCounts (base : ℕ) (start now : Streams) (seen done window : List (List ℕ))
+    (outcomes : List Outcome) (block sectors applied : ℕ)
+    (tail : Option (List ℕ)) : Type 0 where
+  pub unfailed : Failed start now 0 0 0
+  pub unflushed : Flushed start now 0 0
+  pub short : length (tail_bytes tail) < SECTOR_SIZE
+  pub within : SECTOR_SIZE * sectors + length (tail_bytes tail) ≤ image_limit
+  pub in_hand : SECTOR_SIZE * length window + length (tail_bytes tail) ≤ bytes_in_hand
+  pub front : block ≡ base + length done
+  pub count : sectors ≡ length seen
+  pub held : length done + length window ≡ length seen
+  pub counted : applied ≡ applied_count outcomes
+
 -- the pass since `start`: the patches `taken` were decided and logged, and the patches `left` were
 -- not; `window` and `tail` are in hand; `block` is the first block that has not gone out, `sectors`
 -- were read, and `applied` patches accepted
 pub record PassInvariant (carry : Bool) (taken left : List Patch) (base : ℕ) (start now : Streams)
     (window : List (List ℕ)) (block sectors applied : ℕ) (tail : Option (List ℕ)) : Type 0 where
-  -- bytes moved: the sectors `seen` were read, `done` have gone out, and the lines of the
-  -- `outcomes` were written
+  -- the sectors `seen` were read, `done` have gone out, and the lines of the `outcomes` were
+  -- written
   pub seen : List (List ℕ)
   pub done : List (List ℕ)
   pub outcomes : List Outcome
   pub gives : Gives start.image now.image (bytes_of seen ++ tail_bytes tail)
   pub sends : Takes start.out now.out (bytes_of done)
   pub logs : Takes start.log now.log (log_lines taken outcomes)
-  -- nothing failed, no sink was flushed, and all sizes are right: the image is not too long, and no
-  -- more is in hand than may be
-  pub unfailed : Failed start now 0 0 0
-  pub unflushed : Flushed start now 0 0
+  pub ended : IsSome tail → IsAtEnd now.image.rest × (now.image.ended ≡ true)
   pub seen_sizes : All (λ sector. length sector ≡ SECTOR_SIZE) seen
   pub done_sizes : All (λ sector. length sector ≡ SECTOR_SIZE) done
-  pub short : length (tail_bytes tail) < SECTOR_SIZE
-  pub within : SECTOR_SIZE * sectors + length (tail_bytes tail) ≤ image_limit
-  pub ended : IsSome tail → IsAtEnd now.image.rest × (now.image.ended ≡ true)
-  pub in_hand : SECTOR_SIZE * length window + length (tail_bytes tail) ≤ bytes_in_hand
-  -- position: the patches taken lead, whatever sectors may still come, from those read to those that
-  -- went out and those in hand; and the block and the counts that the pass has reached
+  pub counts : PassCounts base start now seen done window outcomes block sectors applied tail
+  -- the patches taken lead, whatever sectors may still come, from those read to those that went out
+  -- and those in hand. They begin at sectors that were read, and those left do not begin before the
+  -- front block. While more may come, all that those taken meet may be there
   pub run : (more : List (List ℕ)) → (IsSome tail → more ≡ [])
       → PatchSequence carry taken outcomes base (seen ++ more) (done ++ (window ++ more))
-  pub front : block ≡ base + length done
-  pub count : sectors ≡ length seen
-  pub held : length done + length window ≡ length seen
-  pub counted : applied ≡ applied_count outcomes
-  -- patches: those taken begin at sectors that were read, and those left do not begin before the
-  -- front block
   pub due : All (λ p. (p.block ≤ block) × (p.block < base + sectors)) taken
   pub ahead : All (λ p. block ≤ p.block) left
-  -- while more may come, all that the patches taken meet may be there
   pub reached : tail ≡ None → All (λ p. p.block + blocks_met p ≤ base + sector_limit) taken
 
 -- the pass as `PassInvariant` says, with the values of a `Pass`

@@ -1,5 +1,5 @@
 -- An audit sector by sector, and that it reports what it should of the whole image.
-use Rattle.std.proofs.Common.{◌≡◌, ℕ, ◌+◌, ◌<◌, ◌==◌, Bool, true, false, not, ◌&&◌, ◌||◌, cond, count_by, List, [], ◌∷◌, ◌++◌, length, take, Option, None, Some, Result, refl, sym, ap, ◌∙◌, subst, arith, add-zero, zero-add, add_assoc, append-nil}
+use Rattle.std.proofs.Common.{◌≡◌, ℕ, ◌+◌, ◌<◌, ◌==◌, Bool, true, false, not, ◌&&◌, ◌||◌, cond, count_by, List, [], ◌∷◌, ◌++◌, length, take, Option, None, Some, refl, sym, ap, ◌∙◌, subst, arith, add-zero, zero-add, add_assoc, append-nil}
 use Rattle.std.specs.List.{list_all}
 use Rattle.std.proofs.lemmas.Bool.Decides.{nat_tests}
 use Rattle.cd_sector.specs.Consistent.{is_mode1}
@@ -8,11 +8,9 @@ use Rattle.cd_sector.specs.Kind.{kind_of}
 use Rattle.cd_sector.proofs.DefectLemmas.{some_nonzero}
 use Rattle.cd_stream.specs.Stream.{Outgoing}
 use Rattle.cd_stream.specs.Transfer.{Takes}
-use Rattle.cd_stream.specs.declared.sink.SinkFailed.{SinkFailed}
-use Rattle.cd_report.specs.AuditText.{audit_end, audit_lines, audit_report, finding_count, finding_line, found_of, findings_of, is_any, is_damage, is_damaged, line_of, report_of}
-use Rattle.cd_read.specs.Image.{sectors, tail}
+use Rattle.cd_report.specs.AuditText.{audit_end, audit_lines, audit_report, finding_line, found_of, findings_of, is_any, is_damage, is_damaged, line_of, report_of}
 use Rattle.cd_report.specs.Lines.{text_of}
-use Rattle.cd_report.specs.Scanning.{Finishes, HasFailed, HasVisited, IsTallyOf, audit_remaining, tally_with, tally_with_all, spec_of}
+use Rattle.cd_report.specs.Scanning.{HasFailed, HasVisited, IsTallyOf, audit_remaining, tally_with, tally_with_all, spec_of}
 use Rattle.cd_report.specs.declared.auditing.AuditTally.{AuditTally}
 use Rattle.cd_report.specs.declared.findings.Findings.{Findings}
 use Rattle.cd_read.proofs.general.Counts.{count_by-cons}
@@ -213,44 +211,16 @@ module _ (base : ℕ) (tally : AuditTally) (sector : List ℕ) (out out' : Outgo
       (subst (λ ls. (n : ℕ) × (n < length (text_of ls)) × Takes out out' (take n (text_of ls)))
       line_there went)
 
--- what goes out at the end, with no sector to follow
-pub Audit-closes : (tally : AuditTally) (first left : ℕ) (out out' : Outgoing)
-    (result : Result AuditTally SinkFailed)
-    → Finishes (audit_end (record tally { tail = left })) out out' result
-    → Finishes (audit_end (tally_with_all tally first [] left)) out out' result
-Audit-closes tally first left out out' result finished =
-    subst (λ t. Finishes (audit_end t) out out' result)
-    (tally_of-same tally.sectors _ tally.mode1 _ tally.damaged _ tally.findings _ left
-    (sym (add-zero _)) (sym (add-zero _)) (sym (add-zero _)) (sym (add-zero _))) finished
+-- the counts at the end, with no sector to follow
+pub audit_end_is : (tally : AuditTally) (first left : ℕ)
+    → tally_with_all tally first [] left ≡ record tally { tail = left }
+audit_end_is tally first left = simp add-zero
 
 -- ---- the whole image
 
 abbrev pub none_yet : AuditTally
 none_yet = record { sectors = 0; mode1 = 0; damaged = 0; findings = 0; tail = 0 }
 
-module _ (base : ℕ) where
-  all_counted : (ss : List (List ℕ)) (left : ℕ)
-      → tally_with_all none_yet base ss left
-      ≡ tally_of (length ss) (count_by (λ sector. is_mode1 (kind_of sector)) ss)
-      (count_by is_damaged ss) (finding_count base ss) left
-  all_counted ss left =
-      tally_of-same _ _ _ _ _ _ _ _ left (zero-add _) (zero-add _) (zero-add _) (zero-add _)
-
-  pub Auditing-text : (image : List ℕ)
-      → (spec_of (audit_remaining base none_yet)).text image ≡ (audit_report base).text image
-  Auditing-text image =
-      ap (λ b. text_of (audit_lines b (sectors image))
-      ++ audit_end (tally_with_all none_yet b (sectors image) (length (tail image))))
-      (add-zero base)
-      ∙ ap (λ t. text_of (audit_lines base (sectors image)) ++ audit_end t)
-      (all_counted (sectors image) (length (tail image)))
-
-  pub Auditing-due : (read : List ℕ)
-      → (spec_of (audit_remaining base none_yet)).due read ≡ (audit_report base).due read
-  Auditing-due read = ap (λ b. audit_lines b (sectors read)) (add-zero base)
-
-  pub Auditing-tally : (image : List ℕ)
-      → (spec_of (audit_remaining base none_yet)).tally image ≡ (audit_report base).tally image
-  Auditing-tally image =
-      ap (λ b. tally_with_all none_yet b (sectors image) (length (tail image))) (add-zero base)
-      ∙ all_counted (sectors image) (length (tail image))
+-- an audit from the first sector on is the whole report
+pub Auditing-is : (base : ℕ) → spec_of (audit_remaining base none_yet) ≡ audit_report base
+Auditing-is base = simp (add-zero, zero-add)

@@ -3,12 +3,11 @@ use Rattle.std.proofs.Common.{◌≡◌, ℕ, suc, ◌+◌, List, [], ◌∷◌,
 use Rattle.cd_sector.specs.Kind.{kind_of}
 use Rattle.cd_stream.specs.Stream.{Outgoing}
 use Rattle.cd_stream.specs.declared.sink.SinkFailed.{SinkFailed}
-use Rattle.cd_read.specs.Image.{sectors, tail}
 use Rattle.cd_report.specs.Lines.{all_but_last, text_of}
 use Rattle.cd_report.specs.ListText.{list_end, list_report, run_line, run_lines}
 use Rattle.cd_report.specs.OpenRun.{open_first, open_kinds}
 use Rattle.cd_report.specs.Runs.{Run, runs}
-use Rattle.cd_report.specs.Scanning.{Finishes, HasFailed, FailsToExtend, HasVisited, HasExtended, Visits, ExtendsRun, ended_lines, last_line, list_remaining, spec_of}
+use Rattle.cd_report.specs.Scanning.{HasFailed, FailsToExtend, HasVisited, HasExtended, Visits, ExtendsRun, ended_lines, last_line, list_remaining, spec_of}
 use Rattle.cd_report.specs.declared.listing.ListTally.{ListTally}
 use Rattle.cd_report.specs.declared.listing.OpenRun.{OpenRun}
 use Rattle.cd_report.proofs.OpenRunLemmas.{nothing_ended}
@@ -58,7 +57,7 @@ module _ (base : ℕ) (run : Option OpenRun) (count : ℕ) (sector : List ℕ) (
   List-visits run' (Err e) failed = List-failed failed.1
 
 -- what goes out at the end, with no sector to follow
-list_end_is : (base : ℕ) (run : Option OpenRun) (count left : ℕ)
+pub list_end_is : (base : ℕ) (run : Option OpenRun) (count left : ℕ)
     → last_line (open_first run 0) (runs (open_kinds run)) ++ list_end (tally_of count left)
     ≡ (list_remaining base run count).end [] left
 list_end_is base None count left = ap (λ n. list_end (tally_of n left)) (sym (add-zero count))
@@ -67,14 +66,6 @@ list_end_is base (Some run) count left =
     (sym (append-nil (open_kinds (Some run))))
     ∙ ap (λ n. last_line run.first (runs (open_kinds (Some run) ++ []))
     ++ list_end (tally_of n left)) (sym (add-zero count))
-
-pub List-closes : (base : ℕ) (run : Option OpenRun) (count left : ℕ) (out out' : Outgoing)
-    (result : Result ListTally SinkFailed)
-    → Finishes (last_line (open_first run 0) (runs (open_kinds run))
-    ++ list_end (tally_of count left)) out out' result
-    → Finishes ((list_remaining base run count).end [] left) out out' result
-List-closes base run count left out out' result finished =
-    subst (λ t. Finishes t out out' result) (list_end_is base run count left) finished
 
 -- ---- the whole image
 
@@ -89,26 +80,6 @@ last-apart first (run ∷ next ∷ others) =
     (text_of (all_but_last (run_lines (first + run.count) (next ∷ others))))
     (last_line (first + run.count) (next ∷ others)))
 
-module _ (base : ℕ) where
-  pub Listing-text : (image : List ℕ)
-      → (spec_of (list_remaining base None 0)).text image ≡ (list_report base).text image
-  Listing-text image =
-      let rs = runs (map kind_of (sectors image)) in
-      let left = length (tail image) in
-      let last = last_line base rs in
-      ap (λ b. text_of (all_but_last (run_lines b rs))
-      ++ (last_line b rs ++ list_end (tally_of (0 + length (sectors image)) left))) (add-zero base)
-      ∙ ap (λ n. text_of (all_but_last (run_lines base rs)) ++ (last ++ list_end (tally_of n left)))
-      (zero-add (length (sectors image)))
-      ∙ sym (append_assoc (text_of (all_but_last (run_lines base rs))) last
-      (list_end (tally_of (length (sectors image)) left)))
-      ∙ ap (λ t. t ++ list_end (tally_of (length (sectors image)) left)) (sym (last-apart base rs))
-
-  pub Listing-due : (read : List ℕ)
-      → (spec_of (list_remaining base None 0)).due read ≡ (list_report base).due read
-  Listing-due read = ap (λ b. ended_lines b (map kind_of (sectors read))) (add-zero base)
-
-  pub Listing-tally : (image : List ℕ)
-      → (spec_of (list_remaining base None 0)).tally image ≡ (list_report base).tally image
-  Listing-tally image =
-      ap (λ n. tally_of n (length (tail image))) (zero-add (length (sectors image)))
+-- a listing from the first sector on is the whole report
+pub Listing-is : (base : ℕ) → spec_of (list_remaining base None 0) ≡ list_report base
+Listing-is base = simp (add-zero, zero-add, ← append_assoc, ← last-apart)

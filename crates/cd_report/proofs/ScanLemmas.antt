@@ -1,20 +1,19 @@
 -- One pass over an image that reports on it: how far it has come, and how it ends.
-use Rattle.std.proofs.Common.{◌≡◌, ℕ, ◌+◌, ◌*◌, ◌<◌, ◌≤◌, false, true, List, [], ◌∷◌, ◌++◌, length, take, Result, Ok, Err, refl, sym, ap, ◌∙◌, subst, arith, length-append, append_assoc, append-nil, take_at}
-use Rattle.std.specs.Io.KnownBytes.{IsAtEnd}
+use Rattle.std.proofs.Common.{◌≡◌, ℕ, ◌+◌, ◌*◌, ◌<◌, ◌≤◌, true, List, [], ◌∷◌, ◌++◌, length, take, Ok, Err, refl, sym, ap, ◌∙◌, arith, length-append, append_assoc, append-nil, take_at}
 use Rattle.std.proofs.KnownBytes.{Consumes-nil}
 use Rattle.std.proofs.lemmas.Grind.{flat_map-append}
 use Rattle.std.proofs.lemmas.List.{length-take-le}
 use Rattle.cd_read.specs.Image.{image_limit, sectors, tail}
 use Rattle.cd_report.specs.Lines.{all_but_last, text_of}
-use Rattle.cd_read.specs.Reading.{ReadsSector}
-use Rattle.cd_report.specs.Report.{ReportAnswers, Reports, ReportSpec}
-use Rattle.cd_report.specs.Scanning.{Finishes, HasFailed, HasVisited, Remaining, spec_of}
+use Rattle.cd_read.specs.Ends.{MayBeImageAtEnd}
+use Rattle.cd_read.specs.Reading.{EndComes, ReadsSector, SectorComes}
+use Rattle.cd_report.specs.Report.{ReportAnswers, Reports}
+use Rattle.cd_report.specs.Scanning.{FailsToFinish, HasFailed, HasVisited, Remaining, spec_of}
 use Rattle.cd_read.specs.declared.fault.Fault.{Fault}
 use Rattle.cd_read.specs.declared.fault.Fault.TheVariants.{Log, Read, TooLong, Write}
 use Rattle.cd_stream.specs.Stream.{Incoming, IsBeginning, Outgoing}
-use Rattle.cd_stream.specs.Transfer.{CountsFlush, Gives, Takes}
+use Rattle.cd_stream.specs.Transfer.{Gives, Takes}
 use Rattle.cd_stream.proofs.TransferLemmas.{Gives-trans, Takes-nil, Takes-trans}
-use Rattle.cd_stream.specs.declared.sink.SinkFailed.{SinkFailed}
 use Rattle.cd_read.proofs.ImageLemmas.{length-tail, sectors-sector, sectors-short}
 use Rattle.cd_read.proofs.EndLemmas.{Fits-begins, MayBeImageAtEnd-begins, MayBeImageAtEnd-end}
 use Rattle.cd_report.proofs.PassLemmas.{IsBeginning-after, IsBeginning-take}
@@ -40,10 +39,6 @@ all_but_last-begins (x ∷ y ∷ ys) =
     (all_but_last-begins (y ∷ ys))
 
 -- ---- the pass
-
--- no flush is one at most
-at_most_one : {old new : ℕ} → new ≡ old → (old ≤ new) × (new ≤ old + 1)
-at_most_one same = (omega (arith, same), omega (arith, same))
 
 -- after `count` sectors: whatever sectors may still come, the report of all is what has gone out
 -- and what is still to be written
@@ -87,395 +82,252 @@ ScanInvariant-start first image out none = record {
   nothing_due = none;
 }
 
-module _ {T : Type 0} (first now : Remaining T) (image before after : Incoming)
-    (out sunk : Outgoing) (count : ℕ) (reported : ScanInvariant first now image before out sunk count) where
+module _ {T : Type 0} {first now : Remaining T} {image before : Incoming} {out sunk : Outgoing}
+    {count : ℕ}
+    (reported : ScanInvariant first now image before out sunk count) where
   -- the text of an image that begins with what was read
   known : (more : List ℕ)
       → (spec_of first).text (reported.read ++ more)
       ≡ text_of reported.sent
       ++ (text_of (now.lines (sectors more))
       ++ now.end (sectors more) (length (tail (reported.read ++ more))))
-  known more =
-      let left = length (tail (reported.read ++ more)) in
-      let ss = sectors more in
-      ap (λ all. text_of (first.lines all) ++ first.end all left) (reported.cut more)
-      ∙ ap (λ ls. text_of ls ++ first.end (reported.done ++ ss) left) (reported.lines ss)
-      ∙ ap (λ e. text_of (reported.sent ++ now.lines ss) ++ e) (reported.end ss left)
-      ∙ ap (λ t. t ++ now.end ss left) (text_of-append reported.sent (now.lines ss))
-      ∙ append_assoc (text_of reported.sent) (text_of (now.lines ss)) (now.end ss left)
+  known more = simp (reported.cut, reported.lines, reported.end, text_of-append, append_assoc)
 
   sent_begins : (more : List ℕ)
       → IsBeginning (text_of reported.sent) ((spec_of first).text (reported.read ++ more))
   sent_begins more = (_, known more)
 
-  module _ (came : List ℕ) (gives : Gives before after came) where
+  module _ {after : Incoming} {came : List ℕ} (gives : Gives before after came) where
     gives_all : Gives image after (reported.read ++ came)
-    gives_all = Gives-trans image before after reported.read came reported.gives gives
+    gives_all = Gives-trans _ _ _ _ _ reported.gives gives
 
     length_read : length (reported.read ++ came) ≡ 2352 * count + length came
-    length_read = length-append reported.read came ∙ ap (λ n. n + length came) reported.size
-
-    begins_further : (whole : List ℕ) → IsBeginning (reported.read ++ came) whole
-        → IsBeginning (text_of reported.sent) ((spec_of first).text whole)
-    begins_further whole begins =
-        subst (λ w. IsBeginning (text_of reported.sent) ((spec_of first).text w))
-        (sym (begins.1 ∙ append_assoc reported.read came begins.0)) (sent_begins (came ++ begins.0))
+    length_read = omega (arith, length-append reported.read came)
 
     module _ (short : length came < 2352) where
       done_is : sectors (reported.read ++ came) ≡ reported.done ++ []
-      done_is = reported.cut came ∙ ap (λ ss. reported.done ++ ss) (sectors-short came short)
+      done_is = simp (reported.cut, sectors-short)
 
       -- the lines that are due are those that went out
       due_is : (spec_of first).due (reported.read ++ came) ≡ reported.sent
       due_is =
-          ap first.lines done_is ∙ reported.lines [] ∙ ap (λ ls. reported.sent ++ ls) reported.nothing_due
-          ∙ append-nil reported.sent
+          ap first.lines done_is ∙ reported.lines [] ∙ simp (reported.nothing_due, append-nil)
 
-      pub ScanInvariant-read : 2352 * count + length came ≤ image_limit
-          → after.failures ≡ before.failures + 1 → after.ended ≡ false
-          → Reports (spec_of first) image after out sunk (Err Read)
-      ScanInvariant-read few failed unended = record {
+      -- the pass ends here, with no flush
+      stopped : {fault : Fault}
+          → ReportAnswers (spec_of first) (reported.read ++ came) (text_of reported.sent)
+          image after out sunk (Err fault)
+          → Reports (spec_of first) image after out sunk (Err fault)
+      stopped answers = record {
         read = reported.read ++ came;
         sent = text_of reported.sent;
         gives = gives_all;
         takes = reported.takes;
-        flushes = at_most_one reported.unflushed;
-        answers = record {
-          reads = failed ∙ ap (λ n. n + 1) reported.reads;
-          writes = reported.writes;
-          unflushed = reported.unflushed;
-          unended = unended;
-          within = omega (arith, length_read);
-          due_sent = ap text_of (sym due_is);
-          beginning =
-              λ whole fits.
-              begins_further whole
-              (Fits-begins (reported.read ++ came) whole (omega (arith, length_read)) fits);
-        };
+        flushes = omega arith;
+        answers = answers;
       }
 
-      pub ScanInvariant-too_long : 2352 * count ≡ image_limit → length came ≡ 1
-          → after.failures ≡ before.failures → after.ended ≡ false
-          → Reports (spec_of first) image after out sunk (Err TooLong)
-      ScanInvariant-too_long full one kept unended = record {
-        read = reported.read ++ came;
-        sent = text_of reported.sent;
-        gives = gives_all;
-        takes = reported.takes;
-        flushes = at_most_one reported.unflushed;
-        answers = record {
-          reads = kept ∙ reported.reads;
-          writes = reported.writes;
-          unflushed = reported.unflushed;
-          unended = unended;
-          beyond = omega (arith, length_read);
-          due_sent = ap text_of (sym due_is);
-          beginning = λ whole fits.
-              let limited : take image_limit (reported.read ++ came) ≡ reported.read =
-              take_at reported.read came image_limit (reported.size ∙ full) in
-              subst (λ w. IsBeginning (text_of reported.sent) ((spec_of first).text w))
-              (sym (fits.begins.1 ∙ ap (λ l. l ++ fits.begins.0) limited))
-              (sent_begins fits.begins.0);
-        };
-      }
+  -- the next sector was not read
+  pub ScanInvariant-unread : {after : Incoming} (bytes : List ℕ) (fault : Fault)
+      → ReadsSector count bytes before after (Err fault)
+      → Reports (spec_of first) image after out sunk (Err fault)
+  ScanInvariant-unread {after} bytes Read r =
+      let gives : Gives before after r.came =
+      record { consumes = r.consumes; counted = r.counted } in
+      stopped gives r.short (record {
+        reads = omega arith;
+        writes = reported.writes;
+        unflushed = reported.unflushed;
+        unended = r.unended;
+        within = omega (arith, length_read gives);
+        due_sent = ap text_of (sym (due_is gives r.short));
+        beginning = λ whole fits.
+            let begins = Fits-begins _ whole (omega (arith, length_read gives)) fits in
+            rw (begins.1, append_assoc) (sent_begins (r.came ++ begins.0));
+      })
+  ScanInvariant-unread {after} bytes TooLong r =
+      let gives : Gives before after r.came =
+      record { consumes = r.consumes; counted = r.counted } in
+      let short : length r.came < 2352 = omega arith in
+      stopped gives short (record {
+        reads = omega arith;
+        writes = reported.writes;
+        unflushed = reported.unflushed;
+        unended = r.unended;
+        beyond = omega (arith, length_read gives);
+        due_sent = ap text_of (sym (due_is gives short));
+        beginning = λ whole fits.
+            let limited : take image_limit (reported.read ++ r.came) ≡ reported.read =
+            take_at reported.read r.came image_limit (reported.size ∙ r.full) in
+            rw (fits.begins.1, limited) (sent_begins fits.begins.0);
+      })
+  ScanInvariant-unread bytes Write r = elim r [ ]
+  ScanInvariant-unread bytes Log r = elim r [ ]
 
-    module _ (sunk' : Outgoing) (kept : after.failures ≡ before.failures) where
-      module _ (size : length came ≡ 2352) where
-        pub ScanInvariant-next : (next : Remaining T) → HasVisited now next came sunk sunk'
-            → sunk'.flushes ≡ sunk.flushes → sunk'.failures ≡ sunk.failures
-            → ScanInvariant first next image after out sunk' (count + 1)
-        ScanInvariant-next next taken unflushed wrote = record {
-          read = reported.read ++ came;
-          sent = reported.sent ++ taken.sent;
-          done = reported.done ++ came ∷ [];
-          gives = gives_all;
-          takes =
-              subst (λ t. Takes out sunk' t) (sym (text_of-append reported.sent taken.sent))
-              (Takes-trans out sunk sunk' (text_of reported.sent)
-              (text_of taken.sent) reported.takes taken.takes);
-          unflushed = unflushed ∙ reported.unflushed;
-          reads = kept ∙ reported.reads;
-          writes = wrote ∙ reported.writes;
-          counted = length-append reported.done (came ∷ []) ∙ ap (λ n. n + 1) reported.counted;
-          size = length_read ∙ omega arith;
-          cut = λ more.
-              ap sectors (append_assoc reported.read came more) ∙ reported.cut (came ++ more)
-              ∙ ap (λ ss. reported.done ++ ss) (sectors-sector came more size)
-              ∙ sym (append_assoc reported.done (came ∷ []) (sectors more));
-          lines = λ others.
-              ap first.lines (append_assoc reported.done (came ∷ []) others)
-              ∙ reported.lines (came ∷ others) ∙ ap (λ ls. reported.sent ++ ls) (taken.lines others)
-              ∙ sym (append_assoc reported.sent taken.sent (next.lines others));
-          end =
-              λ others left.
-              ap (λ ss. first.end ss left) (append_assoc reported.done (came ∷ []) others)
-              ∙ reported.end (came ∷ others) left ∙ taken.end others left;
-          tally =
-              λ others left.
-              ap (λ ss. first.tally ss left) (append_assoc reported.done (came ∷ []) others)
-              ∙ reported.tally (came ∷ others) left ∙ taken.tally others left;
-          nothing_due = taken.nothing_due;
-        }
+  -- a sector has come
+  module _ {after : Incoming} {came : List ℕ} (comes : SectorComes count came before after) where
+    came_all : Gives image after (reported.read ++ came)
+    came_all =
+        gives_all (record { consumes = comes.consumes; counted = omega arith })
 
-        pub ScanInvariant-write : HasFailed now came sunk sunk' → sunk'.flushes ≡ sunk.flushes
-            → 2352 * count + 2352 ≤ image_limit → sunk'.failures ≡ sunk.failures + 1
-            → Reports (spec_of first) image after out sunk' (Err Write)
-        ScanInvariant-write failed unflushed few rose = record {
-          read = reported.read ++ came;
-          sent = text_of reported.sent ++ part;
-          gives = gives_all;
-          takes = Takes-trans out sunk sunk' (text_of reported.sent) part reported.takes failed.takes;
-          flushes = at_most_one (unflushed ∙ reported.unflushed);
-          answers = record {
-            reads = kept ∙ reported.reads;
-            writes = rose ∙ ap (λ n. n + 1) reported.writes;
-            unflushed = λ short. unflushed ∙ reported.unflushed;
-            within = omega (arith, length_read);
-            due_sent = (
-              part,
-              ap (λ ls. text_of ls ++ part)
-                  (sym (ap all_but_last due_is ∙ all_but_last-append reported.sent failed.line)),
+    pub ScanInvariant-next : {next : Remaining T} {sunk' : Outgoing}
+        → HasVisited now next came sunk sunk' → sunk'.flushes ≡ sunk.flushes
+        → sunk'.failures ≡ sunk.failures
+        → ScanInvariant first next image after out sunk' (count + 1)
+    ScanInvariant-next taken unflushed wrote = record {
+      read = reported.read ++ came;
+      sent = reported.sent ++ taken.sent;
+      done = reported.done ++ came ∷ [];
+      gives = came_all;
+      takes = rw text_of-append (Takes-trans _ _ _ _ _ reported.takes taken.takes);
+      unflushed = omega arith;
+      reads = omega arith;
+      writes = omega arith;
+      counted = omega (arith, length-append reported.done (came ∷ []));
+      size = omega (arith, length-append reported.read came);
+      cut = λ more. simp (append_assoc, reported.cut, sectors-sector, comes.size);
+      lines = λ others. simp (append_assoc, reported.lines, taken.lines);
+      end = λ others left. simp (append_assoc, reported.end, taken.end);
+      tally = λ others left. simp (append_assoc, reported.tally, taken.tally);
+      nothing_due = taken.nothing_due;
+    }
+
+    pub ScanInvariant-write : {sunk' : Outgoing} → HasFailed now came sunk sunk'
+        → sunk'.flushes ≡ sunk.flushes → sunk'.failures ≡ sunk.failures + 1
+        → Reports (spec_of first) image after out sunk' (Err Write)
+    ScanInvariant-write failed unflushed rose = record {
+      read = reported.read ++ came;
+      sent = text_of reported.sent ++ part;
+      gives = came_all;
+      takes = Takes-trans _ _ _ _ _ reported.takes failed.takes;
+      flushes = omega arith;
+      answers = record {
+        reads = omega arith;
+        writes = omega arith;
+        unflushed = λ short. omega arith;
+        within = within;
+        due_sent = (part, rw (due_is, all_but_last-append));
+        beginning = λ whole fits.
+            let text = text_is whole fits in
+            rw text.1
+            (IsBeginning-after _ _ _ (IsBeginning-take failed.count failed.line text.0));
+        cut = λ sure whole fits.
+            omega (
+              arith,
+              ap length (text_is whole fits).1,
+              failed.cut,
+              length-append {A = ℕ},
+              length-take-le failed.count failed.line,
             );
-            beginning = λ whole fits.
-                let begins =
-                MayBeImageAtEnd-begins after.rest (reported.read ++ came) whole
-                (omega (arith, length_read)) fits in
-                subst (λ w. IsBeginning (text_of reported.sent ++ part) ((spec_of first).text w))
-                (sym (begins.1 ∙ append_assoc reported.read came begins.0)) (part_begins begins.0);
-            cut = λ sure whole fits.
-                let begins =
-                MayBeImageAtEnd-begins after.rest (reported.read ++ came) whole
-                (omega (arith, length_read)) fits in
-                subst (λ w. length (text_of reported.sent ++ part) < length ((spec_of first).text w))
-                (sym (begins.1 ∙ append_assoc reported.read came begins.0)) (part_short begins.0);
-          };
-        }
-          where
-            part : List ℕ
-            part = take failed.count failed.line
+      };
+    }
+      where
+        part : List ℕ
+        part = take failed.count failed.line
 
-            with_came : (more : List ℕ) → sectors (came ++ more) ≡ came ∷ sectors more
-            with_came more = sectors-sector came more size
+        within : length (reported.read ++ came) ≤ image_limit
+        within = omega (arith, length-append reported.read came)
 
-            due_is : (spec_of first).due (reported.read ++ came) ≡ reported.sent ++ failed.line ∷ []
-            due_is =
-                let only : sectors came ≡ came ∷ [] =
-                ap sectors (sym (append-nil came)) ∙ with_came []
-                ∙ ap (λ ss. came ∷ ss) (sectors-short [] (omega arith)) in
-                ap first.lines (reported.cut came ∙ ap (λ ss. reported.done ++ ss) only)
-                ∙ reported.lines (came ∷ [])
-                ∙ ap (λ ls. reported.sent ++ ls)
-                (failed.lines [] ∙ ap (λ ls. failed.line ∷ ls) failed.last)
+        due_is : (spec_of first).due (reported.read ++ came) ≡ reported.sent ++ failed.line ∷ []
+        due_is =
+            let only : sectors came ≡ came ∷ [] =
+            ap sectors (sym (append-nil came)) ∙ sectors-sector came [] comes.size
+            ∙ rw (sectors-short [] (omega arith)) in
+            simp (reported.cut, only, reported.lines, failed.lines, failed.last)
 
-            -- the line that failed, and what follows it
-            text_more : (more : List ℕ)
-                → (others : List ℕ) × ((spec_of first).text (reported.read ++ (came ++ more))
-                ≡ text_of reported.sent ++ (failed.line ++ others))
-            text_more more =
-                let ss = sectors more in
-                let left = length (tail (reported.read ++ (came ++ more))) in
-                let after = text_of (failed.after ss) in
-                let rest = now.end (came ∷ ss) left in (
-                  after ++ rest,
-                  known (came ++ more)
-                      ∙ ap (λ all. text_of reported.sent
-                      ++ (text_of (now.lines all) ++ now.end all left)) (with_came more)
-                      ∙ ap (λ ls. text_of reported.sent ++ (text_of ls ++ rest)) (failed.lines ss)
-                      ∙ ap (λ t. text_of reported.sent ++ t) (append_assoc failed.line after rest),
-                )
+        -- the line that failed, and what follows it
+        text_is : (whole : List ℕ) → MayBeImageAtEnd after.rest (reported.read ++ came) whole
+            → (others : List ℕ)
+            × ((spec_of first).text whole ≡ text_of reported.sent ++ (failed.line ++ others))
+        text_is whole fits =
+            let begins = MayBeImageAtEnd-begins after.rest _ whole within fits in
+            let more = begins.0 in
+            let left = length (tail (reported.read ++ (came ++ more))) in (
+              text_of (failed.after (sectors more)) ++ now.end (came ∷ sectors more) left,
+              ap (spec_of first).text (begins.1 ∙ append_assoc reported.read came more)
+                  ∙ known (came ++ more)
+                  ∙ simp (sectors-sector came more comes.size, failed.lines, append_assoc),
+            )
 
-            part_begins : (more : List ℕ)
-                → IsBeginning (text_of reported.sent ++ part)
-                ((spec_of first).text (reported.read ++ (came ++ more)))
-            part_begins more =
-                let text = text_more more in
-                subst (IsBeginning (text_of reported.sent ++ part)) (sym text.1)
-                (IsBeginning-after (text_of reported.sent) part (failed.line ++ text.0)
-                (IsBeginning-take failed.count failed.line text.0))
+  -- the image has ended
+  module _ {after : Incoming} {left : ℕ} {bytes : List ℕ}
+      (comes : EndComes count left bytes before after) where
+    came : List ℕ
+    came = take left bytes
 
-            part_short : (more : List ℕ)
-                → length (text_of reported.sent ++ part)
-                < length ((spec_of first).text (reported.read ++ (came ++ more)))
-            part_short more =
-                let text = text_more more in
-                omega (
-                  arith,
-                  failed.cut,
-                  ap length text.1,
-                  length-append (text_of reported.sent) part,
-                  length-append (text_of reported.sent) (failed.line ++ text.0),
-                  length-append failed.line text.0,
-                  length-take-le failed.count failed.line (omega (arith, failed.cut)),
-                )
+    gives : Gives before after came
+    unfolding came
+    gives = record { consumes = comes.consumes; counted = omega arith }
 
-      module _ (short : length came < 2352) (few : 2352 * count + length came ≤ image_limit)
-          (end : IsAtEnd after.rest) (ended : after.ended ≡ true) (left : ℕ)
-          (left_is : left ≡ length came) where
-        tail_is : length (tail (reported.read ++ came)) ≡ left
-        tail_is = length-tail reported.read came count reported.size short ∙ sym left_is
+    short : length came < 2352
+    unfolding came
+    short = omega arith
 
-        text_is : (spec_of first).text (reported.read ++ came) ≡ text_of reported.sent ++ now.end [] left
-        text_is =
-            known came
-            ∙ ap (λ ss. text_of reported.sent
-            ++ (text_of (now.lines ss) ++ now.end ss (length (tail (reported.read ++ came)))))
-            (sectors-short came short)
-            ∙ ap (λ ls. text_of reported.sent
-            ++ (text_of ls ++ now.end [] (length (tail (reported.read ++ came))))) reported.nothing_due
-            ∙ ap (λ n. text_of reported.sent ++ now.end [] n) tail_is
+    within : length (reported.read ++ came) ≤ image_limit
+    unfolding came
+    within = omega (arith, length-append reported.read came)
 
-        pub ScanInvariant-end : (answer : T) → answer ≡ now.tally [] left
-            → Finishes {X = T} {E = SinkFailed} (now.end [] left) sunk sunk' (Ok answer)
-            → sunk'.flushes ≡ sunk.flushes + 1
-            → sunk'.failures ≡ sunk.failures
-            → Reports (spec_of first) image after out sunk' (Ok answer)
-        ScanInvariant-end answer is finished flushed wrote = record {
-          read = reported.read ++ came;
-          sent = text_of reported.sent ++ now.end [] left;
-          gives = gives_all;
-          takes =
-              Takes-trans out sunk sunk' (text_of reported.sent)
-              (now.end [] left) reported.takes finished.1;
-          flushes = flushed ∙ ap (λ n. n + 1) reported.unflushed;
-          answers = record {
-            reads = kept ∙ reported.reads;
-            writes = wrote ∙ reported.writes;
-            finished = finished.0;
-            at_end = end;
-            ended = ended;
-            within = omega (arith, length_read);
-            whole_sent = sym text_is;
-            tally_right =
-                is ∙ sym (reported.tally [] left) ∙ ap (λ ss. first.tally ss left) (sym (done_is short))
-                ∙ ap (λ n. first.tally (sectors (reported.read ++ came)) n) (sym tail_is);
-          };
-        }
+    tail_is : length (tail (reported.read ++ came)) ≡ left
+    unfolding came
+    tail_is = length-tail reported.read came count reported.size short ∙ comes.size
 
-        pub ScanInvariant-end_failed : (e : SinkFailed)
-            → Finishes {X = T} (now.end [] left) sunk sunk' (Err e)
-            → CountsFlush {X = T} sunk.flushes sunk'.flushes (Err e)
-            → sunk'.failures ≡ sunk.failures + 1
-            → Reports (spec_of first) image after out sunk' (Err Write)
-        ScanInvariant-end_failed e finished flushed failed = record {
-          read = reported.read ++ came;
-          sent = text_of reported.sent ++ finished.0;
-          gives = gives_all;
-          takes = Takes-trans out sunk sunk' (text_of reported.sent) finished.0 reported.takes finished.1;
-          flushes =
-              (omega (arith, flushed.0, reported.unflushed), omega (arith, flushed.1, reported.unflushed));
-          answers = record {
-            reads = kept ∙ reported.reads;
-            writes = failed ∙ ap (λ n. n + 1) reported.writes;
-            unflushed = λ short.
-                let size =
-                ap length text_is ∙ length-append (text_of reported.sent) (now.end [] left) in
-                finished.3
-                (omega (arith, short, size, length-append (text_of reported.sent) finished.0))
-                ∙ reported.unflushed;
-            within = omega (arith, length_read);
-            due_sent =
-                let begins = all_but_last-begins reported.sent in
-                subst (λ ls. IsBeginning (text_of (all_but_last ls))
-                (text_of reported.sent ++ finished.0)) (sym (due_is short)) (
-                  begins.0 ++ finished.0,
-                  ap (λ t. t ++ finished.0) begins.1
-                      ∙ append_assoc (text_of (all_but_last reported.sent)) begins.0 finished.0,
-                );
-            beginning = λ whole fits.
-                subst (λ w. IsBeginning (text_of reported.sent ++ finished.0) ((spec_of first).text w))
-                (sym (MayBeImageAtEnd-end after.rest (reported.read ++ came) whole end fits))
-                (subst (IsBeginning (text_of reported.sent ++ finished.0)) (sym text_is)
-                (IsBeginning-after (text_of reported.sent) finished.0 (now.end [] left) finished.2));
-            cut = λ sure whole fits.
-                subst (λ w. length (text_of reported.sent ++ finished.0)
-                < length ((spec_of first).text w))
-                (sym (MayBeImageAtEnd-end after.rest (reported.read ++ came) whole end fits))
-                (omega (
-                  arith,
-                  finished.4 (reported.takes.flush_may_fail ∙ sure),
-                  ap length text_is,
-                  length-append (text_of reported.sent) finished.0,
-                  length-append (text_of reported.sent) (now.end [] left),
-                ));
-          };
-        }
+    text_is : (spec_of first).text (reported.read ++ came)
+        ≡ text_of reported.sent ++ now.end [] left
+    text_is = known came ∙ simp (sectors-short, short, reported.nothing_due, tail_is)
 
--- the next sector was not read
-pub ScanInvariant-unread : {T : Type 0} (first now : Remaining T) (image before after : Incoming)
-    (out sunk : Outgoing) (count : ℕ) → ScanInvariant first now image before out sunk count
-    → (bytes : List ℕ) (fault : Fault)
-    → ReadsSector count bytes before after (Err fault)
-    → Reports (spec_of first) image after out sunk (Err fault)
-ScanInvariant-unread first now image before after out sunk count reported bytes Read r =
-    ScanInvariant-read first now image before after out sunk count reported r.came
-    (record { consumes = r.consumes; counted = r.counted }) r.short r.within r.rose r.unended
-ScanInvariant-unread first now image before after out sunk count reported bytes TooLong r =
-    ScanInvariant-too_long first now image before after out sunk count reported r.came
-    (record { consumes = r.consumes; counted = r.counted })
-    (omega (arith, r.one)) r.full r.one r.kept r.unended
-ScanInvariant-unread first now image before after out sunk count reported bytes Write r = elim r [ ]
-ScanInvariant-unread first now image before after out sunk count reported bytes Log r = elim r [ ]
+    pub ScanInvariant-end : {sunk' : Outgoing} {answer : T} → answer ≡ now.tally [] left
+        → (sunk'.finished ≡ true) × Takes sunk sunk' (now.end [] left)
+        → sunk'.flushes ≡ sunk.flushes + 1 → sunk'.failures ≡ sunk.failures
+        → Reports (spec_of first) image after out sunk' (Ok answer)
+    ScanInvariant-end is finished flushed wrote = record {
+      read = reported.read ++ came;
+      sent = text_of reported.sent ++ now.end [] left;
+      gives = gives_all gives;
+      takes = Takes-trans _ _ _ _ _ reported.takes finished.1;
+      flushes = omega arith;
+      answers = record {
+        reads = omega arith;
+        writes = omega arith;
+        finished = finished.0;
+        at_end = comes.at_end;
+        ended = comes.ended;
+        within = within;
+        whole_sent = sym text_is;
+        tally_right = is ∙ sym (rw (tail_is, done_is gives short) (reported.tally [] left));
+      };
+    }
 
--- ---- the same in other words
-
-module _ {T : Type 0} (a b : ReportSpec T) (text : (image : List ℕ) → a.text image ≡ b.text image)
-    (due : (read : List ℕ) → a.due read ≡ b.due read)
-    (tally : (image : List ℕ) → a.tally image ≡ b.tally image) where
-  begins_same : {left : List ℕ → Type 0} (sent : List ℕ)
-      → ((whole : List ℕ) → left whole → IsBeginning sent (a.text whole))
-      → (whole : List ℕ) → left whole → IsBeginning sent (b.text whole)
-  begins_same sent begins = λ whole fits. subst (IsBeginning sent) (text whole) (begins whole fits)
-
-  answers_same : (read sent : List ℕ) (image image' : Incoming) (out out' : Outgoing)
-      (result : Result T Fault)
-      → ReportAnswers a read sent image image' out out' result
-      → ReportAnswers b read sent image image' out out' result
-  answers_same read sent image image' out out' (Ok reported) r = record {
-    reads = r.reads;
-    writes = r.writes;
-    finished = r.finished;
-    at_end = r.at_end;
-    ended = r.ended;
-    within = r.within;
-    whole_sent = r.whole_sent ∙ text read;
-    tally_right = r.tally_right ∙ tally read;
-  }
-  answers_same read sent image image' out out' (Err Read) r = record {
-    reads = r.reads;
-    writes = r.writes;
-    unflushed = r.unflushed;
-    unended = r.unended;
-    within = r.within;
-    due_sent = r.due_sent ∙ ap text_of (due read);
-    beginning = begins_same sent r.beginning;
-  }
-  answers_same read sent image image' out out' (Err Write) r = record {
-    reads = r.reads;
-    writes = r.writes;
-    unflushed = λ short. r.unflushed (subst (λ t. length sent < length t) (sym (text read)) short);
-    within = r.within;
-    due_sent = subst (λ ls. IsBeginning (text_of (all_but_last ls)) sent) (due read) r.due_sent;
-    beginning = begins_same sent r.beginning;
-    cut = λ sure whole fits. subst (λ t. length sent < length t) (text whole) (r.cut sure whole fits);
-  }
-  answers_same read sent image image' out out' (Err Log) r = absurd r
-  answers_same read sent image image' out out' (Err TooLong) r = record {
-    reads = r.reads;
-    writes = r.writes;
-    unflushed = r.unflushed;
-    unended = r.unended;
-    beyond = r.beyond;
-    due_sent = r.due_sent ∙ ap text_of (due read);
-    beginning = begins_same sent r.beginning;
-  }
-
-  pub Reports-same : {image image' : Incoming} {out out' : Outgoing} (result : Result T Fault)
-      → Reports a image image' out out' result → Reports b image image' out out' result
-  Reports-same result report = record {
-    read = report.read;
-    sent = report.sent;
-    gives = report.gives;
-    takes = report.takes;
-    flushes = report.flushes;
-    answers = answers_same report.read report.sent _ _ _ _ result report.answers;
-  }
+    pub ScanInvariant-end_failed : {sunk' : Outgoing} → FailsToFinish (now.end [] left) sunk sunk'
+        → (sunk.flushes ≤ sunk'.flushes) × (sunk'.flushes ≤ sunk.flushes + 1)
+        → sunk'.failures ≡ sunk.failures + 1
+        → Reports (spec_of first) image after out sunk' (Err Write)
+    ScanInvariant-end_failed finished flushed failed = record {
+      read = reported.read ++ came;
+      sent = text_of reported.sent ++ finished.sent;
+      gives = gives_all gives;
+      takes = Takes-trans _ _ _ _ _ reported.takes finished.takes;
+      flushes = omega arith;
+      answers = record {
+        reads = omega arith;
+        writes = omega arith;
+        unflushed =
+            λ less.
+            finished.unflushed (omega (arith, less, ap length text_is, length-append {A = ℕ}))
+            ∙ reported.unflushed;
+        within = within;
+        due_sent =
+            let begins = all_but_last-begins reported.sent in
+            rw (due_is gives short) (begins.0 ++ finished.sent, rw (begins.1, append_assoc));
+        beginning = λ whole fits.
+            rw (MayBeImageAtEnd-end after.rest _ whole comes.at_end fits, text_is)
+            (IsBeginning-after _ _ _ finished.begins);
+        cut = λ sure whole fits.
+            rw (MayBeImageAtEnd-end after.rest _ whole comes.at_end fits)
+            (omega (
+              arith,
+              finished.cut (reported.takes.flush_may_fail ∙ sure),
+              ap length text_is,
+              length-append {A = ℕ},
+            ));
+      };
+    }

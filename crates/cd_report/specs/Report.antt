@@ -1,7 +1,7 @@
 -- What a call has done that reads an image to its end and writes a text of it. The plain clauses of
 -- the calls follow from `Reports`.
-use Rattle.std.specs.Prelude.{◌≡◌, ◌↔◌, ℕ, ◌+◌, ◌<◌, ◌≤◌, IsOk, false, true, List, [], ◌∷◌, ◌++◌}
-use Rattle.std.specs.Prelude.{length, take, Option, None, Some, Result, Ok, Err}
+use Rattle.std.specs.Prelude.{◌≡◌, ℕ, ◌+◌, ◌<◌, ◌≤◌, false, true, List, [], ◌++◌}
+use Rattle.std.specs.Prelude.{length, Some, Result, Ok, Err}
 use Rattle.std.specs.Io.KnownBytes.{IsAtEnd}
 use Rattle.cd_read.specs.Ends.{MayBeImage, MayBeImageAtEnd}
 use Rattle.cd_read.specs.Image.{image_limit}

@@ -65,13 +65,19 @@ abbrev pub Visits : {T X E : Type 0} → Remaining T → Remaining T → List �
 Visits old new sector out out' (Ok x) = HasVisited old new sector out out'
 Visits old new sector out out' (Err e) = HasFailed old sector out out'
 
--- the end of a text goes out, and the sink is finished; at Err a front of it, and no flush was made
--- before all of it, nor does all go out if the sink's flush can't fail
+-- a front of the end of a text has gone out. No flush was made before all of it, and not all goes
+-- out if the sink's flush can't fail
+pub record FailsToFinish (text : List ℕ) (out out' : Outgoing) : Type 0 where
+  pub sent : List ℕ
+  pub takes : Takes out out' sent
+  pub begins : IsBeginning sent text
+  pub unflushed : length sent < length text → out'.flushes ≡ out.flushes
+  pub cut : out.flush_may_fail ≡ false → length sent < length text
+
+-- the end of a text goes out, and the sink is finished; at Err only a front of it
 abbrev pub Finishes : {X E : Type 0} → List ℕ → Outgoing → Outgoing → Result X E → Type 0
 Finishes text out out' (Ok x) = (out'.finished ≡ true) × Takes out out' text
-Finishes text out out' (Err e) = (sent : List ℕ) × Takes out out' sent × IsBeginning sent text
-    × (length sent < length text → out'.flushes ≡ out.flushes)
-    × (out.flush_may_fail ≡ false → length sent < length text)
+Finishes text out out' (Err e) = FailsToFinish text out out'
 
 -- ---- a listing
 

@@ -15,35 +15,28 @@ pub returns-in_err-read_sector : goal.returns-in_err-read_sector
 returns-in_err-read_sector g c =
     let failed = err_from_is_err_and c.from_residual.result c.from_residual.ensures.1 in
     rw (failed.1, failed.2)
-    (ScanInvariant-unread _ _ _ _ (g.I.Source.seen c.read_sector.new.image) _ _ _
-    c.loop-visitor.invariant.reported c.read_sector.new.sector _ c.in_err-read_sector.ensures)
+    (ScanInvariant-unread c.loop-visitor.invariant.reported c.read_sector.new.sector _
+    c.in_err-read_sector.ensures)
 
 pub returns-in_err-visit-in-None : goal.returns-in_err-visit-in-None
 returns-in_err-visit-in-None g c =
     let failed =
     err_from_is_err_and c.from_residual-in_err-visit-in-None.result
     c.from_residual-in_err-visit-in-None.ensures.1 in
-    let came = rw c.in-None.is at c.in_ok-read_sector.ensures in
-    let takes = c.in_err-visit-in-None.ensures.takes in
+    let visit = c.in_err-visit-in-None.ensures in
     rw (failed.1, failed.2)
-    (ScanInvariant-write _ _ _ _ (g.I.Source.seen c.read_sector.new.image) _ _ _
-    c.loop-visitor.invariant.reported c.read_sector.new.sector
-    (record { consumes = came.consumes; counted = omega (arith, came.counted, came.size) })
-    (g.O.Sink.seen c.visit.new.out) came.kept came.size takes c.in_err-visit-in-None.ensures.flushes
-    (omega (arith, came.few)) c.in_err-visit-in-None.ensures.count)
+    (ScanInvariant-write c.loop-visitor.invariant.reported
+    (rw c.in-None.is at c.in_ok-read_sector.ensures) visit.takes visit.flushes visit.count)
 
 pub loop-visitor-preserved : goal.loop-visitor-preserved
 loop-visitor-preserved g c =
     let came = rw c.in-None.is at c.in_ok-read_sector.ensures in
-    let takes = c.in_ok-visit-in-None.ensures.takes in
+    let visit = c.in_ok-visit-in-None.ensures in
     record {
       reported =
-          ScanInvariant-next _ _ _ _ (g.I.Source.seen c.read_sector.new.image) _ _ _
-          c.loop-visitor.invariant.reported c.read_sector.new.sector
-          (record { consumes = came.consumes; counted = omega (arith, came.counted, came.size) })
-          (g.O.Sink.seen c.visit.new.out) came.kept came.size _ takes
-          c.in_ok-visit-in-None.ensures.flushes c.in_ok-visit-in-None.ensures.count;
-      at = c.in_ok-visit-in-None.ensures.at;
+          ScanInvariant-next c.loop-visitor.invariant.reported came visit.takes visit.flushes
+          visit.count;
+      at = visit.at;
       few = omega (arith, came.few);
     }
 
@@ -52,23 +45,14 @@ returns-in_err-close-in-Some g c =
     let failed =
     err_from_is_err_and c.from_residual-in_err-close-in-Some.result
     c.from_residual-in_err-close-in-Some.ensures.1 in
-    let ended = rw c.in-Some.is at c.in_ok-read_sector.ensures in
+    let close = c.in_err-close-in-Some.ensures in
     rw (failed.1, failed.2)
-    (ScanInvariant-end_failed _ _ _ _ (g.I.Source.seen c.read_sector.new.image) _ _ _
-    c.loop-visitor.invariant.reported _
-    (record { consumes = ended.consumes; counted = omega (arith, ended.counted, ended.size) })
-    (g.O.Sink.seen c.close.new.out) ended.kept
-    (omega (arith, ended.size, ended.short)) (omega (arith, ended.size, ended.within)) ended.at_end
-    ended.ended _ (omega (arith, ended.size)) _ c.in_err-close-in-Some.ensures.text
-    c.in_err-close-in-Some.ensures.flushes c.in_err-close-in-Some.ensures.count)
+    (ScanInvariant-end_failed c.loop-visitor.invariant.reported
+    (rw c.in-Some.is at c.in_ok-read_sector.ensures) close.text close.flushes close.count)
 
 pub returns-in-Some : goal.returns-in-Some
 returns-in-Some g c =
-    let ended = rw c.in-Some.is at c.in_ok-read_sector.ensures in
-    ScanInvariant-end _ _ _ _ (g.I.Source.seen c.read_sector.new.image) _ _ _ c.loop-visitor.invariant.reported _
-    (record { consumes = ended.consumes; counted = omega (arith, ended.counted, ended.size) })
-    (g.O.Sink.seen c.close.new.out) ended.kept
-    (omega (arith, ended.size, ended.short)) (omega (arith, ended.size, ended.within)) ended.at_end
-    ended.ended _ (omega (arith, ended.size)) _ c.in_ok-close-in-Some.ensures.tally
-    c.in_ok-close-in-Some.ensures.text c.in_ok-close-in-Some.ensures.flushes
-    c.in_ok-close-in-Some.ensures.count
+    let close = c.in_ok-close-in-Some.ensures in
+    ScanInvariant-end c.loop-visitor.invariant.reported
+    (rw c.in-Some.is at c.in_ok-read_sector.ensures) close.tally close.text close.flushes
+    close.count

@@ -1,15 +1,13 @@
-use Rattle.std.proofs.Common.{◌≡◌, Bool, true, false, cond, ◌+◌, ◌++◌, ◌∷◌, [], ℕ, length, refl, arith, sym, ap, ◌∙◌, subst}
+use Rattle.std.proofs.Common.{◌≡◌, Bool, true, false, cond, refl, arith, ap, ◌∙◌, subst}
 use Rattle.std.specs.Int.{from_bool}
 use Rattle.std.proofs.lemmas.Result.{err_from_is_err_and}
-use Rattle.cd_patch.specs.Blocks.{blocks_met}
 use Rattle.cd_patch.specs.Deciding.{outcome}
 use Rattle.cd_patch.specs.Effect.{Effect}
 use Rattle.cd_patch.specs.Outcome.{is_applied}
 use Rattle.cd_patch.proofs.FrameLemmas.{Effect-length}
-use Rattle.cd_image.specs.Applying.{streams}
-use Rattle.cd_image.specs.Passing.{PassInvariant, end_to_come}
+use Rattle.cd_image.specs.Passing.{end_to_come}
 use Rattle.cd_image.proofs.ApplyLemmas.{Applies-log}
-use Rattle.cd_image.proofs.PassingLemmas.{Going-take, reaches}
+use Rattle.cd_image.proofs.PassingLemmas.{Going-take}
 use Rattle.cd_image.proofs.pass.Pass.apply_front.Goals as goal
 
 pub returns-in_err-send_outcome : goal.returns-in_err-send_outcome
@@ -22,13 +20,8 @@ returns-in_err-send_outcome g c =
     rw (failed.1, failed.2)
     record {
       goes = λ taken left base start image out going.
-          Applies-log c.args.carry taken c.args.patch.now left base start
-          (streams image out (g.L.Sink.seen c.args.log.now)) pass.window.sectors pass.block
-          pass.sectors pass.applied pass.window.tail going c.apply_first-outcome.result
-          decided c.requires.at c.requires.some
-          (reaches pass.block (blocks_met c.args.patch.now)
-          (length pass.window.sectors) pass.window.tail c.requires.reach)
-          (g.L.Sink.seen c.send_outcome.new.log) c.in_err-send_outcome.ensures;
+          Applies-log going decided c.requires.at c.requires.some c.requires.reach
+          c.in_err-send_outcome.ensures;
       decided = tt;
       nearer = tt;
     }
@@ -47,26 +40,14 @@ returns g c =
     let effect =
     subst (λ b. Effect c.args.carry b p pass.window.sectors c.apply_first-outcome.new.self.sectors)
     c.requires.at c.apply_first-outcome.ensures.effect in
+    let applied =
+    c.from.ensures ∙ ap from_bool c.is_applied.ensures
+    ∙ as_number (is_applied c.apply_first-outcome.result) in
     record {
       goes = λ taken left base start image out going.
-          subst (λ t. PassInvariant c.args.carry (taken ++ p ∷ []) left base start
-          (streams image out (g.L.Sink.seen c.send_outcome.new.log))
-          c.apply_first-outcome.new.self.sectors pass.block pass.sectors
-          (pass.applied + c.from.result) t) (sym c.apply_first-outcome.ensures.tail)
-          (subst (λ (n : ℕ). PassInvariant c.args.carry (taken ++ p ∷ []) left base start
-          (streams image out (g.L.Sink.seen c.send_outcome.new.log))
-          c.apply_first-outcome.new.self.sectors pass.block pass.sectors (pass.applied + n)
-          pass.window.tail)
-          (sym (c.from.ensures ∙ ap from_bool c.is_applied.ensures
-          ∙ as_number (is_applied c.apply_first-outcome.result)))
-          (Going-take c.args.carry taken p left base start
-          (streams image out (g.L.Sink.seen c.args.log.now)) pass.window.sectors
-          c.apply_first-outcome.new.self.sectors pass.block pass.sectors pass.applied
-          pass.window.tail going
-          (g.L.Sink.seen c.send_outcome.new.log) c.apply_first-outcome.result decided effect
-          c.in_ok-send_outcome.ensures c.requires.at c.requires.some
-          (reaches pass.block (blocks_met p)
-          (length pass.window.sectors) pass.window.tail c.requires.reach)));
+          rw (c.apply_first-outcome.ensures.tail, applied)
+          (Going-take going decided effect c.in_ok-send_outcome.ensures c.requires.at
+          c.requires.some c.requires.reach);
       decided = refl;
       nearer = λ count more.
           omega (

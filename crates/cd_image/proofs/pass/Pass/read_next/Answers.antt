@@ -1,7 +1,6 @@
-use Rattle.std.proofs.Common.{arith}
 use Rattle.std.proofs.lemmas.Grind.{common_steps}
+use Rattle.std.proofs.Common.{arith}
 use Rattle.std.proofs.lemmas.Result.{err_from_is_err_and}
-use Rattle.cd_image.specs.Applying.{streams}
 use Rattle.cd_image.proofs.AdvanceLemmas.{Steps-unread}
 use Rattle.cd_image.proofs.pass.Pass.read_next.Goals as goal
 
@@ -10,9 +9,9 @@ returns-in_err-read_next-clause-goes g c =
     let failed = err_from_is_err_and c.from_residual.result c.from_residual.ensures.1 in
     rw (failed.1, failed.2)
     (λ carry taken left base start out log wants going.
-    Steps-unread carry taken left base start (streams (g.I.Source.seen c.args.image.now) out log)
-    c.args.self.now (g.I.Source.seen c.read_next.new.image) c.requires.unended c.requires.room going
-    wants c.in_err-read_next.ensures.0 _ c.in_err-read_next.ensures.1)
+    Steps-unread c.args.self.now c.requires.unended c.requires.room going wants
+    c.in_err-read_next.ensures.0 _
+    c.in_err-read_next.ensures.1)
 
 pub returns-then-branch-clause-goes : goal.returns-then-branch-clause-goes
 returns-then-branch-clause-goes g c = grind (arith, common_steps)
