@@ -1,5 +1,3 @@
 mod CommandLemmas
-mod PatchFrontLemmas
-mod PatchRoomLemmas
 mod PlainLemmas
 mod StopLemmas

@@ -2,6 +2,7 @@
 use Rattle.std.proofs.Common.{◌≡◌, ◌≢◌, ℕ, ◌<◌, ◌==◌, ◌⊎◌, Bool, true, false, cond, List, []}
 use Rattle.std.proofs.Common.{length, take, Some, Result, Ok, Err, inl, inr, refl, sym, ap, ◌∙◌}
 use Rattle.std.proofs.Common.{◌+◌, ◌≤◌, ◌++◌, subst, arith, length-append}
+use Rattle.std.specs.Borrow.{MutBor}
 use Rattle.std.proofs.lemmas.Bool.{cases_lt}
 use Rattle.cd_args.specs.Fault.{failed_status}
 use Rattle.cd_image.specs.Applying.{Applies, streams}
@@ -11,7 +12,7 @@ use Rattle.cd_program.specs.Commands.{Ends, script_status}
 use Rattle.cd_rooms.proofs.ReportLemmas.{may-be}
 use Rattle.cd_memory.proofs.KnownLemmas.{Appends-Some, Fits-beyond, MayBeImageAtEnd-within}
 use Rattle.cd_memory.proofs.KnownLemmas.{Some-injective}
-use Rattle.cd_memory.specs.Memory.{fresh_incoming, fresh_outgoing}
+use Rattle.cd_memory.specs.Memory.{fresh_incoming}
 use Rattle.cd_read.specs.Ends.{MayBeImage, MayBeImageAtEnd}
 use Rattle.cd_read.specs.Image.{image_limit}
 use Rattle.cd_read.specs.declared.fault.Fault.{Fault}
@@ -22,7 +23,7 @@ use Rattle.cd_stream.specs.Adapters.{slice_incoming}
 use Rattle.cd_stream.specs.declared.adapters.slice_source.SliceSource.{SliceSource}
 use Rattle.cd_c_images.specs.Images.{AppliesInMemory}
 use Rattle.cd_c_images.specs.Plain.{ApplyFails, HasShortLog, SendsFront}
-use Rattle.cd_rooms.specs.Rooms.{FillsCounted, FillsFront, FillsRoom, Holds}
+use Rattle.cd_rooms.specs.Rooms.{FillsCounted, FillsFront, FillsRoom, Holds, fresh_over}
 
 -- a script that was applied to the end has another status
 few-if : (b : Bool) → cond b 0 1 ≢ failed_status
@@ -33,10 +34,9 @@ pub not-failed : (tally : Tally) (status : ℕ) → status ≡ script_status tal
 not-failed tally status is failed = few-if (tally.refused == 0) (sym is ∙ failed)
 
 module _ (carry : Bool) (patches : List Patch) (base : ℕ) (image : List ℕ) (left : SliceSource)
-    (made middle log' : Outgoing) (status : ℕ) (failed : status ≡ failed_status) where
+    (out made log middle log' : Outgoing) (status : ℕ) (failed : status ≡ failed_status) where
   begins-image : (result : Result Tally Fault)
-      → (a : Applies carry patches base
-      (streams (fresh_incoming image) fresh_outgoing fresh_outgoing)
+      → (a : Applies carry patches base (streams (fresh_incoming image) out log)
       (streams (slice_incoming left) made middle) result)
       → Ends Log script_status result middle log' status
       → EachPatching carry patches base (take image_limit image)
@@ -57,24 +57,26 @@ module _ (carry : Bool) (patches : List Patch) (base : ℕ) (image : List ℕ) (
       (Fits-beyond a.read left.rest.now (omega (arith, a.answers.beyond)))) outcomes last patched).0
 
 -- the image is too long, by what was read of it
-pub beyond-limit : (image read left : List ℕ) → image ≡ read ++ left
+beyond-limit : (image read left : List ℕ) → image ≡ read ++ left
     → length read ≡ image_limit + 1 → image_limit < length image
 beyond-limit image read left is beyond =
     omega (arith, ap length is, length-append read left, beyond)
 
--- the log has failed: if the image is not too long, some of the log did not go out
+-- why a call failed: the image is too long; or a write to the output failed, and if its flush can't
+-- fail, not all of the image was sent; or the log is too long for its memory
 module _ (carry : Bool) (patches : List Patch) (base : ℕ) (image : List ℕ) (left : SliceSource)
-    (made made' middle log' : Outgoing) (log held : List ℕ) (size : ℕ)
-    (same : log' ≡ middle) (fills : FillsFront log' log held) (counted : size ≡ length fills.text) where
-  pub short-log : (a : Applies carry patches base (streams (fresh_incoming image) made fresh_outgoing)
-      (streams (slice_incoming left) made' middle) (Err Log))
-      → length image ≤ image_limit → HasShortLog carry patches base image log size
-  short-log a small =
-      let failed : log'.failures ≢ 0 =
+    (out made : Outgoing) (lent : MutBor (List ℕ)) (middle after : Outgoing) (log log' : List ℕ)
+    (size status : ℕ) (fills : FillsFront after log log') (counted : size ≡ length fills.text) where
+  short-log : (a : Applies carry patches base
+      (streams (fresh_incoming image) out (fresh_over lent))
+      (streams (slice_incoming left) made middle) (Err Log))
+      → after ≡ middle → length image ≤ image_limit → HasShortLog carry patches base image log size
+  short-log a same small =
+      let failed : after.failures ≢ 0 =
       λ none. omega (arith, a.answers.failed.logs, none, ap (λ o. o.failures) same) in
       let text : fills.text ≡ a.log_bytes =
       Some-injective (sym fills.written ∙ ap (λ o. o.written) same
-      ∙ Appends-Some fresh_outgoing.written middle.written [] a.log_bytes refl a.logs) in
+      ∙ Appends-Some (Some []) middle.written [] a.log_bytes refl a.logs) in
       record {
         full = counted ∙ fills.full failed;
         longer = λ outcomes last patched. omega (
@@ -87,10 +89,36 @@ module _ (carry : Bool) (patches : List Patch) (base : ℕ) (image : List ℕ) (
         );
       }
 
+  pub why-stopped : (result : Result Tally Fault)
+      → (a : Applies carry patches base (streams (fresh_incoming image) out (fresh_over lent))
+      (streams (slice_incoming left) made middle) result)
+      → Ends Log script_status result middle after status → status ≡ failed_status
+      → (image_limit < length image)
+      ⊎ ((made.failures ≡ out.failures + 1)
+      × (out.flush_may_fail ≡ false → length a.sent < length image))
+      ⊎ HasShortLog carry patches base image log size
+  why-stopped (Ok tally) a ends failed = absurd (not-failed tally status ends.1 failed)
+  why-stopped (Err Read) a ends failed = absurd (omega (arith, a.answers.failed.reads))
+  why-stopped (Err Write) a ends failed = inr (inl (
+    a.answers.failed.writes,
+    λ sure. omega (
+      arith,
+      a.answers.cut sure,
+      ap length a.consumes,
+      length-append a.read left.rest.now,
+    ),
+  ))
+  why-stopped (Err Log) a ends failed = elim (cases_lt image_limit (length image)) [
+    | inl long ↦ inl long
+    | inr small ↦ inr (inr (short-log a (ends.0.0 refl) small))
+  ]
+  why-stopped (Err TooLong) a ends failed =
+      inl (beyond-limit image a.read left.rest.now a.consumes a.answers.beyond)
+
 -- nothing was sent
-nothing-sent : (out out' : List ℕ) (after : Outgoing) (fills : FillsFront after out out')
-    → after ≡ fresh_outgoing → out' ≡ out
-nothing-sent out out' after fills same =
+nothing-sent : (out out' : List ℕ) (lent : MutBor (List ℕ)) (after : Outgoing)
+    (fills : FillsFront after out out') → after ≡ fresh_over lent → out' ≡ out
+nothing-sent out out' lent after fills same =
     let none : fills.text ≡ [] =
     Some-injective (sym fills.written ∙ ap (λ o. o.written) same) in
     (subst (λ t. Holds t out out') none fills.holds).bytes
@@ -104,19 +132,23 @@ apply-fails {carry = carry} {base = base} {image = image} {text = text} {out = o
     {log = log} {log' = log'} {size = size} {status = status} all failed =
     go all.does.room_filled.does
   where
-    go : AppliesInMemory carry base image text fresh_outgoing all.after fresh_outgoing
-        all.does.room_filled.after status → ApplyFails carry base image text out out' log size
+    go : AppliesInMemory carry base image text (fresh_over all.lent) all.after
+        (fresh_over all.does.room_filled.lent) all.does.room_filled.after status
+        → ApplyFails carry base image text out out' log size
     go (AppliesInMemory.outside above is same silent) =
-        ApplyFails.outside above (nothing-sent out out' all.after all.fills same)
+        ApplyFails.outside above (nothing-sent out out' all.lent all.after all.fills same)
     go (AppliesInMemory.without_script within line none same fails) =
-        ApplyFails.without_script line none (nothing-sent out out' all.after all.fills same)
+        ApplyFails.without_script line none
+        (nothing-sent out out' all.lent all.after all.fills same)
     go (AppliesInMemory.applied within patches reads r) =
         ApplyFails.stopped patches reads front
-        (stops r.runs.result r.runs.does same r.runs.ends)
+        (stops (why-stopped carry patches base image r.left _ all.after all.does.room_filled.lent
+        r.runs.middle all.does.room_filled.after log log' size status all.does.room_filled.fills
+        all.does.counted r.runs.result r.runs.does r.runs.ends failed))
       where
         same : r.runs.does.sent ≡ all.fills.text
-        same = Some-injective (sym (Appends-Some fresh_outgoing.written all.after.written []
-            r.runs.does.sent refl r.runs.does.appends) ∙ all.fills.written)
+        same = Some-injective (sym (Appends-Some (Some []) all.after.written [] r.runs.does.sent refl
+            r.runs.does.appends) ∙ all.fills.written)
 
         front : SendsFront carry patches base image out out'
         front = record {
@@ -124,39 +156,19 @@ apply-fails {carry = carry} {base = base} {image = image} {text = text} {out = o
           holds = all.fills.holds;
           begins = subst (λ s. EachPatching carry patches base (take image_limit image)
               (λ outcomes last. IsBeginning s last)) same
-              (begins-image carry patches base image r.left all.after r.runs.middle
+              (begins-image carry patches base image r.left _ all.after _ r.runs.middle
               all.does.room_filled.after status failed r.runs.result r.runs.does r.runs.ends);
         }
 
-        stops : (result : Result Tally Fault)
-            → (a : Applies carry patches base
-            (streams (fresh_incoming image) fresh_outgoing fresh_outgoing)
-            (streams (slice_incoming r.left) all.after r.runs.middle) result)
-            → a.sent ≡ all.fills.text
-            → Ends Log script_status result r.runs.middle all.does.room_filled.after status
+        stops : (image_limit < length image)
+            ⊎ ((all.after.failures ≡ 0 + 1)
+            × (false ≡ false → length r.runs.does.sent < length image))
+            ⊎ HasShortLog carry patches base image log size
             → (image_limit < length image)
             ⊎ ((length all.fills.text ≡ length out) × (length out < length image))
             ⊎ HasShortLog carry patches base image log size
-        stops (Ok tally) a went ends = absurd (not-failed tally status ends.1 failed)
-        stops (Err Read) a went ends = absurd (omega (arith, a.answers.failed.reads))
-        stops (Err Write) a went ends =
-            let full = all.fills.full (λ none. omega (arith, a.answers.failed.writes, none)) in
-            inr (inl (
-              full,
-              omega (
-                arith,
-                full,
-                ap length went,
-                a.answers.cut refl,
-                ap length a.consumes,
-                length-append a.read r.left.rest.now,
-              ),
-            ))
-        stops (Err Log) a went ends = elim (cases_lt image_limit (length image)) [
-          | inl long ↦ inl long
-          | inr small ↦ inr (inr (short-log carry patches base image r.left fresh_outgoing all.after
-              r.runs.middle all.does.room_filled.after log log' size (ends.0.0 refl)
-              all.does.room_filled.fills all.does.counted a small))
-        ]
-        stops (Err TooLong) a went ends =
-            inl (beyond-limit image a.read r.left.rest.now a.consumes a.answers.beyond)
+        stops (inl long) = inl long
+        stops (inr (inl (fails, cut))) =
+            let full = all.fills.full (λ none. omega (arith, fails, none)) in
+            inr (inl (full, omega (arith, full, ap length same, cut refl)))
+        stops (inr (inr short)) = inr (inr short)

@@ -1,15 +1,15 @@
-//! The commands that take a script to an image in memory, each to a room. A base that no image has
-//! is a failure, with nothing written.
+//! The commands that take a script to an image in memory, each to memory that was lent. A base
+//! that no image has is a failure, with nothing written.
 
 ghost use Rattle.std.specs.Prelude.{◌≡◌, ◌<◌};
 ghost use Rattle.cd_c_images.specs.Images.{AppliesInMemory, ChecksInMemory, TakesText};
-ghost use Rattle.cd_rooms.specs.Rooms.{FillsRoom, lent_to, room_outgoing};
+ghost use Rattle.cd_rooms.specs.Rooms.{FillsRoom};
+ghost use Rattle.cd_stream.specs.Adapters.{lent_to, slice_outgoing};
 ghost use Rattle.cd_stream.specs.Stream.{CanCountFailure};
 
 use cd_args::{FAILED, MAX_BASE};
-use cd_image::{Sink, SliceSource};
+use cd_image::{Sink, SliceSink, SliceSource};
 use cd_program::{LoadFault, load_fault_line, print_and_fail, read_script, run_apply, run_check};
-use cd_rooms::Room;
 use cd_script::{MAX_TEXT, Script};
 use std::alloc::Global;
 
@@ -32,11 +32,11 @@ pub(crate) fn check_image(
     script: &[u8],
     base: u32,
     carry: bool,
-    log: &mut Room<'_>,
+    log: &mut SliceSink<'_>,
 ) -> u8
-    requires { CanCountFailure (room_outgoing log.old).failures }
-    ensures report { ChecksInMemory carry base image.now script.now (room_outgoing log.old)
-        (room_outgoing log.new) result }
+    requires { CanCountFailure (slice_outgoing log.old).failures }
+    ensures report { ChecksInMemory carry base image.now script.now (slice_outgoing log.old)
+        (slice_outgoing log.new) result }
     ensures same_slice { log.new.space.ghost_name ≡ log.old.space.ghost_name }
     ensures same_bytes { (lent_to log.new).now ≡ (lent_to log.old).now }
 {
@@ -49,20 +49,20 @@ pub(crate) fn check_image(
     }
 }
 
-/// The command `apply` over rooms, as [`run_apply`], after its script.
-fn apply_to_rooms(
+/// The command `apply` over sinks, as [`run_apply`], after its script.
+fn apply_to_sinks(
     alloc: Global,
     image: &[u8],
     script: &[u8],
     base: u32,
     carry: bool,
-    out: &mut Room<'_>,
-    log: &mut Room<'_>,
+    out: &mut SliceSink<'_>,
+    log: &mut SliceSink<'_>,
 ) -> u8
-    requires out_countable { CanCountFailure (room_outgoing out.old).failures }
-    requires log_countable { CanCountFailure (room_outgoing log.old).failures }
-    ensures report { AppliesInMemory carry base image.now script.now (room_outgoing out.old)
-        (room_outgoing out.new) (room_outgoing log.old) (room_outgoing log.new) result }
+    requires out_countable { CanCountFailure (slice_outgoing out.old).failures }
+    requires log_countable { CanCountFailure (slice_outgoing log.old).failures }
+    ensures report { AppliesInMemory carry base image.now script.now (slice_outgoing out.old)
+        (slice_outgoing out.new) (slice_outgoing log.old) (slice_outgoing log.new) result }
     ensures same_out { out.new.space.ghost_name ≡ out.old.space.ghost_name }
     ensures same_out_bytes { (lent_to out.new).now ≡ (lent_to out.old).now }
     ensures same_log { log.new.space.ghost_name ≡ log.old.space.ghost_name }
@@ -85,17 +85,17 @@ pub(crate) fn apply_image(
     base: u32,
     carry: bool,
     out: &mut [u8],
-    log: &mut Room<'_>,
+    log: &mut SliceSink<'_>,
 ) -> u8
-    requires { CanCountFailure (room_outgoing log.old).failures }
+    requires { CanCountFailure (slice_outgoing log.old).failures }
     ensures report { FillsRoom
         (λ made made'. AppliesInMemory carry base image.now script.now made made'
-        (room_outgoing log.old) (room_outgoing log.new) result) out.old out.new }
+        (slice_outgoing log.old) (slice_outgoing log.new) result) out.old out.new }
     ensures same_slice { log.new.space.ghost_name ≡ log.old.space.ghost_name }
     ensures same_bytes { (lent_to log.new).now ≡ (lent_to log.old).now }
 {
-    let mut room = Room::new(out);
-    let status = apply_to_rooms(alloc, image, script, base, carry, &mut room, log);
-    let _out = room.space; // so that the contract can name what it holds
+    let mut made = SliceSink::new(out);
+    let status = apply_to_sinks(alloc, image, script, base, carry, &mut made, log);
+    let _out = made.space; // so that the contract can name what it holds
     status
 }

@@ -7,7 +7,7 @@ ghost use Rattle.cd_c_images.specs.Plain.{ApplyFails, CheckFails, TakesPatches, 
 ghost use Rattle.cd_rooms.specs.Rooms.{FillsCounted, FillsRoom, Holds};
 
 use crate::commands::{apply_image, check_image};
-use cd_rooms::Room;
+use cd_image::SliceSink;
 use std::alloc::Global;
 
 /// Decides each patch of a script on an image, as the command `check`, and returns its status.
@@ -31,7 +31,7 @@ pub extern "C" fn cdpatch_check(
     ensures failed { result ≡ failed_status
         → CheckFails carry base image.now script.now log.old length.new }
 {
-    let mut lines = Room::new(log);
+    let mut lines = SliceSink::new(log);
     let status = check_image(alloc, image, script, base, carry, &mut lines);
     *length = lines.used;
     let _log = lines.space; // so that the contract can name what it holds
@@ -60,7 +60,7 @@ pub extern "C" fn cdpatch_apply(
     ensures failed { result ≡ failed_status → ApplyFails carry base image.now script.now out.old
         out.new log.old length.new }
 {
-    let mut outcomes = Room::new(log);
+    let mut outcomes = SliceSink::new(log);
     let status = apply_image(alloc, image, script, base, carry, out, &mut outcomes);
     *length = outcomes.used;
     let _log = outcomes.space; // so that the contract can name what it holds

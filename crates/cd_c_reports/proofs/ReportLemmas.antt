@@ -1,20 +1,20 @@
 -- The clauses of a call that reports: the plain ones follow from the whole one.
 use Rattle.std.proofs.Common.{◌≡◌, ◌≢◌, ℕ, ◌<◌, ◌⊎◌, List, [], length, Result, Ok, Err, inl, inr}
-use Rattle.std.proofs.Common.{refl, sym, ap, ◌∙◌, arith, length-append}
+use Rattle.std.proofs.Common.{refl, sym, ap, ◌∙◌, Some, arith, length-append}
+use Rattle.std.specs.Borrow.{MutBor}
 use Rattle.std.proofs.lemmas.Bool.{cases_lt}
 use Rattle.cd_args.specs.Fault.{failed_status}
 use Rattle.cd_memory.proofs.KnownLemmas.{Appends-Some, Some-injective}
-use Rattle.cd_memory.specs.Memory.{fresh_incoming, fresh_outgoing}
+use Rattle.cd_memory.specs.Memory.{fresh_incoming}
 use Rattle.cd_program.specs.Commands.{Ends, IsTooLong}
 use Rattle.cd_read.specs.Image.{image_limit}
 use Rattle.cd_read.specs.declared.fault.Fault.{Fault}
 use Rattle.cd_read.specs.declared.fault.Fault.TheVariants.{Log, Read, TooLong, Write}
 use Rattle.cd_report.specs.Report.{Reports, ReportSpec}
 use Rattle.cd_rooms.proofs.ReportLemmas.{may-be, too-long}
-use Rattle.cd_rooms.proofs.RoomLemmas.{fills-counted, holds-text, same-text}
+use Rattle.cd_rooms.proofs.RoomLemmas.{holds-text, same-text}
 use Rattle.cd_rooms.specs.Reports.{ReportFails, ReportsInMemory, WritesReport}
-use Rattle.cd_rooms.specs.Rooms.{FillsCounted, FillsFront, lent_to, room_outgoing}
-use Rattle.cd_rooms.specs.declared.room.Room.{Room}
+use Rattle.cd_rooms.specs.Rooms.{FillsCounted, FillsFront, fresh_over}
 use Rattle.cd_stream.specs.Adapters.{slice_incoming}
 use Rattle.cd_stream.specs.Stream.{Incoming, Outgoing}
 use Rattle.cd_stream.specs.declared.adapters.slice_source.SliceSource.{SliceSource}
@@ -22,9 +22,9 @@ use Rattle.cd_stream.specs.declared.adapters.slice_source.SliceSource.{SliceSour
 -- a call of the sink has failed: the memory is full, and if the image is not too long, some of its
 -- text did not go out
 module _ {T : Type 0} (spec : ReportSpec T) (status_of : T → ℕ) (image : List ℕ)
-    (left : SliceSource) (after : Outgoing) (status : ℕ) where
+    (left : SliceSource) (lent : MutBor (List ℕ)) (after : Outgoing) (status : ℕ) where
   full-room : (result : Result T Fault) (middle : Outgoing)
-      → (r : Reports spec (fresh_incoming image) (slice_incoming left) fresh_outgoing middle result)
+      → (r : Reports spec (fresh_incoming image) (slice_incoming left) (fresh_over lent) middle result)
       → Ends Write status_of result middle after status → (room room' : List ℕ)
       → (fills : FillsFront after room room') (size : ℕ) → size ≡ length fills.text
       → after.failures ≢ 0 → (image_limit < length image)
@@ -59,7 +59,7 @@ module _ {T : Type 0} (spec : ReportSpec T) (status_of : T → ℕ) (image : Lis
       same : fills.text ≡ r.sent
       same =
           Some-injective (sym fills.written ∙ ap (λ o. o.written) (ends.0.0 refl)
-          ∙ Appends-Some fresh_outgoing.written middle.written [] r.sent refl r.takes.appends)
+          ∙ Appends-Some (Some []) middle.written [] r.sent refl r.takes.appends)
 
 module _ {T : Type 0} {spec : ReportSpec T} {status_of : T → ℕ} {base : ℕ}
     {image room room' : List ℕ} {size status : ℕ}
@@ -69,7 +69,8 @@ module _ {T : Type 0} {spec : ReportSpec T} {status_of : T → ℕ} {base : ℕ}
       → WritesReport spec status_of image room room' size status
   writes-report done = go all.room_filled.does
     where
-      go : ReportsInMemory spec status_of base image fresh_outgoing all.room_filled.after status
+      go : ReportsInMemory spec status_of base image (fresh_over all.room_filled.lent)
+          all.room_filled.after status
           → WritesReport spec status_of image room room' size status
       go (ReportsInMemory.outside above failed same) = absurd (done failed)
       go (ReportsInMemory.reported within r) =
@@ -86,7 +87,7 @@ module _ {T : Type 0} {spec : ReportSpec T} {status_of : T → ℕ} {base : ℕ}
       after : Outgoing
       after = all.room_filled.after
 
-      go : ReportsInMemory spec status_of base image fresh_outgoing after status
+      go : ReportsInMemory spec status_of base image (fresh_over all.room_filled.lent) after status
           → ReportFails spec base image room size
       go (ReportsInMemory.outside above is same) = inl above
       go (ReportsInMemory.reported within r) = why (r.failed failed)
@@ -98,25 +99,15 @@ module _ {T : Type 0} {spec : ReportSpec T} {status_of : T → ℕ} {base : ℕ}
               → ReportFails spec base image room size
           why (inl none) = absurd (none refl)
           why (inr (inl full)) =
-              inr (full-room spec status_of image r.left after status r.runs.result r.runs.middle
-              r.runs.does r.runs.ends room room' all.room_filled.fills size all.counted full)
+              inr (full-room spec status_of image r.left all.room_filled.lent after status r.runs.result
+              r.runs.middle r.runs.does r.runs.ends room room' all.room_filled.fills size all.counted
+              full)
           why (inr (inr long)) = inr (inl (too-long image r.left long))
 
--- of the room that it has filled
-module _ (before : Outgoing) (room : Room) (held held' : List ℕ) (fresh : before ≡ fresh_outgoing)
-    (was : (lent_to room).now ≡ held) (now : held' ≡ room.space.now) where
-  pub report-clauses : {T : Type 0} {spec : ReportSpec T} {status_of : T → ℕ} {base : ℕ}
-      {image : List ℕ} {status : ℕ}
-      → ReportsInMemory spec status_of base image before (room_outgoing room) status
-      → record {
-        report : FillsCounted (λ out out'. ReportsInMemory spec status_of base image out out' status)
-            held held' room.used;
-        text : status ≢ failed_status
-            → WritesReport spec status_of image held held' room.used status;
-        failed : status ≡ failed_status → ReportFails spec base image held room.used;
-      }
-  report-clauses {spec = spec} {status_of = status_of} {base = base} {image = image}
-      {status = status} does =
-      let all = fills-counted (λ out out'. ReportsInMemory spec status_of base image out out' status)
-      before room held held' fresh does was now room.used refl in
-      record { report = all; text = writes-report all; failed = report-fails all }
+  pub report-clauses : record {
+    report : FillsCounted (λ out out'. ReportsInMemory spec status_of base image out out' status) room
+        room' size;
+    text : status ≢ failed_status → WritesReport spec status_of image room room' size status;
+    failed : status ≡ failed_status → ReportFails spec base image room size;
+  }
+  report-clauses = record { report = all; text = writes-report; failed = report-fails }

@@ -8,7 +8,8 @@ ghost use Rattle.cd_report.specs.ListText.{list_report};
 ghost use Rattle.cd_rooms.specs.Reports.{ReportFails, ReportsInMemory, WritesReport};
 ghost use Rattle.cd_rooms.specs.Rooms.{FillsCounted};
 
-use cd_rooms::{Room, audit_image, list_image};
+use cd_rooms::{audit_image, list_image};
+use cd_stream::SliceSink;
 
 /// Lists an image to `text`, as the command `list`, and returns its status. `length` gets the
 /// number of bytes that were written.
@@ -23,7 +24,7 @@ pub extern "C" fn cdpatch_list(image: &[u8], base: u32, text: &mut [u8], length:
     ensures failed { result ≡ failed_status → ReportFails (list_report base) base image.now
         text.old length.new }
 {
-    let mut listing = Room::new(text);
+    let mut listing = SliceSink::new(text);
     let status = list_image(image, base, &mut listing);
     *length = listing.used;
     let _text = listing.space; // so that the contract can name what it holds
@@ -43,7 +44,7 @@ pub extern "C" fn cdpatch_audit(image: &[u8], base: u32, text: &mut [u8], length
     ensures failed { result ≡ failed_status → ReportFails (audit_report base) base image.now
         text.old length.new }
 {
-    let mut findings = Room::new(text);
+    let mut findings = SliceSink::new(text);
     let status = audit_image(image, base, &mut findings);
     *length = findings.used;
     let _text = findings.space; // so that the contract can name what it holds

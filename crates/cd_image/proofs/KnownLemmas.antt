@@ -63,8 +63,10 @@ applies {read = read} {sent = sent} {log_bytes = log_bytes} came went logged few
   given = came.counted;
   appends = went.appends;
   out_taken = went.counted;
+  out_lent = went.lent;
   logs = logged.appends;
   log_taken = logged.counted;
+  log_lent = logged.lent;
   in_hand = few;
   answers = by;
 }

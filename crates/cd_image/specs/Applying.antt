@@ -157,8 +157,9 @@ AppliesBy carry patches base read sent log_bytes old new (Err TooLong) =
 abbrev pub bytes_in_hand : ℕ
 bytes_in_hand = SECTOR_SIZE * block_limit
 
--- the whole contract of `apply`: it read some bytes, sent some, logged some, and returned what fits
--- these. Each of the three has counted its own. At most `bytes_in_hand` more were read than sent
+-- the whole contract of `apply`: it read some bytes, sent some and logged some, and returned what fits
+-- these. Each of the three has counted its own, and each sink has kept the slice that was lent to it.
+-- At most `bytes_in_hand` more were read than sent
 pub record Applies (carry : Bool) (patches : List Patch) (base : ℕ) (old new : Streams)
     (result : Result Tally Fault) : Type 0 where
   pub read : List ℕ
@@ -168,8 +169,10 @@ pub record Applies (carry : Bool) (patches : List Patch) (base : ℕ) (old new :
   pub given : new.image.given ≡ old.image.given + length read
   pub appends : Appends old.out.written new.out.written sent
   pub out_taken : new.out.taken ≡ old.out.taken + length sent
+  pub out_lent : new.out.lent ≡ old.out.lent
   pub logs : Appends old.log.written new.log.written log_bytes
   pub log_taken : new.log.taken ≡ old.log.taken + length log_bytes
+  pub log_lent : new.log.lent ≡ old.log.lent
   pub in_hand : length read ≤ length sent + bytes_in_hand
   pub answers : AppliesBy carry patches base read sent log_bytes old new result
 
@@ -182,6 +185,7 @@ null_outgoing taken flushes finished = record {
   failures = 0;
   finished = finished;
   flush_may_fail = false;
+  lent = None;
 }
 
 -- the whole contract of `check`: that of `apply` with an output that keeps nothing

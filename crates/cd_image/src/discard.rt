@@ -23,6 +23,7 @@ impl NullSink {
               failures = 0;
               finished = false;
               flush_may_fail = false;
+              lent = None;
             } }
     {
         NullSink {
@@ -43,6 +44,7 @@ impl Sink for NullSink {
       failures = 0;
       finished = s.finished;
       flush_may_fail = false;
+      lent = None;
     } };
 
     fn write(&mut self, bytes: &[u8]) -> Result<usize, SinkFailed> {

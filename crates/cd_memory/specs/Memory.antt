@@ -36,7 +36,7 @@ pub record Stays (h h' : Memory) : Type 0 where
 abbrev pub fresh_incoming : List ℕ → Incoming
 fresh_incoming bytes = record { rest = Some bytes; given = 0; failures = 0; ended = false }
 
--- a sink in memory that has got nothing yet; its flush never fails
+-- a sink in memory that has got nothing yet; its flush never fails, and no slice was lent to it
 abbrev pub fresh_outgoing : Outgoing
 fresh_outgoing = record {
   written = Some [];
@@ -45,6 +45,7 @@ fresh_outgoing = record {
   failures = 0;
   finished = false;
   flush_may_fail = false;
+  lent = None;
 }
 
 -- what a contract sees of memory that grows: all bytes that it has got; its flush never fails
@@ -56,6 +57,7 @@ growing_outgoing g = record {
   failures = g.failures;
   finished = g.finished;
   flush_may_fail = false;
+  lent = None;
 }
 
 -- the bytes, or a refusal if there are none

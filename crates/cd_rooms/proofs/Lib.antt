@@ -1,4 +1,2 @@
-pub mod FrontLemmas
-pub mod GrowLemmas
 pub mod ReportLemmas
 pub mod RoomLemmas

@@ -1,4 +1,4 @@
--- `list` and `audit` on an image in memory, to a room.
+-- `list` and `audit` on an image in memory.
 use Rattle.std.proofs.Common.{◌≡◌, ℕ, ◌<◌, ◌≤◌, List, ◌++◌, length, take, Some, refl, sym, ap}
 use Rattle.std.proofs.Common.{◌∙◌, subst, arith}
 use Rattle.std.proofs.lemmas.List.{take_all}
@@ -7,16 +7,13 @@ use Rattle.cd_memory.specs.Memory.{fresh_incoming}
 use Rattle.cd_program.specs.Commands.{IsTooLong}
 use Rattle.cd_read.specs.Ends.{MayBeImageAtEnd}
 use Rattle.cd_read.specs.Image.{base_limit, image_limit}
+use Rattle.cd_read.specs.declared.fault.Fault.TheVariants.{Write}
 use Rattle.cd_report.specs.Report.{ReportSpec}
 use Rattle.cd_stream.specs.Adapters.{slice_incoming}
 use Rattle.cd_stream.specs.Stream.{Incoming, Outgoing}
 use Rattle.cd_stream.specs.declared.adapters.slice_source.SliceSource.{SliceSource}
 use Rattle.cd_rooms.specs.Reports.{ReportsFrom, ReportsInMemory}
-use Rattle.cd_rooms.specs.Rooms.{named_outgoing, room_outgoing}
-use Rattle.cd_rooms.specs.declared.room.Room.{Room}
-use Rattle.cd_rooms.proofs.FrontLemmas.{ReportsOn-without}
-use Rattle.cd_rooms.proofs.GrowLemmas.{reports-grow}
-use Rattle.cd_rooms.proofs.RoomLemmas.{SameRoom, bare, found, named-has}
+use Rattle.cd_rooms.proofs.RoomLemmas.{Ends-lent}
 
 -- an image in memory is read without a failure
 pub too-long : (image : List ℕ) (left : SliceSource)
@@ -40,15 +37,12 @@ reports-on {spec = spec} {status_of = status_of} {out = out} {out' = out'} {stat
     ReportsInMemory.reported within
     (subst (λ s. ReportsFrom spec status_of s out out' status) fresh reports)
 
-pub reports-room : {T : Type 0} {spec : ReportSpec T} {status_of : T → ℕ} {base : ℕ}
-    {image : List ℕ} {status : ℕ} (was now : Room)
-    → ReportsInMemory spec status_of base image (named_outgoing was) (named_outgoing now) status
-    → SameRoom was now
-    × ReportsInMemory spec status_of base image (room_outgoing was) (room_outgoing now) status
-reports-room {spec = spec} {status_of = status_of} {base = base} {image = image} {status = status}
-    was now does =
-    let same = found was now (reports-grow _ _ _ refl does) in (
-      same,
-      bare (λ o o'. ReportsInMemory spec status_of base image o o' status) was now same
-          (ReportsOn-without _ _ _ (named-has was) does),
-    )
+-- the output stands over the same slice
+pub reports-lent : {T : Type 0} {spec : ReportSpec T} {status_of : T → ℕ} {base : ℕ}
+    {image : List ℕ} {out out' : Outgoing} {status : ℕ}
+    → ReportsInMemory spec status_of base image out out' status → out'.lent ≡ out.lent
+reports-lent (ReportsInMemory.outside above failed same) = ap (λ o. o.lent) same
+reports-lent {status_of = status_of} {out' = out'} {status = status}
+    (ReportsInMemory.reported within r) =
+    let runs = r.runs in
+    Ends-lent Write status_of runs.result runs.middle out' status runs.ends ∙ runs.does.takes.lent

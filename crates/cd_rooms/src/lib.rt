@@ -1,9 +1,9 @@
 //! Rooms: memory that a caller lends for a text, and `list` and `audit` of an image in memory that
-//! write to one. Nothing here takes memory.
+//! write to one, through a [`cd_stream::SliceSink`]. Nothing here takes memory.
 //!
 //! ```
 //! let mut text = [0; 64];
-//! let mut listing = Room::new(&mut text);
+//! let mut listing = SliceSink::new(&mut text);
 //! assert_eq!(rt; list_image(&[0; 2353], 7, &mut listing), 0);
 //! assert_eq!(rt; listing.used, 28);
 //! assert!(rt; text.starts_with(b"7-7 nosync\nsectors 1 tail 1\n"));
@@ -16,7 +16,5 @@
 #![tactic(auto)]
 
 mod reports;
-mod room;
 
 pub use reports::{audit_image, list_image};
-pub use room::Room;

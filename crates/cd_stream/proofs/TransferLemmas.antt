@@ -21,18 +21,24 @@ Gives-front old new n buffer few came count =
 
 pub Takes-front : (old new : Outgoing) (n : ℕ) (bytes : List ℕ) → n ≤ length bytes
     → Appends old.written new.written (take n bytes) → new.taken ≡ old.taken + n
-    → new.flush_may_fail ≡ old.flush_may_fail → Takes old new (take n bytes)
-Takes-front old new n bytes few went count same =
+    → new.flush_may_fail ≡ old.flush_may_fail → new.lent ≡ old.lent → Takes old new (take n bytes)
+Takes-front old new n bytes few went count same lent =
     record {
       appends = went;
       counted =
           count ∙ ap (λ k. old.taken + k) (sym (length-take-le n bytes few));
       flush_may_fail = same;
+      lent = lent;
     }
 
 -- none
 pub Takes-nil : (a : Outgoing) → Takes a a []
-Takes-nil a = record { appends = Appends-nil a.written; counted = omega arith; flush_may_fail = refl }
+Takes-nil a = record {
+  appends = Appends-nil a.written;
+  counted = omega arith;
+  flush_may_fail = refl;
+  lent = refl;
+}
 
 -- one after the other
 pub Gives-trans : (a b c : Incoming) (bs cs : List ℕ) → Gives a b bs → Gives b c cs
@@ -48,6 +54,7 @@ Takes-trans a b c bs cs p q = record {
   appends = Appends-trans a.written b.written c.written bs cs p.appends q.appends;
   counted = omega (arith, p.counted, q.counted, length-append bs cs);
   flush_may_fail = q.flush_may_fail ∙ p.flush_may_fail;
+  lent = q.lent ∙ p.lent;
 }
 
 -- a flush moves no byte
@@ -57,6 +64,7 @@ Takes-flushed a b c bs result went flush = record {
   appends = Appends-kept a.written b.written c.written bs went.appends flush.bytes;
   counted = flush.taken ∙ went.counted;
   flush_may_fail = flush.flush_may_fail ∙ went.flush_may_fail;
+  lent = flush.lent ∙ went.lent;
 }
 
 -- the front of a buffer, after n bytes more were read into what follows it

@@ -1,7 +1,8 @@
 -- What the adapters show besides what every source and sink does.
 use Rattle.std.specs.Prelude.{ℕ, ◌+◌, ◌-◌, Bool, ◌&&◌, false, true, Some, length, min, nat_eq, replicate, take}
 use Rattle.std.specs.Prelude.{List, drop}
-use Rattle.std.specs.Borrow.{GName}
+use Rattle.std.specs.Borrow.{GName, MutBor}
+use Rattle.std.specs.Mem.{manually_drop_value}
 use Rattle.cd_stream.specs.Stream.{Incoming, Outgoing}
 use Rattle.cd_stream.specs.declared.adapters.fail_after.FailAfter.{FailAfter}
 use Rattle.cd_stream.specs.declared.adapters.short.Short.{Short}
@@ -31,6 +32,10 @@ zeros_incoming s = record {
 
 -- ---- a slice as a sink
 
+-- the slice as it was lent
+abbrev pub lent_to : SliceSink → MutBor (List ℕ)
+lent_to s = (manually_drop_value s.lent).value.slice
+
 -- what a contract sees of a slice as a sink: the bytes at its front; its flush never fails
 abbrev pub slice_outgoing : SliceSink → Outgoing
 slice_outgoing s = record {
@@ -40,6 +45,7 @@ slice_outgoing s = record {
   failures = s.failures;
   finished = s.finished;
   flush_may_fail = false;
+  lent = Some (lent_to s);
 }
 
 -- what was written, at the front of the slice
@@ -116,4 +122,5 @@ failing_outgoing seen f = record {
   failures = failures_with (seen f.inner).failures f;
   finished = f.finished;
   flush_may_fail = true;
+  lent = (seen f.inner).lent;
 }

@@ -41,6 +41,7 @@ buffered_outgoing seen b = record {
   failures = (seen b.inner).failures;
   finished = b.finished && (seen b.inner).finished && nat_eq b.start b.end;
   flush_may_fail = true;
+  lent = (seen b.inner).lent;
 }
 
 -- all that it has got has reached the sink below, and that one is finished
@@ -75,5 +76,6 @@ pub record Drains {S E : Type 0} (seen : S → Outgoing) (old new : Buffered S)
   pub flushes : (seen new.inner).flushes ≡ (seen old.inner).flushes
   pub count : Counts (seen old.inner).failures (seen new.inner).failures result
   pub finished : new.finished ≡ old.finished
+  pub lent : (seen new.inner).lent ≡ (seen old.inner).lent
   pub space : space_of new ≡ space_of old
   pub empty : IsOk result → (new.start ≡ 0) × (new.end ≡ 0)

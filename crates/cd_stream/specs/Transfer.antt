@@ -24,11 +24,13 @@ pub record Gives (old new : Incoming) (bytes : List ℕ) : Type 0 where
   pub consumes : Consumes old.rest new.rest bytes
   pub counted : new.given ≡ old.given + length bytes
 
--- the sink has taken these bytes, and counts them; its flushes may fail, or can't, as before
+-- the sink has taken these bytes, and counts them; its flushes may fail, or can't, and it stands over
+-- the slice, as before
 pub record Takes (old new : Outgoing) (bytes : List ℕ) : Type 0 where
   pub appends : Appends old.written new.written bytes
   pub counted : new.taken ≡ old.taken + length bytes
   pub flush_may_fail : new.flush_may_fail ≡ old.flush_may_fail
+  pub lent : new.lent ≡ old.lent
 
 -- at Ok(n) the first n bytes of the buffer have come, none only at the end; at Err none has come
 abbrev pub GotSome : {E : Type 0} → Incoming → Incoming → List ℕ → Result ℕ E → Type 0
@@ -64,6 +66,7 @@ pub record Writes {E : Type 0} (old new : Outgoing) (given : List ℕ)
   pub count : Counts old.failures new.failures result
   pub unfinished : new.finished ≡ false
   pub flush_may_fail : new.flush_may_fail ≡ old.flush_may_fail
+  pub lent : new.lent ≡ old.lent
 
 -- one flush: it moves no byte, and the sink is finished if it succeeds. At Err it may be that what
 -- had to go first has failed, and no flush was made. Err comes only from a sink whose flush may fail
@@ -74,6 +77,7 @@ pub record Flushes {E : Type 0} (old new : Outgoing) (result : Result (Unit {0})
   pub count : Counts old.failures new.failures result
   pub finished : new.finished ≡ is_ok result
   pub flush_may_fail : new.flush_may_fail ≡ old.flush_may_fail
+  pub lent : new.lent ≡ old.lent
   pub fails : OnErr result (old.flush_may_fail ≡ true)
 
 -- at Ok(n) the first n bytes of the buffer have come, fewer than it holds only at the end; at Err

@@ -7,7 +7,7 @@ use cd_program::{
     Host, LoadFault, System, load_fault_line, load_script, print_and_fail, read_script, run_apply,
     run_args, run_audit, run_check, run_list, script_fault_line,
 };
-use cd_rooms::{Room, audit_image, list_image};
+use cd_rooms::{audit_image, list_image};
 use cd_script::{ScriptFault, parse};
 use std::alloc::AllocError;
 use std::io;
@@ -146,26 +146,18 @@ fn a_host_in_memory(rt: HostRuntime) {
 }
 
 #[test]
-fn a_room(rt: HostRuntime) {
-    let mut space = [0; 4];
-    let mut room = Room::new(&mut space);
-    assert_eq!(rt; room.write(b"ab"), Ok(2));
-    assert_eq!(rt; space, *b"ab\0\0");
-}
-
-#[test]
-fn a_listing_to_a_room(rt: HostRuntime) {
+fn a_listing_to_lent_memory(rt: HostRuntime) {
     let mut text = [0; 64];
-    let mut listing = Room::new(&mut text);
+    let mut listing = SliceSink::new(&mut text);
     assert_eq!(rt; list_image(&[0; 2353], 7, &mut listing), 0);
     assert_eq!(rt; listing.used, 28);
     assert!(rt; text.starts_with(b"7-7 nosync\nsectors 1 tail 1\n"));
 }
 
 #[test]
-fn an_audit_to_a_room(rt: HostRuntime) {
+fn an_audit_to_lent_memory(rt: HostRuntime) {
     let mut text = [0; 64];
-    let mut findings = Room::new(&mut text);
+    let mut findings = SliceSink::new(&mut text);
     assert_eq!(rt; audit_image(&[0; 2352], 0, &mut findings), 0);
     assert!(rt; text.starts_with(b"sectors 1 mode1 0 damaged 0 tail 0\n"));
 }

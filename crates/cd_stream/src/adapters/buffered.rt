@@ -139,6 +139,7 @@ impl<S: Sink> Sink for Buffered<S> {
       failures = (S.seen s.inner).failures;
       finished = s.finished && (S.seen s.inner).finished && nat_eq s.start s.end;
       flush_may_fail = true;
+      lent = (S.seen s.inner).lent;
     } };
 
     fn write(&mut self, bytes: &[u8]) -> Result<usize, SinkFailed>

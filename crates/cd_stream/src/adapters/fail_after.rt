@@ -112,6 +112,7 @@ impl<S: Sink> Sink for FailAfter<S> {
       failures = min ((S.seen s.inner).failures + s.own) 4294967295;
       finished = s.finished;
       flush_may_fail = true;
+      lent = (S.seen s.inner).lent;
     } };
 
     fn write(&mut self, bytes: &[u8]) -> Result<usize, SinkFailed>

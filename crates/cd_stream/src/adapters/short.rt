@@ -89,6 +89,7 @@ impl<S: Sink> Sink for Short<S> {
       failures = (S.seen s.inner).failures;
       finished = s.finished;
       flush_may_fail = (S.seen s.inner).flush_may_fail;
+      lent = (S.seen s.inner).lent;
     } };
 
     fn write(&mut self, bytes: &[u8]) -> Result<usize, SinkFailed>

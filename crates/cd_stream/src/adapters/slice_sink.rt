@@ -1,29 +1,53 @@
 //! Memory as a sink.
 
-ghost use Rattle.std.specs.Prelude.{◌≡◌, ◌≤◌, [], Some, false, length, take};
+ghost use Rattle.std.specs.Prelude.{◌≡◌, ◌≢◌, ◌≤◌, [], Some, drop, false, length, take};
+ghost use Rattle.std.specs.Mem.{manually_drop_value};
 ghost use Rattle.cd_stream.specs.Stream.{CanCountFailure};
 
 use crate::count::Count;
 use crate::sink::{Sink, SinkFailed};
+use std::fmt::{self, Debug, Formatter, Write};
+use std::mem::ManuallyDrop;
+use std::snapshot::Snapshot;
+
+/// A slice as it was lent.
+#[derive(Drop)]
+struct Lent<'a> {
+    slice: &'a mut [u8],
+}
 
 /// Writes to the front of a slice, and fails if that is full.
 ///
-/// Its own `write` and `finish` promise that it still stands over the same slice. A call that takes
-/// any sink (`write_all`, `Short`, `FailAfter`) promises only what [`Sink`] does, which names no
-/// slice: there [`SliceSink::written`] gives the bytes.
-#[derive(Debug, Drop)]
+/// What a contract sees of it names the slice as it was lent, and each call of a sink leaves that.
+/// So after a call that takes any sink a caller finds his slice again, once he has moved it out.
+#[derive(Drop)]
 pub struct SliceSink<'a> {
-    space: &'a mut [u8],
-    used: usize,
+    /// What was lent. Its first `used` bytes were written, and the rest is as it was.
+    pub space: &'a mut [u8],
+    /// How many bytes were written.
+    pub used: usize,
     flushes: Count,
     failures: u32,
     finished: bool,
+    // Nothing is to be dropped, so that the slice can be moved out.
+    lent: ManuallyDrop<Snapshot<Lent<'a>>>,
     ghost within: { used ≤ length space.now },
+    ghost same_slice: { space.ghost_name ≡ (manually_drop_value lent).value.slice.ghost_name },
+    ghost rest: { drop used space.now ≡ drop used (manually_drop_value lent).value.slice.now },
+    ghost size: { length space.now ≡ length (manually_drop_value lent).value.slice.now },
+    ghost full: { failures ≢ 0 → used ≡ length space.now },
+}
+
+impl Debug for SliceSink<'_> {
+    fn fmt<W: Write>(&self, f: &mut Formatter<W>) -> fmt::Result {
+        f.write_str("SliceSink")
+    }
 }
 
 impl<'a> SliceSink<'a> {
     ghost use Rattle.std.specs.Prelude.{◌≡◌, [], Some, false, length};
-    ghost use Rattle.cd_stream.specs.Adapters.{room_of, slice_written, slice_ghost_name, rest_of_slice};
+    ghost use Rattle.cd_stream.specs.Adapters.{lent_to, room_of, rest_of_slice, slice_ghost_name};
+    ghost use Rattle.cd_stream.specs.Adapters.{slice_written};
 
     /// Stands over `space`, from its front.
     ///
@@ -44,17 +68,23 @@ impl<'a> SliceSink<'a> {
               failures = 0;
               finished = false;
               flush_may_fail = false;
+              lent = Some (lent_to result);
             } }
+        ensures lent { lent_to result ≡ space.entry }
         ensures room { room_of result ≡ length space.entry.now }
         ensures rest { rest_of_slice result ≡ space.entry.now }
         ensures same_slice { slice_ghost_name result ≡ space.entry.ghost_name }
     {
+        let lent = Lent { slice: space };
+        let before = ManuallyDrop::new(Snapshot::of(&lent));
+        let Lent { slice } = lent;
         SliceSink {
-            space,
+            space: slice,
             used: 0,
             flushes: Count::zero(),
             failures: 0,
             finished: false,
+            lent: before,
         }
     }
 
@@ -81,6 +111,7 @@ impl Sink for SliceSink<'_> {
       failures = s.failures;
       finished = s.finished;
       flush_may_fail = false;
+      lent = Some (manually_drop_value s.lent).value.slice;
     } };
 
     fn write(&mut self, bytes: &[u8]) -> Result<usize, SinkFailed>

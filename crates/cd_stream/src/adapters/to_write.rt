@@ -1,6 +1,6 @@
 //! A std writer as a sink.
 
-ghost use Rattle.std.specs.Prelude.{◌≡◌, false, true};
+ghost use Rattle.std.specs.Prelude.{◌≡◌, None, false, true};
 
 use crate::count::Count;
 use crate::sink::{Sink, SinkFailed};
@@ -41,6 +41,7 @@ impl<W: Write> ToWrite<W> {
               failures = 0;
               finished = false;
               flush_may_fail = true;
+              lent = None;
             } }
     {
         ToWrite {
@@ -76,6 +77,7 @@ impl<W: Write> Sink for ToWrite<W> {
       failures = s.failures;
       finished = s.finished;
       flush_may_fail = true;
+      lent = None;
     } };
 
     fn write(&mut self, bytes: &[u8]) -> Result<usize, SinkFailed> {

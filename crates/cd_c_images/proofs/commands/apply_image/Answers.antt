@@ -1,14 +1,14 @@
-use Rattle.std.proofs.Common.{◌∙◌, rules}
+use Rattle.std.proofs.Common.{ap, rules}
 use Rattle.cd_rooms.proofs.RoomLemmas.{fills-room}
 use Rattle.cd_c_images.proofs.commands.apply_image.Goals as goal
 
 pub returns : goal.returns
 returns c =
-    let did = c.apply_to_rooms-status.ensures in
-    let start = c.new-room.ensures in
+    let did = c.apply_to_sinks-status.ensures in
+    let start = c.new-made.ensures in
     record {
-      report = fills-room _ _ c.apply_to_rooms-status.new.out _ _ start.seen did.report
-          (did.same_out_bytes ∙ start.lent) (search rules);
+      report = fills-room _ c.new-made.result c.apply_to_sinks-status.new.out _ _ start.seen
+          (ap (λ l. l.now) start.lent) did.same_out_bytes (search rules) did.report;
       same_slice = did.same_log;
       same_bytes = did.same_log_bytes;
     }

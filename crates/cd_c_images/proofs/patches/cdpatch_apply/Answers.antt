@@ -1,4 +1,5 @@
-use Rattle.std.proofs.Common.{◌∙◌, rules}
+use Rattle.std.proofs.Common.{ap, rules}
+use Rattle.cd_rooms.proofs.RoomLemmas.{fills-counted}
 use Rattle.cd_c_images.proofs.PlainLemmas.{apply-clauses}
 use Rattle.cd_c_images.proofs.patches.cdpatch_apply.Goals as goal
 
@@ -7,5 +8,11 @@ returns c =
     let did = c.apply_image-status.ensures in
     let start = c.new-outcomes.ensures in
     rw c.from.ensures
-    (apply-clauses _ c.apply_image-status.new.log _ _ start.seen (did.same_bytes ∙ start.lent)
-    (search rules) did.report)
+    (apply-clauses (record {
+      lent = did.report.lent;
+      was = did.report.was;
+      after = did.report.after;
+      does = fills-counted _ c.new-outcomes.result c.apply_image-status.new.log _ _ start.seen
+          (ap (λ l. l.now) start.lent) did.same_bytes (search rules) did.report.does;
+      fills = did.report.fills;
+    }))

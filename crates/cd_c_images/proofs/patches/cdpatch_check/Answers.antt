@@ -1,4 +1,5 @@
-use Rattle.std.proofs.Common.{◌∙◌, rules}
+use Rattle.std.proofs.Common.{ap, rules}
+use Rattle.cd_rooms.proofs.RoomLemmas.{fills-counted}
 use Rattle.cd_c_images.proofs.PlainLemmas.{check-clauses}
 use Rattle.cd_c_images.proofs.patches.cdpatch_check.Goals as goal
 
@@ -7,5 +8,5 @@ returns c =
     let did = c.check_image-status.ensures in
     let start = c.new-lines.ensures in
     rw c.from.ensures
-    (check-clauses _ c.check_image-status.new.log _ _ start.seen (did.same_bytes ∙ start.lent)
-    (search rules) did.report)
+    (check-clauses (fills-counted _ c.new-lines.result c.check_image-status.new.log _ _ start.seen
+    (ap (λ l. l.now) start.lent) did.same_bytes (search rules) did.report))

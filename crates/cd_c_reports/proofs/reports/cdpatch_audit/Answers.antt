@@ -1,4 +1,5 @@
-use Rattle.std.proofs.Common.{◌∙◌, rules}
+use Rattle.std.proofs.Common.{ap, rules}
+use Rattle.cd_rooms.proofs.RoomLemmas.{fills-counted}
 use Rattle.cd_c_reports.proofs.ReportLemmas.{report-clauses}
 use Rattle.cd_c_reports.proofs.reports.cdpatch_audit.Goals as goal
 
@@ -7,5 +8,5 @@ returns c =
     let did = c.audit_image-status.ensures in
     let start = c.new-findings.ensures in
     rw c.from.ensures
-    (report-clauses _ c.audit_image-status.new.out _ _ start.seen (did.same_bytes ∙ start.lent)
-    (search rules) did.report)
+    (report-clauses (fills-counted _ c.new-findings.result c.audit_image-status.new.out _ _ start.seen
+    (ap (λ l. l.now) start.lent) did.same_bytes (search rules) did.report))

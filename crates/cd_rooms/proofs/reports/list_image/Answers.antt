@@ -1,17 +1,18 @@
 use Rattle.std.proofs.Common.{rules}
-use Rattle.cd_rooms.proofs.ReportLemmas.{reports-on, reports-room}
+use Rattle.cd_rooms.proofs.ReportLemmas.{reports-lent, reports-on}
+use Rattle.cd_rooms.proofs.RoomLemmas.{same-room}
 use Rattle.cd_rooms.proofs.reports.list_image.Goals as goal
 
 pub returns : goal.returns
 returns c =
     let r = c.run_list.ensures in
-    let did = reports-room c.args.out.now c.run_list.new.out
-    (reports-on (search rules) _ c.new.ensures (record {
+    let did = reports-on (search rules) _ c.new.ensures (record {
       left = c.run_list.new.image;
       runs = r.report;
       text = r.text;
       ends_well = r.ends_well;
       flushed = r.flushed;
       failed = r.failed;
-    })) in
-    record { report = did.1; same_slice = did.0.name; same_bytes = did.0.bytes }
+    }) in
+    let same = same-room c.args.out.now c.run_list.new.out (reports-lent did) in
+    record { report = did; same_slice = same.same_slice; same_bytes = same.same_bytes }

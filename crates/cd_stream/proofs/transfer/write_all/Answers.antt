@@ -17,6 +17,7 @@ loop-sent-preserved g c =
       taken = omega (arith, c.in_ok-sent.ensures.taken, before.taken);
       flushes = c.in_ok-sent.ensures.flushes ∙ before.flushes;
       same = c.in_ok-sent.ensures.flush_may_fail ∙ before.same;
+      lent = c.in_ok-sent.ensures.lent ∙ before.lent;
       counted = c.in_ok-sent.ensures.count ∙ before.counted;
       unfinished = λ _. c.in_ok-sent.ensures.unfinished;
     }
@@ -29,7 +30,8 @@ returns g c =
       bytes = rw all at c.loop-sent.invariant.appended;
       taken = subst (Takes (g.O.Sink.seen c.args.out.now) (g.O.Sink.seen c.loop-sent.out)) all
           (Takes-front _ _ c.loop-sent.sent c.args.bytes.now c.loop-sent.invariant.within
-          c.loop-sent.invariant.appended c.loop-sent.invariant.taken c.loop-sent.invariant.same);
+          c.loop-sent.invariant.appended c.loop-sent.invariant.taken c.loop-sent.invariant.same
+          c.loop-sent.invariant.lent);
       flushes = c.loop-sent.invariant.flushes;
       count = c.loop-sent.invariant.counted;
       unfinished = λ some. c.loop-sent.invariant.unfinished (omega arith);

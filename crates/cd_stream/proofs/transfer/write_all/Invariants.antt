@@ -10,6 +10,7 @@ invariant-loop-sent g l = record {
   taken : (g.O.Sink.seen l.out).taken ≡ (g.O.Sink.seen l.fn.out).taken + l.sent;
   flushes : (g.O.Sink.seen l.out).flushes ≡ (g.O.Sink.seen l.fn.out).flushes;
   same : (g.O.Sink.seen l.out).flush_may_fail ≡ (g.O.Sink.seen l.fn.out).flush_may_fail;
+  lent : (g.O.Sink.seen l.out).lent ≡ (g.O.Sink.seen l.fn.out).lent;
   counted : (g.O.Sink.seen l.out).failures ≡ (g.O.Sink.seen l.fn.out).failures;
   unfinished : 0 < l.sent → (g.O.Sink.seen l.out).finished ≡ false;
 }

@@ -26,6 +26,7 @@ loop-self-preserved g c =
       flushes = c.in_ok-self.ensures.flushes ∙ before.flushes;
       counted = c.in_ok-self.ensures.count ∙ before.counted;
       finished = before.finished;
+      lent = c.in_ok-self.ensures.lent ∙ before.lent;
       space = before.space;
     }
 

@@ -12,6 +12,7 @@ invariant-loop-self g l = record {
   flushes : (g.S.Sink.seen l.self.inner).flushes ≡ (g.S.Sink.seen l.initial.self.inner).flushes;
   counted : (g.S.Sink.seen l.self.inner).failures ≡ (g.S.Sink.seen l.initial.self.inner).failures;
   finished : l.self.finished ≡ l.initial.self.finished;
+  lent : (g.S.Sink.seen l.self.inner).lent ≡ (g.S.Sink.seen l.initial.self.inner).lent;
   space : space_of l.self ≡ space_of l.initial.self;
 }
 

@@ -24,6 +24,7 @@ returns-then-bytes-len-clause-writes g c =
       unfinished = ap (λ own. own && past.finished && nat_eq now.start now.end)
           (c.drain.ensures.finished ∙ c.requires.unfinished);
       flush_may_fail = refl;
+      lent = c.write.ensures.lent ∙ c.drain.ensures.lent;
     }
 
 pub returns-then-bytes-len-clause-held : goal.returns-then-bytes-len-clause-held

@@ -38,4 +38,5 @@ returns-clause-writes g c =
       count = ap (λ s. (seen s).failures) c.hold.ensures.inner;
       unfinished = search rules;
       flush_may_fail = refl;
+      lent = ap (λ s. (seen s).lent) c.hold.ensures.inner;
     }

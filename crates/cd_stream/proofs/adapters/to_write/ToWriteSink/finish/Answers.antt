@@ -9,5 +9,6 @@ returns g c = record {
   count = refl;
   finished = cc;
   flush_may_fail = refl;
+  lent = refl;
   fails = tt;
 }

@@ -9,6 +9,7 @@ returns-in-Ok g c = record {
   count = refl;
   unfinished = refl;
   flush_may_fail = refl;
+  lent = refl;
 }
 
 pub returns-in_default : goal.returns-in_default
@@ -19,4 +20,5 @@ returns-in_default g c = record {
   count = refl;
   unfinished = refl;
   flush_may_fail = refl;
+  lent = refl;
 }
