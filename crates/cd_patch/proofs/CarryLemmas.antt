@@ -8,7 +8,7 @@ use Rattle.cd_sector.specs.Consistent.{IsConsistent, header_of}
 use Rattle.cd_patch.specs.Blocks.{blocks_met, sector_at}
 use Rattle.cd_patch.specs.EditMeaning.{needs_consistent, keeps_old, keeps_defect, new_header}
 use Rattle.cd_patch.specs.Deciding.{by_difference, either_refusal, first_refusal, outcome, refusal_at}
-use Rattle.cd_patch.specs.Effect.{Becomes, EditResult, Effect, EffectOf, IsApplied, patched_user, user_part}
+use Rattle.cd_patch.specs.Effect.{Becomes, Effect, EffectOf, IsApplied, patched_user, user_part}
 use Rattle.cd_patch.specs.declared.outcome.Outcome.{Outcome}
 use Rattle.cd_patch.specs.declared.outcome.Outcome.TheVariants.{Applied, Damaged}
 use Rattle.cd_patch.proofs.DecidingLemmas.{is_refusal, accepted-there, first_of-none, first_refusal-is, unrefused}
