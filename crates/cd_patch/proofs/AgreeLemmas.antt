@@ -28,30 +28,6 @@ SameUpTo ps os os' block =
     (k : ℕ) (p : Patch) → slice_get ps k ≡ Some p → p.block ≤ block
     → slice_get os k ≡ slice_get os' k
 
--- all begin at a block or later if the first does
-rising-from : (p : Patch) (ps : List Patch) (bound : ℕ)
-    → IsNonDecreasingBy (λ q. q.block) (p ∷ ps) → bound ≤ p.block
-    → All (λ q. bound ≤ q.block) (p ∷ ps)
-rising-from p ps bound rises from = λ k d inside.
-    let low : p.block ≤ (get_or (p ∷ ps) k d).block = rises 0 k d (omega arith) inside in
-    omega arith
-
-agree_after : (carry : Bool) (ps : List Patch) (os os' : List Outcome) (base block : ℕ)
-    (old old' last last' : List (List ℕ)) → All (λ q. block + 1 ≤ q.block) ps
-    → SameBelow old old' base (block + 1) → PatchSequence carry ps os base old last
-    → PatchSequence carry ps os' base old' last'
-    → SameUpTo ps os os' block × SameBelow last last' base (block + 1)
-agree_after carry ps os os' base block old old' last last' from same h h' = (
-  λ k p is up_to.
-      let here : get_or ps k p ≡ p = get_or_from_slice_get ps k p p is in
-      let low : block + 1 ≤ (get_or ps k p).block = from k p (slice_get_within ps k p is) in
-      absurd (omega (arith, ap (λ (q : Patch). q.block) here)),
-  λ b below.
-      PatchSequence-keeps carry ps os base (block + 1) old last from h b below
-      ∙ same b below
-      ∙ sym (PatchSequence-keeps carry ps os' base (block + 1) old' last' from h' b below),
-)
-
 agree : (carry : Bool) (i base : ℕ) (ps : List Patch) (os os' : List Outcome)
     (old old' last last' : List (List ℕ)) → All IsPatch ps → IsNonDecreasingBy (λ p. p.block) ps
     → SameBelow old old' base (base + (i + block_limit)) → PatchSequence carry ps os base old last
@@ -69,9 +45,20 @@ agree carry i base (p ∷ ps) (o ∷ os) [] old old' last last' each rises same 
 agree carry i base (p ∷ ps) (o ∷ os) (o' ∷ os') old old' last last' each rises same h h' =
     elim (cases_lt (base + i) p.block) [
       | inl after ↦
-          agree_after carry (p ∷ ps) (o ∷ os) (o' ∷ os') base (base + i) old old' last last'
-          (rising-from p ps (base + i + 1) rises (omega arith))
-          (λ b below. same b (omega arith)) h h'
+          let from : All (λ q. base + i + 1 ≤ q.block) (p ∷ ps) = λ k d inside.
+          let low : p.block ≤ (get_or (p ∷ ps) k d).block = rises 0 k d (omega arith) inside in
+          omega arith in (
+            λ k q is up_to.
+                let here : get_or (p ∷ ps) k q ≡ q = get_or_from_slice_get (p ∷ ps) k q q is in
+                let low : base + i + 1 ≤ (get_or (p ∷ ps) k q).block =
+                from k q (slice_get_within (p ∷ ps) k q is) in
+                absurd (omega (arith, ap (λ (r : Patch). r.block) here)),
+            λ b below.
+                PatchSequence-keeps carry (p ∷ ps) (o ∷ os) base (base + i + 1) old last from h b below
+                ∙ same b (omega arith)
+                ∙ sym (PatchSequence-keeps carry (p ∷ ps) (o' ∷ os') base (base + i + 1) old' last'
+                from h' b below),
+          )
       | inr here ↦
           let most = blocks_met-most p (All-head IsPatch p ps each) in
           let next : SameBelow h.next h'.next base (base + (i + block_limit)) =

@@ -8,10 +8,10 @@ use Rattle.cd_sector.specs.Consistent.{IsConsistent, header_of}
 use Rattle.cd_patch.specs.Blocks.{blocks_met, sector_at}
 use Rattle.cd_patch.specs.EditMeaning.{needs_consistent, keeps_old, keeps_defect, new_header}
 use Rattle.cd_patch.specs.Deciding.{by_difference, either_refusal, first_refusal, outcome, refusal_at}
-use Rattle.cd_patch.specs.Effect.{Becomes, EditResult, Effect, EffectOf, IsApplied, patched_user, user_part}
+use Rattle.cd_patch.specs.Effect.{Becomes, Effect, EffectOf, IsApplied, patched_user, user_part}
 use Rattle.cd_patch.specs.declared.outcome.Outcome.{Outcome}
 use Rattle.cd_patch.specs.declared.outcome.Outcome.TheVariants.{Applied, Damaged}
-use Rattle.cd_patch.proofs.DecidingLemmas.{IsRefusal, accepted-there, first_of-none, first_refusal-is, unrefused}
+use Rattle.cd_patch.proofs.DecidingLemmas.{is_refusal, accepted-there, first_of-none, first_refusal-is, unrefused}
 use Rattle.cd_patch.proofs.BecomesLemmas.{Becomes-nothing, keeps-nothing}
 
 needs-nothing : (p : Patch) → needs_consistent true p.edit ≡ false
@@ -20,7 +20,7 @@ needs-nothing p = and_right (keeps_old p.edit) (not true) refl
 -- ---- no refusal for damage
 
 undamaged : (must_be_consistent : Bool) (found : Option Outcome) (place : Option ℕ)
-    (block other : ℕ) → must_be_consistent ≡ false → IsRefusal must_be_consistent found
+    (block other : ℕ) → must_be_consistent ≡ false → is_refusal must_be_consistent found ≡ true
     → unwrap_or found (by_difference block place) ≡ Damaged other → ⊥
 undamaged must_be_consistent None None block other unasked is h = cc
 undamaged must_be_consistent None (Some place) block other unasked is h = cc

@@ -1,8 +1,7 @@
 -- Which blocks refuse a patch, what an accepted one has found there, and the bytes of joined user
 -- data.
 use Rattle.std.proofs.Common.{◌≡◌, ℕ, zero, suc, ◌+◌, ◌-◌, ◌*◌, ◌/◌, ◌%◌, ◌<◌, ◌≤◌, inl, inr, Bool, true, false, cond, List, [], ◌∷◌, ◌++◌, length, get_or, drop, Option, Some, None, refl, sym, ap, ap₂, subst, ◌∙◌, eq-eqb, arith}
-use Rattle.std.specs.Prelude.{not, ◌&&◌, if◌then◌else◌, is_some, slice_get, unwrap_or}
-use Rattle.std.specs.Option.{IfSome}
+use Rattle.std.specs.Prelude.{not, ◌&&◌, is_some, slice_get, unwrap_or}
 use Rattle.std.proofs.lemmas.Bool.{cases_eq, cases_lt, ne_eqb}
 use Rattle.std.proofs.lemmas.List.{get_or_append_left, get_or-append_right, get_or-drop, get_or_read, length-append, length-drop}
 use Rattle.std.proofs.lemmas.Option.{get_or_from_slice_get, slice_get-get_or, slice_get_within}
@@ -30,26 +29,17 @@ pub record IsMet (must_be_consistent : Bool) (found : Option (List ℕ)) : Type 
   pub mode : kind_of sector ≡ Mode1
   pub sound : must_be_consistent ≡ true → IsConsistent sector
 
-no_refusal : (mode must_be_consistent sound : Bool) (block : ℕ)
-    → (if not mode then Some (NotMode1 block)
-    else if must_be_consistent && not sound then Some (Damaged block) else None) ≡ None
-    → (mode ≡ true) × (must_be_consistent ≡ true → sound ≡ true)
-no_refusal true true true block h = (refl, λ _. refl)
-no_refusal true true false block h = cc
-no_refusal true false sound block h = (refl, λ e. cc)
-no_refusal false must_be_consistent sound block h = cc
-
 refusal_at-none : (must_be_consistent : Bool) (block : ℕ) (found : Option (List ℕ))
     → refusal_at must_be_consistent block found ≡ None → IsMet must_be_consistent found
 refusal_at-none must_be_consistent block None h = absurd cc
 refusal_at-none must_be_consistent block (Some sector) h =
-    let both =
-    no_refusal (is_mode1 (kind_of sector)) must_be_consistent (consistent sector) block h in
+    let mode : is_mode1 (kind_of sector) ≡ true = grind arith in
+    let sound : must_be_consistent ≡ true → consistent sector ≡ true = λ asked. grind arith in
     record {
       sector = sector;
       is = refl;
-      mode = (mode1_decided (kind_of sector)).0 both.0;
-      sound = λ asked. (consistent-decided sector).0 (both.1 asked);
+      mode = (mode1_decided (kind_of sector)).0 mode;
+      sound = λ asked. (consistent-decided sector).0 (sound asked);
     }
 
 pub first_of-none : (a b : Option Outcome) → either_refusal a b ≡ None → (a ≡ None) × (b ≡ None)
@@ -76,47 +66,36 @@ first_refusal-none ss base must_be_consistent first (suc count) h block from to 
     ]
 
 -- what refuses a patch is no acceptance, and damage only if it is asked for
-abbrev pub is_refusal : Bool → Outcome → Bool
-is_refusal must_be_consistent (NoBlock block) = true
-is_refusal must_be_consistent (NotMode1 block) = true
-is_refusal must_be_consistent (Damaged block) = must_be_consistent
-is_refusal must_be_consistent Applied = false
-is_refusal must_be_consistent (Differs block offset) = false
-
-abbrev pub IsRefusal : Bool → Option Outcome → Type 0
-IsRefusal must_be_consistent found = IfSome found (λ r. is_refusal must_be_consistent r ≡ true)
-
-refusal-is : (mode must_be_consistent sound : Bool) (block : ℕ)
-    → IsRefusal must_be_consistent (if not mode then Some (NotMode1 block)
-    else if must_be_consistent && not sound then Some (Damaged block) else None)
-refusal-is true true true block = tt
-refusal-is true true false block = refl
-refusal-is true false sound block = tt
-refusal-is false must_be_consistent sound block = refl
+abbrev pub is_refusal : Bool → Option Outcome → Bool
+is_refusal must_be_consistent None = true
+is_refusal must_be_consistent (Some (NoBlock block)) = true
+is_refusal must_be_consistent (Some (NotMode1 block)) = true
+is_refusal must_be_consistent (Some (Damaged block)) = must_be_consistent
+is_refusal must_be_consistent (Some Applied) = false
+is_refusal must_be_consistent (Some (Differs block offset)) = false
 
 refusal_at-is : (must_be_consistent : Bool) (block : ℕ) (found : Option (List ℕ))
-    → IsRefusal must_be_consistent (refusal_at must_be_consistent block found)
+    → is_refusal must_be_consistent (refusal_at must_be_consistent block found) ≡ true
 refusal_at-is must_be_consistent block None = refl
-refusal_at-is must_be_consistent block (Some sector) =
-    refusal-is (is_mode1 (kind_of sector)) must_be_consistent (consistent sector) block
+refusal_at-is must_be_consistent block (Some sector) = grind arith
 
 either_refusal-is : (must_be_consistent : Bool) (a b : Option Outcome)
-    → IsRefusal must_be_consistent a → IsRefusal must_be_consistent b
-    → IsRefusal must_be_consistent (either_refusal a b)
+    → is_refusal must_be_consistent a ≡ true → is_refusal must_be_consistent b ≡ true
+    → is_refusal must_be_consistent (either_refusal a b) ≡ true
 either_refusal-is must_be_consistent None b one two = two
 either_refusal-is must_be_consistent (Some r) b one two = one
 
 pub first_refusal-is : (ss : List (List ℕ)) (base : ℕ) (must_be_consistent : Bool)
     (block count : ℕ)
-    → IsRefusal must_be_consistent (first_refusal ss base must_be_consistent block count)
-first_refusal-is ss base must_be_consistent block zero = tt
+    → is_refusal must_be_consistent (first_refusal ss base must_be_consistent block count) ≡ true
+first_refusal-is ss base must_be_consistent block zero = refl
 first_refusal-is ss base must_be_consistent block (suc count) =
     either_refusal-is must_be_consistent _ _
     (refusal_at-is must_be_consistent block (sector_at ss base block))
     (first_refusal-is ss base must_be_consistent (block + 1) count)
 
 applied-unrefused : (must_be_consistent : Bool) (found : Option Outcome) (other : Outcome)
-    → IsRefusal must_be_consistent found → unwrap_or found other ≡ Applied → found ≡ None
+    → is_refusal must_be_consistent found ≡ true → unwrap_or found other ≡ Applied → found ≡ None
 applied-unrefused must_be_consistent None other is h = refl
 applied-unrefused must_be_consistent (Some r) other is h = let no = rw h at is in cc
 

@@ -22,7 +22,7 @@ use Rattle.cd_sector.proofs.SectorLemmas.{mode1-parts}
 use Rattle.cd_patch.specs.Blocks.{blocks_met, sector_at}
 use Rattle.cd_patch.specs.EditMeaning.{EditMeaning, keeps_defect, meaning, new_header, with_address}
 use Rattle.cd_patch.specs.Deciding.{outcome}
-use Rattle.cd_patch.specs.Effect.{Becomes, EditResult, Effect, EffectOf, IsApplied, IsRemade, patched_user, user_part}
+use Rattle.cd_patch.specs.Effect.{Becomes, EditResult, Effect, EffectOf, IsApplied, patched_user, user_part}
 use Rattle.cd_patch.specs.BySector.{IsSector}
 use Rattle.cd_patch.specs.Sequence.{PatchSequence}
 use Rattle.cd_patch.specs.declared.outcome.Outcome.{Outcome}

@@ -1,10 +1,9 @@
 -- A patch sees and changes no more than the blocks that it meets: the same holds of a part of the
 -- sectors that has them.
-use Rattle.std.proofs.Common.{◌≡◌, ◌↔◌, ℕ, zero, suc, ◌+◌, ◌-◌, ◌/◌, ◌<◌, ◌≤◌, ◌⊎◌, inl, inr, Bool, true, false, List, [], ◌++◌, length, refl, sym, ap, ap₂, subst, ◌∙◌, arith, add-one}
+use Rattle.std.proofs.Common.{◌≡◌, ◌↔◌, ℕ, zero, suc, ◌+◌, ◌<◌, ◌≤◌, ◌⊎◌, inl, inr, Bool, true, false, List, [], ◌++◌, length, refl, sym, ap, ap₂, subst, ◌∙◌, arith, add-one}
 use Rattle.std.proofs.lemmas.Bool.{and_from, and_left, and_right, cases_lt, le-leb, le-ltb, lt-leb, lt-ltb}
 use Rattle.std.proofs.lemmas.List.{length-append}
 use Rattle.cd_script.specs.PatchForm.{Patch}
-use Rattle.cd_sector.specs.declared.sector.TheConstants.{USER_SIZE}
 use Rattle.cd_delta.specs.Writing.{with_range}
 use Rattle.cd_patch.specs.Blocks.{blocks_met, sector_at}
 use Rattle.cd_patch.specs.BySector.{meets}
@@ -122,17 +121,12 @@ outcome-same carry sectors others base middle p h =
 
 -- ---- a patch whose first block is missing
 
-pub blocks_met-some : (p : Patch) → (n : ℕ) × (blocks_met p ≡ suc n)
-unfolding blocks_met
-blocks_met-some p = ((p.offset + length (new_bytes p.edit) - 1) / USER_SIZE, add-one _)
-
 pub outcome-missing : (carry : Bool) (sectors : List (List ℕ)) (base : ℕ) (p : Patch)
     → (p.block < base) ⊎ (base + length sectors ≤ p.block)
     → outcome carry sectors base p ≡ NoBlock p.block
-unfolding outcome
+unfolding outcome blocks_met
 outcome-missing carry sectors base p missing =
-    let met = blocks_met-some p in
-    rw (met.1, sector_at-missing sectors base p.block missing) refl
+    rw (add-one, sector_at-missing sectors base p.block missing) refl
 
 pub Effect-missing : (carry : Bool) (sectors : List (List ℕ)) (base : ℕ) (p : Patch)
     → (p.block < base) ⊎ (base + length sectors ≤ p.block) → Effect carry base p sectors sectors

@@ -49,78 +49,6 @@ hand-at sectors base first block from low high =
     ∙ slice_get-drop n sectors (block - first) ∙ ap (slice_get sectors) place
     ∙ sym (sector_at-from sectors base block (omega arith))
 
--- ---- where the hand lies
-
--- no sector is in hand, and none is put back
-record IsMissing (sectors : List (List ℕ)) (base block : ℕ) : Type 0 where
-  missing : (block < base) ⊎ (base + length sectors ≤ block)
-  empty : hand sectors base block ≡ []
-  stays : put_back sectors base block [] ≡ sectors
-
--- the hand is a part of the sectors, of `block_limit` sectors if others follow it
-record LiesAt (sectors : List (List ℕ)) (base block : ℕ) : Type 0 where
-  front : List (List ℕ)
-  more : List (List ℕ)
-  here : block ≡ base + length front
-  old : sectors ≡ front ++ (hand sectors base block ++ more)
-  new : (changed : List (List ℕ)) → put_back sectors base block changed ≡ front ++ (changed ++ more)
-  room : (length (hand sectors base block) ≡ block_limit) ⊎ (more ≡ [])
-
-hand-cases : (sectors : List (List ℕ)) (base block : ℕ)
-    → IsMissing sectors base block ⊎ LiesAt sectors base block
-unfolding put_back
-hand-cases sectors base block = elim (cases_lt block base) [
-  | inl below ↦
-      inl (record {
-        missing = inl below;
-        empty = hand-below sectors base block below;
-        stays = cond-true _ _ _ (lt-ltb block base below);
-      })
-  | inr from ↦
-      let n = block - base in
-      let some = le-ltb block base from in
-      let window = hand-from sectors base block from in
-      elim (cases_lt n (length sectors)) [
-        | inr past ↦
-            inl (record {
-              missing = inr (omega arith);
-              empty = window ∙ ap (take block_limit) (drop_all n sectors past);
-              stays =
-                  rw (some, drop_all (n + block_limit) sectors (omega arith), append-nil)
-                  (take_all n sectors past);
-            })
-        | inl inside ↦
-            inr (record {
-              front = take n sectors;
-              more = drop (n + block_limit) sectors;
-              here = omega (arith, length-take-le n sectors (omega arith));
-              old =
-                  sym (rw (
-                    window,
-                    ← drop-drop block_limit n sectors,
-                    take-append-drop block_limit (drop n sectors),
-                  ) (take-append-drop n sectors));
-              new = λ changed. cond-false _ _ _ some;
-              room = elim (cases_lt (length sectors) (n + block_limit)) [
-                | inl short ↦ inr (drop_all (n + block_limit) sectors (omega arith))
-                | inr long ↦
-                    inl (ap length window
-                    ∙ length-take-le block_limit (drop n sectors)
-                    (omega (arith, length-drop n sectors)))
-              ];
-            })
-      ]
-]
-
--- the hand has the blocks that a patch meets, or no sector follows it
-hand-room : (p : Patch) (base : ℕ) (sectors : List (List ℕ)) (lies : LiesAt sectors base p.block)
-    → IsPatch p
-    → (p.block + blocks_met p ≤ p.block + length (hand sectors base p.block)) ⊎ (lies.more ≡ [])
-hand-room p base sectors lies kept = elim lies.room [
-  | inl full ↦ inl (omega (arith, full, blocks_met-most p kept))
-  | inr none ↦ inr none
-]
-
 -- ---- a patch on its hand is a patch on the image
 
 -- the hand has the sectors that the patch meets
@@ -144,21 +72,53 @@ outcome-hand carry p base sectors kept = elim (cases_lt p.block base) [
 pub Effect-put_back : (carry : Bool) (p : Patch) (base : ℕ) (sectors changed : List (List ℕ))
     → IsPatch p → Effect carry p.block p (hand sectors base p.block) changed
     → Effect carry base p sectors (put_back sectors base p.block changed)
-Effect-put_back carry p base sectors changed kept h = elim (hand-cases sectors base p.block) [
-  | inl none ↦
-      let size = Effect-length carry p.block p (hand sectors base p.block) changed h in
-      let nothing : changed ≡ [] = nil_from_length changed (size ∙ ap length none.empty) in
-      subst (λ l. Effect carry base p sectors l)
-      (sym (ap (put_back sectors base p.block) nothing ∙ none.stays))
-      (Effect-missing carry sectors base p none.missing)
-  | inr lies ↦
+unfolding put_back
+Effect-put_back carry p base sectors changed kept h = elim (cases_lt p.block base) [
+  | inl below ↦
+      missing (inl below) (hand-below sectors base p.block below)
+      (cond-true _ _ _ (lt-ltb p.block base below))
+  | inr from ↦
+      let n = p.block - base in
       let window = hand sectors base p.block in
-      subst (λ l. Effect carry base p l (put_back sectors base p.block changed)) (sym lies.old)
-      (subst (λ l. Effect carry base p (lies.front ++ (window ++ lies.more)) l)
-      (sym (lies.new changed))
-      (Effect-frame carry lies.front window changed lies.more base p.block p lies.here (omega arith)
-      (hand-room p base sectors lies kept) h))
+      let more = drop (n + block_limit) sectors in
+      let is = hand-from sectors base p.block from in
+      elim (cases_lt n (length sectors)) [
+        | inr past ↦
+            missing (inr (omega arith)) (is ∙ ap (take block_limit) (drop_all n sectors past))
+            (rw (le-ltb p.block base from, drop_all (n + block_limit) sectors (omega arith), append-nil)
+            (take_all n sectors past))
+        | inl inside ↦
+            let old : sectors ≡ take n sectors ++ (window ++ more) =
+            sym (rw (
+              is,
+              ← drop-drop block_limit n sectors,
+              take-append-drop block_limit (drop n sectors),
+            ) (take-append-drop n sectors)) in
+            subst (λ l. Effect carry base p l (put_back sectors base p.block changed)) (sym old)
+            (subst (λ l. Effect carry base p (take n sectors ++ (window ++ more)) l)
+            (sym (cond-false _ _ _ (le-ltb p.block base from)))
+            (Effect-frame carry (take n sectors) window changed more base p.block p
+            (omega (arith, length-take-le n sectors (omega arith))) (omega arith)
+            (elim (cases_lt (length sectors) (n + block_limit)) [
+              | inl short ↦ inr (drop_all (n + block_limit) sectors (omega arith))
+              | inr long ↦
+                  let size =
+                  length-take-le block_limit (drop n sectors) (omega (arith, length-drop n sectors)) in
+                  inl (omega (arith, ap length is, size, blocks_met-most p kept))
+            ]) h))
+      ]
 ]
+  where
+    -- the patch is refused, and no sector is in hand or put back
+    missing : (p.block < base) ⊎ (base + length sectors ≤ p.block)
+        → hand sectors base p.block ≡ [] → put_back sectors base p.block [] ≡ sectors
+        → Effect carry base p sectors (put_back sectors base p.block changed)
+    missing none empty stays =
+        let size = Effect-length carry p.block p (hand sectors base p.block) changed h in
+        let nothing : changed ≡ [] = nil_from_length changed (size ∙ ap length empty) in
+        subst (λ l. Effect carry base p sectors l)
+        (sym (ap (put_back sectors base p.block) nothing ∙ stays))
+        (Effect-missing carry sectors base p none)
 
 -- ---- a patch on the image is a patch on its hand
 

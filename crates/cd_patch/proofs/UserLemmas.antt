@@ -127,17 +127,13 @@ module _ (carry : Bool) (sectors : List (List ℕ)) (base : ℕ) (p : Patch)
     room : p.offset + length (new_bytes p.edit) ≤ length (user_met sectors base p)
     room = omega (arith, range-inside p, length-user_met)
 
-    pub length-patched : length (patched_user sectors base p) ≡ USER_SIZE * blocks_met p
-    unfolding patched_user
-    length-patched =
-        length-written (user_met sectors base p) p.offset (new_bytes p.edit) room ∙ length-user_met
-
     pub length-user_part : (k : ℕ) → k < blocks_met p
         → length (user_part (patched_user sectors base p) k) ≡ USER_SIZE
-    unfolding user_part
+    unfolding user_part patched_user
     length-user_part k below =
+        let size = length-written (user_met sectors base p) p.offset (new_bytes p.edit) room in
         length-range (patched_user sectors base p) (USER_SIZE * k) (USER_SIZE * (k + 1))
-        (omega arith) (omega (arith, length-patched)) ∙ omega arith
+        (omega arith) (omega (arith, size, length-user_met)) ∙ omega arith
 
     pub AreBytes-user_part : (k : ℕ) → AreBytes (user_part (patched_user sectors base p) k)
     unfolding user_part patched_user

@@ -13,7 +13,7 @@ use Rattle.std.proofs.lemmas.Str.Parse.{IsNumeralModel, digits_value_short, nume
 use Rattle.std.proofs.lemmas.List.{get_or_default, get_or_past}
 use Rattle.std.proofs.lemmas.List.Elements.{All-nil, All-cons}
 use Rattle.std.proofs.lemmas.List.Sums.{AllPass-from_list_all}
-use Rattle.hex.specs.Hex.{decode_of, encode_lower, is_hex_digit}
+use Rattle.hex.specs.Hex.{decode_of, encode_lower}
 use Rattle.hex.proofs.HexLemmas.{decode_of-encode_lower, decode_of-ok}
 use Rattle.cd_script.specs.declared.fault.ScriptFault.{ScriptFault}
 use Rattle.cd_script.specs.declared.fault.ScriptFault.TheVariants.{Address, Number, Hex}
@@ -111,9 +111,6 @@ number-keeps : (w : List ℕ) → IfSome (number w) (λ n. n ≤ number_limit)
 unfolding number
 number-keeps w = grind (arith, nat_tests, digits_value_short digits w digit_limit)
 
-digit-plain : (b : ℕ) → is_ascii_digit b ≡ true → 33 ≤ b
-digit-plain b e = grind (arith, nat_tests)
-
 pub number-kind : (line : ℕ) → IsKind (number_at line) (λ n. n ≤ number_limit) decimal
 unfolding number_at number
 number-kind line = record {
@@ -127,7 +124,7 @@ number-kind line = record {
         plain = record {
           some = some;
           plain = λ k d lt.
-              digit-plain _ (AllPass-from_list_all is_ascii_digit (decimal n) all k d lt);
+              grind (arith, nat_tests, AllPass-from_list_all is_ascii_digit (decimal n) all k d lt);
         };
         reads = rw (le-leb _ _ some, le-leb _ _ few, all, value) refl;
       };
@@ -165,9 +162,6 @@ decoded-encode : (bytes : List ℕ) → All (λ b. b < 256) bytes
 decoded-encode bytes each =
     decode_of-encode_lower bytes (λ i. grind (arith, each i 0, get_or_past bytes i 0))
 
-hex_digit-plain : (b : ℕ) → is_hex_digit b ≡ true → 33 ≤ b
-hex_digit-plain b h = grind (arith, nat_tests)
-
 hex-spells : (line : ℕ) (bytes : List ℕ) → 1 ≤ length bytes → All (λ b. b < 256) bytes
     → Spells (hex_at line) (encode_lower bytes) bytes
 unfolding hex_at
@@ -177,7 +171,7 @@ hex-spells line bytes some each =
     record {
       plain = record {
         some = omega (arith, parts.2);
-        plain = λ k d lt. hex_digit-plain _ (parts.1 k d lt);
+        plain = λ k d lt. grind (arith, nat_tests, parts.1 k d lt);
       };
       reads =
           ap (λ (o : Option (List ℕ)). ok_or o (Hex line))

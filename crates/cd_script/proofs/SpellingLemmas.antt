@@ -135,14 +135,12 @@ lines-spelled ws rest h =
     ∙ lines-cut (join_with_byte 32 ws) rest none
     ∙ ap (λ (l : List ℕ). l ∷ lines rest) (strip-plain (join_with_byte 32 ws) plain)
 
-line_at-spelled : (version : Version) (line earlier : ℕ) (p : Patch) → IsPatch p
-    → has_form version p.edit ≡ true → earlier < patch_limit
+line_at-spelled : (version : Version) (line earlier : ℕ) (p : Patch)
+    → IsSpelled version line p.block p.offset p.edit → earlier < patch_limit
     → line_at version line earlier (join_with_byte 32 (edit_words p.block p.offset p.edit))
     ≡ Ok (Some (record p { line = line }))
 unfolding line_at
-line_at-spelled version line earlier p fits form few =
-    let is =
-    edit_words-spelled version line p.block p.offset p.edit fits.block fits.offset fits.edit form in
+line_at-spelled version line earlier p is few =
     let found = words-join (edit_words p.block p.offset p.edit) is.words in
     let test : nat_le patch_limit earlier ≡ false = grind (arith, nat_tests) in
     rw (found, is.patch, is.reads, test) refl
@@ -164,7 +162,7 @@ patches_from-spelled version line earlier (p ∷ ps) each forms few =
     ≡ join_with_byte 32 (edit_words p.block p.offset p.edit) ∷ lines rest =
     ap lines (flat_map-cons spelled_patch p ps)
     ∙ lines-spelled (edit_words p.block p.offset p.edit) rest is.words in
-    let one = line_at-spelled version line earlier p fits form (omega arith) in
+    let one = line_at-spelled version line earlier p is (omega arith) in
     let others =
     patches_from-spelled version (line + 1) (earlier + 1) ps (All-tail IsPatch p ps each)
     (All-tail (λ p. has_form version p.edit ≡ true) p ps forms) (omega arith) in

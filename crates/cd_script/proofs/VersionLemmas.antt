@@ -1,5 +1,5 @@
 -- The first version means what it meant before there was a second, and the second extends it.
-use Rattle.std.proofs.Common.{◌≡◌, ◌≢◌, ℕ, ◌+◌, Bool, true, false, cond, List, [], ◌∷◌, length, Option, Some, None, Result, Ok, Err, refl, ap, arith}
+use Rattle.std.proofs.Common.{◌≡◌, ◌≢◌, ℕ, ◌+◌, Bool, true, false, cond, List, [], ◌∷◌, length, Option, Some, Result, Ok, Err, refl, ap, arith}
 use Rattle.std.specs.Prelude.{All}
 use Rattle.std.specs.List.{cons_option}
 use Rattle.std.specs.Option.{option_to_list}
@@ -12,7 +12,7 @@ use Rattle.cd_script.specs.declared.version.Version.{Version}
 use Rattle.cd_script.specs.declared.version.Version.TheVariants.{One, Two}
 use Rattle.cd_script.specs.Line.{patch_at, patch_by}
 use Rattle.cd_script.specs.FirstFault.{◌>>=◌}
-use Rattle.cd_script.specs.Script.{at_limit, head_version, is_passed_over, line_at, patches_after, patches_from, script, script_from}
+use Rattle.cd_script.specs.Script.{head_version, is_passed_over, line_at, patches_after, patches_from, script, script_from}
 use Rattle.cd_script.specs.Versions.{is_first_head, first_line_at, first_patches_from, first_script_from, first_script, version_of, has_new_verb}
 use Rattle.cd_script.specs.Words.{words}
 
@@ -67,22 +67,14 @@ pub old_verb : (version : Version) (line : ℕ) (ws : List (List ℕ)) → has_n
 unfolding patch_by
 old_verb version line ws old = grind arith
 
-second-line : (line earlier : ℕ) (text : List ℕ) → has_new_verb (words text) ≡ false
-    → line_at Two line earlier text ≡ line_at One line earlier text
-unfolding line_at patch_by
-second-line line earlier text old =
-    ap (λ (r : Result Patch ScriptFault).
-    cond (is_passed_over (words text)) (Ok None) (r >>= at_limit line earlier))
-    (old_verb Two line (words text) old)
-
 pub second-extends : (line earlier : ℕ) (texts : List (List ℕ))
     → All (λ text. has_new_verb (words text) ≡ false) texts
     → patches_from Two line earlier texts ≡ patches_from One line earlier texts
-unfolding patches_from
+unfolding patches_from line_at patch_by
 second-extends line earlier [] old = refl
 second-extends line earlier (text ∷ rest) old =
     let here =
-    second-line line earlier text
+    old_verb Two line (words text)
     (All-head (λ text. has_new_verb (words text) ≡ false) text rest old) in
     let later = All-tail (λ text. has_new_verb (words text) ≡ false) text rest old in
     rw here (same_rest (line_at One line earlier text) _ _ (λ found.

@@ -1,5 +1,5 @@
-use Rattle.std.proofs.Common.{◌≡◌, ◌+◌, ◌%◌, get_or, sym, ap, ◌∙◌, below_more, arith}
-use Rattle.cd_patch.proofs.DecidingLemmas.{user_byte, read-byte, no_difference, a_difference, Some-same}
+use Rattle.std.proofs.Common.{◌+◌, sym, ◌∙◌, below_more, arith}
+use Rattle.cd_patch.proofs.DecidingLemmas.{read-byte, no_difference, a_difference, Some-same}
 use Rattle.cd_patch.proofs.deciding.first_difference.Goals as goal
 
 pub loop-i-preserved : goal.loop-i-preserved
