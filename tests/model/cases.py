@@ -180,7 +180,7 @@ def some_script(dice, image, base, carry):
     """A script: most often right, else with faulty lines, a wrong head, or about as many patches as there may be."""
     note, count, version = '', len(image) // SIZE, dice.choice([1, 1, 2, 2, 2])
     head = [b'cdpatch', str(version).encode()]
-    state = dice.choices(['right', 'faulty', 'head', 'many'], [62, 28, 5, 5])[0]
+    state = dice.choices(['right', 'faulty', 'head', 'many'], [63, 29, 5, 3])[0]
     if state == 'many':
         more, last = dice.choice([(0, b''), (0, b''), (1, b''), (1, b'put 0\n'), (0, b'set 0 0 4\n')])
         return b'cdpatch 1\n' + (MOST_PATCHES + more) * b'rebuild 999999999\n' + last, note
