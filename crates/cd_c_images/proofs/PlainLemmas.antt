@@ -1,15 +1,9 @@
 -- The clauses of the calls: the plain ones follow from the whole one.
-use Rattle.std.proofs.Common.{◌≡◌, ◌≢◌, ℕ, ◌+◌, ◌<◌, ◌⊎◌, Bool, false, List, [], length, Result, Ok, Err}
+use Rattle.std.proofs.Common.{◌≡◌, ◌≢◌, ℕ, ◌+◌, ◌<◌, ◌⊎◌, Bool, false, List, [], length}
 use Rattle.std.proofs.Common.{inl, inr, refl, ap, ◌∙◌, arith}
 use Rattle.cd_args.specs.Fault.{failed_status}
-use Rattle.cd_program.specs.Commands.{Ends, script_status}
-use Rattle.cd_image.specs.Applying.{Applies, null_outgoing, streams}
-use Rattle.cd_image.specs.declared.patch_log.Tally.{Tally}
+use Rattle.cd_image.specs.Applying.{null_outgoing}
 use Rattle.cd_read.specs.Image.{image_limit}
-use Rattle.cd_read.specs.declared.fault.Fault.{Fault}
-use Rattle.cd_read.specs.declared.fault.Fault.TheVariants.{Log, Read, TooLong, Write}
-use Rattle.std.proofs.lemmas.Bool.{cases_lt}
-use Rattle.cd_memory.specs.Memory.{fresh_incoming}
 use Rattle.cd_rooms.proofs.RoomLemmas.{holds-text, same-text}
 use Rattle.cd_rooms.specs.Rooms.{FillsCounted, FillsRoom, Holds, fresh_over}
 use Rattle.cd_stream.specs.Stream.{Outgoing}
