@@ -66,7 +66,7 @@ async function report(run, textOf) {
     const { reader, base } = await openImage(run);
     if (imageTooLong(reader.size)) throw new ProgramFault(MESSAGES.long_image);
     const survey = await orSay(OF_IMAGES, () => run.survey(reader, base));
-    const { status, text } = textOf(run.calls, survey, reader.size % SECTOR_SIZE);
+    const { status, text } = textOf(survey, reader.size % SECTOR_SIZE);
     await run.output.write(text);
     return status;
 }
@@ -98,7 +98,7 @@ async function patchesOfScript(run) {
  * @param {Run} run
  * @param {{ reader: Reader, base: number }} image
  * @param {Patch[]} patches
- * @param {(piece: Piece) => void | Promise<void>} take
+ * @param {(piece: Piece) => void | Promise<void>} [take]
  */
 async function patch(run, { reader, base }, patches, take) {
     const { carry = false } = run.options;
@@ -112,7 +112,7 @@ async function patch(run, { reader, base }, patches, take) {
 /** @param {Run} run */
 export async function checkJob(run) {
     const patches = await patchesOfScript(run);
-    return patch(run, await openImage(run), patches, () => {});
+    return patch(run, await openImage(run), patches);
 }
 
 /** @param {Run} run */

@@ -7,7 +7,7 @@ import { Fault } from '../core/faults.js';
 import { findIn, sectorsBeyond } from '../core/find.js';
 import { leftText } from '../core/lines.js';
 import { ScriptParts } from '../core/output.js';
-import { checkPatches } from '../core/patch.js';
+import { passPatched } from '../core/patch.js';
 import { Refusal, patchesOf } from '../core/script.js';
 import { SECTOR_SIZE, USER_SIZE } from '../core/sector.js';
 import { encodeText } from '../core/text.js';
@@ -138,7 +138,7 @@ async function replacedEverywhere(run, image, { encoding, places }, before, afte
  */
 async function assertFits(run, image, script) {
     const patches = await patchesOf(run.calls, script.pieces, true);
-    const checked = patches instanceof Refusal ? patches : await checkPatches(run.calls, image.reader, patches, image.base, false);
+    const checked = patches instanceof Refusal ? patches : await passPatched(run.calls, image.reader, patches, image.base, false);
     if (checked instanceof Refusal || checked.status !== 0) throw new Fault('the patches do not fit together, so no script is written');
 }
 

@@ -1,9 +1,9 @@
 // What a job works with: its arguments, files, output, messages, the calls, and threads.
 
 import { gunzipSync } from 'node:zlib';
+import { joinedBytes } from '../core/bytes.js';
 import { Calls } from '../core/codes.js';
 import { sectorCount } from '../core/sector.js';
-import { joinSurveys } from '../core/survey.js';
 import { Messages, Output } from './output.js';
 import { Threads } from './threads.js';
 
@@ -66,7 +66,7 @@ export class Run {
         const parts = [];
         const { crew, how } = this.sharing(sectorCount(reader.size));
         await crew.share('survey', [reader], {}, { ...how, base }, part => { parts.push(part); });
-        return joinSurveys(parts, base);
+        return { block: base, records: joinedBytes(parts.map(part => part.records)) };
     }
 
     close() {

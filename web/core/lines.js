@@ -121,17 +121,14 @@ export class LineList extends ByteList {
  * @param {Uint8Array} fresh
  */
 function* differingRuns(old, fresh) {
-    for (let at = 0; at < USER_SIZE;) {
-        while (at < USER_SIZE && old[at] === fresh[at]) at += 1;
-        if (at === USER_SIZE) return;
-        const from = at;
-        let end = at + 1;
-        for (at = end; at < USER_SIZE && at - end <= JOINED_BYTES; at++) {
-            if (old[at] !== fresh[at]) end = at + 1;
-        }
-        at = end;
-        yield { from, end };
+    let [from, end] = [0, 0];
+    for (let at = 0; at < USER_SIZE; at++) {
+        if (old[at] === fresh[at]) continue;
+        if (end > 0 && at - end > JOINED_BYTES) yield { from, end };
+        if (end === 0 || at - end > JOINED_BYTES) from = at;
+        end = at + 1;
     }
+    if (end > 0) yield { from, end };
 }
 
 /**
@@ -195,9 +192,7 @@ class Writing {
         }
         this.leave(i, 'damaged');
         if (!this.heal) return;
-        const healed = fresh.slice();
-        this.calls.rebuild(healed);
-        this.lead(i, old, healed, damaged);
+        this.lead(i, old, this.calls.encode(after, userOf(fresh, 0)), damaged);
     }
 
     /**
@@ -263,10 +258,11 @@ function firstWrong(calls, lines, { blocks, old, fresh }, carry) {
         const line = calls.firstLine(at) || { size: 0, taken: 0 };
         number += 1;
         if (calls.readLine(lines.version, number, 0, at, line.size) !== CONTENT.PATCH) return i;
-        while (blocks[i] < calls.blockRead()) i += 1;
-        if (blocks[i] !== calls.blockRead()) return Math.min(i, blocks.length - 1);
+        const { block, bytes } = calls.patchRead();
+        while (blocks[i] < block) i += 1;
+        if (blocks[i] !== block) return Math.min(i, blocks.length - 1);
         const there = Math.min(SECTORS_IN_HAND, blocks.length - i);
-        if (calls.applyRead(i * SECTOR_SIZE, there, carry).result !== RESULT.OK) return i;
+        if (calls.applyPatch(bytes, i * SECTOR_SIZE, there, carry).result !== RESULT.OK) return i;
         at += line.taken;
     }
     const wrong = differingSectors(calls.held(0, old.length), fresh);

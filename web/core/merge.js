@@ -5,8 +5,8 @@ import { tailsDiffer } from './compare.js';
 import { Fault } from './faults.js';
 import { RECORD, RECORD_SIZE, SECTOR_KIND } from './records.js';
 import { addToRuns, runOf } from './runs.js';
-import { SECTOR_SIZE, addressIn, differingSectors, sectorCount, sectorOf } from './sector.js';
-import { isDamaged, surveyRange } from './survey.js';
+import { SECTOR_SIZE, addressIn, differingSectors, sectorCount, sectorOf, sectorsAt } from './sector.js';
+import { isSound } from './survey.js';
 
 /** @typedef {import('./codes.js').Calls} Calls */
 /** @typedef {import('./bytes.js').Piece} Piece */
@@ -58,9 +58,9 @@ class Merging {
         this.first = first;
         this.shift = shift;
         this.others = others;
-        this.records = surveyRange(calls, old, first).records;
+        this.records = calls.survey(old, first);
         this.numbers = others.map((_, other) => other);
-        this.otherRecords = others.map(other => differingRecords(calls, old, other, first));
+        this.otherRecords = others.map(other => differingRecords(calls, old, other));
         /** @type {Uint8Array[]} */
         this.sectors = [];
         this.found = nothingFound(others.length);
@@ -76,7 +76,7 @@ class Merging {
         }
         const fit = sound.filter(other => this.isHome(other, i));
         if (fit.length > 0) this.take(i, fit);
-        else if ([this.records, ...this.otherRecords].some(records => isMode1(records, at))) {
+        else if ([this.records, ...this.otherRecords].some(records => records[at + RECORD.KIND] === SECTOR_KIND.MODE1)) {
             addToRuns(this.found.damaged, { ...runOf(this.first + i), elsewhere: sound.length > 0 });
         }
     }
@@ -113,37 +113,16 @@ function nothingFound(others) {
 }
 
 /**
- * @param {Uint8Array} records
- * @param {number} at
- */
-function isMode1(records, at) {
-    return records[at + RECORD.KIND] === SECTOR_KIND.MODE1;
-}
-
-/**
- * @param {Uint8Array} records
- * @param {number} at
- */
-function isSound(records, at) {
-    return isMode1(records, at) && !isDamaged(records, at);
-}
-
-/**
  * The records of the sectors of another image that differ, with those of a sector without sync field for the others.
  * @param {Calls} calls
  * @param {Uint8Array} old
  * @param {Uint8Array} other
- * @param {number} first
  */
-function differingRecords(calls, old, other, first) {
+function differingRecords(calls, old, other) {
     const records = new Uint8Array(RECORD_SIZE * sectorCount(old.length));
-    /** @type {Run[]} */
-    const runs = [];
-    for (const i of differingSectors(old, other)) addToRuns(runs, runOf(i));
-    for (const run of runs) {
-        const bytes = other.subarray(run.first * SECTOR_SIZE, (run.last + 1) * SECTOR_SIZE);
-        records.set(surveyRange(calls, bytes, first + run.first).records, run.first * RECORD_SIZE);
-    }
+    const places = differingSectors(old, other);
+    const found = calls.survey(sectorsAt(other, places), 0);
+    places.forEach((place, i) => records.set(found.subarray(RECORD_SIZE * i, RECORD_SIZE * (i + 1)), RECORD_SIZE * place));
     return records;
 }
 

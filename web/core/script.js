@@ -29,50 +29,6 @@ export class Refusal {
     }
 }
 
-/** Cuts a text into lines, as its pieces come. */
-class LineCutter {
-    /**
-     * @param {Calls} calls
-     * @param {(from: number, size: number) => boolean} visit is given each line by its place in what is held; false is 'enough'
-     */
-    constructor(calls, visit) {
-        this.calls = calls;
-        this.visit = visit;
-        this.text = new ByteList();
-        this.wanted = TEXT_WINDOW;
-        this.going = true;
-    }
-
-    /** @param {Uint8Array} piece */
-    push(piece) {
-        for (let at = 0; at < piece.length && this.going; at += TEXT_WINDOW) {
-            this.text.push(piece.subarray(at, at + TEXT_WINDOW));
-            if (this.text.size >= this.wanted) this.cut(false);
-        }
-    }
-
-    end() {
-        if (this.going) this.cut(true);
-    }
-
-    /**
-     * A line that ends where the text does so far may go on. It waits until there is twice as much.
-     * @param {boolean} whole whether no piece is to come
-     */
-    cut(whole) {
-        this.calls.hold(this.text.bytes());
-        let from = 0;
-        while (this.going) {
-            const line = this.calls.firstLine(from);
-            if (line === null || (!whole && from + line.taken === this.text.size)) break;
-            this.going = this.visit(from, line.size);
-            from += line.taken;
-        }
-        this.text.drop(from);
-        this.wanted = Math.max(TEXT_WINDOW, 2 * this.text.size);
-    }
-}
-
 /** The patches of the lines so far, or the fault of the last one. */
 class ScriptReading {
     /**
@@ -82,6 +38,8 @@ class ScriptReading {
     constructor(calls, long) {
         this.calls = calls;
         this.long = long;
+        this.text = new ByteList();
+        this.wanted = TEXT_WINDOW;
         this.version = 0;
         this.number = 0;
         /** @type {Patch[]} */
@@ -89,23 +47,47 @@ class ScriptReading {
         this.fault = 0;
     }
 
+    /** @param {Uint8Array} piece */
+    push(piece) {
+        for (let at = 0; at < piece.length && this.fault === 0; at += TEXT_WINDOW) {
+            this.text.push(piece.subarray(at, at + TEXT_WINDOW));
+            if (this.text.size >= this.wanted) this.readLines(false);
+        }
+    }
+
     /**
-     * Reads the next line, and returns whether the script has no fault so far.
+     * Reads the lines of the text so far. One that ends where the text does may go on: it waits until there is twice as much.
+     * @param {boolean} whole whether no piece is to come
+     */
+    readLines(whole) {
+        this.calls.hold(this.text.bytes());
+        let from = 0;
+        while (this.fault === 0) {
+            const line = this.calls.firstLine(from);
+            if (line === null || (!whole && from + line.taken === this.text.size)) break;
+            this.readLine(from, line.size);
+            from += line.taken;
+        }
+        this.text.drop(from);
+        this.wanted = Math.max(TEXT_WINDOW, 2 * this.text.size);
+    }
+
+    /**
      * @param {number} from
      * @param {number} size
      */
-    read(from, size) {
+    readLine(from, size) {
         this.number += 1;
         const earlier = this.long ? 0 : this.patches.length;
         const content = this.calls.readLine(this.version, this.number, earlier, from, size);
         if (content === CONTENT.PATCH) this.patches.push({ number: this.number, ...this.calls.patchRead() });
         else if (content > CONTENT.PATCH) this.fault = content;
         else if (content !== CONTENT.NOTHING) this.version = content;
-        return this.fault === 0;
     }
 
-    /** The patches in the order in which they are applied, after the last line. */
+    /** The patches in the order in which they are applied, after the last piece. */
     answer() {
+        this.readLines(true);
         if (this.fault === 0 && this.version === 0) {
             this.number += 1;
             this.fault = CONTENT.NO_HEAD;
@@ -124,13 +106,11 @@ class ScriptReading {
  */
 export async function patchesOf(calls, pieces, long = false) {
     const reading = new ScriptReading(calls, long);
-    const cutter = new LineCutter(calls, (from, size) => reading.read(from, size));
     let size = 0;
     for await (const piece of pieces) {
         size += piece.length;
         if (!long && size > MOST_SCRIPT_BYTES) return new Refusal('script-too-long');
-        cutter.push(piece);
+        reading.push(piece);
     }
-    cutter.end();
     return reading.answer();
 }

@@ -1,7 +1,7 @@
 // What is done with a script and an image: checking, and saving the patched image.
 
 import { JobAborted } from '../core/jobs.js';
-import { checkPatches, applyPatches, passPatched } from '../core/patch.js';
+import { applyPatches, passPatched } from '../core/patch.js';
 import { Refusal, patchesOf } from '../core/script.js';
 import { RunningHash, sha1Of } from './crew.js';
 import { canStream, chosenFile, download } from './files_out.js';
@@ -81,7 +81,7 @@ export function watched(reader, { signal, progress }) {
  */
 export async function checkWork(app, { reader, base, script, carry }, watch) {
     const patches = await readPatches(app, script);
-    return accepted(await checkPatches(app.calls, watched(reader, watch), patches, base, carry));
+    return accepted(await passPatched(app.calls, watched(reader, watch), patches, base, carry));
 }
 
 /**
