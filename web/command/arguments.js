@@ -3,6 +3,7 @@
 import { Fault } from '../core/faults.js';
 import { encodingOf } from '../core/text.js';
 import { FORMS, OPTION_FORMS } from './forms.js';
+import { LAST_BASE, MOST_BLOCKS, numberOf } from './numbers.js';
 
 /**
  * The options that were given, by their names in OPTION_FORMS.
@@ -15,22 +16,7 @@ import { FORMS, OPTION_FORMS } from './forms.js';
 /** Options of which only one is given. */
 const EXCLUDING = [['encoding', 'table'], ['fields', 'skipDamaged']];
 
-const LAST_BASE = 449849;
 const LAST_TRACK = 99;
-const MOST_BLOCKS = 999999999;
-
-/**
- * A number of one to nine decimal digits within its limits.
- * @param {string} text
- * @param {string} name of what it is
- * @param {number} least
- * @param {number} most
- */
-function numberOf(text, name, least, most) {
-    const number = /^[0-9]{1,9}$/.test(text) ? Number(text) : NaN;
-    if (number >= least && number <= most) return number;
-    throw new Fault(`${name} is a number from ${least} to ${most}, not '${text}'`);
-}
 
 /** @param {string} text */
 function fillOf(text) {
@@ -143,14 +129,4 @@ export function argumentsOf(words) {
     }
     if (!options.help) checkNames(job, names);
     return { job, names, options };
-}
-
-/** @param {string} text */
-export function blockOf(text) {
-    return numberOf(text, 'a block', 0, MOST_BLOCKS);
-}
-
-/** @param {string} text */
-export function offsetOf(text) {
-    return numberOf(text, 'an offset', 0, 2047);
 }

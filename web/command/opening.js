@@ -70,7 +70,7 @@ export async function openTrack(run, name) {
     }
     if (image.addressed !== image.base) {
         const why = image.addressed === null ? 'do not say its first block' : 'begin before block 0';
-        run.messages.say(`the addresses in ${image.name} ${why}; its first block counts as ${image.base} here, see --base`);
+        run.say(`the addresses in ${image.name} ${why}; its first block counts as ${image.base} here, see --base`);
     }
     return { disc, track, image, part };
 }

@@ -65,7 +65,7 @@ export async function hitsOf(run, part, text, limit) {
         const found = await hitsIn(run, part, encoding, text, limit);
         if (found.count === 0) continue;
         const { encoding: named, table } = run.options;
-        if (named === undefined && table === undefined) run.messages.say(`the text stands there in ${encoding.name}`);
+        if (named === undefined && table === undefined) run.say(`the text stands there in ${encoding.name}`);
         return { ...found, encoding };
     }
     return null;
@@ -82,8 +82,7 @@ async function hitsIn(run, part, encoding, text, limit) {
     const wanted = encoding.units(text);
     /** @type {Found[]} */
     const parts = [];
-    const { crew, how } = run.sharing(part.sectors);
-    const sharing = { ...how, base: part.base, beyond: sectorsBeyond(wanted) };
-    await crew.share('find', [part.reader], { wanted, limit }, sharing, found => { parts.push(found); });
+    const how = { base: part.base, beyond: sectorsBeyond(wanted) };
+    await run.crew.share('find', [part.reader], { wanted, limit }, how, found => void parts.push(found));
     return joinFound(parts, limit);
 }

@@ -29,8 +29,8 @@ export function linesOfRuns(runs, textOf) {
  * @param {R[]} runs
  * @param {(run: R) => string} textOf
  */
-export function sayOfRuns({ messages }, runs, textOf) {
-    linesOfRuns(runs, textOf).forEach(line => messages.say(line));
+export function sayOfRuns(run, runs, textOf) {
+    linesOfRuns(runs, textOf).forEach(line => run.say(line));
 }
 
 /** @param {string[]} lines */

@@ -10,7 +10,7 @@ import { isSound } from './survey.js';
 
 /** @typedef {import('./codes.js').Calls} Calls */
 /** @typedef {import('./bytes.js').Reader} Reader */
-/** @typedef {import('./jobs.js').Crew} Crew */
+/** @typedef {import('./jobs.js').Sharer} Sharer */
 /** @typedef {import('./jobs.js').Sharing} Sharing */
 /** @typedef {import('./lines.js').Left} Left */
 /** @typedef {import('./lines.js').Lines} Lines */
@@ -45,7 +45,7 @@ export function diffRange(calls, old, fresh, first, how) {
  * The script that leads from OLD to NEW. There is none if a block is left that no script can say, but damaged ones of NEW may be left
  * out. Throws a Fault.
  * @param {Calls} calls
- * @param {Crew} crew
+ * @param {Sharer} crew
  * @param {Reader} old
  * @param {Reader} fresh
  * @param {Sharing & { skipDamaged?: boolean }} how

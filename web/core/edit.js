@@ -14,7 +14,7 @@ import { isSound } from './survey.js';
 /** @typedef {import('./bytes.js').Reader} Reader */
 /** @typedef {import('./disc.js').DiscImage} DiscImage */
 /** @typedef {import('./iso.js').FileEntry} FileEntry */
-/** @typedef {import('./jobs.js').Crew} Crew */
+/** @typedef {import('./jobs.js').Sharer} Sharer */
 /** @typedef {import('./jobs.js').Sharing} Sharing */
 /** @typedef {import('./lines.js').Left} Left */
 /** @typedef {import('./lines.js').Lines} Lines */
@@ -172,7 +172,7 @@ export function replaceRange(calls, sectors, wanted, first, { end }) {
 /**
  * The script that replaces a file of a disc. Throws a Fault.
  * @param {Calls} calls
- * @param {Crew} crew
+ * @param {Sharer} crew
  * @param {DiscImage} image the track's
  * @param {FileEntry} file
  * @param {Reader} wanted

@@ -26,6 +26,7 @@ import { surveyRange } from './survey.js';
  * @typedef {{ post(message: Message, transfer: ArrayBuffer[]): void, onreply: (reply: Reply) => void,
  *     onfault: (error: Error) => void }} Hand
  */
+/** @typedef {Pick<Crew, 'share'>} Sharer what shares out a job */
 /**
  * The block of the first sector; how many sectors a range has, and how many after it a job sees; the bytes of a sector in each image, if
  * they are not 2352 in all; who is told of sectors that are done; and what ends the job.

@@ -11,7 +11,7 @@ import { isSound } from './survey.js';
 /** @typedef {import('./codes.js').Calls} Calls */
 /** @typedef {import('./bytes.js').Piece} Piece */
 /** @typedef {import('./disc.js').DiscImage} DiscImage */
-/** @typedef {import('./jobs.js').Crew} Crew */
+/** @typedef {import('./jobs.js').Sharer} Sharer */
 /** @typedef {import('./jobs.js').Sharing} Sharing */
 /** @typedef {import('./runs.js').Run} Run */
 /**
@@ -130,7 +130,7 @@ function differingRecords(calls, old, other) {
  * Repairs an image by others: sectors that are not consistent in it and are in another one, with the block's own address there, are
  * taken whole. The pieces of the repaired image are given to `take` as they come, before it is known whether the repair is refused. The
  * tail stays as it is. Throws a Fault.
- * @param {Crew} crew
+ * @param {Sharer} crew
  * @param {DiscImage} old
  * @param {DiscImage[]} others
  * @param {Sharing} how
