@@ -41,53 +41,40 @@ const VALUES = {
 };
 
 /**
- * The option that a word begins, if it is one, and its value after `=`.
- * @param {string} word
- */
-function optionIn(word) {
-    if (!word.startsWith('-') || word === '-') return null;
-    const [, spelled, value] = /^(--?[^=]*)(?:=(.*))?$/s.exec(word) || ['', word, undefined];
-    const meant = spelled === '-h' ? '--help' : spelled;
-    const name = Object.keys(OPTION_FORMS).find(key => OPTION_FORMS[key].word === meant);
-    if (!name) throw new Fault(`there is no option ${spelled}; a name that begins with - stands after --`);
-    if (value !== undefined && OPTION_FORMS[name].value === '') throw new Fault(`${spelled} takes no value`);
-    return { name, value };
-}
-
-/**
  * Cuts the words of the command line into options and names.
  * @param {string[]} words
  */
 function sorted(words) {
     /** @type {Record<string, any>} */
     const options = {};
+    /** @type {string[]} */
     const names = [];
-    const left = [...words];
-    while (left.length > 0) {
-        const word = left.shift() || '';
-        const option = word === '--' ? null : optionIn(word);
-        if (word === '--') names.push(...left.splice(0));
-        else if (option === null) names.push(word);
-        else takeOption(options, option, left);
+    const left = words.values();
+    for (const word of left) {
+        if (word === '--') names.push(...left);
+        else if (word === '-' || !word.startsWith('-')) names.push(word);
+        else takeOption(options, word, left);
     }
     return { options, names };
 }
 
 /**
  * @param {Record<string, any>} options
- * @param {{ name: string, value: string | undefined }} option
- * @param {string[]} left the words after it
+ * @param {string} word the option, with its value after `=` or without
+ * @param {Iterator<string>} left the words after it
  */
-function takeOption(options, { name, value }, left) {
+function takeOption(options, word, left) {
+    const [, spelled, given] = /^([^=]*)(?:=(.*))?$/s.exec(word) || ['', word, undefined];
+    const meant = spelled === '-h' ? '--help' : spelled;
+    const name = Object.keys(OPTION_FORMS).find(key => OPTION_FORMS[key].word === meant);
+    if (!name) throw new Fault(`there is no option ${spelled}; a name that begins with - stands after --`);
     const form = OPTION_FORMS[name];
+    const isFlag = form.value === '';
+    if (isFlag && given !== undefined) throw new Fault(`${spelled} takes no value`);
     if (name in options) throw new Fault(`${form.word} stands there twice`);
-    if (form.value === '') {
-        options[name] = true;
-        return;
-    }
-    const text = value === undefined ? left.shift() : value;
-    if (text === undefined) throw new Fault(`${form.word} wants ${form.value}`);
-    options[name] = name in VALUES ? VALUES[name](text) : text;
+    const text = isFlag || given !== undefined ? given : left.next().value;
+    if (!isFlag && text === undefined) throw new Fault(`${form.word} wants ${form.value}`);
+    options[name] = isFlag || (name in VALUES ? VALUES[name](text) : text);
 }
 
 /**

@@ -1,9 +1,9 @@
 // How many bytes of which fields differ between two images: `diff --fields`.
 
+import { bytesOfLines } from '../core/bytes.js';
 import { FIELD_COUNT, tailsDiffer } from '../core/compare.js';
 import { Fault } from '../core/faults.js';
 import { FIELDS } from '../core/sector.js';
-import { bytesOfLines } from './words.js';
 
 /** @typedef {import('../core/compare.js').Differing} Differing */
 /** @typedef {import('../core/disc.js').DiscImage} DiscImage */

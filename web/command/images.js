@@ -1,5 +1,6 @@
 // The jobs that write images: `merge`, `raw`, `user` and `extract`.
 
+import { bytesOfLines } from '../core/bytes.js';
 import { Fault } from '../core/faults.js';
 import { natureOf, sliceOf } from '../core/image.js';
 import { mergeImages } from '../core/merge.js';
@@ -8,7 +9,7 @@ import { addToRuns, blocksIn, blocksText } from '../core/runs.js';
 import { SECTOR_SIZE, USER_SIZE } from '../core/sector.js';
 import { fileNamed } from './looking.js';
 import { openTrack } from './opening.js';
-import { bytesOfLines, linesOfRuns, sayOfRuns } from './words.js';
+import { linesOfRuns, sayOfRuns } from './words.js';
 
 /** @typedef {import('../core/merge.js').Repair} Repair */
 /** @typedef {import('../core/disc.js').DiscImage} DiscImage */

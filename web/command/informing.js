@@ -1,12 +1,11 @@
 // The job `info`: what a file is, with all that is found in it.
 
 import { createHash } from 'node:crypto';
-import { readBytes } from '../core/bytes.js';
+import { bytesOfLines, readBytes } from '../core/bytes.js';
 import { natureOf } from '../core/image.js';
 import { SECTOR_SIZE } from '../core/sector.js';
 import { listText, surveyCounts } from '../core/survey.js';
 import { openDiscOf, openTrack } from './opening.js';
-import { bytesOfLines } from './words.js';
 
 /** @typedef {import('../core/bytes.js').Reader} Reader */
 /** @typedef {import('../core/disc.js').Disc} Disc */

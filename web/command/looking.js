@@ -1,6 +1,6 @@
 // The jobs that look into a data track: `files`, `find` and `show`.
 
-import { readBytes } from '../core/bytes.js';
+import { bytesOfLines, readBytes } from '../core/bytes.js';
 import { Fault } from '../core/faults.js';
 import { VolumeFault, filesAt, filesOf } from '../core/iso.js';
 import { kindName } from '../core/records.js';
@@ -8,7 +8,7 @@ import { FIELDS, SECTOR_SIZE, USER_SIZE, addressIn, addressText, joinedUser } fr
 import { placeOf } from './numbers.js';
 import { openTrack } from './opening.js';
 import { encodingsOf, hitsOf } from './searching.js';
-import { bytesOfLines, hexByte } from './words.js';
+import { hexByte } from './words.js';
 
 /** @typedef {import('../core/disc.js').DiscImage} DiscImage */
 /** @typedef {import('../core/edit.js').Place} Place */

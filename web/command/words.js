@@ -32,8 +32,3 @@ export function linesOfRuns(runs, textOf) {
 export function sayOfRuns(run, runs, textOf) {
     linesOfRuns(runs, textOf).forEach(line => run.say(line));
 }
-
-/** @param {string[]} lines */
-export function bytesOfLines(lines) {
-    return new TextEncoder().encode(lines.map(line => `${line}\n`).join(''));
-}

@@ -70,6 +70,11 @@ export function joinedBytes(parts) {
     return whole;
 }
 
+/** @param {string[]} lines without their ends */
+export function bytesOfLines(lines) {
+    return new TextEncoder().encode(lines.map(line => `${line}\n`).join(''));
+}
+
 /**
  * Whether as many bytes are the same.
  * @param {Uint8Array} a

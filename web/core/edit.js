@@ -176,21 +176,19 @@ export function replaceRange(calls, sectors, wanted, first, { end }) {
  * @param {DiscImage} image the track's
  * @param {FileEntry} file
  * @param {Reader} wanted
- * @param {Sharing & { fill?: number | null }} how with a byte to fill up with
+ * @param {Sharing & { fill?: number }} how with the byte that fills up
  * @returns {Promise<Replacement>}
  */
-export async function replaceFile(calls, crew, image, file, wanted, { fill = null, ...how } = {}) {
+export async function replaceFile(calls, crew, image, file, wanted, { fill = 0, ...how } = {}) {
     if (file.fault !== '') throw new Fault(`${file.path}: ${file.fault}`);
-    if (wanted.size > file.size || (wanted.size < file.size && fill === null)) {
-        throw new Fault(`${file.path} has ${file.size} bytes, the new file ${wanted.size}`);
-    }
+    if (wanted.size > file.size) throw new Fault(`${file.path} has ${file.size} bytes, the new file ${wanted.size}`);
     const count = Math.ceil(file.size / USER_SIZE);
     const first = file.block - image.base;
     const sectors = sliceOf(image.reader, first * SECTOR_SIZE, (first + count) * SECTOR_SIZE);
     const parts = new ScriptParts();
     const args = { end: file.block * USER_SIZE + file.size };
     const sharing = { ...how, base: file.block, units: [SECTOR_SIZE, USER_SIZE] };
-    const readers = [sectors, filledReader(wanted, count * USER_SIZE, fill || 0)];
+    const readers = [sectors, filledReader(wanted, count * USER_SIZE, fill)];
     await crew.share('replace', readers, args, sharing, lines => parts.push(lines));
     return { script: parts.left.length > 0 ? null : parts.script(calls), left: parts.left };
 }

@@ -1,5 +1,6 @@
 // What is found in sectors: their records, and the reports of `list` and `audit`.
 
+import { bytesOfLines } from './bytes.js';
 import { RECORD, RECORD_SIZE, SECTOR_KIND, kindName } from './records.js';
 
 /** @typedef {import('./codes.js').Calls} Calls */
@@ -72,29 +73,21 @@ export function* kindRuns({ block, records }) {
 }
 
 /**
- * A report of some lines.
- * @param {number} status
- * @param {string[]} lines
- * @returns {Report}
- */
-function reportOf(status, lines) {
-    return { status, text: new TextEncoder().encode(`${lines.join('\n')}\n`) };
-}
-
-/**
  * What `list` prints.
  * @param {Survey} survey of the whole image
  * @param {number} tail how many bytes follow the last sector
+ * @returns {Report}
  */
 export function listText(survey, tail) {
     const lines = Array.from(kindRuns(survey), ({ first, last, kind }) => `${first}-${last} ${kindName(kind)}`);
-    return reportOf(0, [...lines, `sectors ${surveyCounts(survey).sectors} tail ${tail}`]);
+    return { status: 0, text: bytesOfLines([...lines, `sectors ${surveyCounts(survey).sectors} tail ${tail}`]) };
 }
 
 /**
  * What `audit` prints.
  * @param {Survey} survey of the whole image
  * @param {number} tail how many bytes follow the last sector
+ * @returns {Report}
  */
 export function auditText(survey, tail) {
     const { block, records } = survey;
@@ -105,5 +98,6 @@ export function auditText(survey, tail) {
         if (found.length > 0) lines.push(`${block + at / RECORD_SIZE}${found.join('')}`);
     }
     const { sectors, mode1, damaged } = surveyCounts(survey);
-    return reportOf(Number(lines.length > 0), [...lines, `sectors ${sectors} mode1 ${mode1} damaged ${damaged} tail ${tail}`]);
+    const text = bytesOfLines([...lines, `sectors ${sectors} mode1 ${mode1} damaged ${damaged} tail ${tail}`]);
+    return { status: Number(lines.length > 0), text };
 }
