@@ -4,7 +4,7 @@ import assert from 'node:assert/strict';
 import { test } from 'node:test';
 import { calls, core, decoded, diceOf, encoded, joinedPieces, readerOf, sameBytes, someImage } from './common.mjs';
 
-const { Refusal, patchesOf } = await core('script.js');
+const { patchesOf } = await core('script.js');
 const { applyPatches, passPatched } = await core('patch.js');
 const { bytesOfPieces } = await core('bytes.js');
 const { MOST_SECTORS } = await core('sector.js');
@@ -141,12 +141,8 @@ test('a piece that cannot be written reaches the caller', async () => {
     }
 });
 
-test('an image of more sectors than the program takes', async () => {
+test('an image of as many sectors as the program takes, and a script without patches', async () => {
     const reader = readerOf(image);
-    for (const job of [applyPatches, passPatched]) {
-        const made = await job(calls, { ...reader, size: MOST_SECTORS * 2352 + 1 }, [], 0, false);
-        assert.ok(made instanceof Refusal && made.reason === 'image-too-long' && made.text.length === 0);
-    }
     assert.equal((await passPatched(calls, { ...reader, size: MOST_SECTORS * 2352 }, [], 0, false)).status, 0);
     assert.equal(reader.reads.length, 0);
 });

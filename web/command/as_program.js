@@ -103,7 +103,7 @@ async function patchesOfScript(run) {
     const pieces = run.files.piecesOf(run.names[1]);
     const patches = await orSay(OF_SCRIPTS, () => patchesOf(run.calls, pieces, run.options.long));
     if (!(patches instanceof Refusal)) return patches;
-    throw new ProgramFault(patches.reason === 'script-too-long' ? MESSAGES.long_script : patches.text);
+    throw new ProgramFault(patches.reason === 'too-long' ? MESSAGES.long_script : patches.text);
 }
 
 /**
@@ -115,8 +115,8 @@ async function patchesOfScript(run) {
  */
 async function patch(run, { reader, base }, patches, take) {
     const { carry = false } = run.options;
+    if (imageTooLong(reader.size)) throw new ProgramFault(MESSAGES.long_image);
     const made = await orSay(OF_IMAGES, () => passPatched(run.calls, reader, patches, base, carry, take));
-    if (made instanceof Refusal) throw new ProgramFault(MESSAGES.long_image);
     await run.output.write(made.text);
     run.output.flush();
     return made.status;

@@ -138,8 +138,8 @@ async function replacedEverywhere(run, image, { encoding, places }, before, afte
  */
 async function assertFits(run, image, script) {
     const patches = await patchesOf(run.calls, script.pieces, true);
-    const checked = patches instanceof Refusal ? patches : await passPatched(run.calls, image.reader, patches, image.base, false);
-    if (checked instanceof Refusal || checked.status !== 0) throw new Fault('the patches do not fit together, so no script is written');
+    const fit = !(patches instanceof Refusal) && (await passPatched(run.calls, image.reader, patches, image.base, false)).status === 0;
+    if (!fit) throw new Fault('the patches do not fit together, so no script is written');
 }
 
 /** @param {Run} run */

@@ -68,8 +68,7 @@ export async function rebuildsJob(run) {
 
 /** @param {Refusal} refusal */
 function refusalText({ reason, text }) {
-    if (reason === 'script-fault') return new TextDecoder().decode(text).trim();
-    return (reason === 'script-too-long' ? MESSAGES.long_script : MESSAGES.long_image).replace(/^cdpatch: /, '');
+    return reason === 'fault' ? new TextDecoder().decode(text).trim() : MESSAGES.long_script.replace(/^cdpatch: /, '');
 }
 
 /** @param {Run} run */

@@ -2,8 +2,7 @@
 
 import { ByteList, PieceCutter, joinedBytes, readBytes } from './bytes.js';
 import { RESULT, patchFields } from './records.js';
-import { SECTOR_SIZE, USER_SIZE, imageTooLong, sectorCount } from './sector.js';
-import { Refusal } from './script.js';
+import { SECTOR_SIZE, USER_SIZE, sectorCount } from './sector.js';
 
 /** @typedef {import('./codes.js').Calls} Calls */
 /** @typedef {import('./bytes.js').Reader} Reader */
@@ -145,18 +144,17 @@ function patchedOf(calls, outcomes) {
 }
 
 /**
- * What becomes of patches on an image. The pieces of the patched image are given to `take` as soon as no later patch can meet them, in
- * order.
+ * What becomes of patches on an image that is not too long. The pieces of the patched image are given to `take` as soon as no later patch
+ * can meet them, in order.
  * @param {Calls} calls
  * @param {Reader} reader
  * @param {Patch[]} patches in the order in which they are applied
  * @param {number} base
  * @param {boolean} carry
  * @param {(piece: Piece) => void | Promise<void>} [take]
- * @returns {Promise<Patched | Refusal>}
+ * @returns {Promise<Patched>}
  */
 export async function passPatched(calls, reader, patches, base, carry, take = () => {}) {
-    if (imageTooLong(reader.size)) return new Refusal('image-too-long');
     const image = new PatchedImage(reader, take);
     const count = sectorCount(reader.size);
     /** @type {Outcome[]} */
@@ -176,11 +174,10 @@ export async function passPatched(calls, reader, patches, base, carry, take = ()
  * @param {Patch[]} patches
  * @param {number} base
  * @param {boolean} carry
- * @returns {Promise<(Patched & { pieces: Piece[] }) | Refusal>}
+ * @returns {Promise<Patched & { pieces: Piece[] }>}
  */
 export async function applyPatches(calls, reader, patches, base, carry) {
     /** @type {Piece[]} */
     const pieces = [];
-    const made = await passPatched(calls, reader, patches, base, carry, piece => void pieces.push(piece));
-    return made instanceof Refusal ? made : { ...made, pieces };
+    return { ...await passPatched(calls, reader, patches, base, carry, piece => void pieces.push(piece)), pieces };
 }

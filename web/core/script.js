@@ -17,10 +17,10 @@ export const MOST_SCRIPT_BYTES = 67108864;
 /** The text is cut into lines when there are so many bytes of it. */
 const TEXT_WINDOW = 1 << 20;
 
-/** Why nothing was done: a fault of the script, with the program's line for it; or a limit, which has no line here. */
+/** Why a script is not read: a fault, with the program's line for it; or too many bytes, which have no line here. */
 export class Refusal {
     /**
-     * @param {'script-fault' | 'script-too-long' | 'image-too-long'} reason
+     * @param {'fault' | 'too-long'} reason
      * @param {Uint8Array} text
      */
     constructor(reason, text = new Uint8Array(0)) {
@@ -92,7 +92,7 @@ class ScriptReading {
             this.number += 1;
             this.fault = CONTENT.NO_HEAD;
         }
-        if (this.fault !== 0) return new Refusal('script-fault', this.calls.faultLine(this.number, this.fault));
+        if (this.fault !== 0) return new Refusal('fault', this.calls.faultLine(this.number, this.fault));
         return this.patches.sort((a, b) => a.block - b.block);
     }
 }
@@ -109,7 +109,7 @@ export async function patchesOf(calls, pieces, long = false) {
     let size = 0;
     for await (const piece of pieces) {
         size += piece.length;
-        if (!long && size > MOST_SCRIPT_BYTES) return new Refusal('script-too-long');
+        if (!long && size > MOST_SCRIPT_BYTES) return new Refusal('too-long');
         reading.push(piece);
     }
     return reading.answer();
