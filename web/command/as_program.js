@@ -18,9 +18,9 @@ import { openTrack } from './opening.js';
 
 /** What the program says, on standard output as it does. */
 class ProgramFault extends Fault {
-    /** @param {string | Uint8Array} text a line without its end, or lines */
+    /** @param {string | Uint8Array} text one of MESSAGES, or a line of the module */
     constructor(text) {
-        super(typeof text === 'string' ? `${text}\n` : new TextDecoder().decode(text));
+        super(typeof text === 'string' ? `cdpatch: ${text}\n` : new TextDecoder().decode(text));
     }
 }
 

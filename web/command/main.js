@@ -42,7 +42,7 @@ function messageOf(error) {
     if (!(error instanceof Error)) return String(error);
     if (error instanceof Fault) return error.message;
     // As node and the engine say it, in a thread too.
-    if (/allocation failed|out of memory|memory\.grow/i.test(error.message)) return 'no memory';
+    if (/allocation failed|out of memory|memory\.grow/i.test(error.message)) return MESSAGES.no_memory;
     return `a fault in cdscript itself: ${error.stack}`;
 }
 
@@ -56,7 +56,7 @@ export async function main(words, streams = STANDARD, files = new Files(streams.
     const messages = new Messages(streams.errors);
     let run = null;
     try {
-        if (words.some(word => word.includes('\uFFFD'))) throw new Fault(MESSAGES.no_text.replace(/^cdpatch: /, ''));
+        if (words.some(word => word.includes('\uFFFD'))) throw new Fault(MESSAGES.no_text);
         const given = argumentsOf(words);
         const { help, version, notices } = given.options;
         run = new Run(given, streams, files, messages);

@@ -26,7 +26,7 @@ export async function openDiscOf(run, name) {
     const others = kind === 'cue' ? await filesOfSheet(run, file) : [];
     const disc = await openDisc(run.calls, [file, ...others]);
     const long = disc.files.find(({ reader }) => imageTooLong(reader.size));
-    if (long) throw new Fault(`${long.name}: ${MESSAGES.long_image.replace(/^cdpatch: /, '')}`);
+    if (long) throw new Fault(`${long.name}: ${MESSAGES.long_image}`);
     return disc;
 }
 

@@ -68,7 +68,7 @@ export async function rebuildsJob(run) {
 
 /** @param {Refusal} refusal */
 function refusalText({ reason, text }) {
-    return reason === 'fault' ? new TextDecoder().decode(text).trim() : MESSAGES.long_script.replace(/^cdpatch: /, '');
+    return reason === 'fault' ? new TextDecoder().decode(text).trim() : MESSAGES.long_script;
 }
 
 /** @param {Run} run */
