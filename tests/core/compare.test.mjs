@@ -236,7 +236,7 @@ test('lines that the module does not take, or that give other sectors, are not g
         { applyPatch: () => ({ result: 0, block: 0, offset: 0 }) },
         { applyPatch: () => ({ result: 5, block: 0, offset: 0 }) },
         { readLine: () => 5 },
-        { patchRead: () => ({ ...calls.patchRead(), block: BASE + 6 }) },
+        { blockRead: () => BASE + 6 },
     ];
     for (const wrong of wrongs) {
         const broken = Object.assign(Object.create(calls), wrong);

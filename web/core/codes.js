@@ -109,27 +109,33 @@ export class Calls extends Arena {
         return this.exports.cdpatch_read_line(version, number, BigInt(earlier), at, BigInt(size), patch, fresh, old);
     }
 
+    /** The first block of the patch of the line that was read. */
+    blockRead() {
+        return this.view.getUint32(this.patch, true);
+    }
+
     /** The patch of the line that was read: its first block; and its record, then its new and its old bytes. */
     patchRead() {
         const size = freshSize(this.memory, this.patch);
         const hasOld = this.memory[this.patch + 9] !== 0;
         const bytes = this.memory.slice(this.patch, this.fresh + (hasOld ? 2 * size : size));
         if (hasOld) bytes.set(this.memory.subarray(this.old, this.old + size), PATCH_RECORD_SIZE + size);
-        return { block: this.view.getUint32(this.patch, true), bytes };
+        return { block: this.blockRead(), bytes };
     }
 
     /**
      * Makes a patch on held sectors, and returns the result with its place.
-     * @param {Uint8Array} bytes of the patch
+     * @param {Uint8Array | null} bytes of the patch; null is that of the line that was read last, which need not be copied
      * @param {number} from the byte at which the first of the sectors begins
      * @param {number} count of sectors
      * @param {boolean} carry
      */
     applyPatch(bytes, from, count, carry) {
         this.within(from + count * SECTOR_SIZE);
-        this.memory.set(bytes, this.patch);
+        if (bytes !== null) this.memory.set(bytes, this.patch);
         const { patch, fresh, answer } = this.places;
-        const [old, at] = [BigInt(this.fresh + freshSize(bytes, 0)), BigInt(this.arena + from)];
+        const old = BigInt(bytes === null ? this.old : this.fresh + freshSize(bytes, 0));
+        const at = BigInt(this.arena + from);
         const result = this.exports.cdpatch_apply_patch(patch, fresh, old, at, BigInt(count), Number(carry), answer);
         return { result, block: this.view.getUint32(this.answer, true), offset: this.view.getUint16(this.answer + 4, true) };
     }

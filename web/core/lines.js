@@ -228,11 +228,10 @@ function firstWrong(calls, lines, { blocks, old, fresh }, carry) {
         const line = calls.firstLine(at) || { size: 0, taken: 0 };
         number += 1;
         if (calls.readLine(lines.version, number, 0, at, line.size) !== CONTENT.PATCH) return i;
-        const { block, bytes } = calls.patchRead();
-        while (blocks[i] < block) i += 1;
-        if (blocks[i] !== block) return Math.min(i, blocks.length - 1);
+        while (blocks[i] < calls.blockRead()) i += 1;
+        if (blocks[i] !== calls.blockRead()) return Math.min(i, blocks.length - 1);
         const there = Math.min(SECTORS_IN_HAND, blocks.length - i);
-        if (calls.applyPatch(bytes, i * SECTOR_SIZE, there, carry).result !== RESULT.OK) return i;
+        if (calls.applyPatch(null, i * SECTOR_SIZE, there, carry).result !== RESULT.OK) return i;
         at += line.taken;
     }
     const wrong = differingSectors(calls.held(0, old.length), fresh);
