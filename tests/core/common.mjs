@@ -16,8 +16,6 @@ const codes = await core('codes.js');
 const Calls = withAllCalls(codes.Calls, codes.sized);
 export const module = new WebAssembly.Module(readFileSync(process.env.MODULE ?? join(top, 'library/cdpatch.wasm')));
 
-const { surveyRange } = await core('survey.js');
-
 /** Calls with a memory of their own. */
 export const newCalls = () => new Calls(module);
 export const calls = newCalls();
@@ -76,7 +74,8 @@ export function joinSurveys(parts, base) {
 /** An image's survey by ranges of so many sectors. */
 export function surveyed(image, base, step) {
     const whole = image.subarray(0, image.length - image.length % 2352);
-    return joinSurveys(cutBy(whole, 2352 * step).map((bytes, i) => surveyRange(calls, bytes, base + i * step)), base);
+    const survey = (bytes, block) => ({ block, records: calls.survey(bytes, block) });
+    return joinSurveys(cutBy(whole, 2352 * step).map((bytes, i) => survey(bytes, base + i * step)), base);
 }
 
 /** A reader of bytes in memory, whose reads give at most so many bytes. */

@@ -8,7 +8,6 @@ import { Fault } from './faults.js';
 import { findIn } from './find.js';
 import { mergeRange } from './merge.js';
 import { SECTOR_SIZE } from './sector.js';
-import { surveyRange } from './survey.js';
 
 /** @typedef {import('./codes.js').Calls} Calls */
 /** @typedef {import('./bytes.js').Reader} Reader */
@@ -36,7 +35,7 @@ import { surveyRange } from './survey.js';
 
 /** @type {Record<string, Job>} */
 export const JOBS = {
-    survey: (calls, [bytes], first) => surveyRange(calls, bytes, first),
+    survey: (calls, [bytes], block) => ({ block, records: calls.survey(bytes, block) }),
     find: (calls, [bytes], first, args) => findIn(calls, bytes, first, args),
     diff: (calls, [old, fresh], first) => diffRange(calls, old, fresh, first),
     differ: (calls, [old, fresh], first) => differRange(calls, old, fresh, first),

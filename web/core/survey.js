@@ -3,8 +3,6 @@
 import { bytesOfLines } from './bytes.js';
 import { RECORD, RECORD_SIZE, SECTOR_KIND, kindName } from './records.js';
 
-/** @typedef {import('./codes.js').Calls} Calls */
-
 /**
  * The records of neighbouring sectors, RECORD_SIZE bytes each, from a block on.
  * @typedef {{ block: number, records: Uint8Array }} Survey
@@ -14,17 +12,6 @@ import { RECORD, RECORD_SIZE, SECTOR_KIND, kindName } from './records.js';
  * What a command prints, and its status.
  * @typedef {{ status: number, text: Uint8Array }} Report
  */
-
-/**
- * The records of a range of sectors. A job for a worker.
- * @param {Calls} calls
- * @param {Uint8Array} sectors
- * @param {number} block that of the first
- * @returns {Survey}
- */
-export function surveyRange(calls, sectors, block) {
-    return { block, records: calls.survey(sectors, block) };
-}
 
 /**
  * Whether the record at a place is that of a damaged Mode 1 sector.
