@@ -7,11 +7,10 @@ import { Calls } from '../web/core/codes.js';
 import { compareImages } from '../web/core/compare.js';
 import { openDisc } from '../web/core/disc.js';
 import { joinFound, sectorsBeyond } from '../web/core/find.js';
-import { joinBases } from '../web/core/image.js';
 import { filesOf } from '../web/core/iso.js';
-import { Crew, LocalHand } from '../web/core/jobs.js';
+import { Crew, localHand } from '../web/core/jobs.js';
 import { mergeImages } from '../web/core/merge.js';
-import { auditText, joinSurveys } from '../web/core/survey.js';
+import { auditText } from '../web/core/survey.js';
 import { encodingOf } from '../web/core/text.js';
 
 const [threads, job, ...paths] = process.argv.slice(2);
@@ -60,21 +59,18 @@ const JOBS_TIMED = {
     async survey(crew, [image]) {
         const parts = [];
         await crew.share('survey', [image.reader], {}, { base: image.base, step }, answer => { parts.push(answer); });
-        return auditText(calls, joinSurveys(parts, image.base), image.tail).text.length;
-    },
-    async bases(crew, [image]) {
-        const parts = [];
-        await crew.share('bases', [image.reader], {}, { step }, answer => { parts.push(answer); });
-        return joinBases(parts).base;
+        const records = Buffer.concat(parts.map(part => part.records));
+        return auditText({ block: image.base, records }, image.tail).text.length;
     },
     async diff(crew, [old, fresh]) {
-        const { script, left, changed } = await compareImages(calls, crew, old.reader, fresh.reader, { base: old.base, step });
+        const { script, left } = await compareImages(calls, crew, old.reader, fresh.reader, { base: old.base, step });
         if (script) script.pieces.forEach(write);
-        return { changed, left: left.length, bytes: script && script.size, patches: script && script.patches, long: script && script.long };
+        return { left: left.length, bytes: script && script.size, patches: script && script.patches, long: script && script.long };
     },
     async merge(crew, [old, ...others]) {
-        const { taken, damaged, disputed, different, pieces } = await mergeImages(crew, old, others, { step });
-        return { taken: taken.length, damaged: damaged.length, disputed: disputed.length, different, pieces: pieces && pieces.length };
+        let pieces = 0;
+        const { taken, damaged, disputed, different } = await mergeImages(crew, old, others, { step }, () => { pieces += 1; });
+        return { taken: taken.length, damaged: damaged.length, disputed: disputed.length, different, pieces };
     },
     async user(crew, [image]) {
         await crew.share('user', [image.reader], {}, { base: image.base, step }, answer => { write(answer.user); });
@@ -86,7 +82,7 @@ const JOBS_TIMED = {
 
 const images = job === 'raw' ? paths.map(path => ({ reader: readerOf(path) })) : await disc();
 const begin = process.hrtime.bigint();
-const crew = new Crew(Number(threads) === 0 ? [new LocalHand(calls)] : Array.from({ length: Number(threads) }, threadHand));
+const crew = new Crew(Number(threads) === 0 ? [localHand(calls)] : Array.from({ length: Number(threads) }, threadHand));
 const result = await JOBS_TIMED[job](crew, images);
 const seconds = Number(process.hrtime.bigint() - begin) / 1e9;
 const { user, system } = process.cpuUsage();

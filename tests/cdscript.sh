@@ -27,7 +27,7 @@ messages_agree() {
         [ "${!name}" = "$text" ] || return
         count=$((count + 1))
     done < <(node --input-type=module -e "import { MESSAGES } from '$top/web/command/messages.js';
-        Object.entries(MESSAGES).forEach(([name, text]) => console.log(name + '=' + text));")
+        Object.entries(MESSAGES).forEach(([name, text]) => console.log(name + '=cdpatch: ' + text));")
     [ "$count" = 9 ]
 }
 

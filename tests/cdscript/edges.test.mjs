@@ -2,6 +2,8 @@
 
 import assert from 'node:assert/strict';
 import { spawn, spawnSync } from 'node:child_process';
+import { existsSync, truncateSync } from 'node:fs';
+import { join } from 'node:path';
 import { test } from 'node:test';
 import { command, damaged, imageOf, inDirectory, read, run, tool, write } from './common.mjs';
 import { files, makeDisc } from './discs.mjs';
@@ -103,6 +105,21 @@ test('fields that differ, and a tail that does', () => inDirectory(async room =>
     const { status, out, errors } = await run(['diff', '--fields', 'one', 'two'], { cwd: room });
     assert.deepEqual([status, out, errors], [1, 'sectors 4 differ 0\n', 'cdscript: the bytes after the last sector differ\n']);
     assert.equal((await run(['diff', '--fields', 'one', 'one'], { cwd: room })).status, 0);
+}));
+
+test('an image of more sectors than the program takes is refused at once', () => inDirectory(async room => {
+    write(room, { long: '', script: 'cdpatch 1\n' });
+    truncateSync(join(room, 'long'), 1000001 * 2352);
+    const said = 'the image has more than 1000000 sectors\n';
+    for (const words of [['list'], ['audit'], ['check', 'script'], ['apply', 'script', 'out']]) {
+        const { status, out, errors } = await run([words[0], 'long', ...words.slice(1)], { cwd: room });
+        assert.deepEqual([status, out, errors], [2, `cdpatch: ${said}`, ''], words[0]);
+    }
+    for (const words of [['files'], ['undo', 'script'], ['rebuilds']]) {
+        const { status, out, errors } = await run([words[0], 'long', ...words.slice(1)], { cwd: room });
+        assert.deepEqual([status, out, errors], [2, '', `cdscript: long: ${said}`], words[0]);
+    }
+    assert.equal(existsSync(join(room, 'out')), false);
 }));
 
 test('what fails at the very end is no finding', () => inDirectory(room => {

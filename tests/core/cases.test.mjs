@@ -3,11 +3,11 @@
 import assert from 'node:assert/strict';
 import { readFileSync } from 'node:fs';
 import { test } from 'node:test';
-import { calls, core, cutBy, decoded, encoded, joinedPieces, readerOf, sameBytes } from './common.mjs';
+import { calls, core, cutBy, decoded, encoded, joinedPieces, readerOf, sameBytes, surveyed } from './common.mjs';
 
 const { patchesOf, Refusal } = await core('script.js');
-const { applyPatches, checkPatches } = await core('patch.js');
-const { auditText, joinSurveys, listText, surveyRange } = await core('survey.js');
+const { applyPatches, passPatched } = await core('patch.js');
+const { auditText, listText } = await core('survey.js');
 
 const directory = process.env.ANSWERS;
 const rows = directory === undefined ? [] : JSON.parse(readFileSync(`${directory}/answers.json`, 'utf8'));
@@ -15,15 +15,12 @@ const data = directory === undefined ? new Uint8Array(0) : new Uint8Array(readFi
 const bytesAt = place => place && data.subarray(place[0], place[0] + place[1]);
 
 /** A report of an image by ranges of so many sectors. */
-function reported(report, image, base, step) {
-    const parts = cutBy(image, 2352 * step).map((bytes, i) => surveyRange(calls, bytes, base + i * step));
-    return report(calls, joinSurveys(parts, base), image.length % 2352);
-}
+const reported = (report, image, base, step) => report(surveyed(image, base, step), image.length % 2352);
 
 async function patched(row, image, script) {
     const patches = await patchesOf(calls, cutBy(script, 5000));
     if (patches instanceof Refusal) return { status: 2, text: patches.text };
-    const job = row.call === 'apply' ? applyPatches : checkPatches;
+    const job = row.call === 'apply' ? applyPatches : passPatched;
     const made = await job(calls, readerOf(image, 3000), patches, row.base, row.carry);
     return { ...made, out: made.pieces && joinedPieces(image, made.pieces) };
 }

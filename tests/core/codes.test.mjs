@@ -1,11 +1,10 @@
 // The calls and what they are given, against cdpatch.h, the man page and the sectors of another encoder.
 
 import assert from 'node:assert/strict';
-import { createHash } from 'node:crypto';
 import { readFileSync } from 'node:fs';
 import { join } from 'node:path';
 import { test } from 'node:test';
-import { calls, core, decoded, diceOf, newCalls, sameBytes, someBytes, top } from './common.mjs';
+import { calls, core, decoded, newCalls, sameBytes, top } from './common.mjs';
 
 const records = await core('records.js');
 const { MOST_SECTORS, SECTOR_SIZE, addressIn, addressText, blockAt, imageTooLong, sectorOf, userOf } = await core('sector.js');
@@ -39,7 +38,8 @@ test('the limits are those of the man page', () => {
 
 test('each call of cdpatch.h that takes no memory has a method', () => {
     const names = header.match(/\bcdpatch_\w+(?=\()/g).filter(name => !/^cdpatch_(check|apply)$/.test(name));
-    const code = ['codes.js', 'patch_calls.js'].map(file => readFileSync(join(process.env.CORE ?? join(top, 'web/core'), file), 'utf8')).join('');
+    const files = ['web/core/codes.js', 'web/page/sha1.js', 'web/page/crossings.js', 'tests/core/calls.mjs'];
+    const code = files.map(file => readFileSync(join(top, file), 'utf8')).join('');
     for (const name of names) assert.match(code, new RegExp(`\\b${name}\\b`));
 });
 
@@ -57,15 +57,12 @@ test('sectors of another encoder', () => {
     }
 });
 
-test('one wrong byte lies where a column and a diagonal cross', () => {
+test('one wrong byte breaks one column, one diagonal and the EDC', () => {
     const sector = sectorOf(vectors, 3).slice();
     sector[12 + 5 + 86 * 7] ^= 1;
     assert.ok(!calls.isConsistent(sector));
     assert.deepEqual(calls.findDefect(sector), { zeros: false, edc: true, p: 1, q: 1 });
-    const { columns, diagonals } = calls.findBroken(sector);
-    assert.equal(columns.indexOf(1), 5);
-    assert.equal(columns.length, 86);
-    assert.deepEqual([diagonals.length, diagonals.filter(Boolean).length], [52, 1]);
+    assert.deepEqual([...calls.survey(sector, 3)], [records.SECTOR_KIND.MODE1, 0, 0, 1, 1, 1]);
 });
 
 test('changes of a sector in its place', () => {
@@ -96,13 +93,6 @@ test('addresses and their blocks', () => {
     for (const address of [[0, 1, 0x74], [0, 0x60, 0], [0, 2, 0x75], [0, 2, 0x0A], [0xA0, 2, 0]]) {
         assert.equal(blockAt(calls, Uint8Array.from(address)), null);
     }
-});
-
-test('SHA-1 of bytes as they come', () => {
-    const bytes = someBytes(diceOf(1), 1000);
-    const state = calls.sha1Begin();
-    for (const [from, to] of [[0, 0], [0, 1], [1, 64], [64, 700], [700, 1000]]) calls.sha1Add(state, bytes.subarray(from, to));
-    assert.equal(Buffer.from(calls.sha1End(state)).toString('hex'), createHash('sha1').update(bytes).digest('hex'));
 });
 
 test('the arena grows, and is used again', () => {

@@ -4,6 +4,7 @@ import assert from 'node:assert/strict';
 import { readFileSync } from 'node:fs';
 import { join } from 'node:path';
 import { fileURLToPath, pathToFileURL } from 'node:url';
+import { withAllCalls } from './calls.mjs';
 
 export const top = fileURLToPath(new URL('../..', import.meta.url));
 const folder = process.env.CORE ?? join(top, 'web/core');
@@ -11,7 +12,8 @@ const folder = process.env.CORE ?? join(top, 'web/core');
 /** @param {string} name a module of the core */
 export const core = name => import(pathToFileURL(join(folder, name)).href);
 
-const { Calls } = await core('codes.js');
+const codes = await core('codes.js');
+const Calls = withAllCalls(codes.Calls, codes.sized);
 export const module = new WebAssembly.Module(readFileSync(process.env.MODULE ?? join(top, 'library/cdpatch.wasm')));
 
 /** Calls with a memory of their own. */
@@ -57,6 +59,23 @@ export function someImage(dice, count, base, tail = 0) {
         image.set(sector, i * 2352);
     }
     return image;
+}
+
+/** Surveys of ranges that follow one another, as one. */
+export function joinSurveys(parts, base) {
+    let end = base;
+    for (const { block, records } of parts) {
+        assert.equal(block, end, 'a range follows the one before it');
+        end += records.length / 6;
+    }
+    return { block: base, records: Uint8Array.from(Buffer.concat(parts.map(part => part.records))) };
+}
+
+/** An image's survey by ranges of so many sectors. */
+export function surveyed(image, base, step) {
+    const whole = image.subarray(0, image.length - image.length % 2352);
+    const survey = (bytes, block) => ({ block, records: calls.survey(bytes, block) });
+    return joinSurveys(cutBy(whole, 2352 * step).map((bytes, i) => survey(bytes, base + i * step)), base);
 }
 
 /** A reader of bytes in memory, whose reads give at most so many bytes. */

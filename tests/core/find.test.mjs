@@ -47,7 +47,7 @@ function byRanges(raw, wanted, { base, range, limit }) {
     const parts = [];
     for (let first = 0; first < raw.length / RAW; first += range) {
         const bytes = raw.slice(first * RAW, (first + range + sectorsBeyond(wanted)) * RAW);
-        parts.unshift(findIn(null, bytes, base + first, { wanted, count: range, limit }));
+        parts.push(findIn(null, bytes, base + first, { wanted, count: range, limit }));
     }
     return joinFound(parts, limit);
 }
@@ -65,7 +65,7 @@ for (const range of [1, 2, 3, 7]) {
         for (const digits of ['00', '0102', '020200010201', '010101010101', '01'.repeat(40)]) {
             const due = naive(user, bytesOf(digits), 225);
             const found = byRanges(raw, bytesOf(digits), { base: 225, range, limit: ALL });
-            assert.deepStrictEqual(found, { first: 225, count: due.length, hits: due });
+            assert.deepStrictEqual(found, { count: due.length, hits: due });
         }
     });
 
@@ -142,8 +142,8 @@ test('what is rare in one range and not in the next is found in both', () => {
 });
 
 test('no text and no image have no hits', () => {
-    assert.deepStrictEqual(findIn(null, rawOf(new Uint8Array(USER)), 4, { wanted: [], count: 1, limit: 5 }), { first: 4, count: 0, hits: [] });
-    assert.deepStrictEqual(joinFound([], 5), { first: 0, count: 0, hits: [] });
+    assert.deepStrictEqual(findIn(null, rawOf(new Uint8Array(USER)), 4, { wanted: [], count: 1, limit: 5 }), { count: 0, hits: [] });
+    assert.deepStrictEqual(joinFound([], 5), { count: 0, hits: [] });
     assert.strictEqual(findIn(null, new Uint8Array(0), 0, { wanted: bytesOf('00'), count: 7, limit: 5 }).count, 0);
     assert.deepStrictEqual([0, 1, 2, 2049, 2050].map(size => sectorsBeyond(bytesOf('00'.repeat(size)))), [0, 0, 1, 1, 2]);
 });

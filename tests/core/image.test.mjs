@@ -3,7 +3,7 @@ import assert from 'node:assert';
 import { test } from 'node:test';
 import { calls, core, diceOf, readerOf } from './common.mjs';
 
-const { basesIn, joinBases, natureOf, sliceOf } = await core('image.js');
+const { baseByAddresses, natureOf, sliceOf } = await core('image.js');
 
 const RAW = 2352;
 
@@ -20,14 +20,8 @@ function sectors(block, count) {
 const longer = raw => Buffer.concat(Array.from({ length: raw.length / RAW }, (_, i) =>
     Buffer.concat([raw.subarray(RAW * i, RAW * (i + 1)), Buffer.alloc(96, 0x40)])));
 
-/** The base by ranges of so many sectors. @param {Uint8Array} raw @param {number} range */
-function baseOf(raw, range) {
-    const parts = [];
-    for (let first = 0; first < raw.length / RAW; first += range) {
-        parts.unshift(basesIn(calls, raw.subarray(first * RAW, (first + range) * RAW), first));
-    }
-    return joinBases(parts);
-}
+/** The base by addresses. @param {Uint8Array} raw */
+const baseOf = raw => baseByAddresses(calls, readerOf(raw, 5000));
 
 test('raw images are known, short ones and cut ones, with audio before and after', async () => {
     const raw = sectors(0, 60);
@@ -66,30 +60,29 @@ test('each kind of file has words for it, and all but a raw image what to do wit
     assert.strictEqual((await natureOf(calls, readerOf(sectors(0, 2)))).advice, '');
 });
 
-test('the base of an image is what its addresses agree in, by ranges of any size', () => {
+test('the base of an image is what its addresses agree in', async () => {
     for (const base of [0, 1, 225, 449000]) {
-        for (const range of [1, 2, 7, 20]) assert.deepStrictEqual(baseOf(sectors(base, 20), range), { base, agree: 20, mode1: 20 });
+        for (const count of [1, 7, 8, 9, 20, 700]) assert.strictEqual(await baseOf(sectors(base, count)), base);
     }
 });
 
-test('other addresses, audio, other modes and bytes that are no address do not change the base', () => {
+test('other addresses, audio, other modes and bytes that are no address do not change the base', async () => {
     const raw = Buffer.concat([Buffer.alloc(3 * RAW, 9), sectors(1000, 20), Buffer.alloc(RAW - 1)]);
     sectors(7, 1).copy(raw, 5 * RAW);
     raw.set([0xAA, 0xBB, 0xCC], 6 * RAW + 12);
     raw.set([0x00, 0x01, 0x00], 7 * RAW + 12); // before block 0
     raw[8 * RAW + 15] = 2;
-    for (const range of [1, 3, 24]) assert.deepStrictEqual(baseOf(raw, range), { base: 997, agree: 16, mode1: 19 });
+    assert.strictEqual(await baseOf(raw), 997);
 });
 
-test('no base is guessed: half of the addresses are not enough', () => {
-    assert.deepStrictEqual(baseOf(Buffer.concat([sectors(10, 5), sectors(300, 5)]), 4), { base: null, agree: 0, mode1: 10 });
-    assert.deepStrictEqual(baseOf(Buffer.concat([sectors(10, 5), sectors(300, 6)]), 4), { base: 295, agree: 6, mode1: 11 });
-    assert.deepStrictEqual(baseOf(Buffer.alloc(4 * RAW, 9), 4), { base: null, agree: 0, mode1: 0 });
-    assert.deepStrictEqual(joinBases([]), { base: null, agree: 0, mode1: 0 });
+test('no base is guessed: half of the addresses are not enough', async () => {
+    assert.strictEqual(await baseOf(Buffer.concat([sectors(10, 5), sectors(300, 5)])), null);
+    assert.strictEqual(await baseOf(Buffer.concat([sectors(10, 5), sectors(300, 6)])), 295);
+    for (const none of [Buffer.alloc(4 * RAW, 9), Buffer.alloc(0)]) assert.strictEqual(await baseOf(none), null);
 });
 
-test('an image that begins before block 0 has a base below 0', () => {
-    assert.deepStrictEqual(baseOf(Buffer.concat([Buffer.alloc(150 * RAW), sectors(0, 10)]), 40), { base: -150, agree: 10, mode1: 10 });
+test('an image that begins before block 0 has a base below 0', async () => {
+    assert.strictEqual(await baseOf(Buffer.concat([Buffer.alloc(150 * RAW), sectors(0, 10)])), -150);
 });
 
 test('a slice of a reader reads nothing outside', async () => {

@@ -4,8 +4,8 @@ import assert from 'node:assert/strict';
 import { test } from 'node:test';
 import { calls, core, decoded, diceOf, encoded, joinedPieces, readerOf, sameBytes, someImage } from './common.mjs';
 
-const { Refusal, patchesOf } = await core('script.js');
-const { applyPatches, checkPatches, passPatched } = await core('patch.js');
+const { patchesOf } = await core('script.js');
+const { applyPatches, passPatched } = await core('patch.js');
 const { bytesOfPieces } = await core('bytes.js');
 const { MOST_SECTORS } = await core('sector.js');
 
@@ -49,7 +49,7 @@ async function agrees(script, whole, base, carry, most) {
     assert.equal(decoded(came.text), due.text);
     assert.equal(came.status, due.status);
     sameBytes(joinedPieces(whole, came.pieces), due.out, 'the image');
-    const checked = await checkPatches(calls, readerOf(whole), patches, base, carry);
+    const checked = await passPatched(calls, readerOf(whole), patches, base, carry);
     assert.deepEqual([decoded(checked.text), checked.status, checked.outcomes], [due.text, due.status, came.outcomes]);
     return came;
 }
@@ -128,7 +128,7 @@ test('an image that shrinks is no shorter image', async () => {
     const shrunk = { ...readerOf(image.subarray(0, 2400 * 2352 + 100)), size: image.length };
     const ended = { name: 'ImageEnded', message: `the image ends at byte ${2400 * 2352 + 100}` };
     await assert.rejects(applyPatches(calls, shrunk, patches, BASE, true), ended);
-    await assert.rejects(checkPatches(calls, shrunk, patches, BASE, true), ended);
+    await assert.rejects(passPatched(calls, shrunk, patches, BASE, true), ended);
     await assert.rejects(async () => { for await (const bytes of bytesOfPieces(shrunk, [{ from: 0, to: image.length }])) assert.ok(bytes); }, ended);
 });
 
@@ -141,13 +141,9 @@ test('a piece that cannot be written reaches the caller', async () => {
     }
 });
 
-test('an image of more sectors than the program takes', async () => {
+test('an image of as many sectors as the program takes, and a script without patches', async () => {
     const reader = readerOf(image);
-    for (const job of [applyPatches, checkPatches]) {
-        const made = await job(calls, { ...reader, size: MOST_SECTORS * 2352 + 1 }, [], 0, false);
-        assert.ok(made instanceof Refusal && made.reason === 'image-too-long' && made.text.length === 0);
-    }
-    assert.equal((await checkPatches(calls, { ...reader, size: MOST_SECTORS * 2352 }, [], 0, false)).status, 0);
+    assert.equal((await passPatched(calls, { ...reader, size: MOST_SECTORS * 2352 }, [], 0, false)).status, 0);
     assert.equal(reader.reads.length, 0);
 });
 

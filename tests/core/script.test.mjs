@@ -52,9 +52,9 @@ test('lines end in LF or CR LF', async () => {
     for (const script of ['cdpatch 1\r\n\r\nrebuild 1\r\nset 0 0 41\r\n', 'cdpatch 1\r\n\nrebuild 1\r\nset 0 0 41']) {
         assert.deepEqual(await read([encoded(script)]), plain);
     }
-    assert.equal((await read([encoded('cdpatch 1\nset 0 0 41\r')])).reason, 'script-fault');
-    assert.deepEqual(await read([encoded(SCRIPTS[6])]), { reason: 'script-fault', text: 'script line 2: bad hex\n' });
-    assert.deepEqual(await read([encoded(SCRIPTS[4])]), { reason: 'script-fault', text: 'script line 3: no cdpatch 1 line\n' });
+    assert.equal((await read([encoded('cdpatch 1\nset 0 0 41\r')])).reason, 'fault');
+    assert.deepEqual(await read([encoded(SCRIPTS[6])]), { reason: 'fault', text: 'script line 2: bad hex\n' });
+    assert.deepEqual(await read([encoded(SCRIPTS[4])]), { reason: 'fault', text: 'script line 3: no cdpatch 1 line\n' });
 });
 
 test('what a patch says', async () => {
@@ -89,7 +89,7 @@ test('lines longer than what is cut at a time', async () => {
 test('no more patches than the program takes, but for a long script', async () => {
     const script = encoded(`cdpatch 1\n${'rebuild 9\n'.repeat(65536)}`);
     assert.equal((await read([script.subarray(0, script.length - 10)])).length, 65535);
-    assert.deepEqual(await read([script]), { reason: 'script-fault', text: 'script line 65537: more than 65535 patches\n' });
+    assert.deepEqual(await read([script]), { reason: 'fault', text: 'script line 65537: more than 65535 patches\n' });
     assert.equal((await read([script], true)).length, 65536);
 });
 
@@ -110,9 +110,9 @@ test('no more bytes than the program takes, but for a long script', async () => 
     const right = 'cdpatch 1\nrebuild 4\n';
     assert.equal((await read(scriptOf(MOST_SCRIPT_BYTES, `${right}#`).pieces)).length, 1);
     const { asked, pieces } = scriptOf(2 * MOST_SCRIPT_BYTES, right);
-    assert.deepEqual(await read(pieces), { reason: 'script-too-long', text: '' });
+    assert.deepEqual(await read(pieces), { reason: 'too-long', text: '' });
     assert.ok(!asked.all, 'a script that is too long is not read to its end');
-    assert.deepEqual((await read(scriptOf(MOST_SCRIPT_BYTES + 1, 'faulty\n').pieces)).reason, 'script-too-long');
+    assert.deepEqual((await read(scriptOf(MOST_SCRIPT_BYTES + 1, 'faulty\n').pieces)).reason, 'too-long');
     assert.equal((await read(scriptOf(MOST_SCRIPT_BYTES + 1, `${right}#`).pieces, true)).length, 1);
 });
 

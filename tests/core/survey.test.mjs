@@ -2,17 +2,13 @@
 
 import assert from 'node:assert/strict';
 import { test } from 'node:test';
-import { calls, core, cutBy, decoded, diceOf, sameBytes, someImage } from './common.mjs';
+import { calls, core, decoded, diceOf, someImage, surveyed } from './common.mjs';
 
-const { auditText, isDamaged, joinSurveys, kindRuns, listText, surveyCounts, surveyRange } = await core('survey.js');
-
-/** An image's survey by ranges of so many sectors. */
-const surveyed = (image, base, step) =>
-    joinSurveys(cutBy(image, 2352 * step).map((bytes, i) => surveyRange(calls, bytes, base + i * step)), base);
+const { auditText, isDamaged, isSound, kindRuns, listText, surveyCounts } = await core('survey.js');
 
 function agrees(image, base, step) {
     const [survey, tail] = [surveyed(image, base, step), image.length % 2352];
-    for (const [came, due] of [[listText(calls, survey, tail), calls.list(image, base)], [auditText(calls, survey, tail), calls.audit(image, base)]]) {
+    for (const [came, due] of [[listText(survey, tail), calls.list(image, base)], [auditText(survey, tail), calls.audit(image, base)]]) {
         assert.equal(decoded(came.text), decoded(due.text));
         assert.equal(came.status, due.status);
     }
@@ -34,17 +30,6 @@ test('an image whose last blocks have no address', () => {
     agrees(someImage(diceOf(3), 8, 449847), 449847, 3);
 });
 
-test('ranges are joined in any order, and none may be missing', () => {
-    const image = someImage(diceOf(4), 50, 20);
-    const parts = cutBy(image, 2352 * 9).map((bytes, i) => surveyRange(calls, bytes, 20 + i * 9));
-    const whole = surveyRange(calls, image, 20);
-    sameBytes(joinSurveys([...parts].reverse(), 20).records, whole.records, 'records');
-    assert.throws(() => joinSurveys([parts[0], parts[2]], 20), RangeError);
-    assert.throws(() => joinSurveys(parts.slice(1), 20), RangeError);
-    assert.throws(() => joinSurveys([parts[0], ...parts], 20), RangeError);
-    assert.deepEqual(joinSurveys([], 20), { block: 20, records: new Uint8Array(0) });
-});
-
 test('counts and runs', () => {
     const user = new Uint8Array(2048);
     const image = Buffer.concat([5, 6, 9, 8].map(block => calls.encode(calls.address(block), user)).concat(new Uint8Array(2352)));
@@ -52,5 +37,7 @@ test('counts and runs', () => {
     const survey = surveyed(image, 5, 2);
     assert.deepEqual(surveyCounts(survey), { sectors: 5, mode1: 4, damaged: 1, elsewhere: 1 });
     assert.deepEqual([...kindRuns(survey)], [{ first: 5, last: 8, kind: 2 }, { first: 9, last: 9, kind: 0 }]);
-    assert.deepEqual([0, 6, 12, 18, 24].map(at => isDamaged(survey.records, at)), [true, false, false, false, false]);
+    const places = [0, 6, 12, 18, 24];
+    assert.deepEqual(places.map(at => isDamaged(survey.records, at)), [true, false, false, false, false]);
+    assert.deepEqual(places.map(at => isSound(survey.records, at)), [false, true, true, true, false]);
 });

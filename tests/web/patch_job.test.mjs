@@ -6,6 +6,7 @@ import { beforeEach, test } from 'node:test';
 import { calls, imageOf, page } from './page.mjs';
 
 const { checkWork, saveWork } = await page('patch_job.js');
+const { Sha1 } = await page('sha1.js');
 const { savePieces } = await page('save_pieces.js');
 
 const game = imageOf([new Uint8Array(4), Uint8Array.of(1, 2, 3)]);
@@ -18,13 +19,13 @@ const shaOf = bytes => createHash('sha1').update(bytes).digest('hex');
 /** A worker that hashes. */
 class HashWorker {
     constructor() {
-        this.state = calls.sha1Begin();
+        this.sha1 = new Sha1(calls);
     }
 
     postMessage({ module, hash }) {
         if (module) return;
-        if (hash) calls.sha1Add(this.state, hash);
-        const digest = hash ? null : calls.sha1End(this.state);
+        if (hash) this.sha1.add(hash);
+        const digest = hash ? null : this.sha1.digest();
         setImmediate(() => this.onmessage({ data: { digest, crc: 0 } }));
     }
 

@@ -3,6 +3,7 @@
 import { Fault } from '../core/faults.js';
 import { encodingOf } from '../core/text.js';
 import { FORMS, OPTION_FORMS } from './forms.js';
+import { LAST_BASE, MOST_BLOCKS, numberOf } from './numbers.js';
 
 /**
  * The options that were given, by their names in OPTION_FORMS.
@@ -15,22 +16,7 @@ import { FORMS, OPTION_FORMS } from './forms.js';
 /** Options of which only one is given. */
 const EXCLUDING = [['encoding', 'table'], ['fields', 'skipDamaged']];
 
-const LAST_BASE = 449849;
 const LAST_TRACK = 99;
-const MOST_BLOCKS = 999999999;
-
-/**
- * A number of one to nine decimal digits within its limits.
- * @param {string} text
- * @param {string} name of what it is
- * @param {number} least
- * @param {number} most
- */
-function numberOf(text, name, least, most) {
-    const number = /^[0-9]{1,9}$/.test(text) ? Number(text) : NaN;
-    if (number >= least && number <= most) return number;
-    throw new Fault(`${name} is a number from ${least} to ${most}, not '${text}'`);
-}
 
 /** @param {string} text */
 function fillOf(text) {
@@ -55,53 +41,40 @@ const VALUES = {
 };
 
 /**
- * The option that a word begins, if it is one, and its value after `=`.
- * @param {string} word
- */
-function optionIn(word) {
-    if (!word.startsWith('-') || word === '-') return null;
-    const [, spelled, value] = /^(--?[^=]*)(?:=(.*))?$/s.exec(word) || ['', word, undefined];
-    const meant = spelled === '-h' ? '--help' : spelled;
-    const name = Object.keys(OPTION_FORMS).find(key => OPTION_FORMS[key].word === meant);
-    if (!name) throw new Fault(`there is no option ${spelled}; a name that begins with - stands after --`);
-    if (value !== undefined && OPTION_FORMS[name].value === '') throw new Fault(`${spelled} takes no value`);
-    return { name, value };
-}
-
-/**
  * Cuts the words of the command line into options and names.
  * @param {string[]} words
  */
 function sorted(words) {
     /** @type {Record<string, any>} */
     const options = {};
+    /** @type {string[]} */
     const names = [];
-    const left = [...words];
-    while (left.length > 0) {
-        const word = left.shift() || '';
-        const option = word === '--' ? null : optionIn(word);
-        if (word === '--') names.push(...left.splice(0));
-        else if (option === null) names.push(word);
-        else takeOption(options, option, left);
+    const left = words.values();
+    for (const word of left) {
+        if (word === '--') names.push(...left);
+        else if (word === '-' || !word.startsWith('-')) names.push(word);
+        else takeOption(options, word, left);
     }
     return { options, names };
 }
 
 /**
  * @param {Record<string, any>} options
- * @param {{ name: string, value: string | undefined }} option
- * @param {string[]} left the words after it
+ * @param {string} word the option, with its value after `=` or without
+ * @param {Iterator<string>} left the words after it
  */
-function takeOption(options, { name, value }, left) {
+function takeOption(options, word, left) {
+    const [, spelled, given] = /^([^=]*)(?:=(.*))?$/s.exec(word) || ['', word, undefined];
+    const meant = spelled === '-h' ? '--help' : spelled;
+    const name = Object.keys(OPTION_FORMS).find(key => OPTION_FORMS[key].word === meant);
+    if (!name) throw new Fault(`there is no option ${spelled}; a name that begins with - stands after --`);
     const form = OPTION_FORMS[name];
+    const isFlag = form.value === '';
+    if (isFlag && given !== undefined) throw new Fault(`${spelled} takes no value`);
     if (name in options) throw new Fault(`${form.word} stands there twice`);
-    if (form.value === '') {
-        options[name] = true;
-        return;
-    }
-    const text = value === undefined ? left.shift() : value;
-    if (text === undefined) throw new Fault(`${form.word} wants ${form.value}`);
-    options[name] = name in VALUES ? VALUES[name](text) : text;
+    const text = isFlag || given !== undefined ? given : left.next().value;
+    if (!isFlag && text === undefined) throw new Fault(`${form.word} wants ${form.value}`);
+    options[name] = isFlag || (name in VALUES ? VALUES[name](text) : text);
 }
 
 /**
@@ -143,14 +116,4 @@ export function argumentsOf(words) {
     }
     if (!options.help) checkNames(job, names);
     return { job, names, options };
-}
-
-/** @param {string} text */
-export function blockOf(text) {
-    return numberOf(text, 'a block', 0, MOST_BLOCKS);
-}
-
-/** @param {string} text */
-export function offsetOf(text) {
-    return numberOf(text, 'an offset', 0, 2047);
 }

@@ -3,6 +3,7 @@
 import { ImageEnded } from '../core/bytes.js';
 import { Fault } from '../core/faults.js';
 import { passPatched } from '../core/patch.js';
+import { STATUS } from '../core/records.js';
 import { Refusal, patchesOf } from '../core/script.js';
 import { SECTOR_SIZE, imageTooLong } from '../core/sector.js';
 import { auditText, listText } from '../core/survey.js';
@@ -16,11 +17,29 @@ import { openTrack } from './opening.js';
 /** @typedef {import('./run.js').Run} Run */
 
 /** What the program says, on standard output as it does. */
-export class ProgramFault extends Fault {
-    /** @param {string | Uint8Array} text a line without its end, or lines */
+class ProgramFault extends Fault {
+    /** @param {string | Uint8Array} text one of MESSAGES, or a line of the module */
     constructor(text) {
-        super(typeof text === 'string' ? `${text}\n` : new TextDecoder().decode(text));
+        super(typeof text === 'string' ? `cdpatch: ${text}\n` : new TextDecoder().decode(text));
     }
+}
+
+/**
+ * A job that says what fails as the program does.
+ * @param {(run: Run) => Promise<number>} job
+ * @returns {(run: Run) => Promise<number>}
+ */
+function asProgram(job) {
+    return async run => {
+        try {
+            return await job(run);
+        } catch (error) {
+            if (!(error instanceof ProgramFault)) throw error;
+            run.files.removeUnfinished();
+            await run.output.write(new TextEncoder().encode(error.message));
+            return STATUS.FAILED;
+        }
+    };
 }
 
 /** What the program says if an image can't be opened, read or written. */
@@ -66,20 +85,14 @@ async function report(run, textOf) {
     const { reader, base } = await openImage(run);
     if (imageTooLong(reader.size)) throw new ProgramFault(MESSAGES.long_image);
     const survey = await orSay(OF_IMAGES, () => run.survey(reader, base));
-    const { status, text } = textOf(run.calls, survey, reader.size % SECTOR_SIZE);
+    const { status, text } = textOf(survey, reader.size % SECTOR_SIZE);
     await run.output.write(text);
     return status;
 }
 
-/** @param {Run} run */
-export function listJob(run) {
-    return report(run, listText);
-}
+export const listJob = asProgram(run => report(run, listText));
 
-/** @param {Run} run */
-export function auditJob(run) {
-    return report(run, auditText);
-}
+export const auditJob = asProgram(run => report(run, auditText));
 
 /**
  * The patches of the script that a job names.
@@ -90,7 +103,7 @@ async function patchesOfScript(run) {
     const pieces = run.files.piecesOf(run.names[1]);
     const patches = await orSay(OF_SCRIPTS, () => patchesOf(run.calls, pieces, run.options.long));
     if (!(patches instanceof Refusal)) return patches;
-    throw new ProgramFault(patches.reason === 'script-too-long' ? MESSAGES.long_script : patches.text);
+    throw new ProgramFault(patches.reason === 'too-long' ? MESSAGES.long_script : patches.text);
 }
 
 /**
@@ -98,29 +111,27 @@ async function patchesOfScript(run) {
  * @param {Run} run
  * @param {{ reader: Reader, base: number }} image
  * @param {Patch[]} patches
- * @param {(piece: Piece) => void | Promise<void>} take
+ * @param {(piece: Piece) => void | Promise<void>} [take]
  */
 async function patch(run, { reader, base }, patches, take) {
     const { carry = false } = run.options;
+    if (imageTooLong(reader.size)) throw new ProgramFault(MESSAGES.long_image);
     const made = await orSay(OF_IMAGES, () => passPatched(run.calls, reader, patches, base, carry, take));
-    if (made instanceof Refusal) throw new ProgramFault(MESSAGES.long_image);
     await run.output.write(made.text);
-    run.output.finish();
+    run.output.flush();
     return made.status;
 }
 
-/** @param {Run} run */
-export async function checkJob(run) {
+export const checkJob = asProgram(async run => {
     const patches = await patchesOfScript(run);
-    return patch(run, await openImage(run), patches, () => {});
-}
+    return patch(run, await openImage(run), patches);
+});
 
-/** @param {Run} run */
-export async function applyJob(run) {
+export const applyJob = asProgram(async run => {
     const patches = await patchesOfScript(run);
     const image = await openImage(run);
     const out = await orSay(OF_IMAGES, () => run.files.make(run.names[2]));
     const status = await patch(run, image, patches, piece => out.writePiece(image.reader, piece));
     await orSay(OF_IMAGES, () => out.finish());
     return status;
-}
+});

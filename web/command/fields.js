@@ -1,9 +1,9 @@
 // How many bytes of which fields differ between two images: `diff --fields`.
 
+import { bytesOfLines } from '../core/bytes.js';
 import { FIELD_COUNT, tailsDiffer } from '../core/compare.js';
 import { Fault } from '../core/faults.js';
 import { FIELDS } from '../core/sector.js';
-import { bytesOfLines } from './words.js';
 
 /** @typedef {import('../core/compare.js').Differing} Differing */
 /** @typedef {import('../core/disc.js').DiscImage} DiscImage */
@@ -27,14 +27,12 @@ function fieldLines({ blocks, fields }) {
 export async function differingFields(run, target, old, fresh) {
     if (old.reader.size !== fresh.reader.size) throw new Fault(`the images have ${old.reader.size} and ${fresh.reader.size} bytes`);
     let count = 0;
-    const { crew, how } = run.sharing(old.sectors);
-    await crew.share('differ', [old.reader, fresh.reader], {}, { ...how, base: old.base }, async differing => {
+    await run.crew.share('differ', [old.reader, fresh.reader], {}, { base: old.base }, async differing => {
         await target.write(bytesOfLines(fieldLines(differing)));
         count += differing.blocks.length;
     });
     const tail = await tailsDiffer(old.reader, fresh.reader);
-    if (tail) run.messages.say('the bytes after the last sector differ');
+    if (tail) run.say('the bytes after the last sector differ');
     await target.write(bytesOfLines([`sectors ${old.sectors} differ ${count}`]));
-    await target.finish();
     return Number(count > 0 || tail);
 }

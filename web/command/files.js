@@ -74,38 +74,28 @@ async function readFully(length, readMore) {
 
 /**
  * A file whose places can be read in any order.
- * @implements {Reader}
+ * @param {string} name
+ * @param {number} descriptor
+ * @param {number} size
+ * @param {number} start the place in the file at which it begins
+ * @returns {Reader}
  */
-class DiskReader {
-    /**
-     * @param {string} name
-     * @param {number} descriptor
-     * @param {number} size
-     * @param {number} start the place in the file at which it begins
-     */
-    constructor(name, descriptor, size, start) {
-        this.name = name;
-        this.descriptor = descriptor;
-        this.size = size;
-        this.start = start;
-    }
-
-    /**
-     * @param {number} at
-     * @param {number} length
-     */
-    async read(at, length) {
-        await letSignalsIn();
-        return tryFile('read', this.name, () => readFully(length, (bytes, done) =>
-            readSync(this.descriptor, bytes, done, length - done, this.start + at + done)));
-    }
+function diskReader(name, descriptor, size, start) {
+    return {
+        size,
+        async read(at, length) {
+            await letSignalsIn();
+            return tryFile('read', name, () => readFully(length, (bytes, done) =>
+                readSync(descriptor, bytes, done, length - done, start + at + done)));
+        },
+    };
 }
 
 /**
  * The place up to which a descriptor has been read, or null if the system does not say.
  * @param {number} descriptor
  */
-function placeOf(descriptor) {
+function startOf(descriptor) {
     try {
         const found = /^pos:\s*(\d+)/m.exec(readFileSync(`/proc/self/fdinfo/${descriptor}`, 'latin1'));
         return found && Number(found[1]);
@@ -226,8 +216,8 @@ export class Files {
      */
     async readerOf(name, descriptor) {
         const stat = await tryFile('read', name, () => fstatSync(descriptor));
-        const start = descriptor === this.input ? placeOf(descriptor) : 0;
-        if (stat.isFile() && start !== null) return new DiskReader(name, descriptor, Math.max(stat.size - start, 0), start);
+        const start = descriptor === this.input ? startOf(descriptor) : 0;
+        if (stat.isFile() && start !== null) return diskReader(name, descriptor, Math.max(stat.size - start, 0), start);
         const pieces = [];
         let taken = 0;
         for await (const piece of this.piecesOf(name, descriptor)) {
@@ -268,6 +258,11 @@ export class Files {
         const file = new NewFile(name, descriptor, it => this.unfinished.delete(it));
         this.unfinished.add(file);
         return file;
+    }
+
+    /** What was made is complete. */
+    async finish() {
+        for (const file of this.unfinished) await file.finish();
     }
 
     removeUnfinished() {

@@ -1,14 +1,15 @@
 // The jobs that write images: `merge`, `raw`, `user` and `extract`.
 
+import { bytesOfLines } from '../core/bytes.js';
 import { Fault } from '../core/faults.js';
 import { natureOf, sliceOf } from '../core/image.js';
 import { mergeImages } from '../core/merge.js';
 import { kindName } from '../core/records.js';
 import { addToRuns, blocksIn, blocksText } from '../core/runs.js';
-import { SECTOR_SIZE, USER_SIZE, sectorCount } from '../core/sector.js';
+import { SECTOR_SIZE, USER_SIZE } from '../core/sector.js';
 import { fileNamed } from './looking.js';
 import { openTrack } from './opening.js';
-import { bytesOfLines, linesOfRuns, sayOfRuns } from './words.js';
+import { linesOfRuns, sayOfRuns } from './words.js';
 
 /** @typedef {import('../core/merge.js').Repair} Repair */
 /** @typedef {import('../core/disc.js').DiscImage} DiscImage */
@@ -43,17 +44,14 @@ export async function mergeJob(run) {
     const { image } = await openTrack(run, name);
     const others = [];
     for (const other of more) others.push((await openTrack(run, other)).image);
-    const { crew, how } = run.sharing(image.sectors);
-    const repair = await mergeImages(crew, image, others, how, piece => out.writePiece(image.reader, piece));
+    const repair = await mergeImages(run.crew, image, others, {}, piece => out.writePiece(image.reader, piece));
     if (repair.refused) {
         const i = repair.different.indexOf(Math.max(...repair.different));
         const sound = `${repair.different[i]} of ${repair.sectors} sectors are sound in ${name} and in ${others[i].name}`;
         throw new Fault(`${sound}, and differ: one of them is of another disc, or shifted`);
     }
-    others.filter((_, i) => repair.tails[i]).forEach(other => run.messages.say(`${TAILS} in ${other.name}; those of ${name} are kept`));
+    others.filter((_, i) => repair.tails[i]).forEach(other => run.say(`${TAILS} in ${other.name}; those of ${name} are kept`));
     await run.output.write(bytesOfLines(repairLines(repair, others)));
-    run.output.finish();
-    await out.finish();
     return Number(repair.damaged.length > 0);
 }
 
@@ -69,9 +67,7 @@ export async function rawJob(run) {
     if (first + count > BLOCKS_WITH_ADDRESS) {
         throw new Fault(`${name} goes on after block ${BLOCKS_WITH_ADDRESS - 1}, the last one with an address`);
     }
-    const { crew, how } = run.sharing(count);
-    await crew.share('raw', [reader], {}, { ...how, base: first, units: [USER_SIZE] }, bytes => out.write(bytes));
-    await out.finish();
+    await run.crew.share('raw', [reader], {}, { base: first, units: [USER_SIZE] }, bytes => out.write(bytes));
     return 0;
 }
 
@@ -87,8 +83,7 @@ async function writeUser(run, out, reader, base, size) {
     /** @type {KindRun[]} */
     const others = [];
     let left = size;
-    const { crew, how } = run.sharing(sectorCount(reader.size));
-    await crew.share('user', [reader], {}, { ...how, base }, async answer => {
+    await run.crew.share('user', [reader], {}, { base }, async answer => {
         for (const it of answer.others) addToRuns(others, it);
         const user = answer.user.subarray(0, left);
         left -= answer.user.length;
@@ -103,8 +98,7 @@ export async function userJob(run) {
     const out = await run.files.make(run.names[1]);
     const { part } = await openTrack(run, run.names[0]);
     const has = await writeUser(run, out, part.reader, part.base, part.sectors * USER_SIZE);
-    if (part.tail > 0) run.messages.say(`the ${part.tail} bytes after the last sector are left out`);
-    await out.finish();
+    if (part.tail > 0) run.say(`the ${part.tail} bytes after the last sector are left out`);
     return Number(has || part.tail > 0);
 }
 
@@ -116,6 +110,5 @@ export async function extractJob(run) {
     if (fault !== '') throw new Fault(`${path}: ${fault}`);
     const [first, count] = [block - part.base, Math.ceil(size / USER_SIZE)];
     const has = await writeUser(run, out, sliceOf(part.reader, first * SECTOR_SIZE, (first + count) * SECTOR_SIZE), block, size);
-    await out.finish();
     return Number(has);
 }

@@ -1,12 +1,11 @@
 // The job `info`: what a file is, with all that is found in it.
 
 import { createHash } from 'node:crypto';
-import { readBytes } from '../core/bytes.js';
+import { bytesOfLines, readBytes } from '../core/bytes.js';
 import { natureOf } from '../core/image.js';
 import { SECTOR_SIZE } from '../core/sector.js';
 import { listText, surveyCounts } from '../core/survey.js';
 import { openDiscOf, openTrack } from './opening.js';
-import { bytesOfLines } from './words.js';
 
 /** @typedef {import('../core/bytes.js').Reader} Reader */
 /** @typedef {import('../core/disc.js').Disc} Disc */
@@ -62,7 +61,7 @@ function trackText(disc, { number, type, file, block, sectors, part }) {
 async function surveyLines(run, image, reader) {
     const survey = await run.survey(reader, image.base);
     const { mode1, damaged, elsewhere } = surveyCounts(survey);
-    const list = new TextDecoder().decode(listText(run.calls, survey, reader.size % SECTOR_SIZE).text).trimEnd();
+    const list = new TextDecoder().decode(listText(survey, reader.size % SECTOR_SIZE).text).trimEnd();
     const lines = [`base ${image.base}`, list, `mode1 ${mode1} damaged ${damaged} address ${elsewhere}`];
     return { found: damaged + elsewhere > 0, lines };
 }

@@ -1,14 +1,14 @@
 // The jobs that look into a data track: `files`, `find` and `show`.
 
-import { readBytes } from '../core/bytes.js';
+import { bytesOfLines, readBytes } from '../core/bytes.js';
 import { Fault } from '../core/faults.js';
 import { VolumeFault, filesAt, filesOf } from '../core/iso.js';
 import { kindName } from '../core/records.js';
 import { FIELDS, SECTOR_SIZE, USER_SIZE, addressIn, addressText, joinedUser } from '../core/sector.js';
-import { blockOf, offsetOf } from './arguments.js';
+import { placeOf } from './numbers.js';
 import { openTrack } from './opening.js';
 import { encodingsOf, hitsOf } from './searching.js';
-import { bytesOfLines, hexByte } from './words.js';
+import { hexByte } from './words.js';
 
 /** @typedef {import('../core/disc.js').DiscImage} DiscImage */
 /** @typedef {import('../core/edit.js').Place} Place */
@@ -59,8 +59,7 @@ export async function filesJob(run) {
     const { files, faults } = await filesOf(part.reader, part.base);
     const lines = files.map(({ block, size, path, fault }) => [block, size, path, ...fault === '' ? [] : [fault]].join('\t'));
     await target.write(bytesOfLines(lines));
-    await target.finish();
-    faults.forEach(fault => run.messages.say(fault));
+    faults.forEach(fault => run.say(fault));
     return Number(faults.length > 0 || files.some(({ fault }) => fault !== ''));
 }
 
@@ -120,13 +119,12 @@ export async function findJob(run) {
     // The files are read while the threads search.
     const [found, { files, why }] = await Promise.all([hitsOf(run, part, run.names[1], limit), filesIfAny(part)]);
     const { count, hits } = found || { count: 0, hits: [] };
-    if (hits.length > 0) why.forEach(text => run.messages.say(text));
+    if (hits.length > 0) why.forEach(text => run.say(text));
     for (const hit of hits) {
         const text = found && await around(part, found.encoding, hit);
         await target.write(bytesOfLines([[hit.block, hit.offset, hit.size, filesText(files, hit), text].join('\t')]));
     }
-    await target.finish();
-    run.messages.say(`hits ${count} printed ${hits.length}`);
+    run.say(`hits ${count} printed ${hits.length}`);
     return Number(count === 0);
 }
 
@@ -152,7 +150,7 @@ function rowText(user, at, encoding) {
 async function sectorLines(run, part, sector, place) {
     const [found] = new TextDecoder().decode(run.calls.audit(sector, place.block).text).split('\n');
     const { files, why } = await filesIfAny(part);
-    why.forEach(text => run.messages.say(text));
+    why.forEach(text => run.say(text));
     const edc = Array.from(sector.subarray(FIELDS.edc, FIELDS.zeros), hexByte).join('');
     return [
         `block ${place.block} address ${addressText(addressIn(sector, 0))} ${kindName(run.calls.kind(sector))} edc ${edc}`,
@@ -164,7 +162,7 @@ async function sectorLines(run, part, sector, place) {
 /** @param {Run} run */
 export async function showJob(run) {
     const [name, blockText, offsetText = '0'] = run.names;
-    const place = { block: blockOf(blockText), offset: offsetOf(offsetText) };
+    const place = placeOf(blockText, offsetText);
     const encoding = (await encodingsOf(run).next()).value;
     const first = Math.floor(place.offset / ROW) * ROW;
     const end = run.names.length < 3 ? USER_SIZE : Math.min(first + SHOWN, USER_SIZE);
@@ -176,6 +174,5 @@ export async function showJob(run) {
     const lines = await sectorLines(run, part, sector, place);
     for (let at = first; at < end; at += ROW) lines.push(rowText(joinedUser(sector), at, encoding));
     await target.write(bytesOfLines(lines));
-    await target.finish();
     return 0;
 }

@@ -3,49 +3,22 @@
 import { isMainThread } from 'node:worker_threads';
 import { gunzipSync } from 'node:zlib';
 import { Fault } from '../core/faults.js';
+import { STATUS } from '../core/records.js';
 import { argumentsOf } from './arguments.js';
-import { ProgramFault, applyJob, auditJob, checkJob, listJob } from './as_program.js';
 import { Files } from './files.js';
+import { FORMS } from './forms.js';
 import { helpText } from './help.js';
-import { extractJob, mergeJob, rawJob, userJob } from './images.js';
-import { infoJob } from './informing.js';
-import { filesJob, findJob, showJob } from './looking.js';
 import { MESSAGES } from './messages.js';
 import { Messages } from './output.js';
 import { Run } from './run.js';
-import { replaceFileJob, replaceJob } from './replacing.js';
-import { diffJob, rebuildsJob, undoJob } from './scripts.js';
 import { serveThread } from './threads.js';
 
 /** @typedef {import('./arguments.js').Given} Given */
 /** @typedef {import('./run.js').Streams} Streams */
 
-const DONE = 0;
-const FAILED = 2;
 const STANDARD = { input: 0, output: 1, errors: 2 };
 /** @type {('SIGHUP' | 'SIGINT' | 'SIGTERM')[]} */
 const ENDING = ['SIGHUP', 'SIGINT', 'SIGTERM'];
-
-/** @type {Record<string, (run: Run) => Promise<number>>} the jobs, which return the status */
-const JOB_TABLE = {
-    'info': infoJob,
-    'list': listJob,
-    'audit': auditJob,
-    'check': checkJob,
-    'apply': applyJob,
-    'files': filesJob,
-    'find': findJob,
-    'show': showJob,
-    'extract': extractJob,
-    'replace': replaceJob,
-    'replace-file': replaceFileJob,
-    'diff': diffJob,
-    'merge': mergeJob,
-    'rebuilds': rebuildsJob,
-    'undo': undoJob,
-    'raw': rawJob,
-    'user': userJob,
-};
 
 /** @param {number} number of a version, as 10100 */
 function versionText(number) {
@@ -61,21 +34,7 @@ async function printHelp({ job, options }, run) {
     const version = `cdscript ${versionText(run.calls.version())}`;
     const text = options.version ? `${version}\n` : helpText(job, version);
     await run.output.write(options.notices ? gunzipSync(Buffer.from(JOINED.notices, 'base64')) : new TextEncoder().encode(text));
-    return DONE;
-}
-
-/**
- * Says why a job failed, on the stream that its messages go to.
- * @param {unknown} error
- * @param {Run} run
- */
-async function say(error, run) {
-    if (error instanceof ProgramFault) {
-        await run.output.write(new TextEncoder().encode(error.message));
-        run.output.finish();
-    } else {
-        run.messages.say(messageOf(error));
-    }
+    return STATUS.DONE;
 }
 
 /** @param {unknown} error */
@@ -83,25 +42,8 @@ function messageOf(error) {
     if (!(error instanceof Error)) return String(error);
     if (error instanceof Fault) return error.message;
     // As node and the engine say it, in a thread too.
-    if (/allocation failed|out of memory|memory\.grow/i.test(error.message)) return 'no memory';
+    if (/allocation failed|out of memory|memory\.grow/i.test(error.message)) return MESSAGES.no_memory;
     return `a fault in cdscript itself: ${error.stack}`;
-}
-
-/**
- * Does a job and returns the status.
- * @param {Given} given
- * @param {Run} run
- */
-async function statusOf(given, run) {
-    try {
-        const { help, version, notices } = given.options;
-        const status = help || version || notices ? await printHelp(given, run) : await JOB_TABLE[given.job](run);
-        run.output.finish();
-        return status;
-    } catch (error) {
-        await say(error, run);
-        return FAILED;
-    }
 }
 
 /**
@@ -114,16 +56,20 @@ export async function main(words, streams = STANDARD, files = new Files(streams.
     const messages = new Messages(streams.errors);
     let run = null;
     try {
-        if (words.some(word => word.includes('\uFFFD'))) throw new Fault(MESSAGES.no_text.replace(/^cdpatch: /, ''));
+        if (words.some(word => word.includes('\uFFFD'))) throw new Fault(MESSAGES.no_text);
         const given = argumentsOf(words);
-        run = new Run(given, streams, files);
-        return await statusOf(given, run);
+        const { help, version, notices } = given.options;
+        run = new Run(given, streams, files, messages);
+        const status = help || version || notices ? await printHelp(given, run) : await FORMS[given.job].job(run);
+        run.output.flush();
+        await files.finish();
+        return status;
     } catch (error) {
         messages.say(messageOf(error));
-        return FAILED;
+        return STATUS.FAILED;
     } finally {
         files.close();
-        if (run !== null) run.close();
+        if (run !== null) run.crew.close();
     }
 }
 
@@ -151,6 +97,6 @@ export function start() {
     const files = new Files(STANDARD.input, () => endOnSignals(files));
     main(process.argv.slice(2), STANDARD, files).catch(error => {
         new Messages(STANDARD.errors).say(messageOf(error));
-        return FAILED;
+        return STATUS.FAILED;
     }).then(status => process.exit(status));
 }

@@ -26,7 +26,7 @@ export async function openDiscOf(run, name) {
     const others = kind === 'cue' ? await filesOfSheet(run, file) : [];
     const disc = await openDisc(run.calls, [file, ...others]);
     const long = disc.files.find(({ reader }) => imageTooLong(reader.size));
-    if (long) throw new Fault(`${long.name}: ${MESSAGES.long_image.replace(/^cdpatch: /, '')}`);
+    if (long) throw new Fault(`${long.name}: ${MESSAGES.long_image}`);
     return disc;
 }
 
@@ -70,7 +70,7 @@ export async function openTrack(run, name) {
     }
     if (image.addressed !== image.base) {
         const why = image.addressed === null ? 'do not say its first block' : 'begin before block 0';
-        run.messages.say(`the addresses in ${image.name} ${why}; its first block counts as ${image.base} here, see --base`);
+        run.say(`the addresses in ${image.name} ${why}; its first block counts as ${image.base} here, see --base`);
     }
     return { disc, track, image, part };
 }

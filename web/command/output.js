@@ -44,16 +44,16 @@ export class Output {
     /** @param {Uint8Array} bytes */
     async write(bytes) {
         if (bytes.length >= COLLECTED) {
-            this.finish();
+            this.flush();
             writeToStream(this.descriptor, bytes);
             return;
         }
         this.collected.push(bytes);
-        if (this.collected.size >= COLLECTED) this.finish();
+        if (this.collected.size >= COLLECTED) this.flush();
     }
 
     /** Writes what was collected. */
-    finish() {
+    flush() {
         const bytes = this.collected.bytes();
         this.collected = new ByteList();
         this.before();

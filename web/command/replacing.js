@@ -7,12 +7,12 @@ import { Fault } from '../core/faults.js';
 import { findIn, sectorsBeyond } from '../core/find.js';
 import { leftText } from '../core/lines.js';
 import { ScriptParts } from '../core/output.js';
-import { checkPatches } from '../core/patch.js';
+import { passPatched } from '../core/patch.js';
 import { Refusal, patchesOf } from '../core/script.js';
 import { SECTOR_SIZE, USER_SIZE } from '../core/sector.js';
 import { encodeText } from '../core/text.js';
-import { blockOf, offsetOf } from './arguments.js';
 import { fileNamed, userBytes } from './looking.js';
+import { placeOf } from './numbers.js';
 import { openTrack } from './opening.js';
 import { writeScript } from './scripts.js';
 import { encodingsWith, hitsOf } from './searching.js';
@@ -69,7 +69,7 @@ async function placesOf(run, part, text) {
     const { count, hits, encoding } = found;
     if (count === 1 || (run.options.all && count === hits.length)) return { encoding, places: hits };
     if (run.options.all) throw new Fault(`the text stands at ${count} places, and no more than ${MOST_PLACES} are replaced`);
-    hits.forEach(({ block, offset }) => run.messages.say(`it stands at block ${block} offset ${offset}`));
+    hits.forEach(({ block, offset }) => run.say(`it stands at block ${block} offset ${offset}`));
     throw new Fault(`the text stands at ${count} places: give BLOCK and OFFSET of one, or --all`);
 }
 
@@ -94,11 +94,11 @@ function spaceIn(encoding) {
  * @param {string} text
  * @param {number} size
  */
-function freshBytes({ options, messages }, encoding, text, size) {
+function freshBytes(run, encoding, text, size) {
     const bytes = encodeText(encoding, text);
-    const fill = bytes.length < size ? options.fill || spaceIn(encoding) : null;
+    const fill = bytes.length < size ? run.options.fill || spaceIn(encoding) : null;
     const filled = filledUp(bytes, size, fill);
-    if (fill !== null) messages.say(`bytes filled up with ${Array.from(fill, hexByte).join('')}: ${size - bytes.length}`);
+    if (fill !== null) run.say(`bytes filled up with ${Array.from(fill, hexByte).join('')}: ${size - bytes.length}`);
     return filled;
 }
 
@@ -138,15 +138,15 @@ async function replacedEverywhere(run, image, { encoding, places }, before, afte
  */
 async function assertFits(run, image, script) {
     const patches = await patchesOf(run.calls, script.pieces, true);
-    const checked = patches instanceof Refusal ? patches : await checkPatches(run.calls, image.reader, patches, image.base, false);
-    if (checked instanceof Refusal || checked.status !== 0) throw new Fault('the patches do not fit together, so no script is written');
+    const fit = !(patches instanceof Refusal) && (await passPatched(run.calls, image.reader, patches, image.base, false)).status === 0;
+    if (!fit) throw new Fault('the patches do not fit together, so no script is written');
 }
 
 /** @param {Run} run */
 export async function replaceJob(run) {
     const [name, ...more] = run.names;
     const [after, before, offset, block] = more.reverse();
-    const given = block === undefined ? null : { block: blockOf(block), offset: offsetOf(offset) };
+    const given = block === undefined ? null : placeOf(block, offset);
     if (given !== null && run.options.all) throw new Fault('--all and a place exclude each other');
     const target = await run.target();
     const { image, part } = await openTrack(run, name);
@@ -163,11 +163,10 @@ export async function replaceFileJob(run) {
     const { part } = await openTrack(run, run.names[0]);
     const file = await fileNamed(part, run.names[1]);
     const { reader } = await run.files.image(run.names[2]);
-    const { crew, how } = run.sharing(Math.ceil(file.size / USER_SIZE));
-    const made = await replaceFile(run.calls, crew, part, file, reader, { ...how, fill: fill[0] });
+    const made = await replaceFile(run.calls, run.crew, part, file, reader, { fill: fill[0] });
     sayOfRuns(run, made.left, left => leftText([left], part.name));
     if (made.script === null) throw new Fault('these blocks of the file can not be patched, so no script is written');
-    if (reader.size < file.size) run.messages.say(`bytes filled up with ${hexByte(fill[0])}: ${file.size - reader.size}`);
+    if (reader.size < file.size) run.say(`bytes filled up with ${hexByte(fill[0])}: ${file.size - reader.size}`);
     await writeScript(run, target, made.script);
     return 0;
 }

@@ -1,18 +1,17 @@
 // What a job works with: its arguments, files, output, messages, the calls, and threads.
 
 import { gunzipSync } from 'node:zlib';
+import { joinedBytes } from '../core/bytes.js';
 import { Calls } from '../core/codes.js';
-import { sectorCount } from '../core/sector.js';
-import { joinSurveys } from '../core/survey.js';
-import { Messages, Output } from './output.js';
+import { Output } from './output.js';
 import { Threads } from './threads.js';
 
 /** @typedef {import('../core/bytes.js').Reader} Reader */
-/** @typedef {import('../core/survey.js').Survey} Survey */
 /** @typedef {import('./arguments.js').Given} Given */
 /** @typedef {import('./files.js').Files} Files */
+/** @typedef {import('./output.js').Messages} Messages */
 /** @typedef {{ input: number, output: number, errors: number }} Streams the descriptors of the standard streams */
-/** @typedef {{ write(bytes: Uint8Array): Promise<void>, finish(): void | Promise<void> }} Target what a script or a list is written to */
+/** @typedef {{ write(bytes: Uint8Array): Promise<void> }} Target what a script or a list is written to */
 
 /** @type {WebAssembly.Module | null} */
 let compiled = null;
@@ -23,29 +22,31 @@ function compiledModule() {
     return compiled;
 }
 
+/** What was asked for, and what a job does it with. */
 export class Run {
     /**
      * @param {Given} given
      * @param {Streams} streams
      * @param {Files} files
+     * @param {Messages} messages
      */
-    constructor({ names, options }, streams, files) {
+    constructor({ names, options }, streams, files, messages) {
         this.names = names;
         this.options = options;
         this.files = files;
-        this.messages = new Messages(streams.errors);
-        this.output = new Output(streams.output, () => this.messages.hideProgress());
+        this.messages = messages;
+        this.output = new Output(streams.output, () => messages.hideProgress());
         this.calls = new Calls(compiledModule());
-        this.threads = new Threads(compiledModule(), this.calls);
+        this.crew = new Threads(compiledModule(), this.calls, (done, all) => messages.progress(done, all));
     }
 
     /**
-     * Who shares so many sectors, and how.
-     * @param {number} sectors
+     * Says something on standard error, after what was printed so far.
+     * @param {string} line
      */
-    sharing(sectors) {
-        const progress = (/** @type {number} */ done, /** @type {number} */ all) => this.messages.progress(done, all);
-        return { crew: this.threads.crew(sectors), how: { progress } };
+    say(line) {
+        this.output.flush();
+        this.messages.say(line);
     }
 
     /**
@@ -62,14 +63,9 @@ export class Run {
      * @param {number} base
      */
     async survey(reader, base) {
-        /** @type {Survey[]} */
+        /** @type {Uint8Array[]} */
         const parts = [];
-        const { crew, how } = this.sharing(sectorCount(reader.size));
-        await crew.share('survey', [reader], {}, { ...how, base }, part => { parts.push(part); });
-        return joinSurveys(parts, base);
-    }
-
-    close() {
-        this.threads.close();
+        await this.crew.share('survey', [reader], {}, { base }, ({ records }) => void parts.push(records));
+        return { block: base, records: joinedBytes(parts) };
     }
 }

@@ -31,10 +31,9 @@ const HEALED = 'its damage does not come back; its address and its user data do'
  */
 export async function writeScript(run, target, { pieces, patches, long, carry }) {
     for (const piece of pieces) await target.write(piece);
-    await target.finish();
-    if (patches === 0) run.messages.say('the script has no patch');
-    if (carry) run.messages.say('the script patches damaged sectors: it needs --carry');
-    if (long) run.messages.say('the script is longer than cdpatch takes: cdscript apply --long applies it');
+    if (patches === 0) run.say('the script has no patch');
+    if (carry) run.say('the script patches damaged sectors: it needs --carry');
+    if (long) run.say('the script is longer than cdpatch takes: cdscript apply --long applies it');
 }
 
 /** @param {Run} run */
@@ -45,10 +44,9 @@ export async function diffJob(run) {
     const { image } = await openTrack(run, oldName);
     const fresh = dataTrack(await openDiscOf(run, newName), track).image;
     if (run.options.fields) return differingFields(run, target, image, fresh);
-    const { crew, how } = run.sharing(image.sectors);
-    const made = await compareImages(run.calls, crew, image.reader, fresh.reader, { ...how, base: image.base, skipDamaged });
+    const made = await compareImages(run.calls, run.crew, image.reader, fresh.reader, { base: image.base, skipDamaged });
     sayOfRuns(run, made.left, left => leftText([left], newName));
-    if (made.tail) run.messages.say('the bytes after the last sector differ, and no script changes them');
+    if (made.tail) run.say('the bytes after the last sector differ, and no script changes them');
     if (made.script === null) throw new Fault('no script leads to that image, so none is written');
     await writeScript(run, target, made.script);
     return made.left.length > 0 ? LEFT : 0;
@@ -70,8 +68,7 @@ export async function rebuildsJob(run) {
 
 /** @param {Refusal} refusal */
 function refusalText({ reason, text }) {
-    if (reason === 'script-fault') return new TextDecoder().decode(text).trim();
-    return (reason === 'script-too-long' ? MESSAGES.long_script : MESSAGES.long_image).replace(/^cdpatch: /, '');
+    return reason === 'fault' ? new TextDecoder().decode(text).trim() : MESSAGES.long_script;
 }
 
 /** @param {Run} run */
@@ -82,7 +79,7 @@ export async function undoJob(run) {
     const made = await undoScript(run.calls, image.reader, run.files.piecesOf(run.names[1]), { base: image.base, carry, long });
     if (made instanceof Refusal) throw new Fault(refusalText(made));
     const refused = made.patched.outcomes.filter(({ result }) => result !== 0).length;
-    if (refused > 0) run.messages.say(`${refused} patches are refused on ${image.name}: is it the image before the script?`);
+    if (refused > 0) run.say(`${refused} patches are refused on ${image.name}: is it the image before the script?`);
     sayOfRuns(run, made.left, left => left.why === 'damaged' ? `${blocksText([left])}: ${HEALED}` : leftText([left], image.name));
     await writeScript(run, target, made.script);
     return refused > 0 || made.left.length > 0 ? LEFT : 0;

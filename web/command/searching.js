@@ -62,28 +62,16 @@ export async function* encodingsWith(run, text) {
 export async function hitsOf(run, part, text, limit) {
     if (text === '') throw new Fault('there is nothing to find in a text without characters');
     for await (const encoding of encodingsWith(run, text)) {
-        const found = await hitsIn(run, part, encoding, text, limit);
+        const wanted = encoding.units(text);
+        /** @type {Found[]} */
+        const parts = [];
+        const how = { base: part.base, beyond: sectorsBeyond(wanted) };
+        await run.crew.share('find', [part.reader], { wanted, limit }, how, answer => void parts.push(answer));
+        const found = joinFound(parts, limit);
         if (found.count === 0) continue;
         const { encoding: named, table } = run.options;
-        if (named === undefined && table === undefined) run.messages.say(`the text stands there in ${encoding.name}`);
+        if (named === undefined && table === undefined) run.say(`the text stands there in ${encoding.name}`);
         return { ...found, encoding };
     }
     return null;
-}
-
-/**
- * @param {Run} run
- * @param {DiscImage} part
- * @param {Encoding} encoding
- * @param {string} text
- * @param {number} limit
- */
-async function hitsIn(run, part, encoding, text, limit) {
-    const wanted = encoding.units(text);
-    /** @type {Found[]} */
-    const parts = [];
-    const { crew, how } = run.sharing(part.sectors);
-    const sharing = { ...how, base: part.base, beyond: sectorsBeyond(wanted) };
-    await crew.share('find', [part.reader], { wanted, limit }, sharing, found => { parts.push(found); });
-    return joinFound(parts, limit);
 }

@@ -4,6 +4,7 @@ import { cpus } from 'node:os';
 import { Worker, parentPort, workerData } from 'node:worker_threads';
 import { Calls } from '../core/codes.js';
 import { Crew, localHand, serving, transfersOf } from '../core/jobs.js';
+import { sectorCount } from '../core/sector.js';
 
 /** @typedef {import('../core/jobs.js').Hand} Hand */
 
@@ -35,17 +36,25 @@ export function serveThread() {
     });
 }
 
-/** A crew: threads for many sectors, and for a few this thread. */
+/** What shares out a job: among threads if it has many sectors, and else it is done by this one. */
 export class Threads {
     /**
      * @param {WebAssembly.Module} module
      * @param {Calls} calls
+     * @param {(done: number, all: number) => void} progress
      */
-    constructor(module, calls) {
+    constructor(module, calls, progress) {
         this.module = module;
         this.calls = calls;
+        this.progress = progress;
         /** @type {ReturnType<typeof threadHand>[]} */
         this.threads = [];
+    }
+
+    /** @type {Crew['share']} */
+    share(job, readers, args, how, take) {
+        const crew = this.crew(sectorCount(readers[0].size));
+        return crew.share(job, readers, args, { progress: this.progress, ...how }, take);
     }
 
     /** @param {number} sectors how many there are to do */

@@ -29,11 +29,6 @@ export function linesOfRuns(runs, textOf) {
  * @param {R[]} runs
  * @param {(run: R) => string} textOf
  */
-export function sayOfRuns({ messages }, runs, textOf) {
-    linesOfRuns(runs, textOf).forEach(line => messages.say(line));
-}
-
-/** @param {string[]} lines */
-export function bytesOfLines(lines) {
-    return new TextEncoder().encode(lines.map(line => `${line}\n`).join(''));
+export function sayOfRuns(run, runs, textOf) {
+    linesOfRuns(runs, textOf).forEach(line => run.say(line));
 }

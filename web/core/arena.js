@@ -6,17 +6,12 @@ const PATCH_SIZE = 4096;
 const ANSWER_SIZE = 144;
 const PAGE_SIZE = 65536;
 
-/** @param {number} size */
-function aligned(size) {
-    return Math.ceil(size / 16) * 16;
-}
-
 /** Bytes that are held stay until others are put. So nothing may be awaited while they are used. */
 export class Arena {
     /** @param {WebAssembly.Module} module of libcdpatch, with 32-bit addresses of memory */
     constructor(module) {
         this.exports = /** @type {Record<string, any>} */ (new WebAssembly.Instance(module).exports);
-        this.answer = aligned(Number(this.exports.__heap_base.value));
+        this.answer = Math.ceil(Number(this.exports.__heap_base.value) / 16) * 16;
         this.patch = this.answer + ANSWER_SIZE;
         this.fresh = this.patch + PATCH_RECORD_SIZE;
         this.old = this.fresh + PATCH_SIZE;
@@ -38,18 +33,19 @@ export class Arena {
     }
 
     /**
-     * Copies bytes to the arena, and returns where each piece stands. A number is room for as many bytes, whatever they are.
+     * Copies bytes to the arena, one piece after the other, and returns where each stands. A number is room for as many bytes, whatever
+     * they are. The first piece stands as a record of the module has to.
      * @param {...(Uint8Array | number)} pieces
      */
     put(...pieces) {
         const sizes = pieces.map(piece => typeof piece === 'number' ? piece : piece.length);
         this.heldSize = 0;
-        this.reserve(sizes.reduce((sum, size) => sum + aligned(size), 0));
+        this.reserve(sizes.reduce((sum, size) => sum + size, 0));
         let end = this.arena;
         return pieces.map((piece, i) => {
             const at = end;
             if (typeof piece !== 'number') this.memory.set(piece, at);
-            end += aligned(sizes[i]);
+            end += sizes[i];
             return BigInt(at);
         });
     }
@@ -63,17 +59,10 @@ export class Arena {
         return this.memory.slice(Number(at), Number(at) + Number(size));
     }
 
-    /** @param {...Uint8Array} pieces texts, or sectors, one after the other, for the calls that take a place in what is held */
+    /** @param {...Uint8Array} pieces texts, or sectors, for the calls that take a place in what is held */
     hold(...pieces) {
-        this.heldSize = 0;
-        const size = pieces.reduce((sum, piece) => sum + piece.length, 0);
-        this.reserve(size);
-        let at = this.arena;
-        for (const piece of pieces) {
-            this.memory.set(piece, at);
-            at += piece.length;
-        }
-        this.heldSize = size;
+        this.put(...pieces);
+        this.heldSize = pieces.reduce((sum, piece) => sum + piece.length, 0);
     }
 
     /**

@@ -26,16 +26,14 @@ export class ImageEnded extends Fault {}
  * @returns {Promise<Uint8Array>}
  */
 export async function readBytes(reader, at, length) {
-    let bytes = new Uint8Array(0);
+    const parts = [];
     for (let done = 0; done < length;) {
         const part = await reader.read(at + done, length - done);
-        if (part.length === length) return part;
         if (part.length === 0) throw new ImageEnded(`the image ends at byte ${at + done}`);
-        if (done === 0) bytes = new Uint8Array(length);
-        bytes.set(part, done);
+        parts.push(part);
         done += part.length;
     }
-    return bytes;
+    return parts.length === 1 ? parts[0] : joinedBytes(parts);
 }
 
 /**
@@ -68,6 +66,11 @@ export function joinedBytes(parts) {
         at += part.length;
     }
     return whole;
+}
+
+/** @param {string[]} lines without their ends */
+export function bytesOfLines(lines) {
+    return new TextEncoder().encode(lines.map(line => `${line}\n`).join(''));
 }
 
 /**

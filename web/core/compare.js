@@ -1,24 +1,24 @@
 // The script that leads from one image to another.
 
-import { joinedBytes, readBytes, sameBytes } from './bytes.js';
+import { readBytes, sameBytes } from './bytes.js';
 import { Fault } from './faults.js';
 import { linesBetween } from './lines.js';
 import { ScriptParts } from './output.js';
 import { RECORD, RECORD_SIZE, SECTOR_KIND } from './records.js';
-import { FIELDS, SECTOR_SIZE, differingSectors, sectorCount, sectorOf } from './sector.js';
-import { isDamaged, surveyRange } from './survey.js';
+import { FIELDS, SECTOR_SIZE, differingSectors, sectorCount, sectorOf, sectorsAt } from './sector.js';
+import { isSound } from './survey.js';
 
 /** @typedef {import('./codes.js').Calls} Calls */
 /** @typedef {import('./bytes.js').Reader} Reader */
-/** @typedef {import('./jobs.js').Crew} Crew */
+/** @typedef {import('./jobs.js').Sharer} Sharer */
 /** @typedef {import('./jobs.js').Sharing} Sharing */
 /** @typedef {import('./lines.js').Left} Left */
 /** @typedef {import('./lines.js').Lines} Lines */
 /** @typedef {import('./output.js').Script} Script */
 /**
- * What comparing gives: the script, null if it would not give NEW; how many sectors differ; what no script can say; whether the bytes
- * after the last sector differ.
- * @typedef {{ script: Script | null, changed: number, left: Left[], tail: boolean }} Comparison
+ * What comparing gives: the script, null if it would not give NEW; what no script can say; whether the bytes after the last sector
+ * differ.
+ * @typedef {{ script: Script | null, left: Left[], tail: boolean }} Comparison
  */
 
 /**
@@ -33,28 +33,19 @@ import { isDamaged, surveyRange } from './survey.js';
  * @param {Uint8Array} fresh
  * @param {number} first
  * @param {import('./lines.js').How} [how]
- * @returns {Lines & { changed: number }}
+ * @returns {Lines}
  */
 export function diffRange(calls, old, fresh, first, how) {
     const differing = differingSectors(old, fresh);
     const pairs = { blocks: differing.map(i => first + i), old: sectorsAt(old, differing), fresh: sectorsAt(fresh, differing) };
-    return { ...linesBetween(calls, pairs, how), changed: differing.length };
-}
-
-/**
- * Some sectors of a range, one after the other.
- * @param {Uint8Array} bytes
- * @param {number[]} places
- */
-export function sectorsAt(bytes, places) {
-    return joinedBytes(places.map(place => sectorOf(bytes, place)));
+    return linesBetween(calls, pairs, how);
 }
 
 /**
  * The script that leads from OLD to NEW. There is none if a block is left that no script can say, but damaged ones of NEW may be left
  * out. Throws a Fault.
  * @param {Calls} calls
- * @param {Crew} crew
+ * @param {Sharer} crew
  * @param {Reader} old
  * @param {Reader} fresh
  * @param {Sharing & { skipDamaged?: boolean }} how
@@ -65,15 +56,11 @@ export async function compareImages(calls, crew, old, fresh, { skipDamaged = fal
         throw new Fault(`the images have ${old.size} and ${fresh.size} bytes, and no script changes a length`);
     }
     const parts = new ScriptParts();
-    let changed = 0;
-    await crew.share('diff', [old, fresh], {}, how, answer => {
-        parts.push(answer);
-        changed += answer.changed;
-    });
+    await crew.share('diff', [old, fresh], {}, how, lines => parts.push(lines));
     const { left } = parts;
     const tail = await tailsDiffer(old, fresh);
     const whole = !tail && left.every(({ why }) => skipDamaged && why === 'damaged');
-    return { script: whole ? parts.script(calls) : null, changed, left, tail };
+    return { script: whole ? parts.script(calls) : null, left, tail };
 }
 
 /**
@@ -100,10 +87,10 @@ export const SECOND_STATE = Object.freeze({ SOUND: 0, DAMAGED: 1, NOT_MODE1: 2 }
 export function differRange(calls, old, fresh, first) {
     const places = differingSectors(old, fresh);
     const fields = places.flatMap(place => differingBytes(sectorOf(old, place), sectorOf(fresh, place)));
-    const { records } = surveyRange(calls, sectorsAt(fresh, places), 0);
+    const records = calls.survey(sectorsAt(fresh, places), 0);
     const states = places.map((_, i) => {
-        if (records[RECORD_SIZE * i + RECORD.KIND] !== SECTOR_KIND.MODE1) return SECOND_STATE.NOT_MODE1;
-        return isDamaged(records, RECORD_SIZE * i) ? SECOND_STATE.DAMAGED : SECOND_STATE.SOUND;
+        if (isSound(records, RECORD_SIZE * i)) return SECOND_STATE.SOUND;
+        return records[RECORD_SIZE * i + RECORD.KIND] === SECTOR_KIND.MODE1 ? SECOND_STATE.DAMAGED : SECOND_STATE.NOT_MODE1;
     });
     return { blocks: Uint32Array.from(places, place => first + place), fields: Uint16Array.from(fields), states: Uint8Array.from(states) };
 }

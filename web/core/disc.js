@@ -1,10 +1,10 @@
 // What was opened: one raw image, or a cue sheet and the files that it names. Its tracks, and the image and the block with which each
 // begins.
 
-import { readBytes, wholeOf } from './bytes.js';
+import { wholeOf } from './bytes.js';
 import { sheetOf, tracksOf } from './cue.js';
 import { Fault } from './faults.js';
-import { basesIn, joinBases, natureOf, sliceOf } from './image.js';
+import { baseByAddresses, natureOf, sliceOf } from './image.js';
 import { SECTOR_SIZE, sectorCount } from './sector.js';
 import { textOfFile } from './text.js';
 
@@ -27,8 +27,6 @@ import { textOfFile } from './text.js';
  */
 /** @typedef {{ sheet: string | null, files: DiscFile[], tracks: DiscTrack[] }} Disc */
 
-const SAMPLES_OF_ADDRESSES = 64;
-const SAMPLED_TOGETHER = 8;
 const RAW_TYPES = ['MODE1/2352', 'MODE2/2352', 'CDI/2352'];
 
 /** Why a disc can't be opened, and what to do. */
@@ -186,23 +184,7 @@ function sizesOf({ size }) {
  * @returns {Promise<DiscImage>}
  */
 async function imageOf(calls, { name, reader }, block) {
-    const { base } = joinBases(await sampledBases(calls, reader));
+    const base = await baseByAddresses(calls, reader);
     const said = block !== null && calls.address(block) !== null ? block : 0;
     return { name, reader, base: base !== null && base >= 0 ? base : said, addressed: base, ...sizesOf(reader) };
-}
-
-/**
- * What the headers of some sectors all over an image say of its base.
- * @param {Calls} calls
- * @param {Reader} reader
- */
-async function sampledBases(calls, reader) {
-    const all = sectorCount(reader.size);
-    const firsts = new Set(Array.from({ length: SAMPLES_OF_ADDRESSES }, (_, i) => Math.floor(all * i / SAMPLES_OF_ADDRESSES)));
-    const parts = [];
-    for (const first of all > 0 ? firsts : []) {
-        const count = Math.min(SAMPLED_TOGETHER, all - first);
-        parts.push(basesIn(calls, await readBytes(reader, first * SECTOR_SIZE, count * SECTOR_SIZE), first));
-    }
-    return parts;
 }

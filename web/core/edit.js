@@ -1,20 +1,20 @@
 // Scripts that replace bytes at a place, or a file.
 
 import { joinedBytes, readBytes, sameBytes } from './bytes.js';
-import { sectorsAt } from './compare.js';
 import { Fault } from './faults.js';
 import { sliceOf } from './image.js';
 import { LineList, assertLeads, linesBetween } from './lines.js';
 import { ScriptParts } from './output.js';
-import { RESULT, SECTOR_KIND } from './records.js';
+import { RECORD, RECORD_SIZE, RESULT, SECTOR_KIND } from './records.js';
 import { addToRuns, runOf } from './runs.js';
-import { SECTOR_SIZE, USER_SIZE, addressIn, joinedUser, sectorCount, sectorOf, userOf } from './sector.js';
+import { SECTOR_SIZE, USER_SIZE, addressIn, joinedUser, sectorCount, sectorsAt, userOf } from './sector.js';
+import { isSound } from './survey.js';
 
 /** @typedef {import('./codes.js').Calls} Calls */
 /** @typedef {import('./bytes.js').Reader} Reader */
 /** @typedef {import('./disc.js').DiscImage} DiscImage */
 /** @typedef {import('./iso.js').FileEntry} FileEntry */
-/** @typedef {import('./jobs.js').Crew} Crew */
+/** @typedef {import('./jobs.js').Sharer} Sharer */
 /** @typedef {import('./jobs.js').Sharing} Sharing */
 /** @typedef {import('./lines.js').Left} Left */
 /** @typedef {import('./lines.js').Lines} Lines */
@@ -56,7 +56,7 @@ export async function replaceBytes(calls, image, place, old, fresh) {
     const sectors = await sectorsOfRange(image, place, old.length);
     const blocks = Array.from({ length: sectorCount(sectors.length) }, (_, i) => place.block + i);
     const user = joinedUser(sectors);
-    for (const [i, block] of blocks.entries()) assertConsistent(calls, sectorOf(sectors, i), block);
+    assertSound(calls.survey(sectors, 0), blocks);
     const other = old.findIndex((byte, i) => byte !== user[place.offset + i]);
     if (other >= 0) throw new Fault(differsText(calls, placeAfter(place, other)));
     user.set(filledUp(fresh, old.length, null), place.offset);
@@ -114,14 +114,15 @@ function encodedUser(calls, sectors, user) {
 }
 
 /**
- * @param {Calls} calls
- * @param {Uint8Array} sector
- * @param {number} block
+ * Throws a Fault if a sector is not consistent.
+ * @param {Uint8Array} records
+ * @param {number[]} blocks
  */
-function assertConsistent(calls, sector, block) {
-    if (calls.isConsistent(sector)) return;
-    const what = calls.kind(sector) === SECTOR_KIND.MODE1 ? 'is damaged: repair it first' : 'is not Mode 1';
-    throw new Fault(`block ${block} ${what}`);
+function assertSound(records, blocks) {
+    const other = blocks.findIndex((_, i) => !isSound(records, RECORD_SIZE * i));
+    if (other < 0) return;
+    const isMode1 = records[RECORD_SIZE * other + RECORD.KIND] === SECTOR_KIND.MODE1;
+    throw new Fault(`block ${blocks[other]} ${isMode1 ? 'is damaged: repair it first' : 'is not Mode 1'}`);
 }
 
 /**
@@ -153,43 +154,42 @@ export function replaceRange(calls, sectors, wanted, first, { end }) {
     user.set(wanted.subarray(0, Math.max(end - first * USER_SIZE, 0)));
     /** @type {Left[]} */
     const left = [];
-    const changed = [];
-    for (let i = 0; i < sectorCount(sectors.length); i++) {
-        const sector = sectorOf(sectors, i);
-        if (sameBytes(userOf(sector, 0), user.subarray(USER_SIZE * i, USER_SIZE * (i + 1)))) continue;
-        const kind = calls.kind(sector);
-        if (calls.isConsistent(sector)) changed.push(i);
-        else addToRuns(left, { ...runOf(first + i), why: kind === SECTOR_KIND.MODE1 ? 'damaged' : 'kind', kinds: [kind] });
-    }
+    const userAt = (/** @type {number} */ i) => user.subarray(USER_SIZE * i, USER_SIZE * (i + 1));
+    const all = Array.from({ length: sectorCount(sectors.length) }, (_, i) => i);
+    const differing = all.filter(i => !sameBytes(userOf(sectors, i), userAt(i)));
+    const records = calls.survey(sectorsAt(sectors, differing), 0);
+    const changed = differing.filter((i, k) => {
+        const kind = records[RECORD_SIZE * k + RECORD.KIND];
+        if (isSound(records, RECORD_SIZE * k)) return true;
+        addToRuns(left, { ...runOf(first + i), why: kind === SECTOR_KIND.MODE1 ? 'damaged' : 'kind', kinds: [kind] });
+        return false;
+    });
     const old = sectorsAt(sectors, changed);
-    const fresh = encodedUser(calls, old, joinedBytes(changed.map(i => user.subarray(USER_SIZE * i, USER_SIZE * (i + 1)))));
+    const fresh = encodedUser(calls, old, joinedBytes(changed.map(userAt)));
     return { ...linesBetween(calls, { blocks: changed.map(i => first + i), old, fresh }), left };
 }
 
 /**
  * The script that replaces a file of a disc. Throws a Fault.
  * @param {Calls} calls
- * @param {Crew} crew
+ * @param {Sharer} crew
  * @param {DiscImage} image the track's
  * @param {FileEntry} file
  * @param {Reader} wanted
- * @param {Sharing & { fill?: number | null }} how with a byte to fill up with
+ * @param {Sharing & { fill?: number }} how with the byte that fills up
  * @returns {Promise<Replacement>}
  */
-export async function replaceFile(calls, crew, image, file, wanted, { fill = null, ...how } = {}) {
+export async function replaceFile(calls, crew, image, file, wanted, { fill = 0, ...how } = {}) {
     if (file.fault !== '') throw new Fault(`${file.path}: ${file.fault}`);
-    if (wanted.size > file.size || (wanted.size < file.size && fill === null)) {
-        throw new Fault(`${file.path} has ${file.size} bytes, the new file ${wanted.size}`);
-    }
+    if (wanted.size > file.size) throw new Fault(`${file.path} has ${file.size} bytes, the new file ${wanted.size}`);
     const count = Math.ceil(file.size / USER_SIZE);
     const first = file.block - image.base;
     const sectors = sliceOf(image.reader, first * SECTOR_SIZE, (first + count) * SECTOR_SIZE);
     const parts = new ScriptParts();
     const args = { end: file.block * USER_SIZE + file.size };
     const sharing = { ...how, base: file.block, units: [SECTOR_SIZE, USER_SIZE] };
-    await crew.share('replace', [sectors, filledReader(wanted, count * USER_SIZE, fill || 0)], args, sharing, answer => {
-        parts.push(answer);
-    });
+    const readers = [sectors, filledReader(wanted, count * USER_SIZE, fill)];
+    await crew.share('replace', readers, args, sharing, lines => parts.push(lines));
     return { script: parts.left.length > 0 ? null : parts.script(calls), left: parts.left };
 }
 

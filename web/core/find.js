@@ -12,7 +12,7 @@ const MOST_OPENINGS = 64;
  * @typedef {Uint8Array[][]} Wanted
  */
 /** @typedef {{ block: number, offset: number, size: number }} Hit the user byte at which it begins, and how many bytes it has */
-/** @typedef {{ first: number, count: number, hits: Hit[] }} Found from block `first` on: how many there are, and the first of them */
+/** @typedef {{ count: number, hits: Hit[] }} Found how many there are, and the first of them */
 
 /**
  * How many sectors after a range the search has to see, so that no hit that begins in the range is missed.
@@ -38,7 +38,7 @@ export function findIn(_calls, bytes, firstBlock, { wanted, count, limit }) {
     const end = parts.length > 0 ? Math.min(user.length, count * USER_SIZE) : 0;
     const anchor = anchorOf(parts, user);
     /** @type {Found} */
-    const found = { first: firstBlock, count: 0, hits: [] };
+    const found = { count: 0, hits: [] };
     for (let at = nextStart(anchor, user, 0, end); at < end; at = nextStart(anchor, user, at + 1, end)) {
         const stop = endOfMatch(parts, 0, user, at);
         if (stop < 0) continue;
@@ -49,18 +49,13 @@ export function findIn(_calls, bytes, firstBlock, { wanted, count, limit }) {
 }
 
 /**
- * The hits of several ranges as those of one, in the order of their blocks.
- * @param {Found[]} parts in any order
+ * The hits of several ranges as those of one.
+ * @param {Found[]} parts in the order of their blocks
  * @param {number} limit
  * @returns {Found}
  */
 export function joinFound(parts, limit) {
-    const sorted = [...parts].sort((a, b) => a.first - b.first);
-    return {
-        first: sorted.length > 0 ? sorted[0].first : 0,
-        count: sorted.reduce((sum, part) => sum + part.count, 0),
-        hits: sorted.flatMap(part => part.hits).slice(0, limit),
-    };
+    return { count: parts.reduce((sum, part) => sum + part.count, 0), hits: parts.flatMap(part => part.hits).slice(0, limit) };
 }
 
 /**

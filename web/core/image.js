@@ -2,22 +2,20 @@
 
 import { readBytes, wholeOf } from './bytes.js';
 import { SECTOR_KIND } from './records.js';
-import { SECTOR_SIZE, addressIn, blockAt, sectorCount, sectorOf } from './sector.js';
+import { SECTOR_SIZE, addressIn, blockAt } from './sector.js';
 import { textOfFile } from './text.js';
 
 /** @typedef {import('./codes.js').Calls} Calls */
 /** @typedef {import('./bytes.js').Reader} Reader */
 /** @typedef {'raw' | 'audio' | 'subchannels' | 'iso' | 'chd' | 'ecm' | 'archive' | 'wave' | 'cue' | 'empty' | 'unknown'} FileKind */
 /** @typedef {{ kind: FileKind, what: string, advice: string }} FileNature */
-/**
- * What the headers of a range say: how many sectors of Mode 1 it has, and for each base how many of their addresses fit it.
- * @typedef {{ mode1: number, bases: Map<number, number> }} Bases
- */
 
 const SUBCHANNEL_SIZE = 2448;
 const VOLUME_MARK = 16 * 2048 + 1;
 const LARGEST_SHEET = 1 << 17;
 const SAMPLED_PAIRS = 32;
+const SAMPLES_OF_ADDRESSES = 64;
+const SAMPLED_TOGETHER = 8;
 
 /** @type {Record<FileKind, [string, string]>} what it is, and what to do with it */
 const NATURES = {
@@ -97,21 +95,33 @@ async function latin(reader, at, length) {
 }
 
 /**
+ * Some sectors all over a file, by groups of neighbours: their numbers from 0, and their first 2352 bytes.
+ * @param {Reader} reader
+ * @param {number} size of a sector
+ * @param {number} together how many are a group
+ * @param {number} most how many groups there are at most
+ */
+async function* sampledSectors(reader, size, together, most) {
+    const sectors = Math.floor(reader.size / size);
+    const groups = Math.ceil(sectors / together);
+    const taken = Math.min(groups, most);
+    for (let i = 0; i < taken; i++) {
+        const first = together * Math.floor(groups * i / taken);
+        const bytes = await readBytes(reader, first * size, Math.min(together, sectors - first) * size);
+        for (let at = 0; at < bytes.length; at += size) yield { number: first + at / size, sector: bytes.subarray(at, at + SECTOR_SIZE) };
+    }
+}
+
+/**
  * How many of some sectors begin with a sync field. Of two neighbours at most one does if sectors have another size.
  * @param {Calls} calls
  * @param {Reader} reader
  * @param {number} size of a sector
  */
 async function countSynced(calls, reader, size) {
-    const sectors = Math.floor(reader.size / size);
-    const firsts = new Set(Array.from({ length: SAMPLED_PAIRS }, (_, i) => 2 * Math.floor(sectors * i / SAMPLED_PAIRS / 2)));
     let found = 0;
-    for (const first of sectors > 0 ? firsts : []) {
-        const count = Math.min(2, sectors - first);
-        const bytes = await readBytes(reader, first * size, count * size);
-        for (let i = 0; i < count; i++) {
-            found += Number(calls.kind(bytes.subarray(i * size, i * size + SECTOR_SIZE)) !== SECTOR_KIND.NOSYNC);
-        }
+    for await (const { sector } of sampledSectors(reader, size, 2, SAMPLED_PAIRS)) {
+        found += Number(calls.kind(sector) !== SECTOR_KIND.NOSYNC);
     }
     return found;
 }
@@ -124,48 +134,23 @@ async function isSheet(reader) {
 }
 
 /**
- * What the headers of a range say of an image's base.
+ * The block of an image's first sector: what the addresses of more than half of some Mode 1 sectors agree in, or null if there is none. It
+ * is below 0 if the image begins before block 0.
  * @param {Calls} calls
- * @param {Uint8Array} bytes of whole raw sectors
- * @param {number} first the number of the first one in the image, from 0
- * @returns {Bases}
+ * @param {Reader} reader
  */
-export function basesIn(calls, bytes, first) {
-    /** @type {Bases} */
-    const found = { mode1: 0, bases: new Map() };
-    for (let i = 0; i < sectorCount(bytes.length); i++) {
-        if (calls.kind(sectorOf(bytes, i)) !== SECTOR_KIND.MODE1) continue;
-        found.mode1 += 1;
-        const block = blockAt(calls, addressIn(bytes, i));
-        if (block !== null) addTo(found.bases, block - first - i, 1);
-    }
-    return found;
-}
-
-/**
- * @param {Map<number, number>} bases
- * @param {number} base
- * @param {number} count
- */
-function addTo(bases, base, count) {
-    bases.set(base, (bases.get(base) || 0) + count);
-}
-
-/**
- * The base of an image: what the addresses of more than half of its Mode 1 sectors agree in, or null if there is none. It is below 0
- * if the image begins before block 0. `agree` says how many of the `mode1` sectors have the address that they have by it.
- * @param {Bases[]} parts
- */
-export function joinBases(parts) {
-    /** @type {Map<number, number>} */
+export async function baseByAddresses(calls, reader) {
+    /** @type {Map<number, number>} how many addresses fit each base */
     const bases = new Map();
-    for (const part of parts) part.bases.forEach((count, base) => addTo(bases, base, count));
-    const mode1 = parts.reduce((sum, part) => sum + part.mode1, 0);
-    let [base, agree] = [/** @type {number | null} */ (null), 0];
-    bases.forEach((count, other) => {
-        if (2 * count > mode1) [base, agree] = [other, count];
-    });
-    return { base, agree, mode1 };
+    let mode1 = 0;
+    for await (const { number, sector } of sampledSectors(reader, SECTOR_SIZE, SAMPLED_TOGETHER, SAMPLES_OF_ADDRESSES)) {
+        if (calls.kind(sector) !== SECTOR_KIND.MODE1) continue;
+        mode1 += 1;
+        const block = blockAt(calls, addressIn(sector, 0));
+        if (block !== null) bases.set(block - number, (bases.get(block - number) || 0) + 1);
+    }
+    const [base] = [...bases.keys()].filter(it => 2 * (bases.get(it) || 0) > mode1);
+    return base === undefined ? null : base;
 }
 
 /**

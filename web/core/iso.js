@@ -6,19 +6,15 @@ import { entriesOfDirectory, isSelf, recordAt, sharingSkip } from './iso_records
 import { SECTOR_SIZE, USER_SIZE, joinedUser, sectorCount } from './sector.js';
 
 /** @typedef {import('./bytes.js').Reader} Reader */
-/** @typedef {import('./iso_records.js').DirectoryRecord} DirectoryRecord */
 /** @typedef {import('./iso_records.js').Entry} Entry */
-/** @typedef {'Rock Ridge' | 'Joliet' | 'ISO 9660'} Names */
 /**
  * A file, or one extent of a file that has several. `fault` says why its bytes are not just those from its block on, '' if they are.
  * @typedef {{ path: string, block: number, size: number, fault: string }} FileEntry
  */
 /**
- * The files by their blocks. `fromDisc`: the volume counts blocks from the disc's start and not from the track's. `faults` are
- * what could not be read, in lines for a person.
- * @typedef {{ names: Names, fromDisc: boolean, files: FileEntry[], faults: string[] }} VolumeFiles
+ * The files by their blocks, with the best names that there are; and what could not be read, in lines for a person.
+ * @typedef {{ files: FileEntry[], faults: string[] }} VolumeFiles
  */
-/** @typedef {{ path: string, extent: number, size: number }} Directory */
 
 const FIRST_DESCRIPTOR = 16;
 const MOST_DESCRIPTORS = 64;
@@ -86,37 +82,18 @@ class VolumeReader {
  * The files of a track's volume. Throws VolumeFault if there is none, and what the reader throws.
  * @param {Reader} reader of the track
  * @param {number} base the block of its first sector
- * @param {Names} [names] instead of the best that there are
  * @returns {Promise<VolumeFiles>}
  */
-export async function filesOf(reader, base, names) {
+export async function filesOf(reader, base) {
     const volume = new VolumeReader(reader, base);
     const { primary, joliet } = await descriptorsOf(volume);
-    const root = rootOf(primary);
-    volume.first = await firstOf(volume, root.extent);
-    const own = await volume.ownRecord(root.extent);
-    const skip = own ? await sharingSkip(volume, own) : null;
-    const chosen = chosenNames(skip !== null, joliet !== null, names);
-    const top = chosen === 'Joliet' && joliet ? rootOf(joliet) : root;
-    const walk = new Walk(volume, chosen, chosen === 'Rock Ridge' ? skip : null);
-    await walk.all({ path: '', extent: top.extent, size: top.size });
-    walk.files.sort((a, b) => a.block - b.block || Number(a.path > b.path) - Number(a.path < b.path));
-    return { names: chosen, fromDisc: base > 0 && volume.first === base, files: walk.files, faults: walk.faults };
-}
-
-/**
- * The best names of a volume, or the given ones.
- * @param {boolean} rockRidge whether it has those
- * @param {boolean} joliet
- * @param {Names | undefined} names
- * @returns {Names}
- */
-function chosenNames(rockRidge, joliet, names) {
-    if ((names === 'Rock Ridge' && !rockRidge) || (names === 'Joliet' && !joliet)) {
-        throw new VolumeFault(`the volume has no names of ${names}`);
-    }
-    const other = joliet ? 'Joliet' : 'ISO 9660';
-    return names || (rockRidge ? 'Rock Ridge' : other);
+    const { first, own } = await foundRoot(volume, rootOf(primary).extent);
+    volume.first = first;
+    const skip = await sharingSkip(volume, own);
+    const found = skip === null && joliet !== null ? await walked(volume, rootOf(joliet), true, null)
+        : await walked(volume, rootOf(primary), false, skip);
+    found.files.sort((a, b) => a.block - b.block || Number(a.path > b.path) - Number(a.path < b.path));
+    return found;
 }
 
 /**
@@ -166,87 +143,75 @@ function rootOf(descriptor) {
 }
 
 /**
- * The number that a volume gives the first sector of its track: 0, or the track's block if it counts from the disc's start. The
- * root directory decides: its first record has its own extent.
+ * The root directory's record on itself, and the number that a volume gives the first sector of its track: 0, or the track's block if it
+ * counts from the disc's start. That record has its own extent, which decides.
  * @param {VolumeReader} volume
  * @param {number} root its extent
  */
-async function firstOf(volume, root) {
+async function foundRoot(volume, root) {
     const fitting = [];
     for (const first of new Set([0, volume.base])) {
         volume.first = first;
         const own = await volume.ownRecord(root);
-        if (own !== null && own.extent === root) fitting.push(first);
+        if (own !== null && own.extent === root) fitting.push({ first, own });
     }
-    if (fitting.length === 1) return fitting[0];
     const blocks = [...new Set([volume.base + root, root])].join(' or ');
-    throw new VolumeFault(fitting.length > 1 ? `blocks ${blocks} could both be the root directory`
-        : `the root directory is not in block ${blocks}`);
+    if (fitting.length === 0) throw new VolumeFault(`the root directory is not in block ${blocks}`);
+    if (fitting.length > 1) throw new VolumeFault(`blocks ${blocks} could both be the root directory`);
+    return fitting[0];
 }
 
-/** A walk through all directories of a volume, the upper ones first. */
-class Walk {
-    /**
-     * @param {VolumeReader} volume
-     * @param {Names} names
-     * @param {number | null} skip
-     */
-    constructor(volume, names, skip) {
-        this.volume = volume;
-        this.joliet = names === 'Joliet';
-        this.skip = skip;
-        /** @type {FileEntry[]} */
-        this.files = [];
-        /** @type {string[]} */
-        this.faults = [];
-        /** @type {Set<number>} extents of the directories that were met */
-        this.met = new Set();
-    }
-
-    /** @param {Directory} root */
-    async all(root) {
-        const directories = [root];
-        for (const directory of directories) {
-            for (const entry of await this.entries(directory)) {
-                if (entry.kind === 'directory') directories.push(entry);
-                else this.files.push(this.file(entry));
-            }
+/**
+ * What all directories of a volume have, the upper ones first.
+ * @param {VolumeReader} volume
+ * @param {{ extent: number, size: number }} root
+ * @param {boolean} joliet
+ * @param {number | null} skip as sharingSkip gives it
+ */
+async function walked(volume, root, joliet, skip) {
+    /** @type {VolumeFiles} */
+    const found = { files: [], faults: [] };
+    const directories = [{ path: '', ...root }];
+    const met = new Set();
+    for (const directory of directories) {
+        const { path } = directory;
+        const fault = (/** @type {string} */ text) => void found.faults.push(`${path || '/'}: ${text}`);
+        const user = await userOfDirectory(volume, directory, met, fault);
+        for (const entry of await entriesOfDirectory(volume, user, { path, joliet, skip, fault })) {
+            if (entry.kind === 'directory') directories.push(entry);
+            else found.files.push(fileOfEntry(volume, entry));
         }
     }
+    return found;
+}
 
-    /**
-     * What a directory has. What can't be read of it is said in `faults`.
-     * @param {Directory} directory
-     */
-    async entries({ path, extent, size }) {
-        const block = this.volume.blockOf(extent);
-        const wanted = Math.ceil(size / USER_SIZE);
-        const count = this.volume.available(extent, wanted);
-        if (this.met.has(extent)) return this.fail(path, `the directory in block ${block} is also another one`);
-        if (size > LARGEST_DIRECTORY) return this.fail(path, `the directory in block ${block} would have ${size} bytes`);
-        if (count < wanted && count === 0) return this.fail(path, `the directory is in block ${block}, which the image has not`);
-        if (count < wanted) this.fail(path, `the directory in blocks ${block} to ${block + wanted - 1} goes on after the image's end`);
-        this.met.add(extent);
-        const fault = (/** @type {string} */ text) => void this.fail(path, text);
-        const user = await this.volume.user(extent, count);
-        return entriesOfDirectory(this.volume, user, { path, joliet: this.joliet, skip: this.skip, fault });
-    }
+/**
+ * The user data of a directory, as far as it can be read. What can't be is said.
+ * @param {VolumeReader} volume
+ * @param {{ extent: number, size: number }} directory
+ * @param {Set<number>} met the extents of those that were met
+ * @param {(text: string) => void} fault
+ */
+async function userOfDirectory(volume, { extent, size }, met, fault) {
+    const block = volume.blockOf(extent);
+    const wanted = Math.ceil(size / USER_SIZE);
+    const count = size > LARGEST_DIRECTORY ? 0 : volume.available(extent, wanted);
+    if (met.has(extent)) fault(`the directory in block ${block} is also another one`);
+    else if (size > LARGEST_DIRECTORY) fault(`the directory in block ${block} would have ${size} bytes`);
+    else if (count < wanted && count === 0) fault(`the directory is in block ${block}, which the image has not`);
+    else if (count < wanted) fault(`the directory in blocks ${block} to ${block + wanted - 1} goes on after the image's end`);
+    if (met.has(extent) || count === 0) return new Uint8Array(0);
+    met.add(extent);
+    return volume.user(extent, count);
+}
 
-    /**
-     * Says what could not be read of a directory.
-     * @param {string} path
-     * @param {string} text
-     * @returns {Entry[]}
-     */
-    fail(path, text) {
-        this.faults.push(`${path || '/'}: ${text}`);
-        return [];
-    }
-
-    /** @param {Entry} entry */
-    file({ path, extent, size, fault }) {
-        const count = Math.ceil(size / USER_SIZE);
-        const whole = this.volume.available(extent, count) === count;
-        return { path, block: this.volume.blockOf(extent), size, fault: fault || (whole ? '' : 'the image has not all of it') };
-    }
+/**
+ * @param {VolumeReader} volume
+ * @param {Entry} entry
+ * @returns {FileEntry}
+ */
+function fileOfEntry(volume, { path, extent, size, fault }) {
+    const count = Math.ceil(size / USER_SIZE);
+    const whole = volume.available(extent, count) === count;
+    return { path, block: volume.blockOf(extent), size, fault: fault || (whole ? '' : 'the image has not all of it') };
 }

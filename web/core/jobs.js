@@ -6,10 +6,8 @@ import { userRange } from './convert.js';
 import { replaceRange } from './edit.js';
 import { Fault } from './faults.js';
 import { findIn } from './find.js';
-import { basesIn } from './image.js';
 import { mergeRange } from './merge.js';
 import { SECTOR_SIZE } from './sector.js';
-import { surveyRange } from './survey.js';
 
 /** @typedef {import('./codes.js').Calls} Calls */
 /** @typedef {import('./bytes.js').Reader} Reader */
@@ -27,6 +25,7 @@ import { surveyRange } from './survey.js';
  * @typedef {{ post(message: Message, transfer: ArrayBuffer[]): void, onreply: (reply: Reply) => void,
  *     onfault: (error: Error) => void }} Hand
  */
+/** @typedef {Pick<Crew, 'share'>} Sharer what shares out a job */
 /**
  * The block of the first sector; how many sectors a range has, and how many after it a job sees; the bytes of a sector in each image, if
  * they are not 2352 in all; who is told of sectors that are done; and what ends the job.
@@ -36,8 +35,7 @@ import { surveyRange } from './survey.js';
 
 /** @type {Record<string, Job>} */
 export const JOBS = {
-    survey: (calls, [bytes], first) => surveyRange(calls, bytes, first),
-    bases: (calls, [bytes], first) => basesIn(calls, bytes, first),
+    survey: (calls, [bytes], block) => ({ block, records: calls.survey(bytes, block) }),
     find: (calls, [bytes], first, args) => findIn(calls, bytes, first, args),
     diff: (calls, [old, fresh], first) => diffRange(calls, old, fresh, first),
     differ: (calls, [old, fresh], first) => differRange(calls, old, fresh, first),
@@ -163,7 +161,7 @@ export class Crew {
      * @returns {Promise<any[]>}
      */
     pieces(readers, first, count, units) {
-        return readRange(readers, first, count, units);
+        return Promise.all(readers.map((reader, i) => readBytes(reader, first * units[i], count * units[i])));
     }
 
     /**
@@ -196,8 +194,9 @@ export class Crew {
      * @param {Sharing} how
      * @param {(answer: any) => void | Promise<void>} take
      */
-    async share(job, readers, args, { base = 0, step = SHARED_STEP, beyond = 0, units = [], progress, signal }, take) {
-        const [all, ...others] = readers.map(({ size }, i) => Math.floor(size / (units[i] || SECTOR_SIZE)));
+    async share(job, readers, args, { base = 0, step = SHARED_STEP, beyond = 0, units, progress, signal }, take) {
+        const sizes = units || readers.map(() => SECTOR_SIZE);
+        const [all, ...others] = readers.map(({ size }, i) => Math.floor(size / sizes[i]));
         if (others.some(count => count !== all)) throw new RangeError('images of different lengths');
         const most = RANGES_A_HAND * this.loads.size;
         /** @type {Promise<Reply>[]} */
@@ -213,27 +212,11 @@ export class Crew {
             if (replies.length === most) await takeNext();
             assertWanted(signal);
             const count = Math.min(step, all - first);
-            const pieces = await this.pieces(readers, first, Math.min(count + beyond, all - first), units);
+            const pieces = await this.pieces(readers, first, Math.min(count + beyond, all - first), sizes);
             replies.push(this.reply({ job, pieces, first: base + first, args: { ...args, count } }));
         }
         while (replies.length > 0) await takeNext();
     }
-}
-
-/**
- * The same sectors of several images.
- * @param {Reader[]} readers
- * @param {number} first
- * @param {number} count
- * @param {number[]} units the bytes of a sector in each
- */
-async function readRange(readers, first, count, units) {
-    const pieces = [];
-    for (const [i, reader] of readers.entries()) {
-        const unit = units[i] || SECTOR_SIZE;
-        pieces.push(await readBytes(reader, first * unit, count * unit));
-    }
-    return pieces;
 }
 
 /**

@@ -48,22 +48,20 @@ export function leftText(runs, image, most) {
     return `${[...new Set(runs.flatMap(run => run.kinds))].map(kindName).join(' and ')} in ${blocks}, and a script changes only mode1`;
 }
 
-/** Lines of a script, as bytes. */
+/** Lines of a script, as bytes, and what is left besides them. */
 export class LineList extends ByteList {
     constructor() {
         super();
         this.patches = 0;
         this.version = 1;
         this.carry = false;
+        /** @type {Left[]} */
+        this.left = [];
     }
 
-    /**
-     * The lines, with what is left besides them.
-     * @param {Left[]} [left]
-     * @returns {Lines}
-     */
-    lines(left = []) {
-        const { patches, version, carry } = this;
+    /** @returns {Lines} */
+    lines() {
+        const { patches, version, carry, left } = this;
         return { text: this.bytes().slice(), patches, version, carry, left };
     }
 
@@ -113,6 +111,31 @@ export class LineList extends ByteList {
         this.patches += 1;
         this.version = 2;
     }
+
+    /**
+     * The lines that make a Mode 1 sector another.
+     * @param {number} block
+     * @param {Uint8Array} old
+     * @param {Uint8Array} fresh
+     * @param {boolean} rebuild whether its damage goes first
+     */
+    sector(block, old, fresh, rebuild) {
+        if (rebuild) this.rebuild(block);
+        if (!sameBytes(addressIn(old, 0), addressIn(fresh, 0))) this.address(block, addressIn(fresh, 0));
+        const [before, after] = [userOf(old, 0), userOf(fresh, 0)];
+        for (const { from, end } of differingRuns(before, after)) {
+            this.set(block, from, after.subarray(from, end), before.subarray(from, end));
+        }
+    }
+
+    /**
+     * @param {number} block
+     * @param {Left['why']} why
+     * @param {number[]} kinds
+     */
+    leave(block, why, kinds = []) {
+        addToRuns(this.left, { ...runOf(block), why, kinds });
+    }
 }
 
 /**
@@ -121,17 +144,14 @@ export class LineList extends ByteList {
  * @param {Uint8Array} fresh
  */
 function* differingRuns(old, fresh) {
-    for (let at = 0; at < USER_SIZE;) {
-        while (at < USER_SIZE && old[at] === fresh[at]) at += 1;
-        if (at === USER_SIZE) return;
-        const from = at;
-        let end = at + 1;
-        for (at = end; at < USER_SIZE && at - end <= JOINED_BYTES; at++) {
-            if (old[at] !== fresh[at]) end = at + 1;
-        }
-        at = end;
-        yield { from, end };
+    let [from, end] = [0, 0];
+    for (let at = 0; at < USER_SIZE; at++) {
+        if (old[at] === fresh[at]) continue;
+        if (end > 0 && at - end > JOINED_BYTES) yield { from, end };
+        if (end === 0 || at - end > JOINED_BYTES) from = at;
+        end = at + 1;
     }
+    if (end > 0) yield { from, end };
 }
 
 /**
@@ -150,102 +170,47 @@ function canBeNamed(calls, address) {
  * The lines that make sectors others, applied before they are given out; and what no line can do.
  * @param {Calls} calls
  * @param {Pairs} pairs
- * @param {How} [how]
+ * @param {How} how
  * @returns {Lines}
  */
-export function linesBetween(calls, pairs, how = {}) {
-    const writing = new Writing(calls, pairs, how);
-    pairs.blocks.forEach((_, i) => writing.add(i));
-    assertLeads(calls, writing.lines, { ...pairs, fresh: writing.due }, writing.carry);
-    return writing.lines.lines(writing.left);
-}
-
-/** The lines so far, and the sectors that they give. */
-class Writing {
-    /**
-     * @param {Calls} calls
-     * @param {Pairs} pairs
-     * @param {How} how
-     */
-    constructor(calls, pairs, { carry = false, heal = false }) {
-        this.calls = calls;
-        this.pairs = pairs;
-        this.carry = carry;
-        this.heal = heal;
-        this.states = [pairs.old, pairs.fresh].map(sectors => calls.survey(sectors, 0));
-        this.lines = new LineList();
-        /** @type {Left[]} */
-        this.left = [];
-        /** What the sectors become: as they are if they are left. */
-        this.due = pairs.old.slice();
-    }
-
-    /** @param {number} i */
-    add(i) {
-        const [old, fresh] = [this.pairs.old, this.pairs.fresh].map(bytes => sectorOf(bytes, i));
-        const kinds = this.states.map(records => records[RECORD_SIZE * i + RECORD.KIND]);
-        const [damaged, toBeDamaged] = this.states.map(records => isDamaged(records, RECORD_SIZE * i));
-        if (kinds.some(kind => kind !== SECTOR_KIND.MODE1)) return this.leave(i, 'kind', kinds);
-        const [before, after] = [addressIn(old, 0), addressIn(fresh, 0)];
-        if (!sameBytes(before, after) && !canBeNamed(this.calls, after)) return this.leave(i, 'address');
-        if (!toBeDamaged) return this.lead(i, old, fresh, damaged);
-        if (damaged && this.carry && this.carries(i, old, fresh)) {
-            this.lines.carry = true;
-            return this.lead(i, old, fresh, false);
+export function linesBetween(calls, { blocks, old, fresh }, { carry = false, heal = false } = {}) {
+    const states = [old, fresh].map(sectors => calls.survey(sectors, 0));
+    const lines = new LineList();
+    const due = old.slice(); // what the sectors become: as they are if they are left
+    blocks.forEach((block, i) => {
+        const [from, to] = [old, fresh].map(bytes => sectorOf(bytes, i));
+        const [before, after] = [addressIn(from, 0), addressIn(to, 0)];
+        const kinds = states.map(records => records[RECORD_SIZE * i + RECORD.KIND]);
+        const [damaged, toBeDamaged] = states.map(records => isDamaged(records, RECORD_SIZE * i));
+        const lead = (/** @type {Uint8Array} */ sector, /** @type {boolean} */ rebuild) => {
+            lines.sector(block, from, sector, rebuild);
+            sectorOf(due, i).set(sector);
+        };
+        if (kinds.some(kind => kind !== SECTOR_KIND.MODE1)) return lines.leave(block, 'kind', kinds);
+        if (!sameBytes(before, after) && !canBeNamed(calls, after)) return lines.leave(block, 'address');
+        if (!toBeDamaged) return lead(to, damaged);
+        if (damaged && carry && isCarried(calls, block, from, to)) {
+            lines.carry = true;
+            return lead(to, false);
         }
-        this.leave(i, 'damaged');
-        if (!this.heal) return;
-        const healed = fresh.slice();
-        this.calls.rebuild(healed);
-        this.lead(i, old, healed, damaged);
-    }
-
-    /**
-     * @param {number} i
-     * @param {'damaged' | 'kind' | 'address'} why
-     * @param {number[]} kinds
-     */
-    leave(i, why, kinds = []) {
-        addToRuns(this.left, { ...runOf(this.pairs.blocks[i]), why, kinds });
-    }
-
-    /**
-     * Writes the lines of a sector.
-     * @param {number} i
-     * @param {Uint8Array} old
-     * @param {Uint8Array} fresh
-     * @param {boolean} rebuild whether its damage goes first
-     */
-    lead(i, old, fresh, rebuild) {
-        writeSector(this.lines, this.pairs.blocks[i], old, fresh, rebuild);
-        sectorOf(this.due, i).set(fresh);
-    }
-
-    /**
-     * Whether patches that carry damage make a sector another.
-     * @param {number} i
-     * @param {Uint8Array} old
-     * @param {Uint8Array} fresh
-     */
-    carries(i, old, fresh) {
-        const lines = new LineList();
-        writeSector(lines, this.pairs.blocks[i], old, fresh, false);
-        return firstWrong(this.calls, lines, { blocks: [this.pairs.blocks[i]], old, fresh }, true) < 0;
-    }
+        lines.leave(block, 'damaged');
+        return heal ? lead(calls.encode(after, userOf(to, 0)), damaged) : undefined;
+    });
+    assertLeads(calls, lines, { blocks, old, fresh: due }, carry);
+    return lines.lines();
 }
 
 /**
- * @param {LineList} lines
+ * Whether patches that carry damage make a sector another.
+ * @param {Calls} calls
  * @param {number} block
  * @param {Uint8Array} old
  * @param {Uint8Array} fresh
- * @param {boolean} rebuild
  */
-function writeSector(lines, block, old, fresh, rebuild) {
-    if (rebuild) lines.rebuild(block);
-    if (!sameBytes(addressIn(old, 0), addressIn(fresh, 0))) lines.address(block, addressIn(fresh, 0));
-    const [before, after] = [userOf(old, 0), userOf(fresh, 0)];
-    for (const { from, end } of differingRuns(before, after)) lines.set(block, from, after.subarray(from, end), before.subarray(from, end));
+function isCarried(calls, block, old, fresh) {
+    const lines = new LineList();
+    lines.sector(block, old, fresh, false);
+    return firstWrong(calls, lines, { blocks: [block], old, fresh }, true) < 0;
 }
 
 /**
@@ -266,7 +231,7 @@ function firstWrong(calls, lines, { blocks, old, fresh }, carry) {
         while (blocks[i] < calls.blockRead()) i += 1;
         if (blocks[i] !== calls.blockRead()) return Math.min(i, blocks.length - 1);
         const there = Math.min(SECTORS_IN_HAND, blocks.length - i);
-        if (calls.applyRead(i * SECTOR_SIZE, there, carry).result !== RESULT.OK) return i;
+        if (calls.applyPatch(null, i * SECTOR_SIZE, there, carry).result !== RESULT.OK) return i;
         at += line.taken;
     }
     const wrong = differingSectors(calls.held(0, old.length), fresh);

@@ -5,13 +5,13 @@ import { tailsDiffer } from './compare.js';
 import { Fault } from './faults.js';
 import { RECORD, RECORD_SIZE, SECTOR_KIND } from './records.js';
 import { addToRuns, runOf } from './runs.js';
-import { SECTOR_SIZE, addressIn, differingSectors, sectorCount, sectorOf } from './sector.js';
-import { isDamaged, surveyRange } from './survey.js';
+import { SECTOR_SIZE, addressIn, differingSectors, sectorCount, sectorOf, sectorsAt } from './sector.js';
+import { isSound } from './survey.js';
 
 /** @typedef {import('./codes.js').Calls} Calls */
 /** @typedef {import('./bytes.js').Piece} Piece */
 /** @typedef {import('./disc.js').DiscImage} DiscImage */
-/** @typedef {import('./jobs.js').Crew} Crew */
+/** @typedef {import('./jobs.js').Sharer} Sharer */
 /** @typedef {import('./jobs.js').Sharing} Sharing */
 /** @typedef {import('./runs.js').Run} Run */
 /**
@@ -38,70 +38,41 @@ const MOST_DIFFERENT = 100;
  * @param {{ shift: number }} args how many blocks later those are whose addresses the sectors have
  * @returns {Merged}
  */
-export function mergeRange(calls, pieces, first, { shift }) {
-    const merging = new Merging(calls, pieces, first, shift);
-    const count = sectorCount(pieces[0].length);
-    for (let i = 0; i < count; i++) merging.sector(i);
-    return { ...merging.found, sectors: joinedBytes(merging.sectors), end: first + count };
+export function mergeRange(calls, [old, ...others], first, { shift }) {
+    const records = calls.survey(old, first);
+    const otherRecords = others.map(other => differingRecords(calls, old, other));
+    const numbers = others.map((_, other) => other);
+    const found = nothingFound(others.length);
+    const [sectors, count] = [/** @type {Uint8Array[]} */ ([]), sectorCount(old.length)];
+    for (let i = 0; i < count; i++) {
+        const [block, at] = [first + i, i * RECORD_SIZE];
+        const sound = numbers.filter(other => isSound(otherRecords[other], at));
+        if (isSound(records, at)) {
+            for (const other of sound) found.different[other] += 1;
+            continue;
+        }
+        const fit = sound.filter(other => isHome(calls, addressIn(others[other], i), block + shift));
+        if (fit.length > 0) {
+            const [sector, ...more] = fit.map(other => sectorOf(others[other], i));
+            sectors.push(sector);
+            addToRuns(found.taken, { ...runOf(block), other: fit[0] });
+            if (more.some(it => differingSectors(sector, it).length > 0)) addToRuns(found.disputed, runOf(block));
+        } else if ([records, ...otherRecords].some(it => it[at + RECORD.KIND] === SECTOR_KIND.MODE1)) {
+            addToRuns(found.damaged, { ...runOf(block), elsewhere: sound.length > 0 });
+        }
+    }
+    return { ...found, sectors: joinedBytes(sectors), end: first + count };
 }
 
-/** What is found so far. Sectors of others that are as in the image have no record, as if they were no data. */
-class Merging {
-    /**
-     * @param {Calls} calls
-     * @param {Uint8Array[]} pieces
-     * @param {number} first
-     * @param {number} shift
-     */
-    constructor(calls, [old, ...others], first, shift) {
-        this.calls = calls;
-        this.first = first;
-        this.shift = shift;
-        this.others = others;
-        this.records = surveyRange(calls, old, first).records;
-        this.numbers = others.map((_, other) => other);
-        this.otherRecords = others.map(other => differingRecords(calls, old, other, first));
-        /** @type {Uint8Array[]} */
-        this.sectors = [];
-        this.found = nothingFound(others.length);
-    }
-
-    /** @param {number} i */
-    sector(i) {
-        const at = i * RECORD_SIZE;
-        const sound = this.numbers.filter(other => isSound(this.otherRecords[other], at));
-        if (isSound(this.records, at)) {
-            for (const other of sound) this.found.different[other] += 1;
-            return;
-        }
-        const fit = sound.filter(other => this.isHome(other, i));
-        if (fit.length > 0) this.take(i, fit);
-        else if ([this.records, ...this.otherRecords].some(records => isMode1(records, at))) {
-            addToRuns(this.found.damaged, { ...runOf(this.first + i), elsewhere: sound.length > 0 });
-        }
-    }
-
-    /**
-     * Whether a sector of another image has the address of its block. A block without address has no other one.
-     * @param {number} other
-     * @param {number} i
-     */
-    isHome(other, i) {
-        const address = this.calls.address(this.first + this.shift + i);
-        return address !== null && sameBytes(address, addressIn(this.others[other], i));
-    }
-
-    /**
-     * Takes the sector of the first image that has a sound one.
-     * @param {number} i
-     * @param {number[]} fit the images that have one
-     */
-    take(i, fit) {
-        const [sector, ...more] = fit.map(other => sectorOf(this.others[other], i));
-        this.sectors.push(sector);
-        addToRuns(this.found.taken, { ...runOf(this.first + i), other: fit[0] });
-        if (more.some(it => differingSectors(sector, it).length > 0)) addToRuns(this.found.disputed, runOf(this.first + i));
-    }
+/**
+ * Whether a block has an address. A block without address has no other one.
+ * @param {Calls} calls
+ * @param {Uint8Array} address
+ * @param {number} block
+ */
+function isHome(calls, address, block) {
+    const own = calls.address(block);
+    return own !== null && sameBytes(own, address);
 }
 
 /**
@@ -113,37 +84,16 @@ function nothingFound(others) {
 }
 
 /**
- * @param {Uint8Array} records
- * @param {number} at
- */
-function isMode1(records, at) {
-    return records[at + RECORD.KIND] === SECTOR_KIND.MODE1;
-}
-
-/**
- * @param {Uint8Array} records
- * @param {number} at
- */
-function isSound(records, at) {
-    return isMode1(records, at) && !isDamaged(records, at);
-}
-
-/**
  * The records of the sectors of another image that differ, with those of a sector without sync field for the others.
  * @param {Calls} calls
  * @param {Uint8Array} old
  * @param {Uint8Array} other
- * @param {number} first
  */
-function differingRecords(calls, old, other, first) {
+function differingRecords(calls, old, other) {
     const records = new Uint8Array(RECORD_SIZE * sectorCount(old.length));
-    /** @type {Run[]} */
-    const runs = [];
-    for (const i of differingSectors(old, other)) addToRuns(runs, runOf(i));
-    for (const run of runs) {
-        const bytes = other.subarray(run.first * SECTOR_SIZE, (run.last + 1) * SECTOR_SIZE);
-        records.set(surveyRange(calls, bytes, first + run.first).records, run.first * RECORD_SIZE);
-    }
+    const places = differingSectors(old, other);
+    const found = calls.survey(sectorsAt(other, places), 0);
+    places.forEach((place, i) => records.set(found.subarray(RECORD_SIZE * i, RECORD_SIZE * (i + 1)), RECORD_SIZE * place));
     return records;
 }
 
@@ -151,7 +101,7 @@ function differingRecords(calls, old, other, first) {
  * Repairs an image by others: sectors that are not consistent in it and are in another one, with the block's own address there, are
  * taken whole. The pieces of the repaired image are given to `take` as they come, before it is known whether the repair is refused. The
  * tail stays as it is. Throws a Fault.
- * @param {Crew} crew
+ * @param {Sharer} crew
  * @param {DiscImage} old
  * @param {DiscImage[]} others
  * @param {Sharing} how

@@ -2,8 +2,7 @@
 
 import { ByteList, PieceCutter, joinedBytes, readBytes } from './bytes.js';
 import { RESULT, patchFields } from './records.js';
-import { SECTOR_SIZE, USER_SIZE, imageTooLong, sectorCount } from './sector.js';
-import { Refusal } from './script.js';
+import { SECTOR_SIZE, USER_SIZE, sectorCount } from './sector.js';
 
 /** @typedef {import('./codes.js').Calls} Calls */
 /** @typedef {import('./bytes.js').Reader} Reader */
@@ -99,25 +98,6 @@ class PatchedImage {
         ready.forEach(([i]) => this.waiting.delete(i));
     }
 
-    /**
-     * The sectors of a stretch, as the image has them.
-     * @param {Stretch} stretch
-     */
-    read({ first, end }) {
-        return readBytes(this.reader, first * SECTOR_SIZE, (end - first) * SECTOR_SIZE);
-    }
-
-    /**
-     * Holds sectors as the patches so far have left them. Nothing may be awaited before they are used.
-     * @param {Calls} calls
-     * @param {Stretch} stretch
-     * @param {Uint8Array} bytes
-     */
-    hold(calls, { first }, bytes) {
-        calls.hold(bytes);
-        for (const [i, sector] of this.waiting) calls.held((i - first) * SECTOR_SIZE, (i - first + 1) * SECTOR_SIZE).set(sector);
-    }
-
     /** Passes on the rest, the tail too. */
     async end() {
         await this.passBefore(sectorCount(this.reader.size));
@@ -125,93 +105,66 @@ class PatchedImage {
     }
 }
 
-/** The outcomes so far, and their lines. */
-class PatchLog {
-    /** @param {Calls} calls */
-    constructor(calls) {
-        this.calls = calls;
-        this.text = new ByteList();
-        /** @type {Outcome[]} */
-        this.outcomes = [];
-        this.applied = 0;
-    }
-
-    /**
-     * @param {number} number of the patch's line
-     * @param {{ result: number, block: number, offset: number }} outcome
-     */
-    push(number, { result, block, offset }) {
-        this.outcomes.push({ number, result, block, offset });
-        this.applied += Number(result === RESULT.OK);
-        this.text.push(this.calls.outcomeLine(number, result, block, offset));
-    }
-
-    /** @returns {Patched} */
-    answer() {
-        const refused = this.outcomes.length - this.applied;
-        this.text.push(this.calls.lastLine(this.applied, refused));
-        return { status: Number(refused > 0), text: this.text.bytes(), outcomes: this.outcomes };
-    }
-}
-
 /**
- * Makes the patches of a stretch on held sectors, and returns the sectors that they change, by their place in the image.
+ * Makes the patches of a stretch, and returns what becomes of each. The sectors that they change wait.
  * @param {Calls} calls
+ * @param {PatchedImage} image
  * @param {Patch[]} patches
  * @param {Stretch} stretch
- * @param {{ base: number, count: number, carry: boolean }} image
- * @param {PatchLog} log
+ * @param {{ base: number, count: number, carry: boolean }} how
+ * @returns {Promise<Outcome[]>}
  */
-function patchStretch(calls, patches, stretch, { base, count, carry }, log) {
+async function patchStretch(calls, { reader, waiting }, patches, { from, to, first, end }, { base, count, carry }) {
+    calls.hold(await readBytes(reader, first * SECTOR_SIZE, (end - first) * SECTOR_SIZE));
+    const heldSector = (/** @type {number} */ i) => calls.held((i - first) * SECTOR_SIZE, (i - first + 1) * SECTOR_SIZE);
+    for (const [i, sector] of waiting) heldSector(i).set(sector);
     const changed = new Set();
-    for (const patch of patches.slice(stretch.from, stretch.to)) {
-        const { first, end } = sectorsFor(patch, base, count);
-        const outcome = calls.applyPatch(patch.bytes, (first - stretch.first) * SECTOR_SIZE, end - first, carry);
-        log.push(patch.number, outcome);
-        if (outcome.result !== RESULT.OK) continue;
-        for (let i = 0; i < sectorsChanged(patch); i++) changed.add(first + i);
-    }
-    return new Map(Array.from(changed, i => {
-        const at = (i - stretch.first) * SECTOR_SIZE;
-        return [i, calls.held(at, at + SECTOR_SIZE).slice()];
-    }));
+    const outcomes = patches.slice(from, to).map(patch => {
+        const near = sectorsFor(patch, base, count);
+        const made = calls.applyPatch(patch.bytes, (near.first - first) * SECTOR_SIZE, near.end - near.first, carry);
+        for (let i = 0; made.result === RESULT.OK && i < sectorsChanged(patch); i++) changed.add(near.first + i);
+        return { number: patch.number, ...made };
+    });
+    for (const i of changed) waiting.set(i, heldSector(i).slice());
+    return outcomes;
 }
 
 /**
- * Applies patches, and gives the pieces of the patched image to `take` as soon as no later patch can meet them, in order.
+ * What is printed of outcomes, and the status.
+ * @param {Calls} calls
+ * @param {Outcome[]} outcomes
+ * @returns {Patched}
+ */
+function patchedOf(calls, outcomes) {
+    const text = new ByteList();
+    for (const { number, result, block, offset } of outcomes) text.push(calls.outcomeLine(number, result, block, offset));
+    const refused = outcomes.filter(({ result }) => result !== RESULT.OK).length;
+    text.push(calls.lastLine(outcomes.length - refused, refused));
+    return { status: Number(refused > 0), text: text.bytes(), outcomes };
+}
+
+/**
+ * What becomes of patches on an image that is not too long. The pieces of the patched image are given to `take` as soon as no later patch
+ * can meet them, in order.
  * @param {Calls} calls
  * @param {Reader} reader
  * @param {Patch[]} patches in the order in which they are applied
  * @param {number} base
  * @param {boolean} carry
- * @param {(piece: Piece) => void | Promise<void>} take
- * @returns {Promise<Patched | Refusal>}
+ * @param {(piece: Piece) => void | Promise<void>} [take]
+ * @returns {Promise<Patched>}
  */
-export async function passPatched(calls, reader, patches, base, carry, take) {
-    if (imageTooLong(reader.size)) return new Refusal('image-too-long');
+export async function passPatched(calls, reader, patches, base, carry, take = () => {}) {
     const image = new PatchedImage(reader, take);
-    const log = new PatchLog(calls);
     const count = sectorCount(reader.size);
+    /** @type {Outcome[]} */
+    const outcomes = [];
     for (const stretch of stretchesOf(patches, base, count)) {
         await image.passBefore(stretch.first);
-        const bytes = await image.read(stretch);
-        image.hold(calls, stretch, bytes);
-        for (const [i, sector] of patchStretch(calls, patches, stretch, { base, count, carry }, log)) image.waiting.set(i, sector);
+        for (const outcome of await patchStretch(calls, image, patches, stretch, { base, count, carry })) outcomes.push(outcome);
     }
     await image.end();
-    return log.answer();
-}
-
-/**
- * What becomes of patches on an image.
- * @param {Calls} calls
- * @param {Reader} reader
- * @param {Patch[]} patches
- * @param {number} base
- * @param {boolean} carry
- */
-export function checkPatches(calls, reader, patches, base, carry) {
-    return passPatched(calls, reader, patches, base, carry, () => {});
+    return patchedOf(calls, outcomes);
 }
 
 /**
@@ -221,11 +174,10 @@ export function checkPatches(calls, reader, patches, base, carry) {
  * @param {Patch[]} patches
  * @param {number} base
  * @param {boolean} carry
- * @returns {Promise<(Patched & { pieces: Piece[] }) | Refusal>}
+ * @returns {Promise<Patched & { pieces: Piece[] }>}
  */
 export async function applyPatches(calls, reader, patches, base, carry) {
     /** @type {Piece[]} */
     const pieces = [];
-    const made = await passPatched(calls, reader, patches, base, carry, piece => { pieces.push(piece); });
-    return made instanceof Refusal ? made : { ...made, pieces };
+    return { ...await passPatched(calls, reader, patches, base, carry, piece => void pieces.push(piece)), pieces };
 }

@@ -17,59 +17,15 @@ export const MOST_SCRIPT_BYTES = 67108864;
 /** The text is cut into lines when there are so many bytes of it. */
 const TEXT_WINDOW = 1 << 20;
 
-/** Why nothing was done: a fault of the script, with the program's line for it; or a limit, which has no line here. */
+/** Why a script is not read: a fault, with the program's line for it; or too many bytes, which have no line here. */
 export class Refusal {
     /**
-     * @param {'script-fault' | 'script-too-long' | 'image-too-long'} reason
+     * @param {'fault' | 'too-long'} reason
      * @param {Uint8Array} text
      */
     constructor(reason, text = new Uint8Array(0)) {
         this.reason = reason;
         this.text = text;
-    }
-}
-
-/** Cuts a text into lines, as its pieces come. */
-class LineCutter {
-    /**
-     * @param {Calls} calls
-     * @param {(from: number, size: number) => boolean} visit is given each line by its place in what is held; false is 'enough'
-     */
-    constructor(calls, visit) {
-        this.calls = calls;
-        this.visit = visit;
-        this.text = new ByteList();
-        this.wanted = TEXT_WINDOW;
-        this.going = true;
-    }
-
-    /** @param {Uint8Array} piece */
-    push(piece) {
-        for (let at = 0; at < piece.length && this.going; at += TEXT_WINDOW) {
-            this.text.push(piece.subarray(at, at + TEXT_WINDOW));
-            if (this.text.size >= this.wanted) this.cut(false);
-        }
-    }
-
-    end() {
-        if (this.going) this.cut(true);
-    }
-
-    /**
-     * A line that ends where the text does so far may go on. It waits until there is twice as much.
-     * @param {boolean} whole whether no piece is to come
-     */
-    cut(whole) {
-        this.calls.hold(this.text.bytes());
-        let from = 0;
-        while (this.going) {
-            const line = this.calls.firstLine(from);
-            if (line === null || (!whole && from + line.taken === this.text.size)) break;
-            this.going = this.visit(from, line.size);
-            from += line.taken;
-        }
-        this.text.drop(from);
-        this.wanted = Math.max(TEXT_WINDOW, 2 * this.text.size);
     }
 }
 
@@ -82,6 +38,8 @@ class ScriptReading {
     constructor(calls, long) {
         this.calls = calls;
         this.long = long;
+        this.text = new ByteList();
+        this.wanted = TEXT_WINDOW;
         this.version = 0;
         this.number = 0;
         /** @type {Patch[]} */
@@ -89,28 +47,52 @@ class ScriptReading {
         this.fault = 0;
     }
 
+    /** @param {Uint8Array} piece */
+    push(piece) {
+        for (let at = 0; at < piece.length && this.fault === 0; at += TEXT_WINDOW) {
+            this.text.push(piece.subarray(at, at + TEXT_WINDOW));
+            if (this.text.size >= this.wanted) this.readLines(false);
+        }
+    }
+
     /**
-     * Reads the next line, and returns whether the script has no fault so far.
+     * Reads the lines of the text so far. One that ends where the text does may go on: it waits until there is twice as much.
+     * @param {boolean} whole whether no piece is to come
+     */
+    readLines(whole) {
+        this.calls.hold(this.text.bytes());
+        let from = 0;
+        while (this.fault === 0) {
+            const line = this.calls.firstLine(from);
+            if (line === null || (!whole && from + line.taken === this.text.size)) break;
+            this.readLine(from, line.size);
+            from += line.taken;
+        }
+        this.text.drop(from);
+        this.wanted = Math.max(TEXT_WINDOW, 2 * this.text.size);
+    }
+
+    /**
      * @param {number} from
      * @param {number} size
      */
-    read(from, size) {
+    readLine(from, size) {
         this.number += 1;
         const earlier = this.long ? 0 : this.patches.length;
         const content = this.calls.readLine(this.version, this.number, earlier, from, size);
         if (content === CONTENT.PATCH) this.patches.push({ number: this.number, ...this.calls.patchRead() });
         else if (content > CONTENT.PATCH) this.fault = content;
         else if (content !== CONTENT.NOTHING) this.version = content;
-        return this.fault === 0;
     }
 
-    /** The patches in the order in which they are applied, after the last line. */
+    /** The patches in the order in which they are applied, after the last piece. */
     answer() {
+        this.readLines(true);
         if (this.fault === 0 && this.version === 0) {
             this.number += 1;
             this.fault = CONTENT.NO_HEAD;
         }
-        if (this.fault !== 0) return new Refusal('script-fault', this.calls.faultLine(this.number, this.fault));
+        if (this.fault !== 0) return new Refusal('fault', this.calls.faultLine(this.number, this.fault));
         return this.patches.sort((a, b) => a.block - b.block);
     }
 }
@@ -124,13 +106,11 @@ class ScriptReading {
  */
 export async function patchesOf(calls, pieces, long = false) {
     const reading = new ScriptReading(calls, long);
-    const cutter = new LineCutter(calls, (from, size) => reading.read(from, size));
     let size = 0;
     for await (const piece of pieces) {
         size += piece.length;
-        if (!long && size > MOST_SCRIPT_BYTES) return new Refusal('script-too-long');
-        cutter.push(piece);
+        if (!long && size > MOST_SCRIPT_BYTES) return new Refusal('too-long');
+        reading.push(piece);
     }
-    cutter.end();
     return reading.answer();
 }

@@ -9,12 +9,8 @@ export const USER_SIZE = 2048;
 /** Where the fields of a sector begin, in their order. */
 export const FIELDS = Object.freeze({ sync: 0, header: 12, user: 16, edc: 2064, zeros: 2068, parity: 2076 });
 export const HEADER_OFFSET = 12;
-export const MODE_OFFSET = 15;
 export const USER_OFFSET = 16;
 const WORDS = SECTOR_SIZE / 4;
-
-/** The twelve bytes with which a data sector begins. */
-export const SYNC = Uint8Array.of(0, 255, 255, 255, 255, 255, 255, 255, 255, 255, 255, 0);
 
 /** The most sectors of an image. No call asks for it: who opens an image does. */
 export const MOST_SECTORS = 1000000;
@@ -42,6 +38,15 @@ export function imageTooLong(size) {
  */
 export function sectorOf(bytes, i) {
     return bytes.subarray(i * SECTOR_SIZE, (i + 1) * SECTOR_SIZE);
+}
+
+/**
+ * Some sectors of a range, one after the other.
+ * @param {Uint8Array} bytes
+ * @param {number[]} places
+ */
+export function sectorsAt(bytes, places) {
+    return joinedBytes(places.map(place => sectorOf(bytes, place)));
 }
 
 /**

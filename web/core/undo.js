@@ -38,5 +38,5 @@ export async function undoScript(calls, reader, script, { base, carry = false, l
         parts.push(diffRange(calls, piece.bytes, before, base + piece.at / SECTOR_SIZE, { carry, heal: true }));
     };
     const patched = await passPatched(calls, reader, patches, base, carry, takeBack);
-    return patched instanceof Refusal ? patched : { script: parts.script(calls), patched, left: parts.left };
+    return { script: parts.script(calls), patched, left: parts.left };
 }

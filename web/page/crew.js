@@ -2,7 +2,6 @@
 
 import { readBytes } from '../core/bytes.js';
 import { Crew, JobAborted } from '../core/jobs.js';
-import { SECTOR_SIZE } from '../core/sector.js';
 import { hexOf } from './dom.js';
 import { fileOf, fileReader } from './reading.js';
 
@@ -68,10 +67,7 @@ class ReadingCrew extends Crew {
     async pieces(readers, first, count, units) {
         const files = this.lends ? readers.map(fileOf) : [null];
         if (files.includes(null)) return super.pieces(readers, first, count, units);
-        return files.map((file, i) => {
-            const unit = units[i] || SECTOR_SIZE;
-            return { file, from: first * unit, size: count * unit };
-        });
+        return files.map((file, i) => ({ file, from: first * units[i], size: count * units[i] }));
     }
 
     /** @type {Crew['reply']} */

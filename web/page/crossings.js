@@ -1,12 +1,27 @@
 // Which bytes of a sector lie in broken P columns and Q diagonals both. No rule of these codes stands here: a byte of a sound sector is
 // changed, and the module says which column and which diagonal that breaks.
 
+import { sized } from '../core/codes.js';
 import { HEADER_OFFSET, SECTOR_SIZE, USER_SIZE } from '../core/sector.js';
 
 /** @typedef {import('../core/codes.js').Calls} Calls */
 
+const COLUMN_COUNT = 86;
+const DIAGONAL_COUNT = 52;
+
 /** @type {{ columns: Int16Array, diagonals: Int16Array } | null} */
 let known = null;
+
+/**
+ * Which columns and diagonals of a sector are broken, a byte each.
+ * @param {Calls} calls
+ * @param {Uint8Array} sector
+ */
+export function findBroken(calls, sector) {
+    const [at, columns, diagonals] = calls.put(sized(sector, SECTOR_SIZE), COLUMN_COUNT, DIAGONAL_COUNT);
+    calls.exports.cdpatch_find_broken(at, columns, diagonals);
+    return { columns: calls.copied(columns, COLUMN_COUNT), diagonals: calls.copied(diagonals, DIAGONAL_COUNT) };
+}
 
 /**
  * The column and the diagonal of each byte of a sector, -1 for none.
@@ -21,7 +36,7 @@ function placesInCodes(calls) {
     for (let at = HEADER_OFFSET; at < SECTOR_SIZE; at++) {
         if (at === HEADER_OFFSET + 3) continue;
         sector[at] ^= 255;
-        const broken = calls.findBroken(sector);
+        const broken = findBroken(calls, sector);
         columns[at] = broken.columns.indexOf(1);
         diagonals[at] = broken.diagonals.indexOf(1);
         sector[at] ^= 255;
@@ -36,7 +51,7 @@ function placesInCodes(calls) {
  * @param {Uint8Array} sector
  */
 export function crossingsOf(calls, sector) {
-    const broken = calls.findBroken(sector);
+    const broken = findBroken(calls, sector);
     const { columns, diagonals } = placesInCodes(calls);
     const crossings = [];
     for (let at = 0; at < SECTOR_SIZE; at++) {

@@ -1,8 +1,9 @@
 // What is done with a script and an image: checking, and saving the patched image.
 
 import { JobAborted } from '../core/jobs.js';
-import { checkPatches, applyPatches, passPatched } from '../core/patch.js';
+import { applyPatches, passPatched } from '../core/patch.js';
 import { Refusal, patchesOf } from '../core/script.js';
+import { imageTooLong } from '../core/sector.js';
 import { RunningHash, sha1Of } from './crew.js';
 import { canStream, chosenFile, download } from './files_out.js';
 import { fileOf, fileReader } from './reading.js';
@@ -38,21 +39,16 @@ export class WorkRefused extends Error {
  * @param {string} script
  */
 export async function readPatches({ calls }, script) {
-    return accepted(await patchesOf(calls, [new TextEncoder().encode(script)]));
+    const patches = await patchesOf(calls, [new TextEncoder().encode(script)]);
+    if (!(patches instanceof Refusal)) return patches;
+    if (patches.reason === 'fault') throw new WorkRefused(new TextDecoder().decode(patches.text).trimEnd(),
+        'Nothing was done. Mend the line first.');
+    throw new WorkRefused('The script is too long.', 'It may have 67,108,864 bytes. Cut it into two.');
 }
 
-/**
- * @template Value
- * @param {Value | Refusal} value
- * @returns {Value}
- */
-function accepted(value) {
-    if (!(value instanceof Refusal)) return value;
-    if (value.reason === 'script-fault') throw new WorkRefused(new TextDecoder().decode(value.text).trimEnd(),
-        'Nothing was done. Mend the line first.');
-    if (value.reason === 'script-too-long') throw new WorkRefused('The script is too long.',
-        'It may have 67,108,864 bytes. Cut it into two.');
-    throw new WorkRefused('The image is too long.', 'It may have 1,000,000 sectors.');
+/** @param {Reader} reader of an image */
+function assertNotTooLong({ size }) {
+    if (imageTooLong(size)) throw new WorkRefused('The image is too long.', 'It may have 1,000,000 sectors.');
 }
 
 /**
@@ -81,7 +77,8 @@ export function watched(reader, { signal, progress }) {
  */
 export async function checkWork(app, { reader, base, script, carry }, watch) {
     const patches = await readPatches(app, script);
-    return accepted(await checkPatches(app.calls, watched(reader, watch), patches, base, carry));
+    assertNotTooLong(reader);
+    return passPatched(app.calls, watched(reader, watch), patches, base, carry);
 }
 
 /**
@@ -95,6 +92,7 @@ export async function checkWork(app, { reader, base, script, carry }, watch) {
  * @returns {Promise<Saved | null>}
  */
 export async function saveWork(app, work, name, wanted, watch) {
+    assertNotTooLong(work.reader);
     return canStream() ? streamWork(app, work, name, wanted, watch) : downloadWork(app, work, name, wanted, watch);
 }
 
@@ -130,7 +128,7 @@ async function streamWork(app, { reader, base, carry, script }, name, wanted, { 
     try {
         const patches = await readPatches(app, script);
         await saveToSink(await chosen.createWritable(), reader, async take => {
-            made = accepted(await passPatched(app.calls, reader, patches, base, carry, take));
+            made = await passPatched(app.calls, reader, patches, base, carry, take);
             if (hash !== null && await hash.end() !== wanted) throw new WrongResult();
             return true;
         }, { signal, progress: done => progress(done, reader.size), seen: hash ? bytes => hash.add(bytes.slice()) : undefined });
@@ -165,7 +163,7 @@ async function downloadWork(app, { reader, base, carry, script }, name, wanted, 
     const file = fileOf(reader);
     if (file === null) throw new Error('this image is no file');
     const patches = await readPatches(app, script);
-    const { pieces, ...made } = accepted(await applyPatches(app.calls, watched(reader, watch), patches, base, carry));
+    const { pieces, ...made } = await applyPatches(app.calls, watched(reader, watch), patches, base, carry);
     const blob = blobOfPieces(file, pieces);
     const progress = (/** @type {number} */ done) => watch.progress(done, blob.size);
     const result = fileReader(new File([blob], name));

@@ -3,6 +3,7 @@
 
 import { hexOf } from './dom.js';
 import { bytesOfBase64 } from './parts.js';
+import { Sha1 } from './sha1.js';
 
 /** @typedef {import('../core/codes.js').Calls} Calls */
 
@@ -109,9 +110,9 @@ export function base64Of(bytes) {
  * @param {Uint8Array} bytes
  */
 function checksum(calls, bytes) {
-    const state = calls.sha1Begin();
-    for (let at = 0; at < bytes.length; at += HASHED) calls.sha1Add(state, bytes.subarray(at, at + HASHED));
-    return hexOf(calls.sha1End(state)).toLowerCase();
+    const sha1 = new Sha1(calls);
+    for (let at = 0; at < bytes.length; at += HASHED) sha1.add(bytes.subarray(at, at + HASHED));
+    return hexOf(sha1.digest()).toLowerCase();
 }
 
 /**

@@ -4,7 +4,6 @@ import { readBytes } from '../core/bytes.js';
 import { dataTrack } from '../core/disc.js';
 import { passPatched } from '../core/patch.js';
 import { PATCH_RECORD_SIZE, RESULT, STATUS, freshSize } from '../core/records.js';
-import { Refusal } from '../core/script.js';
 import { sha1Of } from './crew.js';
 import { counted, countOf } from './dom.js';
 import { checkWork, readPatches } from './patch_job.js';
@@ -102,7 +101,7 @@ export async function isPatched(app, { reader, base, script }) {
         const there = await readBytes(reader, piece.at, piece.bytes.length);
         same = there.every((byte, i) => byte === piece.bytes[i]);
     });
-    return same && !(made instanceof Refusal) && made.status === STATUS.DONE && made.outcomes.length > 0;
+    return same && made.status === STATUS.DONE && made.outcomes.length > 0;
 }
 
 /**

@@ -2,7 +2,6 @@
 
 import { RESULT, VERB, patchFields } from '../core/records.js';
 import { applyPatches } from '../core/patch.js';
-import { Refusal } from '../core/script.js';
 import { sha1Of } from './crew.js';
 import { askBeforeLeaving, button, countOf, element, fill, isDisabled, keepFocus, setDisabled } from './dom.js';
 import { download } from './files_out.js';
@@ -254,7 +253,7 @@ async function triedOn(app, image) {
     const patches = await readPatches(app, script);
     const made = await applyPatches(app.calls, image.reader, patches, image.base, false);
     const file = fileOf(image.reader);
-    if (made instanceof Refusal || file === null) throw new Error('The image is too long.');
+    if (file === null) throw new Error('this image is no file');
     const fields = patches.map(({ bytes }) => patchFields(bytes));
     return {
         script,

@@ -3,7 +3,6 @@
 import { readBytes } from '../core/bytes.js';
 import { applyPatches } from '../core/patch.js';
 import { CONTENT } from '../core/records.js';
-import { Refusal } from '../core/script.js';
 import { SECTOR_SIZE } from '../core/sector.js';
 
 /** @typedef {import('./state.js').App} App */
@@ -50,8 +49,7 @@ export async function sectorBytes(app, { reader, base }, block) {
     const old = await readBytes(reader, at, SECTOR_SIZE);
     const patches = patchesNear(app.calls, app.script.text, block);
     if (patches.length === 0) return { old, fresh: old };
-    const applied = await applyPatches(app.calls, reader, patches, base, true);
-    const pieces = applied instanceof Refusal ? [] : applied.pieces;
+    const { pieces } = await applyPatches(app.calls, reader, patches, base, true);
     for (const piece of pieces) {
         if (!('bytes' in piece) || at < piece.at || at >= piece.at + piece.bytes.length) continue;
         return { old, fresh: piece.bytes.subarray(at - piece.at, at - piece.at + SECTOR_SIZE) };

@@ -1,6 +1,6 @@
 // What is wrong with a sector, in words: first the program's line, then what it means.
 
-import { SECTOR_KIND } from '../core/records.js';
+import { RECORD, SECTOR_KIND } from '../core/records.js';
 import { SECTOR_SIZE, USER_OFFSET, USER_SIZE, addressIn, addressText } from '../core/sector.js';
 import { announce, button, byId, element, fill, isDisabled, setDisabled, term } from './dom.js';
 import { MARK } from './marks.js';
@@ -21,14 +21,14 @@ export function faultOf(app, block, sector, found) {
     if (found === null) return otherKind(app, block, sector);
     const text = new TextDecoder().decode(app.calls.audit(sector, block).text);
     const line = text.split('\n').length > 2 ? text.split('\n')[0] : '';
-    const defect = app.calls.findDefect(sector);
-    const [edc, parity] = [defect.edc, defect.zeros || defect.p > 0 || defect.q > 0];
-    if (!edc && !parity) return line === '' ? soundSector() : elsewhere(app, block, sector, line);
+    const record = app.calls.survey(sector, block);
+    const [edc, zeros, parity] = [record[RECORD.EDC] > 0, record[RECORD.ZEROS] > 0, record[RECORD.P] + record[RECORD.Q] > 0];
+    if (!edc && !zeros && !parity) return line === '' ? soundSector() : elsewhere(app, block, sector, line);
     const head = edc ? 'The data of this sector are damaged. ' : 'The user data of this sector fit their EDC; other bytes are damaged. ';
     const sentences = [
         edc && ['The ', term('edc', 'EDC'), ' does not fit the bytes before it. '],
-        defect.zeros && ['The eight bytes after the EDC are not all zero. '],
-        (defect.p > 0 || defect.q > 0) && crossingWords(found, edc),
+        zeros && ['The eight bytes after the EDC are not all zero. '],
+        parity && crossingWords(found, edc),
         line.includes('address') && [`The header has the address ${addressText(addressIn(sector, 0))}, not that of the block. `],
     ].flatMap(it => it || []);
     return element('div', { class: `say ${edc ? 'bad' : 'warn'} thin` }, element('b', {}, head, element('span', { class: 'mono' }, line)),

@@ -3,6 +3,7 @@
 import { Calls } from '../core/codes.js';
 import { serving, transfersOf } from '../core/jobs.js';
 import { crc32 } from './crc32.js';
+import { Sha1 } from './sha1.js';
 
 /** @typedef {import('../core/jobs.js').Message} Message */
 /**
@@ -25,9 +26,9 @@ async function readPiece(piece) {
 class Bench {
     /** @param {WebAssembly.Module} module */
     constructor(module) {
-        this.calls = new Calls(module);
-        this.serve = serving(this.calls);
-        this.state = this.calls.sha1Begin();
+        const calls = new Calls(module);
+        this.serve = serving(calls);
+        this.sha1 = new Sha1(calls);
         this.crc = 0;
     }
 
@@ -41,8 +42,8 @@ class Bench {
 
     /** @param {Uint8Array | null} bytes */
     hash(bytes) {
-        if (bytes === null) return self.postMessage({ digest: this.calls.sha1End(this.state), crc: this.crc });
-        this.calls.sha1Add(this.state, bytes);
+        if (bytes === null) return self.postMessage({ digest: this.sha1.digest(), crc: this.crc });
+        this.sha1.add(bytes);
         this.crc = crc32(this.crc, bytes);
         return self.postMessage({});
     }

@@ -1,0 +1,55 @@
+// The calls of the module that the core does not make, for tests.
+
+/** A class of calls that has a method for each of them. */
+export const withAllCalls = (Calls, sized) => class extends Calls {
+    edc(bytes) {
+        return this.exports.cdpatch_edc(this.put(bytes)[0], BigInt(bytes.length)) >>> 0;
+    }
+
+    isConsistent(sector) {
+        return Boolean(this.exports.cdpatch_is_consistent(this.put(sized(sector, 2352))[0]));
+    }
+
+    findDefect(sector) {
+        this.exports.cdpatch_find_defect(this.put(sized(sector, 2352))[0], this.places.answer);
+        const [zeros, edc, p, q] = this.copied(this.answer, 4);
+        return { zeros: Boolean(zeros), edc: Boolean(edc), p, q };
+    }
+
+    /** What `list` prints of an image, and its status. */
+    list(image, base) {
+        const [at, text] = this.put(image, 100 + image.length);
+        const status = this.exports.cdpatch_list(at, BigInt(image.length), base, text, BigInt(100 + image.length), this.places.answer);
+        return { status, text: this.copied(text, this.view.getUint32(this.answer, true)) };
+    }
+
+    /** Makes a call that changes a sector in its place, and returns its result. */
+    change(name, sector, bytes, given) {
+        const [at, place] = this.put(sized(sector, 2352), bytes);
+        const result = this.exports[name](at, ...given(place));
+        sector.set(this.copied(at, 2352));
+        return result;
+    }
+
+    fillParity(sector) {
+        this.change('cdpatch_fill_parity', sector, sector, () => []);
+    }
+
+    rebuild(sector) {
+        return this.change('cdpatch_rebuild', sector, sector, () => []);
+    }
+
+    changeUser(sector, offset, bytes, carry) {
+        const name = carry ? 'cdpatch_carry_user' : 'cdpatch_change_user';
+        return this.change(name, sector, bytes, place => [BigInt(offset), place, BigInt(bytes.length)]);
+    }
+
+    changeAddress(sector, address, carry) {
+        const name = carry ? 'cdpatch_carry_address' : 'cdpatch_change_address';
+        return this.change(name, sector, sized(address, 3), place => [place]);
+    }
+
+    resultText(result) {
+        return this.line('cdpatch_result_text', result);
+    }
+};
