@@ -291,7 +291,7 @@ class Streaming(PageTest):
         self.press('Apply and save')
         self.browser.wait('#panel-script .say.good')
         count = int(self.browser.run('return chosen.writes.length'))
-        self.assertGreater(count, 2)
+        self.assertGreater(count, 1)
         for failing in [*range(count), 'close']:
             self.press('Back')
             self.browser.run('Object.assign(chosen, { writes: [], state: "none", failing: arguments[0], removed: false })', failing)
