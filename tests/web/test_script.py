@@ -256,6 +256,11 @@ class Script(PageTest):
         _, text = common.run_program('check', '--base', '1000', files['track'], files['later'])
         self.assertEqual(self.browser.run('return document.querySelector("pre.log").textContent'), text)
 
+    def test_a_script_of_its_head_line_alone_is_shown(self) -> None:
+        self.open_files(discs.written(head='cdpatch 1\n')['head'])
+        self.browser.wait('#panel-script header h2', 'head.txt')
+        self.browser.wait('#panel-script h2', 'No patches yet')
+
 
 class Streaming(PageTest):
     stub = PICKER
