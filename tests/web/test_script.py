@@ -36,6 +36,8 @@ class Script(PageTest):
         self.assertEqual(self.browser.run('return document.querySelector("pre.log").textContent'), text)
         self.browser.wait('#saved-sha1', common.sha1(out))
         self.assertEqual(self.browser.text('#saved-crc32'), f'{zlib.crc32(out):08x}')
+        one_line = 'return document.querySelector("#saved-sha1").offsetHeight === document.querySelector("#saved-crc32").offsetHeight'
+        self.assertTrue(self.browser.run(one_line))
         self.press('Open the new image')
         self.browser.wait('#disc-line .name', 'game (patched).bin')
         self.browser.wait('#disc-line .sha1', common.sha1(out))
