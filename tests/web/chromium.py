@@ -152,7 +152,8 @@ class Chromium:
 
     def size(self, width: int, height: int = 900, scheme: str = 'light') -> None:
         """Sets the size of the window and the colour scheme. A narrow one is a phone."""
-        self.cdp('Emulation.setEmulatedMedia', features=[{'name': 'prefers-color-scheme', 'value': scheme}])
+        features = {'prefers-color-scheme': scheme, 'prefers-reduced-motion': 'reduce'}
+        self.cdp('Emulation.setEmulatedMedia', features=[{'name': name, 'value': value} for name, value in features.items()])
         self.cdp('Emulation.setDeviceMetricsOverride', width=width, height=height, deviceScaleFactor=1, mobile=width < 500)
         self.cdp('Emulation.setTouchEmulationEnabled', enabled=width < 500, maxTouchPoints=1)
 

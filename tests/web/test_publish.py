@@ -294,6 +294,7 @@ class Streamed(PageTest):
         self.browser.run('chosen.hold()')
         self.press('Patch and save')
         self.browser.wait('#player .progress')
+        self.assertEqual(self.focused(), 'steps: Cancel')
         self.browser.drop('#player', [discs.written(other=discs.game())['other']])
         self.browser.wait('#messages .say.warn', 'Not opened: other.bin.')
         self.browser.run('chosen.release()')

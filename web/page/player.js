@@ -91,7 +91,7 @@ export class Player {
      * @param {HTMLElement} [third]
      */
     show(first, second = this.step('2', 'later', 'Patch it'), third = this.step('3', 'later', 'Play')) {
-        keepFocus(this.steps, () => fill(this.steps, first, second, third), '.main');
+        keepFocus(this.steps, () => fill(this.steps, first, second, third), '.now .btn');
     }
 
     /** @param {Child} [fault] */
