@@ -130,9 +130,9 @@ class Chromium:
             self.cdp('Input.dispatchDragEvent', type=kind, x=x, y=y, data=data)
 
     def downloaded(self, name: str, seconds: float = PATIENCE) -> Path:
-        """A file that was downloaded under this name, as soon as it is whole."""
+        """A file that was downloaded under this name, as soon as it is whole: an empty one keeps its place until then."""
         path = self.downloads / name
-        waited(path.exists, f'no download {name} among {[it.name for it in self.downloads.iterdir()]}', seconds)
+        waited(lambda: path.exists() and path.stat().st_size > 0, f'no download {name} among {[it.name for it in self.downloads.iterdir()]}', seconds)
         return path
 
     def asks_before_leaving(self) -> bool:
