@@ -130,9 +130,9 @@ class Chromium:
             self.cdp('Input.dispatchDragEvent', type=kind, x=x, y=y, data=data)
 
     def downloaded(self, name: str, seconds: float = PATIENCE) -> Path:
-        """A file that was downloaded under this name, as soon as it is whole."""
+        """A file that was downloaded under this name, as soon as it is whole: an empty one keeps its place until then."""
         path = self.downloads / name
-        waited(path.exists, f'no download {name} among {[it.name for it in self.downloads.iterdir()]}', seconds)
+        waited(lambda: path.exists() and path.stat().st_size > 0, f'no download {name} among {[it.name for it in self.downloads.iterdir()]}', seconds)
         return path
 
     def asks_before_leaving(self) -> bool:
@@ -152,7 +152,8 @@ class Chromium:
 
     def size(self, width: int, height: int = 900, scheme: str = 'light') -> None:
         """Sets the size of the window and the colour scheme. A narrow one is a phone."""
-        self.cdp('Emulation.setEmulatedMedia', features=[{'name': 'prefers-color-scheme', 'value': scheme}])
+        features = {'prefers-color-scheme': scheme, 'prefers-reduced-motion': 'reduce'}
+        self.cdp('Emulation.setEmulatedMedia', features=[{'name': name, 'value': value} for name, value in features.items()])
         self.cdp('Emulation.setDeviceMetricsOverride', width=width, height=height, deviceScaleFactor=1, mobile=width < 500)
         self.cdp('Emulation.setTouchEmulationEnabled', enabled=width < 500, maxTouchPoints=1)
 

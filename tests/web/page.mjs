@@ -30,3 +30,10 @@ export function imageOfBytes(bytes) {
     const reader = { size: bytes.length, read: async (at, length) => bytes.slice(at, at + length) };
     return { name: 'game.bin', bytes, reader, base: 0, addressed: 0, sectors: Math.floor(bytes.length / 2352) };
 }
+
+/** What writes make of a file. */
+export async function writtenBy(writes) {
+    const bytes = new Uint8Array(Math.max(0, ...writes.map(({ position, data }) => position + (data.size ?? data.length))));
+    for (const { position, data } of writes) bytes.set(new Uint8Array(await new Blob([data]).arrayBuffer()), position);
+    return Buffer.from(bytes.buffer);
+}

@@ -15,20 +15,25 @@ NO_PICKER = 'delete window.showSaveFilePicker'
 # A chosen file that is written in memory: `failing` is the write that fails, from 0, or -1; writes that `hold` holds wait for `release`.
 PICKER = '''
 globalThis.chosen = { writes: [], state: 'none', failing: -1, held: null, begun: 0, own: null, removed: false, asked: 0,
-    hold() { this.held = new Promise(done => { this.release = done; }); } };
+    hold() { this.held = new Promise(done => { this.release = done; }); },
+    async bytes() {
+        const bytes = new Uint8Array(this.writes.reduce((size, { position, data }) => Math.max(size, position + (data.size ?? data.length)), 0));
+        for (const { position, data } of this.writes) bytes.set(new Uint8Array(await new Blob([data]).arrayBuffer()), position);
+        return bytes;
+    } };
 globalThis.showSaveFilePicker = async ({ suggestedName }) => {
     chosen.asked += 1;
     if (chosen.none) throw new DOMException('nothing was chosen', 'AbortError');
     return {
         name: suggestedName,
-        getFile: async () => chosen.gone && chosen.state === 'closed' ? Promise.reject(new DOMException('gone', 'NotFoundError')) : chosen.own || new File(chosen.state === 'closed' ? chosen.writes : [], suggestedName),
+        getFile: async () => chosen.gone && chosen.state === 'closed' ? Promise.reject(new DOMException('gone', 'NotFoundError')) : chosen.own || new File(chosen.state === 'closed' ? [await chosen.bytes()] : [], suggestedName),
         remove: async () => { chosen.removed = true; },
         createWritable: async () => ({
-            async write(bytes) {
+            async write(write) {
                 chosen.begun += 1;
                 await chosen.held;
                 if (chosen.writes.length === chosen.failing) throw new DOMException('no room', 'QuotaExceededError');
-                chosen.writes.push(bytes.slice());
+                chosen.writes.push({ ...write, data: write.data.slice() });
             },
             async close() {
                 if (chosen.failing === 'close') throw new DOMException('no room', 'QuotaExceededError');
@@ -119,7 +124,7 @@ class PageTest(unittest.TestCase):
 
     def chosen_bytes(self) -> bytes:
         """What was written to the chosen file."""
-        script = '''const bytes = new Uint8Array(await new Blob(chosen.writes).arrayBuffer());
+        script = '''const bytes = await chosen.bytes();
             let text = '';
             for (let at = 0; at < bytes.length; at += 8192) text += String.fromCharCode(...bytes.subarray(at, at + 8192));
             return btoa(text)'''

@@ -2,21 +2,34 @@
 
 import assert from 'node:assert/strict';
 import { test } from 'node:test';
-import { page } from './page.mjs';
+import { page, writtenBy } from './page.mjs';
 
 const { Pace, blobOfPieces, patchedName, saveToSink } = await page('save.js');
 
 const old = Uint8Array.from({ length: 50 }, (_, i) => i);
 const pieces = [{ from: 0, to: 10 }, { at: 10, bytes: Uint8Array.of(200, 201, 202) }, { from: 13, to: 40 }, { at: 40, bytes: new Uint8Array(10) }];
 const wanted = Uint8Array.from(old, (byte, i) => i >= 10 && i < 13 ? 190 + i : i >= 40 ? 0 : byte);
-const reader = { size: old.length, read: async (at, length) => old.subarray(at, at + length) };
+const reader = { size: old.length, read: async (at, length) => old.slice(at, at + length) };
+
+const MiB = 2 ** 20;
+
+/** A file of three regions, the second with patched bytes near each other and apart, the third almost wholly patched. */
+const long = new Blob([Uint8Array.from({ length: 34 * MiB }, (_, i) => i % 251)]);
+const longReader = { size: long.size, file: long, read: async (at, length) => new Uint8Array(await long.slice(at, at + length).arrayBuffer()) };
+const patchAt = (at, size) => ({ at: Math.floor(at * MiB), bytes: new Uint8Array(size).fill(255) });
+const [first, near, apart, last] = [patchAt(20, 7), patchAt(20.1, 9), patchAt(24, 3), patchAt(32.5, 1.5 * MiB)];
+const longPieces = [first, near, apart, last].flatMap((it, i, all) =>
+    [{ from: i === 0 ? 0 : all[i - 1].at + all[i - 1].bytes.length, to: it.at }, it]);
+const DONE = [16 * MiB, 32 * MiB, 34 * MiB];
+const patched = Buffer.from(await long.arrayBuffer());
+for (const { at, bytes } of [first, near, apart, last]) patched.set(bytes, at);
 
 /** A file that fails at a write (from 0), at the end (`close`), or not. */
 function sinkOf(failing) {
     const sink = { written: [], state: 'open', writes: 0 };
-    sink.write = async bytes => {
+    sink.write = async write => {
         if (sink.writes++ === failing) throw Object.assign(new Error('no room'), { name: 'QuotaExceededError' });
-        sink.written.push(...bytes);
+        sink.written.push(write);
     };
     sink.close = async () => {
         if (failing === 'close') throw new Error('not closed');
@@ -26,55 +39,74 @@ function sinkOf(failing) {
     return sink;
 }
 
-async function saved(sink, watch = {}, make = null) {
+/** Saves pieces, and returns how far each write has come. */
+async function saved(sink, watch = {}, source = longReader, parts = longPieces) {
     const done = [];
-    const all = make ?? (async take => { for (const piece of pieces) await take(piece); return true; });
-    await saveToSink(sink, reader, all, { signal: { aborted: false }, progress: size => done.push(size), ...watch });
+    const make = async take => { for (const piece of parts) await take(piece); };
+    await saveToSink(sink, source, make, { signal: { aborted: false }, progress: size => done.push(size), ...watch });
     return done;
 }
 
-test('all pieces are written in turn, and the sink is closed', async () => {
+test('all pieces are written, and the sink is closed', async () => {
     const sink = sinkOf();
-    assert.deepEqual(await saved(sink), [10, 13, 40, 50]);
-    assert.deepEqual(sink.written, [...wanted]);
+    assert.deepEqual(await saved(sink, {}, reader, pieces), [50]);
+    assert.deepEqual([...await writtenBy(sink.written)], [...wanted]);
     assert.equal(sink.state, 'closed');
 });
 
+test('parts of the file go out as they are, and what is patched over them', async () => {
+    const sink = sinkOf();
+    assert.deepEqual(await saved(sink), DONE);
+    assert.deepEqual(sink.written.map(({ data }) => data.size ?? `${data.length} bytes`),
+        [16 * MiB, 16 * MiB, `${near.at + 9 - first.at} bytes`, '3 bytes', `${2 * MiB} bytes`]);
+    assert.ok(patched.equals(await writtenBy(sink.written)));
+    assert.equal(sink.state, 'closed');
+});
+
+test('what is no file is written as bytes', async () => {
+    const sink = sinkOf();
+    const { file, ...source } = longReader;
+    assert.deepEqual([file, await saved(sink, {}, source)], [long, DONE]);
+    assert.deepEqual(sink.written.map(({ data }) => data.length), [16 * MiB, 16 * MiB, 2 * MiB]);
+    assert.ok(patched.equals(await writtenBy(sink.written)));
+});
+
 test('a failure at each write aborts the sink and says how much was written', async () => {
-    for (const [failing, done] of [[0, 0], [1, 10], [2, 13], [3, 40], ['close', 50]]) {
+    for (const [failing, done] of [[0, 0], [1, DONE[0]], [2, DONE[0]], [3, DONE[0]], [4, DONE[1]], ['close', DONE[2]]]) {
         const sink = sinkOf(failing);
         await assert.rejects(saved(sink), error => error.name === 'SaveFault' && error.done === done && error.full === (failing !== 'close'));
         assert.equal(sink.state, 'aborted', `failing at ${failing}`);
     }
 });
 
-test('a cancel ends the saving at the next bytes, and the sink is aborted', async () => {
+test('a cancel ends the saving at the next region, and the sink is aborted', async () => {
     const signal = { aborted: false };
     const sink = sinkOf();
-    await assert.rejects(saved(sink, { signal, progress: size => { signal.aborted = size >= 13; } }), { name: 'JobAborted' });
-    assert.equal(sink.state, 'aborted');
-    assert.ok(sink.written.length < 50);
+    await assert.rejects(saved(sink, { signal, progress: () => { signal.aborted = true; } }), { name: 'JobAborted' });
+    assert.deepEqual([sink.state, sink.written.length], ['aborted', 1]);
 });
 
-test('what is not to be kept is aborted after all was written', async () => {
+test('what is not accepted is aborted after all was written', async () => {
     const sink = sinkOf();
-    const make = async take => { for (const piece of pieces) await take(piece); return false; };
-    await assert.rejects(saved(sink, {}, make), { name: 'JobAborted' });
+    const accept = async () => { throw new Error(`${sink.written.length} writes are not it`); };
+    await assert.rejects(saved(sink, { accept }), { message: '5 writes are not it' });
     assert.equal(sink.state, 'aborted');
 });
 
 test('a file that shrinks aborts the sink', async () => {
-    const sink = sinkOf();
-    const short = { size: 50, read: async (at, length) => old.subarray(at, Math.min(at + length, 30)) };
-    const make = async take => { for (const piece of pieces) await take(piece); return true; };
-    await assert.rejects(saveToSink(sink, short, make, { signal: { aborted: false }, progress() {} }), { name: 'ImageEnded' });
-    assert.equal(sink.state, 'aborted');
+    for (const [source, parts, failing] of [[reader, pieces, -1], [longReader, longPieces, 1]]) {
+        const sink = sinkOf(failing);
+        const most = source.size / 2;
+        const short = { ...source, read: async (at, length) => (await source.read(at, length)).slice(0, Math.max(most - at, 0)) };
+        await assert.rejects(saved(sink, {}, short, parts), { name: 'ImageEnded' });
+        assert.equal(sink.state, 'aborted');
+    }
 });
 
-test('who looks on sees each byte before it is written', async () => {
+test('who looks on sees all bytes that are written', async () => {
     const seen = [];
-    await saved(sinkOf(), { seen: bytes => { seen.push(...bytes); } });
-    assert.deepEqual(seen, [...wanted]);
+    await saved(sinkOf(), { seen: async bytes => { seen.push(bytes); } });
+    assert.ok(patched.equals(Buffer.concat(seen)));
 });
 
 test('a Blob has slices of the file and the patched bytes between them', async () => {

@@ -16,6 +16,21 @@ test('a byte that is typed twice keeps what was there first', () => {
     assert.equal(app.script.text, 'cdpatch 1\nset 9 5 434244 was 010203\nset 9 100 45 was 04\n');
 });
 
+test('a job with the second image ends with it, and the next one goes on', async () => {
+    const app = new App(null, null, null);
+    const ended = [];
+    const begin = () => app.runPair(async signal => new Promise(done => {
+        signal.addEventListener('abort', () => { ended.push(signal); done(); });
+    }));
+    const jobs = [begin(), begin()];
+    app.endPairing();
+    await Promise.all(jobs);
+    assert.equal(ended.length, 2);
+    begin();
+    assert.equal(app.jobs.length, 1);
+    assert.equal(app.jobs[0].signal.aborted, false);
+});
+
 test('Cancel ends the job that began last, and then the reading of the image', async () => {
     const app = new App(null, null, null);
     assert.equal(app.cancel(), false);

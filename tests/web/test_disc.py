@@ -423,6 +423,15 @@ class Disc(unittest.TestCase):
         old = image[61 * SECTOR_SIZE + 16]
         self.assertEqual(self.typed_script(), f'cdpatch 1\nset 61 0 BB was {old:02X}\n')
 
+    def test_a_damaged_sector_says_what_becomes_of_typed_bytes(self) -> None:
+        browser = self.opened(file_of(damaged(discs.game(), 50, 75)))
+        browser.press('n')
+        browser.wait('.foot', 'This sector is damaged: Check refuses the change, unless damaged sectors are patched too (carry)')
+        browser.press('g')
+        browser.type('#go-to', '60\n')
+        browser.wait('#sector-title', 'block 60')
+        waited(lambda: 'This sector is damaged' not in browser.text('.foot'), 'a sound sector is called damaged')
+
     def test_parity_cannot_be_typed_over(self) -> None:
         browser = self.opened(file_of(discs.game()))
         browser.find('#map').send_keys(Keys.ENTER)

@@ -15,12 +15,17 @@ from selenium.webdriver.common.keys import Keys
 FAULTY = ('cdpatch 1\n# Starlit Detective: English, version 1.2\n# title screen\nset {0} 26 537461727420202 was 8358835E815B8367\n'
           'set {0} 35 436F6E74 was 82C282C3\nset {0} 2105 5365742E was 90DD92E8\n# saving\nreplace {0} 85 5361766520\nset {0} 102 5965 was 82CD\n')
 
-# Reads of more than a megabyte take so long.
+# Reads of more than a megabyte take so long, and workers can read nothing, so that the page reads for them.
 SLOW = '''globalThis.slow = 4000;
+const post = Worker.prototype.postMessage;
+Worker.prototype.postMessage = function (message, ...given) {
+    const pieces = message.pieces?.map(piece => piece.file ? { ...piece, file: new Blob() } : piece);
+    post.call(this, pieces ? { ...message, pieces } : message, ...given);
+};
 const real = Blob.prototype.arrayBuffer;
 Blob.prototype.arrayBuffer = async function () {
     globalThis.reads = (globalThis.reads || 0) + Number(this.size > 1e6);
-    if (this.size > 1e6 && globalThis.reads > 5) await new Promise(done => setTimeout(done, globalThis.slow));
+    if (this.size > 1e6 && globalThis.reads > 12) await new Promise(done => setTimeout(done, globalThis.slow));
     return real.call(this);
 };'''
 

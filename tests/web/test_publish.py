@@ -1,7 +1,9 @@
 """Publish, and the patcher as players have it: its bytes, the four answers, what is saved, and what hostile or broken ones do."""
 
 import base64
+import json
 import zlib
+from typing import Any
 
 import common
 import discs
@@ -15,6 +17,13 @@ def result() -> bytes:
     """What the author's script makes of the game."""
     files = discs.written(game=discs.game(), english=discs.script())
     return applied(files['game'], files['english'])[2]
+
+
+def data_of(saved: bytes) -> dict[str, Any]:
+    """What stands after the page in a patcher."""
+    packed = saved[len(common.PAGE.read_bytes()):].split(b'\n')[1]
+    head, script = zlib.decompress(base64.b64decode(packed)).split(b'\n', 1)
+    return {**json.loads(head), 'script': script.decode()}
 
 
 class Publish(PageTest):
@@ -70,8 +79,7 @@ class Publish(PageTest):
         self.browser.press('# later')
         self.browser.run('openGate()')
         saved = self.browser.downloaded('img src=x onerror=alert(1).html').read_bytes()
-        data = zlib.decompress(base64.b64decode(saved[len(common.PAGE.read_bytes()):].split(b'\n')[1]))
-        self.assertEqual(data.split(b'\n', 1)[1].decode(), discs.script())
+        self.assertEqual(data_of(saved)['script'], discs.script())
         self.assertEqual([it.name for it in self.browser.downloads.iterdir()], ['img src=x onerror=alert(1).html'])
 
     def test_it_is_refused_while_a_patch_is_refused(self) -> None:
@@ -244,9 +252,54 @@ class Player(PageTest):
         self.browser.type('#patcher-note', 'All of it.')
         self.assertTrue(self.browser.asks_before_leaving())
 
+    def republished(self) -> bytes:
+        """What the full page saves of the patcher that is open, as the file of its image."""
+        self.press('Open this in the full cdpatch')
+        self.browser.wait('#disc-line .name', 'mine.bin')
+        self.wait_for_hash()
+        self.browser.click('#tab-publish')
+        self.browser.wait('#panel-publish', '0 refused')
+        self.press('Save as a patcher')
+        return self.browser.downloaded('Starlit Detective in English.html').read_bytes()
+
+    def test_a_patcher_with_a_base_of_its_own_is_published_again(self) -> None:
+        script = f'cdpatch 1\nset {discs.first_block() + 100} 0 41\n'
+        files = discs.written(game=discs.game(), script=script)
+        made = applied(files['game'], files['script'], '--base', '100')[2]
+        self.open_patcher(patcher(discs.game(), made, script, base=100))
+        self.browser.drop('#player', [discs.written(mine=discs.game())['mine']])
+        self.browser.wait('#verdict', 'This is the right disc.')
+        self.assertEqual(data_of(self.republished())['base'], 100)
+
+    def test_a_patcher_with_carry_is_published_again(self) -> None:
+        image = common.damaged(discs.game(), discs.first_block() + 1)
+        files = discs.written(image=image, script=discs.script())
+        made = applied(files['image'], files['script'], '--carry')[2]
+        self.open_patcher(patcher(image, made, discs.script(), carry=True))
+        self.browser.drop('#player', [discs.written(mine=image)['mine']])
+        self.browser.wait('#verdict', 'This is the right disc.')
+        data = data_of(self.republished())
+        self.assertEqual([data['carry'], data['result']], [True, common.sha1(made)])
+
 
 class Streamed(PageTest):
     stub = PICKER
+
+    def test_what_is_dropped_while_an_image_is_saved_is_refused_by_name(self) -> None:
+        path = common.folder('patcher') / 'starlit.html'
+        path.write_bytes(patcher(discs.game(), result(), discs.script()))
+        self.browser.open(path)
+        self.browser.give('#player-files', [discs.written(mine=discs.game())['mine']])
+        self.browser.wait('#verdict', 'This is the right disc.')
+        self.browser.run('chosen.hold()')
+        self.press('Patch and save')
+        self.browser.wait('#player .progress')
+        self.assertEqual(self.focused(), 'steps: Cancel')
+        self.browser.drop('#player', [discs.written(other=discs.game())['other']])
+        self.browser.wait('#messages .say.warn', 'Not opened: other.bin.')
+        self.browser.run('chosen.release()')
+        self.browser.wait('#saved', 'Saved: Starlit (English).bin')
+        self.assertEqual(self.browser.text('#messages'), '')
 
     def test_a_player_streams_what_the_author_made_and_nothing_else(self) -> None:
         for wanted, state in ((common.sha1(result()), 'closed'), ('0' * 40, 'aborted')):

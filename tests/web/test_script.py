@@ -36,6 +36,8 @@ class Script(PageTest):
         self.assertEqual(self.browser.run('return document.querySelector("pre.log").textContent'), text)
         self.browser.wait('#saved-sha1', common.sha1(out))
         self.assertEqual(self.browser.text('#saved-crc32'), f'{zlib.crc32(out):08x}')
+        one_line = 'return document.querySelector("#saved-sha1").offsetHeight === document.querySelector("#saved-crc32").offsetHeight'
+        self.assertTrue(self.browser.run(one_line))
         self.press('Open the new image')
         self.browser.wait('#disc-line .name', 'game (patched).bin')
         self.browser.wait('#disc-line .sha1', common.sha1(out))
@@ -256,6 +258,11 @@ class Script(PageTest):
         _, text = common.run_program('check', '--base', '1000', files['track'], files['later'])
         self.assertEqual(self.browser.run('return document.querySelector("pre.log").textContent'), text)
 
+    def test_a_script_of_its_head_line_alone_is_shown(self) -> None:
+        self.open_files(discs.written(head='cdpatch 1\n')['head'])
+        self.browser.wait('#panel-script header h2', 'head.txt')
+        self.browser.wait('#panel-script h2', 'No patches yet')
+
 
 class Streaming(PageTest):
     stub = PICKER
@@ -291,7 +298,7 @@ class Streaming(PageTest):
         self.press('Apply and save')
         self.browser.wait('#panel-script .say.good')
         count = int(self.browser.run('return chosen.writes.length'))
-        self.assertGreater(count, 2)
+        self.assertGreater(count, 1)
         for failing in [*range(count), 'close']:
             self.press('Back')
             self.browser.run('Object.assign(chosen, { writes: [], state: "none", failing: arguments[0], removed: false })', failing)

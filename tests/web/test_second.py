@@ -7,6 +7,7 @@ from pathlib import Path
 import chromium
 import discs
 from common import PAGE, SECTOR_SIZE, damaged, folder, run_program, sector, waited
+from pages import PICKER, PageTest
 
 AUDIO = random.Random(8).randbytes(30 * SECTOR_SIZE)
 SECTORS = len(discs.game()) // SECTOR_SIZE + 30
@@ -178,3 +179,21 @@ class Second(unittest.TestCase):
         for width in (360, 620, 900, 1180, 1600):
             self.assertLessEqual(self.browser.wider(width), 0, width)
         self.assertEqual(self.browser.attempts(), [])
+
+
+class SecondSaved(PageTest):
+    stub = PICKER
+
+    def test_to_close_the_second_image_ends_the_saving_of_the_repaired_one(self) -> None:
+        files = discs.written(game=with_faults((40, 9)), other=with_faults())
+        self.open_image(files['game'])
+        self.open_files(files['other'])
+        self.browser.run('chosen.hold()')
+        self.press('Save repaired image')
+        waited(lambda: self.browser.run('return chosen.begun > 0'), 'nothing was written')
+        self.assertTrue(self.browser.asks_before_leaving())
+        self.press('Close it')
+        self.browser.run('chosen.release()')
+        waited(lambda: self.browser.run('return chosen.removed'), 'the file is kept')
+        self.assertEqual(self.browser.run('return chosen.state'), 'aborted')
+        self.assertFalse(self.browser.asks_before_leaving())

@@ -45,6 +45,12 @@ class Text(PageTest):
         self.assertIn('/DATA/MSG00.DAT', self.row(3))
         self.assertIn('over a border of blocks', self.row(4))
 
+    def test_the_bytes_round_a_hit_fit_the_width_of_their_card(self) -> None:
+        self.find('スタート')
+        for width, rows in ((1280, ':not(.cols8)'), (360, '.cols8'), (1280, ':not(.cols8)')):
+            self.browser.size(width)
+            self.browser.wait(f'.hex.around{rows}', 'スタート')
+
     def test_find_replace_check_and_apply_give_what_the_program_writes(self) -> None:
         self.find('スタート')
         self.browser.press('Start', Keys.ENTER)

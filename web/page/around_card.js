@@ -6,7 +6,6 @@ import { charactersOf, chosenEncoding, encodingLabel } from './encodings.js';
 
 /** @typedef {import('./state.js').App} App */
 /** @typedef {import('../core/find.js').Hit} Hit */
-/** @typedef {import('./dom.js').Child} Child */
 /** The user data of neighbouring blocks, of which `first` is the first; the hit begins at a place of it. */
 /** @typedef {{ user: Uint8Array, at: number, first: number }} Around */
 
@@ -14,16 +13,58 @@ const NARROW_CARD = 560;
 const ROWS_BEFORE = 4;
 const ROWS = 9;
 
+/** The card. It is drawn anew if its width fits rows of another length. */
+export class AroundCard {
+    /** @param {App} app */
+    constructor(app) {
+        this.app = app;
+        this.columns = 0;
+        this.shown = /** @type {{ hit: Hit, around: Around } | null} */ (null);
+        this.card = element('section', { class: 'card', 'aria-label': 'The bytes around it', hidden: true });
+        new ResizeObserver(() => {
+            if (this.shown !== null && this.columns !== this.fitting()) this.draw(this.shown);
+        }).observe(this.card);
+    }
+
+    /** How many bytes of a row the card has room for. */
+    fitting() {
+        const { clientWidth } = this.card;
+        if (clientWidth === 0) return this.columns;
+        return clientWidth < NARROW_CARD ? 8 : 16;
+    }
+
+    /**
+     * @param {Hit} hit
+     * @param {Around} around
+     */
+    show(hit, around) {
+        this.shown = { hit, around };
+        this.card.hidden = false;
+        this.draw(this.shown);
+    }
+
+    /** @param {{ hit: Hit, around: Around }} shown */
+    draw({ hit, around }) {
+        this.columns = this.fitting() || 16;
+        const label = encodingLabel(this.app.encoding);
+        const numbers = Array.from({ length: this.columns }, (_, i) => element('i', {}, i));
+        fill(this.card, element('header', {}, element('h2', {}, 'The bytes around it'),
+            button('slim bare', () => this.app.goTo(hit.block, hit.offset, true), 'Open the sector')),
+        element('div', { class: `hex around${this.columns === 8 ? ' cols8' : ''}`, tabindex: 0, role: 'group',
+            'aria-label': `The bytes around block ${hit.block} offset ${hit.offset}` },
+        element('div', { class: 'head', 'aria-hidden': 'true' }, element('span', { class: 'o' }, 'offset'),
+            element('span', { class: 'b' }, ...numbers),
+            element('span', { class: 't' }, label)), ...rowsOf(this.app, hit, around, this.columns)));
+    }
+}
+
 /**
- * Fills the card.
  * @param {App} app
- * @param {HTMLElement} card
  * @param {Hit} hit
  * @param {Around} around
+ * @param {number} columns
  */
-export function showAround(app, card, hit, around) {
-    const { user, at } = around;
-    const columns = card.clientWidth < NARROW_CARD ? 8 : 16;
+function rowsOf(app, hit, { user, at }, columns) {
     const from = Math.max(Math.floor(at / columns) - ROWS_BEFORE, 0) * columns;
     const to = Math.min(from + ROWS * columns, user.length);
     const texts = textsOf(app, user, from, to);
@@ -37,15 +78,7 @@ export function showAround(app, card, hit, around) {
             element('span', { class: 'b' }, ...cells),
             element('span', { class: 't' }, ...shown)));
     }
-    const numbers = Array.from({ length: columns }, (_, i) => element('i', {}, i));
-    const label = encodingLabel(app.encoding);
-    fill(card, element('header', {}, element('h2', {}, 'The bytes around it'),
-        button('slim bare', () => app.goTo(hit.block, hit.offset, true), 'Open the sector')),
-        element('div', { class: `hex around${columns === 8 ? ' cols8' : ''}`, tabindex: 0, role: 'group',
-            'aria-label': `The bytes around block ${hit.block} offset ${hit.offset}` },
-            element('div', { class: 'head', 'aria-hidden': 'true' }, element('span', { class: 'o' }, 'offset'),
-                element('span', { class: 'b' }, ...numbers),
-                element('span', { class: 't' }, label)), ...rows));
+    return rows;
 }
 
 /**

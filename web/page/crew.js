@@ -36,6 +36,14 @@ class WorkerHand {
         }
         this.worker.postMessage(message, transfer);
     }
+
+    /** Ends the worker. What is posted next goes to a new one. */
+    end() {
+        if (this.worker === null) return;
+        this.worker.onmessage = this.worker.onerror = null;
+        this.worker.terminate();
+        this.worker = null;
+    }
 }
 
 /**
@@ -47,7 +55,10 @@ class WorkerHand {
 function startedWorker({ module, newWorker }, heard, failed) {
     const worker = newWorker();
     worker.onmessage = heard;
-    worker.onerror = event => failed(new Error(`A worker of this page has stopped: ${event.message || 'no reason is given'}.`));
+    worker.onerror = ({ message }) => {
+        const why = message ? ` (${message})` : '';
+        failed(new Error(`A worker of this page has stopped${why}. Try it again: then a new one starts.`));
+    };
     worker.postMessage({ module });
     return worker;
 }
@@ -60,7 +71,18 @@ class ReadingCrew extends Crew {
     /** @param {WorkerHand[]} hands */
     constructor(hands) {
         super(hands);
+        this.hands = hands;
         this.lends = true;
+    }
+
+    /** @type {Crew['fail']} the jobs that are under way end, and the next ones get new workers */
+    fail(error) {
+        super.fail(error);
+        this.fault = null;
+        for (const hand of this.hands) {
+            hand.end();
+            this.loads.set(hand, 0);
+        }
     }
 
     /** @type {Crew['pieces']} */

@@ -30,7 +30,7 @@ function panelOfTab(tab) {
  * @param {App} app
  */
 function showPanels(app) {
-    const started = app.image !== null || app.script.text !== '';
+    const started = app.image !== null || app.script.text !== '' || app.script.name !== '';
     byId('start').hidden = app.image !== null || (started && app.panel !== 'disc');
     byId('tabs').hidden = !started;
     byId('open-other').hidden = !started;

@@ -129,9 +129,7 @@ async function streamWork(app, { reader, base, carry, script }, name, wanted, { 
         const patches = await readPatches(app, script);
         await saveToSink(await chosen.createWritable(), reader, async take => {
             made = await passPatched(app.calls, reader, patches, base, carry, take);
-            if (hash !== null && await hash.end() !== wanted) throw new WrongResult();
-            return true;
-        }, { signal, progress: done => progress(done, reader.size), seen: hash ? bytes => hash.add(bytes.slice()) : undefined });
+        }, { signal, progress: done => progress(done, reader.size), ...hash && comparing(hash, wanted) });
     } catch (error) {
         if (before.size === 0 && chosen.remove) await chosen.remove().catch(() => {});
         throw error;
@@ -141,6 +139,20 @@ async function streamWork(app, { reader, base, carry, script }, name, wanted, { 
     const file = await chosen.getFile().catch(() => null);
     return { made: /** @type {Patched} */ (/** @type {unknown} */ (made)), name: chosen.name, size: reader.size, streamed: true, blob: null,
         file, sha1: wanted };
+}
+
+/**
+ * Compares what is saved with a SHA-1.
+ * @param {RunningHash} hash
+ * @param {string} wanted
+ */
+function comparing(hash, wanted) {
+    return {
+        seen: (/** @type {Uint8Array} */ bytes) => hash.add(bytes),
+        async accept() {
+            if (await hash.end() !== wanted) throw new WrongResult();
+        },
+    };
 }
 
 /** The result is not the one that it should be, so nothing was kept. */

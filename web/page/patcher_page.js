@@ -3,8 +3,8 @@
 import { byId, element } from './dom.js';
 import { pageSource } from './parts.js';
 import { PatcherFault, comparedWithPage, readPatcherText } from './patcher.js';
-import { showPlayer } from './player.js';
 import { notice, sentence, showNotice } from './say.js';
+import { showPlayer } from './show_player.js';
 
 /** @typedef {import('./state.js').App} App */
 

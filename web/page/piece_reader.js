@@ -6,35 +6,38 @@ import { readBytes } from '../core/bytes.js';
 /** @typedef {import('../core/bytes.js').Piece} Piece */
 
 /**
+ * Where a piece stands in the image.
  * @param {Piece} piece
  */
-function extentOf(piece) {
+export function extentOf(piece) {
     return 'bytes' in piece ? { from: piece.at, to: piece.at + piece.bytes.length } : piece;
 }
 
 /**
- * A reader of pieces that stand one after the other.
+ * A reader of pieces that stand one after the other. It reads the range of the image, unless one piece has all its bytes, and puts the
+ * bytes that are others over it.
  * @param {Reader} reader that slices are of
  * @param {Piece[]} pieces
  * @returns {Reader}
  */
 export function pieceReader(reader, pieces) {
     const ends = pieces.map(piece => extentOf(piece).to);
+    const size = ends.length > 0 ? ends[ends.length - 1] : 0;
     return {
-        size: ends.length > 0 ? ends[ends.length - 1] : 0,
+        size,
         async read(at, length) {
-            const bytes = new Uint8Array(length);
-            let done = 0;
-            for (let i = firstAfter(ends, at); i < pieces.length && done < length; i++) {
+            const end = Math.min(at + length, size);
+            const first = firstAfter(ends, at);
+            const own = pieces[first];
+            if (own && 'bytes' in own && own.at <= at && ends[first] >= end) return own.bytes.slice(at - own.at, end - own.at);
+            const bytes = await readBytes(reader, at, end - at);
+            for (let i = first; i < pieces.length && extentOf(pieces[i]).from < end; i++) {
                 const piece = pieces[i];
-                const { from, to } = extentOf(piece);
-                const [begin, end] = [at + done, Math.min(to, at + length)];
-                const own = 'bytes' in piece ? piece.bytes.subarray(begin - from, end - from) : null;
-                const part = own || await readBytes(reader, begin, end - begin);
-                bytes.set(part, done);
-                done += part.length;
+                if (!('bytes' in piece)) continue;
+                const from = Math.max(piece.at, at);
+                bytes.set(piece.bytes.subarray(from - piece.at, end - piece.at), from - at);
             }
-            return done === length ? bytes : bytes.subarray(0, done);
+            return bytes;
         },
     };
 }

@@ -4,7 +4,7 @@ import { RESULT } from '../core/records.js';
 import { openDisc } from '../core/disc.js';
 import { readBytes } from '../core/bytes.js';
 import { textOfFile } from '../core/text.js';
-import { askBeforeLeaving, button, byId, countOf, counted, element, fill, icon, keepFocus } from './dom.js';
+import { askBeforeLeaving, button, countOf, counted, element, fill, icon, keepFocus } from './dom.js';
 import { downloadText } from './files_out.js';
 import { saveWork } from './patch_job.js';
 import { moreOf } from './player_more.js';
@@ -12,7 +12,7 @@ import { imageOfSize, judgeImage, reasonsOf } from './player_verdict.js';
 import { jobBar } from './progress.js';
 import { fileReader } from './reading.js';
 import { failureOfSaving } from './save_card.js';
-import { isCancelled, notice, sentence } from './say.js';
+import { clearNotices, isCancelled, notice, sentence, showNotice } from './say.js';
 import { sheetNaming } from './sheet.js';
 
 /** @typedef {import('./state.js').App} App */
@@ -35,7 +35,7 @@ const VERDICTS = {
 };
 
 /** The page of a patcher. */
-class Player {
+export class Player {
     /**
      * @param {App} app
      * @param {PatcherData} data
@@ -52,6 +52,8 @@ class Player {
         this.leaving = false;
         this.saving = false;
         this.number = 0;
+        /** The block of the image's first sector, as far as it is known. */
+        this.base = /** @type {number | null} */ (null);
         /** Ends the job that runs. */
         this.stop = () => {};
         askBeforeLeaving(() => this.leaving);
@@ -89,7 +91,7 @@ class Player {
      * @param {HTMLElement} [third]
      */
     show(first, second = this.step('2', 'later', 'Patch it'), third = this.step('3', 'later', 'Play')) {
-        keepFocus(this.steps, () => fill(this.steps, first, second, third), '.main');
+        keepFocus(this.steps, () => fill(this.steps, first, second, third), '.now .btn');
     }
 
     /** @param {Child} [fault] */
@@ -103,7 +105,8 @@ class Player {
     /** @param {File[]} files */
     async open(files) {
         this.input.value = '';
-        if (files.length === 0 || this.saving) return;
+        if (files.length === 0) return;
+        if (this.saving) return this.sayBusy(files);
         this.stop();
         const number = ++this.number;
         try {
@@ -119,6 +122,12 @@ class Player {
         }
     }
 
+    /** @param {File[]} files */
+    sayBusy(files) {
+        const names = files.map(file => file.name).join(', ');
+        showNotice('warn', `Not opened: ${names}.`, 'An image is being saved. Drop it again when that has ended, or press Cancel first.');
+    }
+
     /** @param {DiscImage} image */
     async judge(image) {
         await this.app.run(async (signal, cancel) => {
@@ -126,7 +135,9 @@ class Player {
             this.show(this.step('1', 'now', 'Checking your image', element('p', { class: 'mono' }, image.name), ...bar.parts));
             this.stop = cancel;
             const judged = await judgeImage(this.app, this.data, image, { signal, progress: bar.at });
-            if (!signal.aborted) this.judged(image, judged);
+            if (signal.aborted) return;
+            this.base = judged.work.base;
+            this.judged(image, judged);
         });
     }
 
@@ -205,12 +216,14 @@ class Player {
                 this.stop = cancel;
                 return saveWork(app, work, data.name, verdict === 'right' ? data.result : '', { signal, progress: bar.at });
             });
+            clearNotices();
             this.saving = false;
             this.leaving = saved !== null && !saved.streamed;
             if (saved !== null) return this.saved(saved, first);
             return this.show(first, this.again(image, { work, verdict }, first,
                 notice('plain', 'No file was chosen.', 'Nothing was saved.')));
         } catch (error) {
+            clearNotices();
             this.leaving = this.saving = false;
             return this.show(first, this.again(image, { work, verdict }, first, failureOfSaving(error, work.reader.size)));
         }
@@ -256,37 +269,4 @@ class Player {
         return this.step('3', 'now', 'Play',
             element('p', {}, 'Your emulator opens a cue sheet. This one names the new image. Save it in the same folder.'), save);
     }
-}
-
-/**
- * Shows a patcher as players see it, in place of the panels.
- * @param {App} app
- * @param {PatcherData} data
- * @param {PlayerHow} how
- */
-export function showPlayer(app, data, how) {
-    const { open } = app;
-    const place = byId('player');
-    const home = /** @type {Text} */ (byId('home').lastChild);
-    document.body.classList.add('player');
-    home.data = 'A patcher made with cdpatch';
-    const player = new Player(app, data, how, place);
-    app.open = files => player.open(files);
-    const leave = (/** @type {boolean} */ full) => {
-        player.stop();
-        app.open = open;
-        document.body.classList.remove('player');
-        home.data = 'cdpatch';
-        document.title = 'cdpatch';
-        fill(place);
-        if (!full && how.back) return how.back();
-        app.emit('patcher', data);
-        app.setScript(data.script, `${data.title}.txt`, 'file');
-        app.showPanel('script');
-        return player.files.length > 0 ? app.open(player.files) : undefined;
-    };
-    document.title = data.title;
-    place.append(element('p', { class: 'row center' }, how.back && button('slim', () => leave(false), 'Back to Publish'),
-        button('slim bare', () => leave(true), 'Open this in the full cdpatch')));
-    window.scrollTo(0, 0);
 }

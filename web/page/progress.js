@@ -24,8 +24,8 @@ export function jobBar(name, cancel) {
         bar.style.width = `${percent}%`;
         progress.setAttribute('aria-valuenow', String(percent));
         const fact = (/** @type {string} */ strong, /** @type {string} */ rest) => element('span', {}, element('b', {}, strong), rest);
-        fill(facts, fact(`${percent} %`, ''), fact(megabytes(done), ` of ${megabytes(all)} MB`), fact(megabytes(rate), ' MB/s'),
-            fact(`${left} s`, ' left'));
+        fill(facts, fact(`${percent} %`, ''), ...all === 0 ? [] : [fact(megabytes(done), ` of ${megabytes(all)} MB`),
+            fact(megabytes(rate), ' MB/s'), fact(`${left} s`, ' left')]);
     };
     const sectors = (/** @type {number} */ done, /** @type {number} */ all) => at(done * SECTOR_SIZE, all * SECTOR_SIZE);
     at(0, 0);

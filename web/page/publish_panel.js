@@ -3,17 +3,17 @@
 import { RESULT, VERB, patchFields } from '../core/records.js';
 import { applyPatches } from '../core/patch.js';
 import { sha1Of } from './crew.js';
-import { askBeforeLeaving, button, countOf, element, fill, isDisabled, keepFocus, setDisabled } from './dom.js';
+import { askBeforeLeaving, button, countOf, element, fill, isDisabled, keepFocus, setDisabled, term } from './dom.js';
 import { download } from './files_out.js';
 import { readPatches } from './patch_job.js';
 import { pageSource } from './parts.js';
 import { headFault, patcherText } from './patcher.js';
-import { showPlayer } from './player.js';
 import { jobBar } from './progress.js';
 import { fileOf, fileReader } from './reading.js';
 import { blobOfPieces, patchedName } from './save.js';
 import { isCancelled, notice, sentence } from './say.js';
 import { sheetFor } from './sheet.js';
+import { showPlayer } from './show_player.js';
 
 /** @typedef {import('./state.js').App} App */
 /** @typedef {import('./state.js').Image} Image */
@@ -48,6 +48,7 @@ class PublishPanel {
         this.note = element('textarea', { id: 'patcher-note', rows: 5, maxlength: 20000, input: () => this.typed() });
         this.name = text('patcher-name');
         this.sheet = element('input', { type: 'checkbox', id: 'patcher-cue', checked: true });
+        this.carry = element('input', { type: 'checkbox', id: 'patcher-carry', change: () => this.forget() });
         this.list = element('div', { class: 'stack tight', role: 'status' });
         this.state = element('div', { class: 'stack' });
         this.save = button('main', () => this.publish(true), 'Save as a patcher…');
@@ -65,10 +66,12 @@ class PublishPanel {
             element('label', { for: field.id }, label), field);
         this.cueRow = element('label', { class: 'check' }, this.sheet,
             element('span', {}, 'Offer a cue sheet that names the patched image'));
+        this.carryRow = element('label', { class: 'check', hidden: true }, this.carry,
+            element('span', {}, 'Patch damaged sectors too (', term('carry', 'carry'), '), as the patcher that was opened'));
         return element('section', { class: 'card', 'aria-label': 'A patcher for your players' },
             element('header', {}, element('h2', {}, 'A patcher for your players')),
             element('div', { class: 'pad stack' }, row('Title', this.title), row('By', this.author), row('Note for players', this.note),
-                row('Name of the patched image', this.name), this.cueRow));
+                row('Name of the patched image', this.name), this.cueRow, this.carryRow));
     }
 
     savingCard() {
@@ -96,9 +99,11 @@ class PublishPanel {
      * Takes over what a patcher says of itself, so that the next one can be made of it.
      * @param {PatcherData} data
      */
-    take({ title, author, note, name, cue }) {
+    take({ title, author, note, name, cue, carry }) {
         [this.title.value, this.author.value, this.note.value, this.name.value] = [title, author, note, name];
         this.sheet.checked = cue !== '';
+        this.carry.checked = carry;
+        if (this.carryRow) this.carryRow.hidden = !carry;
         this.edited = false;
     }
 
@@ -124,7 +129,7 @@ class PublishPanel {
         const { number } = this;
         this.trying = true;
         try {
-            const tried = await triedOn(this.app, image);
+            const tried = await triedOn(this.app, image, this.carry.checked);
             if (number === this.number) this.tried = tried;
         } catch (error) {
             if (number === this.number) this.fault = sentence(error);
@@ -205,8 +210,8 @@ class PublishPanel {
      */
     data(image, script, result) {
         const name = this.name.value.trim();
-        return { title: this.title.value.trim(), author: this.author.value.trim(), note: this.note.value, name, carry: false,
-            base: image.base,
+        return { title: this.title.value.trim(), author: this.author.value.trim(), note: this.note.value, name,
+            carry: this.carry.checked, base: image.base,
             cue: this.sheet.checked ? sheetFor(image, name) : '', image: { size: image.reader.size, sha1: image.sha1 }, result,
             script };
     }
@@ -246,12 +251,13 @@ function nameRow(name) {
  * Tries the script on the image.
  * @param {App} app
  * @param {Image} image
+ * @param {boolean} carry
  * @returns {Promise<Tried>}
  */
-async function triedOn(app, image) {
+async function triedOn(app, image, carry) {
     const script = app.script.text || 'cdpatch 1\n';
     const patches = await readPatches(app, script);
-    const made = await applyPatches(app.calls, image.reader, patches, image.base, false);
+    const made = await applyPatches(app.calls, image.reader, patches, image.base, carry);
     const file = fileOf(image.reader);
     if (file === null) throw new Error('this image is no file');
     const fields = patches.map(({ bytes }) => patchFields(bytes));

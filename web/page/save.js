@@ -1,19 +1,22 @@
 // Saving: a patched image as a stream to a file, or as a Blob of slices of the old file with the patched sectors between them.
 
-import { bytesOfPieces } from '../core/bytes.js';
+import { readBytes } from '../core/bytes.js';
 import { JobAborted } from '../core/jobs.js';
+import { RegionCutter, bytesOfRegion, writesOf } from './save_regions.js';
 
 /** @typedef {import('../core/bytes.js').Reader} Reader */
 /** @typedef {import('../core/bytes.js').Piece} Piece */
+/** @typedef {import('./save_regions.js').Region} Region */
+/** @typedef {import('./save_regions.js').Write} Write */
 /** What a file is written by: FileSystemWritableFileStream, or a test's own. */
-/** @typedef {{ write(bytes: Uint8Array): Promise<void>, close(): Promise<void>, abort(): Promise<void> }} Sink */
+/** @typedef {{ write(write: Write): Promise<void>, close(): Promise<void>, abort(): Promise<void> }} Sink */
 /**
- * Who is told how many bytes are written, and what ends the saving. `seen` is given the bytes before they are written.
- * @typedef {{ signal: { aborted: boolean }, progress: (done: number) => void,
- *     seen?: (bytes: Uint8Array) => void | Promise<void> }} Watch
+ * Who is told how many bytes are written, and what ends the saving. `seen` is given all bytes that are written, in turn, and `accept`
+ * throws if they are not to be kept.
+ * @typedef {{ signal: { aborted: boolean }, progress: (done: number) => void, seen?: (bytes: Uint8Array) => Promise<void>,
+ *     accept?: () => Promise<void> }} Watch
  */
-/** Makes the patched image, and gives its pieces to `take` in order. */
-/** @typedef {(take: (piece: Piece) => Promise<void>) => Promise<boolean>} Maker it says whether all is to be kept */
+/** @typedef {(take: (piece: Piece) => Promise<void>) => Promise<void>} Maker gives the pieces of an image in order */
 
 /** A file that could not be written to its end. */
 export class SaveFault extends Error {
@@ -29,30 +32,47 @@ export class SaveFault extends Error {
     }
 }
 
-/** Bytes that go to a sink one after the other, of which the next are read while the last are written. */
+/** Regions that go to a sink one after the other, of which the next is made while the last is written. */
 class SinkWriter {
     /**
      * @param {Sink} sink
+     * @param {Reader} reader
      * @param {Watch} watch
      */
-    constructor(sink, watch) {
+    constructor(sink, reader, watch) {
         this.sink = sink;
+        this.reader = reader;
         this.watch = watch;
         this.done = 0;
         /** @type {Promise<unknown>} what is being written: null, or why it failed */
         this.writing = Promise.resolve(null);
     }
 
-    /** @param {Uint8Array} bytes */
-    async push(bytes) {
+    /** @param {Region} region */
+    async push(region) {
         await this.settle();
         if (this.watch.signal.aborted) throw new JobAborted();
-        if (this.watch.seen) await this.watch.seen(bytes);
-        this.writing = this.sink.write(bytes).then(() => {
-            this.done += bytes.length;
-            this.watch.progress(this.done);
-            return null;
-        }, error => new SaveFault(this.done, error));
+        this.writing = this.write(region).then(() => null, error => error);
+        if (this.watch.seen) await this.watch.seen(await bytesOfRegion(this.reader, region));
+    }
+
+    /** @param {Region} region */
+    async write(region) {
+        for (const write of await writesOf(this.reader, region)) {
+            await this.sink.write(write).catch(error => this.fail(write, error));
+        }
+        this.done += region.size;
+        this.watch.progress(this.done);
+    }
+
+    /**
+     * A browser does not say whether a part of a file could not be read or not be written.
+     * @param {Write} write
+     * @param {unknown} error
+     */
+    async fail({ position, data }, error) {
+        if (data instanceof Blob) await readBytes(this.reader, position + data.size - 1, 1);
+        throw new SaveFault(this.done, error);
     }
 
     async settle() {
@@ -62,21 +82,22 @@ class SinkWriter {
 }
 
 /**
- * Writes a patched image to a sink, and closes it only if all was written and `make` says that it is to be kept. Throws JobAborted,
- * SaveFault, and what the reader throws; then the sink was aborted.
+ * Writes a patched image to a sink, and closes it only if all was written and is accepted. Throws JobAborted, SaveFault, and what the
+ * reader, `make` and `accept` throw; then the sink was aborted.
  * @param {Sink} sink
  * @param {Reader} reader
  * @param {Maker} make
  * @param {Watch} watch
  */
 export async function saveToSink(sink, reader, make, watch) {
-    const writer = new SinkWriter(sink, watch);
+    const writer = new SinkWriter(sink, reader, watch);
+    const regions = new RegionCutter(region => writer.push(region));
     try {
-        const kept = await make(async piece => {
-            for await (const bytes of bytesOfPieces(reader, [piece])) await writer.push(bytes);
-        });
+        await make(piece => regions.push(piece));
+        await regions.end();
         await writer.settle();
-        if (watch.signal.aborted || !kept) throw new JobAborted();
+        if (watch.accept) await watch.accept();
+        if (watch.signal.aborted) throw new JobAborted();
         await sink.close().catch(error => {
             throw new SaveFault(writer.done, error);
         });

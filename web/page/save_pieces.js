@@ -30,7 +30,6 @@ export async function savePieces(readers, pieces, name, watch) {
     for (const other of readers) assertOther(before, other);
     const give = async (/** @type {(piece: Piece) => Promise<void>} */ take) => {
         for (const piece of pieces) await take(piece);
-        return true;
     };
     try {
         await saveToSink(await chosen.createWritable(), reader, give, watch);

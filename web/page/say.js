@@ -16,13 +16,13 @@ export function notice(tone, head, ...rest) {
 }
 
 /**
- * Shows a notice over the panel, or at the drop area of the start, until it is closed or another one comes.
+ * Shows a notice over the panel or the player, or at the drop area of the start, until it is closed or another one comes.
  * @param {Tone} tone
  * @param {string} head
  * @param {...Child} rest
  */
 export function showNotice(tone, head, ...rest) {
-    const place = byId('start').hidden ? byId('messages') : byId('start-message');
+    const place = byId(byId('start').offsetParent === null ? 'messages' : 'start-message');
     const close = button('slim bare', clearNotices, 'Close');
     const made = notice(tone, head, ...rest);
     const row = made.querySelector('.row') || element('div', { class: 'row' });

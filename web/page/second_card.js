@@ -52,6 +52,7 @@ export class SecondCard {
     /** There is another second image, or none any more. */
     begin() {
         const { image, second, survey } = this.app;
+        this.app.endPairing();
         this.jobs.repair.forget();
         this.jobs.compare.forget();
         this.part.hidden = image === null || second === null;

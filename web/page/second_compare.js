@@ -59,7 +59,7 @@ export class SecondCompare {
         /** @type {Rows} */
         const found = { rows: [], onlyCodes: 0, tail: false };
         try {
-            await app.run((signal, cancel) => {
+            await app.runPair((signal, cancel) => {
                 const bar = jobBar('Comparing both images', cancel);
                 fill(this.body, ...bar.parts);
                 const how = { base: image.base, signal, progress: bar.sectors };

@@ -62,7 +62,7 @@ export class SecondRepair {
         try {
             /** @type {Piece[]} */
             const pieces = [];
-            const repair = await app.run((signal, cancel) => {
+            const repair = await app.runPair((signal, cancel) => {
                 const bar = jobBar('Comparing both images', cancel);
                 fill(this.body, ...bar.parts);
                 return mergeImages(app.crew, image, [second], { signal, progress: bar.sectors }, piece => { pieces.push(piece); });
@@ -115,7 +115,7 @@ export class SecondRepair {
         if (image === null || second === null || !place) return;
         const show = (/** @type {Child[]} */ ...parts) => keepFocus(place, () => fill(place, ...parts));
         try {
-            const saved = await app.run((signal, cancel) => {
+            const saved = await app.runPair((signal, cancel) => {
                 const bar = jobBar('Saving', cancel);
                 show(...bar.parts);
                 this.saving = true;

@@ -29,9 +29,12 @@ const MOST_LEFT_NAMED = 8;
  * @param {boolean} [skipDamaged]
  */
 export async function writeScript(app, place, image, fresh, name, skipDamaged = false) {
-    const show = (/** @type {Node[]} */ ...parts) => keepFocus(place, () => fill(place, ...parts));
+    const { second } = app;
+    const show = (/** @type {Node[]} */ ...parts) => {
+        if (app.second === second) keepFocus(place, () => fill(place, ...parts));
+    };
     try {
-        const compared = await app.run((signal, cancel) => {
+        const compared = await app.runPair((signal, cancel) => {
             const bar = jobBar('Writing the script', cancel);
             show(...bar.parts);
             const how = { base: image.base, signal, progress: bar.sectors, skipDamaged };

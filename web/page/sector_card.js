@@ -167,9 +167,16 @@ export class SectorCard {
         if (shown.bytes[at] !== shown.old[at]) {
             parts.push(element('span', { class: 'good-ink' }, `changed by the script, ${hexByte(shown.old[at])} in the file`));
         }
-        const hint = isUser ? 'Type to change bytes: each change becomes a line of the script, the file stays as it is.'
+        const hint = isUser ? `Type to change bytes: each change becomes a line of the script, the file stays as it is.${this.damageHint()}`
             : shown.mode1 ? 'Only user data can be typed over. EDC and parity follow from them.' : 'Only Mode 1 sectors can be changed.';
         fill(this.foot, ...parts, element('span', {}, hint));
+    }
+
+    /** What becomes of bytes that are typed in a damaged sector. */
+    damageHint() {
+        const { shown } = this.view;
+        return shown === null || this.app.calls.isConsistent(shown.old) ? '' : ' This sector is damaged: Check refuses the change, ' +
+            'unless damaged sectors are patched too (carry), or a rebuild in the script comes before it.';
     }
 
     /** @param {number} offset */

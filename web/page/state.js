@@ -67,6 +67,8 @@ export class App {
         this.jobs = [];
         /** Ends the reading of the open image. */
         this.reading = new AbortController();
+        /** Ends what is done with the second image. */
+        this.pairing = new AbortController();
         /** @type {(files: File[]) => Promise<void>} opens files, as if they were dropped; open.js sets it */
         this.open = async () => {};
         /** @type {((file: File) => Promise<boolean>)[]} asked of each file that is opened; true if the asked one has taken it */
@@ -102,6 +104,25 @@ export class App {
         } finally {
             this.jobs.splice(this.jobs.indexOf(controller), 1);
         }
+    }
+
+    /**
+     * Runs a job with both images, which also ends when the second one is closed or another one.
+     * @template Result
+     * @param {(signal: AbortSignal, cancel: () => void) => Promise<Result>} job
+     */
+    runPair(job) {
+        const { signal } = this.pairing;
+        return this.run((own, cancel) => {
+            signal.addEventListener('abort', cancel);
+            return job(own, cancel);
+        });
+    }
+
+    /** Ends the jobs with the second image. */
+    endPairing() {
+        this.pairing.abort();
+        this.pairing = new AbortController();
     }
 
     /** Cancels the job that began last, or the reading of the image, and says whether there was one. */

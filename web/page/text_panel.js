@@ -2,7 +2,7 @@
 
 import { joinFound, sectorsBeyond } from '../core/find.js';
 import { tableOf } from '../core/text.js';
-import { showAround } from './around_card.js';
+import { AroundCard } from './around_card.js';
 import { announce, button, countOf, element, fill, hexOf, term } from './dom.js';
 import { bindEncodings, chosenEncoding, encodingLabel } from './encodings.js';
 import { HitsCard } from './hits_card.js';
@@ -47,9 +47,9 @@ class TextPanel {
         this.hits = new HitsCard(app, index => this.choose(index));
         this.replace = new ReplaceCard(app, { add: (hit, fresh, old) => this.alone(() => this.add(hit, fresh, old)),
             addAll: (fresh, byte) => this.alone(() => this.addAll(fresh, byte)), skip: () => this.next() });
-        this.around = element('section', { class: 'card', 'aria-label': 'The bytes around it', hidden: true });
+        this.around = new AroundCard(app);
         this.results = element('div', { class: 'two even', hidden: true }, element('div', { class: 'side' }, this.hits.card),
-            element('div', { class: 'side' }, this.replace.card, this.around));
+            element('div', { class: 'side' }, this.replace.card, this.around.card));
         panel.append(this.askCard(), this.state, this.results, this.table);
         app.takers.push(file => this.isTable(file));
         this.listen();
@@ -190,8 +190,7 @@ class TextPanel {
         const left = found.hits.filter(it => places.lineAt(it) === 0).length;
         const line = places.lineAt(hit);
         this.replace.show({ hit, number: index + 1, of: found.count, old: around.user.slice(around.at, around.at + hit.size), left, line });
-        this.around.hidden = false;
-        showAround(app, this.around, hit, around);
+        this.around.show(hit, around);
     }
 
     /** Goes to the next hit that is in no line of the script. */

@@ -1,0 +1,40 @@
+// The workers of the page: what a job is told when one has stopped, and that the next job has new ones.
+
+import assert from 'node:assert/strict';
+import { test } from 'node:test';
+import { page } from './page.mjs';
+
+globalThis.navigator ??= { hardwareConcurrency: 2 };
+const { crewOf } = await page('crew.js');
+
+/** A worker that returns what it is given, or stops. */
+class TestWorker {
+    constructor(given) {
+        Object.assign(this, { given, ended: false });
+        given.workers.push(this);
+    }
+
+    postMessage(message) {
+        if (message.module) return;
+        const heard = this.onmessage;
+        if (this.given.stops) setImmediate(() => this.onerror && this.onerror({ message: 'out of memory' }));
+        else setImmediate(() => heard({ data: { number: message.number, answer: message.first } }));
+    }
+
+    terminate() {
+        this.ended = true;
+    }
+}
+
+test('a worker that stops ends the job, which says so, and the next job has new workers', async () => {
+    const given = { workers: [], stops: true };
+    const crew = crewOf({ module: true, newWorker: () => new TestWorker(given) });
+    const reader = { size: 10 * 2352, read: async (at, length) => new Uint8Array(length) };
+    const taken = [];
+    const job = () => crew.share('survey', [reader], {}, { step: 1 }, first => { taken.push(first); });
+    await assert.rejects(job(), { message: 'A worker of this page has stopped (out of memory). Try it again: then a new one starts.' });
+    assert.ok(given.workers.length > 0 && given.workers.every(it => it.ended));
+    given.stops = false;
+    await job();
+    assert.deepEqual(taken, [0, 1, 2, 3, 4, 5, 6, 7, 8, 9]);
+});

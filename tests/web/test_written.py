@@ -1,0 +1,74 @@
+"""What a real file of the browser becomes: the page from a loopback server, whose chosen file lies in the private files of its origin."""
+
+from typing import Any
+
+import common
+import discs
+from pages import PageTest, applied
+
+# The chosen file. Writes after the first wait for `release`, if they are held.
+PICKER = '''
+globalThis.chosen = { held: null, writes: 0, hold() { this.held = new Promise(done => { this.release = done; }); } };
+globalThis.showSaveFilePicker = async () => {
+    const place = await navigator.storage.getDirectory();
+    const file = await place.getFileHandle('out.bin', { create: true });
+    return {
+        name: 'out.bin', getFile: () => file.getFile(), remove: () => file.remove(),
+        async createWritable() {
+            const sink = await file.createWritable();
+            return {
+                async write(write) { if (chosen.writes++ > 0) await chosen.held; return sink.write(write); },
+                close: () => sink.close(), abort: () => sink.abort(),
+            };
+        },
+    };
+};'''
+
+NAMES = '''const place = await navigator.storage.getDirectory(), names = [];
+    for await (const name of place.keys()) names.push(name);'''
+
+
+class Written(PageTest):
+    stub = PICKER
+    server: common.Server
+
+    @classmethod
+    def setUpClass(cls) -> None:
+        super().setUpClass()
+        cls.server = common.Server(common.PAGE.parent)
+
+    @classmethod
+    def tearDownClass(cls) -> None:
+        cls.server.close()
+
+    def setUp(self) -> None:
+        self.browser.open(f'{self.server.url}/{common.PAGE.name}')
+        self.browser.wait('#start h1')
+        self.run_here('for (const name of names) await place.removeEntry(name)')
+        self.files = discs.written(long=discs.long_disc(), script=discs.script() + 'set 9000 0 41\nset 12000 5 42\nset 18500 0 43\n')
+        self.open_image(self.files['long'])
+        self.open_script(self.files['script'])
+
+    def run_here(self, script: str) -> Any:
+        """Runs a script that knows the private files of the origin."""
+        return self.browser.run(f'return (async () => {{ {NAMES} {script} }})()')
+
+    def kept(self) -> list[str]:
+        return list(self.run_here('return names'))
+
+    def test_a_file_of_the_browser_has_what_the_program_writes(self) -> None:
+        self.press('Apply and save')
+        self.browser.wait('#panel-script .say.good', 'out.bin is saved.')
+        self.browser.wait('#saved-sha1', common.sha1(applied(self.files['long'], self.files['script'])[2]))
+        self.assertEqual(self.kept(), ['out.bin'])
+
+    def test_an_image_that_shrinks_leaves_no_file_of_the_browser(self) -> None:
+        self.browser.run('chosen.hold()')
+        self.press('Apply and save')
+        common.waited(lambda: self.browser.run('return chosen.writes > 1'), 'one write at most')
+        with self.files['long'].open('r+b') as file:
+            file.truncate(20_000_000)
+        self.browser.run('chosen.release()')
+        self.browser.wait('#panel-script .say.bad', 'long.bin cannot be read any more. Was it moved or changed')
+        self.assertIn('No image was kept', self.browser.text('#panel-script .side'))
+        self.assertEqual(self.kept(), [])
