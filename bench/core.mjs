@@ -60,7 +60,7 @@ const JOBS_TIMED = {
         const parts = [];
         await crew.share('survey', [image.reader], {}, { base: image.base, step }, answer => { parts.push(answer); });
         const records = Buffer.concat(parts.map(part => part.records));
-        return auditText({ block: image.base, records }, image.tail).text.length;
+        return auditText(calls, { block: image.base, records }, image.tail).text.length;
     },
     async diff(crew, [old, fresh]) {
         const { script, left } = await compareImages(calls, crew, old.reader, fresh.reader, { base: old.base, step });

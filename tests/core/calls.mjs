@@ -16,13 +16,6 @@ export const withAllCalls = (Calls, sized) => class extends Calls {
         return { zeros: Boolean(zeros), edc: Boolean(edc), p, q };
     }
 
-    /** What `list` prints of an image, and its status. */
-    list(image, base) {
-        const [at, text] = this.put(image, 100 + image.length);
-        const status = this.exports.cdpatch_list(at, BigInt(image.length), base, text, BigInt(100 + image.length), this.places.answer);
-        return { status, text: this.copied(text, this.view.getUint32(this.answer, true)) };
-    }
-
     /** Makes a call that changes a sector in its place, and returns its result. */
     change(name, sector, bytes, given) {
         const [at, place] = this.put(sized(sector, 2352), bytes);

@@ -15,7 +15,7 @@ const data = directory === undefined ? new Uint8Array(0) : new Uint8Array(readFi
 const bytesAt = place => place && data.subarray(place[0], place[0] + place[1]);
 
 /** A report of an image by ranges of so many sectors. */
-const reported = (report, image, base, step) => report(surveyed(image, base, step), image.length % 2352);
+const reported = (report, image, base, step) => report(calls, surveyed(image, base, step), image.length % 2352);
 
 async function patched(row, image, script) {
     const patches = await patchesOf(calls, cutBy(script, 5000));

@@ -8,7 +8,7 @@ const { auditText, isDamaged, isSound, kindRuns, listText, surveyCounts } = awai
 
 function agrees(image, base, step) {
     const [survey, tail] = [surveyed(image, base, step), image.length % 2352];
-    for (const [came, due] of [[listText(survey, tail), calls.list(image, base)], [auditText(survey, tail), calls.audit(image, base)]]) {
+    for (const [came, due] of [[listText(calls, survey, tail), calls.list(image, base)], [auditText(calls, survey, tail), calls.audit(image, base)]]) {
         assert.equal(decoded(came.text), decoded(due.text));
         assert.equal(came.status, due.status);
     }

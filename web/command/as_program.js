@@ -85,7 +85,7 @@ async function report(run, textOf) {
     const { reader, base } = await openImage(run);
     if (imageTooLong(reader.size)) throw new ProgramFault(MESSAGES.long_image);
     const survey = await orSay(OF_IMAGES, () => run.survey(reader, base));
-    const { status, text } = textOf(survey, reader.size % SECTOR_SIZE);
+    const { status, text } = textOf(run.calls, survey, reader.size % SECTOR_SIZE);
     await run.output.write(text);
     return status;
 }

@@ -61,7 +61,7 @@ function trackText(disc, { number, type, file, block, sectors, part }) {
 async function surveyLines(run, image, reader) {
     const survey = await run.survey(reader, image.base);
     const { mode1, damaged, elsewhere } = surveyCounts(survey);
-    const list = new TextDecoder().decode(listText(survey, reader.size % SECTOR_SIZE).text).trimEnd();
+    const list = new TextDecoder().decode(listText(run.calls, survey, reader.size % SECTOR_SIZE).text).trimEnd();
     const lines = [`base ${image.base}`, list, `mode1 ${mode1} damaged ${damaged} address ${elsewhere}`];
     return { found: damaged + elsewhere > 0, lines };
 }

@@ -65,10 +65,10 @@ export class Findings {
 
     /** The program's text: what `cdpatch audit` or `cdpatch list` prints. */
     report() {
-        const { survey, image } = this.app;
+        const { survey, image, calls } = this.app;
         if (survey === null || image === null) return '';
         const report = this.reportName() === 'list' ? listText : auditText;
-        return new TextDecoder().decode(report(survey, image.tail).text);
+        return new TextDecoder().decode(report(calls, survey, image.tail).text);
     }
 
     /** @param {boolean} hidden whether something else takes its place */
@@ -144,7 +144,7 @@ export class Findings {
      * @param {Place} place
      */
     sectorRows(survey, { first, last, sectors }) {
-        const lines = auditLines(survey, first, last);
+        const lines = auditLines(this.app.calls, survey, first, last);
         const rows = [];
         for (let i = 0; i < sectors.length && rows.length < MOST_FINDING_ROWS; i++) {
             const from = sectors[i];

@@ -5,6 +5,7 @@ import { addressText } from '../core/sector.js';
 import { auditText } from '../core/survey.js';
 import { MARK } from './marks.js';
 
+/** @typedef {import('../core/codes.js').Calls} Calls */
 /** @typedef {import('./state.js').App} App */
 /** @typedef {import('./state.js').Surveyed} Surveyed */
 
@@ -16,14 +17,15 @@ const KIND_WORDS = {
 
 /**
  * The lines that `cdpatch audit` prints of some sectors, by their blocks, without the block.
+ * @param {Calls} calls
  * @param {Surveyed} survey
  * @param {number} first
  * @param {number} last
  * @returns {Map<number, string>}
  */
-export function auditLines({ block, records }, first, last) {
+export function auditLines(calls, { block, records }, first, last) {
     const part = { block: block + first, records: records.subarray(first * RECORD_SIZE, (last + 1) * RECORD_SIZE) };
-    const lines = new TextDecoder().decode(auditText(part, 0).text).split('\n').slice(0, -2);
+    const lines = new TextDecoder().decode(auditText(calls, part, 0).text).split('\n').slice(0, -2);
     return new Map(lines.map(line => [Number(line.split(' ')[0]), line.slice(line.indexOf(' ') + 1)]));
 }
 
@@ -37,7 +39,7 @@ export function sectorWords(app, survey, sector) {
     if (sector >= survey.known) return { kind: 'not read yet', finding: '', bad: false, damaged: false };
     const kind = KIND_WORDS[survey.records[sector * RECORD_SIZE + RECORD.KIND]];
     const mark = survey.marks.marks[sector];
-    const line = auditLines(survey, sector, sector).get(survey.block + sector) || '';
+    const line = auditLines(app.calls, survey, sector, sector).get(survey.block + sector) || '';
     if (mark === MARK.LOST) return { kind, finding: 'inside Mode 1: sync field or mode lost', bad: true, damaged: true };
     const damaged = mark === MARK.EDC || mark === MARK.PARITY;
     return { kind, finding: line === '' ? '' : `${damaged ? 'damaged: ' : ''}${line}`, bad: line !== '', damaged };
