@@ -38,10 +38,16 @@ export class CheckCard {
         this.saving = new SaveCard(app, () => this.draw());
     }
 
-    /** Forgets what Check said, for the script, the image or carry is another one. */
-    forget() {
+    /** What Check said and what was saved is that of another script, image or carry now. */
+    outdate() {
         this.patched = null;
         this.failure = null;
+        this.saving.leave();
+    }
+
+    /** Forgets what Check said, for the image or carry is another one. */
+    forget() {
+        this.outdate();
         this.owner.lines.setOutcomes([]);
         this.owner.log(null);
         this.owner.redraw();

@@ -26,7 +26,7 @@ function typed(editor) {
         return editor.edit(current, 1, lines, current + column.length - 1, column[column.length - 1].length);
     }
     editor.anchor = -1;
-    editor.lines.edit(current, 1, lines, true);
+    editor.lines.edit(current, 1, lines, 'line');
     editor.draw();
     editor.reveal();
     editor.owner.changed();

@@ -32,6 +32,7 @@ export class SaveCard {
         this.body = /** @type {Child[]} */ ([]);
         askBeforeLeaving(() => this.leaving);
         this.leaving = false;
+        this.running = false;
         app.takers.push(file => this.isSaved(file));
         this.saved = /** @type {Saved | null} */ (null);
         /** The SHA-1 of what was saved last. */
@@ -45,6 +46,11 @@ export class SaveCard {
 
     parts() {
         return [element('header', {}, element('h2', {}, this.title)), element('div', { class: 'pad stack' }, ...this.body)];
+    }
+
+    /** Makes way for Check, unless an image is being saved. */
+    leave() {
+        if (this.shown() && !this.running) this.close();
     }
 
     close() {
@@ -71,6 +77,7 @@ export class SaveCard {
      */
     async save(image, work) {
         const name = patchedName(image.name);
+        this.running = true;
         try {
             const saved = await this.app.run((signal, cancel) => {
                 const bar = jobBar('Saving', cancel);
@@ -87,6 +94,8 @@ export class SaveCard {
             this.show('Not saved', failureOfSaving(error, work.reader.size),
                 element('div', { class: 'row' }, button('back', () => this.close(), 'Back')));
             return null;
+        } finally {
+            this.running = false;
         }
     }
 

@@ -5,9 +5,11 @@ import { CONTENT, RESULT, patchFields } from '../core/records.js';
 /** @typedef {import('../core/codes.js').Calls} Calls */
 /** @typedef {import('../core/patch.js').Outcome} Outcome */
 /**
- * An edit: from a line on, which lines went and which came, and the script's names before and after it. `typed` joins to the one before
- * it if that was typed in the same line; `saved` says that the text after it is in a file.
- * @typedef {{ at: number, gone: string[], come: string[], names: string[], typed: boolean, saved: boolean }} Edit
+ * An edit: from a line on, which lines went and which came, and the script's names before and after it. One that was typed joins to the
+ * one before it if that was typed in the same line and the same way; `saved` says that the text after it is in a file.
+ * @typedef {{ at: number, gone: string[], come: string[], names: string[], typed: Typed, saved: boolean }} Edit
+ * How an edit was typed: in the line, as bytes of a sector, or not at all.
+ * @typedef {'line' | 'bytes' | ''} Typed
  */
 
 /** More patches than this are a fault of the script. */
@@ -66,7 +68,7 @@ export class ScriptLines {
      * Puts another text in place of this one, as one edit of the lines in which they differ.
      * @param {string} text
      * @param {string} name of its file
-     * @param {boolean} typed as of an edit
+     * @param {Typed} typed as of an edit
      */
     replace(text, name, typed) {
         const [{ lines }, come] = [this, text.split(/\r?\n/)];
@@ -87,7 +89,7 @@ export class ScriptLines {
     /** Takes note that this text is in a file. What is typed later is an edit of its own. */
     noteSaved() {
         const last = this.done[this.done.length - 1];
-        if (last) Object.assign(last, { saved: true, typed: false });
+        if (last) Object.assign(last, { saved: true, typed: '' });
     }
 
     /**
@@ -95,13 +97,13 @@ export class ScriptLines {
      * @param {number} at
      * @param {number} count
      * @param {string[]} come
-     * @param {boolean} [typed] whether it goes on with what was typed in the same line before
+     * @param {Typed} [typed]
      * @param {string} [name] of the script after it
      */
-    edit(at, count, come, typed = false, name = this.name) {
+    edit(at, count, come, typed = '', name = this.name) {
         const gone = this.lines.slice(at, at + count);
         const last = this.done[this.done.length - 1];
-        if (typed && last && last.typed && last.at === at && count === 1 && come.length === 1) last.come = come;
+        if (typed && last && last.typed === typed && last.at === at && count === 1 && come.length === 1) last.come = come;
         else this.done.push({ at, gone, come, names: [this.name, name], typed, saved: false });
         this.undone = [];
         this.name = name;

@@ -90,14 +90,15 @@ class ScriptPanel {
 
     /**
      * Takes the script of the page, which somebody else has changed. What it was is an undo away, which is said of one that is in no file.
-     * @param {string} from 'file', 'made' for a new script, 'lines' for more of this one
+     * @param {string} from 'file', 'made' for a new script, 'lines' for more of this one, 'bytes' for such as are typed in a sector
      */
     load(from) {
         const { lines, app } = this;
         const { name, text } = app.script;
         const old = lines.text();
-        const lost = from !== 'lines' && !lines.isSaved() && old !== NEW_SCRIPT && old !== text;
-        if (text !== old || name !== lines.name) lines.replace(text || NEW_SCRIPT, name, from === 'lines');
+        const isMore = from === 'lines' || from === 'bytes';
+        const lost = !isMore && !lines.isSaved() && old !== NEW_SCRIPT && old !== text;
+        if (text !== old || name !== lines.name) lines.replace(text || NEW_SCRIPT, name, from === 'bytes' ? 'bytes' : '');
         if (from === 'file') lines.noteSaved();
         this.editor.current = Math.min(this.editor.current, lines.lines.length - 1);
         this.share();
@@ -128,8 +129,7 @@ class ScriptPanel {
     }
 
     changed() {
-        this.check.patched = null;
-        this.check.failure = null;
+        this.check.outdate();
         this.showLog(null);
         this.drawHead();
         this.drawSide();
@@ -137,7 +137,7 @@ class ScriptPanel {
     }
 
     drawAll() {
-        this.check.patched = null;
+        this.check.outdate();
         this.showLog(null);
         this.editor.draw();
         this.drawHead();

@@ -147,24 +147,26 @@ export class App {
     /**
      * Adds lines at the end of the script, after a head line if it has no text yet.
      * @param {string[]} lines
+     * @param {'lines' | 'bytes'} [from] bytes of a sector if they are typed
      */
-    addLines(lines) {
+    addLines(lines, from = 'lines') {
         const { text } = this.script;
         const before = text.trim() === '' ? 'cdpatch 1\n' : text.endsWith('\n') ? text : `${text}\n`;
-        this.setScript(`${before}${lines.join('\n')}\n`, this.script.name, 'lines');
+        this.setScript(`${before}${lines.join('\n')}\n`, this.script.name, from);
     }
 
     /**
      * Puts a line in place of another one, the last one of that text, or adds it if there is none.
      * @param {string} old
      * @param {string} line
+     * @param {'lines' | 'bytes'} from as of addLines
      */
-    replaceLine(old, line) {
+    replaceLine(old, line, from) {
         const lines = this.script.text.split('\n');
         const at = lines.lastIndexOf(old);
-        if (at < 0) return this.addLines([line]);
+        if (at < 0) return this.addLines([line], from);
         lines[at] = line;
-        return this.setScript(lines.join('\n'), this.script.name, 'lines');
+        return this.setScript(lines.join('\n'), this.script.name, from);
     }
 
     /**
