@@ -123,6 +123,14 @@ test('outcomes stand at their lines in the words of the program until an edit', 
     assert.equal(lines.nextWrong(0, 1), -1);
 });
 
+test('a line that is refused after another has written its place names that one', () => {
+    const lines = linesOf('cdpatch 1\nset 7 8 4142 was 0000\nset 7 9 43 was 00\nset 7 8 44 was 99\nset 7 8 45 was 00\nset 9 0 41 was 42');
+    const outcome = (number, result, block, offset) => ({ number, result, block, offset });
+    const differ = [outcome(3, 5, 7, 9), outcome(4, 5, 7, 8), outcome(6, 5, 9, 0)];
+    lines.setOutcomes([outcome(2, 0, 7, 8), outcome(5, 0, 7, 8), ...differ]);
+    assert.deepEqual(differ.map(it => lines.writerBefore(it)), [2, 2, 0]);
+});
+
 test('65535 patches are read in little time, and one more is a fault', () => {
     const patches = Array.from({ length: 65535 }, (_, i) => `set ${i} ${i % 2048} 41 was 42`);
     const lines = linesOf(`cdpatch 1\n${patches.join('\n')}`);

@@ -237,6 +237,17 @@ class Disc(unittest.TestCase):
         browser.wait(VERDICT, '16 of 270 Mode 1 sectors are damaged, in 1 place')
         browser.wait('#findings', 'a scratch: every 9th sector')
 
+    def test_another_base_is_offered_if_no_sector_has_the_address_of_its_block(self) -> None:
+        browser = self.opened(discs.written(game=discs.scratched())['game'])
+        browser.wait('#disc-line .lead button', 'Repair from another dump')
+        browser.click('#disc-line dl .btn')
+        browser.type('#base', '100')
+        browser.press(Keys.ENTER)
+        browser.wait('#disc-line .lead', 'the base is probably 0, not 100. 1 sector is damaged.')
+        self.assertNotIn('copy protection', browser.text('#findings'))
+        browser.click('#disc-line .lead .main')
+        browser.wait('#disc-line .lead', f'1 of {len(discs.game()) // 2352} Mode 1 sectors')
+
     def test_reading_can_be_cancelled_and_begun_again(self) -> None:
         browser = self.browser
         browser.open(PAGE)

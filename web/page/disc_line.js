@@ -4,7 +4,7 @@ import { SECTOR_SIZE } from '../core/sector.js';
 import { button, byId, countOf, counted, element, fill, redraw, term } from './dom.js';
 import { MARK } from './marks.js';
 import { imageOfTrack } from './open.js';
-import { placesOf } from './places.js';
+import { otherBase, placesOf } from './places.js';
 import { copyText } from './say.js';
 import { changeBase, readImage } from './survey_image.js';
 
@@ -203,6 +203,8 @@ function verdict(app, image, { marks }) {
         return [element('span', {}, element('b', { class: 'warn-ink' }, 'There is no Mode 1 sector here:'),
             ' audio, or Mode 2 as on a PlayStation disc. It can be looked at, not patched.')];
     }
+    const base = otherBase(image, marks);
+    if (base !== null) return otherBaseVerdict(app, image, base, damaged);
     const others = [];
     if (lost > 0) others.push(`${counted(lost)} lost ${lost === 1 ? 'its' : 'their'} sync field or mode`);
     if (elsewhere > 0) others.push(`${counted(elsewhere)} ${elsewhere === 1 ? 'has' : 'have'} another address`);
@@ -217,5 +219,21 @@ function verdict(app, image, { marks }) {
     const where = damaged === 0 ? '' : ` in ${countOf(hurt, 'place')}`;
     const rest = [where, ...others].join('; ');
     return [element('span', {}, head, `${rest}.${damaged > 0 ? ' The rest is sound.' : ''}`),
+        damaged > 0 && button('slim', () => byId('files').click(), 'Repair from another dump…'),
         button('slim bare', () => app.goTo(image.base + places[0].first, -1, true), 'Go to the first place')];
+}
+
+/**
+ * What is said if the base is probably another one.
+ * @param {App} app
+ * @param {Image} image
+ * @param {number} base
+ * @param {number} damaged
+ * @returns {Child[]}
+ */
+function otherBaseVerdict(app, image, base, damaged) {
+    return [element('span', {}, element('b', { class: 'warn-ink' }, 'No Mode 1 sector has the address of its block:'),
+        ` by the addresses, the base is probably ${base}, not ${image.base}.`,
+        damaged > 0 && ` ${countOf(damaged, 'sector is', 'sectors are')} damaged.`),
+    button('slim main', () => changeBase(app, base), `Set the base to ${base}`)];
 }

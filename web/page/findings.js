@@ -134,7 +134,8 @@ export class Findings {
             open ? '▾ ' : '▸ ', range);
         const row = element('tr', {}, element('td', { class: 'num nowrap' }, fold),
             element('td', { class: 'n', 'data-l': 'sectors' }, counted(place.sectors.length)),
-            element('td', {}, dotOf(look ? look.colour : '--f-edc'), words), element('td', { class: 'wide' }, placeGuess(place)));
+            element('td', {}, dotOf(look ? look.colour : '--f-edc'), words),
+            element('td', { class: 'wide' }, placeGuess(place, survey.marks.isElsewhere())));
         return open ? [row, ...this.sectorRows(survey, place)] : [row];
     }
 

@@ -144,13 +144,14 @@ export class Places {
     /**
      * The last line that writes a byte of a range, or 0.
      * @param {Hit} range
+     * @param {number} [before] which line it comes before, if it must
      */
-    lineAt({ block, offset, size }) {
+    lineAt({ block, offset, size }, before = Infinity) {
         const from = block * USER_SIZE + offset;
         let last = 0;
         for (let at = block; at * USER_SIZE < from + size; at++) {
             for (const it of this.blocks.get(at) || []) {
-                if (it.from < from + size && it.to > from) last = Math.max(last, it.line);
+                if (it.from < from + size && it.to > from && it.line < before) last = Math.max(last, it.line);
             }
         }
         return last;

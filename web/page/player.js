@@ -118,7 +118,7 @@ export class Player {
             if (this.image) await this.judge(this.image);
         } catch (error) {
             if (number !== this.number) return;
-            this.start(isCancelled(error) ? null : notice('bad', sentence(error)));
+            this.start(isCancelled(error) ? null : notice('bad', sentence(error, files.map(file => file.name))));
         }
     }
 

@@ -66,12 +66,13 @@ export function messageOf(error) {
 }
 
 /**
- * What an error says, as a sentence begins.
+ * What an error says, as a sentence begins, unless that is a name.
  * @param {unknown} error
+ * @param {string[]} [names] of files
  */
-export function sentence(error) {
+export function sentence(error, names = []) {
     const text = messageOf(error);
-    return text.charAt(0).toUpperCase() + text.slice(1);
+    return names.some(name => text.startsWith(name)) ? text : text.charAt(0).toUpperCase() + text.slice(1);
 }
 
 /** @param {unknown} error */

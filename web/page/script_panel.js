@@ -186,9 +186,10 @@ class ScriptPanel {
 
     /** @param {number} line */
     helpText(line) {
-        const outcome = this.lines.outcomes.get(line + 1);
-        if (outcome !== undefined && this.app.image) return helpOfRefusal(outcome.result, this.app.image).text;
-        return helpOfFault(this.lines.wordsAt(line), this.lines.lines[line], this.lines.version).text;
+        const { app: { image }, lines } = this;
+        const outcome = lines.outcomes.get(line + 1);
+        if (outcome !== undefined && image) return helpOfRefusal(outcome.result, image, lines.writerBefore(outcome)).text;
+        return helpOfFault(lines.wordsAt(line), lines.lines[line], lines.version).text;
     }
 
     /**
@@ -199,7 +200,7 @@ class ScriptPanel {
         const { lines, app } = this;
         const outcome = lines.outcomes.get(line + 1);
         if (outcome !== undefined && app.image) {
-            const { text, says } = helpOfRefusal(outcome.result, app.image);
+            const { text, says } = helpOfRefusal(outcome.result, app.image, lines.writerBefore(outcome));
             return { text, buttons: says ? [button('slim bare', () => app.goTo(outcome.block, outcome.offset, true), says)] : [] };
         }
         const { text, fix } = helpOfFault(lines.wordsAt(line), lines.lines[line], lines.version);
