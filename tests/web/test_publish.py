@@ -160,6 +160,20 @@ class Player(PageTest):
         self.browser.wait('#verdict', 'This image is patched already.')
         self.assertIn('There is nothing to do.', self.browser.text('#player'))
 
+    def test_an_image_that_is_patched_already_has_its_cue_sheet(self) -> None:
+        self.open_patcher(patcher(discs.game(), result(), discs.script()))
+        image = discs.written(mine=result())['mine']
+        sheet = image.with_suffix('.cue')
+        sheet.write_text('FILE "mine.bin" BINARY\n  TRACK 01 MODE1/2352\n    INDEX 01 00:00:00\n')
+        self.browser.drop('#player', [sheet, image])
+        self.browser.wait('#verdict', 'This image is patched already.')
+        self.press('Save the cue sheet')
+        self.assertEqual(self.browser.downloaded('mine.cue').read_text(), sheet.read_text())
+
+    def test_music_is_not_taken_for_the_disc(self) -> None:
+        self.play(bytes(range(1, 255)) * 2352)
+        self.browser.wait('#player .say.bad', 'mine.bin is music; choose the data track.')
+
     def test_patched_already_is_known_by_the_hash_too(self) -> None:
         script = f'cdpatch 1\nset {discs.first_block()} 0 5374617274202020\n'
         files = discs.written(game=discs.game(), script=script)

@@ -6,7 +6,7 @@ from pathlib import Path
 
 import chromium
 import discs
-from common import PAGE, SECTOR_SIZE, damaged, folder, run_program, sector, waited
+from common import PAGE, SECTOR_SIZE, damaged, folder, run_program, sector, sha1, waited
 from pages import PICKER, PageTest
 
 AUDIO = random.Random(8).randbytes(30 * SECTOR_SIZE)
@@ -85,8 +85,11 @@ class Second(unittest.TestCase):
             due[block * SECTOR_SIZE:(block + 1) * SECTOR_SIZE] = second[block * SECTOR_SIZE:(block + 1) * SECTOR_SIZE]
         self.assertEqual(saved.read_bytes(), bytes(due))
         self.assertEqual(audited(saved), {60})
+        self.browser.wait('#repaired-sha1', sha1(bytes(due)))
         saved.unlink()
         self.browser.wait('[aria-label="Cannot be repaired: 1"]', '60')
+        self.press('Open the new image')
+        self.browser.wait('#disc-line .name', 'game (repaired).bin')
 
     def test_a_repair_as_a_script_gives_the_same_image(self) -> None:
         first, second = with_faults((40, 9), (60, 9)), with_faults()

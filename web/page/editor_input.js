@@ -85,6 +85,17 @@ export function turnBack(editor, line) {
 }
 
 /**
+ * Takes back the bytes of a sector that were typed last, if nothing was done after them, and says whether it was so.
+ * @param {ScriptEditor} editor
+ */
+export function takeBackBytes(editor) {
+    const { done } = editor.lines;
+    const isLast = done.length > 0 && done[done.length - 1].typed === 'bytes';
+    if (isLast) turnBack(editor, editor.lines.undo());
+    return isLast;
+}
+
+/**
  * @param {ScriptEditor} editor
  * @param {KeyboardEvent} event
  * @returns {boolean} whether the key was taken

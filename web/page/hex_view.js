@@ -147,7 +147,8 @@ export class HexView {
 
     /** @param {KeyboardEvent} event */
     key(event) {
-        if (this.shown === null || event.ctrlKey || event.altKey || event.metaKey) return;
+        if (this.shown === null || event.altKey) return undefined;
+        if (event.ctrlKey || event.metaKey) return this.pressed(this.at, event);
         const row = this.columns;
         /** @type {Record<string, number>} */
         const moves = { ArrowLeft: this.at - 1, ArrowRight: this.at + 1, ArrowUp: this.at - row, ArrowDown: this.at + row,

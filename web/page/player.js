@@ -155,7 +155,7 @@ export class Player {
         if (tone === 'bad') return this.showOther(name, said, image, judged);
         const first = this.step('1', 'done', 'Your disc', name, said, this.reason(judged), this.details(image, judged));
         if (verdict === 'patched') return this.show(first, this.step('2', 'done', 'Patched', 'There is nothing to do.'),
-            this.playStep(image.name, ''));
+            this.playStep(image.name, this.sheetFor(image.name)));
         const patch = button('main big', () => this.patch(image, judged, first), 'Patch and save…');
         this.show(first, this.step('2', 'now', 'Patch it', patch));
         return patch.focus();
@@ -254,9 +254,16 @@ export class Player {
         const said = element('p', { class: `verdict ${tone}-ink`, role: 'status', id: 'saved' },
             icon(tone === 'good' ? 'tick' : 'warn'), element('span', {}, head));
         const rest = [same, wait, left].map(text => text && element('p', {}, text));
+        this.show(first, this.step('2', 'done', 'Patched', said, ...rest), this.playStep(name, this.sheetFor(name)));
+    }
+
+    /**
+     * The cue sheet of the open image, or of the author's, with another name in it; '' if there is none.
+     * @param {string} name
+     */
+    sheetFor(name) {
         const { cue, name: own } = this.data;
-        const sheet = sheetNaming(this.sheet, this.image ? this.image.name : '', name) || sheetNaming(cue, own, name);
-        this.show(first, this.step('2', 'done', 'Patched', said, ...rest), this.playStep(name, sheet));
+        return sheetNaming(this.sheet, this.image ? this.image.name : '', name) || sheetNaming(cue, own, name);
     }
 
     /**

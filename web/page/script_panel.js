@@ -6,7 +6,7 @@ import { undoScript } from '../core/undo.js';
 import { CheckCard } from './check_card.js';
 import { askBeforeLeaving, button, byId, countOf, counted, element, fill, isDisabled, keepFocus, setDisabled } from './dom.js';
 import { ScriptEditor } from './editor.js';
-import { listenToEditor, turnBack } from './editor_input.js';
+import { listenToEditor, takeBackBytes, turnBack } from './editor_input.js';
 import { explainLine } from './explain.js';
 import { downloadBytes, downloadText } from './files_out.js';
 import { watched } from './patch_job.js';
@@ -67,6 +67,7 @@ class ScriptPanel {
     listen() {
         const { app } = this;
         askBeforeLeaving(() => this.isLost());
+        app.takeBackBytes = () => takeBackBytes(this.editor);
         app.on('script', from => {
             if (from !== 'editor') this.load(from);
         });

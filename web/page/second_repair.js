@@ -5,15 +5,18 @@ import { blocksIn } from '../core/runs.js';
 import { mergeImages } from '../core/merge.js';
 import { SECTOR_SIZE } from '../core/sector.js';
 import { readBytes } from '../core/bytes.js';
+import { sha1Of } from './crew.js';
 import { askBeforeLeaving, button, counted, countOf, element, fill, keepFocus, term } from './dom.js';
 import { pieceReader } from './piece_reader.js';
 import { jobBar } from './progress.js';
+import { fileReader } from './reading.js';
 import { patchedName } from './save.js';
 import { failureOfSaving } from './save_card.js';
 import { savePieces } from './save_pieces.js';
-import { notice } from './say.js';
+import { messageOf, notice } from './say.js';
 import { repairMarks } from './second_marks.js';
 import { writeScript } from './second_script.js';
+import { readImage } from './survey_image.js';
 import { tableCard, tallyOf } from './tally.js';
 
 /** @typedef {import('./state.js').App} App */
@@ -124,11 +127,32 @@ export class SecondRepair {
                 return savePieces([image.reader, second.reader], pieces, name, { signal, progress });
             });
             this.saving = saved !== null && !saved.streamed;
-            show(saved && savedWords(saved, image.reader.size));
+            show(...saved ? this.savedWords(saved, image.reader.size) : []);
         } catch (error) {
             this.saving = false;
             show(failureOfSaving(error, image.reader.size));
         }
+    }
+
+    /**
+     * @param {{ name: string, streamed: boolean, file: File | null }} saved
+     * @param {number} size
+     * @returns {Child[]}
+     */
+    savedWords({ name, streamed, file }, size) {
+        const { app } = this;
+        const said = streamed ? notice('good', `${name} is saved.`, 'All sectors that were not repaired are as before.')
+            : notice('good', `Your browser is saving ${name}.`, `It must have ${counted(size)} bytes. Keep this page open until it has.`);
+        if (file === null) return [said];
+        const sum = element('dd', { id: 'repaired-sha1' }, '…');
+        const told = (/** @type {number} */ done) => { sum.textContent = `(${Math.floor(100 * done / size)} %)`; };
+        sha1Of(app.parts, fileReader(file), app.pairing.signal, told).then(sha1 => { sum.textContent = sha1; },
+            error => { sum.textContent = messageOf(error); });
+        const open = button('', () => {
+            readImage(app, null);
+            app.open([file]);
+        }, 'Open the new image');
+        return [said, element('dl', { class: 'hashes' }, element('dt', {}, 'SHA-1'), sum), element('div', { class: 'row' }, open)];
     }
 
     /** @param {Piece[]} pieces */
@@ -206,13 +230,4 @@ function footOf(same, left) {
     const blocks = same.length === 1 ? `block ${same[0]}` : several;
     return `${more}In ${blocks} both images hold the same bytes: perhaps the damage is on the disc itself, or on purpose. ` +
         'A third dump would show it.';
-}
-
-/**
- * @param {{ name: string, streamed: boolean }} saved
- * @param {number} size
- */
-function savedWords({ name, streamed }, size) {
-    if (streamed) return notice('good', `${name} is saved.`, 'All sectors that were not repaired are as before.');
-    return notice('good', `Your browser is saving ${name}.`, `It must have ${counted(size)} bytes. Keep this page open until it has.`);
 }

@@ -206,7 +206,10 @@ export class SectorCard {
      * @param {KeyboardEvent} event
      */
     pressed(at, event) {
-        if (event.key === 'Escape') {
+        if (event.ctrlKey || event.metaKey) {
+            if (event.key.toLowerCase() !== 'z' || event.shiftKey) return;
+            this.takeBack();
+        } else if (event.key === 'Escape') {
             if (this.digit === '') byId('map').focus();
             this.digit = '';
             this.drawFoot();
@@ -233,6 +236,16 @@ export class SectorCard {
         const block = app.place.block + step;
         if (app.image === null || block < app.image.base || block >= app.image.base + app.image.sectors) return undefined;
         return app.goTo(block);
+    }
+
+    /** Takes back the digit or the bytes that were typed last. */
+    takeBack() {
+        const { app, digit, typing } = this;
+        this.digit = '';
+        if (digit !== '') return this.drawFoot();
+        const done = app.takeBackBytes();
+        if (done && typing.block === app.place.block) this.view.moveTo(USER_OFFSET + typing.offset);
+        return announce(done ? 'The bytes that were typed last are taken back.' : 'The last change of the script was not typed here.');
     }
 
     /**

@@ -71,6 +71,8 @@ export class App {
         this.pairing = new AbortController();
         /** @type {(files: File[]) => Promise<void>} opens files, as if they were dropped; open.js sets it */
         this.open = async () => {};
+        /** @type {() => boolean} takes back the bytes that were typed last in a sector, if it can; the panel Script sets it */
+        this.takeBackBytes = () => false;
         /** @type {((file: File) => Promise<boolean>)[]} asked of each file that is opened; true if the asked one has taken it */
         this.takers = [];
     }
