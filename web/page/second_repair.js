@@ -173,7 +173,7 @@ export class SecondRepair {
         }
         const count = blocksIn(damaged);
         const cells = rows.map(({ block, here, there, file }) => element('tr', {},
-            element('td', { class: 'n', 'data-l': 'block' }, button('slim bare tiny', () => this.app.goTo(block), String(block))),
+            element('td', { class: 'n', 'data-l': 'block' }, button('slim bare tiny', () => this.app.goTo(block, -1, true), String(block))),
             element('td', { class: 'mono small', 'data-l': 'here' }, here),
             element('td', { class: 'mono small', 'data-l': 'there' }, there), element('td', { class: 'mono small wide' }, file)));
         const head = element('tr', {}, element('th', { class: 'n' }, term('block', 'Block')), element('th', {}, 'Here'),
