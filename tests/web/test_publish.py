@@ -90,6 +90,9 @@ class Publish(PageTest):
         self.browser.wait('#panel-publish', 'tried on this image: 6 applied, 2 refused')
         self.browser.type('#patcher-title', 'Title')
         self.assertTrue(self.is_off('Save as a patcher') and self.is_off('See it as a player'))
+        self.press('Go to line 11')
+        label = 'return document.activeElement.getAttribute("aria-label")'
+        self.assertIn('Script, line 11 of 13', self.browser.run(label))
 
     def test_no_licence_is_said_beside_the_button(self) -> None:
         self.publish()

@@ -64,6 +64,7 @@ class Script(PageTest):
         self.browser.wait('#saved-sha1', common.sha1(saved.read_bytes()))
         self.browser.drop('#panel-script', [saved])
         self.browser.wait('#panel-script .say', 'game (patched).bin is right.')
+        self.assertNotIn('Keep this page open', self.browser.text('#panel-script .side'))
         saved.write_bytes(saved.read_bytes()[:-1])
         self.browser.drop('#panel-script', [saved])
         self.browser.wait('#panel-script .say', 'it was not saved to its end')
@@ -126,7 +127,7 @@ class Script(PageTest):
         self.assertEqual([row.split('|')[1] for row in self.rows()], ['# end'])
         self.browser.press('z', held=Keys.CONTROL)
         self.browser.press(Keys.ENTER, held=Keys.CONTROL)
-        self.browser.wait('.tally', '2\napplied')
+        self.browser.wait('.tally', '2\nwould apply')
         self.assertEqual(self.script_text(), 'cdpatch 1\nrebuild 1\nrebuild 2\n# end')
 
     def type_script(self) -> None:

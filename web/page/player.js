@@ -174,7 +174,7 @@ export class Player {
             button('main', () => this.input.click(), 'Choose another image…')));
         const fitting = patches - refused.length;
         const some = button('slim bare', () => this.patch(image, judged, this.step('1', 'done', 'Your disc', name)),
-            `Save with the ${counted(fitting)} changes that fit…`);
+            `Save with the ${countOf(fitting, 'change that fits', 'changes that fit')}…`);
         const details = this.details(image, judged);
         if (fitting > 0) details.append(element('p', { class: 'small' }, some, ' The game may then show both languages, or stop.'));
         this.show(this.step('1', 'now', 'Your disc', name, box, details));
@@ -183,7 +183,8 @@ export class Player {
     /** @param {Judged} judged */
     reason({ verdict, patches }) {
         if (verdict !== 'fits') return null;
-        return element('p', {}, `All ${countOf(patches, 'place')} hold the bytes that the author saw. The rest of the disc differs ` +
+        const all = patches === 1 ? 'The place holds' : `All ${counted(patches)} places hold`;
+        return element('p', {}, `${all} the bytes that the author saw. The rest of the disc differs ` +
             'from the author’s: perhaps its music is shifted, or a sector is damaged.');
     }
 

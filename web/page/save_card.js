@@ -38,6 +38,7 @@ export class SaveCard {
         /** The SHA-1 of what was saved last. */
         this.sum = Promise.resolve('');
         this.checked = element('div', { role: 'status' });
+        this.said = element('div');
     }
 
     shown() {
@@ -112,10 +113,11 @@ export class SaveCard {
         const rest = streamed ? 'All other bytes are as before.' : `It must have ${counted(size)} bytes. Keep this page open until it has.`;
         const head = streamed ? `${name} is saved${without}.` : `Your browser is saving ${name}${without}.`;
         const sheet = sheetFor(image, name);
-        fill(this.checked);
-        this.show(streamed ? 'Saved' : 'Saving by your browser', notice(refused === 0 ? 'good' : 'warn', head, rest),
+        fill(this.checked, !streamed && element('p', { class: 'small quiet' }, 'To check what was saved, drop the file on this page.'));
+        fill(this.said, notice(refused === 0 ? 'good' : 'warn', head, rest));
+        this.show(streamed ? 'Saved' : 'Saving by your browser', this.said,
             element('dl', { class: 'hashes' }, element('dt', {}, 'size'), element('dd', {}, counted(size)), ...this.sumsOf(saved)),
-            !streamed && element('p', { class: 'small quiet' }, 'To check what was saved, drop the file on this page.'), this.checked,
+            this.checked,
             element('div', { class: 'row' }, sheet !== '' && button('', () => downloadText(sheet, name.replace(/\.[^.]*$/, '.cue')),
                 'Save a cue sheet…'),
                 (saved.blob || saved.file) && button('', () => this.openNew(saved), 'Open the new image'),
@@ -177,6 +179,11 @@ export class SaveCard {
             element('div', { class: 'row' }, open))
             : notice('bad', `${file.name} is not what it should be.`, wrong || 'Its SHA-1 is another one. Save it again.'));
         this.leaving = this.leaving && !right;
+        if (right) {
+            fill(this.said);
+            this.title = 'Saved';
+            this.redraw();
+        }
         return true;
     }
 }

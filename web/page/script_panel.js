@@ -68,6 +68,7 @@ class ScriptPanel {
         const { app } = this;
         askBeforeLeaving(() => this.isLost());
         app.takeBackBytes = () => takeBackBytes(this.editor);
+        app.goToLine = line => this.goTo(line);
         app.on('script', from => {
             if (from !== 'editor') this.load(from);
         });
@@ -161,8 +162,9 @@ class ScriptPanel {
         const count = byId('count-script');
         count.hidden = !fault && lines.patches === 0;
         count.className = `count${fault ? ' bad' : ''}`;
-        fill(count, counted(fault ? lines.faults : lines.patches), fault ? element('span', { class: 'long' }, ' faults') :
-            element('span', { class: 'hide' }, ' patches'));
+        fill(count, counted(fault ? lines.faults : lines.patches), fault
+            ? element('span', { class: 'long' }, lines.faults === 1 ? ' fault' : ' faults')
+            : element('span', { class: 'hide' }, lines.patches === 1 ? ' patch' : ' patches'));
     }
 
     drawSide() {

@@ -95,14 +95,16 @@ export class SecondRepair {
             [different, 'sound in both, but different', '']]);
         if (repair.refused) {
             fill(this.body, tally, notice('bad', 'This is no dump of the same disc, or it is shifted.',
-                `${countOf(different, 'sector')} are sound in both and differ: more than one in a hundred. Nothing is taken.`));
+                `${countOf(different, 'sector is sound in both and differs', 'sectors are sound in both and differ')}: ` +
+                'more than one in a hundred. Nothing is taken.'));
             return;
         }
         const save = button('main', () => void this.save(pieces), 'Save repaired image…');
         const script = button('', () => void this.script(pieces), 'Write it as a script');
         const none = taken === 0 ? [notice('plain', 'There is nothing to repair from it.', damaged === 0 ? 'No sector here is damaged.'
             : 'No sector that is damaged here is sound there, with the address of its block.')] : [];
-        const warning = different > 0 ? [notice('warn', `${countOf(different, 'sector')} are sound in both, and differ.`,
+        const warning = different > 0 ? [notice('warn',
+            `${countOf(different, 'sector is sound in both, and differs', 'sectors are sound in both, and differ')}.`,
             'Perhaps it is another release of the disc. They stay as they are here.')] : [];
         const tail = this.tail && notice('warn', 'The bytes after the last sector differ.', 'They stay as they are here.');
         this.place = element('div', { class: 'stack' });

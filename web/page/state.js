@@ -73,6 +73,8 @@ export class App {
         this.open = async () => {};
         /** @type {() => boolean} takes back the bytes that were typed last in a sector, if it can; the panel Script sets it */
         this.takeBackBytes = () => false;
+        /** @type {(line: number) => void} goes to a line of the script, from 0, whose panel is shown; the panel Script sets it */
+        this.goToLine = () => {};
         /** @type {((file: File) => Promise<boolean>)[]} asked of each file that is opened; true if the asked one has taken it */
         this.takers = [];
     }
