@@ -39,6 +39,8 @@ export class SaveCard {
         this.sum = Promise.resolve('');
         this.checked = element('div', { role: 'status' });
         this.said = element('div');
+        /** Says that the file is whole. */
+        this.sayWhole = () => {};
     }
 
     shown() {
@@ -110,11 +112,13 @@ export class SaveCard {
         this.leaving = !streamed;
         const refused = made.outcomes.filter(it => it.result !== RESULT.OK).length;
         const without = refused === 0 ? '' : `, without ${refused} of ${countOf(made.outcomes.length, 'patch', 'patches')}`;
-        const rest = streamed ? 'All other bytes are as before.' : `It must have ${counted(size)} bytes. Keep this page open until it has.`;
-        const head = streamed ? `${name} is saved${without}.` : `Your browser is saving ${name}${without}.`;
+        const tone = refused === 0 ? 'good' : 'warn';
+        this.sayWhole = () => fill(this.said, notice(tone, `${name} is saved${without}.`, 'All other bytes are as before.'));
+        if (streamed) this.sayWhole();
+        else fill(this.said, notice(tone, `Your browser is saving ${name}${without}.`,
+            `It must have ${counted(size)} bytes. Keep this page open until it has.`));
         const sheet = sheetFor(image, name);
         fill(this.checked, !streamed && element('p', { class: 'small quiet' }, 'To check what was saved, drop the file on this page.'));
-        fill(this.said, notice(refused === 0 ? 'good' : 'warn', head, rest));
         this.show(streamed ? 'Saved' : 'Saving by your browser', this.said,
             element('dl', { class: 'hashes' }, element('dt', {}, 'size'), element('dd', {}, counted(size)), ...this.sumsOf(saved)),
             this.checked,
@@ -180,7 +184,7 @@ export class SaveCard {
             : notice('bad', `${file.name} is not what it should be.`, wrong || 'Its SHA-1 is another one. Save it again.'));
         this.leaving = this.leaving && !right;
         if (right) {
-            fill(this.said);
+            this.sayWhole();
             this.title = 'Saved';
             this.redraw();
         }
