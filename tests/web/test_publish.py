@@ -64,7 +64,8 @@ class Publish(PageTest):
         self.assertEqual(self.browser.downloaded('Starlit.bin').read_bytes(), result())
         self.browser.wait('#player', 'It is exactly the image that the author made: the SHA-1 is the same.')
         self.press('Save the cue sheet')
-        self.assertEqual(self.browser.downloaded('Starlit.cue').read_text(), CUE.replace('game.bin', 'Starlit.bin'))
+        sheet = self.browser.downloaded('Starlit.cue')
+        self.assertEqual(common.waited(sheet.read_text, 'the cue sheet is empty'), CUE.replace('game.bin', 'Starlit.bin'))
         self.assertEqual(self.browser.run('return document.images.length'), 0)
         self.assertEqual(self.browser.attempts(), [])
 
@@ -171,7 +172,8 @@ class Player(PageTest):
         self.browser.drop('#player', [sheet, image])
         self.browser.wait('#verdict', 'This image is patched already.')
         self.press('Save the cue sheet')
-        self.assertEqual(self.browser.downloaded('mine.cue').read_text(), sheet.read_text())
+        saved = self.browser.downloaded('mine.cue')
+        self.assertEqual(common.waited(saved.read_text, 'the cue sheet is empty'), sheet.read_text())
 
     def test_music_is_not_taken_for_the_disc(self) -> None:
         self.play(bytes(range(1, 255)) * 2352)

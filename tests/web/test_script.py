@@ -74,15 +74,18 @@ class Script(PageTest):
         self.browser.wait('#second-title', 'game (patched).bin')
 
     def test_what_was_saved_makes_way_for_check_if_the_script_changes(self) -> None:
-        files = discs.written(game=discs.game(), english=discs.script())
+        files = discs.written(game=discs.game(), english=discs.script(), other='cdpatch 1\nrebuild 1\n')
         self.open_image(files['game'])
         self.open_script(files['english'])
-        for change in (lambda: self.open_script(discs.written(other='cdpatch 1\nrebuild 1\n')['other']),
-                       lambda: (self.browser.click('.editor textarea'), self.browser.press('# '))):
+        for typed in (False, True):
             self.press('Apply and save')
             self.browser.downloaded('game (patched).bin').unlink()
             self.browser.wait('#panel-script .side h2', 'Saving by your browser')
-            change()
+            if typed:
+                self.browser.click('.editor textarea')
+                self.browser.press('# ')
+            else:
+                self.open_script(files['other'])
             self.browser.wait('#panel-script .side h2', 'Check')
 
     def test_a_saved_file_is_not_judged_before_the_sum_of_the_image_is_known(self) -> None:

@@ -4,7 +4,7 @@ import { RESULT } from '../core/records.js';
 import { openDisc } from '../core/disc.js';
 import { readBytes } from '../core/bytes.js';
 import { textOfFile } from '../core/text.js';
-import { askBeforeLeaving, button, countOf, counted, element, fill, icon, keepFocus } from './dom.js';
+import { askBeforeLeaving, button, countOf, counted, element, fill, hashParts, icon, keepFocus } from './dom.js';
 import { downloadText } from './files_out.js';
 import { saveWork } from './patch_job.js';
 import { moreOf } from './player_more.js';
@@ -194,12 +194,13 @@ export class Player {
      */
     details({ reader }, { sha1, words }) {
         const { image } = this.data;
-        const row = (/** @type {string} */ name, /** @type {string} */ value) => value === '' ? [] : [element('dt', {}, name),
-            element('dd', {}, value)];
+        const row = (/** @type {string} */ name, /** @type {Child[]} */ ...value) => value.length === 0 || value[0] === '' ? []
+            : [element('dt', {}, name), element('dd', {}, ...value)];
         const size = reader.size === image.size ? `${counted(reader.size)} bytes, as expected`
             : `${counted(reader.size)} bytes, the author’s has ${counted(image.size)}`;
-        return element('details', {}, element('summary', {}, 'Details'), element('dl', { class: 'hashes' }, ...row('made for', image.sha1),
-            ...row('your image', sha1), ...row('size', size), ...row('first place', words)));
+        return element('details', {}, element('summary', {}, 'Details'),
+            element('dl', { class: 'hashes' }, ...row('made for', ...hashParts(image.sha1)),
+            ...row('your image', ...hashParts(sha1)), ...row('size', size), ...row('first place', words)));
     }
 
     /**

@@ -4,7 +4,7 @@ import { RESULT, VERB, patchFields } from '../core/records.js';
 import { applyPatches } from '../core/patch.js';
 import { Refusal } from '../core/script.js';
 import { sha1Of } from './crew.js';
-import { askBeforeLeaving, button, countOf, element, fill, isDisabled, keepFocus, setDisabled, term } from './dom.js';
+import { askBeforeLeaving, button, countOf, element, fill, hashParts, isDisabled, keepFocus, setDisabled, term } from './dom.js';
 import { download } from './files_out.js';
 import { readPatches } from './patch_job.js';
 import { pageSource } from './parts.js';
@@ -174,7 +174,8 @@ class PublishPanel {
             !read && survey !== null && survey.over ? ['bad', 'The image was not read to its end. Read it again under Disc.']
                 : !read ? ['quiet', 'reading the image…'] : findings === 0 ? ['good', 'the image is sound: 0 findings']
                 : ['warn', `the image has ${countOf(findings, 'finding')}: players with a sound disc have another hash.`],
-            image.sha1 === '' ? ['quiet', 'calculating the SHA-1 of the image…'] : ['good', 'made for SHA-1 ', mono(image.sha1)],
+            image.sha1 === '' ? ['quiet', 'calculating the SHA-1 of the image…']
+                : ['good', 'made for SHA-1 ', element('span', { class: 'mono small' }, ...hashParts(image.sha1))],
             this.title.value.trim() === '' ? ['bad', 'a title is missing'] : ['good', `title: ${this.title.value}`],
             ...nameRow(this.name.value),
             ...oldRow(tried.old),

@@ -2,7 +2,7 @@
 
 import { RESULT } from '../core/records.js';
 import { sha1Of, sumsOf } from './crew.js';
-import { askBeforeLeaving, button, countOf, counted, element, fill } from './dom.js';
+import { askBeforeLeaving, button, countOf, counted, element, fill, hashParts } from './dom.js';
 import { downloadText } from './files_out.js';
 import { WorkRefused, saveWork } from './patch_job.js';
 import { jobBar } from './progress.js';
@@ -154,7 +154,7 @@ export class SaveCard {
         });
         this.sum = sums.then(it => it.sha1);
         sums.then(it => {
-            sha1.textContent = it.sha1;
+            fill(sha1, ...hashParts(it.sha1));
             crc32.textContent = it.crc32;
         }, error => {
             sha1.textContent = messageOf(error);

@@ -6,7 +6,7 @@ import { mergeImages } from '../core/merge.js';
 import { SECTOR_SIZE } from '../core/sector.js';
 import { readBytes } from '../core/bytes.js';
 import { sha1Of } from './crew.js';
-import { askBeforeLeaving, button, counted, countOf, element, fill, keepFocus, term } from './dom.js';
+import { askBeforeLeaving, button, counted, countOf, element, fill, hashParts, keepFocus, term } from './dom.js';
 import { pieceReader } from './piece_reader.js';
 import { jobBar } from './progress.js';
 import { fileReader } from './reading.js';
@@ -148,7 +148,7 @@ export class SecondRepair {
         if (file === null) return [said];
         const sum = element('dd', { id: 'repaired-sha1' }, '…');
         const told = (/** @type {number} */ done) => { sum.textContent = `(${Math.floor(100 * done / size)} %)`; };
-        sha1Of(app.parts, fileReader(file), app.pairing.signal, told).then(sha1 => { sum.textContent = sha1; },
+        sha1Of(app.parts, fileReader(file), app.pairing.signal, told).then(sha1 => fill(sum, ...hashParts(sha1)),
             error => { sum.textContent = messageOf(error); });
         const open = button('', () => {
             readImage(app, null);
