@@ -42,8 +42,8 @@ test('what can not be made raw, or has no user data', { skip }, () => inDirector
     await fails(['raw', 'disc.bin', 'out'], 'disc.bin is a raw image, 2352 bytes a sector, and no ISO image', room);
     write(room, { 'cut.iso': read(room, 'disc.iso').subarray(0, 100000) });
     await fails(['raw', 'cut.iso', 'out'], 'cut.iso has 100000 bytes, not 2048 for each sector', room);
-    await fails(['user', 'disc.iso', 'out'], 'disc.iso is an ISO image, 2048 bytes a sector. Make a raw image of it, patch that, and make ' +
-        'an ISO image of its user data.', room);
+    await fails(['user', 'disc.iso', 'out'], 'disc.iso is an ISO image, 2048 bytes a sector. Make a raw image of it with cdscript raw, patch that, ' +
+        'and make an ISO image of its user data.', room);
     await fails(['raw', 'nothing.iso', 'out'], 'cannot open nothing.iso: there is no such file or directory', room);
 }));
 

@@ -91,7 +91,7 @@ test('an image with the pause before block 0: its blocks count from its first se
 test('what is no raw image is named, with what to do', async () => {
     const iso = new Uint8Array(20 * 2048);
     iso.set(encoded('\x01CD001'), 16 * 2048);
-    await assert.rejects(opened(file('game.iso', iso)), { message: 'game.iso is an ISO image, 2048 bytes a sector. Make a raw image of it, patch that, and make an ISO image of its user data.' });
+    await assert.rejects(opened(file('game.iso', iso)), { message: 'game.iso is an ISO image, 2048 bytes a sector. Make a raw image of it with cdscript raw, patch that, and make an ISO image of its user data.' });
     await assert.rejects(opened(file('a.zip', encoded('PK\x03\x04 and so on'))), { message: 'a.zip is an archive. Unpack it, and choose the cue sheet or the raw image in it.' });
     await assert.rejects(opened(file('a.bin', new Uint8Array(0))), /^DiscFault: a.bin is an empty file\./);
     const cue = sheet('FILE game.iso BINARY', 'TRACK 01 MODE1/2352', 'INDEX 01 00:00:00');

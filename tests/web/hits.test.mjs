@@ -4,7 +4,7 @@ import assert from 'node:assert/strict';
 import { test } from 'node:test';
 import { calls, imageOf, page } from './page.mjs';
 
-const { linesForAll, placesInScript } = await page('hits.js');
+const { linesForAll, placesInScript, rewrittenLine } = await page('hits.js');
 
 const hit = (block, offset, size) => ({ block, offset, size });
 const watch = { signal: { aborted: false }, progress() {} };
@@ -13,6 +13,13 @@ test('a hit is in the script if a line writes any byte of it, over a border of b
     const places = placesInScript('cdpatch 1\n# set 9 0 41\nset 5 2046 41424344 was 00000000\n fill 7 10 3 20\nset 7 12 4142\nset x 1 41\n');
     const asked = [[5, 2040, 6], [5, 2040, 7], [6, 0, 1], [6, 2, 4], [7, 8, 2], [7, 8, 3], [7, 11, 9], [7, 14, 2], [9, 0, 1]];
     assert.deepEqual(asked.map(it => places.lineAt(hit(...it))), [0, 3, 3, 0, 0, 4, 5, 0, 0]);
+});
+
+test('a line that writes just a hit is written anew with its old bytes', () => {
+    const fresh = Uint8Array.of(0x53, 0x54);
+    const lines = ['set 5 6 4142 was 8358', ' set  5 6 4142\r', 'set 5 6 414243 was 835841', 'set 5 7 4142', 'fill 5 6 2 20', '# set 5 6 4142'];
+    assert.deepEqual(lines.map(line => rewrittenLine(line, hit(5, 6, 2), fresh)),
+        ['set 5 6 5354 was 8358', ' set  5 6 5354\r', '', '', '', '']);
 });
 
 test('hits that overlap are not replaced both, and what is left is named', async () => {

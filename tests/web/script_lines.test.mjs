@@ -43,8 +43,8 @@ test('an edit reads its own lines anew, and all lines if the head line changes',
 test('undo and redo give each text again, and typing in a line is one step', () => {
     const lines = linesOf('cdpatch 1\nrebuild 1');
     const texts = [lines.text()];
-    lines.edit(1, 1, ['rebuild 12'], true);
-    lines.edit(1, 1, ['rebuild 123'], true);
+    lines.edit(1, 1, ['rebuild 12'], 'line');
+    lines.edit(1, 1, ['rebuild 123'], 'line');
     texts.push(lines.text());
     lines.edit(1, 1, ['rebuild', '123']);
     texts.push(lines.text());
@@ -62,7 +62,7 @@ test('undo and redo give each text again, and typing in a line is one step', () 
 test('another text is one edit of the lines that differ, with its name', () => {
     const lines = linesOf('cdpatch 1\nrebuild 1\nrebuild 2\n');
     lines.edit(1, 1, ['rebuild 11']);
-    lines.replace('cdpatch 2\r\naddress 0 00:02:00\r\nrebuild 2\r\n', 'other.txt', false);
+    lines.replace('cdpatch 2\r\naddress 0 00:02:00\r\nrebuild 2\r\n', 'other.txt', '');
     assert.deepEqual([lines.name, lines.text(), lines.faults], ['other.txt', 'cdpatch 2\r\naddress 0 00:02:00\r\nrebuild 2\r\n', 0]);
     lines.undo();
     assert.deepEqual([lines.name, lines.text()], ['', 'cdpatch 1\nrebuild 11\nrebuild 2\n']);
@@ -76,7 +76,7 @@ test('another text is one edit of the lines that differ, with its name', () => {
 test('lines that are added stay among those before, and bytes that are typed on are one step', () => {
     const lines = linesOf('cdpatch 1\n');
     lines.edit(0, 1, ['cdpatch 1', '# mine']);
-    for (const bytes of ['41', '4142', '414243']) lines.replace(`cdpatch 1\n# mine\nset 1 2 ${bytes}\n`, '', true);
+    for (const bytes of ['41', '4142', '414243']) lines.replace(`cdpatch 1\n# mine\nset 1 2 ${bytes}\n`, '', 'bytes');
     assert.deepEqual([lines.text(), lines.patches], ['cdpatch 1\n# mine\nset 1 2 414243\n', 1]);
     lines.undo();
     assert.equal(lines.text(), 'cdpatch 1\n# mine\n');
@@ -84,14 +84,28 @@ test('lines that are added stay among those before, and bytes that are typed on 
     assert.equal(lines.text(), 'cdpatch 1\n');
 });
 
+test('a line that was added is a step of its own, before what is typed in it', () => {
+    for (const way of ['', 'bytes']) {
+        const lines = linesOf('cdpatch 1\n');
+        lines.replace('cdpatch 1\nset 1 2 41\n', '', way);
+        lines.edit(1, 1, ['set 1 2 4'], 'line');
+        lines.undo();
+        assert.equal(lines.text(), 'cdpatch 1\nset 1 2 41\n');
+        lines.undo();
+        assert.equal(lines.text(), 'cdpatch 1\n');
+        lines.redo();
+        assert.equal(lines.text(), 'cdpatch 1\nset 1 2 41\n');
+    }
+});
+
 test('a script is in no file from its first edit until it is saved, and again after the next', () => {
     const lines = linesOf('cdpatch 1\n');
     assert.equal(lines.isSaved(), true);
-    lines.edit(1, 1, ['rebuild 1'], true);
+    lines.edit(1, 1, ['rebuild 1'], 'line');
     assert.equal(lines.isSaved(), false);
     lines.noteSaved();
     assert.equal(lines.isSaved(), true);
-    lines.edit(1, 1, ['rebuild 12'], true);
+    lines.edit(1, 1, ['rebuild 12'], 'line');
     assert.equal(lines.isSaved(), false);
     lines.undo();
     assert.deepEqual([lines.text(), lines.isSaved()], ['cdpatch 1\nrebuild 1', true]);
@@ -107,6 +121,14 @@ test('outcomes stand at their lines in the words of the program until an edit', 
     lines.edit(1, 1, ['rebuild 2']);
     assert.deepEqual(words(lines), ['', '', '', '']);
     assert.equal(lines.nextWrong(0, 1), -1);
+});
+
+test('a line that is refused after another has written its place names that one', () => {
+    const lines = linesOf('cdpatch 1\nset 7 8 4142 was 0000\nset 7 9 43 was 00\nset 7 8 44 was 99\nset 7 8 45 was 00\nset 9 0 41 was 42');
+    const outcome = (number, result, block, offset) => ({ number, result, block, offset });
+    const differ = [outcome(3, 5, 7, 9), outcome(4, 5, 7, 8), outcome(6, 5, 9, 0)];
+    lines.setOutcomes([outcome(2, 0, 7, 8), outcome(5, 0, 7, 8), ...differ]);
+    assert.deepEqual(differ.map(it => lines.writerBefore(it)), [2, 2, 0]);
 });
 
 test('65535 patches are read in little time, and one more is a fault', () => {

@@ -49,6 +49,7 @@ test('a script without a head line gets one', () => {
 
 test('each refusal has a sentence', () => {
     const image = { base: 150, sectors: 10 };
-    for (const result of [1, 2, 4, 5]) assert.ok(helpOfRefusal(result, image).text.length > 20, `result ${result}`);
-    assert.match(helpOfRefusal(4, image).text, /150 to 159/);
+    for (const result of [1, 2, 4, 5]) assert.ok(helpOfRefusal(result, image, 0).text.length > 20, `result ${result}`);
+    assert.match(helpOfRefusal(4, image, 0).text, /150 to 159/);
+    assert.equal(helpOfRefusal(5, image, 2).text, 'Line 2 has changed these bytes already.');
 });

@@ -122,12 +122,13 @@ class Disc(unittest.TestCase):
     def test_a_cue_sheet_by_itself_says_what_to_open(self) -> None:
         place = folder('cue')
         sheet = place / 'game.cue'
-        sheet.write_text('FILE "game (Track 1).bin" BINARY\n  TRACK 01 MODE1/2352\n    INDEX 01 00:00:00\n')
+        sheet.write_text(''.join(f'FILE "game (Track {i}).bin" BINARY\n  TRACK 0{i} {kind}\n    INDEX 01 00:00:00\n'
+                                 for i, kind in ((1, 'MODE1/2352'), (2, 'AUDIO'))))
         self.browser.open(PAGE)
         self.browser.wait('#open-files')
         self.browser.give('#files', [sheet])
-        self.browser.wait('.say.bad', 'or open both together')
-        self.assertIn('game.cue names game (Track 1).bin', self.browser.text('.say.bad'))
+        self.browser.wait('.say.bad', 'Select or drop the cue sheet and these together:')
+        self.assertIn('game (Track 1).bin, game (Track 2).bin', self.browser.text('.say.bad'))
 
     def test_what_is_no_raw_image_is_named_with_what_to_do(self) -> None:
         place = folder('others')
@@ -236,6 +237,17 @@ class Disc(unittest.TestCase):
         browser.click('#open-example')
         browser.wait(VERDICT, '16 of 270 Mode 1 sectors are damaged, in 1 place')
         browser.wait('#findings', 'a scratch: every 9th sector')
+
+    def test_another_base_is_offered_if_no_sector_has_the_address_of_its_block(self) -> None:
+        browser = self.opened(discs.written(game=discs.scratched())['game'])
+        browser.wait('#disc-line .lead button', 'Repair from another dump')
+        browser.click('#disc-line dl .btn')
+        browser.type('#base', '100')
+        browser.press(Keys.ENTER)
+        browser.wait('#disc-line .lead', 'the base is probably 0, not 100. 1 sector is damaged.')
+        self.assertNotIn('copy protection', browser.text('#findings'))
+        browser.click('#disc-line .lead .main')
+        browser.wait('#disc-line .lead', f'1 of {len(discs.game()) // 2352} Mode 1 sectors')
 
     def test_reading_can_be_cancelled_and_begun_again(self) -> None:
         browser = self.browser
@@ -410,6 +422,23 @@ class Disc(unittest.TestCase):
         self.assertEqual(run_program('apply', path, path.parent / 'script.txt', path.parent / 'new.bin')[0], 0)
         fresh = (path.parent / 'new.bin').read_bytes()[60 * SECTOR_SIZE + 16:]
         self.assertEqual(fresh[16:18].hex() + fresh[34:35].hex(), 'c01234')
+
+    def test_bytes_that_were_typed_are_taken_back(self) -> None:
+        browser = self.opened(file_of(discs.game()))
+        browser.press('g')
+        browser.type('#go-to', '60\n')
+        browser.wait('#sector-title', 'block 60')
+        browser.find('#map').send_keys(Keys.ENTER)
+        self.wait_for_bytes()
+        browser.press('c', '0', 'f', 'f', Keys.ARROW_DOWN, '3', '4', '5')
+        browser.press('z', held=Keys.CONTROL)
+        browser.press('z', held=Keys.CONTROL)
+        changed = "return [...document.querySelectorAll('.hex i.new')].map(it => Number(it.dataset.at)).filter(at => at < 2064)"
+        waited(lambda: browser.run(changed) == [16, 17], 'two changed bytes')
+        browser.press('z', held=Keys.CONTROL)
+        waited(lambda: browser.run(changed) == [], 'no changed byte')
+        browser.press('z', held=Keys.CONTROL)
+        browser.wait('#announced', 'The last change of the script was not typed here.')
 
     def test_a_byte_that_is_typed_twice_keeps_what_was_there_first(self) -> None:
         image = discs.game()

@@ -64,7 +64,8 @@ class Publish(PageTest):
         self.assertEqual(self.browser.downloaded('Starlit.bin').read_bytes(), result())
         self.browser.wait('#player', 'It is exactly the image that the author made: the SHA-1 is the same.')
         self.press('Save the cue sheet')
-        self.assertEqual(self.browser.downloaded('Starlit.cue').read_text(), CUE.replace('game.bin', 'Starlit.bin'))
+        sheet = self.browser.downloaded('Starlit.cue')
+        self.assertEqual(common.waited(sheet.read_text, 'the cue sheet is empty'), CUE.replace('game.bin', 'Starlit.bin'))
         self.assertEqual(self.browser.run('return document.images.length'), 0)
         self.assertEqual(self.browser.attempts(), [])
 
@@ -90,6 +91,9 @@ class Publish(PageTest):
         self.browser.wait('#panel-publish', 'tried on this image: 6 applied, 2 refused')
         self.browser.type('#patcher-title', 'Title')
         self.assertTrue(self.is_off('Save as a patcher') and self.is_off('See it as a player'))
+        self.press('Go to line 11')
+        label = 'return document.activeElement.getAttribute("aria-label")'
+        self.assertIn('Script, line 11 of 13', self.browser.run(label))
 
     def test_no_licence_is_said_beside_the_button(self) -> None:
         self.publish()
@@ -159,6 +163,21 @@ class Player(PageTest):
         self.play(result())
         self.browser.wait('#verdict', 'This image is patched already.')
         self.assertIn('There is nothing to do.', self.browser.text('#player'))
+
+    def test_an_image_that_is_patched_already_has_its_cue_sheet(self) -> None:
+        self.open_patcher(patcher(discs.game(), result(), discs.script()))
+        image = discs.written(mine=result())['mine']
+        sheet = image.with_suffix('.cue')
+        sheet.write_text('FILE "mine.bin" BINARY\n  TRACK 01 MODE1/2352\n    INDEX 01 00:00:00\n')
+        self.browser.drop('#player', [sheet, image])
+        self.browser.wait('#verdict', 'This image is patched already.')
+        self.press('Save the cue sheet')
+        saved = self.browser.downloaded('mine.cue')
+        self.assertEqual(common.waited(saved.read_text, 'the cue sheet is empty'), sheet.read_text())
+
+    def test_music_is_not_taken_for_the_disc(self) -> None:
+        self.play(bytes(range(1, 255)) * 2352)
+        self.browser.wait('#player .say.bad', 'mine.bin is music; choose the data track.')
 
     def test_patched_already_is_known_by_the_hash_too(self) -> None:
         script = f'cdpatch 1\nset {discs.first_block()} 0 5374617274202020\n'

@@ -64,6 +64,7 @@ class Script(PageTest):
         self.browser.wait('#saved-sha1', common.sha1(saved.read_bytes()))
         self.browser.drop('#panel-script', [saved])
         self.browser.wait('#panel-script .say', 'game (patched).bin is right.')
+        self.assertNotIn('Keep this page open', self.browser.text('#panel-script .side'))
         saved.write_bytes(saved.read_bytes()[:-1])
         self.browser.drop('#panel-script', [saved])
         self.browser.wait('#panel-script .say', 'it was not saved to its end')
@@ -71,6 +72,21 @@ class Script(PageTest):
         self.browser.drop('#panel-script', [saved])
         self.press('Open it')
         self.browser.wait('#second-title', 'game (patched).bin')
+
+    def test_what_was_saved_makes_way_for_check_if_the_script_changes(self) -> None:
+        files = discs.written(game=discs.game(), english=discs.script(), other='cdpatch 1\nrebuild 1\n')
+        self.open_image(files['game'])
+        self.open_script(files['english'])
+        for typed in (False, True):
+            self.press('Apply and save')
+            self.browser.downloaded('game (patched).bin').unlink()
+            self.browser.wait('#panel-script .side h2', 'Saving by your browser')
+            if typed:
+                self.browser.click('.editor textarea')
+                self.browser.press('# ')
+            else:
+                self.open_script(files['other'])
+            self.browser.wait('#panel-script .side h2', 'Check')
 
     def test_a_saved_file_is_not_judged_before_the_sum_of_the_image_is_known(self) -> None:
         files = discs.written(game=discs.game(), english=discs.script())
@@ -114,7 +130,7 @@ class Script(PageTest):
         self.assertEqual([row.split('|')[1] for row in self.rows()], ['# end'])
         self.browser.press('z', held=Keys.CONTROL)
         self.browser.press(Keys.ENTER, held=Keys.CONTROL)
-        self.browser.wait('.tally', '2\napplied')
+        self.browser.wait('.tally', '2\nwould apply')
         self.assertEqual(self.script_text(), 'cdpatch 1\nrebuild 1\nrebuild 2\n# end')
 
     def type_script(self) -> None:

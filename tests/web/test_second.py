@@ -6,7 +6,7 @@ from pathlib import Path
 
 import chromium
 import discs
-from common import PAGE, SECTOR_SIZE, damaged, folder, run_program, sector, waited
+from common import PAGE, SECTOR_SIZE, damaged, folder, run_program, sector, sha1, waited
 from pages import PICKER, PageTest
 
 AUDIO = random.Random(8).randbytes(30 * SECTOR_SIZE)
@@ -85,8 +85,11 @@ class Second(unittest.TestCase):
             due[block * SECTOR_SIZE:(block + 1) * SECTOR_SIZE] = second[block * SECTOR_SIZE:(block + 1) * SECTOR_SIZE]
         self.assertEqual(saved.read_bytes(), bytes(due))
         self.assertEqual(audited(saved), {60})
+        self.browser.wait('#repaired-sha1', sha1(bytes(due)))
         saved.unlink()
         self.browser.wait('[aria-label="Cannot be repaired: 1"]', '60')
+        self.press('Open the new image')
+        self.browser.wait('#disc-line .name', 'game (repaired).bin')
 
     def test_a_repair_as_a_script_gives_the_same_image(self) -> None:
         first, second = with_faults((40, 9), (60, 9)), with_faults()
@@ -105,6 +108,18 @@ class Second(unittest.TestCase):
         self.browser.wait('#second-body .say.bad', 'no dump of the same disc')
         self.assertFalse(self.browser.run(f'return Boolean({BUTTON})', 'Save repaired image'))
 
+    def sees_what_differs(self, first: bytes, second: bytes, block: int) -> None:
+        """Opens the sector of a row, in which the bytes that differ are marked and those of the second image stand."""
+        self.press(str(block))
+        self.browser.wait('#sector-title', f'block {block}')
+        differ = [at for at in range(SECTOR_SIZE) if first[block * SECTOR_SIZE + at] != second[block * SECTOR_SIZE + at]]
+        marked = "return [...document.querySelectorAll('.hex i.dif')].map(it => Number(it.dataset.at))"
+        waited(lambda: self.browser.run(marked) == differ, 'other bytes are marked')
+        values = "return [...document.querySelectorAll('.hex .second i')].map(it => it.textContent).join('')"
+        self.assertEqual(self.browser.run(values), ''.join(f'{second[block * SECTOR_SIZE + at]:02X}' for at in differ))
+        top = "return document.querySelector('.hex').getBoundingClientRect().top"
+        self.assertLess(self.browser.run(top), self.browser.run('return innerHeight'))
+
     def test_a_comparison_is_a_script_that_the_program_applies(self) -> None:
         first = with_faults()
         second = bytearray(first)
@@ -115,6 +130,7 @@ class Second(unittest.TestCase):
         path, _ = self.pair(first, bytes(second))
         self.browser.wait('#second-body .tally')
         self.assertEqual(self.tally(), [3, 0, 0])
+        self.sees_what_differs(first, bytes(second), 70)
         self.assertEqual(self.legend('differ'), 3)
         self.browser.wait('[aria-label="Bytes that differ, by field"]', '70')
         self.press('Write the script')

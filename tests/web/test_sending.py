@@ -51,7 +51,7 @@ class Sending(PageTest):
         self.press('Add for all')
         self.browser.click('#tab-script')
         self.press('Check')
-        self.browser.wait('.tally', '5\napplied')
+        self.browser.wait('.tally', '5\nwould apply')
         self.press('Apply and save')
         self.browser.downloaded('game (patched).bin')
         self.browser.click('#tab-publish')

@@ -63,11 +63,65 @@ class Text(PageTest):
         new = 'Start'.encode().ljust(8).hex().upper()
         self.assertEqual(script, 'cdpatch 1\n' + ''.join(f'set {place} {new} was {discs.START.hex().upper()}\n' for place in places(discs.START)))
         self.press('Check')
-        self.browser.wait('.tally', '5\napplied')
+        self.browser.wait('.tally', '5\nwould apply')
         self.press('Apply and save')
         saved = self.browser.downloaded('game (patched).bin').read_bytes()
         self.assertEqual(saved, applied(self.files['game'], discs.written(script=script)['script'])[2])
         self.assertEqual(self.browser.attempts(), [])
+
+    def shown(self, css: str) -> bool:
+        return bool(self.browser.run('return document.querySelector(arguments[0]).checkVisibility()', css))
+
+    def choose(self, encoding: str) -> None:
+        self.browser.run('document.querySelector("#find-encoding").value = arguments[0]; '
+                         'document.querySelector("#find-encoding").dispatchEvent(new Event("change"))', encoding)
+
+    def test_hits_are_shown_only_for_the_text_and_the_encoding_that_were_searched(self) -> None:
+        self.find('スタート')
+        self.choose('EUC-JP')
+        self.assertFalse(self.shown('.hits'))
+        self.choose('CP932')
+        self.assertTrue(self.shown('.hits'))
+        self.browser.click('#find-text')
+        self.browser.press(Keys.BACKSPACE)
+        self.assertFalse(self.shown('.hits'))
+        self.browser.press('ト')
+        self.assertTrue(self.shown('.hits'))
+
+    def test_what_was_not_searched_is_not_called_searched(self) -> None:
+        self.open_image(discs.written(game=discs.game())['game'])
+        self.browser.click('#tab-text')
+        self.browser.click('#find-text')
+        self.browser.press('存在しない', Keys.ENTER)
+        self.browser.wait('#panel-text .say', 'No hit in Shift-JIS (CP932).')
+        self.browser.type('#find-text', 'Café')
+        self.browser.press(Keys.ENTER)
+        self.browser.wait('.hint', "CP932 has no 'é'")
+        self.assertNotIn('searched to the end', self.browser.text('#panel-text'))
+
+    def test_hits_are_counted_anew_after_the_script_has_changed(self) -> None:
+        self.find('スタート')
+        self.browser.press('Start', Keys.ENTER)
+        self.browser.wait('.hits tbody tr:nth-child(1)', 'in the script, line 2')
+        self.assertFalse(self.is_off('Add for all 4 left'))
+        self.browser.click('#tab-script')
+        self.browser.click('.editor textarea')
+        self.browser.press('z', held=Keys.CONTROL)
+        self.browser.click('#tab-text')
+        self.assertFalse(self.is_off('Add for all 5 left'))
+        self.assertNotIn('in the script', self.row(1))
+
+    def test_a_line_that_writes_a_hit_already_is_replaced(self) -> None:
+        self.find('スタート')
+        self.browser.press('Start', Keys.ENTER)
+        self.browser.wait('.hits tbody tr:nth-child(1)', 'in the script, line 2')
+        self.browser.click('.hits tbody tr:nth-child(1)')
+        self.browser.wait('#panel-text .main', 'Replace line 2')
+        self.browser.type('#new-text', 'Begin')
+        self.press('Replace line 2')
+        self.browser.click('#tab-script')
+        new = 'Begin'.encode().ljust(8).hex().upper()
+        self.assertEqual(self.script_text(), f'cdpatch 1\nset {places(discs.START)[0]} {new} was {discs.START.hex().upper()}\n')
 
     def test_a_text_that_is_too_long_is_not_added(self) -> None:
         self.find('スタート')

@@ -1,7 +1,7 @@
 // The card beside the editor: Check, what came of it, carry, and Apply and save.
 
 import { RESULT } from '../core/records.js';
-import { announce, button, counted, element, fill, keepFocus, setDisabled, term } from './dom.js';
+import { announce, button, countOf, counted, element, fill, keepFocus, setDisabled, term } from './dom.js';
 import { WorkRefused, checkWork } from './patch_job.js';
 import { jobBar } from './progress.js';
 import { isCancelled, messageOf, notice } from './say.js';
@@ -38,10 +38,16 @@ export class CheckCard {
         this.saving = new SaveCard(app, () => this.draw());
     }
 
-    /** Forgets what Check said, for the script, the image or carry is another one. */
-    forget() {
+    /** What Check said and what was saved is that of another script, image or carry now. */
+    outdate() {
         this.patched = null;
         this.failure = null;
+        this.saving.leave();
+    }
+
+    /** Forgets what Check said, for the image or carry is another one. */
+    forget() {
+        this.outdate();
         this.owner.lines.setOutcomes([]);
         this.owner.log(null);
         this.owner.redraw();
@@ -100,7 +106,8 @@ export class CheckCard {
         const tally = (/** @type {string} */ tone, /** @type {number} */ count, /** @type {string} */ word) =>
             element('div', { class: count > 0 ? tone : '' }, element('b', {}, counted(count)), word);
         const first = lines.nextWrong(lines.lines.length - 1, 1);
-        return [element('div', { class: 'tally' }, tally('good-ink', applied, 'applied'), tally('bad-ink', refused, 'refused')),
+        return [element('div', { class: 'tally' }, tally('good-ink', applied, 'would apply'),
+            tally('bad-ink', refused, 'refused')),
             element('p', {}, sentenceOf(applied, refused)),
             first < 0 ? null : element('div', { class: 'row' }, button('slim', () => this.owner.goTo(first), `Go to line ${first + 1}`))];
     }
@@ -113,7 +120,8 @@ export class CheckCard {
         if (!ready) return ['Ready as soon as no line has a fault.'];
         const applied = this.patched ? this.patched.outcomes.filter(it => it.result === RESULT.OK).length : -1;
         const name = this.app.image ? this.app.image.name : '';
-        return [applied < 0 ? 'Saves a new image. ' : `Saves a new image with the ${counted(applied)}. `, element('b', {}, name),
+        const fitting = applied < 0 ? '' : ` with the ${countOf(applied, 'patch that fits', 'patches that fit')}`;
+        return [`Saves a new image${fitting}. `, element('b', {}, name),
             ' stays as it is.'];
     }
 

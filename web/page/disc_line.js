@@ -4,9 +4,10 @@ import { SECTOR_SIZE } from '../core/sector.js';
 import { button, byId, countOf, counted, element, fill, redraw, term } from './dom.js';
 import { MARK } from './marks.js';
 import { imageOfTrack } from './open.js';
-import { placesOf } from './places.js';
+import { otherBase, placesOf } from './places.js';
 import { copyText } from './say.js';
 import { changeBase, readImage } from './survey_image.js';
+import { modeOneSectors } from './words.js';
 
 /** @typedef {import('./state.js').App} App */
 /** @typedef {import('./state.js').Image} Image */
@@ -51,7 +52,7 @@ function drawCounts({ survey }) {
     const findings = survey ? survey.marks.findings() : 0;
     const count = byId('count-disc');
     count.hidden = findings === 0;
-    fill(count, counted(findings), element('span', { class: 'hide' }, ' findings'));
+    fill(count, counted(findings), element('span', { class: 'hide' }, findings === 1 ? ' finding' : ' findings'));
 }
 
 /**
@@ -203,19 +204,38 @@ function verdict(app, image, { marks }) {
         return [element('span', {}, element('b', { class: 'warn-ink' }, 'There is no Mode 1 sector here:'),
             ' audio, or Mode 2 as on a PlayStation disc. It can be looked at, not patched.')];
     }
+    const base = otherBase(image, marks);
+    if (base !== null) return otherBaseVerdict(app, image, base, damaged);
     const others = [];
     if (lost > 0) others.push(`${counted(lost)} lost ${lost === 1 ? 'its' : 'their'} sync field or mode`);
     if (elsewhere > 0) others.push(`${counted(elsewhere)} ${elsewhere === 1 ? 'has' : 'have'} another address`);
     if (damaged + others.length === 0) {
-        return [element('span', {}, element('b', { class: 'good-ink' }, `All ${counted(mode1)} Mode 1 sectors are sound:`),
-            ' their EDC and parity fit.')];
+        const all = mode1 === 1 ? 'The Mode 1 sector is sound:' : `All ${counted(mode1)} Mode 1 sectors are sound:`;
+        return [element('span', {}, element('b', { class: 'good-ink' }, all), ` ${mode1 === 1 ? 'its' : 'their'} EDC and parity fit.`)];
     }
     const places = placesOf(marks);
-    const head = damaged === 0 ? element('b', { class: 'good-ink' }, `The EDC and parity of all ${counted(mode1)} Mode 1 sectors fit`)
-        : element('b', { class: 'bad-ink' }, `${counted(damaged)} of ${counted(mode1)} Mode 1 sectors are damaged,`);
+    const head = damaged === 0 ? element('b', { class: 'good-ink' }, `The EDC and parity of ${modeOneSectors(mode1)} fit`)
+        : element('b', { class: 'bad-ink' },
+            `${counted(damaged)} of ${countOf(mode1, 'Mode 1 sector')} ${damaged === 1 ? 'is' : 'are'} damaged,`);
     const hurt = places.filter(it => it.counts[MARK.EDC] + it.counts[MARK.PARITY] > 0).length;
     const where = damaged === 0 ? '' : ` in ${countOf(hurt, 'place')}`;
     const rest = [where, ...others].join('; ');
     return [element('span', {}, head, `${rest}.${damaged > 0 ? ' The rest is sound.' : ''}`),
+        damaged > 0 && button('slim', () => byId('files').click(), 'Repair from another dump…'),
         button('slim bare', () => app.goTo(image.base + places[0].first, -1, true), 'Go to the first place')];
+}
+
+/**
+ * What is said if the base is probably another one.
+ * @param {App} app
+ * @param {Image} image
+ * @param {number} base
+ * @param {number} damaged
+ * @returns {Child[]}
+ */
+function otherBaseVerdict(app, image, base, damaged) {
+    return [element('span', {}, element('b', { class: 'warn-ink' }, 'No Mode 1 sector has the address of its block:'),
+        ` by the addresses, the base is probably ${base}, not ${image.base}.`,
+        damaged > 0 && ` ${countOf(damaged, 'sector is', 'sectors are')} damaged.`),
+    button('slim main', () => changeBase(app, base), `Set the base to ${base}`)];
 }

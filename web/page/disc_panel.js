@@ -21,7 +21,7 @@ export function mountDisc(app, panel) {
     for (const name of /** @type {const} */ (['survey', 'panel', 'files'])) app.on(name, () => disc.drawMap());
     app.on('surveyed', () => disc.findings.draw());
     app.on('image', () => disc.begin());
-    app.on('place', () => disc.drawPlace());
+    app.on('place', ({ show }) => disc.drawPlace(show));
     app.on('second', () => disc.second.begin());
 }
 
@@ -72,13 +72,14 @@ class DiscPanel {
         this.drawReadout();
     }
 
-    drawPlace() {
+    /** @param {boolean} wanted whether the place is scrolled to */
+    drawPlace(wanted) {
         const { survey, place } = this.app;
         if (survey === null || place.block < 0) return;
         this.map.moveTo(place.block - survey.block);
         this.sector.part.hidden = false;
         this.findings.drawPlace();
-        this.sector.draw(true);
+        this.sector.draw(true, wanted);
         this.drawReadout();
     }
 

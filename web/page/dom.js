@@ -171,6 +171,16 @@ export function hexOf(bytes) {
 }
 
 /**
+ * A hash, which has its line break in the middle if it needs one.
+ * @param {string} digits
+ * @returns {Child[]}
+ */
+export function hashParts(digits) {
+    const middle = digits.length / 2;
+    return digits === '' ? [] : [digits.slice(0, middle), element('wbr'), digits.slice(middle)];
+}
+
+/**
  * The value of a custom property of the style.
  * @param {string} name
  */

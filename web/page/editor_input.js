@@ -26,7 +26,7 @@ function typed(editor) {
         return editor.edit(current, 1, lines, current + column.length - 1, column[column.length - 1].length);
     }
     editor.anchor = -1;
-    editor.lines.edit(current, 1, lines, true);
+    editor.lines.edit(current, 1, lines, 'line');
     editor.draw();
     editor.reveal();
     editor.owner.changed();
@@ -82,6 +82,17 @@ export function turnBack(editor, line) {
     editor.goTo(line, Infinity);
     editor.owner.changed();
     editor.owner.moved();
+}
+
+/**
+ * Takes back the bytes of a sector that were typed last, if nothing was done after them, and says whether it was so.
+ * @param {ScriptEditor} editor
+ */
+export function takeBackBytes(editor) {
+    const { done } = editor.lines;
+    const isLast = done.length > 0 && done[done.length - 1].typed === 'bytes';
+    if (isLast) turnBack(editor, editor.lines.undo());
+    return isLast;
 }
 
 /**

@@ -1,7 +1,8 @@
 // The encodings that can be chosen, and bytes as the characters that they begin.
 
-import { ENCODINGS, encodingOf } from '../core/text.js';
+import { ENCODINGS, encodingOf, tableOf } from '../core/text.js';
 import { element, fill } from './dom.js';
+import { messageOf, notice } from './say.js';
 
 /** @typedef {import('./state.js').App} App */
 /** @typedef {import('../core/text.js').Encoding} Encoding */
@@ -49,6 +50,22 @@ export function bindEncodings(app, choice, without) {
         app.encoding = choice.value;
         app.emit('encoding');
     });
+}
+
+/**
+ * Makes the table in a file the encoding from now on, and says so.
+ * @param {App} app
+ * @param {File} file
+ */
+export async function takeTable(app, file) {
+    try {
+        app.tables.set(file.name, tableOf(new Uint8Array(await file.arrayBuffer())));
+        app.encoding = file.name;
+        app.emit('encoding');
+        return notice('good', `${file.name} is loaded.`, 'It is the encoding now, here and where bytes are shown as text.');
+    } catch (error) {
+        return notice('bad', `${file.name} is no table that can be read.`, messageOf(error));
+    }
 }
 
 /**

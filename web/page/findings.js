@@ -8,7 +8,7 @@ import { oneStop } from './groups.js';
 import { MARK, SURVEY_LOOKS } from './marks.js';
 import { placeGuess, placeWords, placesOf } from './places.js';
 import { copyText } from './say.js';
-import { addressOf, auditLines } from './words.js';
+import { addressOf, auditLines, modeOneSectors } from './words.js';
 
 /** @typedef {import('./state.js').App} App */
 /** @typedef {import('./state.js').Surveyed} Surveyed */
@@ -107,7 +107,7 @@ export class Findings {
         if (places.length === 0) {
             const mode1 = survey.marks.mode1();
             const words = mode1 === 0 ? 'No findings: there is no Mode 1 sector.'
-                : `No findings: EDC and parity of all ${counted(mode1)} Mode 1 sectors fit.`;
+                : `No findings: EDC and parity of ${modeOneSectors(mode1)} fit.`;
             fill(this.body, element('p', { class: 'pad' }, words));
         } else {
             const head = element('tr', {}, element('th', {}, 'Place (', term('block', 'blocks'), ')'),
@@ -134,7 +134,8 @@ export class Findings {
             open ? '▾ ' : '▸ ', range);
         const row = element('tr', {}, element('td', { class: 'num nowrap' }, fold),
             element('td', { class: 'n', 'data-l': 'sectors' }, counted(place.sectors.length)),
-            element('td', {}, dotOf(look ? look.colour : '--f-edc'), words), element('td', { class: 'wide' }, placeGuess(place)));
+            element('td', {}, dotOf(look ? look.colour : '--f-edc'), words),
+            element('td', { class: 'wide' }, placeGuess(place, survey.marks.isElsewhere())));
         return open ? [row, ...this.sectorRows(survey, place)] : [row];
     }
 

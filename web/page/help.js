@@ -13,8 +13,10 @@ const KEYS = [
     ['Home, End', 'first, last sector'], ['N, P', 'next, previous finding'], ['R, Shift+R', 'next, previous run'],
     ['G', 'go to a block'], ['Enter', 'open the sector'],
     ['', 'Sector'], ['← → ↑ ↓', 'one byte, one row'], ['0 to 9, A to F', 'change the byte: a line of the script'],
+    ['Ctrl+Z', 'take back the bytes that were typed last'],
     ['Page Up, Page Down', 'one screen; past the end, the next sector'], ['Esc', 'back to the map'],
     ['', 'Script'], ['Ctrl+Enter, Ctrl+S', 'Check, save (on a Mac ⌘ for Ctrl)'], ['F8, Shift+F8', 'next, previous fault or refusal'],
+    ['Ctrl+Z, Ctrl+Y', 'undo, redo'],
     ['', 'Text'], ['Enter', 'find; in “New text”: add the line and go on'],
 ];
 

@@ -7,9 +7,10 @@ import { charactersOf } from './encodings.js';
 /** @typedef {import('../core/text.js').Encoding} Encoding */
 /** @typedef {{ name: string, label: string, from: number, to: number }} Field */
 /**
- * What is shown: the bytes, the fields that they lie in, those that are outlined, and those that the script has changed.
- * @typedef {{ block: number, bytes: Uint8Array, old: Uint8Array, mode1: boolean, fields: Field[], crossings: Set<number>,
- *     encoding: Encoding, label: string, table: boolean }} Shown
+ * What is shown: the bytes, the fields that they lie in, those that are outlined, those that the script has changed, and those of a
+ * second image, or null.
+ * @typedef {{ block: number, bytes: Uint8Array, old: Uint8Array, other: Uint8Array | null, mode1: boolean, fields: Field[],
+ *     crossings: Set<number>, encoding: Encoding, label: string, table: boolean }} Shown
  */
 
 /** The byte after the user data. */
@@ -85,7 +86,8 @@ export class HexView {
         for (let part = 0; part + 1 < stops.length; part++) {
             if (shown.mode1) lines.push(element('div', { class: 'cut', role: 'presentation' }, CUTS[stops[part]]));
             for (let at = stops[part]; at < stops[part + 1]; at += this.columns) {
-                lines.push(this.line(shown, at, Math.min(at + this.columns, stops[part + 1]), texts));
+                const end = Math.min(at + this.columns, stops[part + 1]);
+                lines.push(this.line(shown, at, end, texts), ...otherLine(shown, at, end));
             }
         }
         return lines;
@@ -147,7 +149,8 @@ export class HexView {
 
     /** @param {KeyboardEvent} event */
     key(event) {
-        if (this.shown === null || event.ctrlKey || event.altKey || event.metaKey) return;
+        if (this.shown === null || event.altKey) return undefined;
+        if (event.ctrlKey || event.metaKey) return this.pressed(this.at, event);
         const row = this.columns;
         /** @type {Record<string, number>} */
         const moves = { ArrowLeft: this.at - 1, ArrowRight: this.at + 1, ArrowUp: this.at - row, ArrowDown: this.at + row,
@@ -202,14 +205,32 @@ export function placeName({ mode1 }, at) {
  * @param {Shown} shown
  * @param {number} at
  */
-function byteCell({ bytes, old, fields, crossings }, at) {
+function byteCell({ bytes, old, other, fields, crossings }, at) {
     const field = fields.find(it => at >= it.from && at < it.to);
     const names = [`x-${field ? field.name : 'user'}`];
     if (crossings.has(at)) names.push('sus');
+    if (other !== null && other[at] !== old[at]) names.push('dif');
     if (bytes[at] !== old[at]) names.push('new');
     else if (bytes[at] === 0) names.push('zero');
-    const digits = bytes[at].toString(16).toUpperCase().padStart(2, '0');
-    return element('i', { class: names.join(' '), role: 'gridcell', id: `byte-${at}`, 'data-at': at }, digits);
+    return element('i', { class: names.join(' '), role: 'gridcell', id: `byte-${at}`, 'data-at': at }, digitsOf(bytes[at]));
+}
+
+/**
+ * Under a line, the bytes of the second image that differ.
+ * @param {Shown} shown
+ * @param {number} from
+ * @param {number} to
+ */
+function otherLine({ old, other }, from, to) {
+    if (other === null || old.subarray(from, to).every((byte, i) => byte === other[from + i])) return [];
+    const cells = Array.from(other.subarray(from, to), (byte, i) => element('i', {}, byte === old[from + i] ? '' : digitsOf(byte)));
+    return [element('div', { class: 'line second', 'aria-hidden': 'true' }, element('span', { class: 'o' }, 'second'),
+        element('span', { class: 'b' }, ...cells))];
+}
+
+/** @param {number} byte */
+export function digitsOf(byte) {
+    return byte.toString(16).toUpperCase().padStart(2, '0');
 }
 
 /**

@@ -2,6 +2,7 @@
 
 import { readBytes } from '../core/bytes.js';
 import { filledUp, replaceBytes } from '../core/edit.js';
+import { joinFound, sectorsBeyond } from '../core/find.js';
 import { JobAborted } from '../core/jobs.js';
 import { SECTOR_SIZE, USER_SIZE, userOf } from '../core/sector.js';
 import { hexOf } from './dom.js';
@@ -10,6 +11,8 @@ import { sentence } from './say.js';
 
 /** @typedef {import('../core/bytes.js').Reader} Reader */
 /** @typedef {import('../core/find.js').Hit} Hit */
+/** @typedef {import('../core/find.js').Found} Found */
+/** @typedef {import('./state.js').App} App */
 /** @typedef {import('../core/text.js').Encoding} Encoding */
 /** @typedef {import('../core/codes.js').Calls} Calls */
 /** @typedef {import('../core/disc.js').DiscImage} DiscImage */
@@ -20,8 +23,32 @@ const BEFORE = 24;
 const AFTER = 48;
 const ALIGNING = 64;
 
+/** So many hits are kept: as many as a script has lines for. */
+const MOST_HITS = 65535;
+
 /** No patch writes more bytes. */
 const MOST_WRITTEN = 4096;
+
+/**
+ * The hits of a text in an encoding.
+ * @param {App} app
+ * @param {DiscImage} image
+ * @param {{ text: string, encoding: Encoding }} asked
+ * @param {{ signal: AbortSignal, progress: (done: number, all: number) => void }} watch
+ * @returns {Promise<Found>}
+ */
+export async function findHits(app, { reader, base }, { text, encoding }, watch) {
+    const wanted = encoding.units(text);
+    /** @type {Found[]} */
+    const parts = [];
+    let kept = 0;
+    const how = { base, beyond: sectorsBeyond(wanted), ...watch };
+    await app.crew.share('find', [reader], { wanted, limit: MOST_HITS }, how, answer => {
+        parts.push({ ...answer, hits: kept < MOST_HITS ? answer.hits : [] });
+        kept += answer.hits.length;
+    });
+    return joinFound(parts, MOST_HITS);
+}
 
 /**
  * The user bytes round a hit: `at` is where the hit begins in them.
@@ -117,13 +144,14 @@ export class Places {
     /**
      * The last line that writes a byte of a range, or 0.
      * @param {Hit} range
+     * @param {number} [before] which line it comes before, if it must
      */
-    lineAt({ block, offset, size }) {
+    lineAt({ block, offset, size }, before = Infinity) {
         const from = block * USER_SIZE + offset;
         let last = 0;
         for (let at = block; at * USER_SIZE < from + size; at++) {
             for (const it of this.blocks.get(at) || []) {
-                if (it.from < from + size && it.to > from) last = Math.max(last, it.line);
+                if (it.from < from + size && it.to > from && it.line < before) last = Math.max(last, it.line);
             }
         }
         return last;
@@ -153,6 +181,18 @@ export function placesInScript(script) {
  */
 export function replacingLine({ block, offset }, fresh, old) {
     return `set ${block} ${offset} ${hexOf(fresh)} was ${hexOf(old)}`;
+}
+
+/**
+ * A line that writes just this hit, with other new bytes; '' if it writes something else.
+ * @param {string} line
+ * @param {Hit} hit
+ * @param {Uint8Array} fresh
+ */
+export function rewrittenLine(line, { block, offset, size }, fresh) {
+    const [, start, at, from, bytes, rest] = /^(\s*set\s+(\d+)\s+(\d+)\s+)([0-9A-Fa-f]+)(\s.*)?$/.exec(line) || [];
+    const isIt = start !== undefined && Number(at) === block && Number(from) === offset && bytes.length === 2 * size;
+    return isIt ? `${start}${hexOf(fresh)}${rest || ''}` : '';
 }
 
 /**

@@ -10,9 +10,10 @@ import { copyText } from './say.js';
 /** @typedef {import('./state.js').Image} Image */
 /** @typedef {import('../core/find.js').Hit} Hit */
 /** @typedef {import('./hits.js').Context} Context */
+/** @typedef {import('../core/text.js').Encoding} Encoding */
 /** @typedef {import('./dom.js').Child} Child */
 /** What a search has found: all hits are counted, `hits` are those that are kept. */
-/** @typedef {{ text: string, count: number, hits: Hit[], seconds: number }} Search */
+/** @typedef {{ text: string, encoding: Encoding, count: number, hits: Hit[], seconds: number }} Search */
 
 const SHOWN = 200;
 

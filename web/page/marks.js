@@ -63,6 +63,8 @@ export class SurveyMarks {
         this.marks = new Uint8Array(count);
         this.counts = new Uint32Array(SURVEY_LOOKS.length + 1);
         this.known = 0;
+        /** How many sectors of Mode 1 have another address than their block's, whatever else was found in them. */
+        this.elsewhere = 0;
         this.looks = SURVEY_LOOKS;
         /** Where the last sectors that are not of Mode 1 begin, if Mode 1 comes before them; else -1. */
         this.gap = -1;
@@ -78,6 +80,7 @@ export class SurveyMarks {
             const mark = markOf(records, i * RECORD_SIZE);
             this.marks[i] = mark;
             this.counts[mark] += 1;
+            this.elsewhere += records[i * RECORD_SIZE + RECORD.ADDRESS];
             this.noteGap(i, records[i * RECORD_SIZE + RECORD.KIND] === SECTOR_KIND.MODE1);
         }
         this.known = known;
@@ -117,6 +120,11 @@ export class SurveyMarks {
     mode1() {
         const { counts } = this;
         return counts[MARK.MODE1] + counts[MARK.ADDRESS] + counts[MARK.PARITY] + counts[MARK.EDC];
+    }
+
+    /** Whether no sector of Mode 1 has the address of its block. */
+    isElsewhere() {
+        return this.mode1() > 0 && this.elsewhere === this.mode1();
     }
 
     damaged() {

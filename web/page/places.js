@@ -50,13 +50,24 @@ export function placeWords({ counts }) {
 }
 
 /**
+ * The base that the addresses say, if by the present one no sector of Mode 1 has the address of its block; else null.
+ * @param {{ base: number, addressed: number | null }} image
+ * @param {SurveyMarks} marks
+ */
+export function otherBase({ base, addressed }, marks) {
+    return marks.isElsewhere() && addressed !== null && addressed >= 0 && addressed !== base ? addressed : null;
+}
+
+/**
  * A guess from the distances, for people.
  * @param {Place} place
+ * @param {boolean} isElsewhere whether no sector has the address of its block
  */
-export function placeGuess(place) {
+export function placeGuess(place, isElsewhere) {
     const { counts, sectors, first, last } = place;
     const count = sectors.length;
     const inRow = count === last - first + 1;
+    if (isElsewhere) return 'another base?';
     if (counts[MARK.ADDRESS] === count) return inRow && count > 1 ? `${count} in a row: spliced by hand? not damage` : 'not damage';
     if (count === 1) return counts[MARK.PARITY] === 1 ? 'a single sector; its user data fit' : 'a single sector';
     if (inRow && count >= 8) return `${count} in a row: perhaps on purpose (copy protection)`;

@@ -4,7 +4,7 @@ import { RESULT } from '../core/records.js';
 import { openDisc } from '../core/disc.js';
 import { readBytes } from '../core/bytes.js';
 import { textOfFile } from '../core/text.js';
-import { askBeforeLeaving, button, countOf, counted, element, fill, icon, keepFocus } from './dom.js';
+import { askBeforeLeaving, button, countOf, counted, element, fill, hashParts, icon, keepFocus } from './dom.js';
 import { downloadText } from './files_out.js';
 import { saveWork } from './patch_job.js';
 import { moreOf } from './player_more.js';
@@ -118,7 +118,7 @@ export class Player {
             if (this.image) await this.judge(this.image);
         } catch (error) {
             if (number !== this.number) return;
-            this.start(isCancelled(error) ? null : notice('bad', sentence(error)));
+            this.start(isCancelled(error) ? null : notice('bad', sentence(error, files.map(file => file.name))));
         }
     }
 
@@ -155,7 +155,7 @@ export class Player {
         if (tone === 'bad') return this.showOther(name, said, image, judged);
         const first = this.step('1', 'done', 'Your disc', name, said, this.reason(judged), this.details(image, judged));
         if (verdict === 'patched') return this.show(first, this.step('2', 'done', 'Patched', 'There is nothing to do.'),
-            this.playStep(image.name, ''));
+            this.playStep(image.name, this.sheetFor(image.name)));
         const patch = button('main big', () => this.patch(image, judged, first), 'Patch and save…');
         this.show(first, this.step('2', 'now', 'Patch it', patch));
         return patch.focus();
@@ -174,7 +174,7 @@ export class Player {
             button('main', () => this.input.click(), 'Choose another image…')));
         const fitting = patches - refused.length;
         const some = button('slim bare', () => this.patch(image, judged, this.step('1', 'done', 'Your disc', name)),
-            `Save with the ${counted(fitting)} changes that fit…`);
+            `Save with the ${countOf(fitting, 'change that fits', 'changes that fit')}…`);
         const details = this.details(image, judged);
         if (fitting > 0) details.append(element('p', { class: 'small' }, some, ' The game may then show both languages, or stop.'));
         this.show(this.step('1', 'now', 'Your disc', name, box, details));
@@ -183,7 +183,8 @@ export class Player {
     /** @param {Judged} judged */
     reason({ verdict, patches }) {
         if (verdict !== 'fits') return null;
-        return element('p', {}, `All ${countOf(patches, 'place')} hold the bytes that the author saw. The rest of the disc differs ` +
+        const all = patches === 1 ? 'The place holds' : `All ${counted(patches)} places hold`;
+        return element('p', {}, `${all} the bytes that the author saw. The rest of the disc differs ` +
             'from the author’s: perhaps its music is shifted, or a sector is damaged.');
     }
 
@@ -193,12 +194,13 @@ export class Player {
      */
     details({ reader }, { sha1, words }) {
         const { image } = this.data;
-        const row = (/** @type {string} */ name, /** @type {string} */ value) => value === '' ? [] : [element('dt', {}, name),
-            element('dd', {}, value)];
+        const row = (/** @type {string} */ name, /** @type {Child[]} */ ...value) => value.length === 0 || value[0] === '' ? []
+            : [element('dt', {}, name), element('dd', {}, ...value)];
         const size = reader.size === image.size ? `${counted(reader.size)} bytes, as expected`
             : `${counted(reader.size)} bytes, the author’s has ${counted(image.size)}`;
-        return element('details', {}, element('summary', {}, 'Details'), element('dl', { class: 'hashes' }, ...row('made for', image.sha1),
-            ...row('your image', sha1), ...row('size', size), ...row('first place', words)));
+        return element('details', {}, element('summary', {}, 'Details'),
+            element('dl', { class: 'hashes' }, ...row('made for', ...hashParts(image.sha1)),
+            ...row('your image', ...hashParts(sha1)), ...row('size', size), ...row('first place', words)));
     }
 
     /**
@@ -254,9 +256,16 @@ export class Player {
         const said = element('p', { class: `verdict ${tone}-ink`, role: 'status', id: 'saved' },
             icon(tone === 'good' ? 'tick' : 'warn'), element('span', {}, head));
         const rest = [same, wait, left].map(text => text && element('p', {}, text));
+        this.show(first, this.step('2', 'done', 'Patched', said, ...rest), this.playStep(name, this.sheetFor(name)));
+    }
+
+    /**
+     * The cue sheet of the open image, or of the author's, with another name in it; '' if there is none.
+     * @param {string} name
+     */
+    sheetFor(name) {
         const { cue, name: own } = this.data;
-        const sheet = sheetNaming(this.sheet, this.image ? this.image.name : '', name) || sheetNaming(cue, own, name);
-        this.show(first, this.step('2', 'done', 'Patched', said, ...rest), this.playStep(name, sheet));
+        return sheetNaming(this.sheet, this.image ? this.image.name : '', name) || sheetNaming(cue, own, name);
     }
 
     /**

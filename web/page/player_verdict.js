@@ -1,7 +1,7 @@
 // What a player's image is to a patcher: the right disc, another dump that the patch fits or does not fit, or patched already.
 
 import { readBytes } from '../core/bytes.js';
-import { dataTrack } from '../core/disc.js';
+import { DiscFault, dataTrack } from '../core/disc.js';
 import { passPatched } from '../core/patch.js';
 import { PATCH_RECORD_SIZE, RESULT, STATUS, freshSize } from '../core/records.js';
 import { sha1Of } from './crew.js';
@@ -51,6 +51,7 @@ export function reasonsOf(patches, refused) {
  * @param {number} size
  */
 export function imageOfSize(disc, size) {
+    if (disc.sheet === null && disc.tracks[0].image === null) throw new DiscFault(`${disc.files[0].name} is music; choose the data track.`);
     const track = disc.tracks.find(it => it.image !== null && it.image.reader.size === size);
     return (track || dataTrack(disc)).image;
 }

@@ -3,7 +3,7 @@
 import { RESULT, VERB, patchFields } from '../core/records.js';
 import { applyPatches } from '../core/patch.js';
 import { sha1Of } from './crew.js';
-import { askBeforeLeaving, button, countOf, element, fill, isDisabled, keepFocus, setDisabled, term } from './dom.js';
+import { askBeforeLeaving, button, countOf, element, fill, hashParts, isDisabled, keepFocus, setDisabled, term } from './dom.js';
 import { download } from './files_out.js';
 import { readPatches } from './patch_job.js';
 import { pageSource } from './parts.js';
@@ -20,9 +20,9 @@ import { showPlayer } from './show_player.js';
 /** @typedef {import('./patcher.js').PatcherData} PatcherData */
 /** @typedef {import('./dom.js').Child} Child */
 /**
- * What is known of a script on the image: how many patches are refused, and how many of them for damage; how many are without old bytes,
- * and how many old bytes there are.
- * @typedef {{ script: string, patches: number, refused: number, damaged: number, without: number, old: number,
+ * What is known of a script on the image: how many patches are refused, the line of the first of them or 0, and how many of them for
+ * damage; how many are without old bytes, and how many old bytes there are.
+ * @typedef {{ script: string, patches: number, refused: number, first: number, damaged: number, without: number, old: number,
  *     result: Blob }} Tried
  */
 
@@ -162,6 +162,10 @@ class PublishPanel {
                 : ['bad', 'The script has no patch yet.'],
             [tried.refused === 0 ? 'good' : 'bad',
                 `tried on this image: ${tried.patches - tried.refused} applied, ${tried.refused} refused`,
+                tried.first > 0 && button('slim bare tiny', () => {
+                    app.showPanel('script');
+                    app.goToLine(tried.first - 1);
+                }, `Go to line ${tried.first}`),
                 tried.damaged > 0 && `, ${tried.damaged} for damage: a patcher does not carry it. Repair the image first.`],
             tried.without === 0 ? ['good', 'each ', mono('set'), ' has its old bytes (', mono('was'), ')']
                 : ['warn', `${countOf(tried.without, 'line')} without `, mono('was'),
@@ -169,7 +173,8 @@ class PublishPanel {
             !read && survey !== null && survey.over ? ['bad', 'The image was not read to its end. Read it again under Disc.']
                 : !read ? ['quiet', 'reading the image…'] : findings === 0 ? ['good', 'the image is sound: 0 findings']
                 : ['warn', `the image has ${countOf(findings, 'finding')}: players with a sound disc have another hash.`],
-            image.sha1 === '' ? ['quiet', 'calculating the SHA-1 of the image…'] : ['good', 'made for SHA-1 ', mono(image.sha1)],
+            image.sha1 === '' ? ['quiet', 'calculating the SHA-1 of the image…']
+                : ['good', 'made for SHA-1 ', element('span', { class: 'mono small' }, ...hashParts(image.sha1))],
             this.title.value.trim() === '' ? ['bad', 'a title is missing'] : ['good', `title: ${this.title.value}`],
             ...nameRow(this.name.value),
             ...oldRow(tried.old),
@@ -261,10 +266,12 @@ async function triedOn(app, image, carry) {
     const file = fileOf(image.reader);
     if (file === null) throw new Error('this image is no file');
     const fields = patches.map(({ bytes }) => patchFields(bytes));
+    const refused = made.outcomes.filter(it => it.result !== RESULT.OK);
     return {
         script,
         patches: patches.length,
-        refused: made.outcomes.filter(it => it.result !== RESULT.OK).length,
+        refused: refused.length,
+        first: refused.reduce((first, { number }) => first === 0 ? number : Math.min(first, number), 0),
         damaged: made.outcomes.filter(it => it.result === RESULT.DAMAGED).length,
         without: fields.filter(({ verb, old }) => (verb === VERB.SET && old === null) || verb === VERB.FILL).length,
         old: fields.reduce((sum, { old }) => sum + (old === null ? 0 : old.length), 0),

@@ -1,10 +1,10 @@
 // The card that replaces a hit: the new text, its length beside that of the old one, and the line that goes into the script.
 
 import { encodeText } from '../core/text.js';
-import { button, counted, countOf, element, fill, hexOf, isDisabled, setDisabled } from './dom.js';
+import { announce, button, counted, countOf, element, fill, hexOf, isDisabled, setDisabled } from './dom.js';
 import { chosenEncoding } from './encodings.js';
 import { visible } from './explain.js';
-import { filledTo, replacingLine } from './hits.js';
+import { filledTo, replacingLine, rewrittenLine } from './hits.js';
 import { messageOf } from './say.js';
 
 /** @typedef {import('./state.js').App} App */
@@ -87,6 +87,9 @@ export class ReplaceCard {
         const filling = this.filling();
         const filled = filling && filledTo(bytes, old.length, filling);
         const ready = filled !== null && fault === '' && this.input.value !== '';
+        const replaces = this.outOf(target, old) !== null;
+        fill(this.add, replaces ? `Replace line ${line}` : 'Add to the script');
+        this.add.classList.toggle('main', line === 0 || replaces);
         fill(this.length, ...this.lengthWords(bytes, old.length, fault));
         this.input.setAttribute('aria-invalid', String(fault !== '' || bytes.length > old.length));
         fill(this.rest, gauge(bytes, old.length, filling), ...this.advice(bytes, old, filled, fault, line));
@@ -128,11 +131,26 @@ export class ReplaceCard {
         if (more > 0) {
             return say(`A patch cannot move bytes: the new text needs as many bytes as the old one, or fewer. Shorten it by ${more}.`);
         }
+        if (this.input.value === '') return [element('p', { class: 'say plain' }, 'Type the new text.')];
         if (filled === null) return say(`${countOf(-more, 'byte')} cannot be filled with that. Choose another byte.`);
-        const known = line > 0 ? `Line ${line} of the script writes here already. A second line would meet other old bytes.` : '';
-        return [element('div', {}, element('span', { class: 'label' }, 'This line goes into the script'),
-            element('p', { class: 'line-out' }, replacingLine(this.target.hit, filled, old))),
-                known !== '' && element('p', { class: 'say warn' }, known)];
+        const out = this.outOf(this.target, filled);
+        const known = line > 0 && out === null ? `Line ${line} of the script writes here already. A second line would meet other old bytes.`
+            : '';
+        return [element('div', {}, element('span', { class: 'label' }, out ? `This line takes the place of line ${line}`
+            : 'This line goes into the script'),
+        element('p', { class: 'line-out' }, out ? out.made : replacingLine(this.target.hit, filled, old))),
+        known !== '' && element('p', { class: 'say warn' }, known)];
+    }
+
+    /**
+     * The line of the script that writes just this hit, and the one that would take its place; null if there is no such line.
+     * @param {Target} target
+     * @param {Uint8Array} fresh
+     */
+    outOf({ hit, line }, fresh) {
+        const written = line > 0 ? this.app.script.text.split('\n')[line - 1] : '';
+        const made = rewrittenLine(written, hit, fresh);
+        return made === '' ? null : { written, made };
     }
 
     /** @param {KeyboardEvent} event */
@@ -147,7 +165,12 @@ export class ReplaceCard {
         const filling = this.filling();
         if (target === null || filling === null || isDisabled(this.add)) return;
         const filled = filledTo(this.fresh().bytes, target.old.length, filling);
-        if (filled !== null) this.owner.add(target.hit, filled, target.old);
+        if (filled === null) return;
+        const out = this.outOf(target, filled);
+        if (out === null) return this.owner.add(target.hit, filled, target.old);
+        this.app.replaceLine(out.written, out.made, 'lines');
+        announce(`Line ${target.line} is replaced.`);
+        this.owner.skip();
     }
 
     addAll() {

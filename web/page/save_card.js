@@ -2,7 +2,7 @@
 
 import { RESULT } from '../core/records.js';
 import { sha1Of, sumsOf } from './crew.js';
-import { askBeforeLeaving, button, countOf, counted, element, fill } from './dom.js';
+import { askBeforeLeaving, button, countOf, counted, element, fill, hashParts } from './dom.js';
 import { downloadText } from './files_out.js';
 import { WorkRefused, saveWork } from './patch_job.js';
 import { jobBar } from './progress.js';
@@ -32,11 +32,15 @@ export class SaveCard {
         this.body = /** @type {Child[]} */ ([]);
         askBeforeLeaving(() => this.leaving);
         this.leaving = false;
+        this.running = false;
         app.takers.push(file => this.isSaved(file));
         this.saved = /** @type {Saved | null} */ (null);
         /** The SHA-1 of what was saved last. */
         this.sum = Promise.resolve('');
         this.checked = element('div', { role: 'status' });
+        this.said = element('div');
+        /** Says that the file is whole. */
+        this.sayWhole = () => {};
     }
 
     shown() {
@@ -45,6 +49,11 @@ export class SaveCard {
 
     parts() {
         return [element('header', {}, element('h2', {}, this.title)), element('div', { class: 'pad stack' }, ...this.body)];
+    }
+
+    /** Makes way for Check, unless an image is being saved. */
+    leave() {
+        if (this.shown() && !this.running) this.close();
     }
 
     close() {
@@ -71,6 +80,7 @@ export class SaveCard {
      */
     async save(image, work) {
         const name = patchedName(image.name);
+        this.running = true;
         try {
             const saved = await this.app.run((signal, cancel) => {
                 const bar = jobBar('Saving', cancel);
@@ -87,6 +97,8 @@ export class SaveCard {
             this.show('Not saved', failureOfSaving(error, work.reader.size),
                 element('div', { class: 'row' }, button('back', () => this.close(), 'Back')));
             return null;
+        } finally {
+            this.running = false;
         }
     }
 
@@ -100,13 +112,16 @@ export class SaveCard {
         this.leaving = !streamed;
         const refused = made.outcomes.filter(it => it.result !== RESULT.OK).length;
         const without = refused === 0 ? '' : `, without ${refused} of ${countOf(made.outcomes.length, 'patch', 'patches')}`;
-        const rest = streamed ? 'All other bytes are as before.' : `It must have ${counted(size)} bytes. Keep this page open until it has.`;
-        const head = streamed ? `${name} is saved${without}.` : `Your browser is saving ${name}${without}.`;
+        const tone = refused === 0 ? 'good' : 'warn';
+        this.sayWhole = () => fill(this.said, notice(tone, `${name} is saved${without}.`, 'All other bytes are as before.'));
+        if (streamed) this.sayWhole();
+        else fill(this.said, notice(tone, `Your browser is saving ${name}${without}.`,
+            `It must have ${counted(size)} bytes. Keep this page open until it has.`));
         const sheet = sheetFor(image, name);
-        fill(this.checked);
-        this.show(streamed ? 'Saved' : 'Saving by your browser', notice(refused === 0 ? 'good' : 'warn', head, rest),
+        fill(this.checked, !streamed && element('p', { class: 'small quiet' }, 'To check what was saved, drop the file on this page.'));
+        this.show(streamed ? 'Saved' : 'Saving by your browser', this.said,
             element('dl', { class: 'hashes' }, element('dt', {}, 'size'), element('dd', {}, counted(size)), ...this.sumsOf(saved)),
-            !streamed && element('p', { class: 'small quiet' }, 'To check what was saved, drop the file on this page.'), this.checked,
+            this.checked,
             element('div', { class: 'row' }, sheet !== '' && button('', () => downloadText(sheet, name.replace(/\.[^.]*$/, '.cue')),
                 'Save a cue sheet…'),
                 (saved.blob || saved.file) && button('', () => this.openNew(saved), 'Open the new image'),
@@ -139,7 +154,7 @@ export class SaveCard {
         });
         this.sum = sums.then(it => it.sha1);
         sums.then(it => {
-            sha1.textContent = it.sha1;
+            fill(sha1, ...hashParts(it.sha1));
             crc32.textContent = it.crc32;
         }, error => {
             sha1.textContent = messageOf(error);
@@ -168,6 +183,11 @@ export class SaveCard {
             element('div', { class: 'row' }, open))
             : notice('bad', `${file.name} is not what it should be.`, wrong || 'Its SHA-1 is another one. Save it again.'));
         this.leaving = this.leaving && !right;
+        if (right) {
+            this.sayWhole();
+            this.title = 'Saved';
+            this.redraw();
+        }
         return true;
     }
 }

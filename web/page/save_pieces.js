@@ -10,7 +10,8 @@ import { blobOfPieces, saveToSink } from './save.js';
 /** @typedef {import('./save.js').Watch} Watch */
 
 /**
- * Saves the pieces of an image. Returns the file's name, and whether it was written to its end; null if the user chose no file.
+ * Saves the pieces of an image. Returns the file's name, whether it was written to its end, and what it has, if the browser reads it
+ * again; null if the user chose no file.
  * @param {Reader[]} readers of the image that slices are of, and of the others that must not be written over
  * @param {Piece[]} pieces
  * @param {string} name that is proposed
@@ -22,7 +23,7 @@ export async function savePieces(readers, pieces, name, watch) {
         const file = fileOf(reader);
         if (file === null) throw new Error('this image is no file');
         download(blobOfPieces(file, pieces), name);
-        return { name, streamed: false };
+        return { name, streamed: false, file: new File([blobOfPieces(file, pieces)], name) };
     }
     const chosen = await chosenFile(name);
     if (chosen === null) return null;
@@ -37,5 +38,5 @@ export async function savePieces(readers, pieces, name, watch) {
         if (before.size === 0 && chosen.remove) await chosen.remove().catch(() => {});
         throw error;
     }
-    return { name: chosen.name, streamed: true };
+    return { name: chosen.name, streamed: true, file: await chosen.getFile().catch(() => null) };
 }

@@ -1,5 +1,6 @@
 // What the page says of files and failures: first what it is, then what to do.
 
+import { MissingFiles } from '../core/disc.js';
 import { button, byId, element, fill } from './dom.js';
 
 /** @typedef {import('./dom.js').Child} Child */
@@ -47,10 +48,14 @@ export function clearNotices() {
  * @param {string} [rest]
  */
 export function showFailure(error, rest = '') {
+    if (error instanceof MissingFiles) return showNotice('bad', TOGETHER, error.names.join(', '));
     const text = messageOf(error);
     const [, first, after] = /^(.*?[.!?])\s+(.*)$/s.exec(text) || ['', text, ''];
-    showNotice('bad', first, [after, rest].filter(it => it !== '').join(' '));
+    return showNotice('bad', first, [after, rest].filter(it => it !== '').join(' '));
 }
+
+/** A page does not see what lies beside a file. */
+const TOGETHER = 'Select or drop the cue sheet and these together:';
 
 /** What browsers say if there is no memory, in this page or in a worker. */
 const NO_MEMORY = /out of memory|allocation failed|grow.*memory|memory.*grow/i;
@@ -61,17 +66,19 @@ const NO_MEMORY = /out of memory|allocation failed|grow.*memory|memory.*grow/i;
  */
 export function messageOf(error) {
     const { message, name } = error instanceof Error ? error : new Error(String(error));
+    if (error instanceof MissingFiles) return `${TOGETHER} ${error.names.join(', ')}`;
     if (name === 'ImageEnded') return 'The file is shorter than it was when it was opened.';
     return NO_MEMORY.test(message) ? 'This browser has not enough memory left. Close other tabs, then try again.' : message;
 }
 
 /**
- * What an error says, as a sentence begins.
+ * What an error says, as a sentence begins, unless that is a name.
  * @param {unknown} error
+ * @param {string[]} [names] of files
  */
-export function sentence(error) {
+export function sentence(error, names = []) {
     const text = messageOf(error);
-    return text.charAt(0).toUpperCase() + text.slice(1);
+    return names.some(name => text.startsWith(name)) ? text : text.charAt(0).toUpperCase() + text.slice(1);
 }
 
 /** @param {unknown} error */

@@ -1,13 +1,17 @@
 // The lines of the script: what each of them has, edits that can be undone, and what Check has said of them.
 
 import { CONTENT, RESULT, patchFields } from '../core/records.js';
+import { placesInScript } from './hits.js';
 
 /** @typedef {import('../core/codes.js').Calls} Calls */
 /** @typedef {import('../core/patch.js').Outcome} Outcome */
+/** @typedef {import('./hits.js').Places} Places */
 /**
- * An edit: from a line on, which lines went and which came, and the script's names before and after it. `typed` joins to the one before
- * it if that was typed in the same line; `saved` says that the text after it is in a file.
- * @typedef {{ at: number, gone: string[], come: string[], names: string[], typed: boolean, saved: boolean }} Edit
+ * An edit: from a line on, which lines went and which came, and the script's names before and after it. One that was typed joins to the
+ * one before it if that was typed in the same line and the same way; `saved` says that the text after it is in a file.
+ * @typedef {{ at: number, gone: string[], come: string[], names: string[], typed: Typed, saved: boolean }} Edit
+ * How an edit was typed: in the line, as bytes of a sector, or not at all.
+ * @typedef {'line' | 'bytes' | ''} Typed
  */
 
 /** More patches than this are a fault of the script. */
@@ -35,6 +39,8 @@ export class ScriptLines {
         this.faults = 0;
         /** @type {Map<number, Outcome>} by the number of the line, from 1 */
         this.outcomes = new Map();
+        /** Where the lines write whose patches were applied; null until somebody asks. */
+        this.written = /** @type {Places | null} */ (null);
         /** @type {Edit[]} */
         this.done = [];
         /** @type {Edit[]} */
@@ -66,7 +72,7 @@ export class ScriptLines {
      * Puts another text in place of this one, as one edit of the lines in which they differ.
      * @param {string} text
      * @param {string} name of its file
-     * @param {boolean} typed as of an edit
+     * @param {Typed} typed as of an edit
      */
     replace(text, name, typed) {
         const [{ lines }, come] = [this, text.split(/\r?\n/)];
@@ -87,7 +93,7 @@ export class ScriptLines {
     /** Takes note that this text is in a file. What is typed later is an edit of its own. */
     noteSaved() {
         const last = this.done[this.done.length - 1];
-        if (last) Object.assign(last, { saved: true, typed: false });
+        if (last) Object.assign(last, { saved: true, typed: '' });
     }
 
     /**
@@ -95,13 +101,13 @@ export class ScriptLines {
      * @param {number} at
      * @param {number} count
      * @param {string[]} come
-     * @param {boolean} [typed] whether it goes on with what was typed in the same line before
+     * @param {Typed} [typed]
      * @param {string} [name] of the script after it
      */
-    edit(at, count, come, typed = false, name = this.name) {
+    edit(at, count, come, typed = '', name = this.name) {
         const gone = this.lines.slice(at, at + count);
         const last = this.done[this.done.length - 1];
-        if (typed && last && last.typed && last.at === at && count === 1 && come.length === 1) last.come = come;
+        if (typed && last && last.typed === typed && last.at === at && count === 1 && come.length === 1) last.come = come;
         else this.done.push({ at, gone, come, names: [this.name, name], typed, saved: false });
         this.undone = [];
         this.name = name;
@@ -187,6 +193,7 @@ export class ScriptLines {
     /** @param {Outcome[]} outcomes of Check */
     setOutcomes(outcomes) {
         this.outcomes = new Map(outcomes.map(outcome => [outcome.number, outcome]));
+        this.written = null;
     }
 
     /**
@@ -197,6 +204,18 @@ export class ScriptLines {
         if (this.contents[i] !== CONTENT.PATCH) return null;
         this.contentOf(this.lines[i]);
         return patchFields(this.calls.patchRead().bytes);
+    }
+
+    /**
+     * The last line before a refused one that has written the byte which differs there, or 0.
+     * @param {Outcome} outcome
+     */
+    writerBefore({ number, block, offset }) {
+        if (this.written === null) {
+            const isApplied = (/** @type {Outcome | undefined} */ it) => it !== undefined && it.result === RESULT.OK;
+            this.written = placesInScript(this.lines.map((line, i) => isApplied(this.outcomes.get(i + 1)) ? line : '').join('\n'));
+        }
+        return this.written.lineAt({ block, offset, size: 1 }, number);
     }
 
     /**

@@ -6,7 +6,7 @@ import { undoScript } from '../core/undo.js';
 import { CheckCard } from './check_card.js';
 import { askBeforeLeaving, button, byId, countOf, counted, element, fill, isDisabled, keepFocus, setDisabled } from './dom.js';
 import { ScriptEditor } from './editor.js';
-import { listenToEditor, turnBack } from './editor_input.js';
+import { listenToEditor, takeBackBytes, turnBack } from './editor_input.js';
 import { explainLine } from './explain.js';
 import { downloadBytes, downloadText } from './files_out.js';
 import { watched } from './patch_job.js';
@@ -67,6 +67,8 @@ class ScriptPanel {
     listen() {
         const { app } = this;
         askBeforeLeaving(() => this.isLost());
+        app.takeBackBytes = () => takeBackBytes(this.editor);
+        app.goToLine = line => this.goTo(line);
         app.on('script', from => {
             if (from !== 'editor') this.load(from);
         });
@@ -90,14 +92,15 @@ class ScriptPanel {
 
     /**
      * Takes the script of the page, which somebody else has changed. What it was is an undo away, which is said of one that is in no file.
-     * @param {string} from 'file', 'made' for a new script, 'lines' for more of this one
+     * @param {string} from 'file', 'made' for a new script, 'lines' for more of this one, 'bytes' for such as are typed in a sector
      */
     load(from) {
         const { lines, app } = this;
         const { name, text } = app.script;
         const old = lines.text();
-        const lost = from !== 'lines' && !lines.isSaved() && old !== NEW_SCRIPT && old !== text;
-        if (text !== old || name !== lines.name) lines.replace(text || NEW_SCRIPT, name, from === 'lines');
+        const isMore = from === 'lines' || from === 'bytes';
+        const lost = !isMore && !lines.isSaved() && old !== NEW_SCRIPT && old !== text;
+        if (text !== old || name !== lines.name) lines.replace(text || NEW_SCRIPT, name, from === 'bytes' ? 'bytes' : '');
         if (from === 'file') lines.noteSaved();
         this.editor.current = Math.min(this.editor.current, lines.lines.length - 1);
         this.share();
@@ -128,8 +131,7 @@ class ScriptPanel {
     }
 
     changed() {
-        this.check.patched = null;
-        this.check.failure = null;
+        this.check.outdate();
         this.showLog(null);
         this.drawHead();
         this.drawSide();
@@ -137,7 +139,7 @@ class ScriptPanel {
     }
 
     drawAll() {
-        this.check.patched = null;
+        this.check.outdate();
         this.showLog(null);
         this.editor.draw();
         this.drawHead();
@@ -160,8 +162,9 @@ class ScriptPanel {
         const count = byId('count-script');
         count.hidden = !fault && lines.patches === 0;
         count.className = `count${fault ? ' bad' : ''}`;
-        fill(count, counted(fault ? lines.faults : lines.patches), fault ? element('span', { class: 'long' }, ' faults') :
-            element('span', { class: 'hide' }, ' patches'));
+        fill(count, counted(fault ? lines.faults : lines.patches), fault
+            ? element('span', { class: 'long' }, lines.faults === 1 ? ' fault' : ' faults')
+            : element('span', { class: 'hide' }, lines.patches === 1 ? ' patch' : ' patches'));
     }
 
     drawSide() {
@@ -186,9 +189,10 @@ class ScriptPanel {
 
     /** @param {number} line */
     helpText(line) {
-        const outcome = this.lines.outcomes.get(line + 1);
-        if (outcome !== undefined && this.app.image) return helpOfRefusal(outcome.result, this.app.image).text;
-        return helpOfFault(this.lines.wordsAt(line), this.lines.lines[line], this.lines.version).text;
+        const { app: { image }, lines } = this;
+        const outcome = lines.outcomes.get(line + 1);
+        if (outcome !== undefined && image) return helpOfRefusal(outcome.result, image, lines.writerBefore(outcome)).text;
+        return helpOfFault(lines.wordsAt(line), lines.lines[line], lines.version).text;
     }
 
     /**
@@ -199,7 +203,7 @@ class ScriptPanel {
         const { lines, app } = this;
         const outcome = lines.outcomes.get(line + 1);
         if (outcome !== undefined && app.image) {
-            const { text, says } = helpOfRefusal(outcome.result, app.image);
+            const { text, says } = helpOfRefusal(outcome.result, app.image, lines.writerBefore(outcome));
             return { text, buttons: says ? [button('slim bare', () => app.goTo(outcome.block, outcome.offset, true), says)] : [] };
         }
         const { text, fix } = helpOfFault(lines.wordsAt(line), lines.lines[line], lines.version);

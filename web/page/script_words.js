@@ -120,9 +120,10 @@ function helpOfOffset(parts) {
  * What to do about a refused patch, and what the button beside it says.
  * @param {number} result
  * @param {{ base: number, sectors: number }} image
+ * @param {number} writer the line before it that has written where old bytes differ, or 0
  * @returns {{ text: string, says: string }}
  */
-export function helpOfRefusal(result, { base, sectors }) {
+export function helpOfRefusal(result, { base, sectors }, writer) {
     const last = base + sectors - 1;
     /** @type {Record<number, [string, string]>} */
     const help = {
@@ -130,7 +131,8 @@ export function helpOfRefusal(result, { base, sectors }) {
             'Open the sector'],
         [RESULT.DAMAGED]: ['Repair the sector first, or tick “Patch damaged sectors too”.', 'Open the sector'],
         [RESULT.NO_BLOCK]: [`This image has the blocks ${base} to ${last}. Another track, or a wrong block?`, ''],
-        [RESULT.DIFFERS]: ['Another release of the game, or a wrong block or offset.', 'Show the place'],
+        [RESULT.DIFFERS]: [writer > 0 ? `Line ${writer} has changed these bytes already.`
+            : 'Another release of the game, or a wrong block or offset.', 'Show the place'],
     };
     const [text, says] = help[result] || ['', ''];
     return { text, says };

@@ -5,15 +5,18 @@ import { blocksIn } from '../core/runs.js';
 import { mergeImages } from '../core/merge.js';
 import { SECTOR_SIZE } from '../core/sector.js';
 import { readBytes } from '../core/bytes.js';
-import { askBeforeLeaving, button, counted, countOf, element, fill, keepFocus, term } from './dom.js';
+import { sha1Of } from './crew.js';
+import { askBeforeLeaving, button, counted, countOf, element, fill, hashParts, keepFocus, term } from './dom.js';
 import { pieceReader } from './piece_reader.js';
 import { jobBar } from './progress.js';
+import { fileReader } from './reading.js';
 import { patchedName } from './save.js';
 import { failureOfSaving } from './save_card.js';
 import { savePieces } from './save_pieces.js';
-import { notice } from './say.js';
+import { messageOf, notice } from './say.js';
 import { repairMarks } from './second_marks.js';
 import { writeScript } from './second_script.js';
+import { readImage } from './survey_image.js';
 import { tableCard, tallyOf } from './tally.js';
 
 /** @typedef {import('./state.js').App} App */
@@ -92,14 +95,16 @@ export class SecondRepair {
             [different, 'sound in both, but different', '']]);
         if (repair.refused) {
             fill(this.body, tally, notice('bad', 'This is no dump of the same disc, or it is shifted.',
-                `${countOf(different, 'sector')} are sound in both and differ: more than one in a hundred. Nothing is taken.`));
+                `${countOf(different, 'sector is sound in both and differs', 'sectors are sound in both and differ')}: ` +
+                'more than one in a hundred. Nothing is taken.'));
             return;
         }
         const save = button('main', () => void this.save(pieces), 'Save repaired image…');
         const script = button('', () => void this.script(pieces), 'Write it as a script');
         const none = taken === 0 ? [notice('plain', 'There is nothing to repair from it.', damaged === 0 ? 'No sector here is damaged.'
             : 'No sector that is damaged here is sound there, with the address of its block.')] : [];
-        const warning = different > 0 ? [notice('warn', `${countOf(different, 'sector')} are sound in both, and differ.`,
+        const warning = different > 0 ? [notice('warn',
+            `${countOf(different, 'sector is sound in both, and differs', 'sectors are sound in both, and differ')}.`,
             'Perhaps it is another release of the disc. They stay as they are here.')] : [];
         const tail = this.tail && notice('warn', 'The bytes after the last sector differ.', 'They stay as they are here.');
         this.place = element('div', { class: 'stack' });
@@ -124,11 +129,32 @@ export class SecondRepair {
                 return savePieces([image.reader, second.reader], pieces, name, { signal, progress });
             });
             this.saving = saved !== null && !saved.streamed;
-            show(saved && savedWords(saved, image.reader.size));
+            show(...saved ? this.savedWords(saved, image.reader.size) : []);
         } catch (error) {
             this.saving = false;
             show(failureOfSaving(error, image.reader.size));
         }
+    }
+
+    /**
+     * @param {{ name: string, streamed: boolean, file: File | null }} saved
+     * @param {number} size
+     * @returns {Child[]}
+     */
+    savedWords({ name, streamed, file }, size) {
+        const { app } = this;
+        const said = streamed ? notice('good', `${name} is saved.`, 'All sectors that were not repaired are as before.')
+            : notice('good', `Your browser is saving ${name}.`, `It must have ${counted(size)} bytes. Keep this page open until it has.`);
+        if (file === null) return [said];
+        const sum = element('dd', { id: 'repaired-sha1' }, '…');
+        const told = (/** @type {number} */ done) => { sum.textContent = `(${Math.floor(100 * done / size)} %)`; };
+        sha1Of(app.parts, fileReader(file), app.pairing.signal, told).then(sha1 => fill(sum, ...hashParts(sha1)),
+            error => { sum.textContent = messageOf(error); });
+        const open = button('', () => {
+            readImage(app, null);
+            app.open([file]);
+        }, 'Open the new image');
+        return [said, element('dl', { class: 'hashes' }, element('dt', {}, 'SHA-1'), sum), element('div', { class: 'row' }, open)];
     }
 
     /** @param {Piece[]} pieces */
@@ -149,7 +175,7 @@ export class SecondRepair {
         }
         const count = blocksIn(damaged);
         const cells = rows.map(({ block, here, there, file }) => element('tr', {},
-            element('td', { class: 'n', 'data-l': 'block' }, button('slim bare tiny', () => this.app.goTo(block), String(block))),
+            element('td', { class: 'n', 'data-l': 'block' }, button('slim bare tiny', () => this.app.goTo(block, -1, true), String(block))),
             element('td', { class: 'mono small', 'data-l': 'here' }, here),
             element('td', { class: 'mono small', 'data-l': 'there' }, there), element('td', { class: 'mono small wide' }, file)));
         const head = element('tr', {}, element('th', { class: 'n' }, term('block', 'Block')), element('th', {}, 'Here'),
@@ -206,13 +232,4 @@ function footOf(same, left) {
     const blocks = same.length === 1 ? `block ${same[0]}` : several;
     return `${more}In ${blocks} both images hold the same bytes: perhaps the damage is on the disc itself, or on purpose. ` +
         'A third dump would show it.';
-}
-
-/**
- * @param {{ name: string, streamed: boolean }} saved
- * @param {number} size
- */
-function savedWords({ name, streamed }, size) {
-    if (streamed) return notice('good', `${name} is saved.`, 'All sectors that were not repaired are as before.');
-    return notice('good', `Your browser is saving ${name}.`, `It must have ${counted(size)} bytes. Keep this page open until it has.`);
 }

@@ -7,9 +7,9 @@ import { announce, byId, counted, element, fill, term } from './dom.js';
 import { bindEncodings, chosenEncoding, encodingLabel } from './encodings.js';
 import { crossingsOf } from './crossings.js';
 import { oneStop } from './groups.js';
-import { HexView, USER_END, placeName } from './hex_view.js';
+import { HexView, USER_END, digitsOf, placeName } from './hex_view.js';
 import { faultOf } from './sector_fault.js';
-import { sectorBytes } from './sector_bytes.js';
+import { secondBytes, sectorBytes } from './sector_bytes.js';
 import { showFailure } from './say.js';
 import { Typing } from './typing.js';
 
@@ -71,7 +71,7 @@ export class SectorCard {
             this.drawFoot();
         });
         app.on('encoding', () => this.draw(false));
-        app.on('script', () => this.draw(false));
+        for (const name of /** @type {const} */ (['script', 'second'])) app.on(name, () => this.draw(false));
         app.on('files', () => this.drawFoot());
         this.close();
     }
@@ -97,16 +97,19 @@ export class SectorCard {
     /**
      * Shows the chosen place.
      * @param {boolean} moved whether it is another one than before
+     * @param {boolean} [wanted] whether it is scrolled to
      */
-    async draw(moved) {
+    async draw(moved, wanted = false) {
         const { app } = this;
         const { image, place } = app;
         if (image === null || place.block < 0) return this.close();
         const number = ++this.number;
         try {
             const { old, fresh } = await sectorBytes(app, image, place.block);
+            const other = await secondBytes(app, image, place.block);
             if (number !== this.number || image !== app.image) return undefined;
-            this.show(old, fresh, moved);
+            this.show(old, fresh, other, moved);
+            if (wanted) this.part.scrollIntoView({ block: 'nearest' });
             this.drawn = number;
             if (this.wantsFocus) this.takeFocus();
         } catch (error) {
@@ -118,9 +121,10 @@ export class SectorCard {
     /**
      * @param {Uint8Array} old
      * @param {Uint8Array} fresh
+     * @param {Uint8Array | null} other that of the second image
      * @param {boolean} moved
      */
-    show(old, fresh, moved) {
+    show(old, fresh, other, moved) {
         const { app } = this;
         const { block, offset } = app.place;
         const kind = app.calls.kind(old);
@@ -134,11 +138,13 @@ export class SectorCard {
         const fields = fieldsOf(kind);
         if (moved) this.drawFields(fields);
         this.view.show({
-            block, old, bytes: fresh, mode1, fields, crossings: new Set(found ? found.crossings : []), encoding: chosenEncoding(app),
+            block, old, bytes: fresh, other, mode1, fields, crossings: new Set(found ? found.crossings : []), encoding: chosenEncoding(app),
             label: encodingLabel(app.encoding), table: app.tables.has(app.encoding),
         });
         if (moved) {
-            this.view.moveTo(offset >= 0 ? USER_OFFSET + offset : found && found.crossings[0] || (mode1 ? USER_OFFSET : 0));
+            const differs = other ? old.findIndex((byte, i) => byte !== other[i]) : -1;
+            const first = differs >= 0 ? differs : found && found.crossings[0] || (mode1 ? USER_OFFSET : 0);
+            this.view.moveTo(offset >= 0 ? USER_OFFSET + offset : first);
             this.view.reveal(this.view.at, true);
         }
         this.drawFoot();
@@ -159,13 +165,15 @@ export class SectorCard {
         const { shown, at } = view;
         if (shown === null || app.image === null) return;
         const byte = shown.bytes[at];
-        const digits = byte.toString(16).toUpperCase().padStart(2, '0');
         const isUser = shown.mode1 && at >= USER_OFFSET && at < USER_END;
-        const typed = this.digit === '' ? `${digits} = ${byte}` : `${this.digit}_`;
+        const typed = this.digit === '' ? `${digitsOf(byte)} = ${byte}` : `${this.digit}_`;
         const parts = [element('b', {}, placeName(shown, at)), isUser && element('span', {}, `byte ${at} of the sector`),
             element('span', { class: 'mono' }, typed), isUser && this.fileAt(at - USER_OFFSET)];
         if (shown.bytes[at] !== shown.old[at]) {
-            parts.push(element('span', { class: 'good-ink' }, `changed by the script, ${hexByte(shown.old[at])} in the file`));
+            parts.push(element('span', { class: 'good-ink' }, `changed by the script, ${digitsOf(shown.old[at])} in the file`));
+        }
+        if (shown.other !== null && shown.other[at] !== shown.old[at]) {
+            parts.push(element('b', {}, `${digitsOf(shown.other[at])} in the second image`));
         }
         const hint = isUser ? `Type to change bytes: each change becomes a line of the script, the file stays as it is.${this.damageHint()}`
             : shown.mode1 ? 'Only user data can be typed over. EDC and parity follow from them.' : 'Only Mode 1 sectors can be changed.';
@@ -206,7 +214,10 @@ export class SectorCard {
      * @param {KeyboardEvent} event
      */
     pressed(at, event) {
-        if (event.key === 'Escape') {
+        if (event.ctrlKey || event.metaKey) {
+            if (event.key.toLowerCase() !== 'z' || event.shiftKey) return;
+            this.takeBack();
+        } else if (event.key === 'Escape') {
             if (this.digit === '') byId('map').focus();
             this.digit = '';
             this.drawFoot();
@@ -235,6 +246,16 @@ export class SectorCard {
         return app.goTo(block);
     }
 
+    /** Takes back the digit or the bytes that were typed last. */
+    takeBack() {
+        const { app, digit, typing } = this;
+        this.digit = '';
+        if (digit !== '') return this.drawFoot();
+        const done = app.takeBackBytes();
+        if (done && typing.block === app.place.block) this.view.moveTo(USER_OFFSET + typing.offset);
+        return announce(done ? 'The bytes that were typed last are taken back.' : 'The last change of the script was not typed here.');
+    }
+
     /**
      * Types one digit of a byte.
      * @param {number} at
@@ -259,9 +280,4 @@ export class SectorCard {
         shown.bytes[at] = byte;
         this.view.moveTo(Math.min(at + 1, USER_END - 1));
     }
-}
-
-/** @param {number} byte */
-function hexByte(byte) {
-    return byte.toString(16).toUpperCase().padStart(2, '0');
 }

@@ -71,6 +71,10 @@ export class App {
         this.pairing = new AbortController();
         /** @type {(files: File[]) => Promise<void>} opens files, as if they were dropped; open.js sets it */
         this.open = async () => {};
+        /** @type {() => boolean} takes back the bytes that were typed last in a sector, if it can; the panel Script sets it */
+        this.takeBackBytes = () => false;
+        /** @type {(line: number) => void} goes to a line of the script, from 0, whose panel is shown; the panel Script sets it */
+        this.goToLine = () => {};
         /** @type {((file: File) => Promise<boolean>)[]} asked of each file that is opened; true if the asked one has taken it */
         this.takers = [];
     }
@@ -147,24 +151,26 @@ export class App {
     /**
      * Adds lines at the end of the script, after a head line if it has no text yet.
      * @param {string[]} lines
+     * @param {'lines' | 'bytes'} [from] bytes of a sector if they are typed
      */
-    addLines(lines) {
+    addLines(lines, from = 'lines') {
         const { text } = this.script;
         const before = text.trim() === '' ? 'cdpatch 1\n' : text.endsWith('\n') ? text : `${text}\n`;
-        this.setScript(`${before}${lines.join('\n')}\n`, this.script.name, 'lines');
+        this.setScript(`${before}${lines.join('\n')}\n`, this.script.name, from);
     }
 
     /**
      * Puts a line in place of another one, the last one of that text, or adds it if there is none.
      * @param {string} old
      * @param {string} line
+     * @param {'lines' | 'bytes'} from as of addLines
      */
-    replaceLine(old, line) {
+    replaceLine(old, line, from) {
         const lines = this.script.text.split('\n');
         const at = lines.lastIndexOf(old);
-        if (at < 0) return this.addLines([line]);
+        if (at < 0) return this.addLines([line], from);
         lines[at] = line;
-        return this.setScript(lines.join('\n'), this.script.name, 'lines');
+        return this.setScript(lines.join('\n'), this.script.name, from);
     }
 
     /**

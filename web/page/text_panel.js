@@ -1,12 +1,10 @@
 // The panel Text: find, the hits, and replacing them in the script.
 
-import { joinFound, sectorsBeyond } from '../core/find.js';
-import { tableOf } from '../core/text.js';
 import { AroundCard } from './around_card.js';
 import { announce, button, countOf, element, fill, hexOf, term } from './dom.js';
-import { bindEncodings, chosenEncoding, encodingLabel } from './encodings.js';
+import { bindEncodings, chosenEncoding, encodingLabel, takeTable } from './encodings.js';
 import { HitsCard } from './hits_card.js';
-import { filledTo, linesForAll, linesReplacing, placesInScript, userAround } from './hits.js';
+import { filledTo, findHits, linesForAll, linesReplacing, placesInScript, userAround } from './hits.js';
 import { jobBar } from './progress.js';
 import { ReplaceCard } from './replace_card.js';
 import { isCancelled, messageOf, notice, sentence } from './say.js';
@@ -14,11 +12,9 @@ import { isCancelled, messageOf, notice, sentence } from './say.js';
 /** @typedef {import('./state.js').App} App */
 /** @typedef {import('./state.js').Image} Image */
 /** @typedef {import('../core/find.js').Hit} Hit */
-/** @typedef {import('../core/find.js').Found} Found */
 /** @typedef {import('./hits_card.js').Search} Search */
-
-/** So many hits are kept: as many as a script has lines for. */
-const MOST_HITS = 65535;
+/** @typedef {import('./hits.js').Places} Places */
+/** @typedef {import('../core/text.js').Encoding} Encoding */
 
 /** The panel. */
 class TextPanel {
@@ -32,9 +28,10 @@ class TextPanel {
         this.chosen = -1;
         this.number = 0;
         this.adding = false;
+        this.searching = false;
         /** @type {HTMLInputElement} */
         this.field = element('input', { type: 'text', id: 'find-text', autocomplete: 'off', spellcheck: 'false',
-            input: () => this.drawHint(),
+            input: () => this.drawAsked(),
             keydown: event => {
                 if (event.key === 'Enter' && !event.isComposing) this.find();
             } });
@@ -60,12 +57,12 @@ class TextPanel {
         const { app } = this;
         app.on('image', () => this.forget());
         app.on('encoding', () => {
-            this.drawHint();
+            this.drawAsked();
             this.replace.draw();
             this.hits.contexts.clear();
             this.drawHits();
         });
-        for (const name of /** @type {const} */ (['script', 'files'])) app.on(name, () => this.drawHits());
+        for (const name of /** @type {const} */ (['script', 'files', 'panel'])) app.on(name, () => this.drawHits());
     }
 
     askCard() {
@@ -92,6 +89,21 @@ class TextPanel {
         }
     }
 
+    /** Shows the hits only as long as they are those of the text and the encoding that are asked for. */
+    drawAsked() {
+        this.drawHint();
+        if (!this.searching && !this.adding) fill(this.state);
+        this.results.hidden = this.found === null || !this.isAsked(this.found);
+    }
+
+    /**
+     * Whether a search was for the text and in the encoding that are asked for. Hits of bytes can be read in any encoding.
+     * @param {{ text: string, encoding: Encoding }} search
+     */
+    isAsked({ text, encoding }) {
+        return this.field.value === text && (encoding.name === 'hex' || encoding === chosenEncoding(this.app));
+    }
+
     forget() {
         this.found = null;
         this.results.hidden = true;
@@ -102,46 +114,30 @@ class TextPanel {
     async find() {
         const { app } = this;
         const { image } = app;
-        const text = this.field.value;
-        if (text === '') return this.field.focus();
+        const asked = { text: this.field.value, encoding: chosenEncoding(app) };
+        if (asked.text === '') return this.field.focus();
         if (image === null) return fill(this.state, notice('warn', 'No image is open.', 'Open the disc image first.'));
         if (this.field.getAttribute('aria-invalid') === 'true') return this.field.focus();
         this.forget();
         const number = ++this.number;
+        this.searching = true;
         try {
             await app.run(async (signal, cancel) => {
                 const bar = jobBar('Searching', cancel);
                 fill(this.state, element('section', { class: 'card pad stack', 'aria-label': 'Searching' }, ...bar.parts));
                 const began = performance.now();
-                const found = await this.search(image, text, { signal, progress: bar.sectors });
-                if (app.image === image && number === this.number) await this.take({ text, count: found.count, hits: found.hits,
+                const found = await findHits(app, image, asked, { signal, progress: bar.sectors });
+                if (app.image === image && number === this.number) await this.take({ ...asked, count: found.count, hits: found.hits,
                     seconds: (performance.now() - began) / 1000 }, image);
             });
         } catch (error) {
             if (number !== this.number) return undefined;
             fill(this.state, isCancelled(error) ? notice('plain', 'Cancelled.', 'The search has not come to its end.')
                 : notice('bad', messageOf(error)));
+        } finally {
+            if (number === this.number) this.searching = false;
         }
         return undefined;
-    }
-
-    /**
-     * @param {Image} image
-     * @param {string} text
-     * @param {{ signal: AbortSignal, progress: (done: number, all: number) => void }} watch
-     * @returns {Promise<Found>}
-     */
-    async search({ reader, base }, text, watch) {
-        const wanted = chosenEncoding(this.app).units(text);
-        /** @type {Found[]} */
-        const parts = [];
-        let kept = 0;
-        await this.app.crew.share('find', [reader], { wanted, limit: MOST_HITS }, { base, beyond: sectorsBeyond(wanted), ...watch },
-            answer => {
-            parts.push({ ...answer, hits: kept < MOST_HITS ? answer.hits : [] });
-            kept += answer.hits.length;
-        });
-        return joinFound(parts, MOST_HITS);
     }
 
     /**
@@ -151,11 +147,13 @@ class TextPanel {
     async take(found, image) {
         const { app } = this;
         fill(this.state);
+        if (!this.isAsked(found)) return;
         if (found.count === 0) {
             fill(this.state, notice('plain', `No hit in ${encodingLabel(app.encoding)}.`,
                 `The user data of ${countOf(image.sectors, 'sector')} were searched to the end. `,
                 'Another encoding? A game may also have its own table, or packed texts.'));
-            return announce('No hit.');
+            announce('No hit.');
+            return;
         }
         this.found = found;
         this.results.hidden = false;
@@ -163,13 +161,26 @@ class TextPanel {
         announce(countOf(found.count, 'hit'));
         this.chosen = -1;
         await this.next();
-        return this.replace.input.focus();
+        this.replace.input.focus();
     }
 
     /** Draws the hits again, for the script or the files have changed. */
     drawHits() {
-        if (this.found === null) return;
-        this.hits.draw(placesInScript(this.app.script.text));
+        if (this.found === null || this.app.panel !== 'text') return;
+        const places = placesInScript(this.app.script.text);
+        this.hits.draw(places);
+        const { target } = this.replace;
+        if (target !== null) this.replace.show({ ...target, ...this.writtenOf(target.hit, this.found, places) });
+    }
+
+    /**
+     * What the script writes of the hits: how many it leaves, and the line that writes one of them, or 0.
+     * @param {Hit} hit
+     * @param {Search} found
+     * @param {Places} places
+     */
+    writtenOf(hit, { hits }, places) {
+        return { left: hits.filter(it => places.lineAt(it) === 0).length, line: places.lineAt(hit) };
     }
 
     /**
@@ -187,9 +198,8 @@ class TextPanel {
         if (this.found !== found || this.chosen !== index) return;
         const places = placesInScript(app.script.text);
         this.hits.draw(places);
-        const left = found.hits.filter(it => places.lineAt(it) === 0).length;
-        const line = places.lineAt(hit);
-        this.replace.show({ hit, number: index + 1, of: found.count, old: around.user.slice(around.at, around.at + hit.size), left, line });
+        const old = around.user.slice(around.at, around.at + hit.size);
+        this.replace.show({ hit, number: index + 1, of: found.count, old, ...this.writtenOf(hit, found, places) });
         this.around.show(hit, around);
     }
 
@@ -264,28 +274,15 @@ class TextPanel {
     async load() {
         const file = (this.table.files || [])[0];
         this.table.value = '';
-        if (file) await this.takeTable(file);
+        if (file) fill(this.state, await takeTable(this.app, file));
     }
 
     /** @param {File} file */
     async isTable(file) {
         if (!/\.tbl$/i.test(file.name)) return false;
         this.app.showPanel('text');
-        await this.takeTable(file);
+        fill(this.state, await takeTable(this.app, file));
         return true;
-    }
-
-    /** @param {File} file */
-    async takeTable(file) {
-        const { app } = this;
-        try {
-            app.tables.set(file.name, tableOf(new Uint8Array(await file.arrayBuffer())));
-            app.encoding = file.name;
-            app.emit('encoding');
-            fill(this.state, notice('good', `${file.name} is loaded.`, 'It is the encoding now, here and where bytes are shown as text.'));
-        } catch (error) {
-            fill(this.state, notice('bad', `${file.name} is no table that can be read.`, messageOf(error)));
-        }
     }
 }
 

@@ -42,8 +42,8 @@ export class Typing {
         const at = goesOn ? place : 0;
         if (at === this.fresh.length) this.old.push(before);
         this.fresh[at] = byte;
-        if (goesOn) this.app.replaceLine(last, this.line());
-        else this.app.addLines([this.line()]);
+        if (goesOn) this.app.replaceLine(last, this.line(), 'bytes');
+        else this.app.addLines([this.line()], 'bytes');
         return this.line();
     }
 }

@@ -3,6 +3,7 @@
 import { RECORD, RECORD_SIZE, SECTOR_KIND } from '../core/records.js';
 import { addressText } from '../core/sector.js';
 import { auditText } from '../core/survey.js';
+import { counted } from './dom.js';
 import { MARK } from './marks.js';
 
 /** @typedef {import('../core/codes.js').Calls} Calls */
@@ -53,4 +54,12 @@ export function sectorWords(app, survey, sector) {
 export function addressOf({ calls }, block) {
     const address = calls.address(block);
     return address === null ? '' : addressText(address);
+}
+
+/**
+ * All sectors of Mode 1, of which there are so many.
+ * @param {number} count
+ */
+export function modeOneSectors(count) {
+    return count === 1 ? 'the Mode 1 sector' : `all ${counted(count)} Mode 1 sectors`;
 }
