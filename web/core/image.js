@@ -25,7 +25,10 @@ const NATURES = {
         'an image of 2448 bytes a sector, with subchannels',
         'Read the disc again without subchannels, or take the last 96 bytes off each sector.',
     ],
-    iso: ['an ISO image, 2048 bytes a sector', 'Make a raw image of it with cdscript raw, patch that, and make an ISO image of its user data.'],
+    iso: [
+        'an ISO image, 2048 bytes a sector',
+        'Make a raw image of it with cdscript raw, patch that, and make an ISO image of its user data.',
+    ],
     chd: ['a CHD file', 'Unpack it with `chdman extractcd`, which writes a cue sheet and an image.'],
     ecm: ['an ECM file', 'Unpack it with `unecm`, which writes the raw image.'],
     archive: ['an archive', 'Unpack it, and choose the cue sheet or the raw image in it.'],

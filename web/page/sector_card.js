@@ -3,6 +3,7 @@
 import { filesAt } from '../core/iso.js';
 import { SECTOR_KIND } from '../core/records.js';
 import { SECTOR_SIZE, USER_OFFSET, USER_SIZE } from '../core/sector.js';
+import { isSound } from '../core/survey.js';
 import { announce, byId, counted, element, fill, term } from './dom.js';
 import { bindEncodings, chosenEncoding, encodingLabel } from './encodings.js';
 import { crossingsOf } from './crossings.js';
@@ -183,7 +184,7 @@ export class SectorCard {
     /** What becomes of bytes that are typed in a damaged sector. */
     damageHint() {
         const { shown } = this.view;
-        return shown === null || this.app.calls.isConsistent(shown.old) ? '' : ' This sector is damaged: Check refuses the change, ' +
+        return shown === null || isSound(this.app.calls.survey(shown.old, 0), 0) ? '' : ' This sector is damaged: Check refuses the change, ' +
             'unless damaged sectors are patched too (carry), or a rebuild in the script comes before it.';
     }
 
