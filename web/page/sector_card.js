@@ -184,8 +184,9 @@ export class SectorCard {
     /** What becomes of bytes that are typed in a damaged sector. */
     damageHint() {
         const { shown } = this.view;
-        return shown === null || isSound(this.app.calls.survey(shown.old, 0), 0) ? '' : ' This sector is damaged: Check refuses the change, ' +
-            'unless damaged sectors are patched too (carry), or a rebuild in the script comes before it.';
+        if (shown === null || isSound(this.app.calls.survey(shown.old, 0), 0)) return '';
+        return ' This sector is damaged: Check refuses the change, unless damaged sectors are patched too (carry), or a rebuild in ' +
+            'the script comes before it.';
     }
 
     /** @param {number} offset */
