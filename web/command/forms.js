@@ -43,20 +43,20 @@ export const FORMS = {
             'no findings, 1 findings, 2 failed',
     },
     'list': {
-        job: listJob, takes: ['IMAGE'], options: ['base'], says: "List the kinds of an image's sectors",
+        job: listJob, takes: ['IMAGE'], options: ['track', 'base'], says: "List the kinds of an image's sectors",
         does: 'As cdpatch list.',
     },
     'audit': {
-        job: auditJob, takes: ['IMAGE'], options: ['base'], says: "Report what is wrong with an image's sectors",
+        job: auditJob, takes: ['IMAGE'], options: ['track', 'base'], says: "Report what is wrong with an image's sectors",
         does: 'As cdpatch audit. Status: 0 no findings, 1 findings, 2 failed',
     },
     'check': {
-        job: checkJob, takes: ['IMAGE', 'SCRIPT'], options: ['base', 'carry', 'long'],
+        job: checkJob, takes: ['IMAGE', 'SCRIPT'], options: ['track', 'base', 'carry', 'long'],
         says: "Report what a script's patches would do to an image",
         does: 'As cdpatch check. Status: 0 all accepted, 1 some refused, 2 failed',
     },
     'apply': {
-        job: applyJob, takes: ['IMAGE', 'SCRIPT', 'OUT'], options: ['base', 'carry', 'long'],
+        job: applyJob, takes: ['IMAGE', 'SCRIPT', 'OUT'], options: ['track', 'base', 'carry', 'long'],
         says: 'Apply a script to an image, into a new file',
         does: 'As cdpatch apply. Status: 0 all applied, 1 some refused, 2 failed',
     },

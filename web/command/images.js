@@ -41,9 +41,9 @@ function repairLines({ taken, damaged, disputed, different }, others) {
 export async function mergeJob(run) {
     const [name, ...more] = run.names;
     const out = await run.files.make(more.pop() || '');
-    const { image } = await openTrack(run, name);
+    const { image } = await openTrack(run, name, true);
     const others = [];
-    for (const other of more) others.push((await openTrack(run, other)).image);
+    for (const other of more) others.push((await openTrack(run, other, true)).image);
     const repair = await mergeImages(run.crew, image, others, {}, piece => out.writePiece(image.reader, piece));
     if (repair.refused) {
         const i = repair.different.indexOf(Math.max(...repair.different));

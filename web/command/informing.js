@@ -13,6 +13,8 @@ import { openDiscOf, openTrack } from './opening.js';
 /** @typedef {import('../core/disc.js').DiscImage} DiscImage */
 /** @typedef {import('../core/disc.js').DiscTrack} DiscTrack */
 /** @typedef {import('./run.js').Run} Run */
+/** @typedef {{ number: number, file: number, image: DiscImage, isWhole: boolean }} Surveyed a track; whether `image` is all of its file */
+/** @typedef {{ found: boolean, lines: string[] }} Found whether something is wrong, and what is printed */
 
 /** So many bytes are hashed at a time. */
 const HASHED = 1 << 22;
@@ -57,6 +59,7 @@ function trackText(disc, { number, type, file, block, sectors, part }) {
  * @param {Run} run
  * @param {DiscImage} image
  * @param {Reader} reader of the image
+ * @returns {Promise<Found>}
  */
 async function surveyLines(run, image, reader) {
     const survey = await run.survey(reader, image.base);
@@ -67,22 +70,49 @@ async function surveyLines(run, image, reader) {
 }
 
 /**
+ * The tracks of a disc that are surveyed, and what of each: the whole image that it lies in. But if the addresses of several tracks in
+ * one file count from different blocks, each track is surveyed by itself.
+ * @param {Run} run
+ * @param {Disc} disc
+ * @returns {Promise<Surveyed[]>}
+ */
+async function surveyedTracks(run, disc) {
+    const tracks = disc.tracks.filter(({ image }) => image !== null);
+    const { track: number, base } = run.options;
+    if (tracks.length < 2 || number !== undefined || base !== undefined) {
+        if (tracks.length === 0) return [];
+        const { track, image } = await openTrack(run, run.names[0], true);
+        return [{ number: track.number, file: track.file, image, isWhole: true }];
+    }
+    return tracks.flatMap(({ number: own, file, image, part }, i) => {
+        const others = tracks.filter(it => it.file === file);
+        const isWhole = others.every(it => it.image?.base === image?.base);
+        const isLater = isWhole && tracks.findIndex(it => it.file === file) < i;
+        return isLater ? [] : [{ number: own, file, image: /** @type {DiscImage} */ (isWhole ? image : part), isWhole }];
+    });
+}
+
+/**
  * The lines of a disc, and whether something is wrong with it.
  * @param {Run} run
+ * @returns {Promise<Found>}
  */
 async function discLines(run) {
     const disc = await openDiscOf(run, run.names[0]);
     const tracks = disc.tracks.map(track => trackText(disc, track));
-    const hasData = disc.tracks.some(({ image }) => image !== null);
-    const opened = hasData ? await openTrack(run, run.names[0]) : null;
-    const files = [];
-    let [found, lines] = [false, /** @type {string[]} */ ([])];
-    for (const file of disc.files) {
-        const reader = hashing(file.reader);
-        if (opened && opened.track.file === disc.files.indexOf(file)) ({ found, lines } = await surveyLines(run, opened.image, reader));
-        files.push(`file ${file.name} bytes ${file.reader.size} sha1 ${await reader.digest()}`);
+    const surveyed = await surveyedTracks(run, disc);
+    const [files, lines] = [/** @type {string[]} */ ([]), /** @type {string[]} */ ([])];
+    let anyFound = false;
+    for (const [i, file] of disc.files.entries()) {
+        const hashed = hashing(file.reader);
+        for (const { number, image, isWhole } of surveyed.filter(it => it.file === i)) {
+            const { found, lines: own } = await surveyLines(run, image, isWhole ? hashed : image.reader);
+            lines.push(...surveyed.length > 1 ? [`track ${number} ${own[0]}`, ...own.slice(1)] : own);
+            anyFound = anyFound || found;
+        }
+        files.push(`file ${file.name} bytes ${file.reader.size} sha1 ${await hashed.digest()}`);
     }
-    return { found, lines: [...files, ...tracks, ...lines] };
+    return { found: anyFound, lines: [...files, ...tracks, ...lines] };
 }
 
 /** @param {Run} run */

@@ -55,15 +55,32 @@ function shifted(image, shift) {
 }
 
 /**
+ * Says which other tracks of data there are, if no track was asked for.
+ * @param {Run} run
+ * @param {Disc} disc
+ * @param {{ number: number, file: number }} track the one that is looked at
+ * @param {boolean} whole whether the others in its file are looked at too
+ */
+function sayOtherTracks(run, { tracks }, track, whole) {
+    const others = tracks.filter(it => it.image !== null && it.number !== track.number && !(whole && it.file === track.file));
+    const numbers = others.map(({ number }) => number);
+    if (run.options.track !== undefined || numbers.length === 0) return;
+    const [which, seen] = numbers.length === 1 ? ['track', 'has data too and was'] : ['tracks', 'have data too and were'];
+    run.sayOnce(`${which} ${numbers.join(', ')} ${seen} not looked at: --track ${numbers[0]}`);
+}
+
+/**
  * The data track that a job means, its part of an image, and that whole image, which scripts are for. The base is that of `--base`, or
  * else what the addresses of the sectors say.
  * @param {Run} run
  * @param {string} name
+ * @param {boolean} [whole] whether the job looks at the whole image, not only at the track
  */
-export async function openTrack(run, name) {
+export async function openTrack(run, name, whole = false) {
     const { base, track: number = null } = run.options;
     const disc = await openDiscOf(run, name);
     const { image, part, ...track } = dataTrack(disc, number);
+    sayOtherTracks(run, disc, track, whole);
     if (base !== undefined) {
         const shift = base - image.base;
         return { disc, track, image: shifted(image, shift), part: shifted(part, shift) };

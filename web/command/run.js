@@ -35,6 +35,8 @@ export class Run {
         this.options = options;
         this.files = files;
         this.messages = messages;
+        /** @type {Set<string>} */
+        this.said = new Set();
         this.output = new Output(streams.output, () => messages.hideProgress());
         this.calls = new Calls(compiledModule());
         this.crew = new Threads(compiledModule(), this.calls, (done, all) => messages.progress(done, all));
@@ -47,6 +49,15 @@ export class Run {
     say(line) {
         this.output.flush();
         this.messages.say(line);
+    }
+
+    /**
+     * Says something that may be true of several images, but only once.
+     * @param {string} line
+     */
+    sayOnce(line) {
+        if (!this.said.has(line)) this.say(line);
+        this.said.add(line);
     }
 
     /**

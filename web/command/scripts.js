@@ -41,7 +41,7 @@ export async function diffJob(run) {
     const { skipDamaged = false, track = null } = run.options;
     const [oldName, newName] = run.names;
     const target = await run.target();
-    const { image } = await openTrack(run, oldName);
+    const { image } = await openTrack(run, oldName, true);
     const fresh = dataTrack(await openDiscOf(run, newName), track).image;
     if (run.options.fields) return differingFields(run, target, image, fresh);
     const made = await compareImages(run.calls, run.crew, image.reader, fresh.reader, { base: image.base, skipDamaged });
@@ -55,7 +55,7 @@ export async function diffJob(run) {
 /** @param {Run} run */
 export async function rebuildsJob(run) {
     const target = await run.target();
-    const { image } = await openTrack(run, run.names[0]);
+    const { image } = await openTrack(run, run.names[0], true);
     const { block, records } = await run.survey(image.reader, image.base);
     const [script, lines] = [new ScriptParts(), new LineList()];
     for (let at = 0; at < records.length; at += RECORD_SIZE) {
@@ -75,7 +75,7 @@ function refusalText({ reason, text }) {
 export async function undoJob(run) {
     const { carry = false, long = false } = run.options;
     const target = await run.target();
-    const { image } = await openTrack(run, run.names[0]);
+    const { image } = await openTrack(run, run.names[0], true);
     const made = await undoScript(run.calls, image.reader, run.files.piecesOf(run.names[1]), { base: image.base, carry, long });
     if (made instanceof Refusal) throw new Fault(refusalText(made));
     const refused = made.patched.outcomes.filter(({ result }) => result !== 0).length;

@@ -64,17 +64,17 @@ function assertSectors(file, natures) {
 }
 
 /**
- * The data track that a job means: the one of a number, or the first.
+ * The data track that a job means: the one of a number, or the first. An image without a cue sheet is the track of any number.
  * @param {Disc} disc
  * @param {number | null} [number]
  * @returns {DiscTrack & { image: DiscImage, part: DiscImage }}
  */
-export function dataTrack({ tracks }, number = null) {
-    const named = number === null ? tracks : tracks.filter(track => track.number === number);
-    if (named.length === 0) throw new DiscFault(`The disc has no track ${number}. It has ${tracks.map(it => it.number).join(', ')}.`);
+export function dataTrack({ sheet, tracks }, number = null) {
+    const named = number === null || sheet === null ? tracks : tracks.filter(track => track.number === number);
+    if (named.length === 0) throw new DiscFault(`${sheet} has no track ${number}. It has ${tracks.map(it => it.number).join(', ')}.`);
     const track = named.find(it => it.image !== null);
     if (track && track.image && track.part) return { ...track, image: track.image, part: track.part };
-    const which = number === null ? 'The disc has no track' : `Track ${number} is no track`;
+    const which = number === null || sheet === null ? 'The disc has no track' : `Track ${number} is no track`;
     throw new DiscFault(`${which} of data with 2352 bytes a sector. Choose one that is.`);
 }
 
