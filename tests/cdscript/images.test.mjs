@@ -119,6 +119,21 @@ test('a repair takes sound sectors only, of the first image that has one', () =>
     sameFile(read(room, 'whole'), withTail(good), 'the repaired image');
 }));
 
+test('a repair takes what the EDC of the damaged sector fits, and names what it fits nowhere', () => inDirectory(async room => {
+    const good = imageOf(room, 300);
+    write(room, { good, old: damaged(good, 0, [17, 500], [20, 16]), edit: 'cdpatch 1\nset 17 0 4142\nfill 33 0 3 44\nset 35 0 45\n' });
+    tool(program, ['apply', 'good', 'edit', 'door.bin'], { cwd: room });
+    const both = await run(['merge', 'old', 'door.bin', 'good', 'one'], { cwd: room });
+    assert.deepEqual([both.status, both.errors], [0, '']);
+    assert.equal(both.out, ['17-17 from good', '20-20 from door.bin', '17-17 sound in several, but different there',
+        '33-33 sound in door.bin too, but different there', '35-35 sound in door.bin too, but different there',
+        'taken 2 damaged 0 disputed 1 different 2', ''].join('\n'));
+    sameFile(read(room, 'one'), good, 'the repaired image');
+    const other = await run(['merge', 'old', 'door.bin', 'two'], { cwd: room });
+    assert.deepEqual([other.status, other.errors],
+        [1, "cdscript: block 17: taken from door.bin, but OLD's EDC is another: perhaps another version\n"]);
+}));
+
 test('a repair of many places names the first of them', () => inDirectory(async room => {
     const good = imageOf(room, 2500);
     const odd = Array.from({ length: 1200 }, (_, i) => [2 * i + 1, 100 + i]);

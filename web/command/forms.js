@@ -103,7 +103,7 @@ export const FORMS = {
         job: mergeJob, takes: ['OLD', 'OTHER..', 'OUT'], options: ['track', 'base'],
         says: 'Repair an image by other dumps of the same disc',
         does: 'OUT is OLD with sound sectors of the OTHERs for those that are damaged in OLD. Status: 0 all is sound, 1 some sectors ' +
-            'are damaged in all, 2 failed',
+            'are damaged in all, or taken though their EDC is another in OLD, 2 failed',
     },
     'rebuilds': {
         job: rebuildsJob, takes: ['IMAGE'], options: ['track', 'base', 'output'],
