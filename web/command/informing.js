@@ -6,6 +6,7 @@ import { natureOf } from '../core/image.js';
 import { SECTOR_SIZE } from '../core/sector.js';
 import { listText, surveyCounts } from '../core/survey.js';
 import { openDiscOf, openTrack } from './opening.js';
+import { visible } from './words.js';
 
 /** @typedef {import('../core/bytes.js').Reader} Reader */
 /** @typedef {import('../core/disc.js').Disc} Disc */
@@ -65,7 +66,7 @@ async function surveyLines(run, image, reader) {
     const survey = await run.survey(reader, image.base);
     const { mode1, damaged, elsewhere } = surveyCounts(survey);
     const list = new TextDecoder().decode(listText(survey, reader.size % SECTOR_SIZE).text).trimEnd();
-    const lines = [`base ${image.base}`, list, `mode1 ${mode1} damaged ${damaged} address ${elsewhere}`];
+    const lines = [`base ${image.base}`, ...list.split('\n'), `mode1 ${mode1} damaged ${damaged} address ${elsewhere}`];
     return { found: damaged + elsewhere > 0, lines };
 }
 
@@ -121,6 +122,6 @@ export async function infoJob(run) {
     const { kind, what, advice } = await natureOf(run.calls, reader);
     const isDisc = kind === 'raw' || kind === 'audio' || kind === 'cue';
     const { found, lines } = isDisc ? await discLines(run) : { found: true, lines: advice === '' ? [] : [advice] };
-    await run.output.write(bytesOfLines([`${run.names[0]}: ${what}`, ...lines]));
+    await run.output.write(bytesOfLines([`${run.names[0]}: ${what}`, ...lines].map(visible)));
     return Number(found || kind === 'audio');
 }

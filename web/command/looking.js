@@ -8,7 +8,7 @@ import { FIELDS, SECTOR_SIZE, USER_SIZE, addressIn, addressText, joinedUser } fr
 import { placeOf } from './numbers.js';
 import { openTrack } from './opening.js';
 import { encodingsOf, hitsOf } from './searching.js';
-import { hexByte } from './words.js';
+import { hexByte, visible } from './words.js';
 
 /** @typedef {import('../core/disc.js').DiscImage} DiscImage */
 /** @typedef {import('../core/edit.js').Place} Place */
@@ -46,8 +46,8 @@ export async function userBytes({ reader, base, sectors }, { block, offset }, si
  */
 export async function fileNamed(part, path) {
     const { files } = await filesOf(part.reader, part.base);
-    const wanted = `/${path}`.replace(/^\/+/, '/');
-    const named = files.filter(file => `/${file.path}`.replace(/^\/+/, '/') === wanted);
+    const rooted = (/** @type {string} */ name) => `/${name}`.replace(/^\/+/, '/');
+    const named = files.filter(file => [file.path, visible(file.path)].map(rooted).includes(rooted(path)));
     if (named.length === 1) return named[0];
     throw new Fault(named.length === 0 ? `there is no file ${path}; cdscript files lists them` : `${path} has ${named.length} parts`);
 }
@@ -57,7 +57,7 @@ export async function filesJob(run) {
     const target = await run.target();
     const { part } = await openTrack(run, run.names[0]);
     const { files, faults } = await filesOf(part.reader, part.base);
-    const lines = files.map(({ block, size, path, fault }) => [block, size, path, ...fault === '' ? [] : [fault]].join('\t'));
+    const lines = files.map(({ block, size, path, fault }) => [block, size, visible(path), ...fault === '' ? [] : [fault]].join('\t'));
     await target.write(bytesOfLines(lines));
     faults.forEach(fault => run.say(fault));
     return Number(faults.length > 0 || files.some(({ fault }) => fault !== ''));
@@ -76,14 +76,6 @@ async function filesIfAny(part) {
         if (!(error instanceof VolumeFault)) throw error;
         return { files: [], why: [`no file is named: ${error.message}`] };
     }
-}
-
-/**
- * A text with a dot for each character that moves the cursor or is none.
- * @param {string} text
- */
-function visible(text) {
-    return text.replace(/[\p{C}\uFFFD\u2028\u2029]/gu, '.');
 }
 
 /**
@@ -107,7 +99,7 @@ async function around(part, encoding, { block, offset, size }) {
  * @param {Place} place
  */
 function filesText(files, { block, offset }) {
-    const found = filesAt(files, block, offset).map(file => `${file.path}+${(block - file.block) * USER_SIZE + offset}`);
+    const found = filesAt(files, block, offset).map(file => `${visible(file.path)}+${(block - file.block) * USER_SIZE + offset}`);
     return found.join(' ') || '-';
 }
 

@@ -5,6 +5,7 @@ import { joinedBytes } from '../core/bytes.js';
 import { Calls } from '../core/codes.js';
 import { Output } from './output.js';
 import { Threads } from './threads.js';
+import { visible } from './words.js';
 
 /** @typedef {import('../core/bytes.js').Reader} Reader */
 /** @typedef {import('./arguments.js').Given} Given */
@@ -43,12 +44,12 @@ export class Run {
     }
 
     /**
-     * Says something on standard error, after what was printed so far.
+     * Says something on standard error, after what was printed so far. Names in it may be those of a disc.
      * @param {string} line
      */
     say(line) {
         this.output.flush();
-        this.messages.say(line);
+        this.messages.say(visible(line));
     }
 
     /**
