@@ -136,9 +136,10 @@ function filesText(files, { block, offset }) {
 export async function findJob(run) {
     const { limit = DEFAULT_LIMIT } = run.options;
     const target = await run.target();
-    const { part } = await openTrack(run, run.names[0]);
+    const opened = await openTrack(run, run.names[0]);
+    const { part } = opened;
     // The files are read while the threads search.
-    const [found, { files, why }] = await Promise.all([hitsOf(run, part, run.names[1], limit), filesIfAny(part)]);
+    const [found, { files, why }] = await Promise.all([hitsOf(run, opened, run.names[1], limit), filesIfAny(part)]);
     const { count, hits } = found || { count: 0, hits: [] };
     if (hits.length > 0) why.forEach(text => run.say(text));
     for (const hit of hits) {

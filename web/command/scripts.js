@@ -6,7 +6,7 @@ import { Fault } from '../core/faults.js';
 import { LineList, leftText } from '../core/lines.js';
 import { ScriptParts } from '../core/output.js';
 import { RECORD_SIZE } from '../core/records.js';
-import { blocksText } from '../core/runs.js';
+import { blocksIn, blocksText } from '../core/runs.js';
 import { Refusal } from '../core/script.js';
 import { isDamaged } from '../core/survey.js';
 import { undoScript } from '../core/undo.js';
@@ -15,6 +15,7 @@ import { MESSAGES } from './messages.js';
 import { openDiscOf, openTrack } from './opening.js';
 import { sayOfRuns } from './words.js';
 
+/** @typedef {import('../core/compare.js').Comparison} Comparison */
 /** @typedef {import('../core/output.js').Script} Script */
 /** @typedef {import('./run.js').Run} Run */
 /** @typedef {import('./run.js').Target} Target */
@@ -36,6 +37,16 @@ export async function writeScript(run, target, { pieces, patches, long, carry })
     if (long) run.say('the script is longer than cdpatch takes: cdscript apply --long applies it');
 }
 
+/**
+ * What to do if there is no script because sectors are damaged in NEW.
+ * @param {Comparison} made
+ * @param {string} newName
+ */
+function remedyOf({ left, tail }, newName) {
+    if (tail || left.some(({ why }) => why !== 'damaged')) return '';
+    return `: repair ${newName} first, as with merge, or give --skip-damaged`;
+}
+
 /** @param {Run} run */
 export async function diffJob(run) {
     const { skipDamaged = false, track = null } = run.options;
@@ -47,9 +58,11 @@ export async function diffJob(run) {
     const made = await compareImages(run.calls, run.crew, image.reader, fresh.reader, { base: image.base, skipDamaged });
     sayOfRuns(run, made.left, left => leftText([left], newName));
     if (made.tail) run.say('the bytes after the last sector differ, and no script changes them');
-    if (made.script === null) throw new Fault('no script leads to that image, so none is written');
+    if (made.script === null) throw new Fault(`no script leads to that image, so none is written${remedyOf(made, newName)}`);
     await writeScript(run, target, made.script);
-    return made.left.length > 0 ? LEFT : 0;
+    const left = blocksIn(made.left);
+    if (left > 0) run.say(`damaged blocks that are left out: ${left}`);
+    return left > 0 ? LEFT : 0;
 }
 
 /** @param {Run} run */
