@@ -89,6 +89,32 @@ test('info of what is no raw image', () => inDirectory(async room => {
     }
 }));
 
+test('info of what can not be patched as it is', { skip }, () => inDirectory(async room => {
+    await makeDisc(room);
+    assert.ok((await run(['info', 'disc.iso'], { cwd: room })).out.endsWith('\n`cdscript raw` makes the raw image, and `cdscript user` the ISO image.\n'));
+    const mode2 = imageOf(room, 20);
+    for (let i = 0; i < 20; i++) mode2[2352 * i + 15] = 2;
+    write(room, { mode2, 'audio.bin': Buffer.alloc(2352 * 3, 7), 'cooked.cue': 'FILE "disc.iso" BINARY\n  TRACK 01 MODE1/2048\n    INDEX 01 00:00:00\n',
+        'audio.cue': 'FILE "audio.bin" BINARY\n  TRACK 01 AUDIO\n    INDEX 01 00:00:00\n' });
+    const cases = { mode2: [0, 'mode2 20: such sectors can not be audited or patched here; discs of the PlayStation have them'],
+        'cooked.cue': [1, 'track 1 has 2048 bytes a sector: it can not be audited or patched here'],
+        'audio.cue': [1, 'no track has data: audio can not be audited or patched'], 'audio.bin': [1, 'no track has data: audio can not be audited or patched'] };
+    for (const [name, [due, line]] of Object.entries(cases)) {
+        const { status, out } = await run(['info', name], { cwd: room });
+        assert.deepEqual([status, out.split('\n').at(-2)], [due, line], name);
+    }
+}));
+
+test('user says how the way back goes', () => inDirectory(async room => {
+    const image = imageOf(room, 20, 180);
+    write(room, { 'one.bin': imageOf(room, 30), 'two.bin': image, 'game.cue': `${sheet('one.bin')}${sheet('two.bin').replace('01', '02')}` });
+    const { status, errors } = await run(['user', '--track', '2', 'game.cue', 'two.iso'], { cwd: room });
+    assert.deepEqual([status, errors], [0, 'cdscript: for the way back: cdscript raw --first 180\n']);
+    await run(['raw', '--first', '180', 'two.iso', 'back.bin'], { cwd: room });
+    sameFile(read(room, 'back.bin'), image, 'the raw image');
+    assert.equal((await run(['user', 'one.bin', 'one.iso'], { cwd: room })).errors, '');
+}));
+
 test('a cue sheet gives tracks, files and bases', () => inDirectory(async room => {
     write(room, { 'one.bin': imageOf(room, 30), 'Two.BIN': Buffer.alloc(2352 * 150, 5), 'three.bin': imageOf(room, 20, 180) });
     write(room, { 'disc.cue': `${sheet('one.bin')}FILE "two.bin" BINARY\n  TRACK 02 AUDIO\n    INDEX 01 00:00:00\n` +

@@ -160,7 +160,7 @@ test('a script of the difference leads from the one image to the other, and its 
     sameFile(applied(room, 'old.bin', 'diff.txt', '--base', '5000'), read(room, 'edited.bin'), 'the new image');
     const undo = await run(['undo', 'old.bin', 'diff.txt', '-o', 'undo.txt'], { cwd: room });
     assert.equal(undo.status, 1);
-    assert.equal(undo.errors, 'cdscript: blocks 5007 to 5008: its damage does not come back; its address and its user data do\n');
+    assert.equal(undo.errors, 'cdscript: blocks 5007 to 5008: damage does not come back; address and user data do\n');
     assert.equal((await run(['undo', 'edited.bin', 'edit.txt'], { cwd: room })).status, 0);
     write(room, { 'sound.bin': imageOf(room, 400, 5000) });
     assert.equal((await run(['undo', 'sound.bin', 'edit.txt', '-o', 'back.txt'], { cwd: room })).status, 0);
@@ -168,6 +168,21 @@ test('a script of the difference leads from the one image to the other, and its 
     const fields = await run(['diff', '--fields', 'sound.bin', 'edited.bin'], { cwd: room });
     assert.equal(fields.status, 1);
     assert.match(fields.out, /^5003 user=\d+ edc=4 parity=\d+\n5004 .*\n5100 .*\n5200 header=3 user=1 edc=4 parity=\d+\nsectors 400 differ 4\n$/);
+}));
+
+test('undo on an image that is patched already writes nothing', () => inDirectory(async room => {
+    const image = imageOf(room, 8);
+    const was = (block, at) => image.subarray(2352 * block + 16 + at, 2352 * block + 17 + at).toString('hex');
+    const other = (block, at) => Buffer.of(~image[2352 * block + 16 + at]).toString('hex');
+    const line = (block, at) => `set ${block} ${at} ${other(block, at)} was ${was(block, at)}\n`;
+    write(room, { image, one: `cdpatch 1\n${line(2, 0)}`, two: `cdpatch 1\n${line(2, 0)}${line(3, 7)}`, three: `cdpatch 1\n${line(2, 0)}${line(4, 7)}` });
+    write(room, { patched: applied(room, 'image', 'two') });
+    const why = 'refused on patched: is it the image before the script?';
+    await refuses(room, ['undo', 'patched', 'one'], `1 patch is ${why}`);
+    await refuses(room, ['undo', 'patched', 'two'], `2 patches are ${why}`);
+    const some = await run(['undo', 'patched', 'three'], { cwd: room });
+    assert.deepEqual([some.status, some.errors], [1, `cdscript: 1 patch is ${why}\n`]);
+    assert.match(some.out, /^cdpatch 1\nset 4 7 /);
 }));
 
 test('undo says that its script needs --carry', () => inDirectory(async room => {

@@ -103,7 +103,9 @@ export async function userJob(run) {
     const out = await run.files.make(run.names[1]);
     const { part } = await openTrack(run, run.names[0]);
     const has = await writeUser(run, out, part.reader, part.base, part.sectors * USER_SIZE);
-    if (part.tail > 0) run.say(`the ${part.tail} bytes after the last sector are left out`);
+    if (part.base > 0) run.say(`for the way back: cdscript raw --first ${part.base}`);
+    if (part.tail === 1) run.say('the byte after the last sector is left out');
+    if (part.tail > 1) run.say(`the ${part.tail} bytes after the last sector are left out`);
     return Number(has || part.tail > 0);
 }
 

@@ -3,8 +3,10 @@
 import { createHash } from 'node:crypto';
 import { bytesOfLines, readBytes } from '../core/bytes.js';
 import { natureOf } from '../core/image.js';
+import { SECTOR_KIND } from '../core/records.js';
+import { blocksIn } from '../core/runs.js';
 import { SECTOR_SIZE } from '../core/sector.js';
-import { listText, surveyCounts } from '../core/survey.js';
+import { kindRuns, listText, surveyCounts } from '../core/survey.js';
 import { openDiscOf, openTrack } from './opening.js';
 import { visible } from './words.js';
 
@@ -16,6 +18,8 @@ import { visible } from './words.js';
 /** @typedef {import('./run.js').Run} Run */
 /** @typedef {{ number: number, file: number, image: DiscImage, isWhole: boolean }} Surveyed a track; whether `image` is all of its file */
 /** @typedef {{ found: boolean, lines: string[] }} Found whether something is wrong, and what is printed */
+
+const WITH_CDSCRIPT = '`cdscript raw` makes the raw image, and `cdscript user` the ISO image.';
 
 /** So many bytes are hashed at a time. */
 const HASHED = 1 << 22;
@@ -67,7 +71,21 @@ async function surveyLines(run, image, reader) {
     const { mode1, damaged, elsewhere } = surveyCounts(survey);
     const list = new TextDecoder().decode(listText(survey, reader.size % SECTOR_SIZE).text).trimEnd();
     const lines = [`base ${image.base}`, ...list.split('\n'), `mode1 ${mode1} damaged ${damaged} address ${elsewhere}`];
+    const mode2 = blocksIn([...kindRuns(survey)].filter(({ kind }) => kind === SECTOR_KIND.MODE2));
+    if (mode2 > 0) lines.push(`mode2 ${mode2}: such sectors can not be audited or patched here; discs of the PlayStation have them`);
     return { found: damaged + elsewhere > 0, lines };
+}
+
+/**
+ * What is said of data that is not surveyed, and of a disc without data.
+ * @param {Disc} disc
+ */
+function unsurveyedLines({ tracks }) {
+    const others = tracks.filter(({ type, image }) => image === null && !['', 'AUDIO', 'CDG'].includes(type));
+    const sizes = others.map(({ number, type }) => `track ${number} has ${type.replace(/.*\//, '')} bytes a sector`);
+    const lines = sizes.map(it => `${it}: it can not be audited or patched here`);
+    const hasData = others.length > 0 || tracks.some(({ image }) => image !== null);
+    return hasData ? lines : ['no track has data: audio can not be audited or patched'];
 }
 
 /**
@@ -113,7 +131,7 @@ async function discLines(run) {
         }
         files.push(`file ${file.name} bytes ${file.reader.size} sha1 ${await hashed.digest()}`);
     }
-    return { found: anyFound, lines: [...files, ...tracks, ...lines] };
+    return { found: anyFound || surveyed.length === 0, lines: [...files, ...tracks, ...lines, ...unsurveyedLines(disc)] };
 }
 
 /** @param {Run} run */
@@ -121,7 +139,8 @@ export async function infoJob(run) {
     const { reader } = await run.files.image(run.names[0]);
     const { kind, what, advice } = await natureOf(run.calls, reader);
     const isDisc = kind === 'raw' || kind === 'audio' || kind === 'cue';
-    const { found, lines } = isDisc ? await discLines(run) : { found: true, lines: advice === '' ? [] : [advice] };
+    const advices = [advice, kind === 'iso' ? WITH_CDSCRIPT : ''].filter(it => it !== '');
+    const { found, lines } = isDisc ? await discLines(run) : { found: true, lines: advices };
     await run.output.write(bytesOfLines([`${run.names[0]}: ${what}`, ...lines].map(visible)));
-    return Number(found || kind === 'audio');
+    return Number(found);
 }

@@ -23,7 +23,7 @@ import { sayOfRuns } from './words.js';
 /** Blocks, or patches, were left out, and that was said. */
 const LEFT = 1;
 
-const HEALED = 'its damage does not come back; its address and its user data do';
+const HEALED = 'damage does not come back; address and user data do';
 
 /**
  * @param {Run} run
@@ -92,7 +92,9 @@ export async function undoJob(run) {
     const made = await undoScript(run.calls, image.reader, run.files.piecesOf(run.names[1]), { base: image.base, carry, long });
     if (made instanceof Refusal) throw new Fault(refusalText(made));
     const refused = made.patched.outcomes.filter(({ result }) => result !== 0).length;
-    if (refused > 0) run.say(`${refused} patches are refused on ${image.name}: is it the image before the script?`);
+    const why = `${refused === 1 ? '1 patch is' : `${refused} patches are`} refused on ${image.name}: is it the image before the script?`;
+    if (refused > 0 && made.script.patches === 0) throw new Fault(why);
+    if (refused > 0) run.say(why);
     sayOfRuns(run, made.left, left => left.why === 'damaged' ? `${blocksText([left])}: ${HEALED}` : leftText([left], image.name));
     await writeScript(run, target, made.script);
     return refused > 0 || made.left.length > 0 ? LEFT : 0;
