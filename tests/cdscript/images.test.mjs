@@ -125,7 +125,7 @@ test('a cue sheet gives tracks, files and bases', () => inDirectory(async room =
     assert.deepEqual((await run(['audit', 'disc.cue'], { cwd: room })).out, 'sectors 30 mode1 30 damaged 0 tail 0\n');
     await fails(['user', 'disc.cue', 'out', '--track', '2'], 'Track 2 is no track of data with 2352 bytes a sector. Choose one that is.', room);
     tool('rm', ['three.bin'], { cwd: room });
-    assert.match((await run(['info', 'disc.cue'], { cwd: room })).errors, /^cdscript: disc.cue names C:\\discs\\three.bin\. /);
+    assert.match((await run(['info', 'disc.cue'], { cwd: room })).errors, /^cdscript: disc.cue names C:\\discs\\three.bin\. It is not in the directory of the cue sheet\.\n$/);
 }));
 
 test('a repair takes sound sectors only, of the first image that has one', () => inDirectory(async room => {

@@ -22,7 +22,7 @@ export const OPTION_FORMS = {
     encoding: { word: '--encoding', value: 'NAME', does: 'hex, CP932, EUC-JP, UTF-8, UTF-16LE or UTF-16BE' },
     table: { word: '--table', value: 'FILE', does: "a game's own table of characters (.tbl)" },
     fill: { word: '--fill', value: 'HEX', does: 'fill up with these bytes, as 20 or 8140' },
-    all: { word: '--all', value: '', does: 'replace the text at all places' },
+    all: { word: '--all', value: '', does: 'replace the text at all places, 1000000 at most' },
     limit: { word: '--limit', value: 'N', does: 'print the first N hits; the default is 1000' },
     first: { word: '--first', value: 'BLOCK', does: 'the block of the first sector; the default is 0' },
     carry: { word: '--carry', value: '', does: 'patch damaged sectors too, and keep their damage' },
@@ -90,8 +90,8 @@ export const FORMS = {
     'replace-file': {
         job: replaceFileJob, takes: ['IMAGE', 'PATH', 'FILE'], options: ['fill', 'track', 'base', 'output'],
         says: 'Write the script that replaces a file of a disc',
-        does: 'A shorter FILE is filled up, with zeros if --fill is not given; a longer one is refused. The length of the file on the ' +
-            'disc stays.',
+        does: 'A shorter FILE is filled up with one byte over and over, 00 or that of --fill; a longer one is refused. The length of the ' +
+            'file on the disc stays.',
     },
     'diff': {
         job: diffJob, takes: ['OLD', 'NEW'], options: ['skipDamaged', 'fields', 'track', 'base', 'output'],

@@ -21,6 +21,9 @@ import { visible } from './words.js';
 
 const WITH_CDSCRIPT = '`cdscript raw` makes the raw image, and `cdscript user` the ISO image.';
 
+/** What is said of an empty standard input; node puts an empty file there if it is closed. */
+const NOTHING_PIPED = 'Standard input is empty or closed: give the name of a file, or the image on standard input.';
+
 /** So many bytes are hashed at a time. */
 const HASHED = 1 << 22;
 
@@ -134,13 +137,23 @@ async function discLines(run) {
     return { found: anyFound || surveyed.length === 0, lines: [...files, ...tracks, ...lines, ...unsurveyedLines(disc)] };
 }
 
+/**
+ * What to do with a file that is no disc.
+ * @param {string} name
+ * @param {string} kind
+ * @param {string} advice of the core
+ */
+function advicesFor(name, kind, advice) {
+    if (kind === 'empty' && name === '-') return [NOTHING_PIPED];
+    return [advice, kind === 'iso' ? WITH_CDSCRIPT : ''].filter(it => it !== '');
+}
+
 /** @param {Run} run */
 export async function infoJob(run) {
     const { reader } = await run.files.image(run.names[0]);
     const { kind, what, advice } = await natureOf(run.calls, reader);
     const isDisc = kind === 'raw' || kind === 'audio' || kind === 'cue';
-    const advices = [advice, kind === 'iso' ? WITH_CDSCRIPT : ''].filter(it => it !== '');
-    const { found, lines } = isDisc ? await discLines(run) : { found: true, lines: advices };
+    const { found, lines } = isDisc ? await discLines(run) : { found: true, lines: advicesFor(run.names[0], kind, advice) };
     await run.output.write(bytesOfLines([`${run.names[0]}: ${what}`, ...lines].map(visible)));
     return Number(found);
 }

@@ -3,7 +3,7 @@
 import { basename, dirname, join } from 'node:path';
 import { wholeOf } from '../core/bytes.js';
 import { sheetOf } from '../core/cue.js';
-import { dataTrack, openDisc } from '../core/disc.js';
+import { MissingFault, dataTrack, openDisc } from '../core/disc.js';
 import { Fault } from '../core/faults.js';
 import { natureOf } from '../core/image.js';
 import { imageTooLong } from '../core/sector.js';
@@ -24,10 +24,24 @@ export async function openDiscOf(run, name) {
     const file = await run.files.image(name);
     const { kind } = await natureOf(run.calls, file.reader);
     const others = kind === 'cue' ? await filesOfSheet(run, file) : [];
-    const disc = await openDisc(run.calls, [file, ...others]);
+    const disc = await openFiles(run, [file, ...others]);
     const long = disc.files.find(({ reader }) => imageTooLong(reader.size));
     if (long) throw new Fault(`${long.name}: ${MESSAGES.long_image}`);
     return disc;
+}
+
+/**
+ * Opens a disc. A file that is not there is said for who gave one name.
+ * @param {Run} run
+ * @param {DiscFile[]} files
+ */
+async function openFiles(run, files) {
+    try {
+        return await openDisc(run.calls, files);
+    } catch (error) {
+        if (!(error instanceof MissingFault)) throw error;
+        throw new Fault(`${error.found} It is not in the directory of the cue sheet.`);
+    }
 }
 
 /**

@@ -32,6 +32,18 @@ const RAW_TYPES = ['MODE1/2352', 'MODE2/2352', 'CDI/2352'];
 /** Why a disc can't be opened, and what to do. */
 export class DiscFault extends Fault {}
 
+/** A file of data that a cue sheet names is not there. */
+export class MissingFault extends DiscFault {
+    /**
+     * @param {string} sheet
+     * @param {string} file
+     */
+    constructor(sheet, file) {
+        super(`${sheet} names ${file}. Put it beside the cue sheet, or open both together.`);
+        this.found = `${sheet} names ${file}.`;
+    }
+}
+
 /**
  * Opens a raw image, or a cue sheet with the files that it names. Throws a Fault, and what a reader throws.
  * @param {Calls} calls
@@ -94,8 +106,7 @@ async function openSheet(calls, sheetFile, others, natures) {
     for (const track of tracksOf(known, files.map(file => file ? file.reader.size : 0))) {
         const file = files[track.file];
         if (file === null && isData(track)) {
-            throw new DiscFault(`${sheetFile.name} names ${sheet.files[track.file].name}. ` +
-                'Put it beside the cue sheet, or open both together.');
+            throw new MissingFault(sheetFile.name, sheet.files[track.file].name);
         }
         if (file !== null && isRaw(track)) assertOneSize(file, known, track, natures);
         tracks.push(await trackOf(calls, track, file, open.indexOf(file)));
