@@ -52,6 +52,7 @@ test('tracks in one file are looked at together by what takes the whole image', 
     assert.deepEqual([status, out, errors], [1, '110 edc p=1 q=1\nsectors 125 mode1 50 damaged 1 tail 0\n', '']);
     assert.match((await run(['info', 'game.cue'], { cwd: room })).out, /\nbase 0\n(.*\n)+mode1 50 damaged 1 address 0\n$/);
     assert.equal((await run(['user', 'game.cue', 'out'], { cwd: room })).errors, TRACK_3);
+    assert.ok(!(await run(['show', 'game.cue', '110'], { cwd: room })).errors.includes(TRACK_3));
     // A gap that is not in the file: the later track counts from another block.
     imageOf(room, 20, 255).copy(image, 2352 * 105);
     write(room, { 'game.bin': image });
@@ -87,5 +88,6 @@ test('an image without a cue sheet is the track that is asked for', () => inDire
     assert.deepEqual([merged.status, merged.errors], [0, '']);
     sameFile(read(room, 'out'), read(room, 'sea.bin'), 'the repaired track');
     const none = await run(['diff', '--track', '3', 'game.cue', 'short.cue'], { cwd: room });
-    assert.deepEqual([none.status, none.errors], [2, 'cdscript: short.cue has no track 3. It has 1.\n']);
+    const why = 'short.cue has no track 3. It has 1. An image without a cue sheet is taken as that track.';
+    assert.deepEqual([none.status, none.errors], [2, `cdscript: ${why}\n`]);
 }));

@@ -201,7 +201,7 @@ export async function showJob(run) {
     const first = Math.floor(place.offset / ROW) * ROW;
     const size = run.names.length < 3 ? USER_SIZE : SHOWN;
     const target = await run.target();
-    const { image, part } = await openTrack(run, name);
+    const { image, part } = await openTrack(run, name, true);
     const last = image.base + image.sectors - 1;
     if (place.block < image.base || place.block > last) throw new Fault(`the image has the blocks ${image.base} to ${last}`);
     const sector = await readBytes(image.reader, (place.block - image.base) * SECTOR_SIZE, SECTOR_SIZE);

@@ -83,7 +83,10 @@ function assertSectors(file, natures) {
  */
 export function dataTrack({ sheet, tracks }, number = null) {
     const named = number === null || sheet === null ? tracks : tracks.filter(track => track.number === number);
-    if (named.length === 0) throw new DiscFault(`${sheet} has no track ${number}. It has ${tracks.map(it => it.number).join(', ')}.`);
+    if (named.length === 0) {
+        const numbers = tracks.map(it => it.number).join(', ');
+        throw new DiscFault(`${sheet} has no track ${number}. It has ${numbers}. An image without a cue sheet is taken as that track.`);
+    }
     const track = named.find(it => it.image !== null);
     if (track && track.image && track.part) return { ...track, image: track.image, part: track.part };
     const which = number === null || sheet === null ? 'The disc has no track' : `Track ${number} is no track`;
