@@ -32,6 +32,13 @@ test('damage in a later data track is not passed off as none', () => inDirectory
     assert.equal((await run(['list', 'game.cue', '--track=3'], { cwd: room })).out, '180-199 mode1\nsectors 20 tail 0\n');
 }));
 
+test('info says which track does not give its first block', () => inDirectory(async room => {
+    const last = writeSet(room);
+    write(room, { 'three.bin': Buffer.concat([last.subarray(0, 2352 * 10), last.subarray(0, 2352 * 10)]) });
+    const { errors } = await run(['info', 'game.cue'], { cwd: room });
+    assert.equal(errors, 'cdscript: the addresses in three.bin do not say its first block; its first block counts as 180 here, see --base\n');
+}));
+
 test('jobs that look at one of several data tracks say so, once', () => inDirectory(async room => {
     writeSet(room);
     write(room, { script: 'cdpatch 1\n', 'other.cue': read(room, 'game.cue') });

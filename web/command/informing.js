@@ -7,7 +7,7 @@ import { SECTOR_KIND } from '../core/records.js';
 import { blocksIn } from '../core/runs.js';
 import { SECTOR_SIZE } from '../core/sector.js';
 import { kindRuns, listText, surveyCounts } from '../core/survey.js';
-import { openDiscOf, openTrack } from './opening.js';
+import { openDiscOf, openTrack, sayUnknownBase } from './opening.js';
 import { visible } from './words.js';
 
 /** @typedef {import('../core/bytes.js').Reader} Reader */
@@ -106,12 +106,14 @@ async function surveyedTracks(run, disc) {
         const { track, image } = await openTrack(run, run.names[0], true);
         return [{ number: track.number, file: track.file, image, isWhole: true }];
     }
-    return tracks.flatMap(({ number: own, file, image, part }, i) => {
+    const surveyed = tracks.flatMap(({ number: own, file, image, part }, i) => {
         const others = tracks.filter(it => it.file === file);
         const isWhole = others.every(it => it.image?.base === image?.base);
         const isLater = isWhole && tracks.findIndex(it => it.file === file) < i;
         return isLater ? [] : [{ number: own, file, image: /** @type {DiscImage} */ (isWhole ? image : part), isWhole }];
     });
+    surveyed.forEach(({ image }) => sayUnknownBase(run, image));
+    return surveyed;
 }
 
 /**

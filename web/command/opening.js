@@ -84,6 +84,17 @@ function sayOtherTracks(run, { tracks }, track, whole) {
 }
 
 /**
+ * Says with which block an image begins here, if its addresses do not say it.
+ * @param {Run} run
+ * @param {DiscImage} image
+ */
+export function sayUnknownBase(run, { name, base, addressed }) {
+    if (addressed === base) return;
+    const why = addressed === null ? 'do not say its first block' : 'begin before block 0';
+    run.say(`the addresses in ${name} ${why}; its first block counts as ${base} here, see --base`);
+}
+
+/**
  * The data track that a job means, its part of an image, and that whole image, which scripts are for. The base is that of `--base`, or
  * else what the addresses of the sectors say.
  * @param {Run} run
@@ -99,9 +110,6 @@ export async function openTrack(run, name, whole = false) {
         const shift = base - image.base;
         return { disc, track, image: shifted(image, shift), part: shifted(part, shift) };
     }
-    if (image.addressed !== image.base) {
-        const why = image.addressed === null ? 'do not say its first block' : 'begin before block 0';
-        run.say(`the addresses in ${image.name} ${why}; its first block counts as ${image.base} here, see --base`);
-    }
+    sayUnknownBase(run, image);
     return { disc, track, image, part };
 }
