@@ -4,8 +4,8 @@
 _cdscript_options() {
     case $1 in
         info) echo '--base --track' ;;
-        list | audit) echo '--base' ;;
-        check | apply) echo '--base --carry --long' ;;
+        list | audit) echo '--track --base' ;;
+        check | apply) echo '--track --base --carry --long' ;;
         files | rebuilds) echo '--track --base -o' ;;
         find) echo '--encoding --table --limit --track --base -o' ;;
         show) echo '--encoding --table --track --base -o' ;;

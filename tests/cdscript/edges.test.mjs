@@ -35,6 +35,12 @@ test('a cue sheet comes from standard input too', () => inDirectory(room => {
     assert.equal(tool('sh', ['-c', `"${process.execPath}" "${command}" info - < sheet`], { cwd: room }).toString(), out);
 }));
 
+test('info says what is wrong with a standard input that is closed', () => inDirectory(room => {
+    const { status, stdout } = spawnSync('sh', ['-c', `"${process.execPath}" "${command}" info - <&-`], { cwd: room, encoding: 'utf8' });
+    assert.deepEqual([status, stdout.split('\n').slice(0, 2)], [1, ['-: an empty file',
+        'Standard input is empty or closed: give the name of a file, or the image on standard input.']]);
+}));
+
 test('an address that no script can name is said by undo, and not taken for damage', () => inDirectory(async room => {
     write(room, { hurt: damaged(imageOf(room, 8), 0, [3, 14]), fix: 'cdpatch 1\nrebuild 3\n', edit: 'cdpatch 2\naddress 3 00:02:03\n' });
     tool(process.env.PROGRAM, ['apply', 'hurt', 'fix', 'odd'], { cwd: room });

@@ -89,6 +89,32 @@ test('info of what is no raw image', () => inDirectory(async room => {
     }
 }));
 
+test('info of what can not be patched as it is', { skip }, () => inDirectory(async room => {
+    await makeDisc(room);
+    assert.ok((await run(['info', 'disc.iso'], { cwd: room })).out.endsWith('\n`cdscript raw` makes the raw image, and `cdscript user` the ISO image.\n'));
+    const mode2 = imageOf(room, 20);
+    for (let i = 0; i < 20; i++) mode2[2352 * i + 15] = 2;
+    write(room, { mode2, 'audio.bin': Buffer.alloc(2352 * 3, 7), 'cooked.cue': 'FILE "disc.iso" BINARY\n  TRACK 01 MODE1/2048\n    INDEX 01 00:00:00\n',
+        'audio.cue': 'FILE "audio.bin" BINARY\n  TRACK 01 AUDIO\n    INDEX 01 00:00:00\n' });
+    const cases = { mode2: [0, 'mode2 20: such sectors can not be audited or patched here; discs of the PlayStation have them'],
+        'cooked.cue': [1, 'track 1 has 2048 bytes a sector: it can not be audited or patched here'],
+        'audio.cue': [1, 'no track has data: audio can not be audited or patched'], 'audio.bin': [1, 'no track has data: audio can not be audited or patched'] };
+    for (const [name, [due, line]] of Object.entries(cases)) {
+        const { status, out } = await run(['info', name], { cwd: room });
+        assert.deepEqual([status, out.split('\n').at(-2)], [due, line], name);
+    }
+}));
+
+test('user says how the way back goes', () => inDirectory(async room => {
+    const image = imageOf(room, 20, 180);
+    write(room, { 'one.bin': imageOf(room, 30), 'two.bin': image, 'game.cue': `${sheet('one.bin')}${sheet('two.bin').replace('01', '02')}` });
+    const { status, errors } = await run(['user', '--track', '2', 'game.cue', 'two.iso'], { cwd: room });
+    assert.deepEqual([status, errors], [0, 'cdscript: for the way back: cdscript raw --first 180\n']);
+    await run(['raw', '--first', '180', 'two.iso', 'back.bin'], { cwd: room });
+    sameFile(read(room, 'back.bin'), image, 'the raw image');
+    assert.equal((await run(['user', 'one.bin', 'one.iso'], { cwd: room })).errors, '');
+}));
+
 test('a cue sheet gives tracks, files and bases', () => inDirectory(async room => {
     write(room, { 'one.bin': imageOf(room, 30), 'Two.BIN': Buffer.alloc(2352 * 150, 5), 'three.bin': imageOf(room, 20, 180) });
     write(room, { 'disc.cue': `${sheet('one.bin')}FILE "two.bin" BINARY\n  TRACK 02 AUDIO\n    INDEX 01 00:00:00\n` +
@@ -99,7 +125,7 @@ test('a cue sheet gives tracks, files and bases', () => inDirectory(async room =
     assert.deepEqual((await run(['audit', 'disc.cue'], { cwd: room })).out, 'sectors 30 mode1 30 damaged 0 tail 0\n');
     await fails(['user', 'disc.cue', 'out', '--track', '2'], 'Track 2 is no track of data with 2352 bytes a sector. Choose one that is.', room);
     tool('rm', ['three.bin'], { cwd: room });
-    assert.match((await run(['info', 'disc.cue'], { cwd: room })).errors, /^cdscript: disc.cue names C:\\discs\\three.bin\. /);
+    assert.match((await run(['info', 'disc.cue'], { cwd: room })).errors, /^cdscript: disc.cue names C:\\discs\\three.bin\. It is not in the directory of the cue sheet\.\n$/);
 }));
 
 test('a repair takes sound sectors only, of the first image that has one', () => inDirectory(async room => {
@@ -117,6 +143,21 @@ test('a repair takes sound sectors only, of the first image that has one', () =>
     write(room, { sound: withTail(good) });
     assert.equal((await run(['merge', 'old', 'sound', 'whole'], { cwd: room })).status, 0);
     sameFile(read(room, 'whole'), withTail(good), 'the repaired image');
+}));
+
+test('a repair takes what the EDC of the damaged sector fits, and names what it fits nowhere', () => inDirectory(async room => {
+    const good = imageOf(room, 300);
+    write(room, { good, old: damaged(good, 0, [17, 500], [20, 16]), edit: 'cdpatch 1\nset 17 0 4142\nfill 33 0 3 44\nset 35 0 45\n' });
+    tool(program, ['apply', 'good', 'edit', 'door.bin'], { cwd: room });
+    const both = await run(['merge', 'old', 'door.bin', 'good', 'one'], { cwd: room });
+    assert.deepEqual([both.status, both.errors], [0, '']);
+    assert.equal(both.out, ['17-17 from good', '20-20 from door.bin', '17-17 sound in several, but different there',
+        '33-33 sound in door.bin too, but different there', '35-35 sound in door.bin too, but different there',
+        'taken 2 damaged 0 disputed 1 different 2', ''].join('\n'));
+    sameFile(read(room, 'one'), good, 'the repaired image');
+    const other = await run(['merge', 'old', 'door.bin', 'two'], { cwd: room });
+    assert.deepEqual([other.status, other.errors],
+        [1, "cdscript: block 17: taken from door.bin, but OLD's EDC is another: perhaps another version\n"]);
 }));
 
 test('a repair of many places names the first of them', () => inDirectory(async room => {

@@ -79,7 +79,11 @@ test('texts are found in their encodings, over borders of blocks too', { skip },
 test('what is not found, and more hits than are printed', { skip }, () => inDirectory(async room => {
     await makeDisc(room);
     const none = await run(['find', 'disc.bin', 'ABSENT TEXT'], { cwd: room });
-    assert.deepEqual([none.status, none.out, none.errors], [1, '', 'cdscript: hits 0 printed 0\n']);
+    assert.deepEqual([none.status, none.out, none.errors], [1, '', 'cdscript: disc.bin was searched for the text in CP932, EUC-JP, UTF-8, ' +
+        'UTF-16LE, UTF-16BE\ncdscript: hits 0 printed 0\n']);
+    write(room, { 'game.cue': 'FILE "disc.bin" BINARY\n  TRACK 02 MODE1/2352\n    INDEX 01 00:00:00\n' });
+    assert.equal((await run(['find', 'game.cue', '亀', '--encoding', 'EUC-JP'], { cwd: room })).errors,
+        'cdscript: track 2 in disc.bin was searched for the text in EUC-JP\ncdscript: hits 0 printed 0\n');
     const zeros = places(read(room, 'disc.bin'), Buffer.alloc(1)).length;
     const { status, out, errors } = await run(['find', 'disc.bin', '00', '--encoding', 'hex', '--limit', '7'], { cwd: room });
     assert.deepEqual([status, rows(out).length], [0, 7]);
@@ -156,7 +160,7 @@ test('a script of the difference leads from the one image to the other, and its 
     sameFile(applied(room, 'old.bin', 'diff.txt', '--base', '5000'), read(room, 'edited.bin'), 'the new image');
     const undo = await run(['undo', 'old.bin', 'diff.txt', '-o', 'undo.txt'], { cwd: room });
     assert.equal(undo.status, 1);
-    assert.equal(undo.errors, 'cdscript: blocks 5007 to 5008: its damage does not come back; its address and its user data do\n');
+    assert.equal(undo.errors, 'cdscript: blocks 5007 to 5008: damage does not come back; address and user data do\n');
     assert.equal((await run(['undo', 'edited.bin', 'edit.txt'], { cwd: room })).status, 0);
     write(room, { 'sound.bin': imageOf(room, 400, 5000) });
     assert.equal((await run(['undo', 'sound.bin', 'edit.txt', '-o', 'back.txt'], { cwd: room })).status, 0);
@@ -164,6 +168,21 @@ test('a script of the difference leads from the one image to the other, and its 
     const fields = await run(['diff', '--fields', 'sound.bin', 'edited.bin'], { cwd: room });
     assert.equal(fields.status, 1);
     assert.match(fields.out, /^5003 user=\d+ edc=4 parity=\d+\n5004 .*\n5100 .*\n5200 header=3 user=1 edc=4 parity=\d+\nsectors 400 differ 4\n$/);
+}));
+
+test('undo on an image that is patched already writes nothing', () => inDirectory(async room => {
+    const image = imageOf(room, 8);
+    const was = (block, at) => image.subarray(2352 * block + 16 + at, 2352 * block + 17 + at).toString('hex');
+    const other = (block, at) => Buffer.of(~image[2352 * block + 16 + at]).toString('hex');
+    const line = (block, at) => `set ${block} ${at} ${other(block, at)} was ${was(block, at)}\n`;
+    write(room, { image, one: `cdpatch 1\n${line(2, 0)}`, two: `cdpatch 1\n${line(2, 0)}${line(3, 7)}`, three: `cdpatch 1\n${line(2, 0)}${line(4, 7)}` });
+    write(room, { patched: applied(room, 'image', 'two') });
+    const why = 'refused on patched: is it the image before the script?';
+    await refuses(room, ['undo', 'patched', 'one'], `1 patch is ${why}`);
+    await refuses(room, ['undo', 'patched', 'two'], `2 patches are ${why}`);
+    const some = await run(['undo', 'patched', 'three'], { cwd: room });
+    assert.deepEqual([some.status, some.errors], [1, `cdscript: 1 patch is ${why}\n`]);
+    assert.match(some.out, /^cdpatch 1\nset 4 7 /);
 }));
 
 test('undo says that its script needs --carry', () => inDirectory(async room => {
@@ -190,7 +209,18 @@ test('what no script can say is named, and nothing is written', () => inDirector
     write(room, { hurt: damaged(image, 0, [3, 100]) });
     const left = await run(['diff', 'image', 'hurt', '--skip-damaged'], { cwd: room });
     assert.deepEqual([left.status, left.out], [1, 'cdpatch 1\n']);
-    assert.ok(left.errors.startsWith('cdscript: hurt is damaged in block 3\n'));
+    assert.equal(left.errors, 'cdscript: hurt is damaged in block 3\ncdscript: the script has no patch\ncdscript: damaged blocks that are left out: 1\n');
+    await refuses(room, ['diff', 'image', 'hurt'],
+        'no script leads to that image, so none is written: repair hurt first, as with merge, or give --skip-damaged');
+}));
+
+test('of many damaged blocks the first runs are named, and all are counted', () => inDirectory(async room => {
+    const image = imageOf(room, 3200);
+    write(room, { image, hurt: damaged(image, 0, ...Array.from({ length: 1050 }, (_, i) => [[3 * i, 100], [3 * i + 1, 100]]).flat()) });
+    const { status, errors } = await run(['diff', 'image', 'hurt', '--skip-damaged'], { cwd: room });
+    const due = Array.from({ length: 1000 }, (_, i) => `hurt is damaged in blocks ${3 * i} to ${3 * i + 1}`);
+    const said = [...due, 'and so on: 1050 places in all', 'the script has no patch', 'damaged blocks that are left out: 2100'];
+    assert.deepEqual([status, errors], [1, said.map(line => `cdscript: ${line}\n`).join('')]);
 }));
 
 test('a script of more patches than cdpatch takes', () => inDirectory(async room => {

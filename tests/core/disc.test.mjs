@@ -51,7 +51,7 @@ test('a file of several tracks is one image, and each data track a part of it', 
     sameBytes(await dataTrack(disc, 3).part.reader.read(0, RAW), last.subarray(0, RAW), 'its first sector');
     assert.equal(dataTrack(disc).number, 1);
     assert.throws(() => dataTrack(disc, 2), { message: 'Track 2 is no track of data with 2352 bytes a sector. Choose one that is.' });
-    assert.throws(() => dataTrack(disc, 4), { message: 'The disc has no track 4. It has 1, 2, 3.' });
+    assert.throws(() => dataTrack(disc, 4), { message: 'game.cue has no track 4. It has 1, 2, 3. An image without a cue sheet is taken as that track.' });
 });
 
 test('a file for each track, of which those of audio need not be open', async () => {

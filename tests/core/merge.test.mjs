@@ -21,10 +21,14 @@ const merged = (images, how = {}, crew = localCrew()) => repaired(crew, imageOf(
 
 const ownAddress = (sector, block) => Buffer.compare(sector.subarray(12, 15), calls.address(block)) === 0;
 
+/** Whether two sectors have the same EDC, and whether they have the same header and user data. */
+const sameEdc = (a, b) => Buffer.compare(a.subarray(2064, 2068), b.subarray(2064, 2068)) === 0;
+const sameData = (a, b) => Buffer.compare(a.subarray(12, 2064), b.subarray(12, 2064)) === 0;
+
 /** What has to come of images, sector by sector. */
 function due([old, ...others]) {
     const out = old.slice();
-    const found = { taken: [], damaged: [], disputed: [], different: others.map(() => 0) };
+    const found = { taken: [], doubtful: [], damaged: [], disputed: [], different: others.map(() => 0) };
     for (let i = 0; i < countOf(old); i++) {
         const [here, there] = [sectorAt(old, i), others.map(other => sectorAt(other, i))];
         if (calls.isConsistent(here)) {
@@ -33,8 +37,11 @@ function due([old, ...others]) {
         }
         const fit = there.map((_, k) => k).filter(k => calls.isConsistent(there[k]) && ownAddress(there[k], BASE + i));
         if (fit.length > 0) {
-            out.set(there[fit[0]], RAW * i);
-            found.taken.push({ block: BASE + i, other: fit[0] });
+            const own = [...fit.filter(k => sameEdc(here, there[k])), ...fit.filter(k => sameData(here, there[k]))];
+            const best = [...own, ...fit][0];
+            out.set(there[best], RAW * i);
+            found.taken.push({ block: BASE + i, other: best });
+            if (own.length === 0) found.doubtful.push({ block: BASE + i, other: best });
             if (fit.some(k => Buffer.compare(there[k], there[fit[0]]) !== 0)) found.disputed.push({ block: BASE + i });
         } else if ([here, ...there].some(it => calls.kind(it) === 2)) {
             found.damaged.push({ block: BASE + i, elsewhere: there.some(it => calls.isConsistent(it)) });
@@ -43,8 +50,8 @@ function due([old, ...others]) {
     return { out, found };
 }
 
-const foundOf = ({ taken, damaged, disputed, different }) =>
-    ({ taken: blocksOf(taken), damaged: blocksOf(damaged), disputed: blocksOf(disputed), different });
+const foundOf = ({ taken, doubtful, damaged, disputed, different }) =>
+    ({ taken: blocksOf(taken), doubtful: blocksOf(doubtful), damaged: blocksOf(damaged), disputed: blocksOf(disputed), different });
 
 /** Dumps of one disc: each damaged in its own places, and in some that all share; with sectors that lost their sync, and audio. */
 function someDumps(dice, count, sectors) {
@@ -108,6 +115,34 @@ test('two other images that are sound and differ: the first is taken, and the bl
     assert.deepEqual([taken, disputed], [[{ first: BASE + 1, last: BASE + 1, other: 0 }], [{ first: BASE + 1, last: BASE + 1 }]]);
     sameBytes(joinedPieces(old, pieces), one, 'the first');
     assert.deepEqual((await merged([old, one, one])).disputed, []);
+});
+
+test('of sound sectors that differ that one is taken whose EDC stands in the damaged one', async () => {
+    const image = soundImage(diceOf(62), 6, BASE);
+    const old = image.slice();
+    for (const i of [1, 3]) old[RAW * i + 100] ^= 1;
+    old[RAW * 2 + 2065] ^= 1;
+    old.fill(0x55, RAW * 4, RAW * 5);
+    const other = image.slice();
+    for (const i of [1, 2, 3, 4]) other.set(sound(BASE + i, new Uint8Array(2048).fill(i)), RAW * i);
+    const one = await merged([old, other, image]);
+    assert.deepEqual(blocksOf(one.taken), [1, 2, 3, 4].map(i => ({ block: BASE + i, other: Number(i < 4) })));
+    assert.deepEqual([one.doubtful, blocksOf(one.disputed).length], [[], 4]);
+    const odd = await merged([old, other]);
+    assert.deepEqual(blocksOf(odd.doubtful), [1, 2, 3].map(i => ({ block: BASE + i, other: 0 })));
+    assert.deepEqual((await merged([old, image])).doubtful, []);
+});
+
+test('sound sectors that differ are named by their blocks, of each image', async () => {
+    const image = soundImage(diceOf(63), 1200, BASE);
+    const [one, two] = [[3, 4, 700], [4, 5]].map(places => {
+        const it = image.slice();
+        for (const i of places) it.set(CHANGES.bytes(sectorAt(image, i), diceOf(i)), RAW * i);
+        return it;
+    });
+    const { differing } = await merged([image, one, two], { step: 4 });
+    const runOf = (first, last) => ({ first: BASE + first, last: BASE + last });
+    assert.deepEqual(differing, [[runOf(3, 4), runOf(700, 700)], [runOf(4, 5)]]);
 });
 
 test('sound sectors that differ are counted, and above a hundredth of all the image is refused', async () => {

@@ -2,6 +2,7 @@
 
 import { ImageEnded } from '../core/bytes.js';
 import { Fault } from '../core/faults.js';
+import { baseOfAllAddresses } from '../core/image.js';
 import { passPatched } from '../core/patch.js';
 import { STATUS } from '../core/records.js';
 import { Refusal, patchesOf } from '../core/script.js';
@@ -72,9 +73,14 @@ async function orSay(messages, tried) {
 async function openImage(run) {
     const [name] = run.names;
     const isSheet = /\.cue$/i.test(name);
-    if (isSheet) return (await openTrack(run, name)).image;
+    if (isSheet) return (await openTrack(run, name, true)).image;
     const { reader } = await orSay(OF_IMAGES, () => run.files.image(name));
-    return { reader, base: run.options.base || 0 };
+    const { base } = run.options;
+    if (base === undefined && !imageTooLong(reader.size)) {
+        const own = await orSay(OF_IMAGES, () => baseOfAllAddresses(run.calls, reader));
+        if (own !== null && own > 0) run.say(`this image begins with block ${own}: --base ${own}`);
+    }
+    return { reader, base: base || 0 };
 }
 
 /**

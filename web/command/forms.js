@@ -22,7 +22,7 @@ export const OPTION_FORMS = {
     encoding: { word: '--encoding', value: 'NAME', does: 'hex, CP932, EUC-JP, UTF-8, UTF-16LE or UTF-16BE' },
     table: { word: '--table', value: 'FILE', does: "a game's own table of characters (.tbl)" },
     fill: { word: '--fill', value: 'HEX', does: 'fill up with these bytes, as 20 or 8140' },
-    all: { word: '--all', value: '', does: 'replace the text at all places' },
+    all: { word: '--all', value: '', does: 'replace the text at all places, 1000000 at most' },
     limit: { word: '--limit', value: 'N', does: 'print the first N hits; the default is 1000' },
     first: { word: '--first', value: 'BLOCK', does: 'the block of the first sector; the default is 0' },
     carry: { word: '--carry', value: '', does: 'patch damaged sectors too, and keep their damage' },
@@ -43,20 +43,20 @@ export const FORMS = {
             'no findings, 1 findings, 2 failed',
     },
     'list': {
-        job: listJob, takes: ['IMAGE'], options: ['base'], says: "List the kinds of an image's sectors",
+        job: listJob, takes: ['IMAGE'], options: ['track', 'base'], says: "List the kinds of an image's sectors",
         does: 'As cdpatch list.',
     },
     'audit': {
-        job: auditJob, takes: ['IMAGE'], options: ['base'], says: "Report what is wrong with an image's sectors",
+        job: auditJob, takes: ['IMAGE'], options: ['track', 'base'], says: "Report what is wrong with an image's sectors",
         does: 'As cdpatch audit. Status: 0 no findings, 1 findings, 2 failed',
     },
     'check': {
-        job: checkJob, takes: ['IMAGE', 'SCRIPT'], options: ['base', 'carry', 'long'],
+        job: checkJob, takes: ['IMAGE', 'SCRIPT'], options: ['track', 'base', 'carry', 'long'],
         says: "Report what a script's patches would do to an image",
         does: 'As cdpatch check. Status: 0 all accepted, 1 some refused, 2 failed',
     },
     'apply': {
-        job: applyJob, takes: ['IMAGE', 'SCRIPT', 'OUT'], options: ['base', 'carry', 'long'],
+        job: applyJob, takes: ['IMAGE', 'SCRIPT', 'OUT'], options: ['track', 'base', 'carry', 'long'],
         says: 'Apply a script to an image, into a new file',
         does: 'As cdpatch apply. Status: 0 all applied, 1 some refused, 2 failed',
     },
@@ -90,8 +90,8 @@ export const FORMS = {
     'replace-file': {
         job: replaceFileJob, takes: ['IMAGE', 'PATH', 'FILE'], options: ['fill', 'track', 'base', 'output'],
         says: 'Write the script that replaces a file of a disc',
-        does: 'A shorter FILE is filled up, with zeros if --fill is not given; a longer one is refused. The length of the file on the ' +
-            'disc stays.',
+        does: 'A shorter FILE is filled up with one byte over and over, 00 or that of --fill; a longer one is refused. The length of the ' +
+            'file on the disc stays.',
     },
     'diff': {
         job: diffJob, takes: ['OLD', 'NEW'], options: ['skipDamaged', 'fields', 'track', 'base', 'output'],
@@ -103,7 +103,7 @@ export const FORMS = {
         job: mergeJob, takes: ['OLD', 'OTHER..', 'OUT'], options: ['track', 'base'],
         says: 'Repair an image by other dumps of the same disc',
         does: 'OUT is OLD with sound sectors of the OTHERs for those that are damaged in OLD. Status: 0 all is sound, 1 some sectors ' +
-            'are damaged in all, 2 failed',
+            'are damaged in all, or taken though their EDC is another in OLD, 2 failed',
     },
     'rebuilds': {
         job: rebuildsJob, takes: ['IMAGE'], options: ['track', 'base', 'output'],

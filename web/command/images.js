@@ -19,6 +19,7 @@ import { linesOfRuns, sayOfRuns } from './words.js';
 /** @typedef {import('./run.js').Target} Target */
 
 const BLOCKS_WITH_ADDRESS = 449850;
+const DOUBT = "OLD's EDC is another: perhaps another version";
 const TAILS = 'the bytes after the last sector are others';
 
 /**
@@ -26,13 +27,15 @@ const TAILS = 'the bytes after the last sector are others';
  * @param {Repair} repair
  * @param {DiscImage[]} others
  */
-function repairLines({ taken, damaged, disputed, different }, others) {
+function repairLines({ taken, damaged, disputed, differing, different }, others) {
     const numbers = [taken, damaged, disputed].map(blocksIn).concat(different.reduce((sum, count) => sum + count, 0));
+    const inBoth = differing.flatMap((runs, other) => runs.map(run => ({ ...run, other })));
     const notTaken = { true: 'sound only with the address of another block', false: 'damaged in all' };
     return [
         ...linesOfRuns(taken, ({ first, last, other }) => `${first}-${last} from ${others[other].name}`),
         ...linesOfRuns(damaged, ({ first, last, elsewhere }) => `${first}-${last} ${notTaken[`${elsewhere}`]}`),
         ...linesOfRuns(disputed, ({ first, last }) => `${first}-${last} sound in several, but different there`),
+        ...linesOfRuns(inBoth, ({ first, last, other }) => `${first}-${last} sound in ${others[other].name} too, but different there`),
         `taken ${numbers[0]} damaged ${numbers[1]} disputed ${numbers[2]} different ${numbers[3]}`,
     ];
 }
@@ -41,9 +44,10 @@ function repairLines({ taken, damaged, disputed, different }, others) {
 export async function mergeJob(run) {
     const [name, ...more] = run.names;
     const out = await run.files.make(more.pop() || '');
-    const { image } = await openTrack(run, name);
+    const { image } = await openTrack(run, name, true);
+    /** @type {DiscImage[]} */
     const others = [];
-    for (const other of more) others.push((await openTrack(run, other)).image);
+    for (const other of more) others.push((await openTrack(run, other, true)).image);
     const repair = await mergeImages(run.crew, image, others, {}, piece => out.writePiece(image.reader, piece));
     if (repair.refused) {
         const i = repair.different.indexOf(Math.max(...repair.different));
@@ -52,7 +56,8 @@ export async function mergeJob(run) {
     }
     others.filter((_, i) => repair.tails[i]).forEach(other => run.say(`${TAILS} in ${other.name}; those of ${name} are kept`));
     await run.output.write(bytesOfLines(repairLines(repair, others)));
-    return Number(repair.damaged.length > 0);
+    sayOfRuns(run, repair.doubtful, it => `${blocksText([it])}: taken from ${others[it.other].name}, but ${DOUBT}`);
+    return Number(repair.damaged.length > 0 || repair.doubtful.length > 0);
 }
 
 /** @param {Run} run */
@@ -98,7 +103,9 @@ export async function userJob(run) {
     const out = await run.files.make(run.names[1]);
     const { part } = await openTrack(run, run.names[0]);
     const has = await writeUser(run, out, part.reader, part.base, part.sectors * USER_SIZE);
-    if (part.tail > 0) run.say(`the ${part.tail} bytes after the last sector are left out`);
+    if (part.base > 0) run.say(`for the way back: cdscript raw --first ${part.base}`);
+    if (part.tail === 1) run.say('the byte after the last sector is left out');
+    if (part.tail > 1) run.say(`the ${part.tail} bytes after the last sector are left out`);
     return Number(has || part.tail > 0);
 }
 

@@ -1,5 +1,6 @@
 // The jobs that look into a data track: `files`, `find` and `show`.
 
+import { LOOKED_BACK, bytesInside, charactersFrom } from '../core/boundaries.js';
 import { bytesOfLines, readBytes } from '../core/bytes.js';
 import { Fault } from '../core/faults.js';
 import { VolumeFault, filesAt, filesOf } from '../core/iso.js';
@@ -8,7 +9,7 @@ import { FIELDS, SECTOR_SIZE, USER_SIZE, addressIn, addressText, joinedUser } fr
 import { placeOf } from './numbers.js';
 import { openTrack } from './opening.js';
 import { encodingsOf, hitsOf } from './searching.js';
-import { hexByte } from './words.js';
+import { hexByte, visible } from './words.js';
 
 /** @typedef {import('../core/disc.js').DiscImage} DiscImage */
 /** @typedef {import('../core/edit.js').Place} Place */
@@ -21,6 +22,11 @@ const DEFAULT_LIMIT = 1000;
 
 /** So many bytes around a hit are shown, before it and after it. */
 const AROUND = 24;
+
+/** The most bytes of a character. */
+const LONGEST_CHARACTER = 4;
+
+export const INSIDE = 'in the middle of a character';
 
 /** The bytes of a row of `show`, and how many are shown from an offset on. */
 const ROW = 16;
@@ -46,8 +52,8 @@ export async function userBytes({ reader, base, sectors }, { block, offset }, si
  */
 export async function fileNamed(part, path) {
     const { files } = await filesOf(part.reader, part.base);
-    const wanted = `/${path}`.replace(/^\/+/, '/');
-    const named = files.filter(file => `/${file.path}`.replace(/^\/+/, '/') === wanted);
+    const rooted = (/** @type {string} */ name) => `/${name}`.replace(/^\/+/, '/');
+    const named = files.filter(file => [file.path, visible(file.path)].map(rooted).includes(rooted(path)));
     if (named.length === 1) return named[0];
     throw new Fault(named.length === 0 ? `there is no file ${path}; cdscript files lists them` : `${path} has ${named.length} parts`);
 }
@@ -57,7 +63,7 @@ export async function filesJob(run) {
     const target = await run.target();
     const { part } = await openTrack(run, run.names[0]);
     const { files, faults } = await filesOf(part.reader, part.base);
-    const lines = files.map(({ block, size, path, fault }) => [block, size, path, ...fault === '' ? [] : [fault]].join('\t'));
+    const lines = files.map(({ block, size, path, fault }) => [block, size, visible(path), ...fault === '' ? [] : [fault]].join('\t'));
     await target.write(bytesOfLines(lines));
     faults.forEach(fault => run.say(fault));
     return Number(faults.length > 0 || files.some(({ fault }) => fault !== ''));
@@ -79,11 +85,17 @@ async function filesIfAny(part) {
 }
 
 /**
- * A text with a dot for each character that moves the cursor or is none.
- * @param {string} text
+ * User bytes around a place, as many before it and from it on, or as many as there are; and the place in them.
+ * @param {DiscImage} image
+ * @param {Place} place
+ * @param {number} before
+ * @param {number} after
  */
-function visible(text) {
-    return text.replace(/[\p{C}\uFFFD\u2028\u2029]/gu, '.');
+async function bytesAround(image, { block, offset }, before, after) {
+    const at = Math.min(before, (block - image.base) * USER_SIZE + offset);
+    const from = block * USER_SIZE + offset - at;
+    const first = { block: Math.floor(from / USER_SIZE), offset: from % USER_SIZE };
+    return { at, bytes: await userBytes(image, first, at + after) };
 }
 
 /**
@@ -92,13 +104,22 @@ function visible(text) {
  * @param {Encoding} encoding
  * @param {Hit} hit
  */
-async function around(part, encoding, { block, offset, size }) {
-    const before = Math.min(AROUND, (block - part.base) * USER_SIZE + offset);
-    const from = block * USER_SIZE + offset - before;
-    const place = { block: Math.floor(from / USER_SIZE), offset: from % USER_SIZE };
-    const bytes = await userBytes(part, place, before + size + AROUND);
-    const parts = [bytes.subarray(0, before), bytes.subarray(before, before + size), bytes.subarray(before + size)];
+async function around(part, encoding, hit) {
+    const { at, bytes } = await bytesAround(part, hit, AROUND, hit.size + AROUND);
+    const end = at + hit.size;
+    const parts = [bytes.subarray(0, at), bytes.subarray(at, end), bytes.subarray(end)];
     return parts.map(it => visible(encoding.text(it))).join('');
+}
+
+/**
+ * Whether a place is in the middle of a character.
+ * @param {DiscImage} image
+ * @param {Encoding} encoding
+ * @param {Place} place
+ */
+export async function isInside(image, encoding, place) {
+    const { at, bytes } = await bytesAround(image, place, LOOKED_BACK, LONGEST_CHARACTER);
+    return bytesInside(encoding, bytes, at) > 0;
 }
 
 /**
@@ -107,7 +128,7 @@ async function around(part, encoding, { block, offset, size }) {
  * @param {Place} place
  */
 function filesText(files, { block, offset }) {
-    const found = filesAt(files, block, offset).map(file => `${file.path}+${(block - file.block) * USER_SIZE + offset}`);
+    const found = filesAt(files, block, offset).map(file => `${visible(file.path)}+${(block - file.block) * USER_SIZE + offset}`);
     return found.join(' ') || '-';
 }
 
@@ -115,29 +136,42 @@ function filesText(files, { block, offset }) {
 export async function findJob(run) {
     const { limit = DEFAULT_LIMIT } = run.options;
     const target = await run.target();
-    const { part } = await openTrack(run, run.names[0]);
+    const opened = await openTrack(run, run.names[0]);
+    const { part } = opened;
     // The files are read while the threads search.
-    const [found, { files, why }] = await Promise.all([hitsOf(run, part, run.names[1], limit), filesIfAny(part)]);
+    const [found, { files, why }] = await Promise.all([hitsOf(run, opened, run.names[1], limit), filesIfAny(part)]);
     const { count, hits } = found || { count: 0, hits: [] };
     if (hits.length > 0) why.forEach(text => run.say(text));
     for (const hit of hits) {
-        const text = found && await around(part, found.encoding, hit);
-        await target.write(bytesOfLines([[hit.block, hit.offset, hit.size, filesText(files, hit), text].join('\t')]));
+        const { encoding } = /** @type {{ encoding: Encoding }} */ (found);
+        const note = await isInside(part, encoding, hit) ? [INSIDE] : [];
+        const words = [hit.block, hit.offset, hit.size, filesText(files, hit), await around(part, encoding, hit), ...note];
+        await target.write(bytesOfLines([words.join('\t')]));
     }
     run.say(`hits ${count} printed ${hits.length}`);
     return Number(count === 0);
 }
 
 /**
- * A row of bytes in digits and as text.
- * @param {Uint8Array} user
- * @param {number} at
+ * User bytes in rows of digits and text, with the number of each block after the first. A character stands in the row in which it begins.
+ * @param {DiscImage} image
  * @param {Encoding} encoding
+ * @param {Place} place of the first byte
+ * @param {number} size how many bytes are shown, if there are so many
  */
-function rowText(user, at, encoding) {
-    const bytes = user.subarray(at, at + ROW);
-    const text = encoding.name === 'hex' ? '' : visible(encoding.text(bytes));
-    return `${String(at).padStart(4)}  ${Array.from(bytes, hexByte).join(' ')}  ${text}`.trimEnd();
+async function rowLines(image, encoding, place, size) {
+    const { at, bytes } = await bytesAround(image, place, LOOKED_BACK, size + LONGEST_CHARACTER);
+    const shown = bytes.subarray(at, at + size);
+    const texts = new Array(Math.ceil(shown.length / ROW)).fill('');
+    for (const it of charactersFrom(encoding, bytes, at + bytesInside(encoding, bytes, at))) {
+        if (encoding.name !== 'hex' && it.at < at + shown.length) texts[Math.floor((it.at - at) / ROW)] += visible(it.text);
+    }
+    return texts.flatMap((text, i) => {
+        const offset = place.offset + i * ROW;
+        const digits = Array.from(shown.subarray(i * ROW, (i + 1) * ROW), hexByte).join(' ');
+        const row = `${String(offset % USER_SIZE).padStart(4)}  ${digits}  ${text}`.trimEnd();
+        return offset === USER_SIZE ? [`block ${place.block + 1}`, row] : [row];
+    });
 }
 
 /**
@@ -165,14 +199,13 @@ export async function showJob(run) {
     const place = placeOf(blockText, offsetText);
     const encoding = (await encodingsOf(run).next()).value;
     const first = Math.floor(place.offset / ROW) * ROW;
-    const end = run.names.length < 3 ? USER_SIZE : Math.min(first + SHOWN, USER_SIZE);
+    const size = run.names.length < 3 ? USER_SIZE : SHOWN;
     const target = await run.target();
-    const { image, part } = await openTrack(run, name);
+    const { image, part } = await openTrack(run, name, true);
     const last = image.base + image.sectors - 1;
     if (place.block < image.base || place.block > last) throw new Fault(`the image has the blocks ${image.base} to ${last}`);
     const sector = await readBytes(image.reader, (place.block - image.base) * SECTOR_SIZE, SECTOR_SIZE);
     const lines = await sectorLines(run, part, sector, place);
-    for (let at = first; at < end; at += ROW) lines.push(rowText(joinedUser(sector), at, encoding));
-    await target.write(bytesOfLines(lines));
+    await target.write(bytesOfLines([...lines, ...await rowLines(image, encoding, { block: place.block, offset: first }, size)]));
     return 0;
 }

@@ -12,6 +12,7 @@ import { MESSAGES } from './messages.js';
 import { Messages } from './output.js';
 import { Run } from './run.js';
 import { serveThread } from './threads.js';
+import { visible } from './words.js';
 
 /** @typedef {import('./arguments.js').Given} Given */
 /** @typedef {import('./run.js').Streams} Streams */
@@ -40,7 +41,7 @@ async function printHelp({ job, options }, run) {
 /** @param {unknown} error */
 function messageOf(error) {
     if (!(error instanceof Error)) return String(error);
-    if (error instanceof Fault) return error.message;
+    if (error instanceof Fault) return visible(error.message);
     // As node and the engine say it, in a thread too.
     if (/allocation failed|out of memory|memory\.grow/i.test(error.message)) return MESSAGES.no_memory;
     return `a fault in cdscript itself: ${error.stack}`;

@@ -3,7 +3,7 @@
 import { basename, dirname, join } from 'node:path';
 import { wholeOf } from '../core/bytes.js';
 import { sheetOf } from '../core/cue.js';
-import { dataTrack, openDisc } from '../core/disc.js';
+import { MissingFiles, dataTrack, openDisc } from '../core/disc.js';
 import { Fault } from '../core/faults.js';
 import { natureOf } from '../core/image.js';
 import { imageTooLong } from '../core/sector.js';
@@ -24,10 +24,24 @@ export async function openDiscOf(run, name) {
     const file = await run.files.image(name);
     const { kind } = await natureOf(run.calls, file.reader);
     const others = kind === 'cue' ? await filesOfSheet(run, file) : [];
-    const disc = await openDisc(run.calls, [file, ...others]);
+    const disc = await openFiles(run, [file, ...others]);
     const long = disc.files.find(({ reader }) => imageTooLong(reader.size));
     if (long) throw new Fault(`${long.name}: ${MESSAGES.long_image}`);
     return disc;
+}
+
+/**
+ * Opens a disc. A file that is not there is said for who gave one name.
+ * @param {Run} run
+ * @param {DiscFile[]} files
+ */
+async function openFiles(run, files) {
+    try {
+        return await openDisc(run.calls, files);
+    } catch (error) {
+        if (!(error instanceof MissingFiles)) throw error;
+        throw new Fault(`${error.found} It is not in the directory of the cue sheet.`);
+    }
 }
 
 /**
@@ -55,22 +69,47 @@ function shifted(image, shift) {
 }
 
 /**
+ * Says which other tracks of data there are, if no track was asked for.
+ * @param {Run} run
+ * @param {Disc} disc
+ * @param {{ number: number, file: number }} track the one that is looked at
+ * @param {boolean} whole whether the others in its file are looked at too
+ */
+function sayOtherTracks(run, { tracks }, track, whole) {
+    const others = tracks.filter(it => it.image !== null && it.number !== track.number && !(whole && it.file === track.file));
+    const numbers = others.map(({ number }) => number);
+    if (run.options.track !== undefined || numbers.length === 0) return;
+    const [which, seen] = numbers.length === 1 ? ['track', 'has data too and was'] : ['tracks', 'have data too and were'];
+    run.sayOnce(`${which} ${numbers.join(', ')} ${seen} not looked at: --track ${numbers[0]}`);
+}
+
+/**
+ * Says with which block an image begins here, if its addresses do not say it.
+ * @param {Run} run
+ * @param {DiscImage} image
+ */
+export function sayUnknownBase(run, { name, base, addressed }) {
+    if (addressed === base) return;
+    const why = addressed === null ? 'do not say its first block' : 'begin before block 0';
+    run.say(`the addresses in ${name} ${why}; its first block counts as ${base} here, see --base`);
+}
+
+/**
  * The data track that a job means, its part of an image, and that whole image, which scripts are for. The base is that of `--base`, or
  * else what the addresses of the sectors say.
  * @param {Run} run
  * @param {string} name
+ * @param {boolean} [whole] whether the job looks at the whole image, not only at the track
  */
-export async function openTrack(run, name) {
+export async function openTrack(run, name, whole = false) {
     const { base, track: number = null } = run.options;
     const disc = await openDiscOf(run, name);
     const { image, part, ...track } = dataTrack(disc, number);
+    sayOtherTracks(run, disc, track, whole);
     if (base !== undefined) {
         const shift = base - image.base;
         return { disc, track, image: shifted(image, shift), part: shifted(part, shift) };
     }
-    if (image.addressed !== image.base) {
-        const why = image.addressed === null ? 'do not say its first block' : 'begin before block 0';
-        run.say(`the addresses in ${image.name} ${why}; its first block counts as ${image.base} here, see --base`);
-    }
+    sayUnknownBase(run, image);
     return { disc, track, image, part };
 }

@@ -11,7 +11,7 @@ import { passPatched } from '../core/patch.js';
 import { Refusal, patchesOf } from '../core/script.js';
 import { SECTOR_SIZE, USER_SIZE } from '../core/sector.js';
 import { encodeText } from '../core/text.js';
-import { fileNamed, userBytes } from './looking.js';
+import { INSIDE, fileNamed, isInside, userBytes } from './looking.js';
 import { placeOf } from './numbers.js';
 import { openTrack } from './opening.js';
 import { writeScript } from './scripts.js';
@@ -23,6 +23,7 @@ import { hexByte, sayOfRuns } from './words.js';
 /** @typedef {import('../core/output.js').Script} Script */
 /** @typedef {import('../core/text.js').Encoding} Encoding */
 /** @typedef {import('./run.js').Run} Run */
+/** @typedef {import('./searching.js').Opened} Opened */
 /**
  * Where a text stands, in any of its spellings. A place at which it does not stand has no size.
  * @typedef {{ encoding: Encoding, places: (Place & { size?: number })[] }} Places
@@ -59,18 +60,37 @@ async function placeOfText(run, image, place, text) {
 /**
  * The places at which a text stands: the one, or all if that is asked for. Throws a Fault if there is none, or are several.
  * @param {Run} run
- * @param {DiscImage} part
+ * @param {Opened} opened
  * @param {string} text
  * @returns {Promise<Places>}
  */
-async function placesOf(run, part, text) {
-    const found = await hitsOf(run, part, text, run.options.all ? MOST_PLACES : LISTED);
+async function placesOf(run, opened, text) {
+    const { part } = opened;
+    const found = await hitsOf(run, opened, text, run.options.all ? MOST_PLACES : LISTED);
     if (found === null) throw new Fault('the text is not found');
     const { count, hits, encoding } = found;
-    if (count === 1 || (run.options.all && count === hits.length)) return { encoding, places: hits };
+    if (count === 1 || (run.options.all && count === hits.length)) {
+        for (const hit of hits) await assertBegins(part, encoding, hit);
+        return { encoding, places: hits };
+    }
     if (run.options.all) throw new Fault(`the text stands at ${count} places, and no more than ${MOST_PLACES} are replaced`);
-    hits.forEach(({ block, offset }) => run.say(`it stands at block ${block} offset ${offset}`));
+    for (const hit of hits) {
+        const note = await isInside(part, encoding, hit) ? `, ${INSIDE}` : '';
+        run.say(`it stands at block ${hit.block} offset ${hit.offset}${note}`);
+    }
     throw new Fault(`the text stands at ${count} places: give BLOCK and OFFSET of one, or --all`);
+}
+
+/**
+ * Throws a Fault if a place is in the middle of a character.
+ * @param {DiscImage} part
+ * @param {Encoding} encoding
+ * @param {Place} place
+ */
+async function assertBegins(part, encoding, place) {
+    if (!await isInside(part, encoding, place)) return;
+    const { block, offset } = place;
+    throw new Fault(`block ${block} offset ${offset} is ${INSIDE}: to replace the bytes there all the same, give BLOCK and OFFSET`);
 }
 
 /**
@@ -149,8 +169,12 @@ export async function replaceJob(run) {
     const given = block === undefined ? null : placeOf(block, offset);
     if (given !== null && run.options.all) throw new Fault('--all and a place exclude each other');
     const target = await run.target();
-    const { image, part } = await openTrack(run, name);
-    const where = given === null ? await placesOf(run, part, before) : await placeOfText(run, image, given, before);
+    const opened = await openTrack(run, name, given !== null);
+    const { image } = opened;
+    const where = given === null ? await placesOf(run, opened, before) : await placeOfText(run, image, given, before);
+    if (given !== null && where.places[0].size !== undefined && await isInside(image, where.encoding, given)) {
+        run.say(`block ${given.block} offset ${given.offset} is ${INSIDE}`);
+    }
     await writeScript(run, target, await replacedEverywhere(run, image, where, before, after));
     return 0;
 }

@@ -5,6 +5,7 @@ import { joinedBytes } from '../core/bytes.js';
 import { Calls } from '../core/codes.js';
 import { Output } from './output.js';
 import { Threads } from './threads.js';
+import { visible } from './words.js';
 
 /** @typedef {import('../core/bytes.js').Reader} Reader */
 /** @typedef {import('./arguments.js').Given} Given */
@@ -35,18 +36,29 @@ export class Run {
         this.options = options;
         this.files = files;
         this.messages = messages;
+        /** @type {Set<string>} */
+        this.said = new Set();
         this.output = new Output(streams.output, () => messages.hideProgress());
         this.calls = new Calls(compiledModule());
         this.crew = new Threads(compiledModule(), this.calls, (done, all) => messages.progress(done, all));
     }
 
     /**
-     * Says something on standard error, after what was printed so far.
+     * Says something on standard error, after what was printed so far. Names in it may be those of a disc.
      * @param {string} line
      */
     say(line) {
         this.output.flush();
-        this.messages.say(line);
+        this.messages.say(visible(line));
+    }
+
+    /**
+     * Says something that may be true of several images, but only once.
+     * @param {string} line
+     */
+    sayOnce(line) {
+        if (!this.said.has(line)) this.say(line);
+        this.said.add(line);
     }
 
     /**

@@ -6,9 +6,9 @@ import { Fault } from '../core/faults.js';
 import { joinFound, sectorsBeyond } from '../core/find.js';
 import { encodeText, encodingOf, tableOf } from '../core/text.js';
 
-/** @typedef {import('../core/disc.js').DiscImage} DiscImage */
 /** @typedef {import('../core/find.js').Found} Found */
 /** @typedef {import('../core/text.js').Encoding} Encoding */
+/** @typedef {Awaited<ReturnType<import('./opening.js').openTrack>>} Opened */
 /** @typedef {import('./run.js').Run} Run */
 
 /** What is tried, in this order. */
@@ -31,14 +31,16 @@ export async function* encodingsOf({ options, files }) {
  * The encodings that have a text, the first of those in which it is the same bytes. Throws a TextFault if none has it.
  * @param {Run} run
  * @param {string} text
+ * @param {string[]} [names] gets the names of all that have it
  * @returns {AsyncGenerator<Encoding>}
  */
-export async function* encodingsWith(run, text) {
+export async function* encodingsWith(run, text, names = []) {
     const spelled = new Set();
     let fault = null;
     for await (const encoding of encodingsOf(run)) {
         try {
             const bytes = encodeText(encoding, text).join();
+            names.push(encoding.name);
             if (spelled.has(bytes)) continue;
             spelled.add(bytes);
         } catch (error) {
@@ -54,14 +56,16 @@ export async function* encodingsWith(run, text) {
 /**
  * The hits of a text, and the encoding that has them; null if none has any.
  * @param {Run} run
- * @param {DiscImage} part
+ * @param {Opened} opened
  * @param {string} text
  * @param {number} limit how many are kept
  * @returns {Promise<Found & { encoding: Encoding } | null>}
  */
-export async function hitsOf(run, part, text, limit) {
+export async function hitsOf(run, { disc, track, part }, text, limit) {
     if (text === '') throw new Fault('there is nothing to find in a text without characters');
-    for await (const encoding of encodingsWith(run, text)) {
+    /** @type {string[]} */
+    const names = [];
+    for await (const encoding of encodingsWith(run, text, names)) {
         const wanted = encoding.units(text);
         /** @type {Found[]} */
         const parts = [];
@@ -73,5 +77,7 @@ export async function hitsOf(run, part, text, limit) {
         if (named === undefined && table === undefined) run.say(`the text stands there in ${encoding.name}`);
         return { ...found, encoding };
     }
+    const which = disc.sheet === null ? '' : `track ${track.number} in `;
+    run.say(`${which}${part.name} was searched for the text in ${names.join(', ')}`);
     return null;
 }

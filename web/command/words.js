@@ -12,6 +12,14 @@ export function hexByte(byte) {
 }
 
 /**
+ * A text with a dot for each character that moves the cursor or is none.
+ * @param {string} text
+ */
+export function visible(text) {
+    return text.replace(/[\p{C}\uFFFD\u2028\u2029]/gu, '.');
+}
+
+/**
  * A line for each of the first runs, and one for how many there are.
  * @template {BlockRun} R
  * @param {R[]} runs

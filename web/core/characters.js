@@ -39,6 +39,8 @@ export class CharacterTable {
         this.spellings = new Map();
         /** @type {Map<string, string>} by the bytes, one character each */
         this.texts = new Map();
+        /** @type {Set<number>} the bytes with which longer spellings begin */
+        this.leads = new Set();
         this.longestText = 0;
         this.longestBytes = 0;
     }
@@ -52,6 +54,7 @@ export class CharacterTable {
         const key = String.fromCharCode(...bytes);
         if (this.texts.has(key)) return false;
         this.texts.set(key, text);
+        if (bytes.length > 1) this.leads.add(bytes[0]);
         this.spellings.set(text, [...this.spellings.get(text) || [], bytes]);
         this.longestText = Math.max(this.longestText, text.length);
         this.longestBytes = Math.max(this.longestBytes, bytes.length);
@@ -81,6 +84,24 @@ export class CharacterTable {
             at += length;
         }
         return units;
+    }
+
+    /**
+     * Whether a character of several bytes begins with a byte.
+     * @param {number} byte
+     */
+    isLead(byte) {
+        return this.leads.has(byte);
+    }
+
+    /**
+     * How many bytes the character at a place has, 1 if none begins there.
+     * @param {Uint8Array} bytes
+     * @param {number} at
+     */
+    lengthAt(bytes, at) {
+        const keys = String.fromCharCode(...bytes.subarray(at, at + this.longestBytes));
+        return Math.max(longestIn(this.texts, keys, 0, keys.length), 1);
     }
 
     /**

@@ -32,14 +32,16 @@ const RAW_TYPES = ['MODE1/2352', 'MODE2/2352', 'CDI/2352'];
 /** Why a disc can't be opened, and what to do. */
 export class DiscFault extends Fault {}
 
-/** Files that a cue sheet names are not open: `names` has all of them. */
+/** A file of data that a cue sheet names is not there: `names` has all files that are not. */
 export class MissingFiles extends DiscFault {
     /**
-     * @param {string} message
+     * @param {string} sheet
+     * @param {string} file
      * @param {string[]} names
      */
-    constructor(message, names) {
-        super(message);
+    constructor(sheet, file, names) {
+        super(`${sheet} names ${file}. Put it beside the cue sheet, or open both together.`);
+        this.found = `${sheet} names ${file}.`;
         this.names = names;
     }
 }
@@ -76,17 +78,20 @@ function assertSectors(file, natures) {
 }
 
 /**
- * The data track that a job means: the one of a number, or the first.
+ * The data track that a job means: the one of a number, or the first. An image without a cue sheet is the track of any number.
  * @param {Disc} disc
  * @param {number | null} [number]
  * @returns {DiscTrack & { image: DiscImage, part: DiscImage }}
  */
-export function dataTrack({ tracks }, number = null) {
-    const named = number === null ? tracks : tracks.filter(track => track.number === number);
-    if (named.length === 0) throw new DiscFault(`The disc has no track ${number}. It has ${tracks.map(it => it.number).join(', ')}.`);
+export function dataTrack({ sheet, tracks }, number = null) {
+    const named = number === null || sheet === null ? tracks : tracks.filter(track => track.number === number);
+    if (named.length === 0) {
+        const numbers = tracks.map(it => it.number).join(', ');
+        throw new DiscFault(`${sheet} has no track ${number}. It has ${numbers}. An image without a cue sheet is taken as that track.`);
+    }
     const track = named.find(it => it.image !== null);
     if (track && track.image && track.part) return { ...track, image: track.image, part: track.part };
-    const which = number === null ? 'The disc has no track' : `Track ${number} is no track`;
+    const which = number === null || sheet === null ? 'The disc has no track' : `Track ${number} is no track`;
     throw new DiscFault(`${which} of data with 2352 bytes a sector. Choose one that is.`);
 }
 
@@ -106,8 +111,8 @@ async function openSheet(calls, sheetFile, others, natures) {
     for (const track of tracksOf(known, files.map(file => file ? file.reader.size : 0))) {
         const file = files[track.file];
         if (file === null && isData(track)) {
-            throw new MissingFiles(`${sheetFile.name} names ${sheet.files[track.file].name}. ` +
-                'Put it beside the cue sheet, or open both together.', sheet.files.map(it => it.name).filter((_, i) => files[i] === null));
+            const missing = sheet.files.map(it => it.name).filter((_, i) => files[i] === null);
+            throw new MissingFiles(sheetFile.name, sheet.files[track.file].name, missing);
         }
         if (file !== null && isRaw(track)) assertOneSize(file, known, track, natures);
         tracks.push(await trackOf(calls, track, file, open.indexOf(file)));

@@ -137,13 +137,12 @@ async function isSheet(reader) {
 }
 
 /**
- * The block of an image's first sector: what the addresses of more than half of some Mode 1 sectors agree in, or null if there is none. It
- * is below 0 if the image begins before block 0.
+ * How many of some Mode 1 sectors there are, and how many of their addresses fit each base.
  * @param {Calls} calls
  * @param {Reader} reader
  */
-export async function baseByAddresses(calls, reader) {
-    /** @type {Map<number, number>} how many addresses fit each base */
+async function sampledBases(calls, reader) {
+    /** @type {Map<number, number>} */
     const bases = new Map();
     let mode1 = 0;
     for await (const { number, sector } of sampledSectors(reader, SECTOR_SIZE, SAMPLED_TOGETHER, SAMPLES_OF_ADDRESSES)) {
@@ -152,8 +151,30 @@ export async function baseByAddresses(calls, reader) {
         const block = blockAt(calls, addressIn(sector, 0));
         if (block !== null) bases.set(block - number, (bases.get(block - number) || 0) + 1);
     }
+    return { bases, mode1 };
+}
+
+/**
+ * The block of an image's first sector: what the addresses of more than half of some Mode 1 sectors agree in, or null if there is none. It
+ * is below 0 if the image begins before block 0.
+ * @param {Calls} calls
+ * @param {Reader} reader
+ */
+export async function baseByAddresses(calls, reader) {
+    const { bases, mode1 } = await sampledBases(calls, reader);
     const [base] = [...bases.keys()].filter(it => 2 * (bases.get(it) || 0) > mode1);
     return base === undefined ? null : base;
+}
+
+/**
+ * The block of an image's first sector if the addresses of all those sectors agree in it, or null.
+ * @param {Calls} calls
+ * @param {Reader} reader
+ */
+export async function baseOfAllAddresses(calls, reader) {
+    const { bases, mode1 } = await sampledBases(calls, reader);
+    const [base] = bases.keys();
+    return mode1 > 0 && bases.get(base) === mode1 ? base : null;
 }
 
 /**

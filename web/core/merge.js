@@ -5,7 +5,7 @@ import { tailsDiffer } from './compare.js';
 import { Fault } from './faults.js';
 import { RECORD, RECORD_SIZE, SECTOR_KIND } from './records.js';
 import { addToRuns, runOf } from './runs.js';
-import { SECTOR_SIZE, addressIn, differingSectors, sectorCount, sectorOf, sectorsAt } from './sector.js';
+import { FIELDS, SECTOR_SIZE, addressIn, differingSectors, sectorCount, sectorOf, sectorsAt } from './sector.js';
 import { isSound } from './survey.js';
 
 /** @typedef {import('./codes.js').Calls} Calls */
@@ -14,11 +14,14 @@ import { isSound } from './survey.js';
 /** @typedef {import('./jobs.js').Sharer} Sharer */
 /** @typedef {import('./jobs.js').Sharing} Sharing */
 /** @typedef {import('./runs.js').Run} Run */
+/** @typedef {Run & { other: number }} RunOf blocks of another image */
 /**
- * What is found in blocks: those whose sectors are taken, by runs that come of one other image each; those that are repaired by no image,
- * `elsewhere` if one has a sound sector there with the address of another block; the taken ones in which other images are sound too and
- * differ; and how many sectors of each other image are sound and differ from sound ones.
- * @typedef {{ taken: (Run & { other: number })[], damaged: (Run & { elsewhere: boolean })[], disputed: Run[], different: number[] }} Found
+ * What is found in blocks: those whose sectors are taken, by runs that come of one other image each; of these the `doubtful` ones, whose
+ * EDC and data are others in the damaged sector; those that are repaired by no image, `elsewhere` if one has a sound sector there with
+ * the address of another block; the taken ones in which other images are sound too and differ; and of each other image
+ * those in which it is sound and differs from a sound sector, and how many these are.
+ * @typedef {{ taken: RunOf[], doubtful: RunOf[], damaged: (Run & { elsewhere: boolean })[], disputed: Run[], differing: Run[][],
+ *     different: number[] }} Found
  */
 /** @typedef {Found & { sectors: Uint8Array, end: number }} Merged with the sectors that are taken, and the block after the range */
 /**
@@ -48,20 +51,64 @@ export function mergeRange(calls, [old, ...others], first, { shift }) {
         const [block, at] = [first + i, i * RECORD_SIZE];
         const sound = numbers.filter(other => isSound(otherRecords[other], at));
         if (isSound(records, at)) {
-            for (const other of sound) found.different[other] += 1;
+            for (const other of sound) addDifferent(found, block, other);
             continue;
         }
         const fit = sound.filter(other => isHome(calls, addressIn(others[other], i), block + shift));
         if (fit.length > 0) {
-            const [sector, ...more] = fit.map(other => sectorOf(others[other], i));
+            const damaged = sectorOf(old, i);
+            const candidates = fit.map(other => ({ other, sector: sectorOf(others[other], i) }));
+            const { other, sector } = bestOf(damaged, candidates);
             sectors.push(sector);
-            addToRuns(found.taken, { ...runOf(block), other: fit[0] });
-            if (more.some(it => differingSectors(sector, it).length > 0)) addToRuns(found.disputed, runOf(block));
+            addToRuns(found.taken, { ...runOf(block), other });
+            if (!belongs(damaged, sector)) addToRuns(found.doubtful, { ...runOf(block), other });
+            if (candidates.some(it => differingSectors(sector, it.sector).length > 0)) addToRuns(found.disputed, runOf(block));
         } else if ([records, ...otherRecords].some(it => it[at + RECORD.KIND] === SECTOR_KIND.MODE1)) {
             addToRuns(found.damaged, { ...runOf(block), elsewhere: sound.length > 0 });
         }
     }
     return { ...found, sectors: joinedBytes(sectors), end: first + count };
+}
+
+/**
+ * @param {Found} found
+ * @param {number} block
+ * @param {number} other
+ */
+function addDifferent({ differing, different }, block, other) {
+    different[other] += 1;
+    addToRuns(differing[other], runOf(block));
+}
+
+/**
+ * The sector that a damaged one was: the first with the EDC that stands in it, else the first with its data, else the first.
+ * @template {{ sector: Uint8Array }} T
+ * @param {Uint8Array} damaged
+ * @param {T[]} candidates
+ */
+function bestOf(damaged, candidates) {
+    return candidates.find(({ sector }) => hasSame(damaged, sector, FIELDS.edc, FIELDS.zeros)) ||
+        candidates.find(({ sector }) => hasSame(damaged, sector, FIELDS.header, FIELDS.edc)) || candidates[0];
+}
+
+/**
+ * Whether a damaged sector has the EDC or the data of a sound one, or nothing but one byte over and over.
+ * @param {Uint8Array} damaged
+ * @param {Uint8Array} sector
+ */
+function belongs(damaged, sector) {
+    return hasSame(damaged, sector, FIELDS.edc, FIELDS.zeros) || hasSame(damaged, sector, FIELDS.header, FIELDS.edc) ||
+        damaged.subarray(FIELDS.user).every(byte => byte === damaged[FIELDS.user]);
+}
+
+/**
+ * @param {Uint8Array} a
+ * @param {Uint8Array} b
+ * @param {number} from
+ * @param {number} end
+ */
+function hasSame(a, b, from, end) {
+    return sameBytes(a.subarray(from, end), b.subarray(from, end));
 }
 
 /**
@@ -80,7 +127,8 @@ function isHome(calls, address, block) {
  * @returns {Found}
  */
 function nothingFound(others) {
-    return { taken: [], damaged: [], disputed: [], different: new Array(others).fill(0) };
+    const differing = Array.from({ length: others }, () => []);
+    return { taken: [], doubtful: [], damaged: [], disputed: [], differing, different: new Array(others).fill(0) };
 }
 
 /**
@@ -144,10 +192,12 @@ function assertSamePart(old, other) {
  * @param {Found} found
  * @param {Merged} answer
  */
-function addAnswer(found, { taken, damaged, disputed, different }) {
+function addAnswer(found, { taken, doubtful, damaged, disputed, differing, different }) {
     for (const run of taken) addToRuns(found.taken, run);
+    for (const run of doubtful) addToRuns(found.doubtful, run);
     for (const run of damaged) addToRuns(found.damaged, run);
     for (const run of disputed) addToRuns(found.disputed, run);
+    differing.forEach((runs, other) => runs.forEach(run => addToRuns(found.differing[other], run)));
     different.forEach((count, other) => { found.different[other] += count; });
 }
 

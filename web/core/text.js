@@ -5,8 +5,10 @@ import { CharacterTable, TextFault, cp932, eucJp, lacks } from './characters.js'
 
 /**
  * One way to write texts. `units` cuts a text into its parts and gives the bytes of each, first as they are usually written, then
- * in other ways that are read as the same; `text` reads bytes, with U+FFFD for a byte that begins no character.
- * @typedef {{ name: string, units: (text: string) => Uint8Array[][], text: (bytes: Uint8Array) => string }} Encoding
+ * in other ways that are read as the same; `text` reads bytes, with U+FFFD for a byte that begins no character. `lengthAt` says how many
+ * bytes the character at a place has, and `isLead` whether one of several bytes, any of which may be alike, begins with a byte.
+ * @typedef {{ name: string, units: (text: string) => Uint8Array[][], text: (bytes: Uint8Array) => string,
+ *     lengthAt: (bytes: Uint8Array, at: number) => number, isLead: (byte: number) => boolean }} Encoding
  */
 
 /** The names of the encodings; `encodingOf` takes a few others for them. */
@@ -29,6 +31,8 @@ function hexEncoding() {
             return units;
         },
         text: bytes => Array.from(bytes, digits).join(''),
+        lengthAt: () => 1,
+        isLead: () => false,
     };
 }
 
@@ -49,6 +53,15 @@ function notHex(text, at) {
  * @returns {Encoding}
  */
 function unicodeEncoding(name, bytesOf) {
+    const strict = new TextDecoder(name, { fatal: true, ignoreBOM: true });
+    const least = bytesOf('a').length;
+    const isWhole = (/** @type {Uint8Array} */ bytes) => {
+        try {
+            return strict.decode(bytes) !== '';
+        } catch {
+            return false;
+        }
+    };
     return {
         name,
         units(text) {
@@ -60,6 +73,8 @@ function unicodeEncoding(name, bytesOf) {
             });
         },
         text: bytes => new TextDecoder(name, { ignoreBOM: true }).decode(bytes),
+        lengthAt: (bytes, at) => [1, 2, 3, 4].find(size => isWhole(bytes.subarray(at, at + size))) || least,
+        isLead: () => false,
     };
 }
 

@@ -1,0 +1,55 @@
+// Characters of several bytes: hits in the middle of one, and rows of `show` that cut one.
+
+import assert from 'node:assert/strict';
+import { test } from 'node:test';
+import { imageOf, inDirectory, run, tool, write } from './common.mjs';
+
+const program = process.env.PROGRAM;
+const INSIDE = 'in the middle of a character';
+
+/** Writes `image`, whose blocks 2 to 5 are zeros but for bytes at places. */
+function writeImage(room, ...places) {
+    write(room, { plain: imageOf(room, 8), edit: ['cdpatch 1', ...[2, 3, 4, 5].map(block => `fill ${block} 0 2048 00`),
+        ...places.map(([block, offset, bytes]) => `set ${block} ${offset} ${bytes}`), ''].join('\n') });
+    tool(program, ['apply', 'plain', 'edit', 'image'], { cwd: room });
+}
+
+test('a hit in the middle of a character is marked, and replaced only at its place', () => inDirectory(async room => {
+    // In CP932 殻 is 8A6B and クk is 834E6B; in EUC-JP 亜亜 is B0A6B0A6, and Π is A6B0.
+    writeImage(room, [2, 100, '8A6B7A'], [3, 2047, '8A'], [4, 0, '6B7A'], [4, 500, '834E6B7A'], [5, 9, 'B0A6B0A6'], [5, 40, 'A6B0']);
+    const kz = await run(['find', 'image', 'kz', '--encoding', 'CP932'], { cwd: room });
+    assert.deepEqual(kz.out.split('\n').map(line => [...line.split('\t').slice(0, 2), line.split('\t')[5]].join(' ')),
+        [`2 101 ${INSIDE}`, `4 0 ${INSIDE}`, '4 502 ', ' ']);
+    const euc = await run(['find', 'image', 'A6B0', '--encoding', 'hex'], { cwd: room });
+    assert.ok(euc.out.includes('\t') && !euc.out.includes(INSIDE));
+    const sign = tool('iconv', ['-f', 'EUC-JP', '-t', 'UTF-8'], { input: Buffer.from('A6B0', 'hex') }).toString();
+    const signs = await run(['find', 'image', sign, '--encoding', 'EUC-JP'], { cwd: room });
+    assert.deepEqual(signs.out.split('\n').map(line => line.split('\t')[5]), [INSIDE, undefined, undefined]);
+    const all = await run(['replace', 'image', 'kz', 'xx', '--all', '--encoding', 'CP932'], { cwd: room });
+    const why = `block 2 offset 101 is ${INSIDE}`;
+    assert.deepEqual([all.status, all.out, all.errors],
+        [2, '', `cdscript: ${why}: to replace the bytes there all the same, give BLOCK and OFFSET\n`]);
+    const many = await run(['replace', 'image', 'kz', 'xx', '--encoding', 'CP932'], { cwd: room });
+    assert.deepEqual(many.errors.split('\n').slice(0, 3), [`cdscript: it stands at block 2 offset 101, ${INSIDE}`,
+        `cdscript: it stands at block 4 offset 0, ${INSIDE}`, 'cdscript: it stands at block 4 offset 502']);
+    const placed = await run(['replace', 'image', '2', '101', 'kz', 'xx', '--encoding', 'CP932'], { cwd: room });
+    assert.deepEqual([placed.status, placed.out, placed.errors], [0, 'cdpatch 1\nset 2 101 7878 was 6B7A\n', `cdscript: ${why}\n`]);
+    const begun = await run(['replace', 'image', '4', '502', 'kz', 'xx', '--encoding', 'CP932'], { cwd: room });
+    assert.deepEqual([begun.status, begun.errors], [0, '']);
+}));
+
+test('show keeps characters whole over rows, and goes on in the next block', () => inDirectory(async room => {
+    // スター is 8358 835E 815B: over the border of two rows, and over that of two blocks.
+    writeImage(room, [2, 15, '8358835E815B41'], [2, 2047, '83'], [3, 0, '5842'], [5, 30, 'F09F98']);
+    const shown = await run(['show', 'image', '2', '5'], { cwd: room });
+    const rows = text => text.split('\n').slice(2, -1);
+    assert.equal(rows(shown.out)[0], `   0  ${'00 '.repeat(15)}83  ...............ス`);
+    assert.equal(rows(shown.out)[1], `  16  58 83 5E 81 5B 41${' 00'.repeat(10)}  ターA..........`);
+    const inside = await run(['show', 'image', '2', '16'], { cwd: room });
+    assert.equal(rows(inside.out)[0], `  16  58 83 5E 81 5B 41${' 00'.repeat(10)}  ターA..........`);
+    const border = await run(['show', 'image', '2', '2047'], { cwd: room });
+    assert.equal(rows(border.out).length, 9);
+    assert.deepEqual(rows(border.out).slice(0, 3), [`2032  ${'00 '.repeat(15)}83  ...............ス`, 'block 3', `   0  58 42${' 00'.repeat(14)}  B..............`]);
+    assert.equal(rows((await run(['show', 'image', '2'], { cwd: room })).out).length, 128);
+    assert.equal(rows((await run(['show', 'image', '7', '2047'], { cwd: room })).out).length, 1);
+}));
