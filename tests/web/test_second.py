@@ -91,6 +91,10 @@ class Second(unittest.TestCase):
         self.press('Open the new image')
         self.browser.wait('#disc-line .name', 'game (repaired).bin')
 
+    def test_a_sector_whose_data_and_edc_are_others_is_named(self) -> None:
+        self.pair(with_faults((40, 9), (40, 2048), (60, 9)), with_faults())
+        self.browser.wait('#second-body .say.warn', 'look at block 40 first')
+
     def test_a_repair_as_a_script_gives_the_same_image(self) -> None:
         first, second = with_faults((40, 9), (60, 9)), with_faults()
         path, _ = self.pair(first, second)

@@ -1,7 +1,7 @@
 // Repair from a second image: what it would take, shown before anything is saved.
 
 import { filesAt } from '../core/iso.js';
-import { blocksIn } from '../core/runs.js';
+import { blocksIn, blocksText } from '../core/runs.js';
 import { mergeImages } from '../core/merge.js';
 import { SECTOR_SIZE } from '../core/sector.js';
 import { readBytes } from '../core/bytes.js';
@@ -27,6 +27,7 @@ import { tableCard, tallyOf } from './tally.js';
 /** @typedef {{ block: number, here: string, there: string, file: string, same: boolean }} DamageRow */
 
 const MOST_DAMAGE_ROWS = 200;
+const MOST_RUNS_NAMED = 8;
 
 export class SecondRepair {
     /**
@@ -106,9 +107,12 @@ export class SecondRepair {
         const warning = different > 0 ? [notice('warn',
             `${countOf(different, 'sector is sound in both, and differs', 'sectors are sound in both, and differ')}.`,
             'Perhaps it is another release of the disc. They stay as they are here.')] : [];
+        const doubt = repair.doubtful.length > 0 && notice('warn',
+            `${countOf(blocksIn(repair.doubtful), 'sector has', 'sectors have')} other data here, and another EDC.`,
+            `Perhaps the second image is another release of the disc: look at ${blocksText(repair.doubtful, MOST_RUNS_NAMED)} first.`);
         const tail = this.tail && notice('warn', 'The bytes after the last sector differ.', 'They stay as they are here.');
         this.place = element('div', { class: 'stack' });
-        fill(this.body, tally, ...none, ...warning, tail, element('p', { class: 'small quiet' },
+        fill(this.body, tally, ...none, doubt, ...warning, tail, element('p', { class: 'small quiet' },
             'Whole sectors are copied, and only those that are damaged here and sound there. A sound sector is never changed. ' +
             'Your file stays as it is.'), taken > 0 && element('div', { class: 'row' }, save, script), this.place);
     }
