@@ -53,6 +53,7 @@ fn put_two(space: &mut [u8])
 {
     let mut sink = SliceSink::new(space);
     let _ = sink.write(&[1, 2]);
+    let _space = sink.space; // so that the contract can name what it holds
 }
 
 #[test]
