@@ -2,7 +2,7 @@
 
 import { SECTOR_KIND } from '../core/records.js';
 import { auditText, kindRuns, listText } from '../core/survey.js';
-import { button, counted, element, fill, redraw, term } from './dom.js';
+import { button, counted, countOf, element, fill, redraw, term } from './dom.js';
 import { downloadText } from './files_out.js';
 import { oneStop } from './groups.js';
 import { MARK, SURVEY_LOOKS } from './marks.js';
@@ -192,7 +192,7 @@ export class Findings {
         const shown = lines.slice(0, MOST_LINES).join('\n');
         const more = lines.length - 1 - MOST_LINES;
         fill(this.body, element('pre', { class: 'report', tabindex: 0, 'aria-label': `What cdpatch ${this.text} prints` }, shown,
-            more > 0 && `\n… ${counted(more)} more lines: Copy and Save have all`));
+            more > 0 && `\n… ${countOf(more, 'more line')}: Copy and Save have all`));
         fill(this.foot, choice, element('span', {}, 'The text that the program prints, to the byte.'));
     }
 
