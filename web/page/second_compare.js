@@ -105,8 +105,8 @@ export class SecondCompare {
             element('th', { class: 'n' }, name === 'EDC' ? term('edc', name) : name)));
         const body = rows.map(({ block, fields, state }) => element('tr', {},
             element('td', { class: 'n', 'data-l': 'block' },
-                state === SECOND_STATE.DAMAGED && element('span', { class: 'tag bad' }, 'damaged in the second'),
-                button('slim bare tiny', () => this.app.goTo(block, -1, true), String(block))),
+                button('slim bare tiny', () => this.app.goTo(block, -1, true), String(block)),
+                state === SECOND_STATE.DAMAGED && element('span', { class: 'tag bad' }, 'damaged in the second')),
             ...fields.map((count, i) => element('td', { class: 'n', 'data-l': names[i] }, count))));
         const text = rows.map(({ block, fields }) => `${block}\t${fields.join('\t')}\n`).join('');
         const left = all - rows.length;
