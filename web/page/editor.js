@@ -136,7 +136,7 @@ export class ScriptEditor {
             if (i !== this.current) side.push(this.row(i));
             if (this.helps.has(i)) (i < this.current ? before : after).push(this.helpRow(i));
         }
-        this.set(this.now, this.current);
+        this.now.style.top = `${this.tops[this.current]}px`;
         if (this.now.parentNode === null) this.list.append(this.now);
         while (this.now.previousSibling) this.now.previousSibling.remove();
         while (this.now.nextSibling) this.now.nextSibling.remove();
@@ -150,18 +150,9 @@ export class ScriptEditor {
         const made = element('li', { class: (this.lines.isWrong(i) ? 'bad' : '') + chosen }, ...this.margin(i),
             element('span', { class: 'src' }, ...colored(this.lines.lines[i].slice(0, MOST_DRAWN), this.lines.wordsAt(i))), this.words(i));
         made.dataset.line = String(i);
-        this.set(made, i);
+        made.style.top = `${this.tops[i]}px`;
+        made.style.minHeight = `${this.tops[i + 1] - this.tops[i] - this.helpHeight(i)}px`;
         return made;
-    }
-
-    /**
-     * Puts a row where its line is, and makes it as high as the line without its help.
-     * @param {HTMLElement} row
-     * @param {number} i
-     */
-    set(row, i) {
-        row.style.top = `${this.tops[i]}px`;
-        row.style.minHeight = `${this.tops[i + 1] - this.tops[i] - this.helpHeight(i)}px`;
     }
 
     /** @param {number} i */

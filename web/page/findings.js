@@ -174,7 +174,8 @@ export class Findings {
             element('td', { class: 'num nowrap' }, element('button', { type: 'button', class: 'fold', 'data-block': first },
                 first === last ? String(first) : `${first}–${last}`)),
             element('td', { class: 'n', 'data-l': 'sectors' }, counted(last - first + 1)),
-            element('td', {}, dotOf(KINDS[kind][1]), KINDS[kind][0]), element('td', { class: 'num', 'data-l': 'begins at' }, addressOf(this.app, first))));
+            element('td', {}, dotOf(KINDS[kind][1]), KINDS[kind][0]),
+            element('td', { class: 'num', 'data-l': 'begins at' }, addressOf(this.app, first))));
         fill(this.body, element('table', {}, element('thead', {}, head), element('tbody', {}, ...rows)));
         const left = runs.length - rows.length;
         fill(this.foot, element('span', {}, left > 0 ? `and ${counted(left)} more: “As text” has all. ` : '',
