@@ -116,7 +116,8 @@ export class Findings {
             fill(this.body, element('table', {}, element('thead', {}, head), element('tbody', {}, ...rows)));
         }
         const last = this.report().trim().split('\n').pop() || '';
-        fill(this.foot, element('span', { class: 'mono' }, last), places.length > 0 && element('span', {},
+        const counts = last.split(/(?<=\d) /).flatMap(it => [element('span', { class: 'nowrap' }, it), ' ']);
+        fill(this.foot, element('span', { class: 'mono' }, ...counts), places.length > 0 && element('span', {},
             '“Looks like” is a guess from the distances. The other columns are what cdpatch found.'));
     }
 
