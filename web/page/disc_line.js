@@ -77,7 +77,11 @@ function facts(app, image, drawn) {
     if (counts[MARK.MODE2] > 0 || mode1 === 0) own.push(cell('Mode 2', counted(counts[MARK.MODE2])));
     if (counts[MARK.NOSYNC] > 0 || panel === 'disc') own.push(cell('Audio, no sync', counted(counts[MARK.NOSYNC])));
     own.push(cell('Findings', element('b', { class: tone }, counted(findings))));
-    if (panel !== 'disc') own.push(cell('SHA-1', ...shaOf(image, drawn, 12)));
+    if (panel !== 'disc') {
+        const hash = cell('SHA-1', ...shaOf(image, drawn, 12));
+        hash.className = 'hash';
+        own.push(hash);
+    }
     return [element('div', {}, element('p', { class: 'name' }, image.name), ...lineParts(app, image),
         panel === 'disc' && element('p', { class: 'small quiet' }, 'SHA-1 ', ...shaOf(image, drawn, 40))), element('dl', {}, ...own)];
 }
