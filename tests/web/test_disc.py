@@ -238,6 +238,15 @@ class Disc(unittest.TestCase):
         browser.wait(VERDICT, '16 of 270 Mode 1 sectors are damaged, in 1 place')
         browser.wait('#findings', 'a scratch: every 9th sector')
 
+    def test_no_panel_is_wider_than_a_phone(self) -> None:
+        browser = self.browser
+        browser.open(PAGE)
+        browser.click('#open-example')
+        browser.wait('.sha1')
+        for panel in ('disc', 'text', 'script', 'publish'):
+            browser.click(f'#tab-{panel}')
+            self.assertLessEqual(browser.wider(320), 0, panel)
+
     def test_another_base_is_offered_if_no_sector_has_the_address_of_its_block(self) -> None:
         browser = self.opened(discs.written(game=discs.scratched())['game'])
         browser.wait('#disc-line .lead button', 'Repair from another dump')
