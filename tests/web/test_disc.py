@@ -254,10 +254,9 @@ class Disc(unittest.TestCase):
         browser.type('#base', '100')
         browser.press(Keys.ENTER)
         browser.wait('#disc-line .lead', 'the base is probably 0, not 100. 1 sector is damaged.')
-        browser.wait('.sha1', sha1(discs.scratched()))
         self.assertEqual(browser.run('return document.activeElement.innerText'), 'Change')
         self.assertNotIn('copy protection', browser.text('#findings'))
-        browser.click('#disc-line .lead .main')
+        browser.run("document.querySelector('#disc-line .lead .main').click()")
         browser.wait('#disc-line .lead', f'1 of {len(discs.game()) // 2352} Mode 1 sectors')
 
     def test_reading_can_be_cancelled_and_begun_again(self) -> None:
