@@ -250,6 +250,7 @@ class Disc(unittest.TestCase):
     def test_another_base_is_offered_if_no_sector_has_the_address_of_its_block(self) -> None:
         browser = self.opened(discs.written(game=discs.scratched())['game'])
         browser.wait('#disc-line .lead button', 'Repair from another dump')
+        browser.wait('.sha1', sha1(discs.scratched()))
         browser.click('#disc-line dl .btn')
         browser.type('#base', '100')
         browser.press(Keys.ENTER)
