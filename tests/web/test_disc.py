@@ -238,15 +238,26 @@ class Disc(unittest.TestCase):
         browser.wait(VERDICT, '16 of 270 Mode 1 sectors are damaged, in 1 place')
         browser.wait('#findings', 'a scratch: every 9th sector')
 
+    def test_no_panel_is_wider_than_a_phone(self) -> None:
+        browser = self.browser
+        browser.open(PAGE)
+        browser.click('#open-example')
+        browser.wait('.sha1')
+        for panel in ('disc', 'text', 'script', 'publish'):
+            browser.click(f'#tab-{panel}')
+            self.assertLessEqual(browser.wider(320), 0, panel)
+
     def test_another_base_is_offered_if_no_sector_has_the_address_of_its_block(self) -> None:
         browser = self.opened(discs.written(game=discs.scratched())['game'])
         browser.wait('#disc-line .lead button', 'Repair from another dump')
+        browser.wait('.sha1', sha1(discs.scratched()))
         browser.click('#disc-line dl .btn')
         browser.type('#base', '100')
         browser.press(Keys.ENTER)
         browser.wait('#disc-line .lead', 'the base is probably 0, not 100. 1 sector is damaged.')
+        self.assertEqual(browser.run('return document.activeElement.innerText'), 'Change')
         self.assertNotIn('copy protection', browser.text('#findings'))
-        browser.click('#disc-line .lead .main')
+        browser.run("document.querySelector('#disc-line .lead .main').click()")
         browser.wait('#disc-line .lead', f'1 of {len(discs.game()) // 2352} Mode 1 sectors')
 
     def test_reading_can_be_cancelled_and_begun_again(self) -> None:

@@ -36,7 +36,7 @@ class Publish(PageTest):
         self.wait_for_hash()
         self.open_script(paths['english'])
         self.browser.click('#tab-publish')
-        self.browser.wait('#panel-publish', 'tried on this image: 6 applied, 0 refused')
+        self.browser.wait('#panel-publish', 'tried on this image: 6 would apply, 0 refused')
         self.browser.type('#patcher-title', HOSTILE)
 
     def test_a_patcher_is_the_page_byte_for_byte_and_data_after_it(self) -> None:
@@ -88,7 +88,7 @@ class Publish(PageTest):
         self.open_image(files['game'])
         self.open_script(files['english'])
         self.browser.click('#tab-publish')
-        self.browser.wait('#panel-publish', 'tried on this image: 6 applied, 2 refused')
+        self.browser.wait('#panel-publish', 'tried on this image: 6 would apply, 2 refused')
         self.browser.type('#patcher-title', 'Title')
         self.assertTrue(self.is_off('Save as a patcher') and self.is_off('See it as a player'))
         self.press('Go to line 11')

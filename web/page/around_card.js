@@ -2,7 +2,7 @@
 
 import { USER_SIZE } from '../core/sector.js';
 import { button, element, fill, hexOf } from './dom.js';
-import { charactersOf, chosenEncoding, encodingLabel } from './encodings.js';
+import { charactersOf, chosenEncoding, columnLabel, encodingLabel } from './encodings.js';
 
 /** @typedef {import('./state.js').App} App */
 /** @typedef {import('../core/find.js').Hit} Hit */
@@ -46,7 +46,7 @@ export class AroundCard {
     /** @param {{ hit: Hit, around: Around }} shown */
     draw({ hit, around }) {
         this.columns = this.fitting() || 16;
-        const label = encodingLabel(this.app.encoding);
+        const label = columnLabel(encodingLabel(this.app.encoding), this.columns);
         const numbers = Array.from({ length: this.columns }, (_, i) => element('i', {}, i));
         fill(this.card, element('header', {}, element('h2', {}, 'The bytes around it'),
             button('slim bare', () => this.app.goTo(hit.block, hit.offset, true), 'Open the sector')),

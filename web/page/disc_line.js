@@ -1,7 +1,7 @@
 // The line with the open image, which stands over every panel; and on the Disc panel the verdict, or how far reading has come.
 
 import { SECTOR_SIZE } from '../core/sector.js';
-import { button, byId, countOf, counted, element, fill, redraw, term } from './dom.js';
+import { button, byId, countOf, counted, element, fill, keepFocus, redraw, term } from './dom.js';
 import { MARK } from './marks.js';
 import { imageOfTrack } from './open.js';
 import { otherBase, placesOf } from './places.js';
@@ -27,7 +27,9 @@ export function mountDiscLine(app) {
         drawn.waiting = 0;
         if (app.image === null) return;
         const { image } = app;
-        if (!drawn.changing) redraw(top, () => fill(top, ...facts(app, image, drawn)));
+        const drawFacts = () => fill(top, ...facts(app, image, drawn));
+        if (!drawn.changing && top.querySelector('form')) keepFocus(top, drawFacts, '.change');
+        else if (!drawn.changing) redraw(top, drawFacts);
         lead.hidden = app.panel !== 'disc';
         redraw(lead, () => fill(lead, ...leadOf(app)));
         drawCounts(app);
@@ -69,13 +71,17 @@ function facts(app, image, drawn) {
     const tone = findings > 0 ? 'bad-ink' : over ? 'good-ink' : 'quiet';
     const cell = (/** @type {string} */ name, /** @type {Child[]} */ ...value) => element('div', {}, element('dt', {}, name),
         element('dd', {}, ...value));
-    const own = [cell('Base', term('base', String(image.base)), ' ', button('slim bare tiny', () => askBase(app, drawn), 'Change'))];
+    const own = [cell('Base', term('base', String(image.base)), ' ', button('slim bare tiny change', () => askBase(app, drawn), 'Change'))];
     const mode1 = survey ? survey.marks.mode1() : 0;
     own.push(cell('Mode 1', counted(mode1)));
     if (counts[MARK.MODE2] > 0 || mode1 === 0) own.push(cell('Mode 2', counted(counts[MARK.MODE2])));
     if (counts[MARK.NOSYNC] > 0 || panel === 'disc') own.push(cell('Audio, no sync', counted(counts[MARK.NOSYNC])));
     own.push(cell('Findings', element('b', { class: tone }, counted(findings))));
-    if (panel !== 'disc') own.push(cell('SHA-1', ...shaOf(image, drawn, 12)));
+    if (panel !== 'disc') {
+        const hash = cell('SHA-1', ...shaOf(image, drawn, 12));
+        hash.className = 'hash';
+        own.push(hash);
+    }
     return [element('div', {}, element('p', { class: 'name' }, image.name), ...lineParts(app, image),
         panel === 'disc' && element('p', { class: 'small quiet' }, 'SHA-1 ', ...shaOf(image, drawn, 40))), element('dl', {}, ...own)];
 }

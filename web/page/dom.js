@@ -50,16 +50,20 @@ export function fill(target, ...children) {
 }
 
 /**
- * Draws a part anew, and gives the focus back to the control that had it, by its place among the others.
+ * Draws a part anew, and gives the focus back to the control that had it: by its words if only one has these, else by its place.
  * @param {Element} part
  * @param {() => void} draw
  */
 export function redraw(part, draw) {
     const stops = () => /** @type {HTMLElement[]} */ ([...part.querySelectorAll('button, input, select')]);
-    const at = stops().findIndex(it => it === document.activeElement);
+    const before = stops();
+    const at = before.findIndex(it => it === document.activeElement);
     draw();
-    const now = stops()[at];
-    if (now) now.focus();
+    if (at < 0) return;
+    const now = stops();
+    const alike = now.filter(it => it.textContent === before[at].textContent);
+    const next = alike.length === 1 ? alike[0] : now[at];
+    if (next) next.focus();
 }
 
 /**

@@ -151,6 +151,7 @@ export class ScriptEditor {
             element('span', { class: 'src' }, ...colored(this.lines.lines[i].slice(0, MOST_DRAWN), this.lines.wordsAt(i))), this.words(i));
         made.dataset.line = String(i);
         made.style.top = `${this.tops[i]}px`;
+        made.style.minHeight = `${this.tops[i + 1] - this.tops[i] - this.helpHeight(i)}px`;
         return made;
     }
 

@@ -33,6 +33,15 @@ export function encodingLabel(name) {
 }
 
 /**
+ * The name of an encoding over a column of texts. Beside 8 bytes there is no room for what stands in brackets.
+ * @param {string} label
+ * @param {number} columns
+ */
+export function columnLabel(label, columns) {
+    return columns === 8 ? label.replace(/ \(.*/, '') : label;
+}
+
+/**
  * Puts the encodings into a list of choices, and keeps both alike.
  * @param {App} app
  * @param {HTMLSelectElement} choice

@@ -2,7 +2,7 @@
 
 import { SECTOR_KIND } from '../core/records.js';
 import { auditText, kindRuns, listText } from '../core/survey.js';
-import { button, counted, element, fill, redraw, term } from './dom.js';
+import { button, counted, countOf, element, fill, redraw, term } from './dom.js';
 import { downloadText } from './files_out.js';
 import { oneStop } from './groups.js';
 import { MARK, SURVEY_LOOKS } from './marks.js';
@@ -116,7 +116,8 @@ export class Findings {
             fill(this.body, element('table', {}, element('thead', {}, head), element('tbody', {}, ...rows)));
         }
         const last = this.report().trim().split('\n').pop() || '';
-        fill(this.foot, element('span', { class: 'mono' }, last), places.length > 0 && element('span', {},
+        const counts = last.split(/(?<=\d) /).flatMap(it => [element('span', { class: 'nowrap' }, it), ' ']);
+        fill(this.foot, element('span', { class: 'mono' }, ...counts), places.length > 0 && element('span', {},
             '“Looks like” is a guess from the distances. The other columns are what cdpatch found.'));
     }
 
@@ -174,7 +175,8 @@ export class Findings {
             element('td', { class: 'num nowrap' }, element('button', { type: 'button', class: 'fold', 'data-block': first },
                 first === last ? String(first) : `${first}–${last}`)),
             element('td', { class: 'n', 'data-l': 'sectors' }, counted(last - first + 1)),
-            element('td', {}, dotOf(KINDS[kind][1]), KINDS[kind][0]), element('td', { class: 'num' }, addressOf(this.app, first))));
+            element('td', {}, dotOf(KINDS[kind][1]), KINDS[kind][0]),
+            element('td', { class: 'num', 'data-l': 'begins at' }, addressOf(this.app, first))));
         fill(this.body, element('table', {}, element('thead', {}, head), element('tbody', {}, ...rows)));
         const left = runs.length - rows.length;
         fill(this.foot, element('span', {}, left > 0 ? `and ${counted(left)} more: “As text” has all. ` : '',
@@ -192,7 +194,7 @@ export class Findings {
         const shown = lines.slice(0, MOST_LINES).join('\n');
         const more = lines.length - 1 - MOST_LINES;
         fill(this.body, element('pre', { class: 'report', tabindex: 0, 'aria-label': `What cdpatch ${this.text} prints` }, shown,
-            more > 0 && `\n… ${counted(more)} more lines: Copy and Save have all`));
+            more > 0 && `\n… ${countOf(more, 'more line')}: Copy and Save have all`));
         fill(this.foot, choice, element('span', {}, 'The text that the program prints, to the byte.'));
     }
 

@@ -2,7 +2,7 @@
 
 import { SECTOR_SIZE, USER_OFFSET, USER_SIZE } from '../core/sector.js';
 import { element, fill, styleValue } from './dom.js';
-import { charactersOf } from './encodings.js';
+import { charactersOf, columnLabel } from './encodings.js';
 
 /** @typedef {import('../core/text.js').Encoding} Encoding */
 /** @typedef {{ name: string, label: string, from: number, to: number }} Field */
@@ -75,7 +75,7 @@ export class HexView {
     head({ label }) {
         const numbers = Array.from({ length: this.columns }, (_, i) => element('i', {}, i));
         return element('div', { class: 'head', 'aria-hidden': 'true' }, element('span', { class: 'o' }, 'offset'),
-            element('span', { class: 'b' }, ...numbers), element('span', { class: 't' }, label));
+            element('span', { class: 'b' }, ...numbers), element('span', { class: 't' }, columnLabel(label, this.columns)));
     }
 
     /** @param {Shown} shown */

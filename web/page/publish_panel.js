@@ -161,7 +161,7 @@ class PublishPanel {
             tried.patches > 0 ? ['good', `${countOf(tried.patches, 'patch', 'patches')}, no faults`]
                 : ['bad', 'The script has no patch yet.'],
             [tried.refused === 0 ? 'good' : 'bad',
-                `tried on this image: ${tried.patches - tried.refused} applied, ${tried.refused} refused`,
+                `tried on this image: ${tried.patches - tried.refused} would apply, ${tried.refused} refused`,
                 tried.first > 0 && button('slim bare tiny', () => {
                     app.showPanel('script');
                     app.goToLine(tried.first - 1);

@@ -129,7 +129,7 @@ export class ReplaceCard {
         const say = (/** @type {string} */ text) => [element('p', { class: 'say bad' }, text)];
         if (fault !== '' || this.target === null) return [];
         if (more > 0) {
-            return say(`A patch cannot move bytes: the new text needs as many bytes as the old one, or fewer. Shorten it by ${more}.`);
+            return say(`A patch cannot move bytes: the new text needs as many bytes as the old one, or fewer. Shorten it by\u00A0${more}.`);
         }
         if (this.input.value === '') return [element('p', { class: 'say plain' }, 'Type the new text.')];
         if (filled === null) return say(`${countOf(-more, 'byte')} cannot be filled with that. Choose another byte.`);

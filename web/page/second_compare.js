@@ -1,7 +1,7 @@
 // Compare with a second image: where both differ, and the script from one to the other.
 
 import { FIELD_COUNT, SECOND_STATE, tailsDiffer } from '../core/compare.js';
-import { button, element, fill, counted, term } from './dom.js';
+import { button, countOf, element, fill, term } from './dom.js';
 import { jobBar } from './progress.js';
 import { notice } from './say.js';
 import { addDiffering, compareMarks } from './second_marks.js';
@@ -81,7 +81,7 @@ export class SecondCompare {
     draw(marks) {
         const [differ, damaged, others] = [0, 1, 2].map(which => marks.count(which));
         const all = differ + damaged + others;
-        const tally = tallyOf([[all, 'sectors differ', ''], [this.onlyCodes, 'only in EDC or parity', ''],
+        const tally = tallyOf([[all, all === 1 ? 'sector differs' : 'sectors differ', ''], [this.onlyCodes, 'only in EDC or parity', ''],
             [damaged, 'damaged in the second', damaged > 0 ? 'bad-ink' : '']]);
         const write = button('main', () => this.write(), 'Write the script');
         const same = notice('good', `Both images are the same, ${this.tail ? 'sector for sector' : 'byte for byte'}.`);
@@ -105,12 +105,12 @@ export class SecondCompare {
             element('th', { class: 'n' }, name === 'EDC' ? term('edc', name) : name)));
         const body = rows.map(({ block, fields, state }) => element('tr', {},
             element('td', { class: 'n', 'data-l': 'block' },
-                state === SECOND_STATE.DAMAGED && element('span', { class: 'tag bad' }, 'damaged in the second'),
-                button('slim bare tiny', () => this.app.goTo(block, -1, true), String(block))),
+                button('slim bare tiny', () => this.app.goTo(block, -1, true), String(block)),
+                state === SECOND_STATE.DAMAGED && element('span', { class: 'tag bad' }, 'damaged in the second')),
             ...fields.map((count, i) => element('td', { class: 'n', 'data-l': names[i] }, count))));
         const text = rows.map(({ block, fields }) => `${block}\t${fields.join('\t')}\n`).join('');
         const left = all - rows.length;
-        const foot = left > 0 ? `${counted(left)} more blocks have no row here.`
+        const foot = left > 0 ? `${countOf(left, 'more block has', 'more blocks have')} no row here.`
             : 'If the user data differ and the EDC does not, one of the two is damaged.';
         fill(this.table, tableCard('Bytes that differ, by field', head, body, text, foot));
     }

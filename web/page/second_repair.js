@@ -230,8 +230,8 @@ function blocksOf(runs, most) {
  * @param {number} left how many blocks have no row
  */
 function footOf(same, left) {
-    const more = left > 0 ? `${counted(left)} more have no row here. ` : '';
-    if (same.length === 0) return `${more}In each of them the images differ.`;
+    const more = left > 0 ? `${countOf(left, 'more has', 'more have')} no row here. ` : '';
+    if (same.length === 0) return `${more}The images differ in each block.`;
     const several = same.length < 4 ? `blocks ${same.join(', ')}` : `${same.length} of these blocks`;
     const blocks = same.length === 1 ? `block ${same[0]}` : several;
     return `${more}In ${blocks} both images hold the same bytes: perhaps the damage is on the disc itself, or on purpose. ` +
