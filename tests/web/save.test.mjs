@@ -94,7 +94,8 @@ test('what is not accepted is aborted after all was written', async () => {
 });
 
 test('a file that shrinks aborts the sink', async () => {
-    for (const [source, parts, failing] of [[reader, pieces, -1], [longReader, longPieces, 1]]) {
+    const whole = [{ from: 0, to: long.size }];
+    for (const [source, parts, failing] of [[reader, pieces, -1], [longReader, longPieces, 1], [longReader, whole, 1]]) {
         const sink = sinkOf(failing);
         const most = source.size / 2;
         const short = { ...source, read: async (at, length) => (await source.read(at, length)).slice(0, Math.max(most - at, 0)) };
