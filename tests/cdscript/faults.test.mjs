@@ -138,8 +138,8 @@ test('a full or closed output is a message and status 2', () => inDirectory(room
 
 test('a full pipe is waited for', () => inDirectory(room => {
     const sector = imageOf(room, 1);
-    write(room, { image: Buffer.concat(Array.from({ length: 20000 }, () => sector)) });
-    const { status, stdout } = shell('{ "$COMMAND" audit image; echo $? > status; } | { sleep 1; md5sum; }', room);
+    write(room, { image: Buffer.concat(Array.from({ length: 8000 }, () => sector)) });
+    const { status, stdout } = shell('{ "$COMMAND" audit image; echo $? > status; } | { sleep 5; md5sum; }', room);
     assert.equal(status, 0);
     assert.equal(read(room, 'status').toString(), '1\n');
     assert.equal(stdout, shell('"$PROGRAM" audit image | md5sum', room).stdout);
