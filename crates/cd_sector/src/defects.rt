@@ -165,7 +165,7 @@ pub(crate) fn all_column_sums(bytes: &[u8; SECTOR_SIZE]) -> ColumnSums
 ///
 /// ```
 /// let mut sector = encode([0x00, 0x02, 0x00], &[0x00; USER_SIZE]);
-/// sector.put(12 + 86 * 3 + 7, 0x01); // a byte of row 3
+/// sector.put(12 + 86 * 3 + 7, 0x01); // the fourth byte of column 3 of plane 1
 /// let mut marks = [0x00; COLUMNS];
 /// mark_columns(&sector, &mut marks);
 /// assert_eq!(rt; (marks[6], marks[7], marks[8]), (0, 1, 0)); // column 3 of plane 1
@@ -184,7 +184,7 @@ pub fn mark_columns(s: &Sector, marks: &mut [u8; COLUMNS])
 ///
 /// ```
 /// let mut sector = encode([0x00, 0x02, 0x00], &[0x00; USER_SIZE]);
-/// sector.put(12 + 86 * 4 + 2, 0x01); // a byte of row 4 and of column 1 of plane 0
+/// sector.put(12 + 86 * 4 + 2, 0x01); // the fifth byte of column 1 of plane 0
 /// let mut marks = [0x00; DIAGONALS];
 /// mark_diagonals(&sector, &mut marks);
 /// assert_eq!(rt; (marks[4], marks[6], marks[8]), (0, 1, 0)); // diagonal 4 - 1 of plane 0
