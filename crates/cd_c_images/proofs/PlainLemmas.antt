@@ -26,7 +26,7 @@ module _ {carry : Bool} {base : ℕ} {image script log log' : List ℕ} {size st
           (λ patches outcomes last. WritesLines patches image outcomes log log' size status)
       go (ChecksInMemory.outside above failed same) = absurd (done failed)
       go (ChecksInMemory.without_script within line none fails) = absurd (done fails.1)
-      go (ChecksInMemory.checked within patches reads r) = record {
+      go (ChecksInMemory.checked within patches reads left r) = record {
         patches = patches;
         script = reads;
         each = λ outcomes last patched.
@@ -48,8 +48,8 @@ module _ {carry : Bool} {base : ℕ} {image script log log' : List ℕ} {size st
           → CheckFails carry base image script log size
       go (ChecksInMemory.outside above is same) = inl above
       go (ChecksInMemory.without_script within line none fails) = inr (inr (inl (line, none)))
-      go (ChecksInMemory.checked within patches reads r) =
-          stops (why-stopped carry patches base image r.left (null_outgoing 0 0 false)
+      go (ChecksInMemory.checked within patches reads left r) =
+          stops (why-stopped carry patches base image left (null_outgoing 0 0 false)
           (null_outgoing r.runs.does.0 r.runs.does.1 r.runs.does.2) all.room_filled.lent
           r.runs.middle after log log' size status all.room_filled.fills all.counted r.runs.result
           r.runs.does.3 r.runs.ends failed)
@@ -88,7 +88,7 @@ module _ {carry : Bool} {base : ℕ} {bytes script out out' log log' : List ℕ}
             Holds last out out' × WritesLines patches bytes outcomes log log' size status)
         go (AppliesInMemory.outside above failed same silent) = absurd (done failed)
         go (AppliesInMemory.without_script within line none same fails) = absurd (done fails.1)
-        go (AppliesInMemory.applied within patches reads r) = record {
+        go (AppliesInMemory.applied within patches reads left r) = record {
           patches = patches;
           script = reads;
           each = λ outcomes last patched.

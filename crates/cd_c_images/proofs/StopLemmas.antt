@@ -1,5 +1,5 @@
 -- What an `apply` that failed has sent.
-use Rattle.std.proofs.Common.{◌≡◌, ◌≢◌, ℕ, ◌<◌, ◌==◌, ◌⊎◌, Bool, true, false, cond, List, []}
+use Rattle.std.proofs.Common.{◌≡◌, ◌≢◌, ℕ, ◌<◌, ◌==◌, ◌⊎◌, Bool, false, List, []}
 use Rattle.std.proofs.Common.{length, take, Some, Result, Ok, Err, inl, inr, refl, sym, ap, ◌∙◌}
 use Rattle.std.proofs.Common.{◌+◌, ◌≤◌, ◌++◌, subst, arith, length-append}
 use Rattle.std.specs.Borrow.{MutBor}
@@ -9,6 +9,7 @@ use Rattle.cd_image.specs.Applying.{Applies, streams}
 use Rattle.cd_image.specs.Patched.{EachPatching}
 use Rattle.cd_image.specs.declared.patch_log.Tally.{Tally}
 use Rattle.cd_program.specs.Commands.{Ends, script_status}
+use Rattle.cd_program.proofs.CommandLemmas.{not-failed}
 use Rattle.cd_rooms.proofs.ReportLemmas.{may-be}
 use Rattle.cd_memory.proofs.KnownLemmas.{Appends-Some, Fits-beyond, MayBeImageAtEnd-within}
 use Rattle.cd_memory.proofs.KnownLemmas.{Some-injective}
@@ -25,14 +26,6 @@ use Rattle.cd_c_images.specs.Images.{AppliesInMemory}
 use Rattle.cd_c_images.specs.Plain.{ApplyFails, HasShortLog, SendsFront}
 use Rattle.cd_rooms.specs.Rooms.{FillsCounted, FillsFront, FillsRoom, Holds, fresh_over}
 
--- a script that was applied to the end has another status
-few-if : (b : Bool) → cond b 0 1 ≢ failed_status
-few-if true is = absurd (omega (arith, is))
-few-if false is = absurd (omega (arith, is))
-
-pub not-failed : (tally : Tally) (status : ℕ) → status ≡ script_status tally → status ≢ failed_status
-not-failed tally status is failed = few-if (tally.refused == 0) (sym is ∙ failed)
-
 module _ (carry : Bool) (patches : List Patch) (base : ℕ) (image : List ℕ) (left : SliceSource)
     (out made log middle log' : Outgoing) (status : ℕ) (failed : status ≡ failed_status) where
   begins-image : (result : Result Tally Fault)
@@ -41,7 +34,7 @@ module _ (carry : Bool) (patches : List Patch) (base : ℕ) (image : List ℕ) (
       → Ends Log script_status result middle log' status
       → EachPatching carry patches base (take image_limit image)
       (λ outcomes last. IsBeginning a.sent last)
-  begins-image (Ok tally) a ends = absurd (not-failed tally status ends.1 failed)
+  begins-image (Ok tally) a ends = absurd (not-failed (tally.refused == 0) ends.1 failed)
   begins-image (Err Read) a ends = absurd (omega (arith, a.answers.failed.reads))
   begins-image (Err Write) a ends = λ outcomes last patched.
       (a.answers.begins (take image_limit image)
@@ -97,7 +90,7 @@ module _ (carry : Bool) (patches : List Patch) (base : ℕ) (image : List ℕ) (
       ⊎ ((made.failures ≡ out.failures + 1)
       × (out.flush_may_fail ≡ false → length a.sent < length image))
       ⊎ HasShortLog carry patches base image log size
-  why-stopped (Ok tally) a ends failed = absurd (not-failed tally status ends.1 failed)
+  why-stopped (Ok tally) a ends failed = absurd (not-failed (tally.refused == 0) ends.1 failed)
   why-stopped (Err Read) a ends failed = absurd (omega (arith, a.answers.failed.reads))
   why-stopped (Err Write) a ends failed = inr (inl (
     a.answers.failed.writes,
@@ -140,9 +133,9 @@ apply-fails {carry = carry} {base = base} {image = image} {text = text} {out = o
     go (AppliesInMemory.without_script within line none same fails) =
         ApplyFails.without_script line none
         (nothing-sent out out' all.lent all.after all.fills same)
-    go (AppliesInMemory.applied within patches reads r) =
+    go (AppliesInMemory.applied within patches reads left r) =
         ApplyFails.stopped patches reads front
-        (stops (why-stopped carry patches base image r.left _ all.after all.does.room_filled.lent
+        (stops (why-stopped carry patches base image left _ all.after all.does.room_filled.lent
         r.runs.middle all.does.room_filled.after log log' size status all.does.room_filled.fills
         all.does.counted r.runs.result r.runs.does r.runs.ends failed))
       where
@@ -156,7 +149,7 @@ apply-fails {carry = carry} {base = base} {image = image} {text = text} {out = o
           holds = all.fills.holds;
           begins = subst (λ s. EachPatching carry patches base (take image_limit image)
               (λ outcomes last. IsBeginning s last)) same
-              (begins-image carry patches base image r.left _ all.after _ r.runs.middle
+              (begins-image carry patches base image left _ all.after _ r.runs.middle
               all.does.room_filled.after status failed r.runs.result r.runs.does r.runs.ends);
         }
 

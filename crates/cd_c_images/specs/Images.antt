@@ -1,25 +1,21 @@
 -- What `check` and `apply` do on an image and a script in memory.
-use Rattle.std.specs.Prelude.{◌≡◌, ◌≢◌, ℕ, ◌+◌, ◌<◌, ◌≤◌, ◌⊎◌, Bool, true, List, length, Result, Ok}
+use Rattle.std.specs.Prelude.{◌≡◌, ℕ, ◌<◌, ◌≤◌, Bool, List, length, Result, Ok}
 use Rattle.std.specs.Prelude.{Err}
 use Rattle.cd_args.specs.Fault.{failed_status}
-use Rattle.cd_image.specs.Applying.{Applies, Checks, HoldsFew, WritesCarried, WritesPatched}
-use Rattle.cd_image.specs.Applying.{streams}
 use Rattle.cd_program.specs.Messages.{load_fault_line, script_fault_line}
 use Rattle.cd_program.specs.Program.{PrintsAndFails}
-use Rattle.cd_program.specs.Commands.{CallThenLine, IsTooLong, PrintsPatchLog, script_status}
+use Rattle.cd_program.specs.Running.{RunsApply, RunsCheck}
 use Rattle.cd_program.specs.ScriptLines.{IsFaultOf}
 use Rattle.cd_program.specs.declared.script.LoadFault.TheVariants as load_fault
 use Rattle.cd_memory.specs.Memory.{fresh_incoming}
-use Rattle.cd_read.specs.Ends.{EndsWell}
 use Rattle.cd_read.specs.Image.{base_limit}
-use Rattle.cd_read.specs.declared.fault.Fault.TheVariants.{Log}
 use Rattle.cd_script.specs.Limits.{text_limit}
 use Rattle.cd_script.specs.Order.{order}
 use Rattle.cd_script.specs.Script.{script}
 use Rattle.cd_script.specs.declared.fault.ScriptFault.{ScriptFault}
 use Rattle.cd_script.specs.PatchForm.{Patch}
 use Rattle.cd_stream.specs.Adapters.{slice_incoming}
-use Rattle.cd_stream.specs.Stream.{Incoming, Outgoing}
+use Rattle.cd_stream.specs.Stream.{Outgoing}
 use Rattle.cd_stream.specs.declared.adapters.slice_source.SliceSource.{SliceSource}
 
 -- ---- scripts
@@ -44,20 +40,8 @@ TakesText text log log' (Err status) =
 
 -- ---- `check`
 
--- all that `run_check` promises of an image of which something is left
-pub record ChecksFrom (carry : Bool) (patches : List Patch) (base : ℕ) (image : Incoming)
-    (log log' : Outgoing) (status : ℕ) : Type 0 where
-  pub left : SliceSource
-  pub runs : CallThenLine (λ middle answer.
-      Checks carry patches base image (slice_incoming left) log middle answer)
-      Log script_status log' status
-  pub text : status ≢ failed_status → PrintsPatchLog carry patches base image log log' status
-  pub ends_well : status ≢ failed_status → EndsWell image (slice_incoming left) log log'
-  pub flushed : status ≢ failed_status → log'.flushes ≡ log.flushes + 1
-  pub failed : status ≡ failed_status → ((slice_incoming left).failures ≢ image.failures)
-      ⊎ (log'.failures ≢ log.failures) ⊎ IsTooLong image (slice_incoming left)
-
--- a base that no image has prints nothing; a text that is no script prints just why
+-- a base that no image has prints nothing; a text that is no script prints just why; else the
+-- command runs, and `left` is what it leaves of the image
 pub data ChecksInMemory (carry : Bool) (base : ℕ) (image text : List ℕ) (log log' : Outgoing)
     (status : ℕ) : Type 0 where
   outside : base_limit < base → status ≡ failed_status → log' ≡ log
@@ -65,29 +49,11 @@ pub data ChecksInMemory (carry : Bool) (base : ℕ) (image text : List ℕ) (log
   without_script : base ≤ base_limit → (line : List ℕ) → HasNoScript text line
       → PrintsAndFails line log log' status → ChecksInMemory carry base image text log log' status
   checked : base ≤ base_limit → (patches : List Patch) → HasScript text patches
-      → ChecksFrom carry patches base (fresh_incoming image) log log' status
+      → (left : SliceSource)
+      → RunsCheck carry patches base (fresh_incoming image) (slice_incoming left) log log' status
       → ChecksInMemory carry base image text log log' status
 
 -- ---- `apply`
-
--- all that `run_apply` promises of an image of which something is left
-pub record AppliesFrom (carry : Bool) (patches : List Patch) (base : ℕ) (image : Incoming)
-    (out out' log log' : Outgoing) (status : ℕ) : Type 0 where
-  pub left : SliceSource
-  pub runs : CallThenLine (λ middle answer. Applies carry patches base (streams image out log)
-      (streams (slice_incoming left) out' middle) answer) Log script_status log' status
-  pub output : status ≢ failed_status
-      → WritesPatched carry patches base image (slice_incoming left) out out'
-  pub carried : carry ≡ true → status ≢ failed_status → WritesCarried patches base image out out'
-  pub text : status ≢ failed_status → PrintsPatchLog carry patches base image log log' status
-  pub output_ends_well : status ≢ failed_status → EndsWell image (slice_incoming left) out out'
-  pub log_ends_well : status ≢ failed_status → EndsWell image (slice_incoming left) log log'
-  pub output_flushed : status ≢ failed_status → out'.flushes ≡ out.flushes + 1
-  pub log_flushed : status ≢ failed_status → log'.flushes ≡ log.flushes + 1
-  pub failed : status ≡ failed_status → ((slice_incoming left).failures ≢ image.failures)
-      ⊎ (out'.failures ≢ out.failures) ⊎ (log'.failures ≢ log.failures)
-      ⊎ IsTooLong image (slice_incoming left)
-  pub holds_few : HoldsFew (streams image out log) (streams (slice_incoming left) out' log')
 
 -- as `check`; without patches nothing goes out
 pub data AppliesInMemory (carry : Bool) (base : ℕ) (image text : List ℕ)
@@ -99,5 +65,7 @@ pub data AppliesInMemory (carry : Bool) (base : ℕ) (image text : List ℕ)
       → PrintsAndFails line log log' status
       → AppliesInMemory carry base image text out out' log log' status
   applied : base ≤ base_limit → (patches : List Patch) → HasScript text patches
-      → AppliesFrom carry patches base (fresh_incoming image) out out' log log' status
+      → (left : SliceSource)
+      → RunsApply carry patches base (fresh_incoming image) (slice_incoming left) out out' log log'
+      status
       → AppliesInMemory carry base image text out out' log log' status

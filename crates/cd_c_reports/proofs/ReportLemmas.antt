@@ -6,7 +6,8 @@ use Rattle.std.proofs.lemmas.Bool.{cases_lt}
 use Rattle.cd_args.specs.Fault.{failed_status}
 use Rattle.cd_memory.proofs.KnownLemmas.{Appends-Some, Some-injective}
 use Rattle.cd_memory.specs.Memory.{fresh_incoming}
-use Rattle.cd_program.specs.Commands.{Ends, IsTooLong}
+use Rattle.cd_program.specs.Commands.{Ends}
+use Rattle.cd_program.specs.Running.{IsTooLong}
 use Rattle.cd_read.specs.Image.{image_limit}
 use Rattle.cd_read.specs.declared.fault.Fault.{Fault}
 use Rattle.cd_read.specs.declared.fault.Fault.TheVariants.{Log, Read, TooLong, Write}
@@ -16,7 +17,7 @@ use Rattle.cd_rooms.proofs.RoomLemmas.{holds-text, same-text}
 use Rattle.cd_rooms.specs.Reports.{ReportFails, ReportsInMemory, WritesReport}
 use Rattle.cd_rooms.specs.Rooms.{FillsCounted, FillsFront, fresh_over}
 use Rattle.cd_stream.specs.Adapters.{slice_incoming}
-use Rattle.cd_stream.specs.Stream.{Incoming, Outgoing}
+use Rattle.cd_stream.specs.Stream.{Outgoing}
 use Rattle.cd_stream.specs.declared.adapters.slice_source.SliceSource.{SliceSource}
 
 -- a call of the sink has failed: the memory is full, and if the image is not too long, some of its
@@ -73,7 +74,7 @@ module _ {T : Type 0} {spec : ReportSpec T} {status_of : T → ℕ} {base : ℕ}
           all.room_filled.after status
           → WritesReport spec status_of image room room' size status
       go (ReportsInMemory.outside above failed same) = absurd (done failed)
-      go (ReportsInMemory.reported within r) =
+      go (ReportsInMemory.reported within left r) =
           let fills = all.room_filled.fills in
           let text = r.text done image [] refl refl in record {
             holds = holds-text _ room room' _ fills text.1;
@@ -90,19 +91,17 @@ module _ {T : Type 0} {spec : ReportSpec T} {status_of : T → ℕ} {base : ℕ}
       go : ReportsInMemory spec status_of base image (fresh_over all.room_filled.lent) after status
           → ReportFails spec base image room size
       go (ReportsInMemory.outside above is same) = inl above
-      go (ReportsInMemory.reported within r) = why (r.failed failed)
+      go (ReportsInMemory.reported within left r) = why (r.failed failed)
         where
-          left : Incoming
-          left = slice_incoming r.left
-
-          why : (left.failures ≢ 0) ⊎ (after.failures ≢ 0) ⊎ IsTooLong (fresh_incoming image) left
+          why : ((slice_incoming left).failures ≢ 0) ⊎ (after.failures ≢ 0)
+              ⊎ IsTooLong (fresh_incoming image) (slice_incoming left)
               → ReportFails spec base image room size
           why (inl none) = absurd (none refl)
           why (inr (inl full)) =
-              inr (full-room spec status_of image r.left all.room_filled.lent after status r.runs.result
+              inr (full-room spec status_of image left all.room_filled.lent after status r.runs.result
               r.runs.middle r.runs.does r.runs.ends room room' all.room_filled.fills size all.counted
               full)
-          why (inr (inr long)) = inr (inl (too-long image r.left long))
+          why (inr (inr long)) = inr (inl (too-long image left long))
 
   pub report-clauses : record {
     report : FillsCounted (λ out out'. ReportsInMemory spec status_of base image out out' status) room

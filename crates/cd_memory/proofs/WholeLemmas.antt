@@ -3,7 +3,7 @@ use Rattle.std.proofs.Common.{◌≡◌, ◌≢◌, ℕ, suc, zero, Bool, true, 
 use Rattle.cd_args.specs.Fault.{done_status, failed_status, no_memory, printed}
 use Rattle.cd_args.specs.declared.job.Job.{Job}
 use Rattle.cd_args.specs.declared.job.Job.TheVariants as job
-use Rattle.cd_image.specs.Applying.{Applies, Streams, null_outgoing, streams}
+use Rattle.cd_image.specs.Applying.{Applies, null_outgoing, streams}
 use Rattle.cd_image.specs.declared.patch_log.Tally.{Tally}
 use Rattle.cd_read.specs.declared.fault.Fault.{Fault}
 use Rattle.cd_read.specs.declared.fault.Fault.TheVariants.{Log}
@@ -13,17 +13,16 @@ use Rattle.cd_report.specs.Report.{ReportSpec}
 use Rattle.cd_script.specs.PatchForm.{Patch}
 use Rattle.cd_stream.specs.Adapters.{slice_incoming}
 use Rattle.cd_stream.specs.Stream.{Outgoing}
-use Rattle.cd_stream.specs.Transfer.{Flushes}
 use Rattle.cd_stream.specs.declared.adapters.slice_source.SliceSource.{SliceSource}
 use Rattle.cd_program.specs.Messages.{no_image, no_output, open_fault_line}
-use Rattle.cd_program.specs.Program.{AppliesImage, DoesApply, DoesCheck, DoesReport, NoImage, NoOutput, NoScript, RunsJob, TakesImage, TakesScript}
+use Rattle.cd_program.specs.Program.{DoesApply, DoesCheck, DoesReport, NoImage, NoScript, RunsJob, TakesImage, TakesScript}
 use Rattle.std.specs.Io.KnownBytes.{Appends}
 use Rattle.cd_program.specs.Program.{FlushesRest, RefusesArgs, RunsArgs}
-use Rattle.cd_program.specs.Commands.{CallThenLine, Ends, PrintsLine, audit_status, script_status}
+use Rattle.cd_program.specs.Commands.{Ends, PrintsLine, audit_status, script_status}
 use Rattle.cd_program.specs.declared.host.OpenFault.{OpenFault}
 use Rattle.cd_program.specs.declared.host.OpenFault.TheVariants.{NoMemory, Refused}
 use Rattle.cd_program.specs.declared.jobs.Settings.{Settings}
-use Rattle.cd_memory.specs.Files.{NamedFile, file_bytes, named_file, with_bytes}
+use Rattle.cd_memory.specs.Files.{file_bytes, named_file, with_bytes}
 use Rattle.cd_memory.specs.declared.memory.Memory.{Memory}
 use Rattle.cd_memory.specs.Memory.{Makes, Opens, TakesBack, files_of, fresh_incoming, fresh_outgoing, input_of, is_there, made_of, memory_hosting}
 use Rattle.cd_memory.specs.Whole.{AppliesOn, ChecksOn, DoesOn, Environment, Explains, FailsWith, HasPatches, NoPatches, Opened, ProgramResult, ReportsOn, RunsOn, environment, image_at}
@@ -98,15 +97,15 @@ module _ {O : Type 0} (gone : O → Outgoing) (host host' : Memory) (log : Outgo
       → ReportsOn spec status_of name before after
   reports-on spec status_of name (DoesReport.without_image missing) =
       let none = no-image name missing in ReportsOn.without_image none.0 none.1
-  reports-on spec status_of name (DoesReport.reported image asked done) =
+  reports-on spec status_of name (DoesReport.reported image left asked done) =
       go (image_at before name) refl (TakesImage-opens gone name host host' (Ok image) asked)
     where
       go : (found : Option (List ℕ)) → image_at before name ≡ found
           → (host' ≡ host) × Opens found (Ok image) → ReportsOn spec status_of name before after
       go None is opens = absurd opens.1
       go (Some bytes) is opens =
-          reports spec status_of before after name bytes done.left.rest.now is
-          (slice_incoming image) (slice_incoming done.left) fresh_outgoing done.runs.middle log
+          reports spec status_of before after name bytes left.rest.now is
+          (slice_incoming image) (slice_incoming left) fresh_outgoing done.runs.middle log
           (ap (λ i. i.rest) opens.1) refl refl refl leaves (none-made opens.0)
           done.runs.result done.runs.does done.runs.ends
 
@@ -211,10 +210,10 @@ module _ {O : Type 0} (gone : O → Outgoing) (host host' : Memory) (log : Outgo
       let none = no-image-after name second printed_log read.silent read.same missing in
       ChecksOn.without_image patches read.has none.0 none.1
   checks-on settings name script
-      (DoesCheck.checked patches second printed_log takes_script image asked checks) =
+      (DoesCheck.checked patches second printed_log takes_script image left asked checks) =
       let read = read-script script patches second printed_log takes_script in
       let both = opened-both name script patches second printed_log read image host' asked in
-      go both (took settings name script patches image checks.left host' both
+      go both (took settings name script patches image left host' both
       (null_outgoing 0 0 false)
       (null_outgoing checks.runs.does.0 checks.runs.does.1 checks.runs.does.2) printed_log
       checks.runs.middle read.silent refl (λ more none. more refl)
@@ -300,19 +299,20 @@ module _ {O : Type 0} (gone : O → Outgoing) (host host' : Memory) (log : Outgo
       missing.0 missing.1.1 missing.2.0 missing.2.1
   applies-on settings name script path
       (DoesApply.applied patches second printed_log takes_script image third asked out fourth
-      gives applies) =
+      gives done) =
       let read = read-script script patches second printed_log takes_script in
       let both = opened-both name script patches second printed_log read image third asked in
       let file = made-file path out third fourth both.same gives.1 in
-      let a = applies.runs.does in
-      let back = came-back path a.sent out applies.made applies.last fourth file a.appends
-      applies.rest applies.back in
+      let runs = done.applies.runs in
+      let a = runs.does in
+      let back = came-back path a.sent out done.made done.last fourth file a.appends
+      done.rest done.back in
       go both file back
-      (took settings name script patches image applies.left third both (gone out)
-      (gone applies.made)
-      printed_log applies.runs.middle read.silent (ap (λ o. o.flush_may_fail) file.fresh)
+      (took settings name script patches image done.left third both (gone out)
+      (gone done.made)
+      printed_log runs.middle read.silent (ap (λ o. o.flush_may_fail) file.fresh)
       (λ more none. let no : named_file path a.sent ∷ [] ≡ [] = sym back ∙ none in cc)
-      applies.runs.result a applies.runs.ends)
+      runs.result a runs.ends)
     where
       go : (both : OpenedBoth name script patches image third) → MadeFile path out fourth
           → {sent : List ℕ} → after.made ≡ named_file path sent ∷ []

@@ -68,14 +68,14 @@ module _ {H I O : Type 0} (come : I → Incoming) (gone : O → Outgoing) (on : 
       → ((reported : T) → status_of reported ≤ 2)
       → DoesReport come gone on host' after status spec status_of name host before → status ≤ 2
   DoesReport-few few (DoesReport.without_image missing) = omega (arith, missing.2.1)
-  DoesReport-few few (DoesReport.reported image asked done) = Runs-few few done.runs
+  DoesReport-few few (DoesReport.reported image left asked done) = Runs-few few done.runs
 
   DoesCheck-few : {settings : Settings} {name script : List ℕ} {host : H} {before : Outgoing}
       → DoesCheck come gone on host' after status settings name script host before → status ≤ 2
   DoesCheck-few (DoesCheck.without_script missing) = NoScript-few missing
   DoesCheck-few (DoesCheck.without_image patches second printed_log takes missing) =
       omega (arith, missing.2.1)
-  DoesCheck-few (DoesCheck.checked patches second printed_log takes image asked checks) =
+  DoesCheck-few (DoesCheck.checked patches second printed_log takes image left asked checks) =
       Runs-few few-script checks.runs
 
   DoesApply-few : {settings : Settings} {name script path : List ℕ} {host : H} {before : Outgoing}
@@ -86,8 +86,8 @@ module _ {H I O : Type 0} (come : I → Incoming) (gone : O → Outgoing) (on : 
   DoesApply-few (DoesApply.without_output patches second printed_log takes image third asked missing) =
       omega (arith, missing.2.1)
   DoesApply-few
-      (DoesApply.applied patches second printed_log takes image third asked out fourth made applies) =
-      Runs-few few-script applies.runs
+      (DoesApply.applied patches second printed_log takes image third asked out fourth made done) =
+      Runs-few few-script done.applies.runs
 
 pub RunsJob-few : {H I O : Type 0} (come : I → Incoming) (gone : O → Outgoing) (on : Hosting H I O)
     (j : Job) (host host' : H) (before after : Outgoing) (status : ℕ)

@@ -1,15 +1,10 @@
 -- What the program does with the result of a call on an image: the fault's line, and the status.
-use Rattle.std.specs.Prelude.{◌≡◌, ◌≢◌, ℕ, ◌==◌, ◌+◌, ◌<◌, if◌then◌else◌, Bool, List, [], ◌++◌, length, Some, false, true, Result, Ok, Err, OnOk}
-use Rattle.cd_stream.specs.Stream.{Incoming, IsBeginning, Outgoing}
+use Rattle.std.specs.Prelude.{◌≡◌, ◌≢◌, ℕ, ◌==◌, ◌<◌, if◌then◌else◌, List, length, true, Result, Ok, Err, OnOk}
+use Rattle.cd_stream.specs.Stream.{IsBeginning, Outgoing}
 use Rattle.cd_stream.specs.Transfer.{Counts, CountsFlush, Takes}
 use Rattle.cd_stream.specs.declared.sink.SinkFailed.{SinkFailed}
-use Rattle.cd_script.specs.PatchForm.{Patch}
 use Rattle.cd_args.specs.Fault.{done_status, failed_status}
 use Rattle.cd_program.specs.Messages.{fault_line}
-use Rattle.cd_read.specs.Image.{image_limit}
-use Rattle.cd_image.specs.PatchLog.{log_text, patch_tally}
-use Rattle.cd_image.specs.Patched.{EachPatching}
-use Rattle.cd_report.specs.Report.{ReportSpec}
 use Rattle.cd_report.specs.declared.auditing.AuditTally.{AuditTally}
 use Rattle.cd_read.specs.declared.fault.Fault.{Fault}
 use Rattle.cd_image.specs.declared.patch_log.Tally.{Tally}
@@ -62,29 +57,3 @@ pub record CallThenLine {T : Type 0} (Does : Outgoing → Result T Fault → Typ
   pub middle : Outgoing
   pub does : Does middle result
   pub ends : Ends own status_of result middle after status
-
--- ---- the same in plain words
-
--- if the bytes of the image and the sink are known: the whole image was read, the sink has got its
--- text after what it had, and the status is that of its tally
-abbrev pub PrintsText : {T : Type 0} → ReportSpec T → (T → ℕ) → Incoming → Incoming → Outgoing
-    → Outgoing → ℕ → Type 0
-PrintsText spec status_of image image' out out' status =
-    (bytes earlier : List ℕ) → image.rest ≡ Some bytes → out.written ≡ Some earlier
-    → (image'.rest ≡ Some []) × (out'.written ≡ Some (earlier ++ spec.text bytes))
-    × (status ≡ status_of (spec.tally bytes))
-
--- if the bytes of the image and the log are known: the log has got the log of the patches after
--- what it had, and the status is that of its counts
-abbrev pub PrintsPatchLog : Bool → List Patch → ℕ → Incoming → Outgoing → Outgoing → ℕ → Type 0
-PrintsPatchLog carry patches base image log log' status =
-    (bytes earlier : List ℕ) → image.rest ≡ Some bytes → log.written ≡ Some earlier
-    → EachPatching carry patches base bytes (λ outcomes last.
-    (log'.written ≡ Some (earlier ++ log_text patches outcomes))
-    × (status ≡ script_status (patch_tally bytes outcomes)))
-
--- the image has not ended, and if its bytes are known, a byte was read after the millionth sector
-pub record IsTooLong (image image' : Incoming) : Type 0 where
-  pub unended : image'.ended ≡ false
-  pub beyond : (bytes left : List ℕ) → image.rest ≡ Some bytes → image'.rest ≡ Some left
-      → image_limit + length left < length bytes

@@ -7,11 +7,9 @@ use Rattle.cd_args.specs.declared.fault.LineFault.{LineFault}
 use Rattle.cd_args.specs.declared.fault.LineFault.TheVariants as line_fault
 use Rattle.cd_args.specs.declared.job.Job.{Job}
 use Rattle.cd_args.specs.declared.job.Job.TheVariants as job
-use Rattle.cd_image.specs.Applying.{Applies, Checks, streams}
 use Rattle.cd_report.specs.AuditText.{audit_report}
 use Rattle.cd_report.specs.ListText.{list_report}
-use Rattle.cd_report.specs.Report.{Reports, ReportSpec}
-use Rattle.cd_read.specs.declared.fault.Fault.TheVariants.{Log, Write}
+use Rattle.cd_report.specs.Report.{ReportSpec}
 use Rattle.cd_script.specs.Order.{order}
 use Rattle.cd_script.specs.Script.{script}
 use Rattle.cd_script.specs.declared.fault.ScriptFault.{ScriptFault}
@@ -21,7 +19,8 @@ use Rattle.cd_stream.specs.Transfer.{Flushes, Gives}
 use Rattle.cd_stream.specs.declared.sink.SinkFailed.{SinkFailed}
 use Rattle.cd_program.specs.Hosting.{Hosting}
 use Rattle.cd_program.specs.Messages.{load_fault_line, no_image, no_output, no_script, open_fault_line, script_fault_line}
-use Rattle.cd_program.specs.Commands.{CallThenLine, PrintsLine, audit_status, script_status}
+use Rattle.cd_program.specs.Commands.{PrintsLine, audit_status}
+use Rattle.cd_program.specs.Running.{RunsApply, RunsCheck, RunsReport}
 use Rattle.cd_program.specs.ScriptLines.{IsFaultOf, ReadsWhole, StopsLoading}
 use Rattle.cd_program.specs.declared.host.OpenFault.{OpenFault}
 use Rattle.cd_program.specs.declared.script.LoadFault.{LoadFault}
@@ -104,44 +103,27 @@ module _ {H I O : Type 0} (come : I → Incoming) (gone : O → Outgoing) (on : 
       (fault : OpenFault) × on.gives_output host path (Err fault) host'
       × PrintsAndFails (open_fault_line no_output fault) before after status
 
-  -- `list` or `audit`: the report of the image was written
-  pub record ReportsImage {T : Type 0} (spec : ReportSpec T) (status_of_tally : T → ℕ)
-      (before : Outgoing) (image : I) : Type 0 where
-    pub left : I
-    pub runs : CallThenLine (λ out' answer. Reports spec (come image) (come left) before out'
-        answer)
-        Write status_of_tally after status
-
-  -- `check`: the script was decided on the image, and no output made
-  pub record ChecksImage (settings : Settings) (patches : List Patch) (before : Outgoing)
-      (image : I) : Type 0 where
-    pub left : I
-    pub runs : CallThenLine (λ log' answer. Checks settings.carry patches settings.base (come image)
-        (come left) before log' answer)
-        Log script_status after status
-
   -- `apply`: the image was patched into the new file, what that still held was passed on, and the
   -- host has it back
   pub record AppliesImage (settings : Settings) (patches : List Patch) (before : Outgoing)
       (image : I) (host : H) (path : List ℕ) (out : O) : Type 0 where
     pub left : I
     pub made : O
-    pub runs : CallThenLine (λ log' answer. Applies settings.carry patches settings.base
-        (streams (come image) (gone out) before) (streams (come left) (gone made) log') answer)
-        Log script_status after status
+    pub applies : RunsApply settings.carry patches settings.base (come image) (come left)
+        (gone out) (gone made) before after status
     pub last : O
     pub rest : FlushesRest (gone made) (gone last)
     pub back : on.takes_back host path last host'
 
-  -- `list` and `audit`
+  -- `list` and `audit`; `left` is the image as the call leaves it
   pub data DoesReport {T : Type 0} (spec : ReportSpec T) (status_of_tally : T → ℕ) (name : List ℕ)
       (host : H) (before : Outgoing) : Type 0 where
     without_image : NoImage name host before → DoesReport spec status_of_tally name host before
-    reported : (image : I) → TakesImage on name host (Ok image) host'
-        → ReportsImage spec status_of_tally before image
+    reported : (image left : I) → TakesImage on name host (Ok image) host'
+        → RunsReport spec status_of_tally (come image) (come left) before after status
         → DoesReport spec status_of_tally name host before
 
-  -- `check`
+  -- `check`, which makes no output
   pub data DoesCheck (settings : Settings) (name script : List ℕ) (host : H)
       (before : Outgoing) : Type 0 where
     without_script : NoScript script host before → DoesCheck settings name script host before
@@ -150,8 +132,10 @@ module _ {H I O : Type 0} (come : I → Incoming) (gone : O → Outgoing) (on : 
         → NoImage name second printed_log → DoesCheck settings name script host before
     checked : (patches : List Patch) (second : H) (printed_log : Outgoing)
         → TakesScript come on script host second before printed_log (Ok patches)
-        → (image : I) → TakesImage on name second (Ok image) host'
-        → ChecksImage settings patches printed_log image → DoesCheck settings name script host before
+        → (image left : I) → TakesImage on name second (Ok image) host'
+        → RunsCheck settings.carry patches settings.base (come image) (come left) printed_log after
+        status
+        → DoesCheck settings name script host before
 
   -- `apply`
   pub data DoesApply (settings : Settings) (name script path : List ℕ) (host : H)

@@ -1,14 +1,12 @@
 //! The commands: a call on an image, then the line of its fault, and the status.
 
-ghost use Rattle.std.specs.Prelude.{◌≡◌, ◌≢◌, ◌⊎◌, ◌+◌, ◌<◌, ◌≤◌, true};
+ghost use Rattle.std.specs.Prelude.{◌≡◌, ◌≢◌, ◌≤◌};
 ghost use Rattle.cd_args.specs.Fault.{done_status, failed_status};
-ghost use Rattle.cd_image.specs.Applying.{Applies, Checks, HoldsFew, WritesCarried, WritesPatched, streams};
 ghost use Rattle.cd_report.specs.AuditText.{audit_report};
 ghost use Rattle.cd_report.specs.ListText.{list_report};
-ghost use Rattle.cd_read.specs.Ends.{EndsWell};
-ghost use Rattle.cd_report.specs.Report.{Reports};
 ghost use Rattle.cd_stream.specs.Transfer.{Counts};
-ghost use Rattle.cd_program.specs.Commands.{CallThenLine, IsTooLong, PrintsFaultLine, PrintsLine, PrintsPatchLog, PrintsText, audit_status, script_status};
+ghost use Rattle.cd_program.specs.Commands.{PrintsFaultLine, PrintsLine, audit_status, script_status};
+ghost use Rattle.cd_program.specs.Running.{RunsApply, RunsCheck, RunsReport};
 ghost use Rattle.cd_stream.specs.Stream.{CanCountFailure};
 ghost use Rattle.cd_read.specs.Image.{base_limit};
 
@@ -86,21 +84,8 @@ pub fn run_list<I: Source, O: Sink>(image: &mut I, base: u32, out: &mut O) -> u8
     requires base { base ≤ base_limit }
     requires image_countable { CanCountFailure (I.seen image.old).failures }
     requires out_countable { CanCountFailure (O.seen out.old).failures }
-    ensures report { CallThenLine (λ out' answer. Reports (list_report base) (I.seen image.old)
-        (I.seen image.new) (O.seen out.old) out' answer)
-        Fault.Write (λ _. done_status) (O.seen out.new) result }
-
-    // What it says if nothing failed, and when something has.
-    ensures text { result ≢ failed_status → PrintsText (list_report base) (λ _. done_status)
-        (I.seen image.old) (I.seen image.new) (O.seen out.old) (O.seen out.new) result }
-    ensures ends_well { result ≢ failed_status
-        → EndsWell (I.seen image.old) (I.seen image.new) (O.seen out.old) (O.seen out.new) }
-    ensures flushed { result ≢ failed_status
-        → (O.seen out.new).flushes ≡ (O.seen out.old).flushes + 1 }
-    ensures failed { result ≡ failed_status
-        → ((I.seen image.new).failures ≢ (I.seen image.old).failures)
-        ⊎ ((O.seen out.new).failures ≢ (O.seen out.old).failures)
-        ⊎ IsTooLong (I.seen image.old) (I.seen image.new) }
+    ensures { RunsReport (list_report base) (λ _. done_status) (I.seen image.old)
+        (I.seen image.new) (O.seen out.old) (O.seen out.new) result }
 {
     match list(image, base, out) {
         Ok(_) => DONE,
@@ -131,21 +116,8 @@ pub fn run_audit<I: Source, O: Sink>(image: &mut I, base: u32, out: &mut O) -> u
     requires base { base ≤ base_limit }
     requires image_countable { CanCountFailure (I.seen image.old).failures }
     requires out_countable { CanCountFailure (O.seen out.old).failures }
-    ensures report { CallThenLine (λ out' answer. Reports (audit_report base) (I.seen image.old)
-        (I.seen image.new) (O.seen out.old) out' answer)
-        Fault.Write audit_status (O.seen out.new) result }
-
-    // What it says if nothing failed, and when something has.
-    ensures text { result ≢ failed_status → PrintsText (audit_report base) audit_status
-        (I.seen image.old) (I.seen image.new) (O.seen out.old) (O.seen out.new) result }
-    ensures ends_well { result ≢ failed_status
-        → EndsWell (I.seen image.old) (I.seen image.new) (O.seen out.old) (O.seen out.new) }
-    ensures flushed { result ≢ failed_status
-        → (O.seen out.new).flushes ≡ (O.seen out.old).flushes + 1 }
-    ensures failed { result ≡ failed_status
-        → ((I.seen image.new).failures ≢ (I.seen image.old).failures)
-        ⊎ ((O.seen out.new).failures ≢ (O.seen out.old).failures)
-        ⊎ IsTooLong (I.seen image.old) (I.seen image.new) }
+    ensures { RunsReport (audit_report base) audit_status (I.seen image.old)
+        (I.seen image.new) (O.seen out.old) (O.seen out.new) result }
 {
     match audit(image, base, out) {
         Ok(tally) => audit_status_of(&tally),
@@ -183,21 +155,8 @@ pub fn run_check<I: Source, L: Sink>(
     requires base { base ≤ base_limit }
     requires image_countable { CanCountFailure (I.seen image.old).failures }
     requires log_countable { CanCountFailure (L.seen log.old).failures }
-    ensures report { CallThenLine (λ log' answer. Checks carry script.now base (I.seen image.old)
-        (I.seen image.new) (L.seen log.old) log' answer)
-        Fault.Log script_status (L.seen log.new) result }
-
-    // What it says if nothing failed, and when something has.
-    ensures log { result ≢ failed_status → PrintsPatchLog carry script.now base (I.seen image.old)
+    ensures { RunsCheck carry script.now base (I.seen image.old) (I.seen image.new)
         (L.seen log.old) (L.seen log.new) result }
-    ensures ends_well { result ≢ failed_status
-        → EndsWell (I.seen image.old) (I.seen image.new) (L.seen log.old) (L.seen log.new) }
-    ensures flushed { result ≢ failed_status
-        → (L.seen log.new).flushes ≡ (L.seen log.old).flushes + 1 }
-    ensures failed { result ≡ failed_status
-        → ((I.seen image.new).failures ≢ (I.seen image.old).failures)
-        ⊎ ((L.seen log.new).failures ≢ (L.seen log.old).failures)
-        ⊎ IsTooLong (I.seen image.old) (I.seen image.new) }
 {
     match check(image, script, base, carry, log) {
         Ok(tally) => status_of(&tally),
@@ -229,33 +188,8 @@ pub fn run_apply<I: Source, O: Sink, L: Sink>(
     requires image_countable { CanCountFailure (I.seen image.old).failures }
     requires out_countable { CanCountFailure (O.seen out.old).failures }
     requires log_countable { CanCountFailure (L.seen log.old).failures }
-    ensures report { CallThenLine (λ log' answer. Applies carry script.now base
-        (streams (I.seen image.old) (O.seen out.old) (L.seen log.old))
-        (streams (I.seen image.new) (O.seen out.new) log') answer)
-        Fault.Log script_status (L.seen log.new) result }
-
-    // What it says if nothing failed, and when something has.
-    ensures output { result ≢ failed_status → WritesPatched carry script.now base (I.seen image.old)
-        (I.seen image.new) (O.seen out.old) (O.seen out.new) }
-    ensures carried { carry ≡ true → result ≢ failed_status
-        → WritesCarried script.now base (I.seen image.old) (O.seen out.old) (O.seen out.new) }
-    ensures log { result ≢ failed_status → PrintsPatchLog carry script.now base (I.seen image.old)
-        (L.seen log.old) (L.seen log.new) result }
-    ensures output_ends_well { result ≢ failed_status
-        → EndsWell (I.seen image.old) (I.seen image.new) (O.seen out.old) (O.seen out.new) }
-    ensures log_ends_well { result ≢ failed_status
-        → EndsWell (I.seen image.old) (I.seen image.new) (L.seen log.old) (L.seen log.new) }
-    ensures output_flushed { result ≢ failed_status
-        → (O.seen out.new).flushes ≡ (O.seen out.old).flushes + 1 }
-    ensures log_flushed { result ≢ failed_status
-        → (L.seen log.new).flushes ≡ (L.seen log.old).flushes + 1 }
-    ensures failed { result ≡ failed_status
-        → ((I.seen image.new).failures ≢ (I.seen image.old).failures)
-        ⊎ ((O.seen out.new).failures ≢ (O.seen out.old).failures)
-        ⊎ ((L.seen log.new).failures ≢ (L.seen log.old).failures)
-        ⊎ IsTooLong (I.seen image.old) (I.seen image.new) }
-    ensures holds_few { HoldsFew (streams (I.seen image.old) (O.seen out.old) (L.seen log.old))
-        (streams (I.seen image.new) (O.seen out.new) (L.seen log.new)) }
+    ensures { RunsApply carry script.now base (I.seen image.old) (I.seen image.new)
+        (O.seen out.old) (O.seen out.new) (L.seen log.old) (L.seen log.new) result }
 {
     match apply(image, script, base, carry, out, log) {
         Ok(tally) => status_of(&tally),

@@ -25,6 +25,17 @@ same-room was now same = record {
   same_bytes = ap (λ l. l.now) (Some-injective same);
 }
 
+-- the clauses of a call that has left a sink over the same slice
+pub room-clauses : (was now : SliceSink) {Does : Type 0} → Does
+    → (slice_outgoing now).lent ≡ (slice_outgoing was).lent → record {
+      report : Does;
+      same_slice : now.space.ghost_name ≡ was.space.ghost_name;
+      same_bytes : (lent_to now).now ≡ (lent_to was).now;
+    }
+room-clauses was now does lent =
+    let same = same-room was now lent in
+    record { report = does; same_slice = same.same_slice; same_bytes = same.same_bytes }
+
 same-or-other : (a b : Fault) → (a ≡ b) ⊎ (a ≢ b)
 same-or-other Read Read = inl refl
 same-or-other Write Write = inl refl

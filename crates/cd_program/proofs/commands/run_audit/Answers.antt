@@ -1,11 +1,12 @@
-use Rattle.std.proofs.Common.{ap, ◌∙◌}
-use Rattle.cd_program.specs.Commands.{audit_status}
+use Rattle.cd_program.proofs.CommandLemmas.{RunsReport-done, RunsReport-failed, not-failed}
 use Rattle.cd_program.proofs.commands.run_audit.Goals as goal
 
-pub returns-in-Ok-clause-text : goal.returns-in-Ok-clause-text
-returns-in-Ok-clause-text g c = λ done bytes earlier coming had.
-    let reported = c.in-Ok.ensures.text bytes earlier coming had in
-    (reported.0, reported.1, c.audit_status_of.ensures ∙ ap audit_status reported.2)
+pub returns-in-Ok : goal.returns-in-Ok
+returns-in-Ok g c =
+    RunsReport-done _ c.in-Ok.ensures.report c.audit_status_of.ensures
+    (not-failed _ c.audit_status_of.ensures)
 
-pub returns-in-Ok-clause-flushed : goal.returns-in-Ok-clause-flushed
-returns-in-Ok-clause-flushed g c = λ done. c.in-Ok.ensures.flushes
+pub returns-in-Err : goal.returns-in-Err
+returns-in-Err g c =
+    RunsReport-failed _ c.in-Err.ensures.report c.report_fault.ensures.line
+    c.report_fault.ensures.status

@@ -26,7 +26,7 @@ returns g c =
     (record {
       left = c.run_apply-status.new.image;
       made = c.run_apply-status.new.out;
-      runs = c.run_apply-status.ensures.report;
+      applies = c.run_apply-status.ensures;
       last = c.flush_rest.new.out;
       rest = c.flush_rest.ensures;
       back = c.take_back.ensures;
