@@ -1,7 +1,7 @@
 -- `check` and `apply` on a script and an image that are there.
-use Rattle.std.proofs.Common.{◌≡◌, ◌≢◌, ℕ, ◌+◌, ◌<◌, ◌≤◌, ◌⊎◌, Bool, true, false, nat_eq, List, [], ◌∷◌, ◌++◌, length, take, Option, None, Some, Result, Ok, Err, inl, inr, refl, sym, ap, ◌∙◌, subst, arith, length-append}
-use Rattle.cd_image.specs.Applying.{Applies, AppliesBy, Begins, Streams, streams}
-use Rattle.cd_image.specs.PatchLog.{log_text, patch_tally}
+use Rattle.std.proofs.Common.{◌≡◌, ◌≢◌, ℕ, ◌+◌, ◌≤◌, false, List, [], ◌++◌, length, take, Some, Result, Ok, Err, refl, sym, ap, ◌∙◌, subst, arith, length-append}
+use Rattle.cd_image.specs.Applying.{Applies, Begins, Streams}
+use Rattle.cd_image.specs.PatchLog.{patch_tally}
 use Rattle.cd_image.specs.Patched.{EachPatching, IsPatched}
 use Rattle.cd_image.specs.declared.patch_log.Tally.{Tally}
 use Rattle.cd_args.specs.Fault.{failed_status}
@@ -14,9 +14,9 @@ use Rattle.std.specs.Io.KnownBytes.{Appends, Consumes, IsAtEnd}
 use Rattle.cd_program.specs.Messages.{fault_line}
 use Rattle.cd_program.specs.Commands.{Ends, PrintsLine, script_status}
 use Rattle.cd_program.specs.declared.jobs.Settings.{Settings}
-use Rattle.cd_memory.specs.Memory.{fresh_incoming, fresh_outgoing}
+use Rattle.cd_memory.specs.Memory.{fresh_outgoing}
 use Rattle.cd_memory.specs.Whole.{Environment, Opened, Patches, Prints, ProgramResult, StopsPatching, WhyPatchingStopped}
-use Rattle.cd_memory.proofs.KnownLemmas.{Appends-Some, Appends-known, Consumes-known, Fits-beyond, Fits-within, MayBeImageAtEnd-within, Some-injective, cut-by-failure, read-whole, whole-by-none}
+use Rattle.cd_memory.proofs.KnownLemmas.{Appends-Some, Consumes-known, Fits-beyond, MayBeImageAtEnd-within, Some-injective, cut-by-failure, read-whole, whole-by-none}
 use Rattle.cd_memory.proofs.PrintLemmas.{Leaves, Prints-line}
 
 -- the call was done, or it was stopped, with these bytes sent
@@ -81,6 +81,24 @@ module _ (settings : Settings) {before : Environment} {image name : List ℕ} (a
   line-after line printed_before went kept says =
       Prints-line line printed_before new.log log after (logged printed_before went) (failed-log 0 kept) leaves says
 
+  -- a call that was stopped
+  stops : {result : Result Tally Fault}
+      (a : Applies settings.carry files.patches settings.base old new result)
+      → after.status ≡ failed_status
+      → EachPatching settings.carry files.patches settings.base (take image_limit files.bytes)
+      (Begins files.patches a.sent a.log_bytes)
+      → WhyPatchingStopped settings after files a.read a.sent a.log_bytes
+      → Took settings after files a.sent
+  stops a status begins why = Took.stopped (record {
+    read = a.read;
+    read_begins = (rest, parts a.read a.consumes);
+    in_hand = a.in_hand;
+    printed_before = a.log_bytes;
+    begins = begins;
+    why = why;
+    status = status;
+  })
+
   pub takes : (result : Result Tally Fault)
       → (a : Applies settings.carry files.patches settings.base old new result)
       → Ends Log script_status result new.log log after.status → Took settings after files a.sent
@@ -106,64 +124,36 @@ module _ (settings : Settings) {before : Environment} {image name : List ℕ} (a
       refl
   takes (Err Read) a ends = absurd (omega (arith, a.answers.failed.reads, memory.reads))
   takes (Err Write) a ends =
-      let read = parts a.read a.consumes in
-      Took.stopped (record {
-        read = a.read;
-        read_begins = (rest, read);
-        in_hand = a.in_hand;
-        printed_before = a.log_bytes;
-        begins =
-            a.answers.begins (take image_limit files.bytes)
-            (fits-left a.read read a.answers.within);
-        why = WhyPatchingStopped.no_room
-            (made (λ same. let more = a.answers.failed.writes in omega (arith, same, more)))
-            a.answers.within (a.answers.cut memory.out)
-            (a.answers.between_sinks (take image_limit files.bytes)
-            (fits-left a.read read a.answers.within))
-            (line-after (fault_line Write) a.log_bytes a.logs a.answers.failed.logs
-            (ends.0.1 (λ is. cc)));
-        status = ends.1;
-      })
+      let fits = fits-left a.read (parts a.read a.consumes) a.answers.within in
+      stops a ends.1 (a.answers.begins (take image_limit files.bytes) fits)
+      (WhyPatchingStopped.no_room
+      (made (λ same. let more = a.answers.failed.writes in omega (arith, same, more)))
+      a.answers.within (a.answers.cut memory.out)
+      (a.answers.between_sinks (take image_limit files.bytes) fits)
+      (line-after (fault_line Write) a.log_bytes a.logs a.answers.failed.logs
+      (ends.0.1 (λ is. cc))))
   takes (Err Log) a ends =
-      let read = parts a.read a.consumes in
+      let fits = fits-left a.read (parts a.read a.consumes) a.answers.within in
       let same : log ≡ new.log = ends.0.0 refl in
-      Took.stopped (record {
-        read = a.read;
-        read_begins = (rest, read);
-        in_hand = a.in_hand;
-        printed_before = a.log_bytes;
-        begins =
-            a.answers.begins (take image_limit files.bytes)
-            (fits-left a.read read a.answers.within);
-        why = WhyPatchingStopped.no_text
-            (cut-by-failure after.complete log.failures leaves.complete
-            (ap (λ o. o.failures) same ∙ failed-log 1 a.answers.failed.logs))
-            a.answers.within
-            (λ outcomes last patched.
-            let fits = fits-left a.read read a.answers.within in (
-              a.answers.cut (ap (λ o. o.flush_may_fail) memory.log) (take image_limit files.bytes)
-                  fits outcomes last patched,
-              a.answers.between_sinks (take image_limit files.bytes) fits outcomes last patched,
-            ))
-            (text-of a.log_bytes a.logs same);
-        status = ends.1;
-      })
+      stops a ends.1 (a.answers.begins (take image_limit files.bytes) fits)
+      (WhyPatchingStopped.no_text
+      (cut-by-failure after.complete log.failures leaves.complete
+      (ap (λ o. o.failures) same ∙ failed-log 1 a.answers.failed.logs))
+      a.answers.within
+      (λ outcomes last patched. (
+        a.answers.cut (ap (λ o. o.flush_may_fail) memory.log) (take image_limit files.bytes)
+            fits outcomes last patched,
+        a.answers.between_sinks (take image_limit files.bytes) fits outcomes last patched,
+      ))
+      (text-of a.log_bytes a.logs same))
   takes (Err TooLong) a ends =
       let read = parts a.read a.consumes in
       let beyond = a.answers.beyond in
+      let fits = fits-beyond a.read read (omega (arith, beyond)) in
       let size : length files.bytes ≡ length (a.read ++ rest) = ap length read in
-      Took.stopped (record {
-        read = a.read;
-        read_begins = (rest, read);
-        in_hand = a.in_hand;
-        printed_before = a.log_bytes;
-        begins = a.answers.begins (take image_limit files.bytes)
-            (fits-beyond a.read read (omega (arith, beyond)));
-        why = WhyPatchingStopped.too_long (omega (arith, size, beyond, length-append a.read rest)) beyond
-            (a.answers.between_sinks (take image_limit files.bytes)
-            (fits-beyond a.read read (omega (arith, beyond))))
-            a.answers.sent_before
-            (line-after (fault_line TooLong) a.log_bytes a.logs a.answers.failed.logs
-            (ends.0.1 (λ is. cc)));
-        status = ends.1;
-      })
+      stops a ends.1 (a.answers.begins (take image_limit files.bytes) fits)
+      (WhyPatchingStopped.too_long
+      (omega (arith, size, beyond, length-append a.read rest)) beyond
+      (a.answers.between_sinks (take image_limit files.bytes) fits) a.answers.sent_before
+      (line-after (fault_line TooLong) a.log_bytes a.logs a.answers.failed.logs
+      (ends.0.1 (λ is. cc))))

@@ -1,6 +1,6 @@
 -- What the program does over files in memory: its status, its text, and the file that it makes.
 use Rattle.std.specs.Prelude.{◌≡◌, ◌≢◌, ℕ, ◌+◌, ◌<◌, ◌≤◌, ◌⊎◌, Bool, true, false, List, [], ◌∷◌, ◌++◌, length, take}
-use Rattle.std.specs.Prelude.{codes, if◌then◌else◌, Option, None, Some, Result, Ok, Err, string_bytes}
+use Rattle.std.specs.Prelude.{codes, if◌then◌else◌, Option, None, Some, Ok, Err, string_bytes}
 use Rattle.std.specs.Str.{bytes_eq}
 use Rattle.cd_args.specs.CommandLine.{IsAccepted, IsJobOf}
 use Rattle.cd_args.specs.Fault.{HasKindOf, done_status, error_kinds, failed_status, no_memory, printed, printed_status}

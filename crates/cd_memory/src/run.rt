@@ -1,6 +1,6 @@
 //! The program over files in memory.
 
-ghost use Rattle.std.specs.Prelude.{◌≡◌, map, string_bytes};
+ghost use Rattle.std.specs.Prelude.{map, string_bytes};
 ghost use Rattle.cd_memory.specs.Whole.{RunsOn, environment, result_of};
 
 use crate::file::File;
