@@ -1,9 +1,9 @@
 /* libcdpatch: the codes of CD-ROM sectors (ECMA-130), what cdpatch finds in sectors, patches a line of a script at a time, and the
- * commands of cdpatch on images in memory. Each call is proved to do what its comment says. cc .. -lcdpatch; libcdpatch(3). A
- * sector is 2352 bytes, an address three: minute, second and frame in BCD. The caller makes sure that no pointer is null, even for
- * a size of 0, that each is valid for the size given here, and that what a call writes overlaps none of its other arguments. Any
- * bytes may stand in what it points to, and a number may be any. Nothing is kept between calls: threads may make calls at the same
- * time, each on its own memory. Only cdpatch_check and cdpatch_apply allocate memory, and they free it.
+ * commands of cdpatch on images in memory. What each call returns and writes is proved. cc .. -lcdpatch; libcdpatch(3). A sector is
+ * 2352 bytes, an address three: minute, second and frame in BCD. The caller makes sure that no pointer is null, even for a size of
+ * 0, that each is valid for the size given here, and that what a call writes overlaps none of its other arguments. The memory may
+ * hold any bytes, and a number may have any value. Nothing is kept between calls: threads may make calls at the same time, each on
+ * its own memory. Only cdpatch_check and cdpatch_apply allocate memory, and they free it.
  *
  * The library needs a processor of x86-64-v2 (2009 and later). On an older one the loader (glibc 2.33 or later) refuses the shared
  * library, and a call of the static one ends the program with SIGILL. A program that was compiled with this header runs with every
@@ -65,7 +65,8 @@ size_t cdpatch_result_text(uint32_t result, uint8_t *text);
 uint32_t cdpatch_edc(const uint8_t *bytes, size_t length);
 /* Returns the kind of a sector, by its sync field and mode byte; CDPATCH_OTHER is a mode byte above 2. */
 enum cdpatch_sector_kind cdpatch_kind(const uint8_t *sector);
-/* Writes the 3 bytes of the address of a block, 0 to 449849 (block 0 is 00:02:00). For any other returns false, and they stay. */
+/* Writes the 3 bytes of the address of a block, 0 to 449849 (block 0 is 00:02:00), and returns true. For any other block returns
+ * false, and they stay. */
 bool cdpatch_address(uint32_t block, uint8_t *address);
 /* Writes the 2352 bytes of the one consistent Mode 1 sector with 3 bytes of address, any, and 2048 bytes of user data. */
 void cdpatch_encode(const uint8_t *address, const uint8_t *user, uint8_t *sector);
@@ -75,13 +76,13 @@ void cdpatch_fill_parity(uint8_t *sector);
 bool cdpatch_is_consistent(const uint8_t *sector);
 /* Writes what is wrong with a sector of any kind, read as a Mode 1 sector; the mode byte is not tested. */
 void cdpatch_find_defect(const uint8_t *sector, struct cdpatch_defect *defect);
-/* Writes which of the 86 P columns and of the 52 Q diagonals of a sector of any kind are not code words: a byte each, 1 if one of
- * the two syndromes is not 0, else 0. Column C has the bytes 12 + C + 86 * I for I from 0 to 25. Diagonal D, with N = D / 2, has
- * the bytes 12 + (86 * N + 88 * I) % 2236 + D % 2 for I from 0 to 42, and 2248 + D and 2300 + D. A single wrong byte lies where the
- * broken ones cross. */
+/* Writes which of the 86 P columns and of the 52 Q diagonals of a sector of any kind are not code words: 86 bytes and 52, each 1 if
+ * one of the two syndromes is not 0, else 0. Column C has the bytes 12 + C + 86 * I for I from 0 to 25. Diagonal D, with N = D / 2,
+ * has the bytes 12 + (86 * N + 88 * I) % 2236 + D % 2 for I from 0 to 42, and 2248 + D and 2300 + D. A single wrong byte lies where
+ * the broken ones cross. */
 void cdpatch_find_broken(const uint8_t *sector, uint8_t *columns, uint8_t *diagonals);
-/* Writes a record of each of `count` sectors from `block` on: what cdpatch_list and cdpatch_audit say of it.
- * If `room` is not `count`, or a block is above 4294967295, returns false, and the records stay. */
+/* Writes a record of each of `count` sectors from `block` on, what cdpatch_list and cdpatch_audit say of it, and returns true. If
+ * `room`, the number of records, is not `count`, or a block is above 4294967295, returns false, and the records stay. */
 bool cdpatch_survey(const uint8_t *sectors, size_t count, uint32_t block, struct cdpatch_record *records, size_t room);
 
 /* Changes of a Mode 1 sector of 2352 bytes. If the result is not CDPATCH_OK, the sector stays as it was. */
@@ -104,7 +105,8 @@ enum cdpatch_result cdpatch_carry_address(uint8_t *sector, const uint8_t *addres
  * first error makes the script invalid. So does a text that ends while `version` is 0: CDPATCH_NO_HEAD, in the line after the last
  * one. Then sort the patches by `block`; those of equal blocks stay in their order. Give each to cdpatch_apply_patch, with the
  * sectors from its block on as the earlier patches left them: three, or as many as the image has from there, which may be none. All
- * patches together make the image that cdpatch_apply makes, and their lines the log. */
+ * patches together make the image that cdpatch_apply makes, and their lines the log. That call also copies the bytes after the last
+ * sector, and refuses a script of more than 67108864 bytes and an image of more than 1000000 sectors. */
 
 /* Finds the first line of a text of `size` bytes, and returns true; the next line begins after `taken` bytes. A text has no line if
  * `size` is 0: then returns false, and `*line` stays. */
@@ -114,9 +116,9 @@ bool cdpatch_first_line(const uint8_t *text, size_t size, struct cdpatch_line *l
  * For any other result nothing is written. CDPATCH_NO_VERSION: `version` is not 0, 1 or 2. */
 enum cdpatch_content cdpatch_read_line(uint32_t version, uint32_t number, size_t earlier, const uint8_t *line, size_t size,
                                        struct cdpatch_patch *patch, uint8_t *new_bytes, uint8_t *old_bytes);
-/* Makes a patch, with CDPATCH_PATCH_SIZE bytes each of room for its new and its old bytes, on `count` sectors from its
- * block on; no more than three are looked at. CDPATCH_NO_BLOCK, CDPATCH_NOT_MODE1, CDPATCH_DAMAGED, CDPATCH_DIFFERS: it
- * is refused, and `*place` becomes where. CDPATCH_NO_PATCH: no line of a script has such a record. The sectors stay unless the
+/* Makes a patch, whose new and old bytes stand at the front of CDPATCH_PATCH_SIZE bytes each, on `count` sectors from its block on;
+ * no more than three are looked at. CDPATCH_NO_BLOCK, CDPATCH_NOT_MODE1, CDPATCH_DAMAGED, CDPATCH_DIFFERS: it is refused, and
+ * `*place` becomes the place that refuses it. CDPATCH_NO_PATCH: no line of a script has such a record. The sectors stay unless the
  * result is CDPATCH_OK. With `carry` a patch on damaged sectors is accepted, and the damage stays. */
 enum cdpatch_result cdpatch_apply_patch(const struct cdpatch_patch *patch, const uint8_t *new_bytes, const uint8_t *old_bytes,
                                         uint8_t *sectors, size_t count, bool carry, struct cdpatch_place *place);
