@@ -1,5 +1,9 @@
 """CD-ROM sectors and images by libcdpatch: EDC and P/Q parity, what is wrong with sectors, and patches of raw images.
 
+    import cdpatch
+    with open('disc.bin', 'rb') as image, open('changes', 'rb') as script, open('new.bin', 'xb') as new:
+        print(cdpatch.patch(image, script.read(), new).text, end='')
+
 Images, scripts, sectors, user data and addresses are bytes, bytearray, memoryview, mmap, array, or any other object with a buffer
 whose bytes are in a row: each is read where it stands, whatever the size of its items, and only `out` of `apply` is written. Threads
 may make calls at the same time. The library is the file that CDPATCH_LIBRARY names, or one in the directory of this package, or that

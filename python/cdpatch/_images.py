@@ -100,7 +100,7 @@ def apply(image: ReadableBuffer, script: ReadableBuffer, base: int = 0, carry: b
     `cdpatch apply` prints, and whether a patch was refused; the image has the others. With `carry` patches on damaged sectors are
     accepted, and the damage stays.
 
-    With `out`, such as the map of a new file, the new image is written to its first bytes, and the others stay; then the answer has
+    With `out`, such as the map of a new file, the new image is written to its first bytes, and the others stay; then the result has
     no image. Nothing else holds as much memory as the image.
 
     Raises Failed if the base is another number, the script is invalid, the image has more than 1000000 sectors, or there is no memory;

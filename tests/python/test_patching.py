@@ -2,7 +2,9 @@
 
 import io
 import os
+import re
 import subprocess
+import textwrap
 import threading
 
 import cdpatch
@@ -255,3 +257,11 @@ def test_a_pipe_is_patched():
     copy.wait()
     wanted_image = cdpatch.apply(image, SCRIPT)
     assert made == [wanted_image.image] and report == wanted_image[1:]
+
+
+def test_the_example_of_help(tmp_path, monkeypatch, capsys):
+    monkeypatch.chdir(tmp_path)
+    (tmp_path / 'disc.bin').write_bytes(IMAGE)
+    (tmp_path / 'changes').write_bytes(SCRIPT)
+    exec(textwrap.dedent(re.search(r'(?m)(^    .*\n)+', cdpatch.__doc__)[0]), {})
+    assert (capsys.readouterr().out, (tmp_path / 'new.bin').read_bytes()) == (PATCHED.text, PATCHED.image)
