@@ -281,7 +281,7 @@ traced 'each kind of error of a write to OUT' writes_of_out_fail repeats_a_write
 traced 'each kind of error of a write of the log' writes_of_the_log_fail prints_again
 traced 'each kind of error of a sync' syncs_of_out_fail passes_over_a_sync_that_is_not_known repeats_a_sync syncs_nothing
 states docs/TRUST.md 'No read and no write is retried'
-states docs/DECISIONS.md "Status 0 means that the disk has OUT's data."
+states docs/DECISIONS.md "Status 0 or 1 means that the disk has OUT's data."
 
 # two_faults FILE CALLS FAULT..: in a run of `apply`, whose log has several buffers, these faults are put into calls on OUT and
 # another file; those of OUT are in `trace`.

@@ -28,7 +28,7 @@ test('each fault has a sentence, and some a line that mends it', () => {
     assert.deepEqual(said('set 1 2 414'), { text: 'An odd number of digits: 3. Two digits make one byte.', fix: null });
     assert.match(said('set 1 2 0x41').text, /no 0x/);
     assert.match(said('set 0x1 2 41').text, /decimal/);
-    assert.equal(said('set 1 2 4142 was 41').text, 'The new bytes are 2, the old ones 1. Both must be as many.');
+    assert.equal(said('set 1 2 4142 was 41').text, 'New bytes: 2, old bytes: 1. There must be as many of each.');
     assert.match(said('fill 1 2 5000 00').text, /1 to 4096/);
     assert.match(said('rebuild 1 2').text, /rebuild BLOCK\.$/);
     assert.match(said('address 1 00:60:00').text, /SS to 59/);

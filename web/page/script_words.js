@@ -86,7 +86,7 @@ const FAULT_HELP = [
 function helpOfVerb(parts, version) {
     const verb = parts[0];
     const small = verb.toLowerCase();
-    if (verb === 'address' && version < 2) return helped('The verb address wants the head line cdpatch 2.');
+    if (verb === 'address' && version < 2) return helped('The verb address needs the head line cdpatch 2.');
     if (verb === 'cdpatch') return helped('A script has one head line, and it is the first.');
     if (verb !== small && FORMS[small]) return helped('Verbs are written in small letters.', `${small}?`,
         [small, ...parts.slice(1)].join(' '));
@@ -104,7 +104,7 @@ function helpOfHex(parts) {
 function helpOfLength(parts) {
     if (parts[0] === 'fill') return helped('fill takes a count of 1 to 4096, and one byte: two digits.');
     const [fresh, old] = [(parts[3] || '').length / 2, (parts[5] || '').length / 2];
-    if (parts[4] === 'was' && fresh !== old) return helped(`The new bytes are ${fresh}, the old ones ${old}. Both must be as many.`);
+    if (parts[4] === 'was' && fresh !== old) return helped(`New bytes: ${fresh}, old bytes: ${old}. There must be as many of each.`);
     return helped('A patch writes 1 to 4096 bytes. Cut longer ones into several lines.');
 }
 
