@@ -82,7 +82,7 @@ void cdpatch_find_defect(const uint8_t *sector, struct cdpatch_defect *defect);
  * the broken ones cross. */
 void cdpatch_find_broken(const uint8_t *sector, uint8_t *columns, uint8_t *diagonals);
 /* Writes a record of each of `count` sectors from `block` on, what cdpatch_list and cdpatch_audit say of it, and returns true. If
- * `room`, the number of records, is not `count`, or a block is above 4294967295, returns false, and the records stay. */
+ * `room`, the number of records, is not `count`, or a block is above 4294967294, returns false, and the records stay. */
 bool cdpatch_survey(const uint8_t *sectors, size_t count, uint32_t block, struct cdpatch_record *records, size_t room);
 
 /* Changes of a Mode 1 sector of 2352 bytes. If the result is not CDPATCH_OK, the sector stays as it was. */

@@ -113,13 +113,12 @@ def survey(sectors: ReadableBuffer, block: int = 0) -> ctypes.Array[Record]:
     """Returns a Record for each whole sector of the given bytes, of which the first is block `block`: an array of six bytes for each,
     which makes an object of one only when it is read. Bytes after the last whole sector are not looked at.
 
-    Raises ValueError if a block is not 0 to 4294967295."""
+    Raises ValueError if a block is not 0 to 4294967294."""
     with Held(sectors) as held:
         count = held.size // SECTOR_SIZE
-        if not 0 <= block <= _LARGEST_NUMBER or block + count > _LARGEST_NUMBER + 1:
-            raise ValueError(f'{count} sectors from block {block} on, and not blocks 0 to {_LARGEST_NUMBER}')
         records = (Record * count)()
-        library.cdpatch_survey(held.place, count, block, records, count)
+        if not 0 <= block <= _LARGEST_NUMBER or not library.cdpatch_survey(held.place, count, block, records, count):
+            raise ValueError(f'{count} sectors from block {block} on, and not blocks 0 to {_LARGEST_NUMBER - 1}')
     return records
 
 

@@ -283,10 +283,11 @@ static void check_survey(const uint8_t *samples, bool at_end) {
     memset(records, KEPT, SAMPLES * sizeof *records);
     for (unsigned i = 0; i < sizeof counts / sizeof *counts; i++)
         judge(!cdpatch_survey(sectors, counts[i][0], 0, records, counts[i][1]), "counts that differ, or wrap", i);
-    judge(!cdpatch_survey(sectors, 3, UINT32_MAX - 1, records, 3), "a block above the last one", 0);
+    judge(!cdpatch_survey(sectors, 3, UINT32_MAX - 2, records, 3), "a block above the last one", 0);
     judge(all_kept(records, SAMPLES * sizeof *records), "a refused survey writes nothing", 0);
     judge(cdpatch_survey(sectors, 0, UINT32_MAX, records, 0) && all_kept(records, 6), "a survey of no sectors", 0);
     judge(cdpatch_survey(sectors, 2, 0, records, 2) && all_kept(records + 2, sizeof *records), "a survey of two", 0);
+    judge(cdpatch_survey(sectors, 3, UINT32_MAX - 3, records, 3), "a survey up to the last block", 0);
     judge(cdpatch_survey(sectors, 3, 0, records, 3), "a survey", 0);
     judge(!memcmp(records, "\2\0\0\0\0\1" "\3\0\0\0\0\0" "\2\0\0\0\0\0", 18), "damaged, of Mode 2, sound", 0);
     judge(cdpatch_survey(sectors, 3, 1, records, 3) && records[0].address && !records[1].address && records[2].address,

@@ -116,10 +116,10 @@ def test_a_survey_agrees_with_the_model(number):
 
 
 def test_the_blocks_of_a_survey():
-    for block in (-1, 2 ** 32 - 1, 2 ** 32, 2 ** 64, 2 ** 64 + 7, -2 ** 32):
+    for block in (-1, 2 ** 32 - 2, 2 ** 32 - 1, 2 ** 32, 2 ** 64, 2 ** 64 + 7, -2 ** 32):
         with pytest.raises(ValueError):
             cdpatch.survey(SECTOR + SECTOR, block)
-    assert [record.address for record in cdpatch.survey(SECTOR + SECTOR, 2 ** 32 - 2)] == [False, False]
+    assert [(record.kind, record.address) for record in cdpatch.survey(SECTOR + SECTOR, 2 ** 32 - 3)] == [(2, False), (2, False)]
     assert len(cdpatch.survey(b'', 2 ** 32 - 1)) == 0
 
 
