@@ -37,6 +37,13 @@ test('each fault has a sentence, and some a line that mends it', () => {
     assert.match(said('cdpatch 1').text, /one head line/);
 });
 
+test('each fault that the program has words for has a sentence', () => {
+    for (let fault = 4; fault <= 12; fault++) {
+        const words = new TextDecoder().decode(calls.faultLine(1, fault));
+        assert.ok(helpOfFault(words, 'set 1 2 41', 1).text.length > 20, words);
+    }
+});
+
 test('an offset over 2047 is counted on from its block', () => {
     assert.deepEqual(said('set 4711 2105 41 was 42').fix, { says: 'Block 4712 offset 57?', lines: ['set 4712 57 41 was 42'] });
     assert.deepEqual(said('fill 0 4096 1 00').fix, { says: 'Block 2 offset 0?', lines: ['fill 2 0 1 00'] });

@@ -76,7 +76,7 @@ const FAULT_HELP = [
     ['bad length', helpOfLength],
     ['offset', helpOfOffset],
     ['address', () => helped('An address is MM:SS:FF with two digits each: SS to 59, FF to 74.')],
-    ['too many', () => helped('A script has at most 65535 patches. Cut it into two scripts.')],
+    ['more than', () => helped('A script has at most 65535 patches. Cut it into two scripts.')],
 ];
 
 /**
