@@ -43,12 +43,12 @@ export async function readPatches({ calls }, script) {
     if (!(patches instanceof Refusal)) return patches;
     if (patches.reason === 'fault') throw new WorkRefused(new TextDecoder().decode(patches.text).trimEnd(),
         'Nothing was done. Mend the line first.');
-    throw new WorkRefused('The script is too long.', 'It may have 67,108,864 bytes. Cut it into two.');
+    throw new WorkRefused('The script is too long.', 'A script has at most 67,108,864 bytes. Cut it into two.');
 }
 
 /** @param {Reader} reader of an image */
 function assertNotTooLong({ size }) {
-    if (imageTooLong(size)) throw new WorkRefused('The image is too long.', 'It may have 1,000,000 sectors.');
+    if (imageTooLong(size)) throw new WorkRefused('The image is too long.', 'An image has at most 1,000,000 sectors.');
 }
 
 /**
