@@ -74,7 +74,7 @@ export const FORMS = {
     'show': {
         job: showJob, takes: ['IMAGE', 'BLOCK', 'OFFSET?'], options: ['encoding', 'table', 'track', 'base', 'output'],
         says: 'Show the user data of a block, as digits and text',
-        does: 'With OFFSET it shows 128 bytes, from the row on in which that byte is.',
+        does: 'With OFFSET it shows 128 bytes, from the row of that byte on.',
     },
     'extract': {
         job: extractJob, takes: ['IMAGE', 'PATH', 'OUT'], options: ['track', 'base'], says: 'Write a file of a disc to a new file',
@@ -84,8 +84,8 @@ export const FORMS = {
         job: replaceJob, takes: ['IMAGE', '[BLOCK OFFSET]', 'OLD', 'NEW'],
         options: ['encoding', 'table', 'fill', 'all', 'track', 'base', 'output'],
         says: 'Write the script that replaces a text',
-        does: 'Without BLOCK and OFFSET the text OLD is found; it has to stand at one place, or --all is given. A shorter NEW is ' +
-            'filled up, with spaces if --fill is not given; a longer one is refused.',
+        does: 'Without BLOCK and OFFSET it finds the text OLD, which has to stand at one place, unless --all is given. A shorter NEW is ' +
+            'filled up, with spaces, or 00 for hex, if --fill is not given; a longer one is refused.',
     },
     'replace-file': {
         job: replaceFileJob, takes: ['IMAGE', 'PATH', 'FILE'], options: ['fill', 'track', 'base', 'output'],
@@ -96,8 +96,8 @@ export const FORMS = {
     'diff': {
         job: diffJob, takes: ['OLD', 'NEW'], options: ['skipDamaged', 'fields', 'track', 'base', 'output'],
         says: 'Write the script that leads from one image to another',
-        does: 'Blocks that no script can make so are named, and nothing is written. Status: 0 done, 1 some blocks are left out or, ' +
-            'with --fields, differ, 2 failed',
+        does: 'If no script can make a difference, its blocks are named, and nothing is written. Status: 0 done, 1 some blocks are left ' +
+            'out or, with --fields, differ, 2 failed',
     },
     'merge': {
         job: mergeJob, takes: ['OLD', 'OTHER..', 'OUT'], options: ['track', 'base'],
