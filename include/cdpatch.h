@@ -118,8 +118,8 @@ enum cdpatch_content cdpatch_read_line(uint32_t version, uint32_t number, size_t
                                        struct cdpatch_patch *patch, uint8_t *new_bytes, uint8_t *old_bytes);
 /* Makes a patch, whose new and old bytes stand at the front of CDPATCH_PATCH_SIZE bytes each, on `count` sectors from its block on;
  * no more than three are looked at. CDPATCH_NO_BLOCK, CDPATCH_NOT_MODE1, CDPATCH_DAMAGED, CDPATCH_DIFFERS: it is refused, and
- * `*place` becomes the place that refuses it. CDPATCH_NO_PATCH: no line of a script has such a record. The sectors stay unless the
- * result is CDPATCH_OK. With `carry` a patch on damaged sectors is accepted, and the damage stays. */
+ * `*place` becomes the place that refuses it; else `*place` stays. CDPATCH_NO_PATCH: no line of a script has such a record. The
+ * sectors stay unless the result is CDPATCH_OK. With `carry` a patch on damaged sectors is accepted, and the damage stays. */
 enum cdpatch_result cdpatch_apply_patch(const struct cdpatch_patch *patch, const uint8_t *new_bytes, const uint8_t *old_bytes,
                                         uint8_t *sectors, size_t count, bool carry, struct cdpatch_place *place);
 
