@@ -176,6 +176,7 @@ class Modules:
     def __init__(self, core: Path) -> None:
         self.core = core
         self.read: dict[Path, Module] = {}
+        self.below: dict[Path, list[Module]] = {}
 
     def get(self, path: Path) -> Module:
         if path not in self.read:
@@ -189,14 +190,16 @@ class Modules:
         """A module and all that it stands on, each after those that it imports."""
         if path in above:
             raise JoinError(f'{path} imports itself, through {above[-1]}')
-        module = self.get(path)
-        found: list[Module] = []
-        for given in module.imports:
-            if given.source.startswith('node:'):
-                continue
-            self.check_import(module, given)
-            found += self.reached(module.target(given), above + (path,))
-        return unique(found + [module])
+        if path not in self.below:
+            module = self.get(path)
+            found: list[Module] = []
+            for given in module.imports:
+                if given.source.startswith('node:'):
+                    continue
+                self.check_import(module, given)
+                found += self.reached(module.target(given), above + (path,))
+            self.below[path] = unique(found + [module])
+        return self.below[path]
 
     def check_import(self, module: Module, given: Import) -> None:
         if not re.match(r'\.\.?/', given.source):
