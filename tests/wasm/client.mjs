@@ -10,11 +10,13 @@ export const SECTOR = 2352;
 const PATCH_SIZE = 4096;
 const LINE_SIZE = 96;
 const PIECE = 256;
+const PATCH_RECORD = 16;
 const RECORD_SIZE = 6;
 const MOST_IN_HAND = 3;
 const KINDS = ['nosync', 'mode0', 'mode1', 'mode2', 'other'];
 const MODE1 = 2;
 const PATCH = 3;
+const SET = 0;
 const NO_HEAD = 4;
 
 /** @param {Uint8Array} bytes the memory of a record */
@@ -65,15 +67,18 @@ function* linesOf(calls, text) {
  */
 export function script(calls, text) {
     const patches = [];
+    const [record, fresh, old] = [new Room(PATCH_RECORD), new Room(PATCH_SIZE), new Room(PATCH_SIZE)];
     let [version, number] = [0, 0];
     for (const line of linesOf(calls, text)) {
         number += 1;
-        const [record, fresh, old] = [new Room(16), new Room(PATCH_SIZE), new Room(PATCH_SIZE)];
         const content = Number(calls.call('cdpatch_read_line', version, number, new Size(patches.length), line,
             new Size(line.length), record, fresh, old));
         if (content > PATCH) return lineBy(calls, 'cdpatch_fault_line', number, content);
         if (content === PATCH) {
-            patches.push({ number, block: fields(record.bytes).getUint32(0, true), record: record.bytes, fresh: fresh.bytes, old: old.bytes });
+            const count = fields(record.bytes).getUint16(6, true);
+            const [set, hasOld] = [record.bytes[8] === SET, record.bytes[9] === 1];
+            patches.push({ number, block: fields(record.bytes).getUint32(0, true), record: record.bytes.slice(),
+                fresh: fresh.bytes.slice(0, set ? count : 0), old: old.bytes.slice(0, hasOld ? count : 0) });
         } else {
             version = content || version;
         }
@@ -93,6 +98,7 @@ export function apply(calls, { image, base, carry, script: text }) {
     if (patches instanceof Uint8Array) return { status: 2, text: patches, out: null };
     const out = image.slice();
     const end = image.length - image.length % SECTOR;
+    const [fresh, old] = [new Uint8Array(PATCH_SIZE), new Uint8Array(PATCH_SIZE)];
     const log = [];
     let applied = 0;
     for (const patch of patches) {
@@ -101,7 +107,9 @@ export function apply(calls, { image, base, carry, script: text }) {
         const there = first >= 0 && first < last;
         const hand = new Room(there ? out.subarray(first, last) : 0);
         const place = new Room(8);
-        const outcome = Number(calls.call('cdpatch_apply_patch', patch.record, patch.fresh, patch.old, hand,
+        fresh.set(patch.fresh);
+        old.set(patch.old);
+        const outcome = Number(calls.call('cdpatch_apply_patch', patch.record, fresh, old, hand,
             new Size(hand.bytes.length / SECTOR), carry, place));
         const where = fields(place.bytes);
         log.push(lineBy(calls, 'cdpatch_outcome_line', patch.number, outcome, where.getUint32(0, true), where.getUint16(4, true)));
