@@ -30,12 +30,13 @@ Test = TypeVar('Test', bound=Callable[..., None])
 
 
 def waited(ask: Callable[[], Any], what: str, seconds: float = PATIENCE) -> Any:
-    """What `ask` returns as soon as it is true."""
-    end = time.monotonic() + seconds
+    """What `ask` returns as soon as it is true. It is asked less often, the longer it takes."""
+    begun = time.monotonic()
     while not (value := ask()):
-        if time.monotonic() > end:
+        waited_for = time.monotonic() - begun
+        if waited_for > seconds:
             raise AssertionError(f'after {seconds:g} s: {what}')
-        time.sleep(0.05)
+        time.sleep(min(0.5, 0.03 + waited_for / 20))
     return value
 
 

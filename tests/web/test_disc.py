@@ -50,10 +50,8 @@ class Disc(unittest.TestCase):
         self.browser.attempts()
 
     def opened(self, *paths: Path) -> chromium.Chromium:
-        """The page with these files, read to the end."""
+        """The page, which was just opened, with these files, read to the end."""
         browser = self.browser
-        browser.open(PAGE)
-        browser.wait('#open-files')
         browser.give('#files', paths)
         browser.wait(VERDICT, 'Mode 1')
         return browser
@@ -124,8 +122,6 @@ class Disc(unittest.TestCase):
         sheet = place / 'game.cue'
         sheet.write_text(''.join(f'FILE "game (Track {i}).bin" BINARY\n  TRACK 0{i} {kind}\n    INDEX 01 00:00:00\n'
                                  for i, kind in ((1, 'MODE1/2352'), (2, 'AUDIO'))))
-        self.browser.open(PAGE)
-        self.browser.wait('#open-files')
         self.browser.give('#files', [sheet])
         self.browser.wait('.say.bad', 'Select or drop the cue sheet and these together:')
         self.assertIn('game (Track 1).bin, game (Track 2).bin', self.browser.text('.say.bad'))
@@ -139,8 +135,6 @@ class Disc(unittest.TestCase):
                   'game.zip': ((place / 'game.zip').read_bytes(), 'an archive'), 'game.ecm': (b'ECM\0' + bytes(99), 'unecm'),
                   'game.txt': (b'hello', 'Choose a raw image'), 'game.bin': (b'', 'an empty file')}
         browser = self.browser
-        browser.open(PAGE)
-        browser.wait('#open-files')
         for name, (data, words) in others.items():
             with self.subTest(name):
                 browser.give('#files', [file_of(data, name)])
@@ -169,6 +163,7 @@ class Disc(unittest.TestCase):
         sheet = file_of(b'FILE "game.bin" BINARY\n  TRACK 01 AUDIO\n    INDEX 01 00:00:00\n', 'game.cue')
         for sheets in ((), (sheet,)):
             with self.subTest(sheets=len(sheets)):
+                self.setUp()
                 browser = self.opened(file_of(audio), *sheets)
                 browser.wait(VERDICT, 'There is no Mode 1 sector here')
                 browser.wait('.sha1', sha1(audio))
@@ -217,8 +212,6 @@ class Disc(unittest.TestCase):
 
     def test_two_files_of_one_name_are_refused(self) -> None:
         browser = self.browser
-        browser.open(PAGE)
-        browser.wait('#open-files')
         browser.give('#files', [file_of(discs.game()), file_of(scratched())])
         browser.wait('.say.bad', 'Two of these files have one name')
 
@@ -233,14 +226,12 @@ class Disc(unittest.TestCase):
 
     def test_the_example_disc_opens(self) -> None:
         browser = self.browser
-        browser.open(PAGE)
         browser.click('#open-example')
         browser.wait(VERDICT, '16 of 270 Mode 1 sectors are damaged, in 1 place')
         browser.wait('#findings', 'a scratch: every 9th sector')
 
     def test_no_panel_is_wider_than_a_phone(self) -> None:
         browser = self.browser
-        browser.open(PAGE)
         browser.click('#open-example')
         browser.wait('.sha1')
         for panel in ('disc', 'text', 'script', 'publish'):
@@ -262,8 +253,6 @@ class Disc(unittest.TestCase):
 
     def test_reading_can_be_cancelled_and_begun_again(self) -> None:
         browser = self.browser
-        browser.open(PAGE)
-        browser.wait('#open-files')
         browser.run('''const real = Worker.prototype.postMessage; globalThis.slow = true;
             Worker.prototype.postMessage = function (...given) {
                 setTimeout(() => real.apply(this, given), globalThis.slow && given[0].pieces ? 300 : 0);
@@ -489,6 +478,7 @@ class Disc(unittest.TestCase):
         browser.wait('.say.bad', 'edc')
         browser.click('#findings .fold')
         self.assertEqual(browser.nameless(), [])
+        self.setUp()
         self.opened(file_of(scratched()))
         browser.wait('#findings table')
         browser.run("document.querySelector('.skip').focus()")

@@ -47,8 +47,6 @@ class Second(unittest.TestCase):
         for path, data in zip(paths, (first, second)):
             path.write_bytes(data)
         browser = self.browser
-        browser.open(PAGE)
-        browser.wait('#open-files')
         browser.give('#files', paths[:1])
         browser.wait('#disc-line .lead', 'Mode 1')
         browser.give('#files', paths[1:])
