@@ -2,7 +2,8 @@
 # processor, and with `SIMPLE=1` by the toolchain's own means; if wasm-opt is there it makes the WebAssembly modules too, as `make
 # wasm` does by itself, and of them ./cdscript and ./cdpatch.html, as `make web` does. It says at its end what it made. `make check`
 # runs all tests of what it left and of the pages, and skips what wants a command that is not there, which `WHOLE=1` makes a
-# failure; `make quick` is both; `make test` runs the merge gate; `make bench` builds what measures speed, in bench/; `make install`
+# failure; with `WRONG_VERSIONS=1` it also tries wrong versions of all that, which show that the tests refuse them, as the gate does;
+# `make quick` is both; `make test` runs the merge gate; `make bench` builds what measures speed, in bench/; `make install`
 # and `make uninstall` are those of install.mk.
 .PHONY: all check quick test test-outside bench wasm web clean
 

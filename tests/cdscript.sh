@@ -15,7 +15,7 @@ tested() {
 
 # wrong_command: makes the command `wrong` of the joined one as an edit says, whose words have to stand there once.
 wrong_command() {
-    cp cdscript wrong
+    cp "$scratch/cdscript" wrong
     wrong=$PWD/wrong
     apply_edit wrong
 }

@@ -15,7 +15,6 @@ tested() {
 
 # wrong_core: makes the core `wrong` as an edit says.
 wrong_core() {
-    rm -rf wrong
     cp -r "$top/web/core" wrong
     wrong=$PWD/wrong
     apply_edit "wrong/${said[file]}"

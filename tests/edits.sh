@@ -23,26 +23,41 @@ apply_edit() {
         END { exit found != 1 }' "$1" > edited && cat edited > "$1"
 }
 
-# refuse_edits WHAT FOLDER PREPARE: for each edit in a folder, whether the test that it names fails on what is changed so, which the
-# command PREPARE has made and named in `wrong`. A test that is skipped, for want of a command, refuses nothing.
+# try_edit FOLDER PREPARE EDIT: leaves a file `refused` if the test that an edit names fails on what is changed so, which the command
+# PREPARE makes and names in `wrong`; and `skipped` if that test was skipped, for want of a command, and so refuses nothing.
+try_edit() {
+    local pattern wrong
+    read_edit "$3"
+    pattern=$(printf '%s' "${said[test]}" | sed 's/[]\.*+?^${}()|[]/\\&/g')
+    "$2" || return
+    tested "$wrong" --test-name-pattern="^$pattern\$" "${1%/wrong}/${said[in]}"
+    if grep -qE '^ *ok .* # SKIP no ' tap; then
+        touch skipped
+    elif grep -qxF "${said[test]}" <(sed -nE 's/^ *not ok [0-9]+ - //p' tap); then
+        touch refused
+    fi
+}
+
+# refuse_edits WHAT FOLDER PREPARE: tries each edit in a folder, as many at a time as there are processors, each in a directory of its own.
 refuse_edits() {
-    local edit name pattern
+    local edit name
+    wrong_versions "wrong ${1}s" || return
+    for edit in "$2"/*.edit; do
+        await_processor
+        name=${edit##*/}
+        mkdir "wrong_${name%.edit}"
+        (cd "wrong_${name%.edit}" && try_edit "$2" "$3" "$edit") > /dev/null 2>&1 &
+    done
+    wait
     for edit in "$2"/*.edit; do
         name=${edit##*/}
         name=${name%.edit}
-        name="a wrong $1 is refused: ${name//_/ }"
-        read_edit "$edit"
-        pattern=$(printf '%s' "${said[test]}" | sed 's/[]\.*+?^${}()|[]/\\&/g')
-        if ! "$3"; then
-            judge "$name" false
-            continue
-        fi
-        tested "$wrong" --test-name-pattern="^$pattern\$" "${2%/wrong}/${said[in]}"
-        if grep -qE '^ *ok .* # SKIP no ' tap; then
-            skip "$name, since its test is skipped"
+        if [ -e "wrong_$name/skipped" ]; then
+            skip "a wrong $1 is refused: ${name//_/ }, since its test is skipped"
         else
-            judge "$name" grep -qxF "${said[test]}" <(sed -nE 's/^ *not ok [0-9]+ - //p' tap)
+            judge "a wrong $1 is refused: ${name//_/ }" test -e "wrong_$name/refused"
         fi
+        rm -r "wrong_$name"
     done
 }
 

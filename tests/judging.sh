@@ -24,6 +24,13 @@ judge() {
     fi
 }
 
+# await_processor: waits until fewer jobs of this shell run than there are processors.
+await_processor() {
+    while [ "$(jobs -rp | wc -l)" -ge "$(nproc)" ]; do
+        wait -n
+    done
+}
+
 # Counts what could not be tested here, and says so; it fails if WHOLE is set.
 skip() {
     if [ -n "${WHOLE-}" ]; then
@@ -38,6 +45,12 @@ skip() {
 missing() {
     command -v "$1" > /dev/null && return 1
     skip "${3-a part}, which wants $1 (Debian's package $2)"
+}
+
+# wrong_versions WHICH: whether the wrong versions of what is tested are to be tried, which test the tests: only if WRONG_VERSIONS is
+# set. Else it says that these are left out.
+wrong_versions() {
+    [ -n "${WRONG_VERSIONS-}" ] || ! echo "left out: $1"
 }
 
 # Prints the counts, and returns whether nothing failed.

@@ -148,6 +148,10 @@ test_header() {
     missing python3 python3 'the header against the source' && return
     judge 'the header has the exports of the source' holds python3 -B "$tests/library/prototypes.py" "$header" "${sources[@]}" \
         "${others[@]}"
+    wrong_versions 'wrong headers' && test_wrong_headers
+}
+
+test_wrong_headers() {
     differs 'a call less' '/^void cdpatch_fill_parity/d'
     differs 'a parameter less' 's/, size_t length);$/);/'
     differs 'parameters exchanged' 's/size_t offset, const uint8_t \*bytes/const uint8_t *bytes, size_t offset/'
@@ -187,8 +191,9 @@ test_header() {
 # compiled_test TEST LIBRARY PROGRAM: a test in C with this library.
 compiled_test() { gcc -std=c99 -O2 "${strict[@]}" "$tests/library/$1.c" "$2" -o "$3" 2> errors; }
 
-# wrong NAME: the test in C refuses the library that tests/library/wrong.c makes by this name.
-wrong() {
+# try_wrong NAME: makes the program NAME of a test in C and the library that tests/library/wrong.c makes by this name, and leaves a file
+# NAME.refused if the test refuses that.
+try_wrong() {
     local call test=check
     call=$(sed -n "/defined $1\$/,/^#el/s/^[a-z][a-z0-9_ ]* cdpatch_\([a-z0-9_]*\)(.*/\1/p" "$tests/library/wrong.c")
     case $call in
@@ -197,9 +202,26 @@ wrong() {
         version | *_text | *_line | *_patch | survey | find_broken) test=scripts ;;
     esac
     objcopy --redefine-sym "cdpatch_$call=right_$call" library/libcdpatch.a "$1.a" &&
-        gcc -O2 "${strict[@]}" "-D$1" "$tests/library/$test.c" "$tests/library/wrong.c" "$1.a" -o "$1" 2> errors
-    judge "$1 compiles" test -x "$1"
-    judge "a library is refused in which $1" refuses "./$1" "$vectors"
+        gcc -O2 "${strict[@]}" "-D$1" "$test.o" "$tests/library/wrong.c" "$1.a" -o "$1" || return
+    "./$1" "$vectors" || touch "$1.refused"
+}
+
+# Wrong libraries, as many at a time as there are processors.
+test_wrong() {
+    local name names test
+    mapfile -t names < <(sed -nE 's/^#(el)?if defined //p' "$tests/library/wrong.c")
+    for test in check images scripts digest; do
+        gcc -O2 "${strict[@]}" -c "$tests/library/$test.c" 2> errors
+    done
+    for name in "${names[@]}"; do
+        await_processor
+        try_wrong "$name" > /dev/null 2>&1 &
+    done
+    wait
+    for name in "${names[@]}"; do
+        judge "$name compiles" test -x "$name"
+        judge "a library is refused in which $name" test -e "$name.refused"
+    done
 }
 
 # in_c TEST ARGUMENT..: a test in C, by each build, and as C++.
@@ -221,7 +243,6 @@ in_c() {
 }
 
 test_in_c() {
-    local name
     compiler gcc 'gcc and libc6-dev' || return
     in_c check "$vectors"
     in_c images "$vectors" long
@@ -230,10 +251,7 @@ test_in_c() {
     gcc -O2 "${strict[@]}" -DREFUSES -Wl,--wrap=malloc,--wrap=realloc,--wrap=free "$tests/library/images.c" library/libcdpatch.a \
         -o refusing 2> errors
     judge 'images.c with memory refused' holds ./refusing "$vectors"
-    missing objcopy binutils 'wrong libraries' && return
-    while read -r name; do
-        wrong "$name"
-    done < <(sed -nE 's/^#(el)?if defined //p' "$tests/library/wrong.c")
+    wrong_versions 'wrong libraries' && ! missing objcopy binutils 'wrong libraries' && test_wrong
 }
 
 test_in_python() {
@@ -246,7 +264,7 @@ test_in_python() {
         count=400
     done
     judge '300 cases of tests/model by lines and patches' holds python3 -B "$tests/library/lines.py" "./${builds[0]}"
-    # test_in_c has made this archive.
+    # test_wrong has made this archive.
     if [ -e CHECK_EXCHANGES_STATUSES.a ]; then
         gcc -shared -fPIC -I "$top/include" -DCHECK_EXCHANGES_STATUSES "$tests/library/wrong.c" CHECK_EXCHANGES_STATUSES.a \
             -o wrong.so 2> errors

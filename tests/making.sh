@@ -1,6 +1,6 @@
 #!/usr/bin/env bash
-# What the Makefile does to prove and to test the program, with an rt that proves nothing: `bash tests/making.sh`. The last line is
-# 'N passed, M failed'.
+# What the Makefile, the gate and tests/run do to prove and to test the program, with an rt that proves nothing:
+# `bash tests/making.sh`. The last line is 'N passed, M failed'.
 set -u
 top=$(cd "$(dirname "$0")/.." && pwd)
 . "$top/tests/judging.sh"
@@ -41,14 +41,14 @@ echo 'echo "another logic"; exit 1' > tools/toolchain.sh
 echo 'echo "wasm.sh: $*" >> "$CALLED"' > tools/wasm.sh
 echo 'echo "web.sh: $*" >> "$CALLED"' > tools/web.sh
 echo 'echo "notices.sh: $*" >> "$CALLED"' > tools/notices.sh
-echo 'echo "tests: $* ${WHOLE-}" >> "$CALLED"' > tests/run
+echo 'echo "tests: $* ${WHOLE-} ${WRONG_VERSIONS-}" >> "$CALLED"' > tests/run
 export CALLED=$scratch/called PATH="$scratch/bin:$PATH"
 
 # makes WORD..: a run of make with these words, what it called in `called` and its status in `status`. MODULES is what it makes
 # of WebAssembly.
 makes() {
     : > called
-    make MODULES="${MODULES-}" "$@" > log 2>&1 <<< 'what is on the standard input'
+    env -u WHOLE -u WRONG_VERSIONS make MODULES="${MODULES-}" "$@" > log 2>&1 <<< 'what is on the standard input'
     status=$?
 }
 
@@ -114,11 +114,13 @@ if ! missing make make 'what the Makefile does'; then
     MODULES=wasm makes web
     judge 'make web joins what they are for too' called 'prove.py: wasm ' 'notices.sh: library/NOTICES' 'web.sh: library .'
     makes check
-    judge 'make check tests what make left' called 'tests: cdpatch '
+    judge 'make check tests what make left' called 'tests: cdpatch  '
     makes check WHOLE=1
-    judge 'WHOLE is handed on' called 'tests: cdpatch 1'
+    judge 'WHOLE is handed on' called 'tests: cdpatch 1 '
+    makes check WRONG_VERSIONS=1
+    judge 'so is WRONG_VERSIONS' called 'tests: cdpatch  1'
     makes quick
-    judge 'make quick proves and tests' called 'prove.py: cdpatch cd_c cd_c_images  ' 'library.sh: library' 'tests: cdpatch '
+    judge 'make quick proves and tests' called 'prove.py: cdpatch cd_c cd_c_images  ' 'library.sh: library' 'tests: cdpatch  '
 
     mkdir -p bench/src
     cp "$top/bench/build" bench
@@ -139,6 +141,44 @@ if ! missing make make 'what the Makefile does'; then
     makes bench
     judge 'so does one that names other works' test "$status" = 2 -a ! -e bench/cd_bench
 fi
+
+# The gate, with an rt that proves nothing, tries wrong versions too.
+cp -r "$top/.ci" .
+cp "$top/tests/counting.sh" tests
+printf '%s\n' '#!/bin/sh' 'mkdir -p crates/cdpatch/out' 'cp bin/rt crates/cdpatch/out/cdpatch' > bin/rt
+: > called
+env -u CI -u WHOLE -u WRONG_VERSIONS bash .ci/run > log 2>&1
+judge 'the gate tries wrong versions' called 'tests: crates/cdpatch/out/cdpatch  1'
+
+# tests/run with groups of one check and one wrong version each.
+mkdir -p small/tests small/docs
+cp "$top"/tests/{run,counting.sh,judging.sh,messages.sh} small/tests
+read -ra groups < <(sed -n 's/^groups=(\([a-z_ ]*\))$/\1/p' "$top/tests/run")
+for group in "${groups[@]}"; do
+    printf '%s\n' 'top=$(dirname "$0")/..' '. "$top/tests/judging.sh"' 'judge right true' \
+        "wrong_versions 'wrong $group' && judge wrong true" finish > "small/tests/$group.sh"
+done
+
+# tests_all LEAST WITH [NAME=VALUE]: a run of all groups, of which docs/TRUST.md says that they have more checks than LEAST, and more than
+# WITH with the wrong versions.
+tests_all() {
+    echo "| checks of the built program | more than $1; $2 |" > small/docs/TRUST.md
+    env -u WHOLE -u WRONG_VERSIONS "${@:3}" bash small/tests/run bin/rt > log 2>&1
+    status=$?
+}
+some=${#groups[@]}
+all=$((2 * some))
+tests_all $((some - 1)) $all
+judge 'make check leaves wrong versions out' test "$status $(tail -n 1 log)" = "0 $some passed, 0 failed"
+judge 'and says which' test "$(sed -n 's/^Left out were wrong versions.*1 tries them): //p' log); " = "$(printf 'wrong %s; ' "${groups[@]}")"
+tests_all "$some" $((all - 1)) WRONG_VERSIONS=1
+judge 'the gate does not' test "$status $(tail -n 1 log)" = "0 $all passed, 0 failed"
+judge 'and says nothing of it' eval '! grep -i "left out" log'
+tests_all "$some" $((all - 1))
+judge 'a check less than TRUST says is a failure' test "$status $(tail -n 1 log)" = "1 $some passed, 1 failed"
+tests_all $((some - 1)) $all WRONG_VERSIONS=1
+judge 'with wrong versions too' test "$status $(tail -n 1 log)" = "1 $all passed, 1 failed"
+
 # identity RELEASE LOGIC: what tools/toolchain.sh says of an rt with this identity, and its status.
 identity() {
     printf '#!/bin/sh\necho "%s logic %s"\n' "$1" "$2" > bin/rt

@@ -33,6 +33,7 @@ test_module() {
 
 # Wrong modules and a wrong header, which the tests above refuse.
 test_wrong() {
+    wrong_versions 'a wrong WebAssembly module' || return
     LC_ALL=C sed 's/old bytes differ/old bytes deffir/' "$1" > wrong.wasm
     judge 'a module with another text' refuses cmp -s "$1" wrong.wasm
     judge 'a module with another text is refused by the worked cases' refuses by_cases wrong.wasm

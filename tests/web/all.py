@@ -1,6 +1,7 @@
 """Runs tests: `all.py WORDS..` runs those with one of these in their names, or all, and prints 'ok NAME', 'not ok NAME' or 'skipped NAME'.
-`all.py --wrong LIST` runs tests on wrong pages: LIST has lines of a name, a page and a test, with tabs between them; it prints 'refused NAME'
-or 'let through NAME'. One browser serves all tests of a class."""
+`all.py --part 2/3 WORDS..` runs every third of them, from the second on. `all.py --wrong LIST` runs tests on wrong pages, in the order of
+LIST, which has lines of a name, a page and a test, with tabs between them; it prints 'refused NAME' or 'let through NAME'. One window serves
+all tests of a run."""
 
 import sys
 import time
@@ -87,7 +88,7 @@ def run_on_wrong_pages(tests: list[unittest.TestCase], rows: list[list[str]]) ->
     found = [(name, Path(page), by_name[test]) for name, page, test in rows if test in by_name]
     chosen = [(name, page, type(test)(test.id().rsplit('.', 1)[1])) for name, page, test in found]
     result = OnWrongPages({id(test): (name, page) for name, page, test in chosen})
-    unittest.TestSuite(test for _, _, test in sorted(chosen, key=lambda it: it[2].id())).run(result)
+    unittest.TestSuite(test for _, _, test in chosen).run(result)
     return 0
 
 
@@ -96,7 +97,11 @@ def main(words: list[str]) -> int:
     loaded = list(tests_of(unittest.defaultTestLoader.discover(str(HERE), 'test_*.py')))
     if words[:1] == ['--wrong']:
         return run_on_wrong_pages(loaded, [line.split('\t') for line in Path(words[1]).read_text().splitlines()])
-    chosen = [test for test in loaded if not words or any(word in named(test) for word in words)]
+    first, step = 0, 1
+    if words[:1] == ['--part']:
+        first, step = int(words[1].split('/')[0]) - 1, int(words[1].split('/')[1])
+        words = words[2:]
+    chosen = [test for test in loaded if not words or any(word in named(test) for word in words)][first::step]
     result = Result()
     unittest.TestSuite(chosen).run(result)
     wrong = len(result.failures) + len(result.errors)
