@@ -4,6 +4,7 @@ Slow and plain: polynomials are divided bit by bit, code words are lists of plac
 """
 
 from functools import lru_cache
+from itertools import chain
 
 SIZE = 2352
 SYNC = bytes([0] + 10 * [255] + [0])  # the clause on the digital data structure of sectors: the sync field
@@ -20,10 +21,10 @@ def product(a, b):
 
 def division_rest(bits, divisor, rest=0):
     """Long division of such polynomials: each bit of the dividend, the highest power first, is brought down to the rest."""
-    degree = divisor.bit_length() - 1
+    highest = 1 << divisor.bit_length() - 1
     for bit in bits:
         rest = 2 * rest + bit
-        if rest >> degree:
+        if rest >= highest:
             rest ^= divisor
     return rest
 
@@ -44,10 +45,13 @@ def power(n):
 EDC_POLYNOMIAL = product(0b11000000000000101, 0b10000000000000111)
 
 
+BITS = [[byte >> i & 1 for i in range(8)] for byte in range(256)]  # the lowest bit first
+
+
 @lru_cache(1000)
 def edc_rest(data, rest=0):
     """The same clause: the rest of bytes, the lowest bit of each first, after those that left `rest`."""
-    return division_rest((byte >> i & 1 for byte in data for i in range(8)), EDC_POLYNOMIAL, rest)
+    return division_rest(chain.from_iterable(BITS[byte] for byte in data), EDC_POLYNOMIAL, rest)
 
 
 def edc_bytes(data, rest):
@@ -71,12 +75,18 @@ WEIGHTED = [[times(power(n), byte) for byte in range(256)] for n in range(45)]  
 BY_THREE = {times(3, byte): byte for byte in range(256)}  # the quotients by 1 + alpha
 
 
+@lru_cache
+def weighted(length):
+    """The products with the weights alpha^(length-1), .., alpha, 1, in this order."""
+    return WEIGHTED[length - 1::-1] if length else []
+
+
 def syndromes(word):
     """Annex A: the sum of a code word's bytes, and their sum with the weights alpha^(L-1), .., alpha, 1."""
     first = second = 0
-    for i, byte in enumerate(word):
+    for byte, products in zip(word, weighted(len(word))):
         first ^= byte
-        second ^= WEIGHTED[len(word) - 1 - i][byte]
+        second ^= products[byte]
     return first, second
 
 
