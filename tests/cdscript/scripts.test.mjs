@@ -161,7 +161,7 @@ test('a script of the difference leads from the one image to the other, and its 
     const undo = await run(['undo', 'old.bin', 'diff.txt', '-o', 'undo.txt'], { cwd: room });
     assert.equal(undo.status, 1);
     assert.equal(undo.errors, 'cdscript: blocks 5007 to 5008: damage does not come back; address and user data do\n');
-    assert.equal((await run(['undo', 'edited.bin', 'edit.txt'], { cwd: room })).status, 0);
+    assert.equal((await run(['undo', 'edited.bin', 'edit.txt'], { cwd: room })).status, 2);
     write(room, { 'sound.bin': imageOf(room, 400, 5000) });
     assert.equal((await run(['undo', 'sound.bin', 'edit.txt', '-o', 'back.txt'], { cwd: room })).status, 0);
     sameFile(applied(room, 'edited.bin', 'back.txt', '--base', '5000'), read(room, 'sound.bin'), 'the image before');
@@ -183,6 +183,11 @@ test('undo on an image that is patched already writes nothing', () => inDirector
     const some = await run(['undo', 'patched', 'three'], { cwd: room });
     assert.deepEqual([some.status, some.errors], [1, `cdscript: 1 patch is ${why}\n`]);
     assert.match(some.out, /^cdpatch 1\nset 4 7 /);
+    write(room, { unconditional: read(room, 'two').toString().replace(/ was .*/g, ''), empty: 'cdpatch 1\n' });
+    await refuses(room, ['undo', 'patched', 'unconditional'],
+        'the image already has what the script writes, so nothing can be taken back: it must be the image before the script');
+    const none = await run(['undo', 'patched', 'empty'], { cwd: room });
+    assert.deepEqual([none.status, none.out, none.errors], [0, 'cdpatch 1\n', 'cdscript: the script has no patch\n']);
 }));
 
 test('undo says that its script needs --carry', () => inDirectory(async room => {

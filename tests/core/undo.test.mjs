@@ -110,6 +110,22 @@ test('undo takes back only what was applied', async () => {
     assert.equal(script.patches, 1);
 });
 
+test('a script that changes nothing can not be taken back, but for one without patches', async () => {
+    const image = soundImage(diceOf(6), 2, BASE);
+    const nothing = { name: 'Fault', message: /^the image already has what the script writes, so nothing can be taken back: / };
+    const script = `cdpatch 2\nset ${BASE} 7 0102\nset ${BASE + 1} 2047 AA\nfill ${BASE} 9 3 04\naddress ${BASE} 00:00:09\nrebuild ${BASE}\n`;
+    const patched = await after(image, script, false);
+    await assert.rejects(undone(patched.image, script), nothing);
+    await assert.rejects(undone(image, `cdpatch 1\nrebuild ${BASE}\n`), nothing);
+    assert.equal((await undone(patched.image, `${script}set ${BASE} 8 FF\n`)).script.patches, 1);
+    assert.equal((await undone(patched.image, `cdpatch 1\nset ${BASE} 7 01 was 77\n`)).patched.status, 1);
+    assert.equal(textOf((await undone(image, 'cdpatch 1\n')).script), 'cdpatch 1\n');
+    const hurt = image.slice();
+    hurt[2300] ^= 1;
+    const { script: undo, left } = await undone(hurt, `cdpatch 1\nrebuild ${BASE}\n`);
+    assert.deepEqual([undo.patches, blocksOf(left).length], [0, 1]);
+});
+
 test('undo of diff gives OLD', async () => {
     for (let seed = 0; seed < 20; seed++) {
         const dice = diceOf(700 + seed);
@@ -128,7 +144,8 @@ test('a script with a fault, a long one, and a read that fails', async () => {
     assert.ok(refusal instanceof Refusal && decoded(refusal.text) === 'script line 2: unknown verb\n', decoded(refusal.text));
     const long = `cdpatch 1\n${`rebuild ${BASE}\n`.repeat(65536)}`;
     assert.ok(await undone(image, long) instanceof Refusal);
-    assert.equal(textOf((await undone(image, long, { long: true })).script), 'cdpatch 1\n');
+    const short = `cdpatch 1\nset ${BASE} 0 ${Buffer.of(~image[16]).toString('hex')}\n`;
+    assert.equal(textOf((await undone(image, `${long}${short.slice(10)}`, { long: true })).script), textOf((await undone(image, short)).script));
     const script = `cdpatch 1\nset ${BASE} 0 01\nset ${BASE + 3} 0 01\n`;
     const { reads } = await (async () => { const it = readerOf(image); await undoScript(calls, it, [encoded(script)], { base: BASE }); return it; })();
     for (let fault = 0; fault < reads.length; fault++) {

@@ -2,8 +2,10 @@
 
 import { readBytes } from './bytes.js';
 import { diffRange } from './compare.js';
+import { Fault } from './faults.js';
 import { ScriptParts } from './output.js';
 import { passPatched } from './patch.js';
+import { STATUS } from './records.js';
 import { Refusal, patchesOf } from './script.js';
 import { SECTOR_SIZE } from './sector.js';
 
@@ -20,8 +22,12 @@ import { SECTOR_SIZE } from './sector.js';
  * @typedef {{ script: Script, patched: Patched, left: Left[] }} Undo
  */
 
+const NOTHING_TO_TAKE_BACK = 'the image already has what the script writes, so nothing can be taken back: ' +
+    'it must be the image before the script';
+
 /**
- * The script that takes back what a script does to an image.
+ * The script that takes back what a script does to an image. Throws a Fault if all patches of the script are accepted and none changes
+ * anything: then the image has what the script writes already, as a patched one does.
  * @param {Calls} calls
  * @param {Reader} reader of the image before it
  * @param {Pieces} script
@@ -38,5 +44,12 @@ export async function undoScript(calls, reader, script, { base, carry = false, l
         parts.push(diffRange(calls, piece.bytes, before, base + piece.at / SECTOR_SIZE, { carry, heal: true }));
     };
     const patched = await passPatched(calls, reader, patches, base, carry, takeBack);
-    return { script: parts.script(calls), patched, left: parts.left };
+    const undo = { script: parts.script(calls), patched, left: parts.left };
+    if (changesNothing(undo)) throw new Fault(NOTHING_TO_TAKE_BACK);
+    return undo;
+}
+
+/** @param {Undo} undo */
+function changesNothing({ script, patched: { status, outcomes }, left }) {
+    return outcomes.length > 0 && status === STATUS.DONE && script.patches === 0 && left.length === 0;
 }
