@@ -53,7 +53,7 @@ const JOBS_TIMED = {
         const wanted = encodingOf('CP932').units(process.env.TEXT || 'number 004242');
         const parts = [];
         const how = { base: image.base, step, beyond: sectorsBeyond(wanted) };
-        await crew.share('find', [image.reader], { wanted, limit: 100 }, how, answer => { parts.push(answer); });
+        await crew.share('find', [image.reader], { texts: [wanted], limit: 100 }, how, ([answer]) => { parts.push(answer); });
         return joinFound(parts, 100).count;
     },
     async survey(crew, [image]) {

@@ -38,6 +38,27 @@ test('a hit in the middle of a character is marked, and replaced only at its pla
     assert.deepEqual([begun.status, begun.errors], [0, '']);
 }));
 
+test('the encoding is the first one in which the text is not only in the middle of characters, and the others are named', () => inDirectory(async room => {
+    // In CP932 アイ is 83418343, and ャ is 8383; in EUC-JP アイ is A5A2A5A4.
+    writeImage(room, [2, 100, '8383418343'], [5, 9, 'A5A2A5A4'], [3, 7, '6B7A'], [3, 89, '016B007A00'], [4, 7, '016B007A00']);
+    const found = async (...words) => {
+        const { status, out, errors } = await run(['find', 'image', ...words], { cwd: room });
+        const rows = out.split('\n').slice(0, -1).map(line => line.split('\t')).map(row => [row[0], row[1], row[5]].join(' '));
+        return [status, rows, errors.split('\n').slice(0, -1).map(line => line.replace('cdscript: ', '')).filter(line => !line.startsWith('no file'))];
+    };
+    const inside = 'in CP932 it stands there only in the middle of characters';
+    assert.deepEqual(await found('アイ'), [0, ['5 9 '], ['the text stands there in EUC-JP', inside, 'hits 1 printed 1']]);
+    assert.deepEqual(await found('アイ', '--encoding', 'CP932'), [0, [`2 101 ${INSIDE}`], ['hits 1 printed 1']]);
+    const other = 'in UTF-16LE it stands there too: --encoding UTF-16LE';
+    assert.deepEqual(await found('kz'), [0, ['3 7 '], ['the text stands there in CP932', other, 'hits 1 printed 1']]);
+    const kana = await run(['replace', 'image', 'アイ', 'エオ'], { cwd: room });
+    assert.deepEqual([kana.status, kana.out, kana.errors],
+        [0, 'cdpatch 1\nset 5 9 A5A8A5AA was A5A2A5A4\n', `cdscript: the text stands there in EUC-JP\ncdscript: ${inside}\n`]);
+    const both = await run(['replace', 'image', 'kz', 'xx'], { cwd: room });
+    assert.deepEqual([both.status, both.out, both.errors],
+        [0, 'cdpatch 1\nset 3 7 7878 was 6B7A\n', `cdscript: the text stands there in CP932\ncdscript: ${other}\n`]);
+}));
+
 test('show keeps characters whole over rows, and goes on in the next block', () => inDirectory(async room => {
     // スター is 8358 835E 815B: over the border of two rows, and over that of two blocks.
     writeImage(room, [2, 15, '8358835E815B41'], [2, 2047, '83'], [3, 0, '5842'], [5, 30, 'F09F98']);

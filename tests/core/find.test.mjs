@@ -11,6 +11,9 @@ const RAW = 2352;
 const USER = 2048;
 const ALL = 1e9;
 
+/** The hits of one text. */
+const findOne = (bytes, first, { wanted, ...limits }) => findIn(bytes, first, { texts: [wanted], ...limits })[0];
+
 /** Units of one spelling each, a byte a unit. @param {string} digits */
 const bytesOf = digits => encodingOf('hex').units(digits);
 
@@ -47,7 +50,7 @@ function byRanges(raw, wanted, { base, range, limit }) {
     const parts = [];
     for (let first = 0; first < raw.length / RAW; first += range) {
         const bytes = raw.slice(first * RAW, (first + range + sectorsBeyond(wanted)) * RAW);
-        parts.push(findIn(null, bytes, base + first, { wanted, count: range, limit }));
+        parts.push(findOne(bytes, base + first, { wanted, count: range, limit }));
     }
     return joinFound(parts, limit);
 }
@@ -123,6 +126,16 @@ test('spellings of several lengths: every one is found, with its size', () => {
     }
 });
 
+test('several texts at once have the hits that each has by itself', () => {
+    const raw = rawOf(randomUser(12, 5));
+    const texts = ['0102', '00', '020200010201'].map(bytesOf);
+    for (const how of [{ count: 5, limit: ALL }, { count: 2, limit: 3 }]) {
+        const due = texts.map(wanted => findOne(raw, 30, { wanted, ...how }));
+        assert.deepStrictEqual(findIn(raw, 30, { texts, ...how }), due);
+        assert.ok(due.every(({ count }) => count > 0));
+    }
+});
+
 test('all hits are counted, and the first ones kept', () => {
     const raw = rawOf(new Uint8Array(9 * USER));
     for (const range of [1, 4, 9]) {
@@ -142,9 +155,9 @@ test('what is rare in one range and not in the next is found in both', () => {
 });
 
 test('no text and no image have no hits', () => {
-    assert.deepStrictEqual(findIn(null, rawOf(new Uint8Array(USER)), 4, { wanted: [], count: 1, limit: 5 }), { count: 0, hits: [] });
+    assert.deepStrictEqual(findOne(rawOf(new Uint8Array(USER)), 4, { wanted: [], count: 1, limit: 5 }), { count: 0, hits: [] });
     assert.deepStrictEqual(joinFound([], 5), { count: 0, hits: [] });
-    assert.strictEqual(findIn(null, new Uint8Array(0), 0, { wanted: bytesOf('00'), count: 7, limit: 5 }).count, 0);
+    assert.strictEqual(findOne(new Uint8Array(0), 0, { wanted: bytesOf('00'), count: 7, limit: 5 }).count, 0);
     assert.deepStrictEqual([0, 1, 2, 2049, 2050].map(size => sectorsBeyond(bytesOf('00'.repeat(size)))), [0, 0, 1, 1, 2]);
 });
 

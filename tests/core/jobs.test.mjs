@@ -23,10 +23,10 @@ async function joined(crew, bytes, step) {
     const others = [];
     for (const run of parts.flatMap(part => part.others)) addToRuns(others, run);
     const iso = readerOf(Uint8Array.from(user));
-    const found = await answersOf(crew, 'find', [readerOf(bytes)], { wanted, limit: 50 }, { ...how, beyond: sectorsBeyond(wanted) });
+    const found = await answersOf(crew, 'find', [readerOf(bytes)], { texts: [wanted], limit: 50 }, { ...how, beyond: sectorsBeyond(wanted) });
     return {
         survey: joinSurveys(await answersOf(crew, 'survey', [readerOf(bytes)], {}, how), BASE),
-        found: joinFound(found, 50),
+        found: joinFound(found.map(([answer]) => answer), 50),
         user,
         others,
         raw: (await answersOf(crew, 'raw', [iso], {}, { ...how, units: [2048] })).flatMap(part => [...part]),
@@ -36,7 +36,7 @@ async function joined(crew, bytes, step) {
 test('ranges of 1 to 4096 sectors agree in every job', async () => {
     const due = await joined(localCrew(), small, 50);
     assert.deepEqual(due.survey, surveyed(small, BASE, 50));
-    assert.deepEqual(due.found, findIn(null, small, BASE, { wanted, count: 50, limit: 50 }));
+    assert.deepEqual([due.found], findIn(small, BASE, { texts: [wanted], count: 50, limit: 50 }));
     assert.ok(due.found.count > 3);
     for (const step of [1, 2, 7, 49, 51, 4096]) assert.deepEqual(await joined(localCrew(), small, step), due, `${step}`);
     const [whole, ...parts] = await Promise.all([4096, 1, 1024].map(step => answersOf(localCrew(), 'survey', [readerOf(image)], {}, { base: BASE, step })));

@@ -1,7 +1,7 @@
 // The arguments of the command line.
 
 import { Fault } from '../core/faults.js';
-import { encodingOf } from '../core/text.js';
+import { bytesOfHex, encodingOf } from '../core/text.js';
 import { FORMS, OPTION_FORMS } from './forms.js';
 import { LAST_BASE, MOST_BLOCKS, numberOf } from './numbers.js';
 
@@ -21,7 +21,7 @@ const LAST_TRACK = 99;
 /** @param {string} text */
 function fillOf(text) {
     if (!/^([0-9A-Fa-f]{2})+$/.test(text)) throw new Fault(`--fill is two hexadecimal digits for each byte, not '${text}'`);
-    return Uint8Array.from(text.match(/../g) || [], pair => parseInt(pair, 16));
+    return bytesOfHex(text);
 }
 
 /** @param {string} name */

@@ -69,7 +69,7 @@ export const FORMS = {
         job: findJob, takes: ['IMAGE', 'TEXT'], options: ['encoding', 'table', 'limit', 'track', 'base', 'output'],
         says: 'Find a text in the user data of a disc',
         does: 'Prints block, offset, bytes, file with the place in it, and the text around, with tabs between. Without an encoding ' +
-            'those are tried that Japanese discs have. Status: 0 found, 1 not found, 2 failed',
+            'those are searched that Japanese discs have. Status: 0 found, 1 not found, 2 failed',
     },
     'show': {
         job: showJob, takes: ['IMAGE', 'BLOCK', 'OFFSET?'], options: ['encoding', 'table', 'track', 'base', 'output'],

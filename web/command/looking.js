@@ -1,15 +1,18 @@
 // The jobs that look into a data track: `files`, `find` and `show`.
 
 import { LOOKED_BACK, bytesInside, charactersFrom } from '../core/boundaries.js';
-import { bytesOfLines, readBytes } from '../core/bytes.js';
+import { bytesOfLines } from '../core/bytes.js';
+import { sectorsOfRange } from '../core/edit.js';
 import { Fault } from '../core/faults.js';
 import { VolumeFault, filesAt, filesOf } from '../core/iso.js';
 import { kindName } from '../core/records.js';
-import { FIELDS, SECTOR_SIZE, USER_SIZE, addressIn, addressText, joinedUser } from '../core/sector.js';
+import { FIELDS, USER_SIZE, addressIn, addressText } from '../core/sector.js';
+import { hexText } from '../core/text.js';
+import { INSIDE, LONGEST_CHARACTER, bytesAround, isInside } from './around.js';
 import { placeOf } from './numbers.js';
 import { openTrack } from './opening.js';
 import { encodingsOf, hitsOf } from './searching.js';
-import { hexByte, visible } from './words.js';
+import { visible } from './words.js';
 
 /** @typedef {import('../core/disc.js').DiscImage} DiscImage */
 /** @typedef {import('../core/edit.js').Place} Place */
@@ -23,27 +26,9 @@ const DEFAULT_LIMIT = 1000;
 /** So many bytes around a hit are shown, before it and after it. */
 const AROUND = 24;
 
-/** The most bytes of a character. */
-const LONGEST_CHARACTER = 4;
-
-export const INSIDE = 'in the middle of a character';
-
 /** The bytes of a row of `show`, and how many are shown from an offset on. */
 const ROW = 16;
 const SHOWN = 128;
-
-/**
- * User bytes from a place on: so many, or those up to the end of the image.
- * @param {DiscImage} image
- * @param {Place} place
- * @param {number} size
- */
-export async function userBytes({ reader, base, sectors }, { block, offset }, size) {
-    const first = block - base;
-    const count = Math.min(Math.ceil((offset + size) / USER_SIZE), sectors - first);
-    const bytes = await readBytes(reader, first * SECTOR_SIZE, count * SECTOR_SIZE);
-    return joinedUser(bytes).subarray(offset, offset + size);
-}
 
 /**
  * The file of a path. Throws a Fault if there is none.
@@ -85,20 +70,6 @@ async function filesIfAny(part) {
 }
 
 /**
- * User bytes around a place, as many before it and from it on, or as many as there are; and the place in them.
- * @param {DiscImage} image
- * @param {Place} place
- * @param {number} before
- * @param {number} after
- */
-async function bytesAround(image, { block, offset }, before, after) {
-    const at = Math.min(before, (block - image.base) * USER_SIZE + offset);
-    const from = block * USER_SIZE + offset - at;
-    const first = { block: Math.floor(from / USER_SIZE), offset: from % USER_SIZE };
-    return { at, bytes: await userBytes(image, first, at + after) };
-}
-
-/**
  * The text around a hit.
  * @param {DiscImage} part
  * @param {Encoding} encoding
@@ -112,17 +83,6 @@ async function around(part, encoding, hit) {
 }
 
 /**
- * Whether a place is in the middle of a character.
- * @param {DiscImage} image
- * @param {Encoding} encoding
- * @param {Place} place
- */
-export async function isInside(image, encoding, place) {
-    const { at, bytes } = await bytesAround(image, place, LOOKED_BACK, LONGEST_CHARACTER);
-    return bytesInside(encoding, bytes, at) > 0;
-}
-
-/**
  * The files in which a place lies, with how many of their bytes are before it.
  * @param {FileEntry[]} files
  * @param {Place} place
@@ -130,6 +90,18 @@ export async function isInside(image, encoding, place) {
 function filesText(files, { block, offset }) {
     const found = filesAt(files, block, offset).map(file => `${visible(file.path)}+${(block - file.block) * USER_SIZE + offset}`);
     return found.join(' ') || '-';
+}
+
+/**
+ * The line of a hit.
+ * @param {DiscImage} part
+ * @param {FileEntry[]} files
+ * @param {Encoding} encoding
+ * @param {Hit} hit
+ */
+async function hitLine(part, files, encoding, hit) {
+    const note = await isInside(part, encoding, hit) ? [INSIDE] : [];
+    return [hit.block, hit.offset, hit.size, filesText(files, hit), await around(part, encoding, hit), ...note].join('\t');
 }
 
 /** @param {Run} run */
@@ -140,14 +112,9 @@ export async function findJob(run) {
     const { part } = opened;
     // The files are read while the threads search.
     const [found, { files, why }] = await Promise.all([hitsOf(run, opened, run.names[1], limit), filesIfAny(part)]);
-    const { count, hits } = found || { count: 0, hits: [] };
+    const { count, hits, encoding } = found || { count: 0, hits: [], encoding: null };
     if (hits.length > 0) why.forEach(text => run.say(text));
-    for (const hit of hits) {
-        const { encoding } = /** @type {{ encoding: Encoding }} */ (found);
-        const note = await isInside(part, encoding, hit) ? [INSIDE] : [];
-        const words = [hit.block, hit.offset, hit.size, filesText(files, hit), await around(part, encoding, hit), ...note];
-        await target.write(bytesOfLines([words.join('\t')]));
-    }
+    for (const hit of hits) await target.write(bytesOfLines([await hitLine(part, files, /** @type {Encoding} */ (encoding), hit)]));
     run.say(`hits ${count} printed ${hits.length}`);
     return Number(count === 0);
 }
@@ -168,7 +135,7 @@ async function rowLines(image, encoding, place, size) {
     }
     return texts.flatMap((text, i) => {
         const offset = place.offset + i * ROW;
-        const digits = Array.from(shown.subarray(i * ROW, (i + 1) * ROW), hexByte).join(' ');
+        const digits = hexText(shown.subarray(i * ROW, (i + 1) * ROW), ' ');
         const row = `${String(offset % USER_SIZE).padStart(4)}  ${digits}  ${text}`.trimEnd();
         return offset === USER_SIZE ? [`block ${place.block + 1}`, row] : [row];
     });
@@ -185,9 +152,9 @@ async function sectorLines(run, part, sector, place) {
     const [found] = new TextDecoder().decode(run.calls.audit(sector, place.block).text).split('\n');
     const { files, why } = await filesIfAny(part);
     why.forEach(text => run.say(text));
-    const edc = Array.from(sector.subarray(FIELDS.edc, FIELDS.zeros), hexByte).join('');
+    const [kind, edc] = [kindName(run.calls.kind(sector)), hexText(sector.subarray(FIELDS.edc, FIELDS.zeros))];
     return [
-        `block ${place.block} address ${addressText(addressIn(sector, 0))} ${kindName(run.calls.kind(sector))} edc ${edc}`,
+        `block ${place.block} address ${addressText(addressIn(sector, 0))} ${kind} edc ${edc}`,
         ...found.startsWith('sectors ') ? [] : [`wrong: ${found.replace(/^\d+ /, '')}`],
         `file ${filesText(files, place)}`,
     ];
@@ -197,15 +164,12 @@ async function sectorLines(run, part, sector, place) {
 export async function showJob(run) {
     const [name, blockText, offsetText = '0'] = run.names;
     const place = placeOf(blockText, offsetText);
-    const encoding = (await encodingsOf(run).next()).value;
+    const [encoding] = await encodingsOf(run);
     const first = Math.floor(place.offset / ROW) * ROW;
     const size = run.names.length < 3 ? USER_SIZE : SHOWN;
     const target = await run.target();
     const { image, part } = await openTrack(run, name, true);
-    const last = image.base + image.sectors - 1;
-    if (place.block < image.base || place.block > last) throw new Fault(`the image has the blocks ${image.base} to ${last}`);
-    const sector = await readBytes(image.reader, (place.block - image.base) * SECTOR_SIZE, SECTOR_SIZE);
-    const lines = await sectorLines(run, part, sector, place);
+    const lines = await sectorLines(run, part, await sectorsOfRange(image, place, 1), place);
     await target.write(bytesOfLines([...lines, ...await rowLines(image, encoding, { block: place.block, offset: first }, size)]));
     return 0;
 }

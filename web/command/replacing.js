@@ -10,13 +10,14 @@ import { ScriptParts } from '../core/output.js';
 import { passPatched } from '../core/patch.js';
 import { Refusal, patchesOf } from '../core/script.js';
 import { SECTOR_SIZE, USER_SIZE } from '../core/sector.js';
-import { encodeText } from '../core/text.js';
-import { INSIDE, fileNamed, isInside, userBytes } from './looking.js';
+import { encodeText, hexText } from '../core/text.js';
+import { INSIDE, isInside, userBytes } from './around.js';
+import { fileNamed } from './looking.js';
 import { placeOf } from './numbers.js';
 import { openTrack } from './opening.js';
 import { writeScript } from './scripts.js';
 import { encodingsWith, hitsOf } from './searching.js';
-import { hexByte, sayOfRuns } from './words.js';
+import { sayOfRuns } from './words.js';
 
 /** @typedef {import('../core/disc.js').DiscImage} DiscImage */
 /** @typedef {import('../core/edit.js').Place} Place */
@@ -42,19 +43,17 @@ const MOST_PLACES = 1000000;
  * @returns {Promise<Places>}
  */
 async function placeOfText(run, image, place, text) {
+    const { encodings } = await encodingsWith(run, text);
     const after = image.base + image.sectors - place.block;
-    let first = null;
-    for await (const encoding of encodingsWith(run, text)) {
-        first = first || encoding;
-        if (place.block < image.base || after <= 0) break;
+    for (const encoding of place.block < image.base || after <= 0 ? [] : encodings) {
         const wanted = encoding.units(text);
         const count = Math.min(1 + sectorsBeyond(wanted), after);
         const bytes = await readBytes(image.reader, (place.block - image.base) * SECTOR_SIZE, count * SECTOR_SIZE);
-        const { hits } = findIn(run.calls, bytes, place.block, { wanted, count: 1, limit: USER_SIZE });
+        const [{ hits }] = findIn(bytes, place.block, { texts: [wanted], count: 1, limit: USER_SIZE });
         const hit = hits.find(({ offset }) => offset === place.offset);
         if (hit) return { encoding, places: [hit] };
     }
-    return { encoding: /** @type {Encoding} */ (first), places: [place] };
+    return { encoding: encodings[0], places: [place] };
 }
 
 /**
@@ -118,7 +117,7 @@ function freshBytes(run, encoding, text, size) {
     const bytes = encodeText(encoding, text);
     const fill = bytes.length < size ? run.options.fill || spaceIn(encoding) : null;
     const filled = filledUp(bytes, size, fill);
-    if (fill !== null) run.say(`bytes filled up with ${Array.from(fill, hexByte).join('')}: ${size - bytes.length}`);
+    if (fill !== null) run.say(`bytes filled up with ${hexText(fill)}: ${size - bytes.length}`);
     return filled;
 }
 
@@ -190,7 +189,7 @@ export async function replaceFileJob(run) {
     const made = await replaceFile(run.calls, run.crew, part, file, reader, { fill: fill[0] });
     sayOfRuns(run, made.left, left => leftText([left], part.name));
     if (made.script === null) throw new Fault('these blocks of the file can not be patched, so no script is written');
-    if (reader.size < file.size) run.say(`bytes filled up with ${hexByte(fill[0])}: ${file.size - reader.size}`);
+    if (reader.size < file.size) run.say(`bytes filled up with ${hexText(fill)}: ${file.size - reader.size}`);
     await writeScript(run, target, made.script);
     return 0;
 }

@@ -6,11 +6,6 @@
 /** Of more runs of blocks only the number is said. */
 const MOST_NAMED = 1000;
 
-/** @param {number} byte */
-export function hexByte(byte) {
-    return byte.toString(16).toUpperCase().padStart(2, '0');
-}
-
 /**
  * A text with a dot for each character that moves the cursor or is none.
  * @param {string} text

@@ -84,12 +84,12 @@ function differsText(calls, { block, offset }) {
 }
 
 /**
- * The sectors in which a range of user bytes lies.
+ * The sectors in which a range of user bytes lies. Throws a Fault if the image has not all of them.
  * @param {DiscImage} image
  * @param {Place} place
  * @param {number} size
  */
-function sectorsOfRange({ reader, base }, { block, offset }, size) {
+export function sectorsOfRange({ reader, base }, { block, offset }, size) {
     const first = block - base;
     const count = Math.ceil((offset + size) / USER_SIZE);
     const end = base + sectorCount(reader.size);

@@ -13,6 +13,7 @@ const MOST_OPENINGS = 64;
  */
 /** @typedef {{ block: number, offset: number, size: number }} Hit the user byte at which it begins, and how many bytes it has */
 /** @typedef {{ count: number, hits: Hit[] }} Found how many there are, and the first of them */
+/** @typedef {{ count: number, limit: number }} Limits in how many sectors hits begin, and how many hits are kept */
 
 /**
  * How many sectors after a range the search has to see, so that no hit that begins in the range is missed.
@@ -24,17 +25,25 @@ export function sectorsBeyond(wanted) {
 }
 
 /**
- * The hits that begin in the first `count` sectors of raw bytes: all are counted, and the first `limit` are kept. The bytes have
- * `sectorsBeyond` sectors more, or as many as the image has. Hits may overlap; a place counts once.
- * @param {unknown} _calls
+ * The hits of each text that begin in the first `count` sectors of raw bytes: all are counted, and the first `limit` are kept. The bytes
+ * have `sectorsBeyond` sectors more, or as many as the image has. Hits may overlap; a place counts once.
  * @param {Uint8Array} bytes of whole raw sectors
  * @param {number} firstBlock
- * @param {{ wanted: Wanted, count: number, limit: number }} args
+ * @param {{ texts: Wanted[] } & Limits} args
+ */
+export function findIn(bytes, firstBlock, { texts, ...limits }) {
+    const user = joinedUser(bytes);
+    return texts.map(wanted => findInUser(user, firstBlock, joinedParts(wanted), limits));
+}
+
+/**
+ * @param {Uint8Array} user
+ * @param {number} firstBlock
+ * @param {Wanted} parts
+ * @param {Limits} limits
  * @returns {Found}
  */
-export function findIn(_calls, bytes, firstBlock, { wanted, count, limit }) {
-    const parts = joinedParts(wanted);
-    const user = joinedUser(bytes);
+function findInUser(user, firstBlock, parts, { count, limit }) {
     const end = parts.length > 0 ? Math.min(user.length, count * USER_SIZE) : 0;
     const anchor = anchorOf(parts, user);
     /** @type {Found} */

@@ -36,7 +36,7 @@ import { SECTOR_SIZE } from './sector.js';
 /** @type {Record<string, Job>} */
 export const JOBS = {
     survey: (calls, [bytes], block) => ({ block, records: calls.survey(bytes, block) }),
-    find: (calls, [bytes], first, args) => findIn(calls, bytes, first, args),
+    find: (_, [bytes], first, args) => findIn(bytes, first, args),
     diff: (calls, [old, fresh], first) => diffRange(calls, old, fresh, first),
     differ: (calls, [old, fresh], first) => differRange(calls, old, fresh, first),
     merge: (calls, pieces, first, args) => mergeRange(calls, pieces, first, args),

@@ -17,20 +17,36 @@ export const ENCODINGS = ['hex', 'UTF-8', 'UTF-16LE', 'UTF-16BE', 'CP932', 'EUC-
 /** @type {Record<string, string>} other names, in capitals and without what is no letter or digit */
 const ENCODING_NAMES = { SHIFTJIS: 'CP932', SJIS: 'CP932', MS932: 'CP932', WINDOWS31J: 'CP932' };
 
+/**
+ * Bytes as hexadecimal digits.
+ * @param {Uint8Array} bytes
+ * @param {string} [between] what stands between the digits of two bytes
+ */
+export function hexText(bytes, between = '') {
+    return Array.from(bytes, byte => byte.toString(16).toUpperCase().padStart(2, '0')).join(between);
+}
+
+/**
+ * The bytes of hexadecimal digits, of which there are two for each.
+ * @param {string} digits
+ */
+export function bytesOfHex(digits) {
+    return Uint8Array.from(digits.match(/../g) || [], pair => parseInt(pair, 16));
+}
+
 /** @returns {Encoding} bytes in hexadecimal digits, with or without spaces and line ends between them */
 function hexEncoding() {
-    const digits = (/** @type {number} */ byte) => byte.toString(16).toUpperCase().padStart(2, '0');
     return {
         name: 'hex',
         units(text) {
             const units = [];
             for (const { 0: found, index } of text.matchAll(/[0-9A-Fa-f]{2}|\S/g)) {
                 if (found.length < 2) throw notHex(text, index || 0);
-                units.push([Uint8Array.of(parseInt(found, 16))]);
+                units.push([bytesOfHex(found)]);
             }
             return units;
         },
-        text: bytes => Array.from(bytes, digits).join(''),
+        text: bytes => hexText(bytes),
         lengthAt: () => 1,
         isLead: () => false,
     };
@@ -154,9 +170,7 @@ export function tableOf(bytes) {
         const found = /^([*/]?)((?:[0-9A-Fa-f]{2})+)(?:=(.+))?$/u.exec(line);
         const text = found && (found[3] || (found[1] === '*' ? '\n' : ''));
         if (!found || !text) throw new TextFault(`line ${i + 1} of the table is not HEX=TEXT`);
-        const key = found[2].match(/../g) || [];
-        const fresh = table.add(Uint8Array.from(key, pair => parseInt(pair, 16)), text);
-        if (!fresh) throw new TextFault(`line ${i + 1} of the table: ${found[2]} stands twice`);
+        if (!table.add(bytesOfHex(found[2]), text)) throw new TextFault(`line ${i + 1} of the table: ${found[2]} stands twice`);
     });
     return table;
 }

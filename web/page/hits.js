@@ -43,7 +43,7 @@ export async function findHits(app, { reader, base }, { text, encoding }, watch)
     const parts = [];
     let kept = 0;
     const how = { base, beyond: sectorsBeyond(wanted), ...watch };
-    await app.crew.share('find', [reader], { wanted, limit: MOST_HITS }, how, answer => {
+    await app.crew.share('find', [reader], { texts: [wanted], limit: MOST_HITS }, how, ([answer]) => {
         parts.push({ ...answer, hits: kept < MOST_HITS ? answer.hits : [] });
         kept += answer.hits.length;
     });
