@@ -54,14 +54,16 @@ export function mergeRange(calls, [old, ...others], first, { shift }) {
             for (const other of sound) addDifferent(found, block, other);
             continue;
         }
-        const fit = sound.filter(other => isHome(calls, addressIn(others[other], i), block + shift));
-        if (fit.length > 0) {
+        const home = sound.filter(other => isHome(calls, addressIn(others[other], i), block + shift));
+        if (home.length > 0) {
             const damaged = sectorOf(old, i);
-            const candidates = fit.map(other => ({ other, sector: sectorOf(others[other], i) }));
-            const { other, sector } = bestOf(damaged, candidates);
+            const candidates = home.map(other => ({ other, sector: sectorOf(others[other], i) }));
+            const fits = candidates.map(({ sector }) => fitOf(damaged, sector));
+            const best = Math.max(...fits);
+            const { other, sector } = candidates[fits.indexOf(best)];
             sectors.push(sector);
             addToRuns(found.taken, { ...runOf(block), other });
-            if (!belongs(damaged, sector)) addToRuns(found.doubtful, { ...runOf(block), other });
+            if (best === 0 && !isFilled(damaged)) addToRuns(found.doubtful, { ...runOf(block), other });
             if (candidates.some(it => differingSectors(sector, it.sector).length > 0)) addToRuns(found.disputed, runOf(block));
         } else if ([records, ...otherRecords].some(it => it[at + RECORD.KIND] === SECTOR_KIND.MODE1)) {
             addToRuns(found.damaged, { ...runOf(block), elsewhere: sound.length > 0 });
@@ -81,24 +83,21 @@ function addDifferent({ differing, different }, block, other) {
 }
 
 /**
- * The sector that a damaged one was: the first with the EDC that stands in it, else the first with its data, else the first.
- * @template {{ sector: Uint8Array }} T
- * @param {Uint8Array} damaged
- * @param {T[]} candidates
- */
-function bestOf(damaged, candidates) {
-    return candidates.find(({ sector }) => hasSame(damaged, sector, FIELDS.edc, FIELDS.zeros)) ||
-        candidates.find(({ sector }) => hasSame(damaged, sector, FIELDS.header, FIELDS.edc)) || candidates[0];
-}
-
-/**
- * Whether a damaged sector has the EDC or the data of a sound one, or nothing but one byte over and over.
+ * How well a sound sector fits a damaged one: 2 if it has the EDC that stands there, 1 if it has the data, else 0.
  * @param {Uint8Array} damaged
  * @param {Uint8Array} sector
  */
-function belongs(damaged, sector) {
-    return hasSame(damaged, sector, FIELDS.edc, FIELDS.zeros) || hasSame(damaged, sector, FIELDS.header, FIELDS.edc) ||
-        damaged.subarray(FIELDS.user).every(byte => byte === damaged[FIELDS.user]);
+function fitOf(damaged, sector) {
+    if (hasSame(damaged, sector, FIELDS.edc, FIELDS.zeros)) return 2;
+    return Number(hasSame(damaged, sector, FIELDS.header, FIELDS.edc));
+}
+
+/**
+ * Whether a damaged sector has nothing but one byte over and over.
+ * @param {Uint8Array} damaged
+ */
+function isFilled(damaged) {
+    return damaged.subarray(FIELDS.user).every(byte => byte === damaged[FIELDS.user]);
 }
 
 /**
