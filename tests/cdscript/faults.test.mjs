@@ -161,6 +161,29 @@ test('want of memory is said so, in a thread too', () => inDirectory(room => {
     assert.deepEqual([status, stderr], [2, 'cdscript: no memory\n']);
 }));
 
+test('threads read for themselves, and what they can not read is read without them', () => inDirectory(room => inDirectory(async streams => {
+    const image = imageOf(room, 9000);
+    const hurt = damaged(image, 0, [3, 100], [8999, 2300]);
+    write(room, { image, hurt });
+    const lengths = [];
+    const due = await faultyCall(room, streams, ['audit', 'hurt'], (name, given) => void (name === 'readSync' && lengths.push(given[3])));
+    assert.equal(due.out, '3 edc p=1 q=1\n8999 q=1\nsectors 9000 mode1 9000 damaged 2 tail 0\n');
+    assert.ok(Math.max(...lengths) < 100000, 'large reads are for threads');
+    const withPreload = (words, env) => {
+        const { status, stdout, stderr } = spawnSync(process.execPath, ['-r', preload, command, ...words],
+            { cwd: room, env: { ...process.env, ...env }, encoding: 'utf8' });
+        return [status, stdout + stderr];
+    };
+    assert.deepEqual(withPreload(['audit', 'hurt'], { NO_READS: '1' }), [1, due.out]);
+    assert.deepEqual(withPreload(['merge', 'hurt', 'image', 'out'], { NO_READS: '1' }),
+        [0, '3-3 from image\n8999-8999 from image\ntaken 2 damaged 0 disputed 0 different 0\n']);
+    sameFile(read(room, 'out'), image, 'the repaired image');
+    assert.deepEqual(withPreload(['audit', 'hurt'], { CUT: join(room, 'hurt') }), [2, 'cdpatch: reading the image failed\n']);
+    assert.deepEqual(withPreload(['user', 'image', 'new'], { CUT: join(room, 'image') }),
+        [2, `cdscript: the image ends at byte ${8500 * 2352 + 100}\n`]);
+    assert.equal(existsSync(join(room, 'new')), false);
+})));
+
 test('a full disk leaves no file', t => inDirectory(room => {
     const made = shell('mkdir small && mount -t tmpfs -o size=200k none small', room);
     if (made.status !== 0) return t.skip('no right to mount');

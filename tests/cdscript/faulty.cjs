@@ -36,4 +36,14 @@ if (process.env.NO_MEMORY !== undefined && !require('node:worker_threads').isMai
     WebAssembly.Memory.prototype.grow = () => { throw new RangeError('WebAssembly.Memory.grow(): Maximum memory size exceeded'); };
 }
 
+// As a preload: the threads read nothing, or a file is cut before they read.
+const { isMainThread } = require('node:worker_threads');
+if (!isMainThread && process.env.NO_READS !== undefined) faults.hit = name => name === 'readSync' ? faults.errorOf('EIO') : null;
+if (!isMainThread && process.env.CUT !== undefined) {
+    faults.hit = name => {
+        if (name === 'readSync') fs.truncateSync(process.env.CUT, 8500 * 2352 + 100);
+        return null;
+    };
+}
+
 module.exports = faults;

@@ -94,4 +94,7 @@ test('a slice of a reader reads nothing outside', async () => {
     assert.deepStrictEqual(await slice.read(25, 100), bytes.slice(35, 40));
     assert.strictEqual((await slice.read(30, 5)).length, 0);
     assert.strictEqual((await slice.read(50, 5)).length, 0);
+    assert.strictEqual(slice.lent, undefined);
+    const lending = sliceOf({ ...readerOf(bytes), lent: (at, length) => [at, length] }, 10, 40);
+    assert.deepStrictEqual(lending.lent(5, 7), [15, 7]);
 });

@@ -5,7 +5,7 @@ import { test } from 'node:test';
 import { calls, core, diceOf, joinSurveys, readerOf, sameBytes, someImage, surveyed } from './common.mjs';
 import { answersOf, localCrew, withThreads } from './crews.mjs';
 
-const { Crew, JOBS, localHand, serving, transfersOf } = await core('jobs.js');
+const { Crew, JOBS, UNREAD, localHand, serving, transfersOf } = await core('jobs.js');
 const { addToRuns } = await core('runs.js');
 const { findIn, joinFound, sectorsBeyond } = await core('find.js');
 
@@ -185,6 +185,43 @@ test('bytes are given to a worker with their memory, or else copied', async () =
     assert.deepEqual(transfersOf({ answer: views[0] }), [views[0].buffer]);
     assert.deepEqual(transfersOf({ answer: { a: views, b: views[0], c: 5, d: [{ e: views[1] }] } }), views.map(it => it.buffer));
     assert.deepEqual(transfersOf({ fault: { name: 'Error', message: '' } }), []);
+});
+
+/** A hand that reads for itself so often. */
+function readingHand(most) {
+    const serve = serving(calls);
+    let reads = 0;
+    const piecesOf = pieces => pieces.map(piece => piece instanceof Uint8Array ? piece : piece.bytes.slice(piece.at, piece.at + piece.length));
+    const replyTo = message => {
+        const isLent = message.pieces.some(piece => !(piece instanceof Uint8Array));
+        reads += Number(isLent);
+        return isLent && reads > most ? { number: message.number, fault: UNREAD } : serve({ ...message, pieces: piecesOf(message.pieces) });
+    };
+    const hand = { post: message => void setImmediate(() => hand.onreply(replyTo(message))) };
+    return hand;
+}
+
+const lendingReader = bytes => ({ ...readerOf(bytes), lent: (at, length) => ({ bytes, at, length }) });
+
+test('what readers lend is read by hands, and if one can not read it, by this thread', async () => {
+    const survey = (crew, readers, step = 3) => answersOf(crew, 'diff', readers, {}, { base: BASE, step });
+    const other = small.slice();
+    for (const i of [4, 30, 49]) other[2352 * i + 99] ^= 1;
+    const due = await survey(localCrew(), [small, other].map(bytes => readerOf(bytes)));
+    for (const most of [0, 1, 5, 17]) {
+        const readers = [small, other].map(lendingReader);
+        assert.deepEqual(await survey(new Crew([readingHand(most), readingHand(99)], true), readers), due, `${most}`);
+        assert.equal(readers[0].reads.length === 0, most === 17);
+        const [lends, lendsNot] = [lendingReader(small), readerOf(other)];
+        assert.deepEqual(await survey(new Crew([readingHand(99)], true), [lends, lendsNot]), due);
+        assert.equal(lends.reads.length, lendsNot.reads.length);
+    }
+    class Gone extends Error {}
+    const gone = { ...lendingReader(small), read: async () => { throw new Gone('the file is gone'); } };
+    await assert.rejects(survey(new Crew([readingHand(2)], true), [gone, gone]), Gone);
+    const late = { number: 0, fault: new Gone('the hand is gone') };
+    const hand = { post: message => hand.onreply({ ...late, number: message.number }) };
+    await assert.rejects(survey(new Crew([hand]), [readerOf(small), readerOf(small)]), Gone);
 });
 
 test('an image without sectors has no answer', async () => {

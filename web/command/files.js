@@ -1,7 +1,7 @@
 // Files: images as readers, scripts in pieces, and files that are made new.
 
 import { closeSync, fstatSync, fsync, open, openSync, read, readFileSync, readSync, readdirSync, unlinkSync, writeSync } from 'node:fs';
-import { bytesOfPieces } from '../core/bytes.js';
+import { READ_SIZE, bytesOfPieces } from '../core/bytes.js';
 import { MOST_SECTORS, SECTOR_SIZE } from '../core/sector.js';
 import { FileFault, hasCode, tryFile } from './failures.js';
 import { pause } from './pausing.js';
@@ -61,9 +61,10 @@ async function readSome(descriptor, bytes, done) {
  * Bytes of a file: those asked for, or fewer if it ends before.
  * @param {number} length
  * @param {(bytes: Uint8Array, done: number) => number | Promise<number>} readMore reads some to a place, and returns how many came
+ * @param {Uint8Array} [room] for as many bytes
  */
-async function readFully(length, readMore) {
-    const bytes = new Uint8Array(Buffer.allocUnsafeSlow(length).buffer);
+async function readFully(length, readMore, room) {
+    const bytes = room ? room.subarray(0, length) : new Uint8Array(Buffer.allocUnsafeSlow(length).buffer);
     for (let done = 0; done < length;) {
         const count = await readMore(bytes, done);
         if (count === 0) return bytes.subarray(0, done);
@@ -83,11 +84,12 @@ async function readFully(length, readMore) {
 function diskReader(name, descriptor, size, start) {
     return {
         size,
-        async read(at, length) {
+        async read(at, length, room) {
             await letSignalsIn();
             return tryFile('read', name, () => readFully(length, (bytes, done) =>
-                readSync(descriptor, bytes, done, length - done, start + at + done)));
+                readSync(descriptor, bytes, done, length - done, start + at + done), room));
         },
+        lent: (at, length) => ({ descriptor, at: start + at, length }),
     };
 }
 
@@ -116,6 +118,7 @@ class NewFile {
         this.descriptor = descriptor;
         this.finished = finished;
         this.unsynced = 0;
+        this.room = new Uint8Array(READ_SIZE);
         /** @type {Promise<unknown> | null} how it went, null if it went well */
         this.syncing = null;
     }
@@ -137,7 +140,7 @@ class NewFile {
      * @param {Piece} piece
      */
     async writePiece(reader, piece) {
-        for await (const bytes of bytesOfPieces(reader, [piece])) await this.write(bytes);
+        for await (const bytes of bytesOfPieces(reader, [piece], this.room)) await this.write(bytes);
     }
 
     /** Lets the disk take what is written, while more comes. */

@@ -69,8 +69,8 @@ export async function main(words, streams = STANDARD, files = new Files(streams.
         messages.say(messageOf(error));
         return STATUS.FAILED;
     } finally {
-        files.close();
         if (run !== null) run.crew.close();
+        files.close();
     }
 }
 

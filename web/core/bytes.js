@@ -3,8 +3,10 @@
 import { Fault } from './faults.js';
 
 /**
- * What an image is read by: bytes from a place on, as many as were asked for or fewer, but none only if the image ends there.
- * @typedef {{ size: number, read(at: number, length: number): Promise<Uint8Array> }} Reader
+ * What an image is read by: bytes from a place on, as many as were asked for or fewer, but none only if the image ends there. They may
+ * be put into `room`, which then belongs to who reads. `lent` is what a worker of this door reads bytes by, as it can be posted.
+ * @typedef {{ size: number, read(at: number, length: number, room?: Uint8Array): Promise<Uint8Array>,
+ *     lent?(at: number, length: number): unknown }} Reader
  */
 
 /**
@@ -13,7 +15,7 @@ import { Fault } from './faults.js';
  */
 
 /** So many bytes of a slice are read at a time. */
-const READ_SIZE = 1 << 22;
+export const READ_SIZE = 1 << 22;
 
 /** An image that ends before its size. */
 export class ImageEnded extends Fault {}
@@ -23,12 +25,13 @@ export class ImageEnded extends Fault {}
  * @param {Reader} reader
  * @param {number} at
  * @param {number} length
+ * @param {Uint8Array} [room] of as many bytes, in which they may stand
  * @returns {Promise<Uint8Array>}
  */
-export async function readBytes(reader, at, length) {
+export async function readBytes(reader, at, length, room) {
     const parts = [];
     for (let done = 0; done < length;) {
-        const part = await reader.read(at + done, length - done);
+        const part = await reader.read(at + done, length - done, room && room.subarray(done));
         if (part.length === 0) throw new ImageEnded(`the image ends at byte ${at + done}`);
         parts.push(part);
         done += part.length;
@@ -37,19 +40,20 @@ export async function readBytes(reader, at, length) {
 }
 
 /**
- * The bytes of pieces, in turn.
+ * The bytes of pieces, in turn. Each may be gone when the next is asked for.
  * @param {Reader} reader that the slices are of
  * @param {Iterable<Piece> | AsyncIterable<Piece>} pieces
+ * @param {Uint8Array} [room] of READ_SIZE bytes
  * @returns {AsyncGenerator<Uint8Array>}
  */
-export async function* bytesOfPieces(reader, pieces) {
+export async function* bytesOfPieces(reader, pieces, room) {
     for await (const piece of pieces) {
         if ('bytes' in piece) {
             yield piece.bytes;
             continue;
         }
         for (let at = piece.from; at < piece.to; at += READ_SIZE) {
-            yield await readBytes(reader, at, Math.min(READ_SIZE, piece.to - at));
+            yield await readBytes(reader, at, Math.min(READ_SIZE, piece.to - at), room);
         }
     }
 }

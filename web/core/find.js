@@ -1,11 +1,14 @@
 // Search over the user data of sectors, of any kind. A hit may lie over borders of sectors, and of the ranges that workers share.
 
 import { joinedBytes } from './bytes.js';
-import { USER_SIZE, joinedUser } from './sector.js';
+import { USER_SIZE, asWords, joinedUser, sectorCount } from './sector.js';
 
 /** How many bytes of a range are counted to know which are rare, and how many of the wanted ones are weighed. */
 const SAMPLES = 4000;
 const MOST_OPENINGS = 64;
+
+/** The user data of a range stand here until the next one: fresh memory costs more than the copy. */
+let room = new Uint8Array(0);
 
 /**
  * What is searched for: a text's parts in order, each in one of its spellings, as Encoding.units gives them.
@@ -32,7 +35,9 @@ export function sectorsBeyond(wanted) {
  * @param {{ texts: Wanted[] } & Limits} args
  */
 export function findIn(bytes, firstBlock, { texts, ...limits }) {
-    const user = joinedUser(bytes);
+    const size = sectorCount(bytes.length) * USER_SIZE;
+    if (room.length < size) room = new Uint8Array(size);
+    const user = joinedUser(bytes, room.subarray(0, size));
     return texts.map(wanted => findInUser(user, firstBlock, joinedParts(wanted), limits));
 }
 
@@ -48,7 +53,7 @@ function findInUser(user, firstBlock, parts, { count, limit }) {
     const anchor = anchorOf(parts, user);
     /** @type {Found} */
     const found = { count: 0, hits: [] };
-    for (let at = nextStart(anchor, user, 0, end); at < end; at = nextStart(anchor, user, at + 1, end)) {
+    for (let at = nextStart(anchor, user, 0); at < end; at = nextStart(anchor, user, at + 1)) {
         const stop = endOfMatch(parts, 0, user, at);
         if (stop < 0) continue;
         found.count += 1;
@@ -94,7 +99,7 @@ function joinedParts(wanted) {
 
 /**
  * The byte to look for first: which values it may have, and its distance from the beginning of a hit. Of all that have one
- * distance it is the one that is rarest here. If it is rare and has one value, `only` is that, which the engine finds fastest.
+ * distance it is the one that is rarest here. If it is rare and has one value, `only` is that, which is found fastest, in `words`.
  * @param {Wanted} parts
  * @param {Uint8Array} user
  */
@@ -109,6 +114,7 @@ function anchorOf(parts, user) {
     return {
         distance,
         only: rare && values.length === 1 ? values[0] : -1,
+        words: asWords(user),
         values: Uint8Array.from(counts, (_, value) => Number(values.includes(value))),
     };
 }
@@ -130,20 +136,47 @@ function openings(parts) {
 }
 
 /**
- * The next place from `at` on where a hit may begin, or the end.
+ * The next place from `at` on where a hit may begin, or one at which none fits in.
  * @param {ReturnType<typeof anchorOf>} anchor
  * @param {Uint8Array} user
  * @param {number} at
- * @param {number} end
  */
-function nextStart({ distance, only, values }, user, at, end) {
+function nextStart({ distance, only, values, words }, user, at) {
     let found = at + distance;
-    if (only >= 0) {
-        found = user.indexOf(only, found);
-        return found < 0 ? end : found - distance;
-    }
+    if (only >= 0) return placeOf(user, words, only, found) - distance;
     while (found < user.length && values[user[found]] === 0) found += 1;
     return found - distance;
+}
+
+/**
+ * The first place of a value from a place on, or one that is not before the end: by 16 bytes at a time, which is faster than `indexOf`.
+ * @param {Uint8Array} user whole sectors of it
+ * @param {Int32Array} words the same bytes
+ * @param {number} value
+ * @param {number} from
+ */
+function placeOf(user, words, value, from) {
+    const four = Math.imul(value, 0x01010101);
+    let at = from;
+    while (at < user.length) {
+        for (const border = (at | 15) + 1; at < border; at++) {
+            if (user[at] === value) return at;
+        }
+        for (; at < user.length; at += 16) {
+            const i = at >> 2;
+            const found = zeroByte(words[i] ^ four) | zeroByte(words[i + 1] ^ four);
+            if ((found | zeroByte(words[i + 2] ^ four) | zeroByte(words[i + 3] ^ four)) !== 0) break;
+        }
+    }
+    return at;
+}
+
+/**
+ * 0 if no byte of a word is 0.
+ * @param {number} word
+ */
+function zeroByte(word) {
+    return (word - 0x01010101) & ~word & 0x80808080;
 }
 
 /**

@@ -186,5 +186,10 @@ export async function baseOfAllAddresses(calls, reader) {
  */
 export function sliceOf(reader, from, to) {
     const size = to - from;
-    return { size, read: (at, length) => reader.read(from + at, Math.max(Math.min(length, size - at), 0)) };
+    const { lent } = reader;
+    return {
+        size,
+        read: (at, length, room) => reader.read(from + at, Math.max(Math.min(length, size - at), 0), room),
+        lent: lent && ((at, length) => lent(from + at, length)),
+    };
 }

@@ -17,6 +17,7 @@ import { SECTOR_SIZE } from './sector.js';
  * how many sectors the range has; the bytes may have more, if borders count. What it returns can be posted.
  * @typedef {(calls: Calls, pieces: Uint8Array[], first: number, args: any) => any} Job
  */
+/** @typedef {{ reader: Reader, at: number, length: number }} Slice the bytes of a range in an image */
 /** @typedef {{ number: number, job: string, pieces: any[], first: number, args: any }} Message what is not bytes, the hand reads */
 /** @typedef {{ number: number, answer?: any, fault?: { name: string, message: string, isFault?: boolean } }} Reply */
 /**
@@ -50,6 +51,9 @@ const SHARED_STEP = 1024;
 
 /** So many ranges are on their way for each hand. */
 const RANGES_A_HAND = 2;
+
+/** The fault of a reply if the hand can't read what it is lent. */
+export const UNREAD = Object.freeze({ name: 'Unread', message: '' });
 
 /** A job that `signal` has ended. */
 export class JobAborted extends Fault {
@@ -110,6 +114,14 @@ export function localHand(calls) {
 }
 
 /**
+ * @param {Slice[]} slices
+ * @returns {Promise<any[]>}
+ */
+function readSlices(slices) {
+    return Promise.all(slices.map(({ reader, at, length }) => readBytes(reader, at, length)));
+}
+
+/**
  * Bytes whose memory is only theirs.
  * @param {Uint8Array} bytes
  */
@@ -117,10 +129,17 @@ function ownBytes(bytes) {
     return bytes.length === bytes.buffer.byteLength ? bytes : bytes.slice();
 }
 
-/** Hands, among which ranges of sectors are shared out. Several jobs may be under way. */
+/**
+ * Hands, among which ranges of sectors are shared out. Several jobs may be under way. What readers lend, hands may read for themselves,
+ * each its next range while it works on the last one.
+ */
 export class Crew {
-    /** @param {Hand[]} hands one at least */
-    constructor(hands) {
+    /**
+     * @param {Hand[]} hands one at least
+     * @param {boolean} lends whether they read what is lent. One that can't says so by UNREAD, and then this thread reads for all.
+     */
+    constructor(hands, lends = false) {
+        this.lends = lends;
         this.number = 0;
         /** @type {Error | null} */
         this.fault = null;
@@ -153,18 +172,6 @@ export class Crew {
     }
 
     /**
-     * What a hand is given of the same sectors of several images: their bytes. A crew whose hands read files gives them something else.
-     * @param {Reader[]} readers
-     * @param {number} first
-     * @param {number} count
-     * @param {number[]} units the bytes of a sector in each
-     * @returns {Promise<any[]>}
-     */
-    pieces(readers, first, count, units) {
-        return Promise.all(readers.map((reader, i) => readBytes(reader, first * units[i], count * units[i])));
-    }
-
-    /**
      * Hands a range to the hand that has fewest, and returns its reply.
      * @param {Omit<Message, 'number'>} range
      * @returns {Promise<Reply>}
@@ -183,6 +190,23 @@ export class Crew {
                 this.settle(hand, { number, fault: errorFault(error) });
             }
         });
+    }
+
+    /**
+     * The reply of a hand that reads for itself. If it can't, this thread reads for it.
+     * @param {Omit<Message, 'number' | 'pieces'>} range
+     * @param {Slice[]} slices
+     * @returns {Promise<Reply>}
+     */
+    async lentReply(range, slices) {
+        const reply = await this.reply({ ...range, pieces: slices.map(({ reader, at, length }) => reader.lent?.(at, length)) });
+        if (!reply.fault || reply.fault.name !== UNREAD.name) return reply;
+        this.lends = false;
+        try {
+            return await this.reply({ ...range, pieces: await readSlices(slices) });
+        } catch (error) {
+            return { number: reply.number, fault: /** @type {Error} */ (error) };
+        }
     }
 
     /**
@@ -212,8 +236,11 @@ export class Crew {
             if (replies.length === most) await takeNext();
             assertWanted(signal);
             const count = Math.min(step, all - first);
-            const pieces = await this.pieces(readers, first, Math.min(count + beyond, all - first), sizes);
-            replies.push(this.reply({ job, pieces, first: base + first, args: { ...args, count } }));
+            const seen = Math.min(count + beyond, all - first);
+            const slices = readers.map((reader, i) => ({ reader, at: first * sizes[i], length: seen * sizes[i] }));
+            const range = { job, first: base + first, args: { ...args, count } };
+            const isLent = this.lends && readers.every(reader => reader.lent);
+            replies.push(isLent ? this.lentReply(range, slices) : this.reply({ ...range, pieces: await readSlices(slices) }));
         }
         while (replies.length > 0) await takeNext();
     }
@@ -226,6 +253,7 @@ export class Crew {
 function answerOf({ answer, fault }, signal) {
     assertWanted(signal);
     if (!fault) return answer;
+    if (fault instanceof Error) throw fault;
     throw Object.assign(fault.isFault ? new Fault(fault.message) : new Error(fault.message), { name: fault.name });
 }
 

@@ -63,7 +63,7 @@ export function userOf(bytes, i) {
  * Bytes as numbers of 32 bits, which compare four times as fast.
  * @param {Uint8Array} bytes
  */
-function asWords(bytes) {
+export function asWords(bytes) {
     const { buffer, byteOffset } = bytes.byteOffset % 4 === 0 ? bytes : bytes.slice();
     return new Int32Array(buffer, byteOffset, bytes.length >> 2);
 }
@@ -99,9 +99,11 @@ export function differingSectors(old, fresh) {
 /**
  * The user data of whole sectors in one piece.
  * @param {Uint8Array} bytes
+ * @param {Uint8Array} [user] where they go, of just as many bytes
  */
-export function joinedUser(bytes) {
-    return joinedBytes(Array.from({ length: sectorCount(bytes.length) }, (_, i) => userOf(bytes, i)));
+export function joinedUser(bytes, user = new Uint8Array(sectorCount(bytes.length) * USER_SIZE)) {
+    for (let i = 0; i < sectorCount(bytes.length); i++) user.set(userOf(bytes, i), i * USER_SIZE);
+    return user;
 }
 
 /**

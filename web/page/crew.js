@@ -3,7 +3,6 @@
 import { readBytes } from '../core/bytes.js';
 import { Crew, JobAborted } from '../core/jobs.js';
 import { hexOf } from './dom.js';
-import { fileOf, fileReader } from './reading.js';
 
 /** @typedef {import('../core/bytes.js').Reader} Reader */
 /** @typedef {import('../core/jobs.js').Message} Message */
@@ -63,16 +62,12 @@ function startedWorker({ module, newWorker }, heard, failed) {
     return worker;
 }
 
-/**
- * A crew whose workers read files for themselves, each its next range while it works on the last one. A browser may let them read none,
- * as WebKit does on a page that is a file: then this thread reads for them.
- */
+/** A crew whose workers read files for themselves, if the browser lets them: WebKit does not on a page that is a file. */
 class ReadingCrew extends Crew {
     /** @param {WorkerHand[]} hands */
     constructor(hands) {
-        super(hands);
+        super(hands, true);
         this.hands = hands;
-        this.lends = true;
     }
 
     /** @type {Crew['fail']} the jobs that are under way end, and the next ones get new workers */
@@ -82,26 +77,6 @@ class ReadingCrew extends Crew {
         for (const hand of this.hands) {
             hand.end();
             this.loads.set(hand, 0);
-        }
-    }
-
-    /** @type {Crew['pieces']} */
-    async pieces(readers, first, count, units) {
-        const files = this.lends ? readers.map(fileOf) : [null];
-        if (files.includes(null)) return super.pieces(readers, first, count, units);
-        return files.map((file, i) => ({ file, from: first * units[i], size: count * units[i] }));
-    }
-
-    /** @type {Crew['reply']} */
-    async reply(range) {
-        const reply = await super.reply(range);
-        if (!reply.fault || reply.fault.name !== 'Unread') return reply;
-        this.lends = false;
-        try {
-            const read = range.pieces.map(({ file, from, size }) => readBytes(fileReader(file), from, size));
-            return super.reply({ ...range, pieces: await Promise.all(read) });
-        } catch (error) {
-            return { number: reply.number, fault: /** @type {Error} */ (error) };
         }
     }
 }

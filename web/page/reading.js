@@ -20,6 +20,7 @@ export function fileReader(file) {
     return {
         file,
         size: file.size,
+        lent: (from, size) => ({ file, from, size }),
         async read(at, length) {
             try {
                 return new Uint8Array(await file.slice(at, at + length).arrayBuffer());

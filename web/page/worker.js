@@ -1,7 +1,7 @@
 // The program of a worker: ranges of jobs, and one long SHA-1 and CRC-32.
 
 import { Calls } from '../core/codes.js';
-import { serving, transfersOf } from '../core/jobs.js';
+import { UNREAD, serving, transfersOf } from '../core/jobs.js';
 import { crc32 } from './crc32.js';
 import { Sha1 } from './sha1.js';
 
@@ -35,7 +35,7 @@ class Bench {
     /** @param {Message} message */
     async work(message) {
         const pieces = await Promise.all(message.pieces.map(readPiece)).catch(() => null);
-        if (pieces === null) return self.postMessage({ number: message.number, fault: { name: 'Unread', message: '' } });
+        if (pieces === null) return self.postMessage({ number: message.number, fault: UNREAD });
         const reply = this.serve({ ...message, pieces });
         return self.postMessage(reply, { transfer: transfersOf(reply) });
     }
