@@ -185,7 +185,7 @@ test('what no repair takes', () => inDirectory(async room => {
     write(room, { other, edited: Buffer.concat([other.subarray(0, 3 * 2352), good.subarray(3 * 2352)]) });
     const { status, errors } = await run(['merge', 'old', 'other', 'out', '--base', '30'], { cwd: room });
     assert.equal(status, 2);
-    assert.match(errors, /^cdscript: 29\d of 300 sectors are sound in old and in other, and differ: one of them is of another disc, or shifted\n$/);
+    assert.match(errors, /^cdscript: 29\d of 300 sectors are sound in old and in other, and differ: one of them is patched, shifted or of another disc\n$/);
     assert.equal(existsSync(join(room, 'out')), false);
     assert.match((await run(['merge', 'old', 'edited', 'out'], { cwd: room })).out, /\ntaken 1 damaged 0 disputed 0 different 3\n$/);
 }));

@@ -52,7 +52,7 @@ export async function mergeJob(run) {
     if (repair.refused) {
         const i = repair.different.indexOf(Math.max(...repair.different));
         const sound = `${repair.different[i]} of ${repair.sectors} sectors are sound in ${name} and in ${others[i].name}`;
-        throw new Fault(`${sound}, and differ: one of them is of another disc, or shifted`);
+        throw new Fault(`${sound}, and differ: one of them is patched, shifted or of another disc`);
     }
     others.filter((_, i) => repair.tails[i]).forEach(other => run.say(`${TAILS} in ${other.name}; those of ${name} are kept`));
     await run.output.write(bytesOfLines(repairLines(repair, others)));
