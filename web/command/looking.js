@@ -164,7 +164,7 @@ async function sectorLines(run, part, sector, place) {
 export async function showJob(run) {
     const [name, blockText, offsetText = '0'] = run.names;
     const place = placeOf(blockText, offsetText);
-    const [encoding] = await encodingsOf(run);
+    const encoding = (await encodingsOf(run).next()).value;
     const first = Math.floor(place.offset / ROW) * ROW;
     const size = run.names.length < 3 ? USER_SIZE : SHOWN;
     const target = await run.target();

@@ -18,13 +18,13 @@ import { isInside } from './around.js';
 const TRIED = ['CP932', 'EUC-JP', 'UTF-8', 'UTF-16LE', 'UTF-16BE'];
 
 /**
- * The encodings that a text may be in: the one that the options name, or the table; else those that are tried.
+ * The encodings that a text may be in: the one that the options name, or the table; else those that are tried. Tables take a while to make.
  * @param {Run} run
- * @returns {Promise<Encoding[]>}
+ * @returns {AsyncGenerator<Encoding>}
  */
-export async function encodingsOf({ options: { encoding, table }, files }) {
-    if (table !== undefined) return [tableOf(await wholeOf((await files.image(table)).reader))];
-    return (encoding === undefined ? TRIED : [encoding]).map(name => /** @type {Encoding} */ (encodingOf(name)));
+export async function* encodingsOf({ options: { encoding, table }, files }) {
+    if (table !== undefined) yield tableOf(await wholeOf((await files.image(table)).reader));
+    else for (const name of encoding === undefined ? TRIED : [encoding]) yield /** @type {Encoding} */ (encodingOf(name));
 }
 
 /**
@@ -38,7 +38,7 @@ export async function encodingsWith(run, text) {
     const spelled = new Map();
     const names = [];
     const faults = [];
-    for (const encoding of await encodingsOf(run)) {
+    for await (const encoding of encodingsOf(run)) {
         try {
             const bytes = encodeText(encoding, text).join();
             names.push(encoding.name);
