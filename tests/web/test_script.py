@@ -43,6 +43,27 @@ class Script(PageTest):
         self.browser.wait('#disc-line .sha1', common.sha1(out))
         self.assertEqual((status, self.browser.attempts()), (1, []))
 
+    def test_one_cue_sheet_names_each_track_that_was_saved(self) -> None:
+        files = discs.written(first=common.image_of([b'first'] * 20), music=bytes(range(256)) * 2352, last=common.image_of([b'last'] * 20, 500),
+                              both='cdpatch 1\nset 3 0 46 was 66\nset 503 0 4C was 6C\n')
+        sheet = files['both'].with_name('game.cue')
+        sheet.write_text(''.join(f'FILE "{name}.bin" BINARY\n  TRACK 0{i + 1} {kind}\n    INDEX 01 00:00:00\n' for i, (name, kind) in enumerate(
+            {'first': 'MODE1/2352', 'music': 'AUDIO', 'last': 'MODE1/2352'}.items())))
+        self.open_files(sheet, *[files[name] for name in ('first', 'music', 'last')])
+        self.wait_for_hash()
+        self.open_script(files['both'])
+        self.press('Apply and save')
+        self.browser.downloaded('first (patched).bin')
+        self.browser.run("const it = document.querySelector('#disc-line select'); it.value = '3'; it.dispatchEvent(new Event('change'))")
+        self.browser.wait('#disc-line .name', 'last.bin')
+        self.press('Apply and save')
+        self.browser.downloaded('last (patched).bin')
+        self.browser.wait('#panel-script .side', 'The cue sheet names first (patched).bin too')
+        self.press('Save a cue sheet')
+        saved = self.browser.downloaded('game (patched).cue')
+        wanted = sheet.read_text().replace('first.bin', 'first (patched).bin').replace('last.bin', 'last (patched).bin')
+        self.assertEqual(common.waited(saved.read_text, 'the cue sheet is empty'), wanted)
+
     def test_carry_patches_damaged_sectors_too(self) -> None:
         files = discs.written(game=discs.scratched(), english=discs.script())
         self.open_image(files['game'])

@@ -110,7 +110,7 @@ function trackChoice(app, image) {
         if (own === null) continue;
         choice.append(element('option', { value: number, selected: number === image.number }, `track ${number}, ${type}`));
     }
-    choice.addEventListener('change', () => readImage(app, imageOfTrack(image.disc, image.sheet, Number(choice.value))));
+    choice.addEventListener('change', () => readImage(app, imageOfTrack(image.disc, image.sheet, Number(choice.value), image.renamed)));
     return element('label', { class: 'row small quiet' }, 'Data track ', choice);
 }
 

@@ -164,14 +164,15 @@ async function imageOf(app, files) {
  * @param {Disc} disc
  * @param {string} sheet
  * @param {number | null} number
+ * @param {Map<string, string>} [renamed] those of its files that were saved patched
  * @returns {Image}
  */
-export function imageOfTrack(disc, sheet, number) {
+export function imageOfTrack(disc, sheet, number, renamed = new Map()) {
     const { image, part, number: own } = (number === null && audioTrack(disc)) || dataTrack(disc, number);
     if (imageTooLong(image.reader.size)) {
         throw new DiscFault(`${image.name} is too long. An image has at most ${counted(MOST_SECTORS)} sectors.`);
     }
-    return { ...image, part, from: disc.sheet || '', sheet, disc, number: own, sha1: '', crc32: '' };
+    return { ...image, part, from: disc.sheet || '', sheet, disc, number: own, sha1: '', crc32: '', renamed };
 }
 
 /**

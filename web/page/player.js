@@ -265,7 +265,7 @@ export class Player {
      */
     sheetFor(name) {
         const { cue, name: own } = this.data;
-        return sheetNaming(this.sheet, this.image ? this.image.name : '', name) || sheetNaming(cue, own, name);
+        return sheetNaming(this.sheet, [[this.image ? this.image.name : '', name]]) || sheetNaming(cue, [[own, name]]);
     }
 
     /**

@@ -12,7 +12,7 @@ import { jobBar } from './progress.js';
 import { fileOf, fileReader } from './reading.js';
 import { blobOfPieces, patchedName } from './save.js';
 import { isCancelled, notice, sentence } from './say.js';
-import { sheetFor } from './sheet.js';
+import { sheetNaming } from './sheet.js';
 import { showPlayer } from './show_player.js';
 
 /** @typedef {import('./state.js').App} App */
@@ -144,7 +144,7 @@ class PublishPanel {
             element('b', { class: `${tone}-ink` }, SIGNS[tone]), ' ', ...words)));
         const ready = rows.every(([tone]) => tone === 'good' || tone === 'warn');
         for (const it of [this.save, this.see]) setDisabled(it, !ready);
-        if (this.cueRow) this.cueRow.hidden = this.app.image === null || sheetFor(this.app.image, 'x') === '';
+        if (this.cueRow) this.cueRow.hidden = this.app.image === null || this.app.image.sheet === '';
     }
 
     /** @returns {[('good' | 'bad' | 'warn' | 'quiet'), ...Child[]][]} what is ready, and what is not */
@@ -217,8 +217,8 @@ class PublishPanel {
         const name = this.name.value.trim();
         return { title: this.title.value.trim(), author: this.author.value.trim(), note: this.note.value, name,
             carry: this.carry.checked, base: image.base,
-            cue: this.sheet.checked ? sheetFor(image, name) : '', image: { size: image.reader.size, sha1: image.sha1 }, result,
-            script };
+            cue: this.sheet.checked ? sheetNaming(image.sheet, [[image.name, name]]) : '',
+            image: { size: image.reader.size, sha1: image.sha1 }, result, script };
     }
 
     /** @param {PatcherData} data */

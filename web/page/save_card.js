@@ -9,7 +9,7 @@ import { jobBar } from './progress.js';
 import { fileReader } from './reading.js';
 import { SaveFault, patchedName } from './save.js';
 import { isCancelled, messageOf, notice } from './say.js';
-import { sheetFor } from './sheet.js';
+import { sheetNaming } from './sheet.js';
 import { readImage } from './survey_image.js';
 
 /** @typedef {import('./state.js').App} App */
@@ -117,13 +117,16 @@ export class SaveCard {
         if (streamed) this.sayWhole();
         else fill(this.said, notice(tone, `Your browser is saving ${name}${without}.`,
             `It must have ${counted(size)} bytes. Keep this page open until it has.`));
-        const sheet = sheetFor(image, name);
+        image.renamed.set(image.name, name);
+        const sheet = sheetNaming(image.sheet, image.renamed);
+        const sheetName = image.disc.files.length > 1 ? patchedName(image.from) : name.replace(/(\.[^.]*)?$/, '.cue');
+        const others = [...image.renamed.values()].filter(it => it !== name);
         fill(this.checked, !streamed && element('p', { class: 'small quiet' }, 'To check what was saved, drop the file on this page.'));
         this.show(streamed ? 'Saved' : 'Saving by your browser', this.said,
             element('dl', { class: 'hashes' }, element('dt', {}, 'size'), element('dd', {}, counted(size)), ...this.sumsOf(saved)),
-            this.checked,
-            element('div', { class: 'row' }, sheet !== '' && button('', () => downloadText(sheet, name.replace(/\.[^.]*$/, '.cue')),
-                'Save a cue sheet…'),
+            this.checked, sheet !== '' && others.length > 0 && element('p', { class: 'small quiet' },
+                `The cue sheet names ${others.join(', ')} too, which you saved before.`),
+            element('div', { class: 'row' }, sheet !== '' && button('', () => downloadText(sheet, sheetName), 'Save a cue sheet…'),
                 (saved.blob || saved.file) && button('', () => this.openNew(saved), 'Open the new image'),
                 button('back', () => this.close(), 'Back to Check')));
     }

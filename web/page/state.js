@@ -15,8 +15,10 @@
 
 /**
  * An image that was opened. `from` is the name of the cue sheet and `sheet` its text, or both are ''; `number` is that of the track
- * which is meant, and `part` only that track; `sha1` is '' until it is known, and `crc32` too.
- * @typedef {DiscImage & { part: DiscImage, from: string, sheet: string, disc: Disc, number: number, sha1: string, crc32: string }} Image
+ * which is meant, and `part` only that track; `sha1` is '' until it is known, and `crc32` too. `renamed` has the files of the disc that
+ * were saved patched, with their new names.
+ * @typedef {DiscImage & { part: DiscImage, from: string, sheet: string, disc: Disc, number: number, sha1: string, crc32: string,
+ *     renamed: Map<string, string> }} Image
  */
 
 /**
