@@ -12,10 +12,17 @@ import chromium
 import discs
 from common import PAGE, SECTOR_SIZE, TOP, Server, damaged, folder, image_of, run_program, sector, sha1, waited
 from sector import SYNC
+from selenium.webdriver.common.action_chains import ActionChains
 from selenium.webdriver.common.keys import Keys
 
 VERDICT = '#disc-line .lead'
 SECTORS = len(discs.game()) // SECTOR_SIZE
+
+# Workers get each range of a job so late.
+SLOW = '''const real = Worker.prototype.postMessage; globalThis.slow = true;
+Worker.prototype.postMessage = function (...given) {
+    setTimeout(() => real.apply(this, given), globalThis.slow && given[0].pieces ? 300 : 0);
+}'''
 
 
 def scratched(tail: bytes = b'') -> bytes:
@@ -253,10 +260,7 @@ class Disc(unittest.TestCase):
 
     def test_reading_can_be_cancelled_and_begun_again(self) -> None:
         browser = self.browser
-        browser.run('''const real = Worker.prototype.postMessage; globalThis.slow = true;
-            Worker.prototype.postMessage = function (...given) {
-                setTimeout(() => real.apply(this, given), globalThis.slow && given[0].pieces ? 300 : 0);
-            }''')
+        browser.run(SLOW)
         browser.give('#files', [file_of(discs.game() * 120)])
         browser.wait(VERDICT, 'Reading the disc')
         browser.press(Keys.ESCAPE)
@@ -267,6 +271,22 @@ class Disc(unittest.TestCase):
         browser.run('globalThis.slow = false')
         browser.click(f'{VERDICT} button')
         browser.wait(VERDICT, 'Mode 1 sectors fit')
+
+    def test_the_line_of_the_disc_keeps_its_controls_while_it_is_read(self) -> None:
+        browser = self.browser
+        browser.run(SLOW)
+        browser.give('#files', [file_of(discs.game() * 120)])
+        browser.wait(VERDICT, 'Reading the disc')
+        shown = browser.text(VERDICT)
+        browser.run("globalThis.kept = ['.lead .btn', '.change'].map(it => document.querySelector(`#disc-line ${it}`)); kept[1].focus()")
+        waited(lambda: browser.text(VERDICT) != shown, 'the disc is not read')
+        self.assertEqual(browser.run('return kept.map(it => it.isConnected)'), [True, True])
+        ActionChains(browser.driver).click_and_hold(browser.find('#disc-line .change')).perform()
+        browser.run('globalThis.slow = false')
+        browser.wait('#disc-line .sha1')
+        self.assertTrue(browser.run('return document.activeElement === kept[1]'))
+        ActionChains(browser.driver).release().perform()
+        browser.wait('#disc-line #base')
 
     # ---- the map
 

@@ -1,7 +1,7 @@
 // The line with the open image, which stands over every panel; and on the Disc panel the verdict, or how far reading has come.
 
 import { SECTOR_SIZE } from '../core/sector.js';
-import { button, byId, countOf, counted, element, fill, keepFocus, redraw, term } from './dom.js';
+import { button, byId, countOf, counted, element, fill, keepFocus, redraw, renew, term } from './dom.js';
 import { MARK } from './marks.js';
 import { imageOfTrack } from './open.js';
 import { otherBase, placesOf } from './places.js';
@@ -22,29 +22,32 @@ export function mountDiscLine(app) {
     const top = element('div', { class: 'disc-line' });
     const lead = element('div', { class: 'lead' });
     line.append(top, lead);
-    const drawn = { waiting: 0, hashed: 0, changing: false };
+    const drawn = { waiting: 0, hashed: 0, changing: false, fresh: true };
     const draw = () => {
         drawn.waiting = 0;
         if (app.image === null) return;
         const { image } = app;
-        const drawFacts = () => fill(top, ...facts(app, image, drawn));
+        // The controls that are there listen for their own image.
+        const put = drawn.fresh ? fill : renew;
+        drawn.fresh = false;
+        const drawFacts = () => put(top, ...facts(app, image, drawn));
         if (!drawn.changing && top.querySelector('form')) keepFocus(top, drawFacts, '.change');
         else if (!drawn.changing) redraw(top, drawFacts);
         lead.hidden = app.panel !== 'disc';
-        redraw(lead, () => fill(lead, ...leadOf(app)));
+        redraw(lead, () => put(lead, ...leadOf(app)));
         drawCounts(app);
     };
     const soon = () => { drawn.waiting = drawn.waiting || requestAnimationFrame(draw); };
     for (const name of /** @type {const} */ (['survey', 'surveyed', 'panel'])) app.on(name, soon);
     app.on('image', () => {
         document.title = app.image === null ? 'cdpatch' : `${app.image.name}: cdpatch`;
-        Object.assign(drawn, { hashed: 0, changing: false });
+        Object.assign(drawn, { hashed: 0, changing: false, fresh: true });
         soon();
     });
     app.on('hash', done => {
         drawn.hashed = Number(done);
         const waits = line.querySelector('.sha-wait');
-        if (waits && app.image && app.image.sha1 === '') waits.textContent = shaWaits(app.image, drawn);
+        if (waits && app.image && app.image.sha1 === '') waits.textContent = shaWaits(app.image, drawn, (waits.textContent || '').length);
         else soon();
     });
 }
@@ -115,11 +118,13 @@ function trackChoice(app, image) {
 }
 
 /**
+ * What stands in the place of a hash, as long as that: nothing moves when it is known.
  * @param {Image} image
  * @param {{ hashed: number }} drawn
+ * @param {number} length
  */
-function shaWaits({ reader }, { hashed }) {
-    return hashed === 0 ? '(after reading)' : `(${Math.floor(100 * hashed / reader.size)} %)`;
+function shaWaits({ reader }, { hashed }, length) {
+    return (hashed === 0 ? '(after reading)' : `(${Math.floor(100 * hashed / reader.size)} %)`).padEnd(length).replace(/ /g, '\u00a0');
 }
 
 /**
@@ -130,10 +135,11 @@ function shaWaits({ reader }, { hashed }) {
  */
 function shaOf(image, drawn, length) {
     const { sha1, crc32 } = image;
-    if (sha1 === '') return [element('span', { class: 'mono quiet sha-wait' }, shaWaits(image, drawn))];
-    const shown = length < sha1.length ? `${sha1.slice(0, length)}…` : sha1;
+    const [looks, shown, copies] = sha1 === '' ? ['quiet sha-wait', shaWaits(image, drawn, length), ' unseen']
+        : ['sha1', length < sha1.length ? `${sha1.slice(0, length)}…` : sha1, ''];
     const all = `${image.name}\nsize ${image.reader.size}\nCRC-32 ${crc32}\nSHA-1 ${sha1}\n`;
-    return [element('span', { class: 'mono sha1' }, shown), ' ', button('slim bare tiny', () => copyText(all), 'Copy all hashes')];
+    return [element('span', { class: `mono ${looks}` }, shown), ' ',
+        button(`slim bare tiny${copies}`, () => copyText(all), 'Copy all hashes')];
 }
 
 /**

@@ -50,6 +50,33 @@ export function fill(target, ...children) {
 }
 
 /**
+ * Puts children into an element, as `fill` does, but keeps what it has of them already: a control that looks the same is the same one
+ * after it, so that a press on it goes on. It listens to what it was made with.
+ * @param {Element} target
+ * @param {...Child} children
+ */
+export function renew(target, ...children) {
+    const [before, nodes] = [[...target.childNodes], nodesOf(children)];
+    nodes.forEach((child, i) => {
+        const [old, node] = [before[i], child instanceof Node ? child : document.createTextNode(child)];
+        if (!old) target.append(node);
+        else if (isFrame(old) && isFrame(node) && old.tagName === node.tagName && old.className === node.className) {
+            renew(old, ...node.childNodes);
+        } else if (!old.isEqualNode(node)) old.replaceWith(node);
+    });
+    before.slice(nodes.length).forEach(old => old.remove());
+}
+
+/**
+ * Whether a node is an element with nothing of its own but a class.
+ * @param {Node} node
+ * @returns {node is Element}
+ */
+function isFrame(node) {
+    return node instanceof Element && node.getAttributeNames().every(name => name === 'class');
+}
+
+/**
  * Draws a part anew, and gives the focus back to the control that had it: by its words if only one has these, else by its place.
  * @param {Element} part
  * @param {() => void} draw
