@@ -54,13 +54,35 @@ test('all pieces are written, and the sink is closed', async () => {
     assert.equal(sink.state, 'closed');
 });
 
-test('parts of the file go out as they are, and what is patched over them', async () => {
+test('a region goes out by one write, of parts of the file and what is patched between them', async t => {
     const sink = sinkOf();
+    const slices = t.mock.method(long, 'slice');
     assert.deepEqual(await saved(sink), DONE);
-    assert.deepEqual(sink.written.map(({ data }) => data.size ?? `${data.length} bytes`),
-        [16 * MiB, 16 * MiB, `${near.at + 9 - first.at} bytes`, '3 bytes', `${2 * MiB} bytes`]);
+    assert.deepEqual(sink.written.map(({ data }) => data.size ?? `${data.length} bytes`), [16 * MiB, 16 * MiB, `${2 * MiB} bytes`]);
+    const joined = [first.at, near.at + 9];
+    const parts = [0, 16 * MiB, 16 * MiB, joined[0], joined[1], apart.at, apart.at + 3, 32 * MiB];
+    const read = [...joined, 32 * MiB, 34 * MiB];
+    assert.deepEqual(slices.mock.calls.flatMap(({ arguments: its }) => its).sort((a, b) => a - b), [...parts, ...read].sort((a, b) => a - b));
     assert.ok(patched.equals(await writtenBy(sink.written)));
     assert.equal(sink.state, 'closed');
+});
+
+test('the next region is made while one is written', async () => {
+    const sink = sinkOf();
+    const order = [];
+    const write = sink.write;
+    sink.write = async it => {
+        order.push(`write at ${it.position / MiB}`);
+        await new Promise(done => setTimeout(done, 50));
+        order.push(`written`);
+        await write(it);
+    };
+    const watched = { ...reader, size: 40 * MiB, read: async (at, length) => {
+        order.push(`read at ${at / MiB}`);
+        return new Uint8Array(length);
+    } };
+    await saved(sink, {}, watched, [{ from: 0, to: 40 * MiB }]);
+    assert.deepEqual(order, ['read at 0', 'write at 0', 'read at 16', 'written', 'write at 16', 'read at 32', 'written', 'write at 32', 'written']);
 });
 
 test('what is no file is written as bytes', async () => {
@@ -72,7 +94,7 @@ test('what is no file is written as bytes', async () => {
 });
 
 test('a failure at each write aborts the sink and says how much was written', async () => {
-    for (const [failing, done] of [[0, 0], [1, DONE[0]], [2, DONE[0]], [3, DONE[0]], [4, DONE[1]], ['close', DONE[2]]]) {
+    for (const [failing, done] of [[0, 0], [1, DONE[0]], [2, DONE[1]], ['close', DONE[2]]]) {
         const sink = sinkOf(failing);
         await assert.rejects(saved(sink), error => error.name === 'SaveFault' && error.done === done && error.full === (failing !== 'close'));
         assert.equal(sink.state, 'aborted', `failing at ${failing}`);
@@ -89,7 +111,7 @@ test('a cancel ends the saving at the next region, and the sink is aborted', asy
 test('what is not accepted is aborted after all was written', async () => {
     const sink = sinkOf();
     const accept = async () => { throw new Error(`${sink.written.length} writes are not it`); };
-    await assert.rejects(saved(sink, { accept }), { message: '5 writes are not it' });
+    await assert.rejects(saved(sink, { accept }), { message: '3 writes are not it' });
     assert.equal(sink.state, 'aborted');
 });
 

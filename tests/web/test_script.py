@@ -304,9 +304,9 @@ class Script(PageTest):
 class Streaming(PageTest):
     stub = PICKER
 
-    def begin(self) -> dict[str, Path]:
-        """Opens a game and its script."""
-        files = discs.written(game=discs.game(), english=discs.script())
+    def begin(self, copies: int = 1) -> dict[str, Path]:
+        """Opens a game, or copies of it one after the other, and its script."""
+        files = discs.written(game=discs.game() * copies, english=discs.script())
         self.open_image(files['game'])
         self.open_script(files['english'])
         return files
@@ -331,7 +331,7 @@ class Streaming(PageTest):
         self.browser.wait('#saved-sha1', 'not known')
 
     def test_a_failure_at_each_write_keeps_no_image(self) -> None:
-        self.begin()
+        self.begin(40)
         self.press('Apply and save')
         self.browser.wait('#panel-script .say.good')
         count = int(self.browser.run('return chosen.writes.length'))

@@ -2,7 +2,7 @@
 
 import { readBytes } from '../core/bytes.js';
 import { JobAborted } from '../core/jobs.js';
-import { RegionCutter, bytesOfRegion, writesOf } from './save_regions.js';
+import { RegionCutter, bytesOfRegion, dataOfRegion } from './save_regions.js';
 
 /** @typedef {import('../core/bytes.js').Reader} Reader */
 /** @typedef {import('../core/bytes.js').Piece} Piece */
@@ -50,18 +50,20 @@ class SinkWriter {
 
     /** @param {Region} region */
     async push(region) {
+        const data = await dataOfRegion(this.reader, region);
         await this.settle();
         if (this.watch.signal.aborted) throw new JobAborted();
-        this.writing = this.write(region).then(() => null, error => error);
+        this.writing = this.write({ type: 'write', position: region.at, data }, region.size).then(() => null, error => error);
         if (this.watch.seen) await this.watch.seen(await bytesOfRegion(this.reader, region));
     }
 
-    /** @param {Region} region */
-    async write(region) {
-        for (const write of await writesOf(this.reader, region)) {
-            await this.sink.write(write).catch(error => this.fail(write, error));
-        }
-        this.done += region.size;
+    /**
+     * @param {Write} write
+     * @param {number} size
+     */
+    async write(write, size) {
+        await this.sink.write(write).catch(error => this.fail(write, error));
+        this.done += size;
         this.watch.progress(this.done);
     }
 

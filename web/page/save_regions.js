@@ -1,5 +1,5 @@
-// An image that is saved, region by region: the part of the file as it is, and then patched sectors over it. A browser writes parts of a
-// file twice as fast as bytes that a page has read.
+// An image that is saved, region by region: each is one write of parts of the file, with the patched sectors between them. A browser
+// writes parts of a file twice as fast as bytes that a page has read.
 
 import { extentOf, pieceReader } from './piece_reader.js';
 import { fileOf } from './reading.js';
@@ -12,7 +12,7 @@ import { fileOf } from './reading.js';
 /** @typedef {{ type: 'write', position: number, data: Uint8Array | Blob }} Write */
 
 const MOST_IN_REGION = 1 << 24;
-/** Patched sectors with fewer bytes between them are one write: it takes as long as so many bytes. */
+/** Patched sectors with fewer bytes between them are one part: it takes as long as to read so many bytes. */
 const NEAR = 1 << 17;
 
 /** Cuts pieces, which come in order, into regions. */
@@ -66,23 +66,24 @@ export function bytesOfRegion(reader, { at, size, pieces }) {
 }
 
 /**
- * The writes that make a region. If most of it is patched, or the reader has no file, it is one of bytes.
+ * What is written for a region: parts of the file with the patched sectors between them; if most of it is patched, or the reader has no
+ * file, its bytes.
  * @param {Reader} reader that slices are of
  * @param {Region} region
- * @returns {Promise<Write[]>}
  */
-export async function writesOf(reader, region) {
+export async function dataOfRegion(reader, region) {
     const { at, size, pieces } = region;
     const file = fileOf(reader);
     const patched = patchedIn(pieces);
     const bytes = patched.reduce((sum, { from, to }) => sum + to - from, 0);
-    if (file === null || 2 * bytes > size) return [{ type: 'write', position: at, data: await bytesOfRegion(reader, region) }];
-    /** @type {Write[]} */
-    const writes = [{ type: 'write', position: at, data: file.slice(at, at + size) }];
+    if (file === null || 2 * bytes > size) return bytesOfRegion(reader, region);
+    const parts = [];
+    let end = at;
     for (const { from, to } of patched) {
-        writes.push({ type: 'write', position: from, data: await pieceReader(reader, pieces).read(from, to - from) });
+        parts.push(file.slice(end, from), await pieceReader(reader, pieces).read(from, to - from));
+        end = to;
     }
-    return writes;
+    return new Blob([...parts, file.slice(end, at + size)]);
 }
 
 /**
