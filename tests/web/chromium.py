@@ -21,6 +21,9 @@ FLAGS = ['--headless=new', '--no-sandbox', '--hide-scrollbars', '--force-color-p
          '--disable-background-networking', '--disable-component-update', '--disable-sync', '--disable-default-apps']
 OWN_SCHEMES = ('blob:', 'data:', 'about:', 'chrome:', 'chrome-error:', 'devtools:')
 
+# A phone, half a screen, a screen.
+WIDTHS = (360, 900, 1280)
+
 REACHING = ('Network.requestWillBeSent', 'Network.webSocketCreated', 'Network.webTransportCreated', 'Page.frameRequestedNavigation')
 
 # What a page could send by without a request that the network log shows.
@@ -166,22 +169,24 @@ class Chromium:
         path.write_bytes(base64.b64decode(shot['data']))
 
     def pictures(self, directory: Path, name: str) -> list[Path]:
-        """Screenshots at three widths in both schemes."""
-        paths = [directory / f'{name}-{width}-{scheme}.png' for width in (360, 900, 1280) for scheme in ('light', 'dark')]
+        """Screenshots at all widths in both schemes."""
+        paths = [directory / f'{name}-{width}-{scheme}.png' for width in WIDTHS for scheme in ('light', 'dark')]
         for path in paths:
             _, width, scheme = path.stem.rsplit('-', 2)
             self.picture(path, int(width), scheme)
         self.size(1280)
         return paths
 
-    def wider(self, width: int) -> int:
-        """By how many pixels the page is wider than a window of this width, when it has drawn itself anew."""
-        self.size(width)
+    def wider(self, *widths: int) -> int:
+        """By how many pixels at most the page is wider than a window of one of these widths, when it has drawn itself anew."""
         drawn = """const [done] = arguments;
             requestAnimationFrame(() => requestAnimationFrame(() => done(document.documentElement.scrollWidth)))"""
-        over = int(self.driver.execute_async_script(drawn)) - width
+        over = []
+        for width in widths:
+            self.size(width)
+            over.append(int(self.driver.execute_async_script(drawn)) - width)
         self.size(1280)
-        return over
+        return max(over)
 
     def nameless(self) -> list[str]:
         """The controls that have no name in the accessibility tree."""

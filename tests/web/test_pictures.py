@@ -9,6 +9,7 @@ from pathlib import Path
 
 import common
 import discs
+from chromium import WIDTHS
 from pages import PICKER, PageTest, applied, patcher
 from selenium.webdriver.common.keys import Keys
 
@@ -41,8 +42,9 @@ class Pictures(PageTest):
         cls.place.mkdir(exist_ok=True)
 
     def take(self, name: str) -> None:
-        """Makes the pictures of a state, which has thrown nothing and reached nothing."""
+        """Makes the pictures of a state, which has thrown nothing, reached nothing, and is as wide as its window."""
         self.assertEqual(self.browser.attempts(), [])
+        self.assertLessEqual(self.browser.wider(*WIDTHS), 0, name)
         paths = [self.place / f'{name}.png']
         if 'PICTURES' in os.environ:
             paths = self.browser.pictures(self.place, name)

@@ -60,6 +60,7 @@ class Publish(PageTest):
         self.browser.wait('#player h1', HOSTILE)
         self.browser.give('#player-files', [discs.written(game=discs.game())['game']])
         self.browser.wait('#verdict', 'This is the right disc.')
+        self.assertIn('6 changes. The new file needs 1 MB of space.', self.browser.text('#player'))
         self.press('Patch and save')
         self.assertEqual(self.browser.downloaded('Starlit.bin').read_bytes(), result())
         self.browser.wait('#player', 'It is exactly the image that the author made: the SHA-1 is the same.')

@@ -157,7 +157,9 @@ export class Player {
         if (verdict === 'patched') return this.show(first, this.step('2', 'done', 'Patched', 'There is nothing to do.'),
             this.playStep(image.name, this.sheetFor(image.name)));
         const patch = button('main big', () => this.patch(image, judged, first), 'Patch and save…');
-        this.show(first, this.step('2', 'now', 'Patch it', patch));
+        const space = counted(Math.ceil(image.reader.size / 1e6));
+        this.show(first, this.step('2', 'now', 'Patch it',
+            element('p', {}, `${countOf(judged.patches, 'change')}. The new file needs ${space} MB of space.`), patch));
         return patch.focus();
     }
 
