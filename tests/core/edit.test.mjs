@@ -7,7 +7,8 @@ import { localCrew, withThreads } from './crews.mjs';
 import { isoOf } from './discs.mjs';
 import { CHANGES, RAW, countOf, patchedBy, sectorAt, sound, soundImage, textOf } from './pairs.mjs';
 
-const { filledUp, replaceBytes, replaceFile } = await core('edit.js');
+const { filledUp, replaceBytes } = await core('edit.js');
+const { replaceFile } = await core('replace_file.js');
 const { filesOf } = await core('iso.js');
 
 const BASE = 70;

@@ -2,12 +2,13 @@
 
 import { readBytes } from '../core/bytes.js';
 import { TextFault } from '../core/characters.js';
-import { filledUp, replaceBytes, replaceFile } from '../core/edit.js';
+import { filledUp, replaceBytes } from '../core/edit.js';
 import { Fault } from '../core/faults.js';
 import { findIn, sectorsBeyond } from '../core/find.js';
 import { leftText } from '../core/lines.js';
 import { ScriptParts } from '../core/output.js';
 import { passPatched } from '../core/patch.js';
+import { replaceFile } from '../core/replace_file.js';
 import { Refusal, patchesOf } from '../core/script.js';
 import { SECTOR_SIZE, USER_SIZE } from '../core/sector.js';
 import { encodeText, hexText } from '../core/text.js';
