@@ -171,7 +171,7 @@ def figures() -> list[str]:
          str(len(list(TOP.glob('crates/*/must-fail/*.edit'))))),
         ('wrong definitions that a worked case refuses (`tests/wrong_definitions`)',
          str(len(list(TOP.glob('tests/wrong_definitions/*.patch'))))),
-        ('checks of the built program and its pages in each `make check`; in each gate, with wrong versions', 'more than 5300; 5800'),
+        ('checks of the built program and its pages in each `make check`; in each gate, with wrong versions', 'more than 6800; 7200'),
         ('random images and scripts of these on which an independent model and the program agree; once by hand',
          f"{number('tests/model/compare.py', r'--cases., type=int, default=([0-9]+)')}; 20,000"),
         ('runs of these in which system calls fail at random', str(2 * seeds)),
