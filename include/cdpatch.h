@@ -20,8 +20,8 @@ extern "C" {
 #endif
 
 /* The version of this header, as text and as a number: 10000 times its first number, 100 times its second, and its third. */
-#define CDPATCH_VERSION "1.1.0"
-#define CDPATCH_VERSION_NUMBER 10100
+#define CDPATCH_VERSION "1.2.0"
+#define CDPATCH_VERSION_NUMBER 10200
 
 enum { CDPATCH_SECTOR_SIZE = 2352, CDPATCH_USER_SIZE = 2048, CDPATCH_PATCH_SIZE = 4096, CDPATCH_LINE_SIZE = 96 };
 

@@ -181,7 +181,7 @@ test_wrong_headers() {
     differs 'verbs in another order' 's/CDPATCH_SET, CDPATCH_FILL/CDPATCH_FILL, CDPATCH_SET/'
     differs 'less room for a line' 's/CDPATCH_LINE_SIZE = 96/CDPATCH_LINE_SIZE = 95/'
     differs 'another version' 's/VERSION "1/VERSION "2/'
-    differs 'another number of the version' 's/NUMBER 10100/NUMBER 10101/'
+    differs 'another number of the version' 's/NUMBER 1/NUMBER 2/'
     differs 'no carry' '/cdpatch_check/{n;s/bool carry, //}'
     differs 'statuses in another order' 's/CDPATCH_DONE, CDPATCH_FOUND/CDPATCH_FOUND, CDPATCH_DONE/'
 }

@@ -21,7 +21,7 @@ const STANDARD = { input: 0, output: 1, errors: 2 };
 /** @type {('SIGHUP' | 'SIGINT' | 'SIGTERM')[]} */
 const ENDING = ['SIGHUP', 'SIGINT', 'SIGTERM'];
 
-/** @param {number} number of a version, as 10100 */
+/** @param {number} number of a version, as 10200 */
 function versionText(number) {
     return [10000, 100, 1].map(unit => Math.floor(number / unit) % 100).join('.');
 }

@@ -3,7 +3,7 @@
 ghost use Rattle.std.specs.Prelude.{◌≡◌};
 
 /// The version as a number: 10000 times its first number, 100 times its second and its third.
-pub const VERSION: u32 = 10100;
+pub const VERSION: u32 = 10200;
 
 /// The version of the library, [`VERSION`].
 #[unsafe(no_mangle)]
