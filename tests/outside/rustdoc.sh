@@ -3,7 +3,7 @@
 enter rustdoc
 
 # Each example of the rustdoc stands in a test, line by line.
-tested=$(for file in "$top"/crates/cd_*/src/tests/examples.rt; do sed 's/^ *//' "$file"; echo; done)
+tested=$(for file in "$top"/crates/cd_{patch,example}_tests/src/tests/*.rt; do sed 's/^ *//' "$file"; echo; done)
 
 # examples CRATE: each example of its rustdoc as a file CRATE/FILE:LINE.
 examples() {

@@ -2,7 +2,7 @@
 //!
 //! `patches`, `noise` and `reports` have a row for each rule; whatever else there is to know of an image and a script stands in the
 //! worked cases (`tests/cases`). Failures at each byte: `failing`, `reports`. The largest images, and one with no end: `large`;
-//! readers that go on after their end: `resumed`. The examples of the rustdoc: `examples`.
+//! readers that go on after their end: `resumed`.
 #![tactic(auto)]
 
 #[cfg(test)]

@@ -1,8 +1,9 @@
 //! Streams, images, scripts, and what they must give.
 
+use std::process::Abort;
+
 mod calls;
 mod cases;
-mod examples;
 mod failing;
 mod large;
 mod laws;
@@ -11,3 +12,8 @@ mod patches;
 mod reports;
 mod resumed;
 mod streams;
+
+/// What a row of a table says is so. If it is not, the number of the row is printed, or that of its bytes.
+fn holds(rt: &impl Abort, is_so: bool, row: usize) {
+    assert!(rt; is_so, "row {row}");
+}

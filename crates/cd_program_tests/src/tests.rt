@@ -1,9 +1,20 @@
 //! The program's calls, at concrete sources and sinks. The worked cases of `tests/cases` show what images and scripts come to.
 
+use std::process::Abort;
+
 mod command_line;
 mod commands;
-mod examples;
 mod hosts;
 mod messages;
 mod script;
 mod streams;
+
+/// A text gives what it should. If it does not, it is printed.
+fn holds(rt: &impl Abort, is_so: bool, text: &str) {
+    assert!(rt; is_so, "{text}");
+}
+
+/// The same of a number of bytes.
+fn holds_at(rt: &impl Abort, is_so: bool, count: u64) {
+    assert!(rt; is_so, "{count} bytes");
+}

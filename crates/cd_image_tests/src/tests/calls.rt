@@ -67,10 +67,12 @@ pub fn by_parts(image: usize, out: usize, log: usize) -> Limits {
     }
 }
 
-/// A script on an image whose first block is `base`, damage being carried or not, and what goes out if nothing fails.
+/// A script on an image whose first block is `base`, damage being carried or not, and what goes out if nothing fails. `text` is that
+/// of the script.
 #[derive(Clone, Copy)]
 pub struct Call<'a> {
     pub image: &'a [u8],
+    pub text: &'a str,
     pub script: &'a Script,
     pub base: u32,
     pub carry: bool,
@@ -78,18 +80,61 @@ pub struct Call<'a> {
     pub log: &'a [u8],
 }
 
+/// What a sink over memory has got: how often it has failed, whether it is finished, and its bytes.
+#[derive(Clone, Copy, Debug, PartialEq, Eq)]
+pub struct Got {
+    pub failures: u32,
+    pub finished: bool,
+    pub bytes: Written,
+}
+
+impl Got {
+    /// So many right bytes, and nothing has failed.
+    pub fn finished(count: usize) -> Self {
+        Got {
+            failures: 0,
+            finished: true,
+            bytes: Written::right(count),
+        }
+    }
+}
+
+/// A source over memory that lets so much pass.
+fn source_over<'a>(bytes: &'a [u8], limit: Limit) -> Short<FailAfter<SliceSource<'a>>>
+    ensures { CanCountFailure
+        (⟦<Short<FailAfter<SliceSource<'a>>> as Source>⟧.seen result).failures }
+{
+    Short::new(FailAfter::new(SliceSource::new(bytes), limit.0), limit.1)
+}
+
+/// A sink over memory that lets so much pass.
+fn sink_over<'a>(space: &'a mut [u8], limit: Limit) -> Short<FailAfter<SliceSink<'a>>>
+    ensures { CanCountFailure
+        (⟦<Short<FailAfter<SliceSink<'a>>> as Sink>⟧.seen result).failures }
+{
+    Short::new(FailAfter::new(SliceSink::new(space), limit.0), limit.1)
+}
+
+/// What such a sink has got, with the whole that it should get.
+fn got_by(sink: &Short<FailAfter<SliceSink<'_>>>, whole: &[u8]) -> Got {
+    let memory = sink.get_ref().get_ref();
+    Got {
+        failures: sink.failures(),
+        finished: sink.finished(),
+        bytes: written_in(memory.space, memory.used, whole),
+    }
+}
+
 /// How a call with a script ended.
 #[derive(Clone, Copy, Debug, PartialEq, Eq)]
 pub struct Ending {
     pub answer: Answer,
-    /// How often the image, the output and the log have failed.
-    pub failures: (u32, u32, u32),
-    pub out_finished: bool,
-    pub log_finished: bool,
-    pub out: Written,
-    pub log: Written,
+    /// How often the image has failed.
+    pub failures: u32,
     /// What the image gave when it was read on, if it had not failed: its last bytes.
     pub left: Option<Written>,
+    pub out: Got,
+    pub log: Got,
 }
 
 /// Reads on what is left of an image that has not failed.
@@ -111,36 +156,23 @@ fn read_on<I: Source>(
     })
 }
 
-/// How many bytes a sink over memory has got.
-fn count_of(sink: &Short<FailAfter<SliceSink<'_>>>) -> usize {
-    sink.get_ref().get_ref().written().len()
-}
-
 /// Applies the script, with memory for just what goes out, and reads on what is left of the image.
 pub fn apply_within(alloc: Global, call: &Call, limits: &Limits) -> Result<Ending, AllocError>
     requires { call.now.base ≤ MAX_BASE }
 {
     let mut sent = vec![in alloc; UNTOUCHED; call.out.len()]?;
     let mut lines = vec![in alloc; UNTOUCHED; call.log.len()]?;
-    let image = FailAfter::new(SliceSource::new(call.image), limits.image.0);
-    let mut image = Short::new(image, limits.image.1);
-    let out = FailAfter::new(SliceSink::new(&mut sent), limits.out.0);
-    let mut out = Short::new(out, limits.out.1);
-    let log = FailAfter::new(SliceSink::new(&mut lines), limits.log.0);
-    let mut log = Short::new(log, limits.log.1);
+    let mut image = source_over(call.image, limits.image);
+    let mut out = sink_over(&mut sent, limits.out);
+    let mut log = sink_over(&mut lines, limits.log);
     let (script, base, carry) = (call.script, call.base, call.carry);
     let answer = patched(apply(&mut image, script, base, carry, &mut out, &mut log));
-    let failures = (image.failures(), out.failures(), log.failures());
-    let (out_finished, log_finished) = (out.finished(), log.finished());
-    let (out_count, log_count) = (count_of(&out), count_of(&log));
     Ok(Ending {
         answer,
-        failures,
-        out_finished,
-        log_finished,
-        out: written_in(&sent, out_count, call.out),
-        log: written_in(&lines, log_count, call.log),
+        failures: image.failures(),
         left: read_on(alloc, &mut image, call.image)?,
+        out: got_by(&out, call.out),
+        log: got_by(&log, call.log),
     })
 }
 
@@ -149,42 +181,56 @@ pub fn check_within(alloc: Global, call: &Call, limits: &Limits) -> Result<Endin
     requires { call.now.base ≤ MAX_BASE }
 {
     let mut lines = vec![in alloc; UNTOUCHED; call.log.len()]?;
-    let image = FailAfter::new(SliceSource::new(call.image), limits.image.0);
-    let mut image = Short::new(image, limits.image.1);
-    let log = FailAfter::new(SliceSink::new(&mut lines), limits.log.0);
-    let mut log = Short::new(log, limits.log.1);
+    let mut image = source_over(call.image, limits.image);
+    let mut log = sink_over(&mut lines, limits.log);
     let (script, base, carry) = (call.script, call.base, call.carry);
     let answer = patched(check(&mut image, script, base, carry, &mut log));
-    let failures = (image.failures(), 0, log.failures());
-    let is_finished = log.finished();
-    let count = count_of(&log);
+    let log = got_by(&log, call.log);
     Ok(Ending {
         answer,
-        failures,
-        out_finished: is_finished,
-        log_finished: is_finished,
-        out: Written::right(0),
-        log: written_in(&lines, count, call.log),
+        failures: image.failures(),
         left: read_on(alloc, &mut image, call.image)?,
+        out: Got {
+            finished: log.finished,
+            ..Got::finished(0)
+        },
+        log,
     })
 }
 
 /// How a call ends in which nothing fails, which sends so much.
-pub fn done(tally: Tally, call: &Call, sent: usize) -> Ending {
+fn done(tally: Tally, call: &Call, sent: usize) -> Ending {
     Ending {
         answer: Answer::Patched(tally),
-        failures: (0, 0, 0),
-        out_finished: true,
-        log_finished: true,
-        out: Written::right(sent),
-        log: Written::right(call.log.len()),
+        failures: 0,
         left: Some(Written::right(0)),
+        out: Got::finished(sent),
+        log: Got::finished(call.log.len()),
     }
 }
 
 /// A call has ended as it should. If it has not, a text and a number are printed.
 pub fn expect_ending(rt: &impl Abort, came: &Ending, due: &Ending, text: &str, number: usize) {
     assert_eq!(rt; *came, *due, "{text}, {number}");
+}
+
+/// Applies a script, and then checks it, within limits in which nothing fails. If one does not end so, a number is printed.
+pub fn expect_done(
+    rt: &impl Abort,
+    alloc: Global,
+    call: &Call,
+    tally: Tally,
+    limits: &Limits,
+    number: usize,
+) -> Result<(), AllocError>
+    requires { call.now.base ≤ MAX_BASE }
+{
+    let came = apply_within(alloc, call, limits)?;
+    let due = done(tally, call, call.out.len());
+    expect_ending(rt, &came, &due, call.text, number);
+    let came = check_within(alloc, call, limits)?;
+    expect_ending(rt, &came, &done(tally, call, 0), call.text, number);
+    Ok(())
 }
 
 /// A call that reports on an image.
@@ -194,20 +240,21 @@ pub enum Report {
     Audit,
 }
 
-/// How a report ended, or a log.
+/// How a report ended, or a log: what the call returned, and what its sink has got.
 #[derive(Clone, Copy, Debug, PartialEq, Eq)]
 pub struct Reported {
     pub answer: Answer,
-    pub finished: bool,
-    pub text: Written,
+    pub out: Got,
 }
 
-/// With this result, and so many bytes of the text. It is finished unless it has failed.
+/// With this result, and so many bytes of the text. No write fails, and it is finished unless the call has failed.
 pub fn report_with(answer: Answer, sent: usize) -> Reported {
     Reported {
         answer,
-        finished: !matches!(answer, Answer::Failed(_)),
-        text: Written::right(sent),
+        out: Got {
+            finished: !matches!(answer, Answer::Failed(_)),
+            ..Got::finished(sent)
+        },
     }
 }
 
@@ -223,18 +270,14 @@ pub fn report_of<I: Source>(
     requires image_countable { CanCountFailure (I.seen image.old).failures }
 {
     let mut space = [UNTOUCHED; 128];
-    let out = FailAfter::new(SliceSink::new(&mut space), limit.0);
-    let mut out = Short::new(out, limit.1);
+    let mut out = sink_over(&mut space, limit);
     let answer = match report {
         Report::List => list(image, base, &mut out).map(Answer::Listed),
         Report::Audit => audit(image, base, &mut out).map(Answer::Audited),
     };
-    let finished = out.finished();
-    let count = count_of(&out);
     Reported {
         answer: answer.unwrap_or_else(Answer::Failed),
-        finished,
-        text: written_in(&space, count, text.as_bytes()),
+        out: got_by(&out, text.as_bytes()),
     }
 }
 
@@ -248,8 +291,7 @@ pub fn report_within(
 ) -> Reported
     requires { base ≤ MAX_BASE }
 {
-    let image = FailAfter::new(SliceSource::new(image), limits.image.0);
-    let mut image = Short::new(image, limits.image.1);
+    let mut image = source_over(image, limits.image);
     report_of(report, &mut image, base, limits.out, text)
 }
 
@@ -258,14 +300,11 @@ pub fn check_of<I: Source>(image: &mut I, script: &Script, text: &str) -> Report
     requires { CanCountFailure (I.seen image.old).failures }
 {
     let mut lines = [UNTOUCHED; 128];
-    let mut log = SliceSink::new(&mut lines);
+    let mut log = sink_over(&mut lines, NO_LIMIT);
     let answer = patched(check(image, script, 0, false, &mut log));
-    let finished = log.finished();
-    let count = log.written().len();
     Reported {
         answer,
-        finished,
-        text: written_in(&lines, count, text.as_bytes()),
+        out: got_by(&log, text.as_bytes()),
     }
 }
 

@@ -2,7 +2,7 @@
 
 ghost use Rattle.std.specs.Prelude.{◌≤◌};
 
-use super::calls::{Call, apply_within, by_parts, check_within, done, expect_ending};
+use super::calls::{Call, by_parts, expect_done};
 use cd_image::Tally;
 use cd_report::MAX_BASE;
 use cd_sector::{SECTOR_SIZE, Sector};
@@ -79,6 +79,7 @@ fn expect(rt: &impl Abort, alloc: Global, case: &Case, way: &Way) -> Result<(), 
     let tally = tally_of(case.log, case.image.len());
     let call = Call {
         image: case.image,
+        text: case.script,
         script: &script,
         base: way.base,
         carry: way.carry,
@@ -87,16 +88,7 @@ fn expect(rt: &impl Abort, alloc: Global, case: &Case, way: &Way) -> Result<(), 
     };
     for most in PARTS {
         let limits = by_parts(*most, *most, *most);
-        let came = apply_within(alloc, &call, &limits)?;
-        expect_ending(
-            rt,
-            &came,
-            &done(tally, &call, case.out.len()),
-            case.script,
-            *most,
-        );
-        let came = check_within(alloc, &call, &limits)?;
-        expect_ending(rt, &came, &done(tally, &call, 0), case.script, *most);
+        expect_done(rt, alloc, &call, tally, &limits, *most)?;
     }
     Ok(())
 }

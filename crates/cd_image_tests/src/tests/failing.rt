@@ -3,8 +3,8 @@
 ghost use Rattle.std.specs.Prelude.{◌≡◌};
 
 use super::calls::{
-    ALL, Answer, Call, Ending, Limits, apply_within, by_parts, check_within, done, expect_ending,
-    passing,
+    ALL, Answer, Call, Ending, Got, Limits, apply_within, by_parts, check_within, expect_done,
+    expect_ending, passing,
 };
 use Count::{All, AtMost, Just};
 use cd_image::Fault::{self, Log, Read, Write};
@@ -54,6 +54,7 @@ impl Parts {
     {
         Call {
             image: &self.image,
+            text: SCRIPT,
             script: &self.script,
             base: 0,
             carry: false,
@@ -112,24 +113,27 @@ fn limits_of(fault: Fault, count: u64) -> Limits {
     }
 }
 
-/// How a call ends by this fault: what it names has failed once, and nothing else has. What is left of the image is not compared.
+/// How a call ends by this fault: what it names has failed once, and nothing else has. The output is finished if all of it and of
+/// the log is out. What is left of the image is not compared.
 fn failed(came: &Ending, fault: Fault, sent: usize, logged: usize) -> Ending {
     Ending {
         answer: Answer::Failed(fault),
-        failures: match fault {
-            Read => (1, 0, 0),
-            Write => (0, 1, 0),
-            _ => (0, 0, 1),
-        },
-        out_finished: false,
-        log_finished: false,
-        out: Written::right(sent),
-        log: Written::right(logged),
+        failures: u32::from(fault == Read),
         left: came.left,
+        out: Got {
+            failures: u32::from(fault == Write),
+            finished: fault == Log && sent == 7056 && logged == LOG.len(),
+            bytes: Written::right(sent),
+        },
+        log: Got {
+            failures: u32::from(fault == Log),
+            finished: false,
+            bytes: Written::right(logged),
+        },
     }
 }
 
-/// It fails so after a number of bytes, if it is applied and if it is checked. If all of the log is out, the output is finished.
+/// It fails so after a number of bytes, if it is applied and if it is checked.
 fn fails(
     rt: &impl Abort,
     alloc: Global,
@@ -142,29 +146,15 @@ fn fails(
     let Stop(fault, _, _, sent, logged) = *stop;
     let limits = limits_of(fault, passed as u64);
     let came = apply_within(alloc, call, &limits)?;
-    let sent = sent.due(passed, came.out.count);
-    let due = Ending {
-        out_finished: fault == Log && passed == LOG.len(),
-        ..failed(&came, fault, sent, logged.due(passed, came.log.count))
-    };
+    let sent = sent.due(passed, came.out.bytes.count);
+    let due = failed(&came, fault, sent, logged.due(passed, came.log.bytes.count));
     expect_ending(rt, &came, &due, "apply", passed);
     if fault == Write {
         return Ok(());
     }
     let came = check_within(alloc, call, &limits)?;
-    let due = failed(&came, fault, 0, logged.due(passed, came.log.count));
+    let due = failed(&came, fault, 0, logged.due(passed, came.log.bytes.count));
     expect_ending(rt, &came, &due, "check", passed);
-    Ok(())
-}
-
-/// Nothing fails within limits.
-fn passes(rt: &impl Abort, alloc: Global, call: &Call, limits: &Limits) -> Result<(), AllocError>
-    requires { call.now.base ≡ 0 }
-{
-    let came = apply_within(alloc, call, limits)?;
-    expect_ending(rt, &came, &done(TALLY, call, 7056), "apply", 0);
-    let came = check_within(alloc, call, limits)?;
-    expect_ending(rt, &came, &done(TALLY, call, 0), "check", 0);
     Ok(())
 }
 
@@ -205,7 +195,7 @@ fn nothing_fails(rt: HostRuntime) -> Result<(), Fail> {
         passing(ALL, 7057, ALL),
         passing(ALL, ALL, 37),
     ] {
-        passes(&rt, rt.alloc(), &call, &limits)?;
+        expect_done(&rt, rt.alloc(), &call, TALLY, &limits, 0)?;
     }
     for few in [1, 2, 2351, 2353] {
         for limits in [
@@ -214,7 +204,7 @@ fn nothing_fails(rt: HostRuntime) -> Result<(), Fail> {
             by_parts(most, most, few),
             by_parts(few, few, few),
         ] {
-            passes(&rt, rt.alloc(), &call, &limits)?;
+            expect_done(&rt, rt.alloc(), &call, TALLY, &limits, few)?;
         }
     }
     Ok(())
@@ -225,10 +215,12 @@ const FIVE: &[Sample] = &[Zeros(0), Zeros(1), Zeros(2), Zeros(3), Zeros(4)];
 /// The image still gives its last two sectors, of five.
 #[test]
 fn three_sectors_are_in_hand(rt: HostRuntime) -> Result<(), Fail> {
+    let text = "cdpatch 1\n";
     let image = image_of(rt.alloc(), FIVE)?;
-    let script = script_of(rt.alloc(), "cdpatch 1\n")?;
+    let script = script_of(rt.alloc(), text)?;
     let call = Call {
         image: &image,
+        text,
         script: &script,
         base: 0,
         carry: false,
@@ -241,23 +233,29 @@ fn three_sectors_are_in_hand(rt: HostRuntime) -> Result<(), Fail> {
         left: Some(Written::right(left.max(4704))),
         ..failed(&came, Write, 0, 0)
     };
-    expect_ending(&rt, &came, &due, "apply", 0);
+    expect_ending(&rt, &came, &due, text, 0);
     Ok(())
 }
 
 #[test]
-fn a_writer_that_takes_nothing(rt: HostRuntime) -> Result<(), Fail> {
+fn an_output_that_takes_nothing(rt: HostRuntime) -> Result<(), Fail> {
     let parts = make_parts(rt.alloc())?;
-    let script = &parts.script;
     let (mut none, mut all) = (ToWrite::new(Full), ToWrite::new(io::sink()));
     let mut image = SliceSource::new(&parts.image);
-    let applied = apply(&mut image, script, 0, false, &mut none, &mut all);
-    assert_eq!(rt; (applied.err(), none.failures()), (Some(Write), 1));
+    let came = apply(&mut image, &parts.script, 0, false, &mut none, &mut all);
+    assert!(rt; came == Err(Write) && none.failures() == 1);
+    Ok(())
+}
+
+#[test]
+fn a_log_that_takes_nothing(rt: HostRuntime) -> Result<(), Fail> {
+    let parts = make_parts(rt.alloc())?;
+    let (mut none, mut all) = (ToWrite::new(Full), ToWrite::new(io::sink()));
     let mut image = SliceSource::new(&parts.image);
-    let applied = apply(&mut image, script, 0, false, &mut all, &mut none);
-    assert_eq!(rt; (applied.err(), none.failures()), (Some(Log), 2));
+    let came = apply(&mut image, &parts.script, 0, false, &mut all, &mut none);
+    assert!(rt; came == Err(Log) && none.failures() == 1);
     let mut image = SliceSource::new(&parts.image);
-    let checked = check(&mut image, script, 0, false, &mut none);
-    assert_eq!(rt; (checked.err(), none.failures()), (Some(Log), 3));
+    let came = check(&mut image, &parts.script, 0, false, &mut none);
+    assert!(rt; came == Err(Log) && none.failures() == 2);
     Ok(())
 }

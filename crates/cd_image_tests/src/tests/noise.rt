@@ -2,10 +2,10 @@
 
 use super::cases::{PLAIN, expect_sectors};
 use super::reports::audits_as;
-use cd_sector::{Sector, defect};
+use cd_sector::Sector;
 use cd_test_images::Sample::Mode;
 use cd_test_images::{encoded_again, joined, sector_of};
-use std::alloc::{AllocError, Global};
+use std::alloc::AllocError;
 use std::test::Fail;
 
 /// A sector of noise that is of Mode 1.
@@ -37,34 +37,27 @@ const REBUILD: &str = "cdpatch 1\nrebuild 0\nrebuild 1\nrebuild 2\n";
 const APPLIED: &str = "line 2: applied\nline 3: applied\nline 4: applied\napplied 3 refused 0\n";
 
 #[test]
-fn is_damaged_until_it_is_rebuilt(rt: HostRuntime) -> Result<(), Fail> {
+fn is_damaged(rt: HostRuntime) -> Result<(), Fail> {
     let noise = three();
-    let [one, two, three] = &noise;
-    expect_sectors(&rt, rt.alloc(), SET_EACH, &noise, DAMAGED, &noise, &PLAIN)?;
-    let made = [encoded_again(one), encoded_again(two), encoded_again(three)];
-    expect_sectors(&rt, rt.alloc(), REBUILD, &noise, APPLIED, &made, &PLAIN)
-}
-
-/// The audit of such sectors, each of which has another address, and damaged P and Q.
-fn audit_text(alloc: Global, sectors: &[Sector]) -> Result<String, AllocError> {
-    let mut text = String::new(alloc);
-    for (block, sector) in sectors.iter().enumerate() {
-        let found = defect(sector);
-        let zeros = if found.zeros { " zeros" } else { "" };
-        let edc = if found.edc { " edc" } else { "" };
-        let (p, q) = (found.p, found.q);
-        let line = format!(in alloc; "{block} address{zeros}{edc} p={p} q={q}\n")?;
-        text.push_str(&line)?;
-    }
-    text.push_str("sectors 3 mode1 3 damaged 3 tail 0\n")?;
-    Ok(text)
+    expect_sectors(&rt, rt.alloc(), SET_EACH, &noise, DAMAGED, &noise, &PLAIN)
 }
 
 #[test]
-fn is_audited_as_its_defects_say(rt: HostRuntime) -> Result<(), AllocError> {
-    let sectors = three();
-    let text = audit_text(rt.alloc(), &sectors)?;
-    let image = joined(rt.alloc(), &sectors)?;
-    audits_as(&rt, &image, &text);
+fn is_rebuilt(rt: HostRuntime) -> Result<(), Fail> {
+    let noise = three();
+    let mut made = noise;
+    for sector in made.iter_mut() {
+        *sector = encoded_again(sector);
+    }
+    expect_sectors(&rt, rt.alloc(), REBUILD, &noise, APPLIED, &made, &PLAIN)
+}
+
+/// Each has the address of another block, and not one of its code words holds.
+const AUDIT: &str = "0 address zeros edc p=86 q=52\n1 address zeros edc p=86 q=52\n\
+    2 address zeros edc p=86 q=52\nsectors 3 mode1 3 damaged 3 tail 0\n";
+
+#[test]
+fn is_audited(rt: HostRuntime) -> Result<(), AllocError> {
+    audits_as(&rt, &joined(rt.alloc(), &three())?, AUDIT);
     Ok(())
 }

@@ -40,7 +40,7 @@ fn accepts(
     requires { way.now.base ≤ MAX_BASE }
 {
     for Accepted(patches, image, log, out) in rows {
-        let script = format!(in alloc; "{head}{patches}")?;
+        let script = repeated(alloc, head, patches, 1, "")?;
         let row = Row {
             script: &script,
             image,
@@ -67,8 +67,14 @@ fn refuses(
     requires { way.now.base ≤ MAX_BASE }
 {
     for Refused(patch, image, why) in rows {
-        let script = format!(in alloc; "{head}{patch}")?;
-        let log = format!(in alloc; "line 2: refused: {why}\napplied 0 refused 1\n")?;
+        let script = repeated(alloc, head, patch, 1, "")?;
+        let log = repeated(
+            alloc,
+            "line 2: refused: ",
+            why,
+            1,
+            "\napplied 0 refused 1\n",
+        )?;
         let row = Row {
             script: &script,
             image,
@@ -284,26 +290,30 @@ fn a_damaged_byte_put_right(rt: HostRuntime) -> Result<(), Fail> {
     expect_sectors(&rt, rt.alloc(), set, &[damaged], ONE, &[out], &CARRYING)
 }
 
-/// The patch meets two blocks, and some of them are there at these sizes.
+/// A patch on two blocks, of which the first or the second is not there.
+const NO_FIRST: &[Refused] = &[Refused("set 0 2047 4142", PAIR, "no block 0")];
+
+const NO_SECOND: &[Refused] = &[Refused("set 0 2047 4142", PAIR, "no block 1")];
+
+/// The patch of a row is refused if its image is cut to each of these sizes.
 fn refused_at(
     rt: &impl Abort,
     alloc: Global,
-    why: &'static str,
+    rows: &[Refused],
     sizes: Range<usize>,
 ) -> Result<(), Fail> {
     for size in sizes {
-        let row = Refused("set 0 2047 4142", PAIR, why);
-        refuses(rt, alloc, HEAD, &[row], &Way { size, ..PLAIN })?;
+        refuses(rt, alloc, HEAD, rows, &Way { size, ..PLAIN })?;
     }
     Ok(())
 }
 
 #[test]
 fn of_cut_images(rt: HostRuntime) -> Result<(), Fail> {
-    refused_at(&rt, rt.alloc(), "no block 0", 0..13)?;
-    refused_at(&rt, rt.alloc(), "no block 0", 2340..2352)?;
-    refused_at(&rt, rt.alloc(), "no block 1", 2352..2365)?;
-    refused_at(&rt, rt.alloc(), "no block 1", 4692..4704)?;
+    refused_at(&rt, rt.alloc(), NO_FIRST, 0..13)?;
+    refused_at(&rt, rt.alloc(), NO_FIRST, 2340..2352)?;
+    refused_at(&rt, rt.alloc(), NO_SECOND, 2352..2365)?;
+    refused_at(&rt, rt.alloc(), NO_SECOND, 4692..4704)?;
     let whole = &[Filled(0, 2047, 2048, 0x41), Filled(1, 0, 1, 0x42)];
     let row = Accepted("set 0 2047 4142", PAIR, ONE, whole);
     accepts(&rt, rt.alloc(), HEAD, &[row], &PLAIN)?;

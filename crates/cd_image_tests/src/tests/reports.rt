@@ -1,14 +1,14 @@
 //! Listings and audits of whole images, and of images and sinks that fail at each byte.
 
 use super::calls::{
-    ALL, Answer, Limits, Report, Reported, by_parts, expect_reported, passing, report_within,
+    ALL, Answer, Got, Limits, Report, Reported, by_parts, expect_reported, passing, report_within,
 };
 use super::cases::PARTS;
 use cd_image::Fault;
 use cd_report::MAX_BASE;
 use cd_test_images::Sample::{self, Blank, Damaged, Mode, Zeros};
 use cd_test_images::{Written, cut_image, flipped, image_of, sector_of};
-use std::alloc::{AllocError, Global};
+use std::alloc::AllocError;
 use std::process::Abort;
 
 /// From which block on an image is reported on, the report, and how much of it is out once so much of the image is read, until
@@ -42,8 +42,11 @@ impl Case<'_> {
         let came = report_within(self.call, self.image, base, limits, text);
         let due = Reported {
             answer: fault.map_or(came.answer, Answer::Failed),
-            finished: fault.is_none(),
-            text: Written::right(sent),
+            out: Got {
+                failures: u32::from(fault == Some(Fault::Write)),
+                finished: fault.is_none(),
+                bytes: Written::right(sent),
+            },
         };
         expect_reported(rt, &came, &due, sent, text);
     }
@@ -134,33 +137,54 @@ fn listings(rt: HostRuntime) -> Result<(), AllocError> {
     Ok(())
 }
 
-/// Sectors of Mode 1 from a block on, the lines of what is found, which belong to the first, and how many are damaged.
-#[derive(Clone, Copy)]
-struct Found(&'static [Sample], u32, &'static str, u32);
-
-const FOUND: &[Found] = &[
-    Found(&[Damaged(0, 2351, 1)], 0, "0 q=1\n", 1),
-    Found(&[Damaged(0, 2068, 1)], 0, "0 zeros p=1 q=1\n", 1),
-    Found(&[Damaged(0, 2062, 1)], 0, "0 edc p=1 q=1\n", 1),
-    Found(&[Zeros(1)], 0, "0 address\n", 0),
-    Found(&[Zeros(1)], 1, "", 0),
-    Found(&[Zeros(449_849), Zeros(0)], 449_849, "", 0),
+const AUDITS: &[(&[Sample], Due)] = &[
+    (
+        &[Damaged(0, 2351, 1)],
+        Due(
+            0,
+            "0 q=1\nsectors 1 mode1 1 damaged 1 tail 0\n",
+            &[(2352, 6)],
+        ),
+    ),
+    (
+        &[Damaged(0, 2068, 1)],
+        Due(
+            0,
+            "0 zeros p=1 q=1\nsectors 1 mode1 1 damaged 1 tail 0\n",
+            &[(2352, 16)],
+        ),
+    ),
+    (
+        &[Damaged(0, 2062, 1)],
+        Due(
+            0,
+            "0 edc p=1 q=1\nsectors 1 mode1 1 damaged 1 tail 0\n",
+            &[(2352, 14)],
+        ),
+    ),
+    (
+        &[Zeros(1)],
+        Due(
+            0,
+            "0 address\nsectors 1 mode1 1 damaged 0 tail 0\n",
+            &[(2352, 10)],
+        ),
+    ),
+    (
+        &[Zeros(1)],
+        Due(1, "sectors 1 mode1 1 damaged 0 tail 0\n", &[]),
+    ),
+    (
+        &[Zeros(449_849), Zeros(0)],
+        Due(449_849, "sectors 2 mode1 2 damaged 0 tail 0\n", &[]),
+    ),
 ];
-
-fn audit_text(alloc: Global, found: Found) -> Result<String, AllocError> {
-    let Found(samples, _, lines, damaged) = found;
-    let (sectors, mode1) = (samples.len(), samples.len());
-    format!(in alloc; "{lines}sectors {sectors} mode1 {mode1} damaged {damaged} tail 0\n")
-}
 
 #[test]
 fn audits(rt: HostRuntime) -> Result<(), AllocError> {
-    for found in FOUND {
-        let image = image_of(rt.alloc(), found.0)?;
-        let text = audit_text(rt.alloc(), *found)?;
-        let begun = [(2352, found.2.len())];
-        let due = Due(found.1, &text, &begun);
-        reports_as(&rt, Report::Audit, &image, due);
+    for (samples, due) in AUDITS {
+        let image = image_of(rt.alloc(), samples)?;
+        reports_as(&rt, Report::Audit, &image, *due);
     }
     Ok(())
 }

@@ -4,25 +4,49 @@
 use super::calls::{
     Answer, NO_LIMIT, Report, check_of, expect_reported, patched, report_of, report_with,
 };
+use super::holds;
 use cd_image::{AuditTally, FromRead, ListTally, Sink, Source, Tally, ToWrite, apply};
+use cd_script::Script;
 use cd_stream::fill_buffer;
 use cd_test_images::{Resuming, script_of};
-use std::alloc::AllocError;
 use std::io;
 use std::process::Abort;
 use std::test::Fail;
 
-/// How many bytes there are before the first end, the sectors and the tail that they are, and the lines of a listing before its
-/// last.
+/// How many bytes there are before the first end, the sectors and the tail that they are, the listing, and the audit.
 #[derive(Clone, Copy)]
-struct Ended(usize, u32, u16, &'static str);
+struct Ended(usize, u32, u16, &'static str, &'static str);
 
 /// At a sector's border, within a sector, after a first byte, and before one.
 const ENDED: &[Ended] = &[
-    Ended(4704, 2, 0, "0-1 nosync\n"),
-    Ended(2355, 1, 3, "0-0 nosync\n"),
-    Ended(1, 0, 1, ""),
-    Ended(0, 0, 0, ""),
+    Ended(
+        4704,
+        2,
+        0,
+        "0-1 nosync\nsectors 2 tail 0\n",
+        "sectors 2 mode1 0 damaged 0 tail 0\n",
+    ),
+    Ended(
+        2355,
+        1,
+        3,
+        "0-0 nosync\nsectors 1 tail 3\n",
+        "sectors 1 mode1 0 damaged 0 tail 3\n",
+    ),
+    Ended(
+        1,
+        0,
+        1,
+        "sectors 0 tail 1\n",
+        "sectors 0 mode1 0 damaged 0 tail 1\n",
+    ),
+    Ended(
+        0,
+        0,
+        0,
+        "sectors 0 tail 0\n",
+        "sectors 0 mode1 0 damaged 0 tail 0\n",
+    ),
 ];
 
 /// A report on such an image.
@@ -33,13 +57,11 @@ fn expect_report(rt: &impl Abort, call: Report, bytes: usize, answer: Answer, te
 }
 
 #[test]
-fn reports(rt: HostRuntime) -> Result<(), AllocError> {
-    for Ended(bytes, sectors, tail, runs) in ENDED {
+fn reports(rt: HostRuntime) {
+    for Ended(bytes, sectors, tail, listing, audit) in ENDED {
         let (sectors, tail) = (*sectors, *tail);
-        let text = format!(in rt.alloc(); "{runs}sectors {sectors} tail {tail}\n")?;
         let tally = ListTally { sectors, tail };
-        expect_report(&rt, Report::List, *bytes, Answer::Listed(tally), &text);
-        let text = format!(in rt.alloc(); "sectors {sectors} mode1 0 damaged 0 tail {tail}\n")?;
+        expect_report(&rt, Report::List, *bytes, Answer::Listed(tally), listing);
         let tally = AuditTally {
             sectors,
             mode1: 0,
@@ -47,31 +69,35 @@ fn reports(rt: HostRuntime) -> Result<(), AllocError> {
             findings: 0,
             tail,
         };
-        expect_report(&rt, Report::Audit, *bytes, Answer::Audited(tally), &text);
+        expect_report(&rt, Report::Audit, *bytes, Answer::Audited(tally), audit);
     }
-    Ok(())
 }
 
 const LOG: &str = "line 2: refused: no block 7\napplied 0 refused 1\n";
 
+/// Checks a script on such an image, and applies it: the result is that of `check`, and the output is finished.
+fn expect_patched(rt: &impl Abort, script: &Script, bytes: usize, tally: Tally) {
+    let mut image = FromRead::new(Resuming::new(bytes));
+    let came = check_of(&mut image, script, LOG);
+    let due = report_with(Answer::Patched(tally), LOG.len());
+    expect_reported(rt, &came, &due, bytes, LOG);
+    let mut image = FromRead::new(Resuming::new(bytes));
+    let (mut out, mut log) = (ToWrite::new(io::sink()), ToWrite::new(io::sink()));
+    let came = patched(apply(&mut image, script, 0, false, &mut out, &mut log));
+    holds(rt, came == due.answer && out.finished(), bytes);
+}
+
 #[test]
 fn patches(rt: HostRuntime) -> Result<(), Fail> {
     let script = script_of(rt.alloc(), "cdpatch 1\nset 7 0 41\n")?;
-    for Ended(bytes, sectors, tail, _) in ENDED {
+    for Ended(bytes, sectors, tail, _, _) in ENDED {
         let tally = Tally {
             applied: 0,
             refused: 1,
             sectors: *sectors,
             tail: *tail,
         };
-        let mut image = FromRead::new(Resuming::new(*bytes));
-        let came = check_of(&mut image, &script, LOG);
-        let due = report_with(Answer::Patched(tally), LOG.len());
-        expect_reported(&rt, &came, &due, *bytes, LOG);
-        let mut image = FromRead::new(Resuming::new(*bytes));
-        let (mut out, mut log) = (ToWrite::new(io::sink()), ToWrite::new(io::sink()));
-        let came = patched(apply(&mut image, &script, 0, false, &mut out, &mut log));
-        assert_eq!(rt; (came, out.finished()), (due.answer, true), "{bytes}");
+        expect_patched(&rt, &script, *bytes, tally);
     }
     Ok(())
 }
@@ -82,8 +108,8 @@ fn buffers(rt: HostRuntime) {
     for count in [0, 1, 7] {
         let mut into = [7; 8];
         let mut source = FromRead::new(Resuming::new(count));
-        let answer = fill_buffer(&mut source, &mut into);
-        assert_eq!(rt; (answer, source.failures()), (Ok(count), 0));
-        assert!(rt; into.iter().skip(count).all(|byte| *byte == 7), "{count}");
+        let is_filled = fill_buffer(&mut source, &mut into) == Ok(count) && source.failures() == 0;
+        let is_kept = into.iter().skip(count).all(|byte| *byte == 7);
+        holds(&rt, is_filled && is_kept, count);
     }
 }

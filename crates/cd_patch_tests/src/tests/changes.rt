@@ -2,6 +2,7 @@
 
 ghost use Rattle.std.specs.Prelude.{◌+◌, ◌<◌, ◌≤◌, length};
 
+use super::holds;
 use cd_delta::{Change, change_byte, change_user, parity_changes};
 use cd_sector::{DefectReport, SECTOR_SIZE, Sector, SectorKind, USER_SIZE, defect, encode, kind};
 use std::process::Abort;
@@ -50,28 +51,26 @@ const WORKED: &[Worked] = &[
     },
 ];
 
-/// Compares the eight changes with those that are worked out.
-fn expect_changes(rt: &impl Abort, worked: &Worked)
+/// Whether a change is by this amount at this place.
+fn is_at((change, (place, d)): (&Change, (&u16, &u8))) -> bool {
+    change.place == *place && change.d == *d
+}
+
+/// Whether the eight changes are those that are worked out.
+fn are_worked(worked: &Worked) -> bool
     requires from { 12 ≤ worked.now.place }
     requires below { worked.now.place < 2076 }
 {
     let came = parity_changes(worked.place, worked.d);
-    let mut due = came;
-    let worked_out = worked.places.iter().zip(&worked.amounts);
-    for (change, (place, d)) in due.iter_mut().zip(worked_out) {
-        *change = Change {
-            place: *place,
-            d: *d,
-        };
-    }
-    assert_eq!(rt; came, due, "{} by {}", worked.place, worked.d);
+    let due = worked.places.iter().zip(&worked.amounts);
+    came.len() == 8 && came.iter().zip(due).all(is_at)
 }
 
 #[test]
 fn changes_of_a_byte(rt: HostRuntime) {
-    for worked in WORKED {
+    for (row, worked) in WORKED.iter().enumerate() {
         assert!(rt; 12 <= worked.place && worked.place < 2076);
-        expect_changes(&rt, worked);
+        holds(&rt, are_worked(worked), row);
     }
 }
 

@@ -2,8 +2,8 @@
 
 ghost use Rattle.std.specs.Prelude.{◌<◌};
 
+use super::holds;
 use cd_code::{alpha_power, column_sums, edc_of, pair_change, parity_pair, syndromes, times};
-use std::process::Abort;
 
 /// Two factors, and their product.
 const PRODUCTS: &[(u8, u8, u8)] = &[(0x80, 0x02, 0x1D), (0x03, 0xF4, 0x01), (0x02, 0xF4, 0xF5)];
@@ -24,11 +24,11 @@ const POWERS: &[(u32, u8)] = &[
 
 #[test]
 fn products_and_powers(rt: HostRuntime) {
-    for (a, b, product) in PRODUCTS {
-        assert_eq!(rt; times(*a, *b), *product, "{a} times {b}");
+    for (row, (a, b, product)) in PRODUCTS.iter().enumerate() {
+        holds(&rt, times(*a, *b) == *product, row);
     }
-    for (n, power) in POWERS {
-        assert_eq!(rt; alpha_power(*n), *power, "power {n}");
+    for (row, (n, power)) in POWERS.iter().enumerate() {
+        holds(&rt, alpha_power(*n) == *power, row);
     }
 }
 
@@ -53,14 +53,10 @@ const PAIR_CHANGES: &[(usize, usize, u8, (u8, u8))] = &[
 
 #[test]
 fn changes_of_a_pair(rt: HostRuntime) {
-    for (size, place, d, pair) in PAIR_CHANGES {
+    for (row, (size, place, d, pair)) in PAIR_CHANGES.iter().enumerate() {
         let (size, place, d) = (*size, *place, *d);
         assert!(rt; size <= 255 && place < 253 && place + 2 < size);
-        assert_eq!(rt;
-            pair_change(size, place, d),
-            *pair,
-            "{d} at {place} of {size}"
-        );
+        holds(&rt, pair_change(size, place, d) == *pair, row);
     }
 }
 
@@ -82,9 +78,9 @@ const EDC_WORDS: &[(&[u8], u32, [u8; 4])] = &[
 
 #[test]
 fn edc_words(rt: HostRuntime) {
-    for (bytes, word, stored) in EDC_WORDS {
-        assert_eq!(rt; edc_of(bytes), *word, "{bytes:?}");
-        assert_eq!(rt; word.to_le_bytes(), *stored, "{bytes:?}");
+    for (row, (bytes, word, stored)) in EDC_WORDS.iter().enumerate() {
+        holds(&rt, edc_of(bytes) == *word, row);
+        holds(&rt, word.to_le_bytes() == *stored, row);
     }
 }
 
@@ -104,15 +100,6 @@ fn register_word(bytes: &[u8]) -> u32 {
     register
 }
 
-fn expect_register_word(rt: &impl Abort, bytes: &[u8]) {
-    assert_eq!(rt;
-        edc_of(bytes),
-        register_word(bytes),
-        "{} bytes",
-        bytes.len()
-    );
-}
-
 /// Bytes without a pattern: each short list of them, and those of about a sector's length.
 #[test]
 fn edc_words_against_the_register(rt: HostRuntime) {
@@ -123,10 +110,12 @@ fn edc_words_against_the_register(rt: HostRuntime) {
         *place = byte;
     }
     for length in 0..=200 {
-        expect_register_word(&rt, &bytes[..length]);
+        let bytes = &bytes[..length];
+        holds(&rt, edc_of(bytes) == register_word(bytes), length);
     }
     for length in 2063..=2065 {
-        expect_register_word(&rt, &bytes[..length]);
+        let bytes = &bytes[..length];
+        holds(&rt, edc_of(bytes) == register_word(bytes), length);
     }
 }
 
@@ -148,11 +137,7 @@ fn single_bytes_in_their_columns(rt: HostRuntime) {
         let sums = column_sums(&rows);
         for c in 0..86 {
             let due = if c == *column { *due } else { (0, 0) };
-            assert_eq!(rt;
-                (sums.plain[c], sums.weighted[c]),
-                due,
-                "byte {place}, column {c}"
-            );
+            holds(&rt, (sums.plain[c], sums.weighted[c]) == due, *place);
         }
     }
 }
@@ -177,11 +162,7 @@ fn each_byte_against_the_syndromes_of_its_column(rt: HostRuntime) {
             let sums = column_sums(&rows);
             for c in 0..86 {
                 let due = syndromes(&column_of(&rows, c));
-                assert_eq!(rt;
-                    (sums.plain[c], sums.weighted[c]),
-                    due,
-                    "byte {place}, column {c}"
-                );
+                holds(&rt, (sums.plain[c], sums.weighted[c]) == due, place);
             }
         }
         rows[place] = 0;

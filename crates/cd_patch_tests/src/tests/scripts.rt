@@ -1,11 +1,11 @@
 //! Worked texts of scripts: the lines of their patches in order, their faults, and the texts of faults.
 
+use super::holds;
 use cd_script::ScriptFault::{
     Address, Head, Hex, Length, NoMemory, Number, Offset, TooMany, Verb, Words,
 };
 use cd_script::{MAX_PATCHES, MAX_TEXT, Patch, ScriptFault, parse};
 use std::alloc::{AllocError, Global};
-use std::process::Abort;
 
 /// A text, and the lines of its patches in their order, or its fault.
 type Read = (&'static str, Result<&'static [u32], ScriptFault>);
@@ -41,22 +41,22 @@ fn are_of(patches: &[Patch], lines: &[u32]) -> bool {
     patches.len() == lines.len() && patches.iter().zip(lines).all(each)
 }
 
-fn expect_read(rt: &impl Abort, alloc: Global, row: &Read) {
-    let (text, due) = *row;
-    assert!(rt; text.len() <= MAX_TEXT);
-    let read = parse(alloc, text.as_bytes());
-    let is_due = match (&read, due) {
+/// Whether a text is read so.
+fn is_read_so(alloc: Global, (text, due): &Read) -> bool {
+    if text.len() > MAX_TEXT {
+        return false;
+    }
+    match (&parse(alloc, text.as_bytes()), due) {
         (Ok(script), Ok(lines)) => are_of(script.patches(), lines),
-        (Err(came), Err(due)) => *came == due,
+        (Err(came), Err(due)) => came == due,
         _ => false,
-    };
-    assert!(rt; is_due, "{text}");
+    }
 }
 
 #[test]
 fn texts(rt: HostRuntime) {
-    for row in TEXTS {
-        expect_read(&rt, rt.alloc(), row);
+    for (row, read) in TEXTS.iter().enumerate() {
+        holds(&rt, is_read_so(rt.alloc(), read), row);
     }
 }
 
@@ -70,11 +70,11 @@ const MANY: &[(&str, Result<usize, ScriptFault>)] = &[
 #[test]
 fn as_many_patches_as_there_may_be(rt: HostRuntime) -> Result<(), AllocError> {
     let patches = "set 0 0 41\n".repeat(rt.alloc(), MAX_PATCHES)?;
-    for (rest, due) in MANY {
+    for (row, (rest, due)) in MANY.iter().enumerate() {
         let text = format!(in rt.alloc(); "cdpatch 1\n{patches}{rest}")?;
         assert!(rt; text.len() <= MAX_TEXT);
         let read = parse(rt.alloc(), text.as_bytes());
-        assert_eq!(rt; read.map(|script| script.patches().len()), *due, "{rest}");
+        holds(&rt, read.map(|script| script.patches().len()) == *due, row);
     }
     Ok(())
 }

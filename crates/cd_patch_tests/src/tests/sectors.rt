@@ -1,5 +1,6 @@
 //! Worked addresses, and what is wrong with worked sectors.
 
+use super::holds;
 use cd_sector::{
     DefectReport, SECTOR_SIZE, Sector, USER_SIZE, address_of, defect, encode, is_consistent,
 };
@@ -17,8 +18,8 @@ const ADDRESSES: &[(u32, Option<[u8; 3]>)] = &[
 
 #[test]
 fn addresses(rt: HostRuntime) {
-    for (block, address) in ADDRESSES {
-        assert_eq!(rt; address_of(*block), *address, "block {block}");
+    for (row, (block, address)) in ADDRESSES.iter().enumerate() {
+        holds(&rt, address_of(*block) == *address, row);
     }
 }
 

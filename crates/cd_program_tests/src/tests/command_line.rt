@@ -1,8 +1,8 @@
 //! The command line: what its arguments ask for, what refuses them, and help.
 
+use super::holds;
 use cd_args::{Job, LineFault, job_of, refusal_line};
 use std::alloc::{AllocError, Global};
-use std::process::Abort;
 
 /// The arguments of a line.
 pub fn args_of(alloc: Global, line: &str) -> Result<Vec<String>, AllocError> {
@@ -14,55 +14,60 @@ pub fn args_of(alloc: Global, line: &str) -> Result<Vec<String>, AllocError> {
 }
 
 /// What a job asks for: its command, its names, the base, and whether damage is carried.
-fn asked(alloc: Global, job: &Job) -> Result<String, AllocError> {
+type Asked<'a> = (&'a str, [&'a str; 3], u32, bool);
+
+fn asked(job: &Job) -> Asked<'_> {
     match job {
-        Job::List { image, base } => format!(in alloc; "list {image} {base}"),
-        Job::Audit { image, base } => format!(in alloc; "audit {image} {base}"),
+        Job::List { image, base } => ("list", [image, "", ""], *base, false),
+        Job::Audit { image, base } => ("audit", [image, "", ""], *base, false),
         Job::Check {
             image,
             script,
             base,
             carry,
-        } => format!(in alloc; "check {image} {script} {base} {carry}"),
+        } => ("check", [image, script, ""], *base, *carry),
         Job::Apply {
             image,
             script,
             out,
             base,
             carry,
-        } => format!(in alloc; "apply {image} {script} {out} {base} {carry}"),
+        } => ("apply", [image, script, out], *base, *carry),
     }
 }
 
-/// What a line asks for.
-fn asked_by(alloc: Global, line: &str) -> Result<String, AllocError> {
-    match &job_of(alloc, args_of(alloc, line)?) {
-        Ok(job) => asked(alloc, job),
-        Err(_) => String::from_str(alloc, "nothing"),
-    }
-}
-
-/// A line asks for this.
-pub fn expect_asked(rt: &impl Abort, came: &str, due: &str, line: &str) {
-    assert_eq!(rt; came, due, "{line}");
+/// Whether a line asks for this.
+fn asks(alloc: Global, line: &str, due: &Asked) -> Result<bool, AllocError> {
+    Ok(match &job_of(alloc, args_of(alloc, line)?) {
+        Ok(job) => asked(job) == *due,
+        Err(_) => false,
+    })
 }
 
 /// A line, and what it asks for.
-const JOBS: &[(&str, &str)] = &[
-    ("", "list - 0"),
-    ("list -- --base", "list --base 0"),
-    ("audit --base 16 a.img", "audit a.img 16"),
-    ("check a b --base 449849", "check a b 449849 false"),
-    ("check --carry a b", "check a b 0 true"),
-    ("apply a b c", "apply a b c 0 false"),
-    ("apply a --base=1 --carry b c", "apply a b c 1 true"),
+const JOBS: &[(&str, Asked)] = &[
+    ("", ("list", ["-", "", ""], 0, false)),
+    ("list -- --base", ("list", ["--base", "", ""], 0, false)),
+    (
+        "audit --base 16 a.img",
+        ("audit", ["a.img", "", ""], 16, false),
+    ),
+    (
+        "check a b --base 449849",
+        ("check", ["a", "b", ""], 449_849, false),
+    ),
+    ("check --carry a b", ("check", ["a", "b", ""], 0, true)),
+    ("apply a b c", ("apply", ["a", "b", "c"], 0, false)),
+    (
+        "apply a --base=1 --carry b c",
+        ("apply", ["a", "b", "c"], 1, true),
+    ),
 ];
 
 #[test]
 fn jobs(rt: HostRuntime) -> Result<(), AllocError> {
     for (line, job) in JOBS {
-        let came = asked_by(rt.alloc(), line)?;
-        expect_asked(&rt, came.as_str(), job, line);
+        holds(&rt, asks(rt.alloc(), line, job)?, line);
     }
     Ok(())
 }
@@ -104,7 +109,7 @@ fn tells(alloc: Global, line: &str, status: u8, part: &str) -> Result<bool, Allo
 #[test]
 fn texts_of_the_parser(rt: HostRuntime) -> Result<(), AllocError> {
     for (line, status, part) in PARSER_TEXTS {
-        assert!(rt; tells(rt.alloc(), line, *status, part)?, "{line}");
+        holds(&rt, tells(rt.alloc(), line, *status, part)?, line);
     }
     Ok(())
 }

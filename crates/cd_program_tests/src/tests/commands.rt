@@ -4,6 +4,7 @@ use super::messages::{
     APPLIED, APPLIED_READ_FAILED, APPLIED_WRITE_FAILED, COUNTED_WRITE_FAILED, LONG_IMAGE,
     READ_FAILED, WRITE_FAILED,
 };
+use super::{holds, holds_at};
 use cd_args::MAX_BASE;
 use cd_image::{FailAfter, SliceSink, SliceSource, ZeroSource};
 use cd_program::{run_apply, run_audit, run_check, run_list};
@@ -22,7 +23,7 @@ pub fn expect_ended(rt: &impl Abort, came: (u8, &[u8]), due: (u8, &str), passing
     let text = due.1.as_bytes();
     let count = usize::try_from(passing).unwrap_or(usize::MAX);
     let text = text.get(..count).unwrap_or(text);
-    assert!(rt; came.0 == due.0 && came.1 == text, "{}, {count}", due.1);
+    holds(rt, came.0 == due.0 && came.1 == text, due.1);
 }
 
 /// How many bytes `00` an image has, how many of them can be read and how many of a text written; the status, and the text.
@@ -166,11 +167,8 @@ fn expect_applied(rt: &impl Abort, parts: &Parts, row: &Patching) {
     let came = run_apply(&mut image, &parts.script, 0, false, &mut out, &mut log);
     expect_ended(rt, (came, log.get_ref().written()), (status, lines), logged);
     let out = out.get_ref().written();
-    assert!(rt; parts.patched.starts_with(out), "{lines}");
-    assert!(rt;
-        sent == ALL || out.len() as u64 == sent.min(7056),
-        "{lines}"
-    );
+    let is_all = sent == ALL || out.len() as u64 == sent.min(7056);
+    holds_at(rt, is_all && parts.patched.starts_with(out), sent);
 }
 
 /// Checks the script.

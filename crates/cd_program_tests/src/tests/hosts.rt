@@ -2,8 +2,9 @@
 
 ghost use Rattle.cd_program.specs.Hosting.{any_answers};
 
-use super::command_line::{args_of, expect_asked};
+use super::command_line::args_of;
 use super::commands::{ALL, expect_ended};
+use super::holds;
 use super::messages::{APPLIED, COUNTED_WRITE_FAILED, NO_IMAGE, NO_MEMORY, NO_OUTPUT, NO_SCRIPT};
 use super::streams::Unflushed;
 use cd_image::{SliceSink, SliceSource, ToWrite};
@@ -119,6 +120,11 @@ const ASKED: &[Asking] = &[
         NO_MEMORY,
     ),
 ];
+
+/// The host is asked for this by a line.
+fn expect_asked(rt: &impl Abort, came: &str, due: &str, line: &str) {
+    holds(rt, came == due, line);
+}
 
 /// Gives the arguments of a row to the program, on a host that has this image.
 fn expect_row(

@@ -2,10 +2,11 @@
 
 use super::commands::ALL;
 use super::messages::{LONG_SCRIPT, NO_SCRIPT};
+use super::{holds, holds_at};
 use cd_image::{FailAfter, FromRead, Short, Sink, SliceSink, SliceSource, Source, ZeroSource};
 use cd_program::{load_script, read_script};
 use cd_script::MAX_TEXT;
-use cd_test_images::Resuming;
+use cd_test_images::{Resuming, repeated};
 use std::alloc::{AllocError, Global};
 use std::process::Abort;
 
@@ -16,8 +17,8 @@ fn expect_line(rt: &impl Abort, alloc: Global, text: &[u8], line: &str) {
     let mut log = SliceSink::new(&mut space);
     let status = read_script(alloc, text, &mut log).err();
     let due = if line.is_empty() { None } else { Some(2) };
-    let is_due = (status, log.finished()) == (due, due.is_some());
-    assert!(rt; is_due && log.written() == line.as_bytes(), "{line}");
+    let is_due = status == due && log.finished() == due.is_some();
+    holds(rt, is_due && log.written() == line.as_bytes(), line);
 }
 
 /// A text, and its line.
@@ -76,7 +77,7 @@ fn texts_have_their_lines(rt: HostRuntime) {
 }
 
 /// A text, a number of copies of a part after it, and the line of both.
-const LONG: &[(&str, &str, usize, &str)] = &[
+const LONG: &[(&str, &str, u32, &str)] = &[
     ("cdpatch 1\nset 0 0 ", "0", 8192, ""),
     ("cdpatch 1\nset 0 0 ", "0", 8193, "script line 2: bad hex\n"),
     (
@@ -103,8 +104,7 @@ const LONG: &[(&str, &str, usize, &str)] = &[
 #[test]
 fn long_texts_have_their_lines(rt: HostRuntime) -> Result<(), AllocError> {
     for (front, part, count, line) in LONG {
-        let parts = part.repeat(rt.alloc(), *count)?;
-        let text = format!(in rt.alloc(); "{front}{parts}")?;
+        let text = repeated(rt.alloc(), front, part, *count, "")?;
         expect_line(&rt, rt.alloc(), text.as_bytes(), line);
     }
     Ok(())
@@ -136,11 +136,8 @@ fn a_log_that_fails(rt: HostRuntime) {
         let mut space = [0; 64];
         let mut log = FailAfter::new(SliceSink::new(&mut space), count as u64);
         let status = read_script(rt.alloc(), b"cdpatch 1\nset 0 0 4\n", &mut log).err();
-        let is_due = status == Some(2) && log.failures() == 1;
-        assert!(rt;
-            is_due && log.get_ref().written() == &LINE[..count],
-            "{count}"
-        );
+        let is_due = log.failures() == 1 && log.get_ref().written() == &LINE[..count];
+        holds_at(&rt, is_due && status == Some(2), count as u64);
     }
 }
 
@@ -153,10 +150,8 @@ fn files_are_read(rt: HostRuntime) {
         let mut log = SliceSink::new(&mut space);
         let mut file = Short::new(SliceSource::new(TEXT), *most);
         let loaded = load_script(rt.alloc(), &mut file, &mut log).ok();
-        assert!(rt;
-            loaded.as_deref() == Some(TEXT) && log.written().is_empty(),
-            "{most}"
-        );
+        let is_text = loaded.as_deref() == Some(TEXT);
+        holds_at(&rt, is_text && log.written().is_empty(), *most as u64);
     }
 }
 
@@ -170,9 +165,9 @@ const FILES: &[File] = &[
     (30_000, 30_000, Err(2), NO_SCRIPT),
 ];
 
-/// These bytes are a text.
-fn expect_text(rt: &impl Abort, came: &[u8], due: &str) {
-    assert!(rt; came == due.as_bytes(), "{due}");
+/// Whether bytes are those of a text.
+fn is_text(came: &[u8], due: &str) -> bool {
+    came == due.as_bytes()
 }
 
 fn expect_file(rt: &impl Abort, alloc: Global, row: &File) {
@@ -181,9 +176,8 @@ fn expect_file(rt: &impl Abort, alloc: Global, row: &File) {
     let mut log = SliceSink::new(&mut space);
     let mut file = FailAfter::new(ZeroSource::new(size), read);
     let loaded = load_script(alloc, &mut file, &mut log).map(|text| text.len());
-    let is_finished = log.finished() == due.is_err();
-    assert!(rt; loaded == due && is_finished, "{size}, {read}");
-    expect_text(rt, log.written(), line);
+    let is_due = loaded == due && log.finished() == due.is_err();
+    holds_at(rt, is_due && is_text(log.written(), line), size);
 }
 
 #[test]
@@ -222,7 +216,7 @@ fn a_file_that_goes_on_after_its_end(rt: HostRuntime) {
         let mut log = SliceSink::new(&mut space);
         let mut file = FromRead::new(Resuming::new(count));
         let read = load_script(rt.alloc(), &mut file, &mut log).map(|text| text.len());
-        assert_eq!(rt; (read, file.failures()), (Ok(count), 0));
-        assert!(rt; log.written().is_empty());
+        let is_read = read == Ok(count) && file.failures() == 0;
+        holds_at(&rt, is_read && log.written().is_empty(), count as u64);
     }
 }

@@ -1,5 +1,6 @@
 //! Listings and audits of readers of std, and to writers of std, that fail.
 
+use super::holds;
 use super::messages::READ_FAILED;
 use cd_image::{FailAfter, FromRead, SliceSink, ToWrite, ZeroSource};
 use cd_program::{run_audit, run_list};
@@ -29,7 +30,7 @@ fn a_failed_flush(rt: HostRuntime) {
     let mut out = ToWrite::new(Unflushed);
     let mut image = FailAfter::new(ZeroSource::new(2352), 5);
     let unread = run_audit(&mut image, 0, &mut out);
-    assert_eq!(rt; [listed, audited, unread], [2, 2, 2]);
+    assert!(rt; [listed, audited, unread] == [2, 2, 2]);
 }
 
 /// A reader that has nothing, or fails.
@@ -52,10 +53,8 @@ fn expect_listed(rt: &impl Abort, fails: bool, status: u8, text: &str) {
     let mut space = [0; 64];
     let mut out = SliceSink::new(&mut space);
     let came = run_list(&mut FromRead::new(Nothing { fails }), 0, &mut out);
-    assert!(rt;
-        came == status && out.written() == text.as_bytes(),
-        "{text}"
-    );
+    let is_due = came == status && out.written() == text.as_bytes();
+    holds(rt, is_due, text);
 }
 
 #[test]

@@ -2,6 +2,7 @@
 
 use super::steps::Step::{self, Flush, Write as Put};
 use super::steps::{Writer, all_answer};
+use crate::tests::holds;
 use cd_stream::{Buffered, ToWrite};
 use std::alloc::{AllocError, Global};
 use std::io::ErrorKind;
@@ -78,8 +79,8 @@ fn goes_out_so(alloc: Global, row: &Held) -> Result<bool, AllocError> {
 
 #[test]
 fn when_bytes_go_below(rt: HostRuntime) -> Result<(), AllocError> {
-    for row in HELD {
-        assert!(rt; goes_out_so(rt.alloc(), row)?, "space {}", row.0);
+    for (row, held) in HELD.iter().enumerate() {
+        holds(&rt, goes_out_so(rt.alloc(), held)?, row);
     }
     Ok(())
 }

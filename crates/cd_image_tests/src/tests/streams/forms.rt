@@ -2,9 +2,10 @@
 
 ghost use Rattle.std.specs.Prelude.{◌≡◌, ◌≤◌, ◌++◌, [], ◌∷◌, drop, length};
 
+use super::steps::Step::{self, Flush, Write as Put};
+use super::steps::all_answer;
 use cd_stream::{
-    FailAfter, Short, Sink, SinkFailed, SliceSink, SliceSource, Source, SourceFailed, ZeroSource,
-    fill_buffer, write_all,
+    FailAfter, Short, Sink, SliceSink, SliceSource, Source, SourceFailed, ZeroSource, fill_buffer,
 };
 
 #[test]
@@ -26,24 +27,36 @@ fn a_source_that_ends(rt: HostRuntime) {
     assert!(rt; fill_buffer(&mut source, &mut into) == Ok(0) && source.failures() == 0);
 }
 
+/// Calls of a sink that passes two bytes a call and five in all, and of one over three bytes of memory.
+const SHORT: &[Step] = &[
+    Put(b"abcd", Some(2)),
+    Put(b"cd", Some(2)),
+    Flush(Some(())),
+    Put(b"efg", Some(1)),
+    Put(b"fg", None),
+    Flush(None),
+];
+
+const FULL: &[Step] = &[
+    Put(b"abcd", Some(1)),
+    Put(b"bcd", Some(1)),
+    Put(b"cd", Some(1)),
+    Put(b"d", None),
+    Flush(Some(())),
+];
+
 #[test]
 fn a_sink_that_fails_after_short_writes(rt: HostRuntime) {
     let mut space = [0; 8];
     let mut sink = Short::new(FailAfter::new(SliceSink::new(&mut space), 5), 2);
-    assert!(rt; write_all(&mut sink, b"abcd").is_ok());
-    assert!(rt; sink.finish().is_ok() && sink.finished());
-    assert!(rt; write_all(&mut sink, b"efg").is_err() && !sink.finished());
-    assert!(rt; sink.finish().is_err() && sink.failures() == 2);
-    assert_eq!(rt; space, *b"abcde\0\0\0");
+    assert!(rt; all_answer(&mut sink, SHORT) && space == *b"abcde\0\0\0");
 }
 
 #[test]
 fn a_sink_that_is_full(rt: HostRuntime) {
     let mut space = [0; 3];
     let mut sink = FailAfter::new(Short::new(SliceSink::new(&mut space), 0), 100);
-    assert!(rt; write_all(&mut sink, b"abcd").is_err() && sink.failures() == 1);
-    assert!(rt; sink.finish().is_ok() && sink.finished());
-    assert_eq!(rt; space, *b"abc");
+    assert!(rt; all_answer(&mut sink, FULL) && space == *b"abc");
 }
 
 /// Writes two bytes by a sink over a slice: a caller knows all of the slice afterwards.
@@ -61,13 +74,4 @@ fn what_stands_after_the_written_bytes_stays(rt: HostRuntime) {
     let mut space = [9; 4];
     put_two(&mut space);
     assert_eq!(rt; space, [1, 2, 9, 9]);
-}
-
-#[test]
-fn what_a_full_slice_holds(rt: HostRuntime) {
-    let mut space = [9; 4];
-    let mut sink = SliceSink::new(&mut space);
-    assert!(rt; sink.written().is_empty());
-    assert!(rt; write_all(&mut sink, b"abc").is_ok() && sink.written() == b"abc".as_slice());
-    assert!(rt; write_all(&mut sink, b"de").is_err() && sink.written() == b"abcd".as_slice());
 }

@@ -3,6 +3,7 @@
 
 use super::steps::Step::{self, Flush, Write as Put};
 use super::steps::{Writer, all_answer};
+use crate::tests::holds;
 use cd_stream::{FromRead, Source, SourceFailed, ToWrite};
 use std::io::{self, ErrorKind, Read};
 
@@ -82,8 +83,8 @@ fn all_give(kind: ErrorKind, size: usize, reads: &'static [Option<usize>]) -> bo
 #[test]
 fn a_read_is_one_read(rt: HostRuntime) {
     for kind in KINDS {
-        for (size, reads) in READS {
-            assert!(rt; all_give(*kind, *size, reads), "{kind:?} {reads:?}");
+        for (row, (size, reads)) in READS.iter().enumerate() {
+            holds(&rt, all_give(*kind, *size, reads), row);
         }
     }
 }
@@ -127,7 +128,7 @@ fn are_made_once(kind: ErrorKind, steps: &'static [Step]) -> bool {
 fn a_write_is_one_write_and_a_finish_one_flush(rt: HostRuntime) {
     for kind in KINDS {
         for (row, steps) in CALLS.iter().enumerate() {
-            assert!(rt; are_made_once(*kind, steps), "{kind:?} {row}");
+            holds(&rt, are_made_once(*kind, steps), row);
         }
     }
 }

@@ -1,4 +1,4 @@
-//! The examples of the rustdoc of cd_args, cd_program, cd_memory and cd_rooms.
+//! The examples of cd_args, cd_program, cd_memory and cd_rooms.
 
 use cd_args::{Job, LineFault, NO_MEMORY, job_of, refusal_line};
 use cd_image::{FailAfter, Sink, SliceSink, SliceSource, ToWrite, ZeroSource};

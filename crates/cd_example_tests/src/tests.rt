@@ -1,0 +1,5 @@
+//! Each example, line by line.
+
+mod commands;
+mod images;
+mod streams;

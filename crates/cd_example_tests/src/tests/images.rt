@@ -1,0 +1,74 @@
+//! The examples of cd_read, cd_report and cd_image.
+
+use cd_image::{Outcome, apply, audit, check, counts_line, list, outcome_line};
+use cd_read::read_sector;
+use cd_report::has_other_address;
+use cd_script::parse;
+use cd_sector::{SECTOR_SIZE, Sector, USER_SIZE, encode};
+use cd_stream::{SliceSink, SliceSource, ToWrite, ZeroSource};
+use std::io;
+use std::test::Fail;
+
+#[test]
+fn a_sector_and_a_tail(rt: HostRuntime) {
+    let mut image = ZeroSource::new(2352 + 3);
+    let mut sector = Sector::default();
+    assert_eq!(rt; read_sector(&mut image, 0, &mut sector), Ok(None)); // a whole one
+    assert_eq!(rt; read_sector(&mut image, 1, &mut sector), Ok(Some(3))); // the tail
+}
+
+#[test]
+fn a_listing(rt: HostRuntime) -> Result<(), Fail> {
+    let mut space = [0; 64];
+    let mut out = SliceSink::new(&mut space);
+    let tally = list(&mut ZeroSource::new(2352 + 3), 0, &mut out)?; // a sector, and a tail
+    assert_eq!(rt; (tally.sectors, tally.tail), (1, 3));
+    assert_eq!(rt; out.written(), b"0-0 nosync\nsectors 1 tail 3\n".as_slice());
+    Ok(())
+}
+
+#[test]
+fn an_audit(rt: HostRuntime) -> Result<(), Fail> {
+    let sector = encode([0x00, 0x02, 0x00], &[0x00; USER_SIZE]); // its address is that of block 0
+    let mut space = [0; 64];
+    let mut out = SliceSink::new(&mut space);
+    audit(&mut SliceSource::new(sector.bytes()), 16, &mut out)?; // as block 16
+    assert!(rt; out.written().starts_with(b"16 address\n"));
+    Ok(())
+}
+
+#[test]
+fn an_address_of_another_block(rt: HostRuntime) {
+    let sector = encode([0x00, 0x02, 0x16], &[0x00; USER_SIZE]); // its address is that of block 16
+    assert!(rt; !has_other_address(&sector, 16));
+    assert!(rt; has_other_address(&sector, 17));
+}
+
+#[test]
+fn an_apply(rt: HostRuntime) -> Result<(), Fail> {
+    let script = parse(rt.alloc(), b"cdpatch 1\nset 0 0 41\n")?;
+    let sector = encode([0x00, 0x02, 0x00], &[0x00; USER_SIZE]); // block 0
+    let (mut image, mut space) = (SliceSource::new(sector.bytes()), [0; SECTOR_SIZE]);
+    let (mut out, mut log) = (SliceSink::new(&mut space), ToWrite::new(io::sink()));
+    apply(&mut image, &script, 0, false, &mut out, &mut log)?;
+    assert_eq!(rt; out.written().get(16), Some(&0x41)); // the first user byte
+    Ok(())
+}
+
+#[test]
+fn a_check(rt: HostRuntime) -> Result<(), Fail> {
+    let script = parse(rt.alloc(), b"cdpatch 1\nset 0 0 41\n")?;
+    let mut space = [0; 64];
+    let mut log = SliceSink::new(&mut space);
+    check(&mut ZeroSource::new(0), &script, 0, false, &mut log)?; // no sector
+    assert!(rt; log.written().starts_with(b"line 2: refused: no block 0\n"));
+    Ok(())
+}
+
+#[test]
+fn lines_of_a_log(rt: HostRuntime) {
+    let line = outcome_line(3, Outcome::Applied);
+    assert_eq!(rt; line.as_slice(), b"line 3: applied\n".as_slice());
+    let last = counts_line(0, 1);
+    assert_eq!(rt; last.as_slice(), b"applied 0 refused 1\n".as_slice());
+}
