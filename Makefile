@@ -1,6 +1,6 @@
 # `make` proves and builds the program and libcdpatch and leaves them as ./cdpatch and in ./library, with `CPU=x86-64-v3` for that
 # processor, and with `SIMPLE=1` by the toolchain's own means; if wasm-opt is there it makes the WebAssembly modules too, as `make
-# wasm` does by itself, and of them ./cdscript and ./cdpatch.html, as `make web` does. It says at its end what it made. `make check`
+# wasm` does by itself, and with esbuild of them ./cdscript and ./cdpatch.html, as `make web` does. It says at its end what it made. `make check`
 # runs all tests of what it left and of the pages, and skips what wants a command that is not there, which `WHOLE=1` makes a
 # failure; with `WRONG_VERSIONS=1` it also tries wrong versions of all that, which show that the tests refuse them, as the gate does;
 # `make quick` is both; `make test` runs the merge gate; `make bench` builds what measures speed, in bench/; `make install`
@@ -18,8 +18,9 @@ distdir = .
 
 all: cdpatch
 
-# The WebAssembly modules, if they can be made.
+# The WebAssembly modules, if they can be made, and the page and cdscript, if these and esbuild are there.
 MODULES = $(if $(shell command -v wasm-opt),wasm)
+DOORS = $(if $(MODULES),$(if $(shell command -v esbuild),web))
 
 include install.mk
 
@@ -41,8 +42,8 @@ else
 endif
 	cp crates/cdpatch/out/cdpatch cdpatch
 	bash tools/library.sh library
-	@$(if $(MODULES),bash tools/web.sh library .)
-	@bash tools/made.sh $(MODULES)
+	@$(if $(DOORS),bash tools/web.sh library .)
+	@bash tools/made.sh $(MODULES) $(DOORS)
 
 FORCE:
 
@@ -51,6 +52,7 @@ wasm:
 	@python3 tools/prove.py wasm '$(AT_ONCE)'
 
 web: wasm
+	@[ -n '$(DOORS)' ] || { echo "cdscript and cdpatch.html want esbuild (Debian's package esbuild)." >&2; exit 1; }
 	bash tools/notices.sh library/NOTICES
 	bash tools/web.sh library .
 
@@ -79,6 +81,19 @@ dist:
 	@test -f '$(LIBRARY)/libcdpatch.a' || { echo 'There is no $(LIBRARY) to pack: run make first.' >&2; exit 1; }
 	@bash tools/dist.sh '$(PROGRAM)' '$(LIBRARY)' '$(JOINED)' '$(distdir)'
 
+# The same, of what is fit to be released: a commit, of its version, made by the tools that docs/TRUST.md names, and with what only the
+# owner can fill in (tools/owner.txt). `make release SIGN=KEY` signs what it makes with a key of ssh.
+.PHONY: release fit
+SIGN =
+RELEASED = $(addprefix $(distdir)/,cdpatch-$(VERSION)-x86_64-linux.tar.gz cdpatch.html cdscript.js)
+
+release: fit dist
+	@$(if $(SIGN),bash tools/sign.sh '$(SIGN)' $(RELEASED:%='%'),echo 'Nothing was signed: SIGN=KEY signs it.' >&2)
+
+fit:
+	@bash tools/fit.sh '$(PROGRAM)' '$(LIBRARY)' '$(JOINED)' '$(VERSION)'
+
 clean:
 	rm -rf cdpatch cdscript cdpatch.html library bench/cd_bench crates/*/out
 	rm -f cdpatch-*.tar.gz cdscript.js cdpatch-*.tar.gz.sha256 cdscript.js.sha256 cdpatch.html.sha256
+	rm -f cdpatch-*.tar.gz.sig cdscript.js.sig cdpatch.html.sig

@@ -1,7 +1,8 @@
-# `make install` installs the program, the library, cdscript and cdpatch.html if they were made, the Python package, the man pages,
-# the completions, the pages for users and the examples, and `make uninstall` removes the files that it installed. In a release's
-# tarball this file is the Makefile.
-.PHONY: install install-joined uninstall
+# `make install` installs the program, the library, its WebAssembly modules, cdscript and cdpatch.html if they were made, the Python
+# package, the man pages, the completions, the pages for users and the examples. `make uninstall` removes the files that it installed, and
+# the directories that are empty then, but the first ones below the prefix. What is made here is made in a directory of its own, since a
+# redirection would follow a link. In a release's tarball this file is the Makefile.
+.PHONY: install install-joined install-modules uninstall
 
 PROGRAM = cdpatch
 LIBRARY = library
@@ -31,8 +32,11 @@ docdir = $(datarootdir)/doc/cdpatch
 pagedir = $(datarootdir)/cdpatch
 pythondir = $(datarootdir)/cdpatch/python
 # The pages for users, and the examples; the other pages are for those who change the sources.
-PAGES = CHANGELOG.md $(addprefix docs/,SCRIPTS.md TRANSLATE.md REPAIR.md TRUST.md parts.svg sector.svg apply.svg page.png) \
+PAGES = CHANGELOG.md $(addprefix docs/,SCRIPTS.md TRANSLATE.md REPAIR.md MODULES.md TRUST.md parts.svg sector.svg apply.svg page.png) \
     $(addprefix examples/,audit.c patch_pipe.c damaged.rs)
+# The calls of the library, each of which has the man page by its name too.
+CALLS = $(shell sed -n '/^\.Sh SYNOPSIS/,/^\.Sh DESCRIPTION/s/^\.Fn \([a-z0-9_]*\) .*/\1/p' man/libcdpatch.3)
+WASM = cdpatch.wasm cdpatch-wasm64.wasm
 PYTHON = $(patsubst python/%,%,$(wildcard python/*.toml python/*.py python/cdpatch/*.py python/cdpatch/py.typed))
 
 INSTALL = install
@@ -52,25 +56,28 @@ install:
 	$(INSTALL_DATA) completions/_cdpatch '$(DESTDIR)$(zshcompdir)/_cdpatch'
 	$(INSTALL_DATA) completions/cdpatch.fish '$(DESTDIR)$(fishcompdir)/cdpatch.fish'
 	@test ! -f '$(JOINED)/cdscript' || $(MAKE) install-joined
+	@test ! -f '$(LIBRARY)/cdpatch.wasm' || $(MAKE) install-modules
 	$(INSTALL_DATA) man/libcdpatch.3 '$(DESTDIR)$(man3dir)/libcdpatch.3'
+	for call in $(CALLS); do ln -sf libcdpatch.3 '$(DESTDIR)$(man3dir)'/$$call.3 || exit; done
 	$(INSTALL_DATA) include/cdpatch.h '$(DESTDIR)$(includedir)/cdpatch.h'
 	$(INSTALL_DATA) '$(LIBRARY)/libcdpatch.a' '$(LIBRARY)/libcdpatch.so.1' '$(DESTDIR)$(libdir)'
 	ln -sf libcdpatch.so.1 '$(DESTDIR)$(libdir)/libcdpatch.so'
 	$(INSTALL_DATA) '$(LIBRARY)/x86-64-v3/libcdpatch.so.1' '$(DESTDIR)$(fastdir)/libcdpatch.so.1'
+	room=$$(mktemp -d) && trap 'rm -rf "$$room"' EXIT && \
 	sed -e 's|@prefix@|$(prefix)|' -e 's|@libdir@|$(libdir)|' -e 's|@includedir@|$(includedir)|' -e 's|@version@|$(VERSION)|' \
-	    -e '/^prefix=/!s|=$(prefix)/|=$${prefix}/|' include/cdpatch.pc.in > '$(DESTDIR)$(pkgconfigdir)/cdpatch.pc'
+	    -e '/^prefix=/!s|=$(prefix)/|=$${prefix}/|' include/cdpatch.pc.in > "$$room/cdpatch.pc" && \
 	sed -e "s|@libraries@|$$(realpath -ms --relative-to='$(cmakedir)' '$(libdir)')|" \
 	    -e "s|@includes@|$$(realpath -ms --relative-to='$(cmakedir)' '$(includedir)')|" \
-	    include/cdpatch-config.cmake.in > '$(DESTDIR)$(cmakedir)/cdpatch-config.cmake'
-	sed 's|@version@|$(VERSION)|' include/cdpatch-config-version.cmake.in > '$(DESTDIR)$(cmakedir)/cdpatch-config-version.cmake'
-	chmod 644 '$(DESTDIR)$(pkgconfigdir)/cdpatch.pc' '$(DESTDIR)$(cmakedir)/cdpatch-config.cmake' \
-	    '$(DESTDIR)$(cmakedir)/cdpatch-config-version.cmake'
+	    include/cdpatch-config.cmake.in > "$$room/cdpatch-config.cmake" && \
+	sed 's|@version@|$(VERSION)|' include/cdpatch-config-version.cmake.in > "$$room/cdpatch-config-version.cmake" && \
+	sed '/^<!-- sources -->$$/,/^<!-- end of sources -->$$/d' docs/INSTALL.md > "$$room/INSTALL.md" && \
+	$(INSTALL_DATA) "$$room/cdpatch.pc" '$(DESTDIR)$(pkgconfigdir)/cdpatch.pc' && \
+	$(INSTALL_DATA) "$$room/cdpatch-config.cmake" "$$room/cdpatch-config-version.cmake" '$(DESTDIR)$(cmakedir)' && \
+	$(INSTALL_DATA) "$$room/INSTALL.md" '$(DESTDIR)$(docdir)/docs/INSTALL.md'
 	for file in $(PYTHON); do $(INSTALL_DATA) python/$$file '$(DESTDIR)$(pythondir)'/$$file || exit; done
 	$(INSTALL_DATA) '$(LIBRARY)/NOTICES' '$(DESTDIR)$(docdir)/NOTICES'
 	for page in $(PAGES); do $(INSTALL_DATA) $$page '$(DESTDIR)$(docdir)'/$$page || exit; done
 	$(INSTALL_DATA) '$(README)' '$(DESTDIR)$(docdir)/README.md'
-	sed '/^<!-- sources -->$$/,/^<!-- end of sources -->$$/d' docs/INSTALL.md > '$(DESTDIR)$(docdir)/docs/INSTALL.md'
-	chmod 644 '$(DESTDIR)$(docdir)/docs/INSTALL.md'
 
 install-joined:
 	$(INSTALL_PROGRAM) '$(JOINED)/cdscript' '$(DESTDIR)$(bindir)/cdscript'
@@ -80,14 +87,24 @@ install-joined:
 	$(INSTALL_DATA) completions/_cdscript '$(DESTDIR)$(zshcompdir)/_cdscript'
 	$(INSTALL_DATA) completions/cdscript.fish '$(DESTDIR)$(fishcompdir)/cdscript.fish'
 
+install-modules:
+	for module in $(WASM); do $(INSTALL_DATA) '$(LIBRARY)'/$$module '$(DESTDIR)$(pagedir)'/$$module || exit; done
+
 uninstall:
 	rm -f '$(DESTDIR)$(bindir)/cdpatch' '$(DESTDIR)$(man1dir)/cdpatch.1' '$(DESTDIR)$(bashcompdir)/cdpatch' \
 	    '$(DESTDIR)$(zshcompdir)/_cdpatch' '$(DESTDIR)$(fishcompdir)/cdpatch.fish' '$(DESTDIR)$(man3dir)/libcdpatch.3' \
 	    '$(DESTDIR)$(includedir)/cdpatch.h' '$(DESTDIR)$(libdir)/libcdpatch.a' '$(DESTDIR)$(libdir)/libcdpatch.so' \
 	    '$(DESTDIR)$(libdir)/libcdpatch.so.1' '$(DESTDIR)$(fastdir)/libcdpatch.so.1' '$(DESTDIR)$(pkgconfigdir)/cdpatch.pc' \
 	    '$(DESTDIR)$(cmakedir)/cdpatch-config.cmake' '$(DESTDIR)$(cmakedir)/cdpatch-config-version.cmake'
+	for call in $(CALLS); do rm -f '$(DESTDIR)$(man3dir)'/$$call.3; done
+	for module in $(WASM); do rm -f '$(DESTDIR)$(pagedir)'/$$module; done
 	for page in NOTICES README.md docs/INSTALL.md $(PAGES); do rm -f '$(DESTDIR)$(docdir)'/$$page; done
 	for file in $(PYTHON); do rm -f '$(DESTDIR)$(pythondir)'/$$file; done
 	rm -rf '$(DESTDIR)$(pythondir)/cdpatch/__pycache__'
 	rm -f '$(DESTDIR)$(bindir)/cdscript' '$(DESTDIR)$(pagedir)/cdpatch.html' '$(DESTDIR)$(man1dir)/cdscript.1' \
 	    '$(DESTDIR)$(bashcompdir)/cdscript' '$(DESTDIR)$(zshcompdir)/_cdscript' '$(DESTDIR)$(fishcompdir)/cdscript.fish'
+	for directory in '$(docdir)/docs' '$(docdir)/examples' '$(docdir)' '$(docdir)/..' '$(pythondir)/cdpatch' '$(pythondir)' '$(pagedir)' \
+	    '$(cmakedir)' '$(cmakedir)/..' '$(fastdir)' '$(fastdir)/..' '$(pkgconfigdir)' '$(man1dir)' '$(man3dir)' '$(mandir)' \
+	    '$(bashcompdir)' '$(bashcompdir)/..' '$(zshcompdir)' '$(zshcompdir)/..' '$(fishcompdir)' '$(fishcompdir)/..'; do \
+	    rmdir "$$(realpath -m '$(DESTDIR)'"$$directory")" 2> /dev/null || true; \
+	done

@@ -2,10 +2,12 @@
 
 # Answers the file names that begin with the word. Before `--` a name that begins with `-` would be an option.
 _cdpatch_files() {
-    local hidden='-*'
-    [[ $is_closed || $in_redirection ]] && hidden=''
+    local name
     compopt -o filenames 2> /dev/null
-    mapfile -t COMPREPLY < <(compgen "$@" -X "$hidden" -- "$word")
+    # A name with a line feed would be two.
+    while IFS= read -r name; do
+        [[ $name = -* && ! ( $is_closed || $in_redirection ) ]] || COMPREPLY+=("$name")
+    done < <(compgen "$@" -X $'*\n*' -- "$word")
 }
 
 _cdpatch() {

@@ -3,16 +3,18 @@
 # The options of a job.
 _cdscript_options() {
     case $1 in
-        info) echo '--base --track' ;;
+        info | merge) echo '--dat --base --track' ;;
+        scan) echo '--dat --resume -o' ;;
         list | audit) echo '--track --base' ;;
         check | apply) echo '--track --base --carry --long' ;;
         files | rebuilds) echo '--track --base -o' ;;
         find) echo '--encoding --table --limit --track --base -o' ;;
+        texts) echo '--encoding --in --min --csv --track --base -o' ;;
         show) echo '--encoding --table --track --base -o' ;;
-        extract | merge | user) echo '--track --base' ;;
-        replace) echo '--encoding --table --fill --all --track --base -o' ;;
+        extract | user) echo '--track --base' ;;
+        replace) echo '--encoding --table --fill --all --inside --list --partial --track --base -o' ;;
         replace-file) echo '--fill --track --base -o' ;;
-        diff) echo '--skip-damaged --fields --track --base -o' ;;
+        diff) echo '--skip-damaged --partial --fields --track --base -o' ;;
         undo) echo '--base --track --carry --long -o' ;;
         raw) echo '--first' ;;
     esac
@@ -22,10 +24,12 @@ _cdscript_options() {
 
 # The file names that begin with the word. Before `--` a name that begins with `-` would be an option.
 _cdscript_files() {
-    local hidden='-*'
-    [[ ! $is_closed ]] || hidden=''
+    local name
     compopt -o filenames 2> /dev/null
-    mapfile -t COMPREPLY < <(compgen "$@" -X "$hidden" -- "$word")
+    # A name with a line feed would be two.
+    while IFS= read -r name; do
+        [[ $name = -* && ! $is_closed ]] || COMPREPLY+=("$name")
+    done < <(compgen "$@" -X $'*\n*' -- "$word")
 }
 
 _cdscript() {
@@ -40,14 +44,14 @@ _cdscript() {
         else
             case $before in
                 --) is_closed=1 ;;
-                --base | --track | --limit | --first | --fill | --encoding | --table | -o) valued=$before ;;
+                --base | --track | --limit | --first | --fill | --encoding | --table | --list | --in | --min | --dat | --resume | -o) valued=$before ;;
             esac
         fi
     done
     case $valued in
         '') ;;
-        --encoding) mapfile -t COMPREPLY < <(compgen -W 'hex CP932 EUC-JP UTF-8 UTF-16LE UTF-16BE' -- "$word") ;;
-        --table) _cdscript_files -f ;;
+        --encoding) mapfile -t COMPREPLY < <(compgen -W 'hex CP932 EUC-JP UTF-8 UTF-16LE UTF-16BE Big5 GBK EUC-KR' -- "$word") ;;
+        --table | --list | --dat | --resume) _cdscript_files -f ;;
         -o) _cdscript_files -d ;;
     esac
     [[ ! $valued ]] || return 0
@@ -58,10 +62,10 @@ _cdscript() {
     fi
     case $job:$names in
         :0)
-            mapfile -t COMPREPLY < <(compgen -W 'info list audit check apply files find show extract replace replace-file diff merge
-                rebuilds undo raw user' -- "$word")
+            mapfile -t COMPREPLY < <(compgen -W 'info scan list audit check apply files find texts show extract replace replace-file
+                diff merge rebuilds undo raw user' -- "$word")
             ;;
-        merge:* | *:0 | check:1 | apply:1 | diff:1 | undo:1 | replace-file:2) _cdscript_files -f ;;
+        merge:* | scan:* | *:0 | check:1 | apply:1 | diff:1 | undo:1 | replace-file:2) _cdscript_files -f ;;
         apply:2 | extract:2 | raw:1 | user:1) _cdscript_files -d ;;
     esac
 }

@@ -14,12 +14,13 @@ struct script { uint8_t *text; size_t size; struct patch_line *lines; size_t cou
 /* A patch and its bytes. */
 struct patch_room { struct cdpatch_patch patch; uint8_t new_bytes[CDPATCH_PATCH_SIZE], old_bytes[CDPATCH_PATCH_SIZE]; };
 
-/* The sectors in hand, from `block` on, and how many were read in all. */
+/* The sectors in hand, from `block` on, how many were read in all, and whether a byte came after the most that an image has. */
 struct hand { uint8_t sectors[SECTORS_IN_HAND][CDPATCH_SECTOR_SIZE], tail[CDPATCH_SECTOR_SIZE];
-              size_t count, tail_size, read; uint32_t block; bool ended; };
+              size_t count, tail_size, read; uint32_t block; bool ended, too_long; };
 
+/* Ends the program with a line as cdpatch has them. */
 static void fail(const char *why) {
-    fprintf(stderr, "patch_pipe: %s\n", why);
+    fprintf(stderr, "cdpatch: %s\n", why);
     exit(CDPATCH_FAILED);
 }
 
@@ -32,7 +33,7 @@ static void *more(void *memory, size_t size) {
 
 static void print(const uint8_t *text, size_t size) {
     if (fwrite(text, 1, size, stderr) != size)
-        fail("cannot write the log");
+        exit(CDPATCH_FAILED);
 }
 
 static struct script read_text(const char *name) {
@@ -76,7 +77,7 @@ static void read_lines(struct script *script) {
             cdpatch_read_line(version, ++number, script->count, text, line.size, &room.patch, room.new_bytes, room.old_bytes);
         if (content == CDPATCH_PATCH)
             keep(script, (struct patch_line){text, line.size, number, version, room.patch.block});
-        else if (content >= CDPATCH_NO_HEAD)
+        else if (content >= CDPATCH_NO_HEAD && content <= CDPATCH_NO_VERSION)
             invalid(number, content);
         else if (content != CDPATCH_NOTHING)
             version = content;
@@ -93,7 +94,7 @@ static int compare(const void *left, const void *right) {
 
 static void pass(const uint8_t *bytes, size_t size) {
     if (fwrite(bytes, 1, size, stdout) != size)
-        fail("cannot write the image");
+        fail("writing the output failed");
 }
 
 /* Takes one more sector in hand, and returns whether there was one. */
@@ -104,9 +105,8 @@ static bool take(struct hand *hand) {
     size_t size = fread(sector, 1, CDPATCH_SECTOR_SIZE, stdin);
     if (ferror(stdin))
         fail("cannot read the image");
-    if (size > 0 && hand->read == MOST_SECTORS)
-        fail("the image has more than 1000000 sectors");
-    hand->ended = size < CDPATCH_SECTOR_SIZE;
+    hand->too_long = size > 0 && hand->read == MOST_SECTORS;
+    hand->ended = size < CDPATCH_SECTOR_SIZE || hand->too_long;
     if (hand->ended) {
         memcpy(hand->tail, sector, hand->tail_size = size);
         return false;
@@ -126,6 +126,18 @@ static bool pass_sector(struct hand *hand) {
     return true;
 }
 
+/* In how many sectors a patch lies. */
+static size_t sectors_of(const struct cdpatch_patch *patch) {
+    bool has_bytes = patch->verb == CDPATCH_SET || patch->verb == CDPATCH_FILL;
+    return has_bytes ? (patch->offset + patch->count + CDPATCH_USER_SIZE - 1) / CDPATCH_USER_SIZE : 1;
+}
+
+/* Fails if the image is too long, and what comes next wants more sectors than are in hand. */
+static void refuse_a_long_image(const struct hand *hand, size_t wanted) {
+    if (hand->too_long && hand->count < wanted)
+        fail("the image has more than 1000000 sectors");
+}
+
 /* Makes the patch of a line, prints its line of the log, and returns whether it was applied. For a block after the image no sector is
  * in hand. */
 static bool apply(struct hand *hand, const struct patch_line *line) {
@@ -137,6 +149,7 @@ static bool apply(struct hand *hand, const struct patch_line *line) {
         ;
     while (hand->count < SECTORS_IN_HAND && take(hand))
         ;
+    refuse_a_long_image(hand, sectors_of(&room.patch));
     enum cdpatch_result result =
         cdpatch_apply_patch(&room.patch, room.new_bytes, room.old_bytes, hand->sectors[0], hand->count, false, &place);
     print(text, cdpatch_outcome_line(line->number, result, place.block, place.offset, text));
@@ -157,9 +170,10 @@ int main(int count, char **arguments) {
         applied += apply(&hand, &script.lines[i]);
     while (pass_sector(&hand))
         ;
+    refuse_a_long_image(&hand, 1);
     pass(hand.tail, hand.tail_size);
     if (fflush(stdout) != 0)
-        fail("cannot write the image");
+        fail("writing the output failed");
     print(text, cdpatch_last_line(applied, (uint32_t)script.count - applied, text));
     free(script.lines);
     free(script.text);

@@ -1,8 +1,9 @@
-"""Builds the package for pip with Python's own modules, so that no network is needed. A library that stands in the package goes along,
-and then the wheel is for Linux on x86-64 only."""
+"""Builds the package for pip with Python's own modules, so that no network is needed. A library that stands in the package goes along
+with the notices beside it, and then the wheel is for Linux on x86-64 only."""
 
 from __future__ import annotations
 
+import ast
 import base64
 import hashlib
 import io
@@ -14,6 +15,9 @@ from zipfile import ZIP_DEFLATED, ZipFile, ZipInfo
 
 HERE = Path(__file__).resolve().parent
 LIBRARY = 'libcdpatch.so.1'
+NOTICES = 'NOTICES'
+# A system with this glibc has a loader that looks at the processor's level.
+PLATFORM = 'manylinux_2_34_x86_64'
 Settings = Optional[Dict[str, object]]
 
 
@@ -26,18 +30,36 @@ def _stated(file: str, name: str) -> str:
 
 
 NAME = f'cdpatch-{_stated("cdpatch/__init__.py", "__version__")}'
+ABOUT = f'{NAME}.dist-info'
 
 
-def _metadata() -> bytes:
-    return (f'Metadata-Version: 2.1\nName: cdpatch\nVersion: {NAME[len("cdpatch-"):]}\n'
-            f'Summary: {_stated("pyproject.toml", "description")}\n'
-            f'Requires-Python: {_stated("pyproject.toml", "requires-python")}\n').encode()
+def _metadata(files: dict[str, bytes]) -> bytes:
+    """What a distribution of these files says of itself. Its long text is that of `help`."""
+    project = (HERE / 'pyproject.toml').read_text()
+    author = re.findall(r'{name = "(.*?)"}', project)
+    classifiers = re.findall(r'^    "(.* :: .*)",$', project, re.MULTILINE)
+    help_text = ast.get_docstring(ast.parse((HERE / 'cdpatch' / '__init__.py').read_text()))
+    lines = ['Metadata-Version: 2.4', 'Name: cdpatch', f'Version: {NAME[len("cdpatch-"):]}',
+             f'Summary: {_stated("pyproject.toml", "description")}', *(f'Author: {name}' for name in author),
+             *(f'Classifier: {name}' for name in classifiers), *([f'License-File: {NOTICES}'] if _has_library(files) else []),
+             f'Requires-Python: {_stated("pyproject.toml", "requires-python")}', 'Description-Content-Type: text/plain', '', help_text or '', '']
+    return '\n'.join(lines).encode()
+
+
+def _has_library(files: dict[str, bytes]) -> bool:
+    return f'cdpatch/{LIBRARY}' in files
 
 
 def _package() -> dict[str, bytes]:
-    """The files of the package by their names."""
-    names = [*sorted(path.name for path in (HERE / 'cdpatch').glob('*.py')), 'py.typed', LIBRARY]
-    return {f'cdpatch/{name}': (HERE / 'cdpatch' / name).read_bytes() for name in names if (HERE / 'cdpatch' / name).exists()}
+    """The files of the package by their names. Raises FileNotFoundError if it has the library, but not the notices that each copy of it
+    must carry."""
+    here = HERE / 'cdpatch'
+    names = [*sorted(path.name for path in here.glob('*.py')), 'py.typed']
+    if (here / LIBRARY).exists():
+        if not (here / NOTICES).exists():
+            raise FileNotFoundError(f'{here / NOTICES} is missing: each copy of {LIBRARY} must carry it')
+        names += [LIBRARY, NOTICES]
+    return {f'cdpatch/{name}': (here / name).read_bytes() for name in names}
 
 
 def _record(files: dict[str, bytes], itself: str) -> bytes:
@@ -49,15 +71,16 @@ def _record(files: dict[str, bytes], itself: str) -> bytes:
     return ''.join([*lines, f'{itself},,\n']).encode()
 
 
-def build_wheel(wheel_directory: str, config_settings: Settings = None, metadata_directory: Optional[str] = None) -> str:
-    """Makes the wheel in a directory, and returns its name."""
-    files = _package()
-    tag = 'py3-none-linux_x86_64' if f'cdpatch/{LIBRARY}' in files else 'py3-none-any'
-    about = f'{NAME}.dist-info'
-    files[f'{about}/METADATA'] = _metadata()
-    files[f'{about}/WHEEL'] = f'Wheel-Version: 1.0\nGenerator: {NAME}\nRoot-Is-Purelib: true\nTag: {tag}\n'.encode()
-    files[f'{about}/RECORD'] = _record(files, f'{about}/RECORD')
-    with ZipFile(Path(wheel_directory) / f'{NAME}-{tag}.whl', 'w', ZIP_DEFLATED) as wheel:
+def _made_wheel(directory: str, files: dict[str, bytes]) -> str:
+    """Makes a wheel of these files in a directory, and returns its name."""
+    pure = not _has_library(files)
+    tag = f'py3-none-{"any" if pure else PLATFORM}'
+    if not pure:
+        files[f'{ABOUT}/licenses/{NOTICES}'] = files.pop(f'cdpatch/{NOTICES}')
+    files[f'{ABOUT}/METADATA'] = _metadata(files)
+    files[f'{ABOUT}/WHEEL'] = f'Wheel-Version: 1.0\nGenerator: {NAME}\nRoot-Is-Purelib: {str(pure).lower()}\nTag: {tag}\n'.encode()
+    files[f'{ABOUT}/RECORD'] = _record(files, f'{ABOUT}/RECORD')
+    with ZipFile(Path(directory) / f'{NAME}-{tag}.whl', 'w', ZIP_DEFLATED) as wheel:
         for name, data in files.items():
             entry = ZipInfo(name)
             entry.external_attr = 0o644 << 16
@@ -65,11 +88,21 @@ def build_wheel(wheel_directory: str, config_settings: Settings = None, metadata
     return f'{NAME}-{tag}.whl'
 
 
+def build_wheel(wheel_directory: str, config_settings: Settings = None, metadata_directory: Optional[str] = None) -> str:
+    """Makes the wheel in a directory, and returns its name."""
+    return _made_wheel(wheel_directory, _package())
+
+
+def build_editable(wheel_directory: str, config_settings: Settings = None, metadata_directory: Optional[str] = None) -> str:
+    """Makes a wheel in a directory by which Python takes the package from here, and returns its name."""
+    return _made_wheel(wheel_directory, {'cdpatch.pth': f'{HERE}\n'.encode()})
+
+
 def build_sdist(sdist_directory: str, config_settings: Settings = None) -> str:
     """Makes the archive of the sources in a directory, and returns its name."""
     files = {name: (HERE / name).read_bytes() for name in ('pyproject.toml', 'backend.py')}
     files.update(_package())
-    files['PKG-INFO'] = _metadata()
+    files['PKG-INFO'] = _metadata(files)
     with tarfile.open(Path(sdist_directory) / f'{NAME}.tar.gz', 'w:gz', format=tarfile.PAX_FORMAT) as archive:
         for name, data in files.items():
             entry = tarfile.TarInfo(f'{NAME}/{name}')

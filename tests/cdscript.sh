@@ -13,11 +13,13 @@ tested() {
     COMMAND=$command node --test-reporter=tap "$@" > tap 2>&1
 }
 
-# wrong_command: makes the command `wrong` of the joined one as an edit says, whose words have to stand there once.
+# wrong_command: makes the command `wrong` of sources that are changed as an edit says, whose words have to stand there once.
 wrong_command() {
-    cp "$scratch/cdscript" wrong
+    local file
+    cp -r "$top/web" web
+    file=$(grep -rlF -e "${said[old]}" web/core web/command) && [ -f "$file" ] && apply_edit "$file" || return
     wrong=$PWD/wrong
-    apply_edit wrong
+    python3 -B "$top/tools/pack.py" --web web command "$top/library/cdpatch.wasm" wrong --notices "$scratch/NOTICES"
 }
 
 # The program's messages of files, as the command has them: those of tests/messages.sh.
@@ -52,8 +54,16 @@ pages_agree() {
     cmp -s all_options got
 }
 
-typed() { tsc -p "$tests/cdscript/tsconfig.json"; }
-linted() { (cd "$top" && NODE_PATH=/usr/share/nodejs eslint -f unix --no-eslintrc -c tests/cdscript/eslint.json web/command); }
+# Help, the man page, the completions and the core have the same encodings, in one order.
+encodings_agree() {
+    node --input-type=module -e "import { ENCODINGS } from '$top/web/core/text.js'; console.log(ENCODINGS.map(it => it.name).join(' '));" > names
+    ./cdscript find --help | sed -n '/--encoding/,/--table/p' | paste -sd ' ' | sed 's/.*written: //; s/ *--table.*//; s/, */ /g' |
+        cmp -s names - || return
+    sed -n '/^\.It Fl Fl encoding/,/^Without it/s/^\.Cm \([^ ]*\).*/\1/p' "$top/man/cdscript.1" | paste -sd ' ' | cmp -s names - || return
+    sed -n 's/.*:encoding:(\(.*\)).*/\1/p' "$top/completions/_cdscript" | cmp -s names - || return
+    sed -n "s/.*--encoding) .*compgen -W '\(.*\)' --.*/\1/p" "$top/completions/cdscript.bash" | cmp -s names - || return
+    sed -n "s/.*-l encoding -x -a '\([^']*\)'.*/\1/p" "$top/completions/cdscript.fish" | cmp -s names -
+}
 
 test_all() {
     if [ ! -f "$top/library/cdpatch.wasm" ]; then
@@ -62,15 +72,15 @@ test_all() {
     fi
     missing node nodejs 'cdscript' && return
     missing python3 python3 'cdscript' && return
+    missing esbuild esbuild 'cdscript' && return
     cp "$top/library/NOTICES" NOTICES 2> /dev/null || echo 'who made what' > NOTICES
-    python3 -B "$top/tools/join.py" command "$top/library/cdpatch.wasm" cdscript --notices NOTICES || return
+    python3 -B "$top/tools/pack.py" command "$top/library/cdpatch.wasm" cdscript --notices NOTICES || return
     judge "the program's messages" messages_agree
     judge 'help, the man page and the completions have the same jobs and options' pages_agree
+    judge 'help, the man page, the completions and the core have the same encodings' encodings_agree
     judge 'the answers of worked and random cases' python3 -B "$tests/core/answers.py" "$ANSWERS" 300 command
     test_by_name cdscript "$PWD/cdscript" --test "$tests"/cdscript/*.test.mjs
     refuse_edits command "$tests/cdscript/wrong" wrong_command
-    missing tsc node-typescript 'the types of cdscript' || judge 'the types of cdscript' typed
-    missing eslint eslint 'the forms of cdscript' || judge 'the forms of cdscript' linted
 }
 
 test_all

@@ -20,10 +20,6 @@ wrong_core() {
     apply_edit "wrong/${said[file]}"
 }
 
-# Types and forms. Debian's eslint finds its parts by NODE_PATH, if node is another than Debian's.
-typed() { tsc -p "$tests/core/tsconfig.json"; }
-linted() { (cd "$top" && NODE_PATH=/usr/share/nodejs eslint -f unix --no-eslintrc -c tests/core/eslint.json web/core); }
-
 test_all() {
     if [ ! -f "$top/library/cdpatch.wasm" ]; then
         skip "the core over its module, which tools/wasm.sh makes with wasm-opt (Debian's package binaryen)"
@@ -34,8 +30,6 @@ test_all() {
     judge 'the answers of worked and random cases' python3 -B "$tests/core/answers.py" "$ANSWERS"
     test_by_name core "$top/web/core" --test "$tests"/core/*.test.mjs
     refuse_edits core "$tests/core/wrong" wrong_core
-    missing tsc node-typescript 'the types of the core' || judge 'the types of the core' typed
-    missing eslint eslint 'the forms of the core' || judge 'the forms of the core' linted
 }
 
 test_all

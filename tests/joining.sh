@@ -1,33 +1,43 @@
 #!/usr/bin/env bash
-# What tools/join.py joins, and what it refuses: `bash tests/joining.sh`. The last line is 'N passed, M failed'.
+# What tools/pack.py packs and what it refuses, what `make release` refuses, and the types and forms of web/ and of the tools: `bash
+# tests/joining.sh`. The last line is 'N passed, M failed'. TREE names a directory with other `tools` and `web`, ONLY the parts to run, and
+# CASE the only one of many alike that is wanted.
 set -u
 . "$(dirname "$0")/helpers.sh"
+. "$tests/edits.sh"
+tree=${TREE-$top}
 
-# A small `web`: a core of two modules, a command and a page.
+# wanted NAME COMMAND..: judges by this name, if it is wanted.
+wanted() { [ "${CASE-$1}" != "$1" ] || judge "$@"; }
+
+# A small `web`: a core of two modules, a command and a page, whose text has what would begin the data of a patcher.
 mkdir -p small/{core,command,page}
 printf '%s\n' '// What both doors use.' '' '/** @typedef {number} Size */' '' 'const step = 3;' '' '/**' ' * Adds.' ' * @param {number} n' ' */' \
     'export function more(n) {' '    return n + step; // stays' '}' > small/core/count.js
-printf '%s\n' "import { more } from './count.js';" 'export const [first, second] = [1, 2];' 'export class Twice {' \
+printf '%s\n' "import { more } from './count.js';" 'const [first, second] = [1, 2];' 'export class Twice {' \
     '    of(n) {' '        return more(more(n));' '    }' '}' > small/core/twice.js
-sed -i 's/^export const \[first/const [first/' small/core/twice.js
-printf '%s\n' "import { basename } from 'node:path';" "import { more } from '../core/count.js';" "import { Twice } from '../core/twice.js';" \
-    'const step = 20;' 'export async function main(words) {' \
-    "    console.log(new Twice().of(step), more(1), basename(JOINED.file), Buffer.from(JOINED.module, 'base64').length > 20, ...words);" '}' \
+printf '%s\n' "import { basename } from 'node:path';" "import { gunzipSync } from 'node:zlib';" "import { more } from '../core/count.js';" \
+    "import { Twice } from '../core/twice.js';" 'const step = 20;' 'export async function main(words) {' \
+    "    const module = gunzipSync(Buffer.from(JOINED.module, 'base64')).toString('hex').slice(-8);" \
+    '    console.log(new Twice().of(step), more(1), basename(JOINED.file), module, ...words);' '}' \
     'export function start() {' '    main(process.argv.slice(2));' '}' > small/command/main.js
-printf '%s\n' "import { Twice } from '../core/twice.js';" "import { draw } from './draw.js';" 'draw(new Twice().of(1), JOINED.module.length);' \
-    > small/page/main.js
-printf '%s\n' 'export function draw(...values) {' "    document.title = values.join(', ');" '}' > small/page/draw.js
-printf '%s\n' "import { more } from '../core/count.js';" 'self.onmessage = event => self.postMessage(more(event.data));' > small/page/worker.js
+printf '%s\n' "import { Twice } from '../core/twice.js';" "import { draw } from './draw.js';" 'globalThis.joined = JOINED;' \
+    'draw(new Twice().of(1));' > small/page/main.js
+printf '%s\n' 'export function draw(...values) {' "    document.title = values.join('\\n<plaintext hidden id=\"data\">\\n');" '}' \
+    > small/page/draw.js
+printf '%s\n' "import { more } from '../core/count.js';" 'class Refused extends Error {}' \
+    'self.onmessage = event => self.postMessage([more(event.data), Refused.name]);' > small/page/worker.js
 printf '%s\n' '<!doctype html>' '<meta charset="utf-8">' '<title>small</title>' '<link rel="icon" href="icon.svg">' \
     '<link rel="stylesheet" href="style.css">' '<p id="text">small</p>' '<script type="module" src="main.js"></script>' \
     '<plaintext hidden id="data">' > small/page/page.html
 echo '<svg xmlns="http://www.w3.org/2000/svg"></svg>' > small/page/icon.svg
 echo 'p { color: black; }' > small/page/style.css
 head -c 100 "$vectors" > module
+echo 'wasm-opt 99' > module.txt
 echo 'who made what' > NOTICES
 
 # join DOOR OUT [WEB]: joins the small `web`.
-join() { python3 -B "$top/tools/join.py" "$1" module "$2" --web "${3-small}" > log 2> errors; }
+join() { python3 -B "$tree/tools/pack.py" "$1" module "$2" --web "${3-small}" > log 2> errors; }
 
 # changed FILE COMMAND..: a copy `other` of the small `web` in which a command has changed a file, which it gets on its input.
 changed() {
@@ -44,7 +54,7 @@ refuses() {
     shift 2
     changed "$@"
     rm -f out
-    judge "the join refuses $1: $text" eval '! join "$door" out other && [ ! -e out ] && grep -qF -- "$text" errors && [ "$(wc -l < errors)" = 1 ]'
+    wanted "the join refuses $1: $text" eval '! join "$door" out other && [ ! -e out ] && grep -qF -- "$text" errors'
 }
 
 # After the last line, and before the first.
@@ -52,16 +62,17 @@ after() { cat; printf '%b\n' "$1"; }
 before() { printf '%b\n' "$1"; cat; }
 
 test_command() {
+    local end
+    missing node nodejs 'a joined command' && return
+    end=$(tail -c 4 module | od -An -tx1 | tr -d ' ')
     judge 'a command is joined' join command cdscript
-    judge 'it runs' test "$(./cdscript a 'b c')" = '26 4 cdscript true a b c'
-    ln -s cdscript link
-    judge 'through a link' test "$(./link)" = '26 4 cdscript true'
+    judge 'it runs, and has the whole module' test "$(./cdscript a 'b c')" = "26 4 cdscript $end a b c"
+    ln -sf cdscript link
+    judge 'through a link' test "$(./link)" = "26 4 cdscript $end"
     cp cdscript cdscript.js
-    judge 'as node runs it' test "$(node cdscript.js x)" = '26 4 cdscript.js true x'
-    judge 'who requires it gets main' test "$(node -p 'Object.keys(require("./cdscript")).join()')" = main
-    judge 'whole lines of comments are left out' eval '! grep -qE "What both doors|typedef|Adds" cdscript && grep -q "// stays" cdscript'
-    join command again
-    judge 'the same bytes twice' cmp -s cdscript again
+    judge 'as node runs it' test "$(node cdscript.js x)" = "26 4 cdscript.js $end x"
+    judge 'who requires it gets main' test "$(node -p 'Object.keys(require("./cdscript")).join()')" = main,start
+    judge 'comments are left out' eval '! grep -qE "What both doors|typedef|Adds|stays|^// " cdscript'
     printf "Object.defineProperty(process.versions, 'node', { value: '16.20.2' });\n" > old.js
     node -r ./old.js cdscript > log 2> errors
     judge 'an older node is named in one line' test "$? $(cat log errors)" = '2 cdscript needs node 18 or later, and this is 16.20.2'
@@ -71,126 +82,236 @@ test_command() {
     judge 'and where there is none, that is' test "$? $(cat log errors)" = '2 cdscript needs node 18 or later'
 }
 
-# The script and the style of a page, with their hashes in its policy.
+# The only script and the only style of a page, with their hashes in its policy, and nothing else that may run.
 has_its_hashes() {
     python3 - "$1" << 'EOF_HASHES'
 import base64, hashlib, re, sys
 page = open(sys.argv[1], encoding='utf-8').read()
-for name in ('script', 'style'):
+assert page.count('<script') == page.count('<style') == 1
+for name, more in ('script', " 'wasm-unsafe-eval'"), ('style', ''):
     text, = re.findall(f'<{name}>(.*?)</{name}>', page, re.DOTALL)
     value = base64.b64encode(hashlib.sha256(text.encode()).digest()).decode()
-    assert f"{name}-src 'sha256-{value}'" in page, name
+    assert f"; {name}-src 'sha256-{value}'{more};" in page, name
 EOF_HASHES
 }
 
 test_page() {
     judge 'a page is joined' join page page.html
-    join page again
-    judge 'the same bytes twice' cmp -s page.html again
     judge 'its policy has the hashes of its script and its style' has_its_hashes page.html
-    judge 'spaces stay only in texts' grep -qF "document.title=values.join(', ')" page.html
+    judge 'spaces stay only in texts' grep -qF 'document.title=' page.html
+    judge 'it is strict' test "$(grep -c "<script>'use strict';" page.html)" = 1
     judge 'its last line takes what comes after it as text' test "$(tail -n 1 page.html)" = '<plaintext hidden id="data">'
     judge 'it names no other file' eval '! grep -oE "(href|src)=.{0,7}" page.html | grep -vE "=.?\"data:"'
-    judge 'the core stands there once' test "$(grep -c 'return n+step' page.html)" = 1
+    changed page/draw.js cat
+    echo '{ "compilerOptions": { "alwaysStrict": true } }' > other/tsconfig.json
+    judge 'what editors are told changes no byte' eval 'join page told.html other && cmp -s page.html told.html'
+    judge 'the mark before data stands there once' test "$(grep -c '^<plaintext' page.html)" = 1
+    missing node nodejs 'what a joined page has' && return
+    judge 'it has the whole module' node "$tests/joining/page.mjs" module page.html module 2> log
+    judge 'it has the notices' node "$tests/joining/page.mjs" notices page.html NOTICES 2> log
+    judge "it has the program of its workers, whose classes keep their names" node "$tests/joining/page.mjs" worker page.html 2> log
+    judge 'it has what its own text is made of, and the names of what made it' node "$tests/joining/page.mjs" own page.html 2> log
 }
 
-# squeezes TOOLS OUT: whether the squeeze.py of TOOLS makes of the hard cases what it should.
-squeezes() {
-    mkdir -p "$2"
-    python3 -B "$hard/squeeze_all.py" "$1" "$2" "$hard/program.js" "$hard/style.css" 2> errors &&
-        cmp -s "$2/program.js" "$hard/squeezed/program.js" && cmp -s "$2/style.css" "$hard/squeezed/style.css"
-}
-
-# All programs of the page and of its core, and the hard cases, are the same after it.
-stays_the_same() {
-    local programs=("$hard/program.js" "$top"/web/core/*.js "$top"/web/page/*.js)
-    mkdir -p squeezed
-    python3 -B "$hard/squeeze_all.py" "$top/tools" squeezed "${programs[@]}" &&
-        NODE_PATH=/usr/share/nodejs node "$hard/same_program.cjs" squeezed "${programs[@]}"
-}
-
-# squeezes_wrong NAME SED: a squeeze.py that is changed so makes something else of the hard cases.
-squeezes_wrong() {
-    rm -rf tools wrong
-    mkdir tools
-    sed -E "$2" "$top/tools/squeeze.py" > tools/squeeze.py
-    judge "a wrong squeeze is refused: $1" eval '! cmp -s tools/squeeze.py "$top/tools/squeeze.py" && ! squeezes tools wrong'
-}
-
-test_squeezing() {
-    hard=$tests/squeezing
-    judge 'the hard cases are squeezed as they should be' squeezes "$top/tools" right
-    squeezes_wrong 'two signs become one' "s/'\\+\\+', '--', '\/\/'/'\/\/'/"
-    squeezes_wrong 'markup comes about' "s/, '<!', '<\/'\}/}/"
-    squeezes_wrong 'names grow together' "s/<= NAMES and/<= {'word'} and/"
-    squeezes_wrong 'a pattern is taken for a division' "s/return before.head or/return/"
-    squeezes_wrong 'a division is taken for a pattern' "s/not in GOES_ON\$/not in {'++'}/"
-    squeezes_wrong 'the semicolon of an empty loop is spare' "s/ and not before.head / /"
-    squeezes_wrong 'the semicolon after a label is spare' "s/'else', 'do', ':'/'else', 'do'/"
-    squeezes_wrong 'the end of a line after a brace is spare' "s/and before.text not in GOES_ON or/or/"
-    squeezes_wrong 'a number grows into a point' "s/ or before.kind == 'number' and first == '\.'//"
-    squeezes_wrong 'expressions in texts stay as they are' "s/joined\(list\(self.tokens\('\}'\)\)\)/'x'; list(self.tokens('}'))/"
-    squeezes_wrong 'a pseudo-class loses its element' "s/\(\[\{\};,>\]\)/([{};,>:])/"
-    squeezes_wrong 'texts of a style are squeezed' "s/range\(0, len\(parts\), 2\)/range(len(parts))/"
-    missing node nodejs 'the syntax of what is squeezed' && return
-    missing tsc node-typescript 'the syntax of what is squeezed' && return
-    judge 'what is squeezed keeps its syntax' stays_the_same
+# The doors of this tree, packed here and now, and then in another directory at another time, by another user if we may be one.
+test_two_builds() {
+    local door other=() user='this user'
+    if [ "$(id -u)" = 0 ] && ! missing setpriv util-linux 'a build by another user'; then
+        other=(setpriv --reuid=65534 --regid=65534 --clear-groups)
+        user='another user'
+    fi
+    mkdir -p 'another place'
+    cp -r "$tree/tools" "$tree/web" module module.txt NOTICES 'another place'
+    chmod 755 . && chmod -R a+rX 'another place' && chmod 777 'another place'
+    for door in command page; do
+        python3 -B "$tree/tools/pack.py" "$door" module "this.$door"
+    done
+    sleep 1
+    for door in command page; do
+        (cd 'another place' && umask 077 &&
+            "${other[@]}" env TMPDIR=/tmp LC_ALL=C HOME=/ python3 -B tools/pack.py "$door" module "that.$door")
+        judge "$user makes the same $door in another directory" cmp "this.$door" "another place/that.$door"
+    done
 }
 
 test_refusals() {
-    refuses command 'command/main.js:11: an import is a line as' command/main.js after "import * as all from './x.js';"
-    refuses command 'main.js:11: an import is a line as' command/main.js after "import one from './x.js';"
-    refuses command 'main.js:11: an import is a line as' command/main.js after "import { main as other } from './x.js';"
-    refuses command 'main.js:11: an import is a line as' command/main.js after "import {\n    main,\n} from './x.js';"
-    refuses command 'main.js:11: there is no ./x.js' command/main.js after "import { x } from './x.js';"
-    refuses command 'main.js:11: fs is no path' command/main.js after "import { x } from 'fs';"
-    refuses command 'main.js:11: ../core/count.js does not export less' command/main.js after "import { less } from '../core/count.js';"
-    refuses command 'main.js:11: a dynamic import' command/main.js after "const x = () => import('./x.js');"
-    refuses command 'main.js:11: a dynamic import' command/main.js after 'const x = import.meta.url;'
-    refuses command 'main.js:11: await at the top' command/main.js after 'const x = await main([]);'
-    refuses command 'main.js:11: export stands only' command/main.js after 'export default main;'
-    refuses command 'main.js:11: export stands only' command/main.js after 'export { step };'
-    refuses command 'main.js:11: export stands only' command/main.js after 'export let x = 1;'
-    refuses command 'main.js:11: export stands only' command/main.js after "export * from './x.js';"
-    refuses command 'main.js:11: step stands in line 4 too' command/main.js after 'function step() {}'
-    refuses command 'main.js:11: more is declared in the core too' command/main.js after 'const more = 1;'
-    refuses command 'main.js:11: basename is declared in node:path too' command/main.js after 'const { x: basename } = {};'
-    refuses command 'main.js:11: JOINED is declared in what is joined too' command/main.js after 'class JOINED {}'
-    refuses command 'main.js:11: names at the top stand in one line' command/main.js after 'const {\n    x,\n} = {};'
-    refuses command 'main.js:11: a template literal goes over' command/main.js after 'const x = `a\nb`;'
-    refuses command 'main.js:12: code after a comment of several lines' command/main.js after '/* a\nb */ const x = 1;'
-    refuses command 'core/twice.js:8: step is declared in' core/twice.js after 'const step = 1;'
-    refuses command 'core/count.js imports itself, through' core/count.js before "import { Twice } from './twice.js';"
-    refuses command 'core/count.js:1: the core imports only of itself' core/count.js before "import { main } from '../command/main.js';"
-    refuses command "core/count.js:14: a carriage return in a part" core/count.js after '// \r'
-    refuses command "core/count.js:14: a NUL in a part" core/count.js after '// \0000'
-    refuses command "core/count.js:1: a byte order mark in a part" core/count.js before '\xef\xbb\xbf'
-    refuses command "core/count.js:14: </script in a part" core/count.js after "const x = '</SCRIPT>';"
-    refuses command "core/count.js:14: <!-- in a part" core/count.js after "const x = '<!--';"
-    refuses page 'a slash after a closing brace: const x = {} / 2;' page/main.js after 'const x = {} / 2;'
-    refuses page 'a pattern does not end: const x = /a;' page/main.js after 'const x = /a;'
-    refuses command 'core/count.js: the text is not UTF-8' core/count.js after '// \xff'
-    refuses page "page/draw.js:1: the page has no node:fs" page/draw.js before "import { readSync } from 'node:fs';"
-    refuses page 'main.js:4: draw is declared in' page/main.js after 'const draw = 1;'
-    refuses page 'page/style.css:2: </style in a part' page/style.css after '</style>'
-    refuses page 'page/icon.svg:2: <!-- in a part' page/icon.svg after '<!-- made -->'
-    refuses page 'page/page.html:9: <!-- in a part' page/page.html after '<!-- made -->'
-    refuses page 'its last lines are not' page/page.html after 'text'
-    refuses page 'its last lines are not' page/page.html sed 's/<p id/<script>x<\/script><p id/'
+    local python
+    refuses command 'Could not resolve "./x.js"' command/main.js after "import { x } from './x.js';\nx();"
+    refuses command 'No matching export in "web/core/count.js" for import "less"' command/main.js \
+        after "import { less } from '../core/count.js';\nless();"
+    refuses command 'Top-level await' command/main.js after 'await main([]);'
+    refuses command '"import.meta" is not available' command/main.js after 'console.log(import.meta.url);'
+    refuses command 'has already been declared' command/main.js after 'function step() {}'
+    refuses page 'Could not resolve "node:fs"' page/draw.js before "import { readSync } from 'node:fs';"
+    refuses page 'could end it, or change on its way' page/main.js after "draw('<!--');"
+    refuses page 'could end it, or change on its way' page/main.js after 'draw(`\n<plaintext`);'
+    refuses page 'Expected ":"' page/style.css after 'p { colour red; }'
+    refuses page 'it has another end or another script' page/page.html after 'text'
+    refuses page 'it has another end or another script' page/page.html sed 's/<p id/<script>x<\/script><p id/'
     refuses page 'stands there 0 times, and not once' page/page.html sed '/stylesheet/d'
     refuses page 'stands there 2 times, and not once' page/page.html sed 's/^<meta.*/&&/'
-    refuses page 'bytes, more than 400000' page/style.css sh -c 'yes "p { color: black; }" | head -n 30000'
+    refuses page 'bytes, more than 440000' page/style.css sh -c 'yes "p { color: black; }" | head -n 30000'
+    mv module.txt moved
+    judge 'the join refuses a module of which nothing says what made it' \
+        eval '! join page out && grep -qF "module.txt: No such file" errors'
+    mv moved module.txt
+    python=$(python3 -c 'import sys; print(sys.executable)')
+    judge 'without esbuild its package is named' eval '! PATH=/nothing "$python" -B "$tree/tools/pack.py" page module out --web small 2> errors &&
+        grep -qF "package esbuild" errors'
 }
 
-typed() { mypy --strict --cache-dir=types "$top"/tools/{join,pages}.py > log || { cat log; false; }; }
+# A tree `release` whose sources are a commit, with stand-ins for rt and for what `make` leaves.
+release_tree() {
+    local name
+    mkdir -p release/library/x86-64-v3 kit/rattle stubs
+    cp -r "$top"/{Makefile,install.mk,README.md,CHANGELOG.md,crates.txt,.gitignore,docs,man,completions,examples,include,python} release
+    cp -r "$tree"/{tools,web} release
+    while read -r name; do
+        mkdir -p "kit/rattle/$name"
+        echo 'a licence' > "kit/rattle/$name/LICENSE-MIT"
+    done < <(sed 's/#.*//; s/:/ /' release/crates.txt | tr -s ' ' '\n')
+    printf '%s\n' '#!/bin/sh' "case \$1 in version) echo \"a-kit logic \$LOGIC\" ;; doc) echo '$PWD/kit/START' ;; esac" > stubs/rt
+    printf '%s\n' '#!/bin/sh' "echo 'cdpatch $version'" > release/cdpatch
+    chmod +x stubs/rt release/cdpatch
+    ssh-keygen -q -t ed25519 -N '' -f owner && ssh-keygen -q -t ed25519 -N '' -f another || return
+    sed -i -e 's/^address:$/& a@localhost/' -e 's/^licence:$/& none/' -e "s|^key:\$|& $(cut -d ' ' -f 1,2 owner.pub)|" release/tools/owner.txt
+    echo terms > release/LICENSE
+    : | tee release/library/{libcdpatch.a,libcdpatch.so.1,x86-64-v3/libcdpatch.so.1} > release/library/libcdpatch.a
+    printf '\0asm\1\0\0\0' > release/library/cdpatch-wasm64.wasm
+    echo 'logic=proved functions=0' > release/library/cdpatch-wasm64.txt
+    (cd release && git init -q && git add . && commit && bash tools/notices.sh library/NOTICES &&
+        bash tools/lower.sh library/cdpatch-wasm64.wasm library/cdpatch.wasm && bash tools/web.sh library .)
+}
+
+commit() { git -c user.name=a -c user.email=a@localhost commit -aqm changed; }
+release() { make --no-print-directory -s -C "$1" release distdir="$PWD/made" "${@:2}" > log 2>&1; }
+
+# unfit TEXT COMMAND..: after a command, and a commit of what it has changed, nothing is released, and one reason has this text.
+unfit() { wanted "make release refuses: $1" is_unfit "$@"; }
+is_unfit() {
+    rm -rf unfit made
+    cp -r release unfit
+    mkdir made
+    (cd unfit && "${@:2}" && { commit > /dev/null || true; })
+    ! release unfit && grep -q "^unfit to be released: .*$1" log && [ -z "$(ls made)" ]
+}
+
+# Each file that is released has a signature, which fits it, and no other file.
+signed() {
+    local file
+    release release SIGN="$PWD/owner" || return
+    echo "cdpatch $(cut -d ' ' -f 1,2 owner.pub)" > signers
+    for file in made/cdpatch-*.tar.gz made/cdpatch.html made/cdscript.js; do
+        ssh-keygen -Y verify -f signers -I cdpatch -n file -s "$file.sig" < "$file" > log || return
+        ! ssh-keygen -Y verify -f signers -I cdpatch -n file -s "$file.sig" < owner.pub > log 2>&1 || return
+    done
+}
+
+test_release() {
+    local version PATH=$PWD/stubs:$PATH
+    missing git git 'make release' && return
+    missing make make 'make release' && return
+    missing wasm-opt binaryen 'make release' && return
+    missing ssh-keygen openssh-client 'make release' && return
+    version=$(sed -n 's/^## \([0-9.]*\) .*/\1/p' "$top/CHANGELOG.md" | head -n 1)
+    LOGIC=$(grep -oE '`[0-9a-f]{16}`' "$top/README.md" | tr -d '`')
+    export LOGIC GIT_CONFIG_GLOBAL=/dev/null
+    judge 'a tree to be released is made' release_tree
+    mkdir -p made
+    wanted 'make release makes what make dist makes' eval 'release release && [ -s made/cdpatch.html ] && (cd made && sha256sum --status -c ./*.sha256)'
+    judge 'what is not signed is said' grep -q '^Nothing was signed' log
+    judge 'what make release signs is verified as INSTALL says' signed
+    judge 'a release is not signed with another key than the owner has given' eval '! release release SIGN="$PWD/another" && [ ! -e made/cdpatch.html.sig ]'
+    unfit 'changes that are not committed' touch docs/NEW.md
+    unfit 'tools/owner.txt has no licence' sed -i 's/^licence:.*/licence:/' tools/owner.txt
+    unfit 'tools/owner.txt has no address, licence, key' sed -i 's/^\([a-z]*\):.*/\1:/' tools/owner.txt
+    unfit 'there is no LICENSE' rm LICENSE
+    unfit 'is not of version 9.9.9' sed -i '0,/^## [0-9.]* /s//## 9.9.9 /' CHANGELOG.md
+    unfit "is not of version $version with a date" sed -i '0,/^## [0-9.]* .*/s//## '"$version"' (soon)/' CHANGELOG.md
+    LOGIC=0123456789abcdef unfit 'logic is not the one that docs/TRUST.md names' true
+    unfit "verdict 'logic=proved'" sed -i s/proved/not-proved/ library/cdpatch-wasm64.txt
+    unfit 'the notices' sed -i 1d library/NOTICES
+    unfit 'cdpatch.wasm is not what' cp tools/fit.sh library/cdpatch.wasm
+    unfit 'cdscript is not what these sources make' sed -i '$s/$/ /' cdscript
+    unfit 'cdscript is not what these sources make' sed -i 's/is closed/is shut/' tools/pack.py
+    unfit 'cdpatch.html is not what these sources make' sed -i 's/<title>/<title >/' cdpatch.html
+    unfit 'cdpatch.html is not what these sources make' rm cdpatch.html
+    unfit 'other tools made it than tools/versions.txt names: esbuild' sed -i 's/wasm-opt .*/wasm-opt 117/' library/cdpatch.wasm.txt
+    printf '%s\n' '#!/bin/sh' '[ "$1" != --version ] || { echo 0.18.0; exit; }' "exec $(command -v esbuild) \"\$@\"" > stubs/esbuild
+    chmod +x stubs/esbuild
+    unfit 'other tools made it than tools/versions.txt names: esbuild' true
+    rm stubs/esbuild
+}
+
+typed_tools() { mypy --strict --cache-dir=types "$tree"/tools/{frequencies,pack,pages,pairs}.py > log || { cat log; false; }; }
+
+# lint DIRECTORY WORD..: runs eslint there. Debian's eslint finds its parts by NODE_PATH, if node is another than Debian's.
+lint() { (cd "$1" && NODE_PATH=/usr/share/nodejs eslint -f unix --rulesdir "$tree/tools/eslint" --rule 'import-cycle: error' "${@:2}"); }
+lint_tools() { lint "$tree/tools" --no-eslintrc -c "$tree/web/.eslintrc.json" --env browser,node --parser-options sourceType:module . ; }
+
+# refuses_form TEXT FILE LINE: a line more in a module of web/, and eslint says this text of it.
+refuses_form() { wanted "eslint refuses $2 with ${3%;}: $1" is_refused_form "$@"; }
+is_refused_form() {
+    rm -rf other
+    cp -r "$tree/web" other
+    printf '%s\n' "$3" >> "other/$2"
+    ! lint other "$2" > log && grep -qF "$1" log
+}
+
+test_forms() {
+    missing eslint eslint 'the forms of web/' && return
+    wanted 'the forms of web/' lint "$tree/web" .
+    wanted "the forms of the tools' JavaScript" lint_tools
+    refuses_form './codes.js imports this module' core/arena.js "export { Calls } from './codes.js';"
+    refuses_form './say.js imports this module' page/dom.js "import './say.js';"
+    refuses_form 'The core imports only of itself' core/runs.js "import '../page/dom.js';"
+    refuses_form 'The core imports only of itself' core/text.js "import 'node:os';"
+    refuses_form 'The page imports only of itself and of the core' page/words.js "import '../command/files.js';"
+    refuses_form 'The page imports only of itself and of the core' page/words.js "import 'node:fs';"
+    refuses_form 'The command imports only of itself, of the core and of node' command/words.js "import '../page/dom.js';"
+    refuses_form 'The command imports only of itself, of the core and of node' command/words.js "import 'os';"
+    for door in core page command; do
+        refuses_form 'A dynamic import' $door/words.js "import('./x.js');"
+    done
+}
+
+# try_wrong EDIT: leaves a file `refused` if the test that an edit names fails on a tree that is changed so.
+try_wrong() {
+    read_edit "$1"
+    cp -r "$top/tools" "$top/web" .
+    apply_edit "${said[file]}" || return
+    TREE=$PWD ONLY=${said[in]} CASE=${said[test]} WRONG_VERSIONS='' bash "$tests/joining.sh" > printed 2>&1
+    grep -qxF "FAILED: ${said[test]}" printed && touch refused
+}
+
+test_wrong() {
+    local edit name
+    wrong_versions 'wrong builds' || return
+    for edit in "$tests"/joining/wrong/*.edit; do
+        await_processor
+        name=$(basename "$edit" .edit)
+        mkdir "wrong_$name"
+        (cd "wrong_$name" && try_wrong "$edit") &
+    done
+    wait
+    for edit in "$tests"/joining/wrong/*.edit; do
+        name=$(basename "$edit" .edit)
+        judge "a wrong build is refused: ${name//_/ }" test -e "wrong_$name/refused"
+    done
+}
+
+test_types() {
+    missing mypy mypy 'the types of the tools' || judge 'the types of the tools' typed_tools
+    missing tsc node-typescript 'the types of web/' || judge 'the types of web/' tsc -p "$tree/web"
+}
 
 test_all() {
-    missing python3 python3 'what tools/join.py joins' && return
-    test_refusals
-    missing mypy mypy 'the types of the tools' || judge 'the types of the tools' typed
-    test_page
-    test_squeezing
-    missing node nodejs 'a joined command' || test_command
+    local part
+    missing python3 python3 'what tools/pack.py packs' && return
+    missing esbuild esbuild 'what tools/pack.py packs' && return
+    for part in ${ONLY-refusals command page two_builds release types forms wrong}; do
+        "test_$part"
+    done
 }
 
 test_all

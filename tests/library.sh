@@ -5,6 +5,8 @@ set -u
 . "$(dirname "$0")/helpers.sh"
 . "$tests/library/examples.sh"
 . "$tests/library/installed.sh"
+. "$tests/library/modules.sh"
+. "$tests/library/stack.sh"
 read -ra crates < <(bash "$top/tools/library_crates.sh")
 sources=()
 for crate in "${crates[@]}"; do
@@ -12,7 +14,7 @@ for crate in "${crates[@]}"; do
 done
 # These have the numbers of the commands' statuses, a struct that C sees, and sizes.
 others=("$top"/crates/{cd_args/src/fault,cd_program/src/commands,cd_script/src/cutting,cd_script/src/limits}.rt
-    "$top"/crates/{cd_sector/src/sector,cd_stream/src/line}.rt)
+    "$top"/crates/{cd_line/src/line,cd_patch/src/edits,cd_run/src/run,cd_sector/src/sector}.rt)
 header=$top/include/cdpatch.h
 strict=(-Wall -Wextra -Werror -pedantic -I "$top/include")
 if ! bash "$top/tools/library.sh" library 2> errors; then
@@ -123,7 +125,10 @@ differs() {
 # man_prototypes PAGE: those of its synopsis, as the header writes them.
 man_prototypes() { sed -n '/^\.Ft/{s/^\.Ft //;N;s/\n\.Fn / /;s/ "/(/;s/" "/, /g;s/"$/);/;p}' "$1"; }
 
-header_prototypes() { sed -n '/^[a-z].* cdpatch_[a-z0-9_]*(.*/{/;$/!{N;s/\n */ /};p}' "$header"; }
+header_prototypes() {
+    sed -n -e '/^[a-z].* cdpatch_[a-z0-9_]*(.*/{:more' -e '/;$/!{N;b more' -e '};s/\n */ /g;p}' "$header" |
+        sed -E 's/(\w+)\[CDPATCH_AT_LEAST 1\]/*\1/g; s/CDPATCH_AT_LEAST //g'
+}
 
 has_the_prototypes() { man_prototypes "$1" | cmp -s - <(header_prototypes); }
 
@@ -151,6 +156,25 @@ test_header() {
     wrong_versions 'wrong headers' && test_wrong_headers
 }
 
+# warns HEADER NAME: whether the compiler warns of the wrong call of this name in misuse.c, and of none without it.
+warns() {
+    mkdir -p include
+    cp "$1" include/cdpatch.h
+    gcc -std=c11 -O2 -Wall -Werror -I include -c "$tests/library/misuse.c" -o misuse.o 2> errors &&
+        ! gcc -std=c11 -O2 -Wall -Werror -I include "-D$2" -c "$tests/library/misuse.c" -o misuse.o 2> errors
+}
+
+test_warnings() {
+    local name
+    compiler gcc gcc || return
+    while IFS= read -r name; do
+        judge "gcc warns of ${name//_/ }" warns "$header" "$name"
+    done < <(sed -nE 's/^#(el)?if defined //p' "$tests/library/misuse.c")
+    wrong_versions 'a header without sizes' || return
+    sed 's/^#define CDPATCH_AT_LEAST static/#define CDPATCH_AT_LEAST/' "$header" > wrong.h
+    judge 'a header that lets a sector be null is refused' refuses warns wrong.h A_SECTOR_THAT_IS_NULL
+}
+
 test_wrong_headers() {
     differs 'a call less' '/^void cdpatch_fill_parity/d'
     differs 'a parameter less' 's/, size_t length);$/);/'
@@ -162,13 +186,13 @@ test_wrong_headers() {
     differs 'kinds in another order' 's/CDPATCH_NOSYNC, CDPATCH_MODE0/CDPATCH_MODE0, CDPATCH_NOSYNC/'
     differs 'p and q exchanged' 's/uint8_t p; uint8_t q;/uint8_t q; uint8_t p;/'
     differs 'a field less' 's/bool edc; //'
-    differs 'a length by value' 's/size_t \*length/size_t length/'
+    differs 'a length by value' 's/size_t length\[CDPATCH_AT_LEAST 1\]/size_t length/'
     differs 'a room that is not written' 's/uint8_t \*text, size_t room/const uint8_t *text, size_t room/'
     differs 'image and script exchanged' '/cdpatch_apply/{s/\*image/*it/;s/\*script/*image/;s/\*it/*script/}'
     differs 'output and log exchanged' 's/\*out, size_t out_size, uint8_t \*log/*log, size_t out_size, uint8_t *out/'
     differs 'a call for sectors less' '/^bool cdpatch_survey/d'
-    differs 'a record by value' 's/struct cdpatch_line \*line/struct cdpatch_line line/'
-    differs 'another struct' 's/const struct cdpatch_patch \*patch/const struct cdpatch_place *patch/'
+    differs 'a record by value' 's/struct cdpatch_line line\[CDPATCH_AT_LEAST 1\]/struct cdpatch_line line/'
+    differs 'another struct' 's/const struct cdpatch_patch patch/const struct cdpatch_place patch/'
     differs 'sectors that are not written' '/uint8_t \*sectors, size_t count, bool/s/uint8_t/const uint8_t/'
     differs 'sectors without a count' 's/\*sectors, size_t count, uint32_t block/*sectors, uint32_t block/'
     differs 'a result that is a number' 's/^enum cdpatch_result cdpatch_rebuild/uint32_t cdpatch_rebuild/'
@@ -182,27 +206,50 @@ test_wrong_headers() {
     differs 'less room for a line' 's/CDPATCH_LINE_SIZE = 96/CDPATCH_LINE_SIZE = 95/'
     differs 'another version' 's/VERSION "1/VERSION "2/'
     differs 'another number of the version' 's/NUMBER 1/NUMBER 2/'
+    differs 'a shorter sector' 's/sector\[CDPATCH_AT_LEAST 2352\]/sector[CDPATCH_AT_LEAST 2351]/'
+    differs 'a digest that may be null' 's/CDPATCH_AT_LEAST 20/20/'
+    differs 'a comment that Doxygen passes over' 's|^/\*\* Returns the kind|/* Returns the kind|'
+    differs 'a call without a comment' '/^\/\*\* Returns the kind/d'
     differs 'no carry' '/cdpatch_check/{n;s/bool carry, //}'
     differs 'statuses in another order' 's/CDPATCH_DONE, CDPATCH_FOUND/CDPATCH_FOUND, CDPATCH_DONE/'
 }
 
 # ---- the calls
 
+# takes_less_than_half LIBRARY CALL OTHER: whether a row of bench.c takes less than half the instructions of another.
+takes_less_than_half() {
+    bash "$tests/library/instructions" "${1%/*}" "$2" "$3" > counts && awk '{ count[NR] = $2 } END { exit count[1] * 2 >= count[2] }' counts
+}
+
+test_instructions() {
+    local build
+    compiler gcc 'gcc and libc6-dev' || return
+    missing valgrind valgrind 'instructions of calls' && return
+    for build in "${builds[@]}"; do
+        judge "encode takes less than half of change_user in $build" takes_less_than_half "$build" encode change_user_2048
+        judge "is_consistent takes more than half of encode in $build" refuses takes_less_than_half "$build" is_consistent encode
+    done
+}
+
 # compiled_test TEST LIBRARY PROGRAM: a test in C with this library.
 compiled_test() { gcc -std=c99 -O2 "${strict[@]}" "$tests/library/$1.c" "$2" -o "$3" 2> errors; }
+
+# wrong_call NAME: the call that wrong.c has by this name.
+wrong_call() { sed -n "/defined $1\$/,/^#el/s/^[a-z][a-z0-9_ ]* cdpatch_\([a-z0-9_]*\)(.*/\1/p" "$tests/library/wrong.c"; }
 
 # try_wrong NAME: makes the program NAME of a test in C and the library that tests/library/wrong.c makes by this name, and leaves a file
 # NAME.refused if the test refuses that.
 try_wrong() {
     local call test=check
-    call=$(sed -n "/defined $1\$/,/^#el/s/^[a-z][a-z0-9_ ]* cdpatch_\([a-z0-9_]*\)(.*/\1/p" "$tests/library/wrong.c")
+    call=$(wrong_call "$1")
     case $call in
         list | audit | check | apply) test=images ;;
         sha1_*) test=digest ;;
+        run_*) test=runs ;;
         version | *_text | *_line | *_patch | survey | find_broken) test=scripts ;;
     esac
     objcopy --redefine-sym "cdpatch_$call=right_$call" library/libcdpatch.a "$1.a" &&
-        gcc -O2 "${strict[@]}" "-D$1" "$test.o" "$tests/library/wrong.c" "$1.a" -o "$1" || return
+        gcc -O2 "${strict[@]}" -Wno-array-parameter -Wno-array-bounds "-D$1" "$test.o" "$tests/library/wrong.c" "$1.a" -o "$1" || return
     "./$1" "$vectors" || touch "$1.refused"
 }
 
@@ -210,7 +257,7 @@ try_wrong() {
 test_wrong() {
     local name names test
     mapfile -t names < <(sed -nE 's/^#(el)?if defined //p' "$tests/library/wrong.c")
-    for test in check images scripts digest; do
+    for test in check images runs scripts digest; do
         gcc -O2 "${strict[@]}" -c "$tests/library/$test.c" 2> errors
     done
     for name in "${names[@]}"; do
@@ -251,6 +298,11 @@ test_in_c() {
     gcc -O2 "${strict[@]}" -DREFUSES -Wl,--wrap=malloc,--wrap=realloc,--wrap=free "$tests/library/images.c" library/libcdpatch.a \
         -o refusing 2> errors
     judge 'images.c with memory refused' holds ./refusing "$vectors"
+    gcc -O2 -std=gnu11 -Wall -Wextra -Werror -I "$top/include" "$tests/library/runs.c" library/libcdpatch.a -o runs 2> errors
+    judge '20000 runs of patches by the two calls' holds ./runs 20000 1
+    gcc -O2 -std=gnu11 -Wall -Wextra -Werror -I "$top/include" "$tests/library/run_inputs.c" library/libcdpatch.a -pthread -o run_inputs \
+        2> errors
+    judge 'runs of any bytes, and in eight threads' holds ./run_inputs 200 1
     wrong_versions 'wrong libraries' && ! missing objcopy binutils 'wrong libraries' && test_wrong
 }
 
@@ -286,8 +338,12 @@ if ! missing nm binutils 'what the library shows'; then
     test_symbols
 fi
 test_header
+test_warnings
 test_in_c
 test_in_python
+test_stack
+test_instructions
+test_modules
 test_examples
 test_installed
 finish

@@ -45,10 +45,10 @@ echo 'echo "tests: $* ${WHOLE-} ${WRONG_VERSIONS-}" >> "$CALLED"' > tests/run
 export CALLED=$scratch/called PATH="$scratch/bin:$PATH"
 
 # makes WORD..: a run of make with these words, what it called in `called` and its status in `status`. MODULES is what it makes
-# of WebAssembly.
+# of WebAssembly, and DOORS what it makes of that.
 makes() {
     : > called
-    env -u WHOLE -u WRONG_VERSIONS make MODULES="${MODULES-}" "$@" > log 2>&1 <<< 'what is on the standard input'
+    env -u WHOLE -u WRONG_VERSIONS make MODULES="${MODULES-}" DOORS="${DOORS-}" "$@" > log 2>&1 <<< 'what is on the standard input'
     status=$?
 }
 
@@ -95,23 +95,33 @@ if ! missing make make 'what the Makefile does'; then
     judge 'it gets the number and the processor' called 'prove.py: cdpatch cd_c cd_c_images 3 x86-64-v3' 'library.sh: library'
     judge 'its end says what was made, what was not, with the package, and what to try' ended \
         'made: cdpatch library/libcdpatch.a library/libcdpatch.so.1' \
-        "not made: library/cdpatch.wasm cdscript cdpatch.html, which want wasm-opt (Debian's package binaryen)" \
+        "not made: library/cdpatch.wasm, which wants wasm-opt (Debian's package binaryen)" \
+        "not made: cdscript and cdpatch.html, which want library/cdpatch.wasm and esbuild (Debian's package esbuild)" \
         'try:  ./cdpatch audit crates/cd_vectors/data/cdrkit-8.bin' 'then: make check, sudo make install'
     makes wasm
     judge 'make wasm without wasm-opt' test "$status" = 2 -a ! -s called
     judge 'names the package too' grep -q 'package binaryen' log
     MODULES=wasm makes
+    judge 'the modules are made without esbuild' called 'prove.py: cdpatch cd_c cd_c_images wasm  ' 'library.sh: library'
+    judge 'and its package is named' ended \
+        'made: cdpatch library/libcdpatch.a library/libcdpatch.so.1 library/cdpatch.wasm' \
+        "not made: cdscript and cdpatch.html, which want esbuild (Debian's package esbuild)" \
+        'try:  ./cdpatch audit crates/cd_vectors/data/cdrkit-8.bin' 'then: make check, sudo make install'
+    MODULES=wasm makes web
+    judge 'make web without esbuild' test "$status" = 2
+    judge 'names the package too' grep -q 'package esbuild' log
+    MODULES=wasm DOORS=web makes
     judge 'the modules are one more goal' called 'prove.py: cdpatch cd_c cd_c_images wasm  ' 'library.sh: library' \
         'web.sh: library .'
     judge 'which are then made too' ended \
         'made: cdpatch library/libcdpatch.a library/libcdpatch.so.1 library/cdpatch.wasm cdscript cdpatch.html' \
         'try:  ./cdpatch audit crates/cd_vectors/data/cdrkit-8.bin' '      or open cdpatch.html in a browser' 'then: make check, sudo make install'
-    MODULES=wasm makes SIMPLE=1
+    MODULES=wasm DOORS=web makes SIMPLE=1
     judge 'with SIMPLE they come after the libraries' called 'rt in cdpatch: run' "${libraries[@]:0:4}" 'wasm.sh: library' \
         'library.sh: library' 'web.sh: library .'
     MODULES=wasm makes wasm
     judge 'make wasm makes only the modules' called 'prove.py: wasm '
-    MODULES=wasm makes web
+    MODULES=wasm DOORS=web makes web
     judge 'make web joins what they are for too' called 'prove.py: wasm ' 'notices.sh: library/NOTICES' 'web.sh: library .'
     makes check
     judge 'make check tests what make left' called 'tests: cdpatch  '

@@ -1,11 +1,12 @@
 #!/usr/bin/env bash
-# `tools/dist.sh PROGRAM LIBRARY JOINED DIRECTORY` makes the tarball of a release in DIRECTORY: the program, the library with its header,
-# the notices of the crates in them, cdscript and cdpatch.html if they are in JOINED, the Python package, the man pages, the
+# `tools/dist.sh PROGRAM LIBRARY JOINED DIRECTORY` makes the tarball of a release in DIRECTORY: the program, the library with its header
+# and its modules, the notices of the crates in them, cdscript and cdpatch.html if they are in JOINED, the Python package, the man pages, the
 # completions, the pages for users, the examples, and a Makefile that only installs them. The README is README.tarball.md, and INSTALL
 # lacks what only works in the sources.
 # The bytes follow from those of these files only. Beside the tarball stand the command as cdscript.js, which node takes on any system,
-# and the page; and the checksum of each.
+# and the page; and the checksum of each. What only the owner can fill in, and has not, is printed on standard error.
 set -euo pipefail
+umask 022
 program=$(realpath "$1")
 library=$(realpath "$2")
 joined=$(realpath "$3")
@@ -19,7 +20,7 @@ mkdir -p "$scratch/$name"/{docs,man,completions,examples,include,python/cdpatch,
 cp "$program" "$scratch/$name/cdpatch"
 { printf '%s\n' 'all:' "	@echo 'Everything is built: make install installs it.'" ''; cat install.mk; } > "$scratch/$name/Makefile"
 cp CHANGELOG.md "$scratch/$name"
-cp docs/{SCRIPTS,TRANSLATE,REPAIR,TRUST}.md docs/{parts,sector,apply}.svg docs/page.png "$scratch/$name/docs"
+cp docs/{SCRIPTS,TRANSLATE,REPAIR,MODULES,TRUST}.md docs/{parts,sector,apply}.svg docs/page.png "$scratch/$name/docs"
 cp tools/README.tarball.md "$scratch/$name/README.md"
 sed '/^<!-- sources -->$/,/^<!-- end of sources -->$/d' docs/INSTALL.md > "$scratch/$name/docs/INSTALL.md"
 cp examples/{audit.c,patch_pipe.c,damaged.rs} "$scratch/$name/examples"
@@ -29,6 +30,7 @@ cp man/cdpatch.1 man/libcdpatch.3 "$scratch/$name/man"
 cp include/cdpatch.h include/*.in "$scratch/$name/include"
 cp "$library"/libcdpatch.{a,so.1} "$library/NOTICES" "$scratch/$name/library"
 cp "$library/x86-64-v3/libcdpatch.so.1" "$scratch/$name/library/x86-64-v3"
+[ ! -f "$library/cdpatch.wasm" ] || cp "$library"/cdpatch{,-wasm64}.wasm "$scratch/$name/library"
 cp completions/_cdpatch completions/cdpatch.bash completions/cdpatch.fish "$scratch/$name/completions"
 made=("$name.tar.gz")
 if [ -f "$joined/cdscript" ]; then
@@ -48,3 +50,4 @@ cd "$directory"
 for file in "${made[@]}"; do
     sha256sum "$file" | tee "$file.sha256"
 done
+bash "$OLDPWD/tools/owner.sh" >&2 || true

@@ -1,15 +1,23 @@
 #!/usr/bin/env bash
-# Says what `make` has made, and a first command to try: `bash tools/made.sh [wasm]`, with `wasm` if the modules were made too. Else
-# they are named with the package of Debian that they want.
+# Says what `make` has made, and a first command to try: `bash tools/made.sh [wasm [web]]`, with `wasm` if the modules were made too, and
+# with `web` if cdscript and the page were. Else they are named with the package of Debian that they want.
 set -u
-modules=(library/cdpatch.wasm cdscript cdpatch.html)
 made=(cdpatch library/libcdpatch.a library/libcdpatch.so.1)
+missing=()
 if [ "${1-}" = wasm ]; then
-    echo "made: ${made[*]} ${modules[*]}"
+    made+=(library/cdpatch.wasm)
 else
-    echo "made: ${made[*]}"
-    echo "not made: ${modules[*]}, which want wasm-opt (Debian's package binaryen)"
+    missing+=("library/cdpatch.wasm, which wants wasm-opt (Debian's package binaryen)")
 fi
+if [ "${2-}" = web ]; then
+    made+=(cdscript cdpatch.html)
+elif [ "${1-}" = wasm ]; then
+    missing+=("cdscript and cdpatch.html, which want esbuild (Debian's package esbuild)")
+else
+    missing+=("cdscript and cdpatch.html, which want library/cdpatch.wasm and esbuild (Debian's package esbuild)")
+fi
+echo "made: ${made[*]}"
+[ ${#missing[@]} = 0 ] || printf 'not made: %s\n' "${missing[@]}"
 echo 'try:  ./cdpatch audit crates/cd_vectors/data/cdrkit-8.bin'
-[ "${1-}" != wasm ] || echo '      or open cdpatch.html in a browser'
+[ "${2-}" != web ] || echo '      or open cdpatch.html in a browser'
 echo 'then: make check, sudo make install'

@@ -21,9 +21,9 @@ HEADLINE = ('crates/cd_image/src/applying.rt', 'crates/cd_stream/src/source.rt',
 THEOREM = ('crates/cd_memory/src/run.rt',)
 
 # The directories of MAP besides the crates.
-DIRECTORIES = ('web/core', 'web/command', 'web/page', 'include', 'examples', 'python', 'python/cdpatch', 'tools', 'tests', 'tests/outside',
-               'tests/model', 'tests/cases', 'tests/library', 'tests/python', 'tests/wasm', 'tests/core', 'tests/cdscript', 'tests/web',
-               'tests/wrong', 'tests/wrong_definitions', 'bench')
+DIRECTORIES = ('web/core', 'web/core/texts', 'web/command', 'web/page', 'include', 'examples', 'python', 'python/cdpatch', 'tools',
+               'tools/eslint', 'tests', 'tests/outside', 'tests/model', 'tests/cases', 'tests/library', 'tests/python', 'tests/wasm',
+               'tests/core', 'tests/cdscript', 'tests/web', 'tests/joining', 'tests/wrong', 'tests/wrong_definitions', 'bench')
 
 # How the first comment of a file is marked, line by line or at its ends. Other files have no row.
 LINES = {'.rt': '//[/!]', '.antt': '--', '.js': '//', '.mjs': '//', '.rs': '//!', '.sh': '#', '': '#'}
@@ -201,8 +201,12 @@ def calls() -> list[str]:
     return table(('Call', 'Crate', 'What it does', 'Clauses'), rows)
 
 
+def tools() -> list[str]:
+    return [f'- {line}' for line in (TOP / 'tools/versions.txt').read_text(encoding='utf-8').splitlines()] + ['']
+
+
 PARTS: dict[str, Callable[[], list[str]]] = {'files': files, 'uses': uses, 'figures': figures, 'headline': lambda: reading_table(0), 'theorem': lambda: reading_table(1),
-         'types': types_named, 'calls': calls}
+         'types': types_named, 'calls': calls, 'tools': tools}
 
 
 def remade(page: Path) -> tuple[str, list[str]]:

@@ -1,8 +1,8 @@
 #!/usr/bin/env bash
 # `tools/wasm.sh DIRECTORY` makes two WebAssembly modules in DIRECTORY of the calls of libcdpatch that take no memory:
 # cdpatch-wasm64.wasm, which is proved for that target, and of it cdpatch.wasm, whose memory has 32-bit addresses, so that engines
-# without 64-bit memories run it too; and cdpatch-wasm64.txt, the verdict. It needs the libraries that tools/prove.py has built, and
-# wasm-opt.
+# without 64-bit memories run it too; cdpatch-wasm64.txt, the verdict; and cdpatch.wasm.txt, the version of wasm-opt. It needs the libraries
+# that tools/prove.py has built, and wasm-opt.
 #
 # A module has one crate of exports. So the crates of exports are joined to one, in a copy of the repository: the merge gate takes
 # no crate for wasm64. Their modules keep their names, and the paths to them lose the crate's.
@@ -26,10 +26,10 @@ done
 # Nothing is proved again if nothing has changed.
 changed() {
     local name
-    [ -f "$directory/cdpatch-wasm64.wasm" ] && [ -f "$directory/cdpatch.wasm" ] || return 0
+    [ -f "$directory/cdpatch-wasm64.wasm" ] && [ -f "$directory/cdpatch.wasm" ] && [ -f "$directory/cdpatch.wasm.txt" ] || return 0
     for name in $exporting $below; do
         [ ! -d "crates/$name" ] || find "crates/$name"/{src,specs,proofs} -newer "$directory/cdpatch.wasm" -print -quit 2> /dev/null
-    done | grep -q . || [ -n "$(find crates.txt tools/wasm.sh -newer "$directory/cdpatch.wasm")" ]
+    done | grep -q . || [ -n "$(find crates.txt tools/wasm.sh tools/lower.sh -newer "$directory/cdpatch.wasm")" ]
 }
 changed || exit 0
 
@@ -69,8 +69,9 @@ join_part specs Lib.antt
 join_part proofs Lib.antt
 for name in $exporting; do
     grep -h '^mod ' "crates/$name/src/lib.rt" >> "$made/src/modules"
-    cat "crates/$name/specs/Lib.antt" >> "$made/specs/Lib.antt"
-    [ ! -f "crates/$name/proofs/Lib.antt" ] || cat "crates/$name/proofs/Lib.antt" >> "$made/proofs/Lib.antt"
+    for part in specs proofs; do
+        [ ! -f "crates/$name/$part/Lib.antt" ] || cat "crates/$name/$part/Lib.antt" >> "$made/$part/Lib.antt"
+    done
 done
 { printf '%s\n' '//! The calls of libcdpatch that take no memory.' '#![tactic(auto)]' ''; sort "$made/src/modules"; } > "$made/src/lib.rt"
 rm "$made/src/modules"
@@ -81,7 +82,6 @@ sed -i 's/use cd_sector::/use cd_words::/' "$made/src/bodies.rt"
 (cd "$made" && rt lib 2>&1) > "$room/log" || { cat "$room/log"; exit 1; }
 cat "$room/log"
 mv "$made/out/$crate.wasm" "$directory/cdpatch-wasm64.wasm"
-wasm-opt --enable-memory64 --enable-bulk-memory --enable-sign-ext --enable-mutable-globals --enable-nontrapping-float-to-int \
-    --memory64-lowering "$directory/cdpatch-wasm64.wasm" -o "$directory/cdpatch.wasm"
+chmod 644 "$directory/cdpatch-wasm64.wasm"
+bash tools/lower.sh "$directory/cdpatch-wasm64.wasm" "$directory/cdpatch.wasm"
 grep '^logic=proved ' "$room/log" > "$directory/cdpatch-wasm64.txt"
-chmod 644 "$directory"/cdpatch{,-wasm64}.wasm

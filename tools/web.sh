@@ -5,5 +5,5 @@ set -euo pipefail
 library=$(realpath "$1")
 directory=$(realpath "$2")
 cd "$(dirname "$0")/.."
-python3 -B tools/join.py command "$library/cdpatch.wasm" "$directory/cdscript"
-python3 -B tools/join.py page "$library/cdpatch.wasm" "$directory/cdpatch.html"
+python3 -B tools/pack.py command "$library/cdpatch.wasm" "$directory/cdscript"
+python3 -B tools/pack.py page "$library/cdpatch.wasm" "$directory/cdpatch.html"

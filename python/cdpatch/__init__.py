@@ -6,8 +6,9 @@
 
 Images, scripts, sectors, user data and addresses are bytes, bytearray, memoryview, mmap, array, or any other object with a buffer
 whose bytes are in a row: each is read where it stands, whatever the size of its items, and only `out` of `apply` is written. Threads
-may make calls at the same time. The library is the file that CDPATCH_LIBRARY names, or one in the directory of this package, or that
-of the loader, or one in `lib` of the prefix that this package is installed below."""
+may make calls at the same time, also on the same bytes; what one writes, no other reads or writes meanwhile. The library is the file
+that CDPATCH_LIBRARY names, or one in the directory of this package, or that of the loader, or one in `lib` of the prefix that this
+package is installed below; one of these two that lacks a call is passed over."""
 
 from ._errors import Damaged, Failed, NotMode1, OutOfRange, Refused
 from ._images import LAST_BASE, Patched, Report, apply, audit, check, listing

@@ -9,7 +9,7 @@ from ._library import LINE_SIZE, library
 
 
 class Failed(ValueError):
-    """The status of the command is 2. The message is what it prints, without the last line feed."""
+    """The status of the command is 2. The message is what it prints, without the last line feed; or, if no image has the base, that."""
 
 
 class Refused(ValueError):

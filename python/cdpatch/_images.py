@@ -4,6 +4,8 @@ from __future__ import annotations
 
 import ctypes
 import re
+from itertools import islice
+from operator import index
 from typing import TYPE_CHECKING, Callable, NamedTuple, Optional, overload
 
 from ._errors import Failed
@@ -15,6 +17,8 @@ if TYPE_CHECKING:
 
 LAST_BASE = 449849
 _FOUND, _FAILED = 1, 2
+# A log has a line for each patch, of which a script has at most 65535, and a last one.
+_MOST_LOG_LINES = 65536
 
 
 class Report(NamedTuple):
@@ -31,7 +35,8 @@ class Patched(NamedTuple):
 
 
 def checked_base(base: int) -> int:
-    """The base of an image. Raises Failed if no image has it."""
+    """The base of an image. Raises Failed if no image has it, and TypeError if it is no whole number."""
+    base = index(base)
     if not 0 <= base <= LAST_BASE:
         raise Failed(f'base {base} is not 0 to {LAST_BASE}')
     return base
@@ -49,11 +54,13 @@ def _reported(call: Callable[..., int], room: int, *arguments: int) -> Report:
 
 
 def _room_for_sectors(image: Held) -> int:
+    """Enough room, as cdpatch.h has it."""
     return 100 + 40 * (image.size // SECTOR_SIZE)
 
 
 def _room_for_patches(script: ReadableBuffer) -> int:
-    lines = 1 + sum(1 for _ in re.finditer(b'\n', script))
+    """Enough room, as cdpatch.h has it."""
+    lines = 1 + sum(1 for _ in islice(re.finditer(b'\n', script), _MOST_LOG_LINES - 1))
     return 200 + 80 * lines
 
 
@@ -61,7 +68,7 @@ def listing(image: ReadableBuffer, base: int = 0) -> str:
     """Returns what `cdpatch list` prints: the runs of sectors of one kind, in an image of any size whose first sector is block `base`,
     0 to 449849.
 
-    Raises Failed if the base is another number, or the image has more than 1000000 sectors."""
+    Raises Failed if the base is another number, or the image has more than 2352000000 bytes, which is 1000000 sectors."""
     with Held(image) as held:
         return _reported(library.cdpatch_list, _room_for_sectors(held), held.place, held.size, checked_base(base)).text
 
@@ -70,7 +77,7 @@ def audit(image: ReadableBuffer, base: int = 0) -> Report:
     """Returns what `cdpatch audit` prints: what is wrong with the Mode 1 sectors of an image of any size whose first sector is block
     `base`, 0 to 449849; and whether something is, which may be only an address.
 
-    Raises Failed if the base is another number, or the image has more than 1000000 sectors."""
+    Raises Failed if the base is another number, or the image has more than 2352000000 bytes, which is 1000000 sectors."""
     with Held(image) as held:
         return _reported(library.cdpatch_audit, _room_for_sectors(held), held.place, held.size, checked_base(base))
 
@@ -97,15 +104,16 @@ def apply(image: ReadableBuffer, script: ReadableBuffer, base: int = 0, carry: b
 def apply(image: ReadableBuffer, script: ReadableBuffer, base: int = 0, carry: bool = False, *,
           out: Optional[WriteableBuffer] = None) -> Patched | Report:
     """Patches an image of any size, whose first sector is block `base`, 0 to 449849, by a script. Returns the new image, what
-    `cdpatch apply` prints, and whether a patch was refused; the image has the others. With `carry` patches on damaged sectors are
-    accepted, and the damage stays.
+    `cdpatch apply` prints, and whether a patch was refused; the image has the others. With `carry` damage is no reason
+    to refuse a patch, and stays; a `rebuild` removes it, with `carry` and without.
 
     With `out`, such as the map of a new file, the new image is written to its first bytes, and the others stay; then the result has
-    no image. Nothing else holds as much memory as the image.
+    no image. Beside it, a call takes the memory of the log, at most 5243080 bytes, twice, and what the patches of the script take.
 
-    Raises Failed if the base is another number, the script is invalid, the image has more than 1000000 sectors, or there is no memory;
-    `out` then begins with a prefix of the new image, perhaps an empty one. Raises ValueError, and writes nothing, if `out` is smaller
-    than the image, or shares a byte with the image or the script; BufferError if it is read-only."""
+    Raises Failed if the base is another number, the script is invalid or has more than 67108864 bytes, the image has more than
+    2352000000, or there is no memory; `out` then begins with a prefix of the new image, perhaps an empty one. Raises ValueError, and
+    writes nothing, if `out` is smaller than the image, or shares a byte with the image or the script; and if it is read-only what its
+    type raises then, which is BufferError, or ValueError for an array of numpy."""
     if out is None:
         made = bytearray(memoryview(image).nbytes)
         return Patched(made, *_applied(image, script, base, carry, made))

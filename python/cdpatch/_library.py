@@ -4,12 +4,14 @@ from __future__ import annotations
 
 import ctypes
 import os
+from functools import lru_cache
 from pathlib import Path
+from typing import Callable, Type
 
 NAME = 'libcdpatch.so.1'
 HERE = Path(__file__).resolve().parent
-# `make install` puts the package, and pip a package, four directories below the prefix.
-PREFIX = HERE / '..' / '..' / '..' / '..'
+# Where `make install` puts the package below a prefix, and where pip does. In another place the directories above belong to anybody.
+INSTALLED = ('share/cdpatch/python/cdpatch', 'lib*/python3*/site-packages/cdpatch', 'lib*/python3*/dist-packages/cdpatch')
 
 SECTOR_SIZE = 2352
 USER_SIZE = 2048
@@ -25,7 +27,8 @@ class Defect(ctypes.Structure):
 
 class Record(ctypes.Structure):
     """What `list` and `audit` say of a sector: `kind` is its place in `KINDS`, `address` whether its address is another than its
-    block's, and `zeros`, `edc`, `p` and `q` are what a Defect has. All but `kind` are 0 if it is not a Mode 1 sector."""
+    block's, which is false for a block above 449849, as that has none, and `zeros`, `edc`, `p` and `q` are what a Defect has. All but
+    `kind` are 0 if it is not a Mode 1 sector."""
     _fields_ = [('kind', ctypes.c_uint8), ('address', ctypes.c_bool), ('zeros', ctypes.c_bool), ('edc', ctypes.c_bool),
                 ('p', ctypes.c_uint8), ('q', ctypes.c_uint8)]
     kind: int
@@ -34,6 +37,26 @@ class Record(ctypes.Structure):
     edc: bool
     p: int
     q: int
+
+    def __repr__(self) -> str:
+        return f'Record({", ".join(f"{name}={getattr(self, name)!r}" for name, _ in self._fields_)})'
+
+
+@lru_cache
+def records_type(count: int) -> Type[ctypes.Array[Record]]:
+    """An array of so many records that can be pickled, as no other array of ctypes can."""
+    class Records(ctypes.Array[Record]):
+        _type_ = Record
+        _length_ = count
+
+        def __reduce__(self) -> tuple[Callable[[bytes], ctypes.Array[Record]], tuple[bytes]]:
+            return records_of, (bytes(self),)
+    return Records
+
+
+def records_of(data: bytes) -> ctypes.Array[Record]:
+    """The records of these bytes."""
+    return records_type(len(data) // ctypes.sizeof(Record)).from_buffer_copy(data)
 
 
 class Line(ctypes.Structure):
@@ -94,31 +117,38 @@ def _places() -> list[str]:
         return [named]
     if (HERE / NAME).exists():
         return [str(HERE / NAME)]
-    installed = PREFIX / 'lib' / NAME
+    if not any(HERE.match(form) for form in INSTALLED):
+        return [NAME]
+    installed = HERE.parents[3] / 'lib' / NAME
     return [NAME, str(installed)] if installed.exists() else [NAME]
 
 
-def _loaded() -> ctypes.CDLL:
-    """The library from the first place that has it."""
-    for place in _places():
-        try:
-            return ctypes.CDLL(place)
-        except OSError as error:
-            why = error
-    raise ImportError(f'cdpatch cannot load its library: {why}. Install it (make install, ldconfig), or set CDPATCH_LIBRARY to the '
-                      f'path of {NAME}.')
-
-
-def _typed(library: ctypes.CDLL) -> ctypes.CDLL:
-    """The library, after each call got its types."""
+def _opened(place: str) -> ctypes.CDLL:
+    """The library of a place, after each call got its types. Raises ImportError if there is none, or one that lacks a call."""
+    try:
+        library = ctypes.CDLL(place)
+    except OSError as why:
+        raise ImportError(f'cdpatch cannot load its library: {why}. Install it (make install, ldconfig), or set CDPATCH_LIBRARY to the '
+                          f'path of {NAME}.') from None
     for name, (answer, *arguments) in CALLS.items():
         try:
             call = getattr(library, f'cdpatch_{name}')
         except AttributeError:
-            raise ImportError(f'cdpatch has loaded an older library, without cdpatch_{name}. Install that of this package, or set '
+            raise ImportError(f'cdpatch has found an older library, {place}, without cdpatch_{name}. Install that of this package, or set '
                               f'CDPATCH_LIBRARY to the path of its {NAME}.') from None
         call.restype, call.argtypes = answer, arguments
     return library
 
 
-library = _typed(_loaded())
+def _first_opened() -> ctypes.CDLL:
+    """The library of the first place that has one with all calls."""
+    *places, last = _places()
+    for place in places:
+        try:
+            return _opened(place)
+        except ImportError:
+            pass
+    return _opened(last)
+
+
+library = _first_opened()

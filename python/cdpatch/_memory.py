@@ -23,12 +23,10 @@ _release = ctypes.pythonapi.PyBuffer_Release
 _release.argtypes = [ctypes.POINTER(_Export)]
 _release.restype = None
 
-# No call may get a null pointer, even for no bytes.
-_NOTHING = ctypes.create_string_buffer(1)
-
 
 class Held:
-    """The bytes of an object: where they begin, and how many they are, whatever the size of its items. Until the end of a `with` block,
+    """The bytes of an object: where they begin, which may be nowhere for no bytes, and how many they are, whatever the size of its items.
+    Until the end of a `with` block,
     or as long as this exists, the object can neither move nor free them. A call of the library takes this for a pointer.
 
     Raises ValueError if they are not `size` bytes; TypeError if the object has no buffer; BufferError if it is read-only and
@@ -39,7 +37,7 @@ class Held:
     def __init__(self, data: ReadableBuffer, size: Optional[int] = None, writable: bool = False) -> None:
         self._export = _Export()
         _export(data, self._export, writable)
-        self.place: int = self._export.buf or ctypes.addressof(_NOTHING)
+        self.place: int = self._export.buf or 0
         self.size: int = self._export.len
         self._as_parameter_ = ctypes.c_void_p(self.place)
         if size is not None and size != self.size:

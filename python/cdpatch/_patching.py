@@ -16,6 +16,8 @@ if TYPE_CHECKING:
 
 SECTORS_IN_HAND = 3  # that a patch can look at
 MOST_SECTORS = 1000000
+# No call makes this line: who reads an image does.
+TOO_LONG = f'cdpatch: the image has more than {MOST_SECTORS} sectors'
 
 
 class Reader(Protocol):
@@ -39,6 +41,7 @@ class _Source:
         self.reader = reader
         self.count = 0
         self.tail: Optional[bytes] = None
+        self.too_long = False  # whether a byte came after the most that an image has
 
     def _bytes(self, size: int) -> bytes:
         """At most so many bytes, as one read gives them."""
@@ -52,18 +55,17 @@ class _Source:
         return data
 
     def sector(self) -> Optional[bytes]:
-        """The next sector, or None after the last one. Raises Failed for a byte after the millionth."""
+        """The next sector, or None after the last one, and after the millionth. Nothing is read after the end."""
         if self.tail is not None:
             return None
-        data = self._bytes(SECTOR_SIZE)
-        if data and self.count == MOST_SECTORS:
-            raise Failed(f'cdpatch: the image has more than {MOST_SECTORS} sectors')
-        while len(data) < SECTOR_SIZE:
+        data = more = self._bytes(SECTOR_SIZE)
+        self.too_long = len(more) > 0 and self.count == MOST_SECTORS
+        while more and not self.too_long and len(data) < SECTOR_SIZE:
             more = self._bytes(SECTOR_SIZE - len(data))
-            if not more:
-                self.tail = data
-                return None
             data += more
+        if len(data) < SECTOR_SIZE or self.too_long:
+            self.tail = data
+            return None
         self.count += 1
         return data
 
@@ -118,12 +120,18 @@ class _Hand:
             ctypes.memmove(ctypes.addressof(self.sectors) + self.count * SECTOR_SIZE, sector, SECTOR_SIZE)
             self.count += 1
 
-    def apply(self, room: PatchRoom, carry: bool, place: Place) -> int:
-        """Makes a patch, and returns its result, an `enum cdpatch_result`. None is in hand for a block that the image does not have."""
-        block = room.patch.block
+    def turn_to(self, block: int) -> None:
+        """Takes in hand the sectors from a block on. They are none if the image does not have it."""
         self.pass_before(block)
         if self.block == block:
             self.fill()
+
+    def lacks(self, count: int) -> bool:
+        """Whether the image is too long, and fewer sectors than these are in hand."""
+        return self.source.too_long and self.count < count
+
+    def apply(self, room: PatchRoom, carry: bool, place: Place) -> int:
+        """Makes a patch on the sectors in hand, and returns its result, an `enum cdpatch_result`."""
         result: int = library.cdpatch_apply_patch(ctypes.byref(room.patch), room.new, room.old, self.sectors, self.count, carry,
                                                   ctypes.byref(place))
         return result
@@ -143,6 +151,10 @@ class _Log:
         self.lines.append(self.text.raw[:size].decode())
         self.applied += result == 0
 
+    def failed(self, why: str) -> Failed:
+        """The error that ends the log."""
+        return Failed(''.join([*self.lines, why]))
+
     def report(self) -> Report:
         """All lines, and whether a patch was refused."""
         refused = len(self.lines) - self.applied
@@ -152,24 +164,30 @@ class _Log:
 
 def patch(reader: Reader, script: ReadableBuffer, writer: Writer, base: int = 0, carry: bool = False) -> Report:
     """Reads an image, whose first sector is block `base`, 0 to 449849, patches it by a script, and writes the new image, of the same
-    size. Returns what `cdpatch apply` prints, and whether a patch was refused; the new image has the others. With `carry` patches on
-    damaged sectors are accepted, and the damage stays.
+    size. Returns what `cdpatch apply` prints, and whether a patch was refused; the new image has the others. With `carry` damage
+    is no reason to refuse a patch, and stays; a `rebuild` removes it, with `carry` and without.
 
     No more than three sectors are held, so `reader` and `writer` may be pipes. A read may give less than it is asked for, and a
     write take less; `write` returns how many bytes it took, as that of Python's files does. Nothing is flushed or closed.
 
-    Raises Failed if the base is another number, or the script is invalid: then nothing is read. Raises Failed if the image has more
-    than 1000000 sectors, OSError if the writer takes nothing, BlockingIOError if the reader has nothing yet, ValueError if it gives
-    more than it is asked for, and what the two raise: then a prefix of the new image was written."""
-    checked_base(base)
+    Raises Failed if the base is another number, or the script is invalid or has more than 67108864 bytes: then nothing is read. Raises
+    Failed, with the log so far, if the image has more than 2352000000 bytes, OSError if the writer takes nothing, BlockingIOError if the
+    reader has nothing yet, ValueError if it gives more than it is asked for, or if the script changes meanwhile, and what the two raise:
+    then a prefix of the new image was written."""
+    base = checked_base(base)
     log, room = _Log(), PatchRoom()
     with Held(script) as text:
         lines = patch_lines(text)
         hand = _Hand(_Source(reader), writer, base)
         for line in lines:
             room.read_again(line)
+            hand.turn_to(line.block)
+            if hand.lacks(room.sectors()):
+                raise log.failed(TOO_LONG)
             place = Place()
             log.add(line.number, hand.apply(room, carry, place), place)
     hand.pass_before(None)
+    if hand.lacks(1):
+        raise log.failed(TOO_LONG)
     _write_all(writer, hand.source.tail or b'')
     return log.report()

@@ -6,13 +6,14 @@ import ctypes
 from typing import Iterator, NamedTuple
 
 from ._errors import Failed
-from ._library import LINE_SIZE, PATCH_SIZE, Line, Patch, library
+from ._library import LINE_SIZE, PATCH_SIZE, USER_SIZE, Line, Patch, library
 from ._memory import Held
 
 # No call asks for it: who reads a script does.
 MOST_SCRIPT_BYTES = 67108864
 
-_NOTHING, _PATCH, _NO_HEAD = 0, 3, 4
+_NOTHING, _PATCH, _NO_HEAD, _NO_VERSION = 0, 3, 4, 14
+_SET, _FILL = 0, 1
 
 
 class PatchLine(NamedTuple):
@@ -38,8 +39,15 @@ class PatchRoom:
         return content
 
     def read_again(self, line: PatchLine) -> None:
-        """Reads the line of a patch that was read before."""
-        self.read(line.version, line.number, 0, line.place, line.size)
+        """Reads the line of a patch that was read before. Raises ValueError if it has become another one, of no patch of its block."""
+        content = self.read(line.version, line.number, 0, line.place, line.size)
+        if content != _PATCH or self.patch.block != line.block:
+            raise ValueError(f'line {line.number} of the script has changed since it was read')
+
+    def sectors(self) -> int:
+        """In how many sectors the patch lies."""
+        count: int = self.patch.offset + self.patch.count if self.patch.verb in (_SET, _FILL) else 1
+        return (count + USER_SIZE - 1) // USER_SIZE
 
 
 def _lines(script: Held) -> Iterator[tuple[int, int]]:
@@ -67,7 +75,7 @@ def patch_lines(script: Held) -> list[PatchLine]:
         content = room.read(version, number, len(found), place, size)
         if content == _PATCH:
             found.append(PatchLine(place, size, number, version, room.patch.block))
-        elif content >= _NO_HEAD:
+        elif _NO_HEAD <= content <= _NO_VERSION:
             raise _fault(number, content)
         elif content != _NOTHING:
             version = content

@@ -3,11 +3,12 @@
 from __future__ import annotations
 
 import ctypes
+from operator import index
 from typing import TYPE_CHECKING, Callable, NamedTuple, Optional, Union
 
 from . import _library
 from ._errors import refusal
-from ._library import ADDRESS_SIZE, SECTOR_SIZE, USER_SIZE, Record, library
+from ._library import ADDRESS_SIZE, SECTOR_SIZE, USER_SIZE, Record, library, records_type
 from ._memory import Held, lent, lent_whole
 
 if TYPE_CHECKING:
@@ -69,6 +70,7 @@ def kind(sector: ReadableBuffer) -> str:
 def address(block: int) -> Optional[bytes]:
     """Returns the 3 bytes of the address of a block, 0 to 449849 (block 0 is 00:02:00), or None for any other number."""
     made = ctypes.create_string_buffer(ADDRESS_SIZE)
+    block = index(block)
     has_one = 0 <= block <= _LARGEST_NUMBER and library.cdpatch_address(block, made)
     return made.raw if has_one else None
 
@@ -102,8 +104,9 @@ def defect(sector: ReadableBuffer) -> Defect:
 
 
 def broken(sector: ReadableBuffer) -> Broken:
-    """Returns which code words of a sector of any kind, 2352 bytes, are broken. A single wrong byte lies where the broken column and
-    the broken diagonal cross; libcdpatch(3) says which bytes each has. Raises ValueError for another size."""
+    """Returns which code words of a sector of any kind, 2352 bytes, are broken. A single wrong byte of 12 to 2247 lies where the broken
+    column and the broken diagonal cross; of 2248 to 2351 it breaks only a diagonal, and of 0 to 11 nothing. libcdpatch(3) says which
+    bytes each has. Raises ValueError for another size."""
     columns, diagonals = ctypes.create_string_buffer(86), ctypes.create_string_buffer(52)
     library.cdpatch_find_broken(lent(sector, SECTOR_SIZE), columns, diagonals)
     return Broken(columns.raw, diagonals.raw)
@@ -111,12 +114,13 @@ def broken(sector: ReadableBuffer) -> Broken:
 
 def survey(sectors: ReadableBuffer, block: int = 0) -> ctypes.Array[Record]:
     """Returns a Record for each whole sector of the given bytes, of which the first is block `block`: an array of six bytes for each,
-    which makes an object of one only when it is read. Bytes after the last whole sector are not looked at.
+    which makes an object of one only when it is read, and can be pickled. Bytes after the last whole sector are not looked at.
 
     Raises ValueError if a block is not 0 to 4294967294."""
+    block = index(block)
     with Held(sectors) as held:
         count = held.size // SECTOR_SIZE
-        records = (Record * count)()
+        records = records_type(count)()
         if not 0 <= block <= _LARGEST_NUMBER or not library.cdpatch_survey(held.place, count, block, records, count):
             raise ValueError(f'{count} sectors from block {block} on, and not blocks 0 to {_LARGEST_NUMBER - 1}')
     return records
@@ -135,6 +139,7 @@ def with_user(sector: ReadableBuffer, offset: int, new: ReadableBuffer, carry: b
     Raises NotMode1; Damaged, but not with `carry`; OutOfRange if the bytes are not within the user data; ValueError for another size
     of the sector. To replace all 2048 bytes of a sector that is known to be sound, `encode` takes less than half the time."""
     call = library.cdpatch_carry_user if carry else library.cdpatch_change_user
+    offset = index(offset)
     place = offset if 0 <= offset <= _LARGEST_SIZE else _LARGEST_SIZE
     return _accepted(*_changed(call, sector, place, *lent_whole(new)))
 

@@ -18,13 +18,10 @@ const random = commands.filter(row => row.place.startsWith('random'));
 /** The words for a case whose files have these names. */
 function wordsOf(row, image, script, out) {
     const { call: name, base, carry } = row;
-    const options = [...(base > 0 ? ['--base', String(base)] : []), ...(carry ? ['--carry'] : [])];
+    const options = ['--base', String(base), ...(carry ? ['--carry'] : [])];
     if (name === 'list' || name === 'audit') return [name, image, ...options];
     return name === 'apply' ? [name, ...options, image, script, out] : ['check', image, ...options, script];
 }
-
-/** What an image whose addresses all begin with another block says of it, if it has no `--base`. */
-const OTHER_BASE = /^cdscript: this image begins with block ([1-9]\d*): --base \1\n$/;
 
 /** Judges what a run has left. Of the order of patches the lines are asked for. */
 function judge(row, came, out) {
@@ -33,8 +30,7 @@ function judge(row, came, out) {
         assert.equal([...came.out.matchAll(/^line (\d+): /gm)].map(found => found[1]).join(' ') || '-', text, row.place);
         return;
     }
-    const errors = row.base === 0 ? came.errors.replace(OTHER_BASE, '') : came.errors;
-    assert.deepEqual({ status: came.status, out: came.out, errors }, { status: row.status, out: text, errors: '' }, row.place);
+    assert.deepEqual({ status: came.status, out: came.out, errors: came.errors }, { status: row.status, out: text, errors: '' }, row.place);
     if (row.out === null) assert.equal(out, null, row.place);
     else sameFile(out, bytesAt(row.out), row.place);
 }

@@ -5,7 +5,7 @@ import { test } from 'node:test';
 import { imageOf, inDirectory, run, tool, write } from './common.mjs';
 
 const program = process.env.PROGRAM;
-const INSIDE = 'in the middle of a character';
+const INSIDE = 'perhaps in the middle of a character (byte before: 8A)';
 
 /** Writes `image`, whose blocks 2 to 5 are zeros but for bytes at places. */
 function writeImage(room, ...places) {
@@ -24,11 +24,16 @@ test('a hit in the middle of a character is marked, and replaced only at its pla
     assert.ok(euc.out.includes('\t') && !euc.out.includes(INSIDE));
     const sign = tool('iconv', ['-f', 'EUC-JP', '-t', 'UTF-8'], { input: Buffer.from('A6B0', 'hex') }).toString();
     const signs = await run(['find', 'image', sign, '--encoding', 'EUC-JP'], { cwd: room });
-    assert.deepEqual(signs.out.split('\n').map(line => line.split('\t')[5]), [INSIDE, undefined, undefined]);
+    assert.deepEqual(signs.out.split('\n').map(line => line.split('\t')[5]), [INSIDE.replace('8A', 'B0'), undefined, undefined]);
     const all = await run(['replace', 'image', 'kz', 'xx', '--all', '--encoding', 'CP932'], { cwd: room });
-    const why = `block 2 offset 101 is ${INSIDE}`;
-    assert.deepEqual([all.status, all.out, all.errors],
-        [2, '', `cdscript: ${why}: to replace the bytes there all the same, give BLOCK and OFFSET\n`]);
+    const why = `block 2 offset 101: ${INSIDE}`;
+    assert.deepEqual([all.status, all.out, all.errors], [1, 'cdpatch 1\nset 4 502 7878 was 6B7A\n',
+        `cdscript: ${why}\ncdscript: block 4 offset 0: ${INSIDE}\n`]);
+    const each = await run(['replace', 'image', 'kz', 'xx', '--all', '--inside', '--encoding', 'CP932'], { cwd: room });
+    assert.deepEqual([each.status, each.out, each.errors],
+        [0, `cdpatch 1\n${['2 101', '4 0', '4 502'].map(place => `set ${place} 7878 was 6B7A\n`).join('')}`, '']);
+    const long = await run(['replace', 'image', 'kz', 'xxx', '--all', '--encoding', 'CP932'], { cwd: room });
+    assert.deepEqual([long.status, long.out, long.errors], [2, '', 'cdscript: the new bytes are 3, the old ones 2\n']);
     const many = await run(['replace', 'image', 'kz', 'xx', '--encoding', 'CP932'], { cwd: room });
     assert.deepEqual(many.errors.split('\n').slice(0, 3), [`cdscript: it stands at block 2 offset 101, ${INSIDE}`,
         `cdscript: it stands at block 4 offset 0, ${INSIDE}`, 'cdscript: it stands at block 4 offset 502']);
@@ -48,7 +53,12 @@ test('the encoding is the first one in which the text is not only in the middle 
     };
     const inside = 'in CP932 it stands there only in the middle of characters';
     assert.deepEqual(await found('アイ'), [0, ['5 9 '], ['the text stands there in EUC-JP', inside, 'hits 1 printed 1']]);
-    assert.deepEqual(await found('アイ', '--encoding', 'CP932'), [0, [`2 101 ${INSIDE}`], ['hits 1 printed 1']]);
+    const [status, [row], said] = await found('アイ', '--encoding', 'CP932');
+    assert.deepEqual([status, row, said], [0, `2 101 ${INSIDE.replace('8A', '83')}`, ['hits 1 printed 1']]);
+    const only = await run(['replace', 'image', 'アイ', 'エオ', '--encoding', 'CP932'], { cwd: room });
+    assert.deepEqual([only.status, only.errors], [2, `cdscript: block 2 offset 101: ${INSIDE.replace('8A', '83')}: --inside replaces it all the same\n`]);
+    const none = await run(['replace', 'image', 'アイ', 'エオ', '--encoding', 'CP932', '--all'], { cwd: room });
+    assert.deepEqual([none.status, none.out, none.errors], [2, '', `cdscript: ${INSIDE.replace('8A', '83')}\n`]);
     const other = 'in UTF-16LE it stands there too: --encoding UTF-16LE';
     assert.deepEqual(await found('kz'), [0, ['3 7 '], ['the text stands there in CP932', other, 'hits 1 printed 1']]);
     const kana = await run(['replace', 'image', 'アイ', 'エオ'], { cwd: room });
@@ -73,4 +83,19 @@ test('show keeps characters whole over rows, and goes on in the next block', () 
     assert.deepEqual(rows(border.out).slice(0, 3), [`2032  ${'00 '.repeat(15)}83  ...............ス`, 'block 3', `   0  58 42${' 00'.repeat(14)}  B..............`]);
     assert.equal(rows((await run(['show', 'image', '2'], { cwd: room })).out).length, 128);
     assert.equal(rows((await run(['show', 'image', '7', '2047'], { cwd: room })).out).length, 1);
+}));
+
+test('Big5, GBK and EUC-KR are searched if they are named', () => inDirectory(async room => {
+    // 遊戲 is B943C0B8 in Big5, 游戏 is D3CECFB7 in GBK, 게임 is B0D4C0D3 in EUC-KR.
+    const texts = { 'Big5': ['遊戲', 'B943C0B8'], 'GBK': ['游戏', 'D3CECFB7'], 'EUC-KR': ['게임', 'B0D4C0D3'] };
+    writeImage(room, ...Object.values(texts).map(([, bytes], i) => [2 + i, 100, bytes]));
+    for (const [i, [name, [text, bytes]]] of Object.entries(texts).entries()) {
+        const named = await run(['find', 'image', text, '--encoding', name.toLowerCase()], { cwd: room });
+        assert.deepEqual(named.out.split('\t').slice(0, 3), [String(2 + i), '100', '4']);
+        assert.ok(named.out.includes(text));
+        const shorter = await run(['replace', 'image', text, 'go', '--encoding', name], { cwd: room });
+        assert.equal(shorter.out, `cdpatch 1\nset ${2 + i} 100 676F2020 was ${bytes}\n`);
+        const other = await run(['find', 'image', text], { cwd: room });
+        assert.deepEqual([other.status, other.out, /Big5|GBK|EUC-KR/.test(other.errors)], [1, '', false]);
+    }
 }));

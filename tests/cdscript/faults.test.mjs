@@ -67,9 +67,9 @@ test('each call that fails once is a message and status 2', { skip: !hasDisc && 
                 let number = 0;
                 const came = await faultyCall(room, streams, words, () => number++ === at ? faults.errorOf('EIO') : null);
                 const what = `${words.join(' ')}: call ${at} (${made[at].join()})`;
-                // Where a message itself can't be written, there is only the status.
-                const silent = made[at][0] === 'writeSync' && came.status === right.status;
-                if (silent) continue;
+                // Where a message itself can't be written, there is only the status. A file system without links makes files by their names.
+                const silent = made[at][0] === 'writeSync' || (made[at][0] === 'linkSync' && made.findIndex(([it]) => it === 'linkSync') === at);
+                if (silent && came.status === right.status) continue;
                 assert.equal(came.status, 2, `${what}: ${came.out}${came.errors}`);
                 assert.ok(/^(cdscript|cdpatch): .+$/m.test(came.errors + came.out), `${what}: ${came.out}${came.errors}`);
                 assert.ok(!came.errors.includes('a fault in cdscript'), `${what}: ${came.errors}`);
@@ -131,7 +131,7 @@ test('a full or closed output is a message and status 2', () => inDirectory(room
     }
     const pipe = shell('{ "$COMMAND" audit many; echo $? > status; } | head -n 1', room);
     assert.equal(read(room, 'status').toString(), '2\n');
-    assert.match(pipe.stderr, /^cdscript: cannot write to standard output: its reader has ended\n$/);
+    assert.equal(pipe.stderr, '');
     assert.equal(shell('"$COMMAND" audit - <&-', room).stdout, 'cdpatch: reading the image failed\n');
     assert.equal(shell('"$COMMAND" raw image out 2>&-', room).status, 2);
 }));
@@ -200,37 +200,44 @@ test('a full disk leaves no file', t => inDirectory(room => {
     }
 }));
 
+/** Waits until a file is begun in a room, which has so many bytes at least. */
+async function begun(room, there, size) {
+    for (let i = 0; i < 400; i++) {
+        if (readdirSync(room).some(name => !there.includes(name) && read(room, name)?.length >= size)) return true;
+        await new Promise(resolve => setTimeout(resolve, 20));
+    }
+    return false;
+}
+
 test('a signal leaves no half file', () => inDirectory(async room => {
     const image = imageOf(room, 3000);
     write(room, { image: Buffer.concat([image, image, image, image]), script: 'cdpatch 1\n' });
     for (const [signal, words] of [['SIGINT', ['apply', 'image', 'script', 'out']], ['SIGTERM', ['user', 'image', 'out']],
         ['SIGHUP', ['merge', 'image', 'image', 'out']]]) {
+        const there = readdirSync(room);
         const child = spawn(process.execPath, ['-r', preload, command, ...words], { cwd: room, env: { ...process.env, SLOW: '1000' }, stdio: 'ignore' });
         const ended = new Promise(resolve => child.on('exit', (_, by) => resolve(by)));
-        for (let i = 0; i < 400 && !(existsSync(join(room, 'out')) && read(room, 'out').length > 0); i++) {
-            await new Promise(resolve => setTimeout(resolve, 20));
-        }
-        assert.ok(existsSync(join(room, 'out')), 'the file is begun');
+        const isBegun = await begun(room, there, 1);
         child.kill(signal);
         const late = setTimeout(() => child.kill('SIGKILL'), 6000); // All that is left to write takes longer.
-        assert.equal(await ended, signal);
+        assert.deepEqual([isBegun, await ended], [true, signal]);
         clearTimeout(late);
-        assert.equal(existsSync(join(room, 'out')), false, signal);
+        assert.deepEqual(readdirSync(room), there, signal);
     }
 }));
 
 test('a signal ends what waits for its input, and leaves no file', () => inDirectory(async room => {
     tool('mkfifo', ['pipe'], { cwd: room });
     for (const [name, stdin] of [['-', 'pipe'], ['pipe', 'ignore']]) {
+        const there = readdirSync(room);
         const child = spawn(process.execPath, [command, 'user', name, 'out'], { cwd: room, stdio: [stdin, 'ignore', 'ignore'] });
         const ended = new Promise(resolve => child.on('exit', (_, by) => resolve(by)));
-        for (let i = 0; i < 400 && !existsSync(join(room, 'out')); i++) await new Promise(resolve => setTimeout(resolve, 20));
+        const isBegun = await begun(room, there, 0);
         await new Promise(resolve => setTimeout(resolve, 300));
-        assert.ok(existsSync(join(room, 'out')), 'the file is begun');
         child.kill('SIGINT');
         const late = setTimeout(() => child.kill('SIGKILL'), 5000);
-        assert.equal(await ended, 'SIGINT', name);
+        assert.deepEqual([isBegun, await ended], [true, 'SIGINT'], name);
         clearTimeout(late);
-        assert.equal(existsSync(join(room, 'out')), false, name);
+        assert.deepEqual(readdirSync(room), there, name);
     }
 }));

@@ -5,7 +5,7 @@ const fs = require('node:fs');
 
 const faults = { hit: () => null };
 
-for (const name of ['open', 'openSync', 'fstatSync', 'read', 'readSync', 'writeSync', 'fsync', 'readdirSync']) {
+for (const name of ['open', 'openSync', 'fstatSync', 'read', 'readSync', 'writeSync', 'fsync', 'readdirSync', 'linkSync']) {
     const right = fs[name];
     const isRead = name.startsWith('read');
     const isLate = !name.endsWith('Sync');
@@ -16,7 +16,7 @@ for (const name of ['open', 'openSync', 'fstatSync', 'read', 'readSync', 'writeS
         if (fault !== 'short') return right(...given);
         const [descriptor, bytes, at, ...rest] = given;
         const size = Math.max(1, Math.floor((isRead ? rest[0] : bytes.length - at) / 2));
-        return right(descriptor, bytes, at, size, ...(isRead ? rest.slice(1) : []));
+        return right(descriptor, bytes, at, size, ...rest.slice(1));
     };
 }
 
@@ -36,12 +36,13 @@ if (process.env.NO_MEMORY !== undefined && !require('node:worker_threads').isMai
     WebAssembly.Memory.prototype.grow = () => { throw new RangeError('WebAssembly.Memory.grow(): Maximum memory size exceeded'); };
 }
 
-// As a preload: the threads read nothing, or a file is cut before they read.
+// As a preload: the threads read nothing, or a file is cut before they read. Node 18 loads the program itself by `readSync`, without a place.
 const { isMainThread } = require('node:worker_threads');
-if (!isMainThread && process.env.NO_READS !== undefined) faults.hit = name => name === 'readSync' ? faults.errorOf('EIO') : null;
+const readsPlace = (name, given) => name === 'readSync' && typeof given[4] === 'number';
+if (!isMainThread && process.env.NO_READS !== undefined) faults.hit = (...call) => readsPlace(...call) ? faults.errorOf('EIO') : null;
 if (!isMainThread && process.env.CUT !== undefined) {
-    faults.hit = name => {
-        if (name === 'readSync') fs.truncateSync(process.env.CUT, 8500 * 2352 + 100);
+    faults.hit = (...call) => {
+        if (readsPlace(...call)) fs.truncateSync(process.env.CUT, 8500 * 2352 + 100);
         return null;
     };
 }

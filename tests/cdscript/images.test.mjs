@@ -77,7 +77,7 @@ test('info of a disc', () => inDirectory(async room => {
     assert.deepEqual([status, errors], [1, '']);
     assert.equal(out, ['image.bin: a raw image, 2352 bytes a sector', `file image.bin bytes ${image.length} sha1 ${hash}`,
         'track 1 data blocks 75-114 in image.bin', 'base 75', '75-94 mode1', '95-95 nosync', '96-114 mode1', 'sectors 40 tail 0',
-        'mode1 39 damaged 2 address 0', ''].join('\n'));
+        'mode1 39 damaged 2 address 0', '95-95 not mode1 in a track of mode1', ''].join('\n'));
 }));
 
 test('info of what is no raw image', () => inDirectory(async room => {
@@ -228,7 +228,8 @@ const WRONG_WORDS = {
     'list --base=x a': "--base is a number from 0 to 449849, not 'x'",
     'list --base 1 --base 1 a': '--base stands there twice',
     'check --carry=1 a b': '--carry takes no value',
-    'find a b --encoding latin': "there is no encoding 'latin' here",
+    'find a b --encoding latin': "there is no encoding 'latin' here; there are hex, CP932, EUC-JP, UTF-8, UTF-16LE, UTF-16BE, " +
+        'Big5, GBK, EUC-KR',
     'find a b --encoding hex --table t': '--encoding and --table exclude each other',
     'diff a b --skip-damaged --fields': '--fields and --skip-damaged exclude each other',
     'replace a 1 0 b c --all': '--all and a place exclude each other',

@@ -156,7 +156,7 @@ test('a script of the difference leads from the one image to the other, and its 
     twoImages(room, 5000);
     const made = await run(['diff', 'old.bin', 'edited.bin', '-o', 'diff.txt'], { cwd: room });
     assert.deepEqual([made.status, made.errors], [0, '']);
-    assert.match(read(room, 'diff.txt').toString(), /^cdpatch 2\nset 5003 /);
+    assert.match(read(room, 'diff.txt').toString(), /^cdpatch 2\n# base 5000\nset 5003 /);
     sameFile(applied(room, 'old.bin', 'diff.txt', '--base', '5000'), read(room, 'edited.bin'), 'the new image');
     const undo = await run(['undo', 'old.bin', 'diff.txt', '-o', 'undo.txt'], { cwd: room });
     assert.equal(undo.status, 1);
@@ -206,10 +206,10 @@ test('what no script can say is named, and nothing is written', () => inDirector
     write(room, { image, other, tail: Buffer.concat([image, Buffer.from('a')]), tail2: Buffer.concat([image, Buffer.from('b')]) });
     const named = 'cdscript: other is damaged in blocks 3 to 4\ncdscript: mode1 and other in block 9, and a script changes only mode1\n' +
         'cdscript: mode1 and nosync in block 11, and a script changes only mode1\n';
-    await refuses(room, ['diff', 'image', 'other'], 'no script leads to that image, so none is written');
+    await refuses(room, ['diff', 'image', 'other'], 'no script leads to that image, so none is written: --partial leaves them out');
     assert.ok((await run(['diff', 'image', 'other'], { cwd: room })).errors.startsWith(named));
     assert.equal((await run(['diff', 'image', 'other', '--skip-damaged'], { cwd: room })).status, 2);
-    await refuses(room, ['diff', 'tail', 'tail2'], 'no script leads to that image, so none is written');
+    await refuses(room, ['diff', 'tail', 'tail2'], 'no script leads to that image, so none is written: --partial leaves that out');
     await refuses(room, ['diff', 'image', 'tail'], `the images have ${image.length} and ${image.length + 1} bytes, and no script changes a length`);
     write(room, { hurt: damaged(image, 0, [3, 100]) });
     const left = await run(['diff', 'image', 'hurt', '--skip-damaged'], { cwd: room });

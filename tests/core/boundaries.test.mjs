@@ -4,10 +4,15 @@ import assert from 'node:assert/strict';
 import { test } from 'node:test';
 import { core, diceOf } from './common.mjs';
 
-const { LOOKED_BACK, bytesInside, charactersFrom } = await core('boundaries.js');
-const { encodeText, encodingOf } = await core('text.js');
+const { LOOKED_BACK, bytesInside, charactersFrom } = await core('texts/boundaries.js');
+const { encodingOf, tableOf } = await core('text.js');
+const { encodeText } = await core('texts/encoding.js');
 
-const SIGNS = { 'CP932': 'aZ 7[ア｡ﾃスト勇者纊―', 'EUC-JP': 'aZ 7[ア｡ﾃスト勇者丂', 'UTF-8': 'aé勇\u{1F600}', 'UTF-16LE': 'a勇\u{1F600}', 'UTF-16BE': 'a勇\u{1F600}' };
+const SIGNS = { 'CP932': 'aZ 7[ア｡ﾃスト勇者纊―', 'EUC-JP': 'aZ 7[ア｡ﾃスト勇者丂', 'UTF-8': 'aé勇\u{1F600}', 'UTF-16LE': 'a勇\u{1F600}', 'UTF-16BE': 'a勇\u{1F600}',
+    'Big5': 'aZ 7[勇者許功蓋', 'GBK': 'aZ 7[勇者鎔丂狜', 'EUC-KR': 'aZ 7[용사갂힣뢔' };
+
+/** The encodings of which bytes say where characters begin. */
+const TOLD = Object.keys(SIGNS).filter(name => !name.startsWith('UTF-16'));
 
 /** A text of these signs, and where each begins in its bytes. */
 function someText(name, dice, count) {
@@ -18,7 +23,7 @@ function someText(name, dice, count) {
 }
 
 test('a place in the middle of a character is known by what is before it', () => {
-    for (const name of ['CP932', 'EUC-JP']) {
+    for (const name of TOLD) {
         for (let seed = 0; seed < 30; seed++) {
             const { starts, bytes } = someText(name, diceOf(seed), 60);
             for (let at = 0; at < bytes.length; at++) {
@@ -29,14 +34,23 @@ test('a place in the middle of a character is known by what is before it', () =>
     }
     const [long, euc] = [new Uint8Array(LOOKED_BACK + 2).fill(0xB0), encodingOf('EUC-JP')];
     assert.deepEqual([bytesInside(euc, long, LOOKED_BACK), bytesInside(euc, long, LOOKED_BACK - 1)], [0, 1]);
-    assert.equal(bytesInside(encodingOf('UTF-8'), Uint8Array.of(0xE5, 0x8B, 0x87), 1), 0);
+    const far = new Uint8Array(3 * LOOKED_BACK).fill(0xB0);
+    far[LOOKED_BACK] = 0x41;
+    assert.deepEqual([2, 3, LOOKED_BACK, LOOKED_BACK + 2].map(after => bytesInside(euc, far, LOOKED_BACK + after)), [1, 0, 1, 0]);
+    assert.equal(bytesInside(encodingOf('UTF-16LE'), Uint8Array.of(0x41, 0x30), 1), 0);
+});
+
+test('a place in the middle of a character of a game\'s own table is known too', () => {
+    const table = tableOf(new TextEncoder().encode('01=a\n0102=b\n05060708=c\n07=d\n'));
+    const bytes = Uint8Array.of(0x07, 0x01, 0x02, 0x05, 0x06, 0x07, 0x08, 0x01, 0x99);
+    assert.deepEqual(Array.from(bytes, (_, at) => bytesInside(table, bytes, at)), [0, 0, 1, 0, 3, 2, 1, 0, 0]);
 });
 
 test('bytes are cut into their characters', () => {
     for (const name of Object.keys(SIGNS)) {
         const { signs, starts, bytes } = someText(name, diceOf(7), 80);
         const found = [...charactersFrom(encodingOf(name), bytes, 0)];
-        assert.deepEqual(found, signs.map((text, i) => ({ at: starts[i], text })), name);
+        assert.deepEqual(found, signs.map((text, i) => ({ at: starts[i], size: (starts[i + 1] ?? bytes.length) - starts[i], text })), name);
     }
     const odd = [...charactersFrom(encodingOf('UTF-8'), Uint8Array.of(0x80, 0x41, 0xE5, 0x42), 0)];
     assert.deepEqual(odd.map(({ at, text }) => [at, text]), [[0, '\uFFFD'], [1, 'A'], [2, '\uFFFD'], [3, 'B']]);

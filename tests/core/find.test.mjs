@@ -4,8 +4,9 @@ import { test } from 'node:test';
 import { core, diceOf } from './common.mjs';
 import { rawOf } from './discs.mjs';
 
-const { findIn, joinFound, sectorsBeyond } = await core('find.js');
-const { encodeText, encodingOf, tableOf } = await core('text.js');
+const { findIn, joinFound, sectorsBeyond } = await core('texts/find.js');
+const { encodingOf, tableOf } = await core('text.js');
+const { encodeText } = await core('texts/encoding.js');
 
 const RAW = 2352;
 const USER = 2048;

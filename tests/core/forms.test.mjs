@@ -7,7 +7,11 @@ import { test } from 'node:test';
 import { top } from './common.mjs';
 
 const folder = process.env.CORE ?? join(top, 'web/core');
-const files = readdirSync(folder).filter(name => name.endsWith('.js'));
+const filesIn = (below = '') => readdirSync(join(folder, below), { withFileTypes: true }).flatMap(({ name }) => {
+    if (name.endsWith('.js')) return [below + name];
+    return name.includes('.') ? [] : filesIn(`${below}${name}/`);
+});
+const files = filesIn();
 const linesOf = name => readFileSync(join(folder, name), 'utf8').split('\n');
 const DECLARED = /^(?:export )?(?:async )?(?:function\*?|class|const|let) (\w+|[[{])/;
 
@@ -16,7 +20,7 @@ test('imports are lines, and what is declared has one name in all files', () => 
     const names = new Map();
     for (const file of files) {
         for (const line of linesOf(file)) {
-            if (/^import\b/.test(line)) assert.match(line, /^import \{ \w+(, \w+)* \} from '\.\/\w+\.js';$/, file);
+            if (/^import\b/.test(line)) assert.match(line, /^import \{ \w+(, \w+)* \} from '\.\.?\/(\w+\/)?\w+\.js';$/, file);
             if (/^export\b/.test(line)) assert.match(line, /^export (async function\*?|function\*?|class|const) \w/, file);
             const [, name] = line.match(DECLARED) ?? [];
             if (name === undefined) continue;

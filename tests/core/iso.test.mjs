@@ -214,6 +214,7 @@ test('damaged directories and volumes are named and end', async t => {
     assert.deepStrictEqual(found.files.map(file => file.path), ['/b/two']);
     const large = raw.slice();
     new DataView(large.buffer).setUint32(recordOf(large, 'B') + 10, 0xFFFFFFFF, true);
+    new DataView(large.buffer).setUint32(recordOf(large, 'B') + 14, 0xFFFFFFFF, false);
     assert.match((await filesOf(readerOf(large), 0)).faults.join('\n'), /^\/b: the directory in block \d+ would have 4294967295 bytes$/);
     const small = raw.slice();
     small[16 * RAW + 16 + 129] = 2;

@@ -7,7 +7,7 @@ import { answersOf, localCrew, withThreads } from './crews.mjs';
 
 const { Crew, JOBS, UNREAD, localHand, serving, transfersOf } = await core('jobs.js');
 const { addToRuns } = await core('runs.js');
-const { findIn, joinFound, sectorsBeyond } = await core('find.js');
+const { findIn, joinFound, sectorsBeyond } = await core('texts/find.js');
 
 const BASE = 40;
 const image = someImage(diceOf(21), 4200, BASE, 9);

@@ -2,7 +2,7 @@
 
 import assert from 'node:assert/strict';
 import { test } from 'node:test';
-import { calls, core, cutAt, cutBy, decoded, encoded } from './common.mjs';
+import { calls, core, cutAt, cutBy, decoded, encoded, newCalls } from './common.mjs';
 
 const { MOST_SCRIPT_BYTES, Refusal, patchesOf } = await core('script.js');
 const { VERB, patchFields } = await core('records.js');
@@ -55,6 +55,17 @@ test('lines end in LF or CR LF', async () => {
     assert.equal((await read([encoded('cdpatch 1\nset 0 0 41\r')])).reason, 'fault');
     assert.deepEqual(await read([encoded(SCRIPTS[6])]), { reason: 'fault', text: 'script line 2: bad hex\n' });
     assert.deepEqual(await read([encoded(SCRIPTS[4])]), { reason: 'fault', text: 'script line 3: no cdpatch 1 line\n' });
+});
+
+test('a later version of the language is no fault', async () => {
+    const later = newCalls();
+    const readLine = later.readLine.bind(later);
+    later.readLine = (version, number, earlier, from, size) => {
+        const head = decoded(later.held(from, from + size)) === 'cdpatch 3';
+        return version === 0 && head ? 256 : readLine(version === 256 ? 2 : version, number, earlier, from, size);
+    };
+    const patches = await patchesOf(later, [encoded('cdpatch 3\naddress 3 00:02:05\n')]);
+    assert.deepEqual(patches, await patchesOf(calls, [encoded('cdpatch 2\naddress 3 00:02:05\n')]));
 });
 
 test('what a patch says', async () => {

@@ -4,7 +4,8 @@ import { spawnSync } from 'node:child_process';
 import { test } from 'node:test';
 import { core } from './common.mjs';
 
-const { ENCODINGS, encodeText, encodingOf, tableOf, textOfFile } = await core('text.js');
+const { ENCODINGS, encodingOf, tableOf, textOfFile } = await core('text.js');
+const { encodeText, fillsOf, spaceIn } = await core('texts/encoding.js');
 
 /** @param {Uint8Array} bytes */
 const hex = bytes => Buffer.from(bytes).toString('hex').toUpperCase();
@@ -118,27 +119,94 @@ test('EUC-JP has row 13 and IBM\'s kanji in two bytes', () => {
     assert.strictEqual(encoded('EUC-JP', '〜'), 'A1C1');
 });
 
+/**
+ * The pairs of bytes that an encoding reads otherwise than Python, as what both read.
+ * @param {string} name @param {string} codec @param {[number, number][]} but runs that are not compared
+ */
+function readOtherwise(name, codec, but) {
+    const known = python(codec);
+    if (!known) return null;
+    const own = encodingOf(name);
+    const others = known.read.map((text, code) => {
+        const read = own.text(Uint8Array.of(code >> 8, code & 0xFF));
+        return read.includes('\uFFFD') || [...read].length !== 1 ? ['', text] : [read, text];
+    });
+    const isCompared = code => code >= 0x8100 && !but.some(([first, last]) => code >= first && code <= last);
+    return { others: others.filter(([read, text], code) => isCompared(code) && read !== text && [...text].length < 2), read: others };
+}
+
+test('Big5 is read as Python reads CP950, and has the rows of ETEN beside it', t => {
+    const found = readOtherwise('Big5', 'cp950', [[0xA3C0, 0xA3E0], [0xC6A1, 0xC8FE], [0xF9FE, 0xF9FE]]);
+    if (!found) return t.skip('no python3');
+    assert.deepStrictEqual(found.others, []);
+    const more = readOtherwise('Big5', 'big5hkscs', []);
+    const kana = Array.from({ length: 0xC7F2 - 0xC6E7 + 1 }, (_, i) => 0xC6E7 + i).filter(code => (code & 0xFF) > 0xA0 || (code & 0xFF) < 0x7F);
+    assert.deepStrictEqual(kana.filter(code => more.read[code][0] !== more.read[code][1]), []);
+    assert.strictEqual(encoded('Big5', '十卅═兀①あア'), 'A451' + 'A4CA' + 'A2A4' + 'A461' + 'C6A1' + 'C6E8' + 'C77C');
+    assert.strictEqual(encodingOf('Big5').text(Uint8Array.of(0x87, 0x40)).includes('\uFFFD'), true);
+});
+
+test('GBK is read as Python reads GB 18030, but for characters that only private use had', t => {
+    const own = /[\uE000-\uF8FF]/;
+    const found = readOtherwise('GBK', 'gb18030', []);
+    if (!found) return t.skip('no python3');
+    assert.deepStrictEqual(found.others.filter(([, text]) => !own.test(text)), []);
+    assert.strictEqual(found.others.filter(([read, text]) => own.test(text) && read).map(([read]) => read).join(''),
+        '\u3000︐︒︑︓︔︕︖︗︘︙ḿ龴龵龶龷龸龹龺龻');
+    assert.strictEqual(readOtherwise('GBK', 'gbk', []).others.filter(([read]) => !read).length, 0);
+    for (const code of ['AAA1', 'F8A1', 'A140', 'A2AB']) assert.ok(decoded('GBK', code).includes('\uFFFD'), code);
+    assert.strictEqual(encoded('GBK', '啊鎔\u3000'), 'B0A1' + 'E667' + 'A1A1');
+});
+
+test('EUC-KR is read as Python reads CP949, with all syllables', t => {
+    const found = readOtherwise('EUC-KR', 'cp949', []);
+    if (!found) return t.skip('no python3');
+    assert.deepStrictEqual(found.others, []);
+    assert.strictEqual(encoded('EUC-KR', '가각갂힣€'), 'B0A1' + 'B0A2' + '8141' + 'C652' + 'A2E6');
+    const own = allEncoded('EUC-KR');
+    assert.deepStrictEqual(CHARACTERS.filter((it, i) => it >= '\uAC00' && it <= '\uD7A3' && !own[i]), []);
+});
+
+test('Big5, GBK and EUC-KR are written as iconv writes them, but for the euro sign of GBK', t => {
+    for (const [name, codec, but] of [['Big5', 'CP950', ''], ['GBK', 'GBK', '€'], ['EUC-KR', 'CP949', '']]) {
+        const wide = CHARACTERS.filter(it => it >= '\x80');
+        const run = spawnSync('iconv', ['-c', '-f', 'UTF-8', '-t', codec], { input: `${wide.join('\n')}\n`, maxBuffer: 1 << 24 });
+        if (run.error) return t.skip('no iconv');
+        const lines = run.stdout.toString('latin1').split('\n').map(line => hex(Buffer.from(line, 'latin1')));
+        const own = allEncoded(name).slice(CHARACTERS.length - wide.length);
+        assert.strictEqual(wide.filter((_, i) => own[i] && lines[i] && own[i] !== lines[i]).join(''), but, name);
+        assert.ok(wide.filter((_, i) => own[i] && own[i] === lines[i]).length > 13000, name);
+    }
+});
+
 test('each character that an encoding writes, it reads again', () => {
-    for (const name of ENCODINGS.filter(it => it !== 'hex')) {
+    for (const { name } of ENCODINGS.filter(it => it.name !== 'hex')) {
         const encoding = encodingOf(name);
         const own = allEncoded(name);
         const again = CHARACTERS.filter((it, i) => own[i] && encoding.text(Buffer.from(own[i], 'hex')) !== it);
         assert.strictEqual(again.join(''), ['CP932', 'EUC-JP'].includes(name) ? '¢£¬—‖−〜' : '', name);
     }
-    for (const name of ENCODINGS.filter(it => it.startsWith('UTF'))) {
+    for (const { name } of ENCODINGS.filter(it => it.name.startsWith('UTF'))) {
         assert.strictEqual(allEncoded(name).filter(it => it === '').length, 0, name);
         assert.strictEqual(encodingOf(name).text(encodeText(encodingOf(name), '\uFEFFA😀\n')), '\uFEFFA😀\n');
     }
 });
 
 test('every spelling of a part is read as that part', () => {
-    for (const name of ['CP932', 'EUC-JP']) {
-        const encoding = encodingOf(name);
-        for (const it of encoding.spellings.keys()) {
-            if ('¢£¬—‖−〜'.includes(it)) continue;
-            for (const bytes of encoding.spellings.get(it)) assert.strictEqual(encoding.text(bytes), it);
+    for (const encoding of ENCODINGS.filter(({ table }) => table)) {
+        for (const it of encoding.table.spellings.keys()) {
+            if (/^(CP932|EUC-JP)$/.test(encoding.name) && '¢£¬—‖−〜'.includes(it)) continue;
+            for (const bytes of encoding.units(it)[0]) assert.strictEqual(encoding.text(bytes), it);
         }
     }
+});
+
+test('a shorter text is filled up with the encoding\'s own space', () => {
+    const fills = encoding => fillsOf(encoding).map(({ bytes, name }) => `${hex(bytes)} ${name}`.trim()).join(', ');
+    assert.deepStrictEqual(['CP932', 'EUC-JP', 'UTF-8', 'UTF-16LE', 'UTF-16BE', 'hex', 'Big5', 'GBK', 'EUC-KR'].map(name => fills(encodingOf(name))), [
+        '20 space, 8140 wide space, 00', '20 space, A1A1 wide space, 00', '20 space, E38080 wide space, 00', '2000 space, 0030 wide space, 00',
+        '0020 space, 3000 wide space, 00', '00', '20 space, A140 wide space, 00', '20 space, A1A1 wide space, 00', '20 space, A1A1 wide space, 00']);
+    assert.deepStrictEqual([spaceIn(table('20=A')), fills(table('20=A')), fills(table('05= '))], [null, '00', '05 space, 00']);
 });
 
 test('UTF-8 and UTF-16 are those of the system, line ends and all', () => {
@@ -163,8 +231,11 @@ test('a character without bytes is named, with its place', () => {
 });
 
 test('encodings are known by their usual names, and no others', () => {
-    for (const name of ENCODINGS) assert.strictEqual(encodingOf(name).name, name);
+    for (const encoding of ENCODINGS) {
+        for (const name of [encoding.name, ...encoding.aliases]) assert.strictEqual(encodingOf(name.toLowerCase()), encoding);
+    }
     for (const name of ['Shift_JIS', 'shift-jis', 'SJIS', 'cp932', 'Windows-31J']) assert.strictEqual(encodingOf(name).name, 'CP932');
+    assert.deepStrictEqual(['cp950', 'GB2312', 'cp949', 'UHC'].map(name => encodingOf(name).name), ['Big5', 'GBK', 'EUC-KR', 'EUC-KR']);
     for (const name of ['', 'latin1', 'constructor', 'UTF-16']) assert.strictEqual(encodingOf(name), null);
 });
 

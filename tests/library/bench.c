@@ -1,5 +1,8 @@
-/* Rounds of one call of libcdpatch, for a count of instructions: `bench CALL ROUNDS`; without arguments it names the calls. */
+/* Rounds of one call of libcdpatch, for a count of instructions: `bench ROW ROUNDS`; without arguments it names the rows. `bench stack`
+ * prints of each row its call, and how many bytes of stack one round takes. */
+#define _DEFAULT_SOURCE
 #include <cdpatch.h>
+#include <signal.h>
 #include <stdio.h>
 #include <stdlib.h>
 #include <string.h>
@@ -9,10 +12,15 @@ static uint8_t address[3] = {0x00, 0x02, 0x00}, user[CDPATCH_USER_SIZE], sector[
 /* An image, and a script with a patch for one of its sectors. */
 enum { SECTORS = 16 };
 static const uint8_t script[] = "cdpatch 1\nset 7 5 41\n";
+static const uint8_t all_verbs[] = "cdpatch 2\nset 0 2047 4142 was 0000\nfill 1 7 4096 FF\nrebuild 2\naddress 3 00:02:03\nset 99 0 41\n";
 static uint8_t image[SECTORS * CDPATCH_SECTOR_SIZE], out[sizeof image], text[SECTORS * 40 + 300];
 static size_t length;
 
 /* Each round has other bytes, so that nothing is moved out of the loop. */
+static void version(uint8_t n) { user[n] = (uint8_t)cdpatch_version(); }
+static void result_text(uint8_t n) { cdpatch_result_text(n % 7, text); }
+static void kind(uint8_t n) { user[n] = (uint8_t)cdpatch_kind(sector); }
+static void address_of(uint8_t n) { cdpatch_address(n, address); }
 static void encode(uint8_t n) { user[5] = n; cdpatch_encode(address, user, sector); }
 static void is_consistent(uint8_t n) { user[n] = cdpatch_is_consistent(sector); }
 static void find_defect(uint8_t n) {
@@ -26,7 +34,10 @@ static void rebuild(uint8_t n) { sector[20] = n; cdpatch_rebuild(sector); }
 static void change_user_1(uint8_t n) { cdpatch_change_user(sector, 7, &n, 1); }
 static void change_user_2048(uint8_t n) { user[0] = n; cdpatch_change_user(sector, 0, user, CDPATCH_USER_SIZE); }
 static void carry_user_1(uint8_t n) { cdpatch_carry_user(sector, 7, &n, 1); }
+static void carry_user_8(uint8_t n) { memset(user, n, 8); cdpatch_carry_user(sector, 7, user, 8); }
+static void carry_user_2048(uint8_t n) { user[0] = n; cdpatch_carry_user(sector, 0, user, CDPATCH_USER_SIZE); }
 static void change_address(uint8_t n) { address[2] = n; cdpatch_change_address(sector, address); }
+static void carry_address(uint8_t n) { address[2] = n; cdpatch_carry_address(sector, address); }
 static void list_16(uint8_t n) { cdpatch_list(image, sizeof image, n, text, sizeof text, &length); }
 static void audit_16(uint8_t n) { text[n] = 0; cdpatch_audit(image, sizeof image, 0, text, sizeof text, &length); }
 static void check_16(uint8_t n) {
@@ -35,7 +46,12 @@ static void check_16(uint8_t n) {
 static void apply_16(uint8_t n) {
     cdpatch_apply(image, sizeof image, script, sizeof script - 1, 0, n % 2, out, sizeof out, text, sizeof text, &length);
 }
-
+static void check_all_verbs(uint8_t n) {
+    cdpatch_check(image, sizeof image, all_verbs, sizeof all_verbs - 1, 0, n % 2, text, sizeof text, &length);
+}
+static void apply_all_verbs(uint8_t n) {
+    cdpatch_apply(image, sizeof image, all_verbs, sizeof all_verbs - 1, 0, n % 2, out, sizeof out, text, sizeof text, &length);
+}
 
 /* Lines of a script, whose first digit changes, and the patches that they have. */
 static struct cdpatch_patch patch;
@@ -44,7 +60,7 @@ static struct cdpatch_record records[SECTORS];
 static struct cdpatch_sha1 hashed;
 static uint8_t new_bytes[CDPATCH_PATCH_SIZE], old_bytes[CDPATCH_PATCH_SIZE], columns[86], diagonals[52];
 static char comment[] = "# 0 a comment", rebuilding[] = "rebuild 0", setting[] = "set 0 5 41", asking[] = "set 0 5 41 was 42";
-static char longest[8 + 2 * CDPATCH_PATCH_SIZE + 1];
+static char longest[8 + 2 * CDPATCH_PATCH_SIZE + 1], spaces[sizeof longest];
 
 static void read_as(char *line, size_t size, size_t digit, uint8_t n) {
     line[digit] = '0' + n % 10;
@@ -60,6 +76,7 @@ static void read_rebuild(uint8_t n) { read_as(rebuilding, sizeof rebuilding - 1,
 static void read_set_1(uint8_t n) { read_as(setting, sizeof setting - 1, 4, n); }
 static void read_set_1_was(uint8_t n) { read_as(asking, sizeof asking - 1, 4, n); }
 static void read_set_4096(uint8_t n) { read_as(longest, sizeof longest - 1, 4, n); }
+static void read_spaces(uint8_t n) { read_as(spaces, sizeof spaces - 1, sizeof spaces - 2, n); }
 
 /* A patch on the first three sectors of the image. */
 static void apply_patch(uint8_t verb, uint16_t count, uint8_t n, bool carry) {
@@ -74,21 +91,68 @@ static void patch_set_1_carried(uint8_t n) { apply_patch(CDPATCH_SET, 1, n, true
 static void patch_set_2043(uint8_t n) { apply_patch(CDPATCH_SET, 2043, n, false); }
 static void patch_rebuild(uint8_t n) { image[20] = n; apply_patch(CDPATCH_REBUILD, 0, n, false); }
 static void patch_address(uint8_t n) { apply_patch(CDPATCH_ADDRESS, 0, n, false); }
+static void patch_set_4096(uint8_t n) { apply_patch(CDPATCH_SET, 4096, n, false); }
 static void outcome_line(uint8_t n) { cdpatch_outcome_line(n, CDPATCH_DIFFERS, 449849, 2047, text); }
+static void last_line(uint8_t n) { cdpatch_last_line(UINT32_MAX, n, text); }
+static void fault_line(uint8_t n) { cdpatch_fault_line(UINT32_MAX, n % 10 + CDPATCH_NO_HEAD, text); }
 static void survey_16(uint8_t n) { cdpatch_survey(image, SECTORS, n, records, SECTORS); }
 static void find_broken(uint8_t n) { sector[20] = n; cdpatch_find_broken(sector, columns, diagonals); }
+static void sha1_begin(uint8_t n) { hashed.count = n; cdpatch_sha1_begin(&hashed); }
 static void sha1_2352(uint8_t n) { sector[20] = n; cdpatch_sha1_add(&hashed, sector, sizeof sector); }
+static void sha1_end(uint8_t n) { hashed.count = n; cdpatch_sha1_end(&hashed, text); }
 
-static const struct { const char *name; void (*call)(uint8_t n); } calls[] = {
-    {"edc", edc}, {"encode", encode}, {"fill_parity", fill_parity}, {"is_consistent", is_consistent}, {"find_defect", find_defect},
-    {"rebuild", rebuild}, {"change_user_1", change_user_1}, {"change_user_2048", change_user_2048}, {"carry_user_1", carry_user_1},
-    {"change_address", change_address}, {"list_16", list_16}, {"audit_16", audit_16}, {"check_16", check_16},
-    {"apply_16", apply_16}, {"first_line", first_line}, {"read_comment", read_comment}, {"read_rebuild", read_rebuild},
-    {"read_set_1", read_set_1}, {"read_set_1_was", read_set_1_was}, {"read_set_4096", read_set_4096}, {"patch_set_1", patch_set_1},
-    {"patch_set_1_carried", patch_set_1_carried}, {"patch_set_2043", patch_set_2043}, {"patch_rebuild", patch_rebuild},
-    {"patch_address", patch_address}, {"outcome_line", outcome_line}, {"survey_16", survey_16}, {"find_broken", find_broken},
-    {"sha1_2352", sha1_2352},
+/* Of each row its name, its rounds, and the call that they make. */
+static const struct row { const char *name; void (*round)(uint8_t n); const char *call; } rows[] = {
+    {"version", version, "version"}, {"result_text", result_text, "result_text"}, {"edc", edc, "edc"}, {"kind", kind, "kind"},
+    {"address", address_of, "address"}, {"encode", encode, "encode"}, {"fill_parity", fill_parity, "fill_parity"},
+    {"is_consistent", is_consistent, "is_consistent"}, {"find_defect", find_defect, "find_defect"},
+    {"find_broken", find_broken, "find_broken"}, {"survey_16", survey_16, "survey"}, {"rebuild", rebuild, "rebuild"},
+    {"change_user_1", change_user_1, "change_user"}, {"change_user_2048", change_user_2048, "change_user"},
+    {"carry_user_1", carry_user_1, "carry_user"}, {"carry_user_8", carry_user_8, "carry_user"},
+    {"carry_user_2048", carry_user_2048, "carry_user"},
+    {"change_address", change_address, "change_address"}, {"carry_address", carry_address, "carry_address"},
+    {"first_line", first_line, "first_line"}, {"read_comment", read_comment, "read_line"}, {"read_rebuild", read_rebuild, "read_line"},
+    {"read_set_1", read_set_1, "read_line"}, {"read_set_1_was", read_set_1_was, "read_line"},
+    {"read_set_4096", read_set_4096, "read_line"}, {"read_spaces", read_spaces, "read_line"},
+    {"patch_set_1", patch_set_1, "apply_patch"},
+    {"patch_set_1_carried", patch_set_1_carried, "apply_patch"}, {"patch_set_2043", patch_set_2043, "apply_patch"},
+    {"patch_set_4096", patch_set_4096, "apply_patch"}, {"patch_rebuild", patch_rebuild, "apply_patch"},
+    {"patch_address", patch_address, "apply_patch"}, {"outcome_line", outcome_line, "outcome_line"}, {"last_line", last_line, "last_line"},
+    {"fault_line", fault_line, "fault_line"}, {"sha1_begin", sha1_begin, "sha1_begin"}, {"sha1_2352", sha1_2352, "sha1_add"},
+    {"sha1_end", sha1_end, "sha1_end"}, {"list_16", list_16, "list"}, {"audit_16", audit_16, "audit"}, {"check_16", check_16, "check"},
+    {"check_all_verbs", check_all_verbs, "check"}, {"apply_16", apply_16, "apply"}, {"apply_all_verbs", apply_all_verbs, "apply"},
 };
+enum { ROWS = sizeof rows / sizeof *rows };
+
+/* ---- the stack of a round, which is made in a signal handler on a stack that is filled before */
+
+enum { KEPT = 0xA5 };
+static volatile uint8_t stack[1 << 18];
+static void (*volatile in_handler)(uint8_t n);
+
+static void make_round(int signal) { in_handler((uint8_t)signal); }
+static void nothing(uint8_t n) { text[0] = n; }
+
+/* How many bytes of the stack are no more what they were. */
+static size_t stack_with(void (*round)(uint8_t n)) {
+    size_t untouched = 0;
+    round(0); /* The loader looks for a function at its first call, which takes stack too. */
+    in_handler = round;
+    memset((void *)stack, KEPT, sizeof stack);
+    raise(SIGUSR1);
+    while (untouched < sizeof stack && stack[untouched] == KEPT)
+        untouched++;
+    return sizeof stack - untouched;
+}
+
+static void print_stacks(void) {
+    stack_t here = {.ss_sp = (void *)stack, .ss_size = sizeof stack};
+    struct sigaction action = {.sa_handler = make_round, .sa_flags = SA_ONSTACK};
+    sigaltstack(&here, NULL);
+    sigaction(SIGUSR1, &action, NULL);
+    for (size_t i = 0; i < ROWS; i++)
+        printf("%s %zu\n", rows[i].call, stack_with(rows[i].round) - stack_with(nothing));
+}
 
 int main(int count, char **arguments) {
     cdpatch_encode(address, user, sector);
@@ -98,14 +162,17 @@ int main(int count, char **arguments) {
     }
     cdpatch_address(0, address);
     memset(longest, '4', sizeof longest - 1);
+    memset(spaces, ' ', sizeof spaces - 1);
     memcpy(longest, "set 0 5 ", 8);
     cdpatch_sha1_begin(&hashed);
-    for (size_t i = 0; i < sizeof calls / sizeof *calls; i++) {
+    if (count == 2)
+        print_stacks();
+    for (size_t i = 0; i < ROWS && count != 2; i++) {
         if (count < 3)
-            puts(calls[i].name);
-        else if (!strcmp(arguments[1], calls[i].name))
+            puts(rows[i].name);
+        else if (!strcmp(arguments[1], rows[i].name))
             for (long n = 0; n < atol(arguments[2]); n++)
-                calls[i].call((uint8_t)n);
+                rows[i].round((uint8_t)n);
     }
     return 0;
 }

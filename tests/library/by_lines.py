@@ -10,7 +10,7 @@ HAND = 3  # sectors that a patch can meet
 LINE_SIZE, PATCH_SIZE = 96, 4096
 KINDS = ('nosync', 'mode0', 'mode1', 'mode2', 'other')
 OK = 0
-NOTHING, PATCH, NO_HEAD = 0, 3, 4
+NOTHING, PATCH, NO_HEAD, NO_VERSION = 0, 3, 4, 14
 KEPT = b'\xA5'
 MORE = 40  # bytes after what a call may write, which must stay
 
@@ -83,7 +83,7 @@ def patches_of(library, text):
         if content == PATCH:
             bytes_of_each = patch.count if patch.verb == 0 else 0
             made.append((number, patch, new.raw[:bytes_of_each], old.raw[:bytes_of_each * (patch.has_old == 1)]))
-        elif content >= NO_HEAD:
+        elif NO_HEAD <= content <= NO_VERSION:
             raise Fault(number, content)
         elif content != NOTHING:
             version = content

@@ -90,6 +90,16 @@ static void check_addresses(uint8_t *address) {
     judge(cdpatch_edc(address, 0) == 0, "EDC of no bytes", 0);
 }
 
+/* No bytes may stand at a null pointer. */
+static void check_nulls(const uint8_t *sample, uint8_t *sector, unsigned n) {
+    memcpy(sector, sample, CDPATCH_SECTOR_SIZE);
+    judge(cdpatch_edc(NULL, 0) == 0, "EDC of no bytes at a null pointer", n);
+    judge(cdpatch_change_user(sector, 7, NULL, 0) == CDPATCH_OK, "change_user of no bytes at a null pointer", n);
+    judge(cdpatch_carry_user(sector, 2048, NULL, 0) == CDPATCH_OK, "carry_user of no bytes at a null pointer", n);
+    judge(cdpatch_change_user(sector, 2049, NULL, 0) == CDPATCH_OUT_OF_RANGE, "their range", n);
+    judge(!memcmp(sector, sample, CDPATCH_SECTOR_SIZE), "no bytes change nothing", n);
+}
+
 int main(int count, char **arguments) {
     uint8_t sample[CDPATCH_SECTOR_SIZE];
     unsigned number = 0;
@@ -107,6 +117,7 @@ int main(int count, char **arguments) {
             check_changes(sample, sector, user, address, number);
             check_refusals(sector, user, address, number);
             check_addresses(address);
+            check_nulls(sample, sector, number);
         }
         number++;
     }

@@ -25,7 +25,7 @@ def enough_room(command, image, script):
     """As cdpatch.h says."""
     if command in ('list', 'audit'):
         return 100 + 40 * (len(image) // 2352)
-    return 200 + 80 * (script.count(b'\n') + 1)
+    return 200 + 80 * min(script.count(b'\n') + 1, 65536)
 
 
 def run(path, command, image, base, carry, script):

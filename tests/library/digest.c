@@ -87,6 +87,15 @@ static void check_no_state(struct room room, uint8_t *bytes) {
     judge(ends_as(room, "da39a3ee5e6b4b0d3255bfef95601890afd80709"), "a state begins anew", 0);
 }
 
+/* No bytes may stand at a null pointer. */
+static void check_null(struct room room) {
+    begin(room);
+    cdpatch_sha1_add(room.state, NULL, 0);
+    cdpatch_sha1_add(room.state, (const uint8_t *)"abc", 3);
+    cdpatch_sha1_add(room.state, NULL, 0);
+    judge(ends_as(room, "a9993e364706816aba3e25717850c26c9cd0d89d"), "no bytes at a null pointer", 0);
+}
+
 int main(void) {
     for (int at_end = 0; at_end < 2; at_end++) {
         struct room room = { (struct cdpatch_sha1 *)(void *)fenced(sizeof *room.state, at_end), fenced(DIGEST_SIZE, at_end) };
@@ -95,6 +104,7 @@ int main(void) {
         check_million(room, bytes);
         check_pieces(room, bytes);
         check_no_state(room, bytes);
+        check_null(room);
     }
     return failures != 0;
 }

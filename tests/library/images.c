@@ -202,6 +202,53 @@ static void check_outputs(const uint8_t *image, size_t size, unsigned n) {
     }
 }
 
+/* No bytes may stand at a null pointer: an empty image, an empty script, an output for an empty image, and no room. */
+static void check_nulls(void) {
+    const uint8_t *script = (const uint8_t *)"cdpatch 1\n";
+    struct asked it = {LIST, NULL, 0, NULL, 0, false, 0, MOST, 0, 0, NULL, blank(MOST, true)};
+    it.status = cdpatch_list(NULL, 0, 0, it.log, MOST, &it.length);
+    judge(it.status == CDPATCH_DONE && printed(&it, "sectors 0 tail 0\n"), "a list of nothing", 0);
+    memset(it.log, KEPT, MOST);
+    it.status = cdpatch_audit(NULL, 0, 0, it.log, MOST, &it.length);
+    judge(it.status == CDPATCH_DONE && printed(&it, "sectors 0 mode1 0 damaged 0 tail 0\n"), "an audit of nothing", 0);
+    memset(it.log, KEPT, MOST);
+    it.status = cdpatch_check(NULL, 0, NULL, 0, 0, false, it.log, MOST, &it.length);
+    judge(it.status == CDPATCH_FAILED && printed(&it, "script line 1: no cdpatch 1 line\n"), "a check by nothing", 0);
+    memset(it.log, KEPT, MOST);
+    it.status = cdpatch_apply(NULL, 0, script, 10, 0, false, NULL, 0, it.log, MOST, &it.length);
+    judge(it.status == CDPATCH_DONE && printed(&it, "applied 0 refused 0\n"), "an empty image patched", 0);
+    judge(cdpatch_list(NULL, 0, 0, NULL, 0, &it.length) == CDPATCH_FAILED && it.length == 0, "a list to no room", 0);
+    it.length = 1;
+    judge(cdpatch_audit(NULL, 0, 0, NULL, 0, &it.length) == CDPATCH_FAILED && it.length == 0, "an audit to no room", 0);
+    it.length = 1;
+    judge(cdpatch_check(NULL, 0, script, 10, 0, false, NULL, 0, &it.length) == CDPATCH_FAILED && it.length == 0, "a check to no room", 0);
+    it.length = 1;
+    judge(cdpatch_apply(NULL, 0, NULL, 0, 0, false, NULL, 0, NULL, 0, &it.length) == CDPATCH_FAILED && it.length == 0,
+          "all of nothing", 0);
+    release(it.log, MOST);
+}
+
+/* The room that cdpatch.h calls enough for every script holds the log of the most patches, each with a line of most digits, in a script
+ * of nearly the most bytes, most of which are line feeds. */
+static void check_room(void) {
+    static const char first[] = "cdpatch 1\n", patch[] = "set 999999999 0 41\n";
+    const size_t room = 5243080, size = 67108864, patches = 65535;
+    uint8_t *script = (uint8_t *)malloc(size), *log = (uint8_t *)malloc(room), *last;
+    size_t length = 0;
+    if (!script || !log)
+        exit(2);
+    memset(script, '\n', size);
+    memcpy(script, first, strlen(first));
+    last = script + size - patches * strlen(patch);
+    for (size_t i = 0; i < patches; i++)
+        memcpy(last + i * strlen(patch), patch, strlen(patch));
+    judge(cdpatch_check(NULL, 0, script, size, 0, false, log, room, &length) == CDPATCH_FOUND && length > 40 * patches,
+          "the log of the most patches", 0);
+    judge(length >= 24 && !memcmp(log + length - 24, "applied 0 refused 65535\n", 24), "its last line", 0);
+    free(script);
+    free(log);
+}
+
 /* A script of more bytes than one may have, and an image of more sectors: 2.4 GB of addresses that are never written. */
 static void check_limits(const uint8_t *image, size_t size) {
     const size_t script_size = 67108865, image_size = (size_t)1000001 * SECTOR;
@@ -220,6 +267,9 @@ static void check_limits(const uint8_t *image, size_t size) {
     it.status = cdpatch_list(zeros, image_size, 0, it.log, MOST, &it.length);
     judge(it.status == CDPATCH_FAILED && it.length >= 49 && it.length <= MOST &&
           !memcmp(it.log + it.length - 49, "cdpatch: the image has more than 1000000 sectors\n", 49), "a long image", 0);
+    it.status = cdpatch_list(zeros, image_size - SECTOR + 1, 0, it.log, MOST, &it.length);
+    judge(it.status == CDPATCH_FAILED && it.length >= 49 && it.length <= MOST &&
+          !memcmp(it.log + it.length - 49, "cdpatch: the image has more than 1000000 sectors\n", 49), "a long tail", 0);
     munmap(zeros, image_size);
 }
 
@@ -274,8 +324,11 @@ int main(int count, char **arguments) {
     check_damage(image, sizeof image, 0);
     check_bases(image, sizeof image, 0);
     check_outputs(image, sizeof image, 0);
-    if (count == 3)
+    check_nulls();
+    if (count == 3) {
         check_limits(image, sizeof image);
+        check_room();
+    }
 #ifdef REFUSES
     check_memory(image, sizeof image);
 #endif

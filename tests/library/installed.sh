@@ -13,8 +13,26 @@ install_tarball() {
     bash "$top/tools/dist.sh" "$program" library . tarball > checksum 2> log
     tar -C tarball -xzf tarball/*.tar.gz
     PATH=/usr/bin:/bin make --no-print-directory -s -C tarball/*linux install DESTDIR="$PWD/root" PREFIX=/usr
-    rm -r tarball
+    rm -r tarball/*linux
     documents=$PWD/root/usr/share/doc/cdpatch
+}
+
+# compiles_below_a_space: whether ten lines compile with the flags of pkg-config below a prefix with a space.
+compiles_below_a_space() {
+    local flags
+    tar -xzf tarball/*.tar.gz
+    PATH=/usr/bin:/bin make --no-print-directory -s -C cdpatch-*-linux install prefix="$PWD/with space" && rm -r cdpatch-*-linux || return
+    flags=$(with_package "$PWD/with space" pkg-config --cflags --libs cdpatch)
+    eval "gcc -std=c99 \"\$tests/library/ten_lines.c\" $flags -o ten_lines_below" 2> errors &&
+        [ "$(with_package "$PWD/with space" ./ten_lines_below)" = '5F0017BC 1' ]
+}
+
+# The same with a cdpatch.pc without quotes.
+compiles_without_quotes() {
+    local pc='with space/lib/pkgconfig/cdpatch.pc'
+    sed -i 's/"//g' "$pc"
+    flags=$(with_package "$PWD/with space" pkg-config --cflags --libs cdpatch)
+    eval "gcc -std=c99 \"\$tests/library/ten_lines.c\" $flags -o ten_lines_below" 2> errors
 }
 
 test_pkg_config() {
@@ -32,6 +50,8 @@ test_pkg_config() {
     cp -r root/usr "$moved"
     said=$(with_package "$moved" pkg-config --define-prefix --variable=libdir cdpatch)
     judge 'pkg-config finds what was moved' test "$said" = "$moved/lib"
+    judge 'pkg-config below a prefix with a space' compiles_below_a_space
+    wrong_versions 'a wrong cdpatch.pc' && judge 'a cdpatch.pc without quotes is refused' refuses compiles_without_quotes
     [ ${#builds[@]} = 1 ] || judge 'the loader takes the build for x86-64-v3' \
         grep -q '/glibc-hwcaps/x86-64-v3/' <(LD_TRACE_LOADED_OBJECTS=1 with_package "$PWD/root/usr" ./ten_lines)
 }
@@ -44,11 +64,21 @@ cmake_takes() {
 }
 
 test_cmake() {
+    local cdpatch_version
     missing cmake cmake 'find_package of an installed library' && return
+    cdpatch_version=$("$program" --help | sed -n '$s/cdpatch //p')
     judge 'find_package(cdpatch)' cmake_takes ''
     judge 'find_package of an earlier version' cmake_takes 1.0
     judge 'find_package of a later one' refuses cmake_takes 1.99
     judge 'find_package of another first number' refuses cmake_takes 0.9
+    judge 'find_package of a range' cmake_takes 1.0...1.99
+    judge 'find_package of a range that ends with it' cmake_takes "1.0...$cdpatch_version"
+    judge 'find_package of a range that ends before it' refuses cmake_takes 1.0...1.1
+    judge 'find_package of a range that ends just before it' refuses cmake_takes "1.0...<$cdpatch_version"
+    judge 'find_package of a range after it' refuses cmake_takes 1.98...1.99
+    wrong_versions 'a wrong version file of CMake' || return
+    sed -i '/^if(PACKAGE_FIND_VERSION_RANGE)$/,/^endif()$/d' moved/lib/cmake/cdpatch/cdpatch-config-version.cmake
+    judge 'a version file that knows no ranges is refused' cmake_takes 1.0...1.1
 }
 
 # rust_as_program IMAGE: whether examples/damaged.rs prints the blocks of which `cdpatch audit` says more than the address.
@@ -101,12 +131,59 @@ test_python_client() {
     judge 'a client in Python, by pip' python_as_program env PYTHONPATH=site LD_LIBRARY_PATH=root/usr/lib "$python"
     judge 'pip knows its version' test "$(PYTHONPATH=site "$python" -m pip list --path site 2> errors | sed -n 's/^cdpatch  *//p')" = \
         "$("$program" --help | sed -n '$s/cdpatch //p')"
+    test_wheel "$python"
+    test_editable "$python"
+}
+
+# wheel PYTHON PROJECT: makes a wheel of a project in `wheels`.
+wheel() { rm -rf wheels && "$1" -m pip --disable-pip-version-check wheel --no-index --quiet --wheel-dir wheels "$2"; }
+
+# has_what_a_wheel_must PYTHON: whether the wheel in `wheels` is for this system, and has the notices and what an index shows of it.
+has_what_a_wheel_must() {
+    rm -rf contents
+    "$1" -m zipfile -e wheels/cdpatch-*-py3-none-manylinux_2_34_x86_64.whl contents &&
+        cmp -s library/NOTICES contents/cdpatch-*.dist-info/licenses/NOTICES && [ -e contents/cdpatch/libcdpatch.so.1 ] &&
+        grep -qx 'Root-Is-Purelib: false' contents/*.dist-info/WHEEL &&
+        [ "$(sed -nE '/^$/q; s/^(Author|Classifier|License-File|Description-Content-Type): .*/\1/p' contents/*.dist-info/METADATA | uniq |
+            paste -sd ' ')" = 'Author Classifier License-File Description-Content-Type' ] &&
+        grep -q '^    import cdpatch$' contents/*.dist-info/METADATA
+}
+
+test_wheel() {
+    local python=$1
     cp -r root/usr/share/cdpatch/python bundle
     cp library/libcdpatch.so.1 bundle/cdpatch
-    judge 'a wheel with its library' holds "$python" -m pip --disable-pip-version-check wheel --no-index --quiet --wheel-dir wheels ./bundle
-    judge 'it is for this system only' test -e wheels/cdpatch-*-py3-none-linux_x86_64.whl
+    judge 'a wheel with the library and no notices is refused' refuses wheel "$python" ./bundle
+    cp library/NOTICES bundle/cdpatch
+    judge 'a wheel with its library' holds wheel "$python" ./bundle
+    judge 'it is for this system only, with the notices' has_what_a_wheel_must "$python"
     "$python" -m pip --disable-pip-version-check install --no-index --quiet --target site2 wheels/*.whl > log 2>&1
     judge 'a client in Python, by that wheel' python_as_program env PYTHONPATH=site2 "$python"
+    wrong_versions 'wrong wheels' || return
+    refuses_backend 's/pure = not _has_library(files)/pure = True/' "$python" 'takes itself for any system'
+    refuses_backend 's/^    if not pure:$/    if False:/' "$python" 'has the notices elsewhere'
+    refuses_backend "s/, help_text or ''//" "$python" 'has no description'
+}
+
+# refuses_backend EXPRESSION PYTHON WHAT: judges that the wheel by a backend that sed's expression changes is refused.
+refuses_backend() {
+    rm -rf other_bundle
+    cp -r bundle other_bundle
+    sed -i "$1" other_bundle/backend.py
+    judge "a backend is another whose wheel $3" refuses cmp -s bundle/backend.py other_bundle/backend.py
+    judge "there is a wheel that $3" holds wheel "$2" ./other_bundle
+    judge "a wheel is refused that $3" refuses has_what_a_wheel_must "$2"
+}
+
+# An editable package is the one in its directory.
+test_editable() {
+    local python=$1
+    cp -r root/usr/share/cdpatch/python edited
+    "$python" -m venv --system-site-packages venv > log 2>&1 || return
+    judge 'pip installs it to be edited' holds venv/bin/python -m pip --disable-pip-version-check install --no-index --no-build-isolation \
+        --quiet -e ./edited
+    sed -i "s/^KINDS = .*/KINDS = ('edited',)/" edited/cdpatch/_sectors.py
+    judge 'and what is edited is taken' eval "[ \"\$(LD_LIBRARY_PATH=root/usr/lib venv/bin/python -B -c 'import cdpatch; print(*cdpatch.KINDS)')\" = edited ]"
 }
 
 # A program that was linked to 1.1.0 asks for no version of a call, as its library had none.

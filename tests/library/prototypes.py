@@ -1,4 +1,5 @@
-"""The header against the exports of the source: `prototypes.py HEADER SOURCE..`. Prints what differs."""
+"""The header against the exports of the source: `prototypes.py HEADER SOURCE..`. Prints what differs, and which declaration has no
+comment that Doxygen reads."""
 
 import re
 import sys
@@ -8,7 +9,11 @@ TYPES = {'u8': 'uint8_t', 'u16': 'uint16_t', 'u32': 'uint32_t', 'u64': 'uint64_t
 NAMES = {'bcd': 'address', 'found': 'defect'}  # parameters with another name in C
 NAMES_IN = {('cdpatch_result_text', 'number'): 'result'}
 STRUCTS = {'FoundDefect': 'cdpatch_defect', 'SectorRecord': 'cdpatch_record', 'TextLine': 'cdpatch_line',
-           'FlatPatch': 'cdpatch_patch', 'Place': 'cdpatch_place', 'DigestState': 'cdpatch_sha1'}
+           'FlatPatch': 'cdpatch_patch', 'Place': 'cdpatch_place', 'DigestState': 'cdpatch_sha1', 'Entry': 'cdpatch_entry',
+           'Rooms': 'cdpatch_rooms', 'RunStep': 'cdpatch_step'}
+# A struct whose fields are the library's own: C sees words of 64 bits.
+WORDS = {'ScriptRun': 'cdpatch_run'}
+BYTES = {'u8': 1, 'u16': 2, 'u32': 4, 'u64': 8, 'usize': 8}
 # Bytes that are 0 or 1, which C sees as bool.
 FLAGS = {('FoundDefect', 'zeros'), ('FoundDefect', 'edc'), ('SectorRecord', 'address'), ('SectorRecord', 'zeros'),
          ('SectorRecord', 'edc')}
@@ -22,15 +27,19 @@ FAULTS = {'Head': 'NO_HEAD', 'Verb': 'UNKNOWN_VERB', 'Words': 'WORD_COUNT', 'Num
           'NoMemory': 'NO_MEMORY'}
 OUTCOMES = {'Applied': 'OK', 'NotMode1': 'NOT_MODE1', 'Damaged': 'DAMAGED', 'NoBlock': 'NO_BLOCK', 'Differs': 'DIFFERS'}
 SIZES = {'CDPATCH_SECTOR_SIZE': ['SECTOR_SIZE'], 'CDPATCH_USER_SIZE': ['USER_SIZE'], 'CDPATCH_PATCH_SIZE': ['MAX_BYTES'],
-         'CDPATCH_LINE_SIZE': ['LINE_SIZE', 'TEXT_SIZE']}
+         'CDPATCH_LINE_SIZE': ['LINE_SIZE', 'TEXT_SIZE'], 'CDPATCH_CARRY': ['CARRY'], 'CDPATCH_NO_COPY': ['NO_COPY'],
+         'CDPATCH_WITHOUT_OLD': ['WITHOUT_OLD'], 'CDPATCH_SECTORS_IN_HAND': ['MAX_BLOCKS_MET']}
+# How many columns and diagonals a sector has, and bytes a digest.
+COUNTS = {'COLUMNS': '86', 'DIAGONALS': '52', 'DIGEST_LEN': '20'}
 
 
 def spaced(text):
     return re.sub(r'\s*\*\s*', ' *', ' '.join(text.split()))
 
 
-def of_c(call, parameter):
-    """The C parameters of a parameter: a slice has two, and its size may have any name; the allocator has none."""
+def of_c(call, parameter, constants):
+    """The C parameters of a parameter: a slice has two, and its size may have any name; the allocator has none. A reference to one thing
+    has the size of that."""
     name, kind = parameter.split(': ', 1)
     name = NAMES_IN.get((call, name), NAMES.get(name, name))
     if kind == 'Global':
@@ -41,14 +50,16 @@ def of_c(call, parameter):
     changes, target = pointer.groups()
     piece = re.fullmatch(r'\[([^;]*)\]', target)
     item = piece.group(1) if piece else target
-    if item in STRUCTS:
-        made = f'struct {STRUCTS[item]} *{name}'
+    array = re.fullmatch(r'\[u8; (\w+)\]', item)
+    if item in {**STRUCTS, **WORDS}:
+        made, count = f'struct {({**STRUCTS, **WORDS})[item]}', '1'
     elif item == 'usize':
-        made = f'size_t *{name}'
-    elif re.fullmatch(r'u8|Sector|\[u8; \w+\]', item):
-        made = f'uint8_t *{name}'
+        made, count = 'size_t', '1'
+    elif array or item in ('u8', 'Sector'):
+        made, count = 'uint8_t', array.group(1) if array else 'SECTOR_SIZE'
     else:
         raise ValueError(f'{call}: {parameter}')
+    made += f' *{name}' if piece else f' {name}[CDPATCH_AT_LEAST {constants.get(count, count)}]'
     return [made if changes else 'const ' + made] + ['size_t'] * bool(piece)
 
 
@@ -57,8 +68,28 @@ def fields_of(struct, body):
     made = []
     for name, kind in re.findall(r'^    (?:pub )?(\w+): ([^,]+),$', body, re.M):
         item, _, count = kind.strip('[]').partition('; ')
+        count = next((named for named, sources in SIZES.items() if count in sources), count)
         made.append(('bool' if (struct, name) in FLAGS else TYPES[item]) + f' {name}' + (f'[{count}]' if count else ''))
     return made
+
+
+def body_of(struct, source):
+    found = re.search(rf'^pub struct {struct} {{\n(.*?)\n}}', source, re.S | re.M)
+    return found and found.group(1) + '\n'
+
+
+def numbers_of(struct, source):
+    """The sizes of a struct's numbers, those of a struct in it too."""
+    for kind in re.findall(r'^    pub \w+: (\w+),$', body_of(struct, source), re.M):
+        yield from [BYTES[kind]] if kind in BYTES else numbers_of(kind, source)
+
+
+def words_of(struct, source):
+    """How many words of 64 bits a struct of numbers takes."""
+    at = 0
+    for size in numbers_of(struct, source):
+        at = -(-at // size) * size + size
+    return -(-at // 8)
 
 
 def numbered(pairs):
@@ -70,14 +101,17 @@ def numbered(pairs):
 def exports(source):
     """Of each export its C types and names, the result's first; the structs; the numbers of the enums; sizes and version."""
     made = {}
+    constants = re.findall(r'const (\w+): \w+ = ([\d_]+);', source)
+    sizes = {**COUNTS, **{name: number.replace('_', '') for name, number in constants}}
     for name, listed, result in re.findall(r'pub extern "C" fn (\w+)\(([^)]*)\)(?: -> (\w+))?', source):
         parameters = [parameter for parameter in spaced(listed).rstrip(',').split(', ') if parameter]
         answered = f'enum {ENUMS[name]}' if name in ENUMS else TYPES[result] if result else 'void'
-        made[name] = [answered, *(c for parameter in parameters for c in of_c(name, parameter))]
+        made[name] = [answered, *(c for parameter in parameters for c in of_c(name, parameter, sizes))]
     for struct, name in STRUCTS.items():
-        body = re.search(rf'^pub struct {struct} {{\n(.*?)\n}}', source, re.S | re.M)
-        made[f'struct {name}'] = fields_of(struct, body.group(1) + '\n') if body else None
-    constants = re.findall(r'const (\w+): \w+ = ([\d_]+);', source)
+        body = body_of(struct, source)
+        made[f'struct {name}'] = fields_of(struct, body) if body else None
+    for struct, name in WORDS.items():
+        made[f'struct {name}'] = [f'uint64_t state[{words_of(struct, source)}]']
     results = [(name, number) for name, number in re.findall(r'pub const (\w+): u32 = (\d+);', source) if name != 'VERSION']
     results += [(OUTCOMES[name], number) for name, number in re.findall(r'Outcome::(\w+)(?:\([_.]+\))? => (\d+),', source)]
     results += [('NO_PATCH', number) for name, number in constants if name == 'NO_PATCH']
@@ -89,6 +123,7 @@ def exports(source):
     made['enum cdpatch_result'], made['enum cdpatch_content'] = numbered(results), numbered(contents)
     made['enum cdpatch_status'] = numbered(pair for pair in constants if pair[0] in ('DONE', 'FOUND', 'FAILED'))
     made['enum cdpatch_verb'] = numbered(pair for pair in constants if pair[0] in ('SET', 'FILL', 'REBUILD', 'ADDRESS'))
+    made['enum cdpatch_step_kind'] = numbered(pair for pair in constants if pair[0] in ('END', 'READ', 'COPY', 'WRITE', 'LOG'))
     made['enum cdpatch_sector_kind'] = numbered(re.findall(r'SectorKind::(\w+) => (\d),', source))
     for name, sources in SIZES.items():
         made[name] = sorted({number.replace('_', '') for each, number in constants if each in sources})
@@ -104,7 +139,7 @@ def declared(header):
     made = {}
     for result, name, listed in re.findall(r'^(\w[\w ]*?)\s+(cdpatch_\w+)\(([^)]*)\);', code, re.M):
         parameters = [spaced(parameter) for parameter in listed.split(',') if parameter != 'void']
-        made[name] = [result, *(re.sub(r'^size_t \w+', 'size_t', parameter) for parameter in parameters)]
+        made[name] = [result, *(re.sub(r'^size_t \w+$', 'size_t', parameter) for parameter in parameters)]
     for name, body in re.findall(r'struct (\w+) \{(.*?)\}', code, re.S):
         made[f'struct {name}'] = [' '.join(field.split()) for field in body.split(';') if field.strip()]
     for name, body in re.findall(r'enum (\w+) \{(.*?)\}', code, re.S):
@@ -115,13 +150,20 @@ def declared(header):
     return made
 
 
+def undocumented(header):
+    """The declarations before which no comment of Doxygen's stands."""
+    found = re.findall(r'(/\*(?:(?!\*/).)*\*/\n)?^((?:#define CDPATCH_V|enum|struct|\w+ cdpatch_)[^\n]*)', header, re.S | re.M)
+    return [f'no comment for Doxygen: {line}' for comment, line in found if not comment.startswith('/**')]
+
+
 def main(header, *sources):
     wanted = exports('\n'.join(Path(source).read_text() for source in sources))
     got = declared(Path(header).read_text())
+    bare = undocumented(Path(header).read_text())
     lost = [f'{name}: {got.get(name)} and not {wanted.get(name)}'
             for name in sorted({*wanted, *got}) if wanted.get(name) != got.get(name)]
-    print(*lost, f'{len(got)} compared, {len(lost)} differ', sep='\n')
-    return bool(lost)
+    print(*lost, *bare, f'{len(got)} compared, {len(lost)} differ', sep='\n')
+    return bool(lost or bare)
 
 
 if __name__ == '__main__':

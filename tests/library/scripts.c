@@ -171,7 +171,7 @@ static void check_long_line(const struct room *it) {
 static void check_cutting(const struct room *it, bool at_end) {
     static const struct { const char *text; size_t size, taken; } lines[] = {
         {"a", 1, 1}, {"a\n", 1, 2}, {"a\r\n", 1, 3}, {"a\r", 2, 2}, {"\n", 0, 1}, {"\r\n", 0, 2}, {"\r\r\n\n", 1, 3},
-        {"\r", 1, 1}, {"a\nb", 1, 2}, {"a\rb\n", 3, 4}, {"\na", 0, 1}};
+        {"\r", 1, 1}, {"a\nb", 1, 2}, {"a\rb\n", 3, 4}, {"\na", 0, 1}, {"a\n\r\nb", 1, 2}, {"a\r\n\r\n", 1, 3}};
     blank(it);
     judge(!cdpatch_first_line(fenced(0, at_end), 0, it->line) && all_kept(it->line, sizeof *it->line), "no line", 0);
     for (unsigned i = 0; i < sizeof lines / sizeof *lines; i++) {
@@ -265,9 +265,58 @@ static void check_records(const struct room *it, const uint8_t *samples) {
     REFUSED(address[2], 0x75);
     REFUSED(address[0], 0x9A);
     REFUSED(address[2], 0x0A);
+    REFUSED(offset, 1);
+    set.verb = CDPATCH_REBUILD;
+    REFUSED(offset, 1);
 #undef REFUSED
     memset(&other, 255, sizeof other);
     expect(it, samples, other, 3, true, CDPATCH_NO_PATCH, 0, 0, "a record of bytes FF");
+}
+
+/* Fields that the verb of a record does not read hold anything. */
+static void check_other_fields(const struct room *it, uint8_t *samples) {
+    struct cdpatch_patch set = {16, 0, 1, CDPATCH_SET, 0, 0xFF, {0xFF, 0xFF, 0xFF}};
+    struct cdpatch_patch fill = {16, 0, 1, CDPATCH_FILL, 0xFF, 0x42, {0xFF, 0xFF, 0xFF}};
+    struct cdpatch_patch rebuild = {16, 0, 0xFFFF, CDPATCH_REBUILD, 0xFF, 0xFF, {0xFF, 0xFF, 0xFF}};
+    struct cdpatch_patch address = {16, 0, 0xFFFF, CDPATCH_ADDRESS, 0xFF, 0xFF, {0x12, 0x34, 0x56}};
+    blank(it);
+    expect(it, samples, set, 1, false, CDPATCH_OK, 0, 0, "a set with other fields");
+    expect(it, samples, fill, 1, false, CDPATCH_OK, 0, 0, "a fill with other fields");
+    expect(it, samples, address, 1, false, CDPATCH_OK, 0, 0, "an address with other fields");
+    samples[2 * SECTOR + 20] ^= 1;
+    expect(it, samples, rebuild, 1, false, CDPATCH_OK, 0, 0, "a rebuild with other fields");
+    judge(cdpatch_is_consistent(it->sectors + 2 * SECTOR), "it removes the damage", 0);
+    expect(it, samples, rebuild, 1, true, CDPATCH_OK, 0, 0, "a rebuild with carry");
+    judge(cdpatch_is_consistent(it->sectors + 2 * SECTOR), "that removes it too", 0);
+    samples[2 * SECTOR + 20] ^= 1;
+}
+
+/* No bytes may stand at a null pointer. */
+static void check_nulls(const struct room *it, const uint8_t *samples) {
+    struct cdpatch_patch set = {16, 7, 1, CDPATCH_SET, 0, 0, {0, 0, 0}};
+    struct cdpatch_record record;
+    blank(it);
+    judge(!cdpatch_first_line(NULL, 0, it->line) && all_kept(it->line, sizeof *it->line), "the first line of nothing", 0);
+    judge(cdpatch_read_line(1, 1, 0, NULL, 0, it->patch, it->new_bytes, it->old_bytes) == CDPATCH_NOTHING, "a line of no bytes", 0);
+    judge(cdpatch_apply_patch(&set, it->new_bytes, it->old_bytes, NULL, 0, true, it->place) == CDPATCH_NO_BLOCK &&
+          it->place->block == 16, "a patch on no sectors", 0);
+    judge(cdpatch_survey(NULL, 0, 0, NULL, 0), "a survey of nothing", 0);
+    judge(!cdpatch_survey(samples, 1, 0, NULL, 0) && !cdpatch_survey(NULL, 0, 0, &record, 1), "no room for a survey", 0);
+}
+
+/* A line that is read again takes 0 for the number of earlier patches, and any number. */
+static void check_read_again(const struct room *it) {
+    static const uint8_t line[] = "set 3 7 4142 was 4344";
+    struct cdpatch_patch first;
+    blank(it);
+    judge(cdpatch_read_line(1, 65535, 65534, line, 21, it->patch, it->new_bytes, it->old_bytes) == CDPATCH_PATCH, "a line", 0);
+    first = *it->patch;
+    for (uint32_t number = 0; number < 3; number++) {
+        blank(it);
+        judge(cdpatch_read_line(1, number * (UINT32_MAX / 2), 0, line, 21, it->patch, it->new_bytes, it->old_bytes) == CDPATCH_PATCH &&
+              it->patch->block == first.block && it->patch->count == first.count && !memcmp(it->new_bytes, "AB", 2) &&
+              !memcmp(it->old_bytes, "CD", 2), "a line that is read again", number);
+    }
 }
 
 /* ---- sectors */
@@ -288,6 +337,7 @@ static void check_survey(const uint8_t *samples, bool at_end) {
     judge(cdpatch_survey(sectors, 0, UINT32_MAX, records, 0) && all_kept(records, 6), "a survey of no sectors", 0);
     judge(cdpatch_survey(sectors, 2, 0, records, 2) && all_kept(records + 2, sizeof *records), "a survey of two", 0);
     judge(cdpatch_survey(sectors, 3, UINT32_MAX - 3, records, 3), "a survey up to the last block", 0);
+    judge(!records[0].address && !records[2].address, "no other address than that of a block without one", 0);
     judge(cdpatch_survey(sectors, 3, 0, records, 3), "a survey", 0);
     judge(!memcmp(records, "\2\0\0\0\0\1" "\3\0\0\0\0\0" "\2\0\0\0\0\0", 18), "damaged, of Mode 2, sound", 0);
     judge(cdpatch_survey(sectors, 3, 1, records, 3) && records[0].address && !records[1].address && records[2].address,
@@ -337,6 +387,9 @@ int main(int count, char **arguments) {
             check_long_line(&room);
         check_applied(&room, samples);
         check_records(&room, samples);
+        check_other_fields(&room, samples);
+        check_nulls(&room, samples);
+        check_read_again(&room);
         check_survey(samples, at_end);
         check_broken(samples, at_end);
     }

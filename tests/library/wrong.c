@@ -27,6 +27,17 @@ uint32_t right_edc(const uint8_t *bytes, size_t length);
 uint32_t cdpatch_edc(const uint8_t *bytes, size_t length) {
     return right_edc(bytes, length ? length - 1 : 0);
 }
+#elif defined EDC_READS_A_BYTE_OF_NONE
+uint32_t right_edc(const uint8_t *bytes, size_t length);
+uint32_t cdpatch_edc(const uint8_t *bytes, size_t length) {
+    volatile uint8_t first = *bytes;
+    return (void)first, right_edc(bytes, length);
+}
+#elif defined CARRY_USER_OF_NO_BYTES_AT_A_NULL_POINTER
+enum cdpatch_result right_carry_user(uint8_t *sector, size_t offset, const uint8_t *bytes, size_t length);
+enum cdpatch_result cdpatch_carry_user(uint8_t *sector, size_t offset, const uint8_t *bytes, size_t length) {
+    return bytes ? right_carry_user(sector, offset, bytes, length) : CDPATCH_OUT_OF_RANGE;
+}
 #elif defined FIND_DEFECT_EXCHANGES_P_AND_Q
 void right_find_defect(const uint8_t *sector, struct cdpatch_defect *defect);
 void cdpatch_find_defect(const uint8_t *sector, struct cdpatch_defect *defect) {
@@ -98,6 +109,12 @@ enum cdpatch_status right_list(const uint8_t *image, size_t size, uint32_t base,
 enum cdpatch_status cdpatch_list(const uint8_t *image, size_t size, uint32_t base, uint8_t *text, size_t room, size_t *length) {
     enum cdpatch_status status = right_list(image, size, base, text, room, length);
     return *length == room ? CDPATCH_DONE : status;
+}
+#elif defined LIST_WANTS_AN_IMAGE
+enum cdpatch_status right_list(const uint8_t *image, size_t size, uint32_t base, uint8_t *text, size_t room, size_t *length);
+enum cdpatch_status cdpatch_list(const uint8_t *image, size_t size, uint32_t base, uint8_t *text, size_t room, size_t *length) {
+    *length = 0;
+    return image ? right_list(image, size, base, text, room, length) : CDPATCH_FAILED;
 }
 #elif defined AUDIT_FORGETS_THE_LENGTH
 enum cdpatch_status right_audit(const uint8_t *image, size_t size, uint32_t base, uint8_t *text, size_t room, size_t *length);
@@ -189,11 +206,25 @@ bool cdpatch_first_line(const uint8_t *text, size_t size, struct cdpatch_line *l
     if (found && line->taken == line->size + 2) line->size++;
     return found;
 }
+#elif defined FIRST_LINE_TAKES_THE_CR_OF_THE_NEXT
+bool right_first_line(const uint8_t *text, size_t size, struct cdpatch_line *line);
+bool cdpatch_first_line(const uint8_t *text, size_t size, struct cdpatch_line *line) {
+    bool found = right_first_line(text, size, line);
+    if (found && line->taken > line->size && size - line->taken > 1 && !memcmp(text + line->taken, "\r\n", 2)) line->taken++;
+    return found;
+}
 #elif defined FIRST_LINE_OF_AN_EMPTY_TEXT
 bool right_first_line(const uint8_t *text, size_t size, struct cdpatch_line *line);
 bool cdpatch_first_line(const uint8_t *text, size_t size, struct cdpatch_line *line) {
     if (!size) line->size = line->taken = 0;
     return right_first_line(text, size, line);
+}
+#elif defined READ_LINE_NUMBERS_FROM_1
+enum cdpatch_content right_read_line(uint32_t version, uint32_t number, size_t earlier, const uint8_t *line, size_t size,
+                                     struct cdpatch_patch *patch, uint8_t *new_bytes, uint8_t *old_bytes);
+enum cdpatch_content cdpatch_read_line(uint32_t version, uint32_t number, size_t earlier, const uint8_t *line, size_t size,
+                                       struct cdpatch_patch *patch, uint8_t *new_bytes, uint8_t *old_bytes) {
+    return number ? right_read_line(version, number, earlier, line, size, patch, new_bytes, old_bytes) : CDPATCH_BAD_NUMBER;
 }
 #elif defined READ_LINE_TAKES_ANY_VERSION
 enum cdpatch_content right_read_line(uint32_t version, uint32_t number, size_t earlier, const uint8_t *line, size_t size,
@@ -235,6 +266,21 @@ enum cdpatch_result cdpatch_apply_patch(const struct cdpatch_patch *patch, const
     struct cdpatch_patch cut = *patch;
     if (cut.count > CDPATCH_PATCH_SIZE) cut.count = CDPATCH_PATCH_SIZE;
     return right_apply_patch(&cut, new_bytes, old_bytes, sectors, count, carry, place);
+}
+#elif defined APPLY_PATCH_LOOKS_AT_EACH_FIELD
+enum cdpatch_result right_apply_patch(const struct cdpatch_patch *patch, const uint8_t *new_bytes, const uint8_t *old_bytes,
+                                      uint8_t *sectors, size_t count, bool carry, struct cdpatch_place *place);
+enum cdpatch_result cdpatch_apply_patch(const struct cdpatch_patch *patch, const uint8_t *new_bytes, const uint8_t *old_bytes,
+                                        uint8_t *sectors, size_t count, bool carry, struct cdpatch_place *place) {
+    return patch->has_old > 1 ? CDPATCH_NO_PATCH : right_apply_patch(patch, new_bytes, old_bytes, sectors, count, carry, place);
+}
+#elif defined APPLY_PATCH_CARRIES_THE_DAMAGE_OF_A_REBUILD
+enum cdpatch_result right_apply_patch(const struct cdpatch_patch *patch, const uint8_t *new_bytes, const uint8_t *old_bytes,
+                                      uint8_t *sectors, size_t count, bool carry, struct cdpatch_place *place);
+enum cdpatch_result cdpatch_apply_patch(const struct cdpatch_patch *patch, const uint8_t *new_bytes, const uint8_t *old_bytes,
+                                        uint8_t *sectors, size_t count, bool carry, struct cdpatch_place *place) {
+    bool stays = carry && patch->verb == CDPATCH_REBUILD;
+    return stays ? CDPATCH_OK : right_apply_patch(patch, new_bytes, old_bytes, sectors, count, carry, place);
 }
 #elif defined APPLY_PATCH_TAKES_A_MISSING_BLOCK_FOR_DAMAGED
 enum cdpatch_result right_apply_patch(const struct cdpatch_patch *patch, const uint8_t *new_bytes, const uint8_t *old_bytes,
@@ -283,6 +329,14 @@ bool cdpatch_survey(const uint8_t *sectors, size_t count, uint32_t block, struct
     size_t smaller = count < room ? count : room;
     return right_survey(sectors, smaller, block, records, smaller);
 }
+#elif defined SURVEY_COMPARES_EACH_BLOCK
+bool right_survey(const uint8_t *sectors, size_t count, uint32_t block, struct cdpatch_record *records, size_t room);
+bool cdpatch_survey(const uint8_t *sectors, size_t count, uint32_t block, struct cdpatch_record *records, size_t room) {
+    bool done = right_survey(sectors, count, block, records, room);
+    for (size_t i = 0; done && i < count; i++)
+        records[i].address = block + i > 449849;
+    return done;
+}
 #elif defined SURVEY_GIVES_ALL_SECTORS_ONE_BLOCK
 bool right_survey(const uint8_t *sectors, size_t count, uint32_t block, struct cdpatch_record *records, size_t room);
 bool cdpatch_survey(const uint8_t *sectors, size_t count, uint32_t block, struct cdpatch_record *records, size_t room) {
@@ -311,6 +365,12 @@ void right_sha1_add(struct cdpatch_sha1 *state, const uint8_t *bytes, size_t len
 void cdpatch_sha1_add(struct cdpatch_sha1 *state, const uint8_t *bytes, size_t length) {
     right_sha1_add(state, bytes, length > 1 ? length - 1 : length);
 }
+#elif defined SHA1_ADD_READS_A_BYTE_OF_NONE
+void right_sha1_add(struct cdpatch_sha1 *state, const uint8_t *bytes, size_t length);
+void cdpatch_sha1_add(struct cdpatch_sha1 *state, const uint8_t *bytes, size_t length) {
+    volatile uint8_t first = *bytes;
+    (void)first, right_sha1_add(state, bytes, length);
+}
 #elif defined SHA1_END_TURNS_THE_WORDS
 void right_sha1_end(const struct cdpatch_sha1 *state, uint8_t *digest);
 void cdpatch_sha1_end(const struct cdpatch_sha1 *state, uint8_t *digest) {
@@ -318,5 +378,34 @@ void cdpatch_sha1_end(const struct cdpatch_sha1 *state, uint8_t *digest) {
     right_sha1_end(state, made);
     for (int i = 0; i < 20; i++)
         digest[i] = made[i / 4 * 4 + 3 - i % 4];
+}
+#elif defined RUN_BEGIN_NEVER_CARRIES
+size_t right_run_begin(struct cdpatch_run *run, const uint8_t *script, size_t script_size, uint32_t base, uint64_t image_size, uint32_t flags,
+                       struct cdpatch_entry *entries, size_t room);
+size_t cdpatch_run_begin(struct cdpatch_run *run, const uint8_t *script, size_t script_size, uint32_t base, uint64_t image_size, uint32_t flags,
+                         struct cdpatch_entry *entries, size_t room) {
+    return right_run_begin(run, script, script_size, base, image_size, flags & ~(uint32_t)CDPATCH_CARRY, entries, room);
+}
+#elif defined RUN_BEGIN_LEAVES_ENTRIES_UNSORTED
+size_t right_run_begin(struct cdpatch_run *run, const uint8_t *script, size_t script_size, uint32_t base, uint64_t image_size, uint32_t flags,
+                       struct cdpatch_entry *entries, size_t room);
+size_t cdpatch_run_begin(struct cdpatch_run *run, const uint8_t *script, size_t script_size, uint32_t base, uint64_t image_size, uint32_t flags,
+                         struct cdpatch_entry *entries, size_t room) {
+    size_t count = right_run_begin(run, script, script_size, base, image_size, flags, entries, room);
+    if (count > 1 && count <= room) {
+        struct cdpatch_entry first = entries[0];
+        entries[0] = entries[count - 1];
+        entries[count - 1] = first;
+    }
+    return count;
+}
+#elif defined RUN_NEXT_DROPS_THE_LINES_OF_REFUSED_PATCHES
+void right_run_next(struct cdpatch_run *run, size_t done, const uint8_t *script, size_t script_size, const struct cdpatch_entry *entries,
+                    size_t room, uint8_t *hand, size_t sectors, struct cdpatch_rooms *rooms, struct cdpatch_step *step);
+void cdpatch_run_next(struct cdpatch_run *run, size_t done, const uint8_t *script, size_t script_size, const struct cdpatch_entry *entries,
+                      size_t room, uint8_t *hand, size_t sectors, struct cdpatch_rooms *rooms, struct cdpatch_step *step) {
+    right_run_next(run, done, script, script_size, entries, room, hand, sectors, rooms, step);
+    if (step->kind == CDPATCH_LOG && step->result != CDPATCH_OK)
+        right_run_next(run, step->size, script, script_size, entries, room, hand, sectors, rooms, step);
 }
 #endif

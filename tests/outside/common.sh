@@ -9,7 +9,7 @@ library=$top/library
 [ -e "$library/libcdpatch.a" ] || { library=$scratch/library && bash "$top/tools/library.sh" "$library"; }
 # Where cdscript and cdpatch.html are, if there is a module to make them of.
 joined=$top
-if [ ! -e "$joined/cdscript" ] && [ -e "$top/library/cdpatch.wasm" ]; then
+if [ ! -e "$joined/cdscript" ] && [ -e "$top/library/cdpatch.wasm" ] && command -v esbuild > /dev/null; then
     joined=$scratch/joined
     mkdir "$joined"
     bash "$top/tools/web.sh" "$top/library" "$joined"
@@ -43,5 +43,5 @@ plain="sh"
 missing dash dash 'the examples in dash' || plain="dash"
 
 # The crates that are libraries of the repository's own, and the files of code of a crate, without tests.
-library_crates=(cd_code cd_sector cd_delta cd_script cd_patch cd_stream cd_read cd_report cd_image cd_args cd_program cd_memory cd_rooms)
+library_crates=(cd_code cd_sector cd_delta cd_script cd_patch cd_line cd_run cd_stream cd_read cd_report cd_image cd_args cd_program cd_memory cd_rooms)
 sources() { find "$top/crates/$1/src" -name '*.rt' ! -path '*/tests/*' ! -name tests.rt; }

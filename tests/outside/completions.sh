@@ -95,6 +95,16 @@ offers 'folder' apply image script 2 '>' log fo
 touch ./-dash
 offers '-dash' list image '>' -d
 rm ./-dash
+touch $'words\n--help'
+offers '' list wo
+offers "$everything" list ''
+. "$top/completions/cdscript.bash"
+for name in cdpatch cdscript; do
+    COMP_WORDS=("$name" list wo) COMP_CWORD=2
+    "_$name"
+    judge "bash's completion of $name offers no part of a name" test ${#COMPREPLY[@]} = 0
+done
+rm $'words\n--help'
 judge 'bash knows the completion' test "$(complete -p cdpatch)" = 'complete -F _cdpatch cdpatch'
 
 if ! missing fish fish 'the completion for fish'; then

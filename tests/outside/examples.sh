@@ -44,7 +44,7 @@ packaged() {
     case $1 in
         chdman) echo mame-tools ;;
         node) echo nodejs ;;
-        cdscript) echo 'binaryen, for make' ;;
+        cdscript) echo 'binaryen and esbuild, for make' ;;
         *) echo "$1" ;;
     esac
 }

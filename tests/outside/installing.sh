@@ -1,14 +1,14 @@
 # `make install` and `make uninstall`: for a package, below other directories, and of nothing.
 
 built() { make --no-print-directory -s -C "$top" PROGRAM="$program" LIBRARY="$library" JOINED="$joined" "$@"; }
-files() { (cd "$1" && find . ! -type d | sort); }
+files() { [ ! -d "$1" ] || (cd "$1" && find . ! -type d | sort); }
 
 installed_for_a_package() {
     judge 'make install' built install DESTDIR="$PWD/root" PREFIX=/usr
     : > wanted
     printf '%s\n' prefix=/usr 'libdir=${prefix}/lib' 'includedir=${prefix}/include' '' 'Name: cdpatch' \
         'Description: EDC and P/Q parity of CD-ROM sectors, and patches of CD images' \
-        "Version: $(cdpatch --help | sed -n '$s/cdpatch //p')" 'Libs: -L${libdir} -lcdpatch' 'Cflags: -I${includedir}' > cdpatch.pc
+        "Version: $(cdpatch --help | sed -n '$s/cdpatch //p')" 'Libs: -L"${libdir}" -lcdpatch' 'Cflags: -I"${includedir}"' > cdpatch.pc
     sed -e 's|@libraries@|../..|' -e 's|@includes@|../../../include|' "$top/include/cdpatch-config.cmake.in" > cdpatch-config.cmake
     sed "s|@version@|$(cdpatch --help | sed -n '$s/cdpatch //p')|" "$top/include/cdpatch-config-version.cmake.in" \
         > cdpatch-config-version.cmake
@@ -29,15 +29,21 @@ installed_for_a_package() {
 $(cd "$top/python" && for file in {backend.py,pyproject.toml} cdpatch/{*.py,py.typed}; do
     echo "./usr/share/cdpatch/python/$file $top/python/$file"; done)
 ./usr/share/doc/cdpatch/NOTICES $library/NOTICES
-$(for page in CHANGELOG.md docs/{REPAIR,SCRIPTS,TRANSLATE,TRUST}.md docs/{apply,parts,sector}.svg docs/page.png \
+$(for page in CHANGELOG.md docs/{MODULES,REPAIR,SCRIPTS,TRANSLATE,TRUST}.md docs/{apply,parts,sector}.svg docs/page.png \
     examples/{audit.c,damaged.rs,patch_pipe.c}; do echo "./usr/share/doc/cdpatch/$page $top/$page"; done)
 ./usr/share/doc/cdpatch/README.md $top/tools/README.tarball.md
 ./usr/share/doc/cdpatch/docs/INSTALL.md $PWD/INSTALL.md
 ./usr/share/fish/vendor_completions.d/cdpatch.fish $top/completions/cdpatch.fish
 ./usr/share/man/man1/cdpatch.1 $top/man/cdpatch.1
 ./usr/share/man/man3/libcdpatch.3 $top/man/libcdpatch.3
+$(sed -n 's/^[a-z].* \(cdpatch_[a-z0-9_]*\)(.*/\1/p' "$top/include/cdpatch.h" |
+    sed "s|.*|./usr/share/man/man3/&.3 $top/man/libcdpatch.3|")
 ./usr/share/zsh/site-functions/_cdpatch $top/completions/_cdpatch
 EOF
+    [ ! -e "$library/cdpatch.wasm" ] || for path in cdpatch{,-wasm64}.wasm; do
+        judge "$path is installed" cmp -s "$library/$path" "root/usr/share/cdpatch/$path"
+        echo "./usr/share/cdpatch/$path" >> wanted
+    done
     [ ! -e "$joined/cdscript" ] || while read -r path source <&3; do
         judge "$path is $source" cmp -s "$source" "root/$path"
         echo "$path" >> wanted
@@ -54,16 +60,26 @@ EOF
     same 'it installs these files and no more' wanted got
     judge 'the installed program runs' test "$(root/usr/bin/cdpatch list disc.bin | tail -n 1)" = 'sectors 8 tail 0'
     judge 'the program may be run by all' test "$(stat -c %a root/usr/bin/cdpatch)" = 755
+    judge 'the page of each call is a link to that of the library' test "$(readlink root/usr/share/man/man3/cdpatch_apply_patch.3)" = libcdpatch.3
     judge 'the link of the library stands next to it' test "$(readlink root/usr/lib/libcdpatch.so)" = libcdpatch.so.1
     judge 'the man page may be read by all' test "$(stat -c %a root/usr/share/man/man1/cdpatch.1)" = 644
     for crate in arrayvec bstr byteorder clap hex itoa memchr sha1 thiserror; do
         judge "the notices have $crate's" \
             test "$(sed -n "/^== $crate ==\$/,/^== /p" root/usr/share/doc/cdpatch/NOTICES | grep -c '^Permission is hereby granted')" -gt 0
     done
+    local made
+    echo kept > victim
+    for made in lib/pkgconfig/cdpatch.pc lib/cmake/cdpatch/cdpatch-config{,-version}.cmake share/doc/cdpatch/docs/INSTALL.md; do
+        ln -sf "$PWD/victim" "root/usr/$made"
+    done
+    built install DESTDIR="$PWD/root" PREFIX=/usr
+    judge 'what a link there names is not written over' test "$(cat victim)" = kept -a -z "$(find root -type l ! -name libcdpatch.so)"
     mkdir root/usr/share/cdpatch/python/cdpatch/__pycache__
     touch root/usr/bin/another root/usr/share/cdpatch/python/cdpatch/__pycache__/_library.cpython-311.pyc
     judge 'make uninstall' built uninstall DESTDIR="$PWD/root" PREFIX=/usr
     judge 'it leaves what others installed, and no more' test "$(files root)" = ./usr/bin/another
+    judge 'and of directories the first ones below the prefix' test "$(find root -type d | sort | paste -sd ' ')" = \
+        'root root/usr root/usr/bin root/usr/include root/usr/lib root/usr/share'
     judge 'make uninstall of nothing' built uninstall DESTDIR="$PWD/root" PREFIX=/usr
 }
 

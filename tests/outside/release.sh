@@ -21,6 +21,8 @@ released() {
     name=$(cd one/made && ls ./*.tar.gz)
     judge 'the tarball has the version in its name' test "$name" = "./cdpatch-$(cdpatch --help | sed -n '$s/cdpatch //p')-x86_64-linux.tar.gz"
     judge 'two directories give the same bytes' cmp "one/made/$name" "another place/made/$name"
+    (umask 000 && make --no-print-directory -s -C 'another place' dist distdir=made > log)
+    judge 'nobody else may write what is packed' test -z "$(find 'another place/made' -type f -perm /022)"
     judge 'the checksum is that of the tarball' eval "(cd one/made && sha256sum --status -c ./*.sha256)"
     judge 'the checksums are printed' test "$(cat one/printed)" = "$(cat one/made/*.sha256)"
     if [ -e "$joined/cdscript" ]; then

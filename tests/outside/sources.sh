@@ -7,6 +7,17 @@ foreign=$(grep -rnwE --include='*.rt' --exclude-dir=out 'unsafe|extern' "$top/cr
     grep -vE '^[^:]*/cd_c(_[a-z]*)?/src/[a-z_]*\.rt:[0-9]*:(#\[unsafe\(no_mangle\)\]$|pub extern "C" fn cdpatch_[a-z0-9_]*\()' |
     grep -vE '^[^:]*/cd_c_digest/src/state\.rt:[0-9]*: *unsafe \{ ptr::read\(&raw const [a-z]* as \*const [A-Za-z0-9]*\) \}$')
 judge 'no unsafe code and no functions of C in the crates, but exports, and the state of a digest' test -z "$foreign"
+
+# Nothing that C has to see to stands in a contract.
+conditions() {
+    awk '/^pub extern "C" fn / { export = 1 } /^\{/ { export = 0 } export && /^ *requires / { print FILENAME ": " $0 }' "$@"
+}
+judge 'no export has a condition' test -z "$(conditions "$top"/crates/cd_c*/src/*.rt)"
+judge 'there are exports to look at' test "$(cat "$top"/crates/cd_c*/src/*.rt | grep -c '^pub extern "C" fn ')" -gt 25
+sed '/^pub extern "C" fn cdpatch_survey(/,/^{/s/^ *ensures answer /    requires { block < 449850 }\n&/' \
+    "$top/crates/cd_c_survey/src/surveying.rt" > with_condition.rt
+judge 'one that has is found' test "$(conditions with_condition.rt | wc -l)" = 1
+
 judge 'no axiom and no hole in the crates' \
     test -z "$(grep -rnE --include='*.antt' --exclude-dir=out '(^|[^-A-Za-z_])axiom([^-A-Za-z_]|$)|[=(] *\?' "$top/crates")"
 judge 'no file of C in the crates' test -z "$(find "$top/crates" -name out -prune -o -name '*.[chS]' -print)"

@@ -1,6 +1,7 @@
 """The commands on images in memory, by the package and by the model of tests/model."""
 
 import mmap
+import tracemalloc
 
 import cdpatch
 import pytest
@@ -88,6 +89,21 @@ def test_a_base_that_no_image_has_is_refused(base):
         with pytest.raises(cdpatch.Failed, match=f'^base {base} is not 0 to 449849$'):
             call()
     assert out == bytes(2352)
+
+
+def test_a_script_of_many_lines_takes_little_memory():
+    script = b'cdpatch 1\n' + b'\n' * 2000000 + b'set 0 0 41'
+    tracemalloc.start()
+    report = cdpatch.check(b'', script)
+    peak = tracemalloc.get_traced_memory()[1]
+    tracemalloc.stop()
+    assert report == ('line 2000002: refused: no block 0\napplied 0 refused 1\n', True) and peak < 12000000
+
+
+def test_the_longest_log_is_whole():
+    script = b'cdpatch 1\n' + b'\n' * 10000000 + b'set 999999999 2047 41\n' * 65535
+    lines = cdpatch.check(b'', script).text.splitlines()
+    assert len(lines) == 65536 and lines[-2:] == ['line 10065536: refused: no block 999999999', 'applied 0 refused 65535']
 
 
 def test_the_message_of_a_failure_is_one_line():

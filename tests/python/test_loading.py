@@ -38,7 +38,7 @@ def copy(tmp_path):
 
 
 def with_library(directory):
-    directory.mkdir(exist_ok=True)
+    directory.mkdir(parents=True, exist_ok=True)
     return Path(shutil.copy(LIBRARY, directory / 'libcdpatch.so.1'))
 
 
@@ -62,6 +62,40 @@ def test_then_that_of_the_prefix(copy, tmp_path):
     loads(copy.parent, with_library(tmp_path / 'prefix' / 'lib'))
 
 
+def with_older_library(directory):
+    """A library in which a call has another name."""
+    found = with_library(directory)
+    found.write_bytes(found.read_bytes().replace(b'cdpatch_survey\0', b'cdpatch_census\0'))
+    return found
+
+
+def test_an_older_one_of_the_loader_hides_none_of_the_prefix(copy, tmp_path):
+    right = with_library(tmp_path / 'prefix' / 'lib')
+    older = with_older_library(tmp_path / 'lib')
+    ended = ran(copy.parent, 'import cdpatch; print(cdpatch.survey(b""), cdpatch._library.library._name)', LD_LIBRARY_PATH=str(older.parent))
+    assert (ended.returncode, ended.stderr) == (0, '') and Path(ended.stdout.split()[-1]).resolve() == right
+
+
+def test_an_older_one_is_refused_if_there_is_no_other(copy, tmp_path):
+    ended = ran(copy.parent, 'import cdpatch', LD_LIBRARY_PATH=str(with_older_library(tmp_path / 'lib').parent))
+    last = ended.stderr.splitlines()[-1]
+    assert last.startswith('ImportError: cdpatch has found an older library, libcdpatch.so.1, without cdpatch_survey. ')
+
+
+@pytest.mark.parametrize('place', ['lib/python3.11/site-packages', 'lib64/python3.13/site-packages', 'lib/python3/dist-packages'])
+def test_then_that_of_the_prefix_of_pip(copy, tmp_path, place):
+    installed = shutil.copytree(copy, tmp_path / 'pip' / place / 'cdpatch')
+    loads(installed.parent, with_library(tmp_path / 'pip' / 'lib'))
+
+
+@pytest.mark.parametrize('place', ['build/cdpatch-1.2.0/python', 'src/a/b', 'lib/python2.7/site-packages'])
+def test_never_one_above_a_package_that_is_not_installed(copy, tmp_path, place):
+    unpacked = shutil.copytree(copy, tmp_path / 'anybody' / place / 'cdpatch')
+    with_library(tmp_path / 'anybody' / 'lib')
+    ended = ran(unpacked.parent)
+    assert ended.returncode == 1 and 'ImportError: cdpatch cannot load its library: ' in ended.stderr
+
+
 @pytest.mark.parametrize('named', [None, '/nowhere/libcdpatch.so.1', __file__])
 def test_if_there_is_none_one_line_says_what_to_do(copy, named):
     ended = ran(copy.parent, 'import cdpatch', **{'CDPATCH_LIBRARY': named} if named else {})
@@ -73,7 +107,7 @@ def test_if_there_is_none_one_line_says_what_to_do(copy, named):
 def test_a_library_that_lacks_a_call_is_refused_in_one_line(copy):
     ended = ran(copy.parent, 'import cdpatch', CDPATCH_LIBRARY='libc.so.6')
     last = ended.stderr.splitlines()[-1]
-    assert ended.returncode == 1 and last.startswith('ImportError: cdpatch has loaded an older library, without cdpatch_version. ')
+    assert ended.returncode == 1 and last.startswith('ImportError: cdpatch has found an older library, libc.so.6, without cdpatch_version. ')
     assert 'CDPATCH_LIBRARY' in last
 
 

@@ -1,5 +1,6 @@
 """An image patched sector by sector, from a reader to a writer."""
 
+import ctypes
 import io
 import os
 import re
@@ -169,7 +170,7 @@ class Endless:
     """A million blank sectors, and then as many bytes more as are given."""
 
     def __init__(self, more):
-        self.left, self.more, self.sector = 1000000, more, bytes(2352)
+        self.left, self.more, self.sector, self.written = 1000000, more, bytes(2352), 0
 
     def read(self, size):
         self.left -= 1
@@ -180,6 +181,7 @@ class Endless:
         return more
 
     def write(self, data):
+        self.written += len(data)
         return len(data)
 
 
@@ -187,8 +189,18 @@ def test_a_byte_after_the_millionth_sector_is_refused():
     script = b'cdpatch 1\nset 999999 0 41\n'
     refused = 'line 2: refused: block 999999 is not mode 1\napplied 0 refused 1\n'
     assert cdpatch.patch(Endless(b''), script, Endless(b'')) == (refused, True)
-    with pytest.raises(cdpatch.Failed, match='^cdpatch: the image has more than 1000000 sectors$'):
+    with pytest.raises(cdpatch.Failed, match='cdpatch: the image has more than 1000000 sectors$'):
         cdpatch.patch(Endless(b'x'), script, Endless(b''))
+
+
+def test_an_image_that_is_too_long_has_the_lines_of_the_patches_before_its_end():
+    script = b'cdpatch 1\nset 999998 0 41\nset 999999 0 41\nset 999999 2047 4141\nset 1000000 0 41\nset 0 0 41\n'
+    writer = Endless(b'')
+    with pytest.raises(cdpatch.Failed) as failed:
+        cdpatch.patch(Endless(b'x'), script, writer)
+    assert str(failed.value) == ('line 6: refused: block 0 is not mode 1\nline 2: refused: block 999998 is not mode 1\n'
+                                 'line 3: refused: block 999999 is not mode 1\ncdpatch: the image has more than 1000000 sectors')
+    assert writer.written == 999999 * 2352
 
 
 @pytest.mark.parametrize('base', [-1, 449850, 2 ** 32, 2 ** 64])
@@ -218,6 +230,62 @@ def test_a_writer_that_fails_leaves_a_prefix(first, answer, error):
     with pytest.raises(error):
         cdpatch.patch(io.BytesIO(IMAGE), SCRIPT, writer)
     assert writer.inner.getvalue() == PATCHED.image[:2352 * first]
+
+
+@pytest.mark.parametrize('image', [b'', b'tail', SECTOR, SECTOR * 3, IMAGE])
+def test_nothing_is_read_after_the_end(image):
+    inner, ends = io.BytesIO(image), []
+
+    class Once:
+        def read(self, size):
+            assert not ends
+            data = inner.read(size)
+            ends.extend([True] if not data else [])
+            return data
+
+    writer = io.BytesIO()
+    cdpatch.patch(Once(), SCRIPT, writer)
+    assert ends and writer.getvalue() == cdpatch.apply(image, SCRIPT).image
+
+
+@pytest.mark.parametrize('line', [b'xxx 5 0 42', b'# t 5 0 42', b'set 4 0 42'])
+def test_a_script_that_changes_meanwhile_is_refused(line):
+    script = bytearray(b'cdpatch 1\nset 1 0 41\nset 5 0 42\n')
+    writer = io.BytesIO()
+
+    class Changing:
+        def read(self, size):
+            script[21:31] = line
+            return inner.read(size)
+
+    inner = io.BytesIO(IMAGE)
+    with pytest.raises(ValueError, match='^line 3 of the script has changed since it was read$'):
+        cdpatch.patch(Changing(), script, writer)
+    assert cdpatch.apply(IMAGE, b'cdpatch 1\nset 1 0 41\n').image.startswith(writer.getvalue())
+
+
+def test_a_later_version_of_the_language_is_no_error(monkeypatch):
+    class Later:
+        """A later library, whose scripts may begin with `cdpatch 3`, a language with the verbs of version 2."""
+
+        def __getattr__(self, name):
+            return getattr(library, name)
+
+        def cdpatch_read_line(self, version, number, earlier, place, size, *rooms):
+            if version == 0 and ctypes.string_at(place, size) == b'cdpatch 3':
+                return 256
+            return library.cdpatch_read_line(2 if version == 256 else version, number, earlier, place, size, *rooms)
+
+    library = cdpatch._scripts.library
+    monkeypatch.setattr(cdpatch._scripts, 'library', Later())
+    made, text, _ = patched(IMAGE, b'cdpatch 3\naddress 3 12:34:56\n')
+    assert text == 'line 2: applied\napplied 1 refused 0\n' and made[3 * 2352 + 12:][:3] == b'\x12\x34\x56'
+
+
+def test_a_rebuild_removes_damage_with_carry_too():
+    damaged = SECTOR[:-1] + bytes([SECTOR[-1] ^ 1])
+    for carry in (False, True):
+        assert patched(damaged, b'cdpatch 1\nrebuild 0\n', carry=carry)[0] == SECTOR
 
 
 def test_a_reader_may_use_its_memory_again():

@@ -1,5 +1,6 @@
 """Sectors by the package and by the model of tests/model."""
 
+import pickle
 import tracemalloc
 from random import Random
 
@@ -97,9 +98,32 @@ def test_an_address_or_user_data_of_another_size_is_refused():
 
 def test_numbers_of_other_types_are_refused():
     for call in (lambda: cdpatch.with_user(SECTOR, 1.0, b'A'), lambda: cdpatch.with_user(SECTOR, '1', b'A'), lambda: cdpatch.address(1.5),
-                 lambda: cdpatch.survey(SECTOR, 0.0), lambda: cdpatch.audit(SECTOR, 0.5)):
-        with pytest.raises((TypeError, __import__('ctypes').ArgumentError)):
+                 lambda: cdpatch.survey(SECTOR, 0.0), lambda: cdpatch.audit(SECTOR, 0.5), lambda: cdpatch.listing(SECTOR, 0.0),
+                 lambda: cdpatch.patch(None, b'', None, 0.0)):
+        with pytest.raises(TypeError):
             call()
+
+
+class Seven:
+    """A whole number of another type, as numpy has them."""
+
+    def __index__(self):
+        return 7
+
+
+def test_whole_numbers_of_other_types_are_taken():
+    assert cdpatch.address(Seven()) == address_of(7)
+    assert cdpatch.with_user(SECTOR, Seven(), b'A') == cdpatch.with_user(SECTOR, 7, b'A')
+    assert bytes(cdpatch.survey(SECTOR, Seven())) == bytes(cdpatch.survey(SECTOR, 7))
+    assert cdpatch.audit(SECTOR, Seven()) == cdpatch.audit(SECTOR, 7)
+
+
+def test_the_records_of_a_survey_can_be_pickled_and_printed():
+    records = cdpatch.survey(SECTOR + DAMAGED_SECTOR, 1)
+    copy = pickle.loads(pickle.dumps(records))
+    assert len(copy) == 2 and bytes(copy) == bytes(records) and pickle.loads(pickle.dumps(copy[1])).q == 1
+    assert repr(copy[1]) == 'Record(kind=2, address=True, zeros=False, edc=False, p=0, q=1)'
+    assert len(pickle.loads(pickle.dumps(cdpatch.survey(b'')))) == 0
 
 
 @given(st.integers(0, 10 ** 9))

@@ -1,6 +1,7 @@
 // What a client makes of the calls that take no memory: the four commands on an image.
 
 import { Room, Size } from './calls.mjs';
+import { sameByRuns } from './run.mjs';
 
 /** @typedef {import('./calls.mjs').Calls} Calls */
 /** @typedef {{ status: number, text: Uint8Array, out: Uint8Array | null }} Answer */
@@ -18,6 +19,7 @@ const MODE1 = 2;
 const PATCH = 3;
 const SET = 0;
 const NO_HEAD = 4;
+const NO_VERSION = 14;
 
 /** @param {Uint8Array} bytes the memory of a record */
 const fields = bytes => new DataView(bytes.buffer, bytes.byteOffset, bytes.length);
@@ -73,7 +75,7 @@ export function script(calls, text) {
         number += 1;
         const content = Number(calls.call('cdpatch_read_line', version, number, new Size(patches.length), line,
             new Size(line.length), record, fresh, old));
-        if (content > PATCH) return lineBy(calls, 'cdpatch_fault_line', number, content);
+        if (content >= NO_HEAD && content <= NO_VERSION) return lineBy(calls, 'cdpatch_fault_line', number, content);
         if (content === PATCH) {
             const count = fields(record.bytes).getUint16(6, true);
             const [set, hasOld] = [record.bytes[8] === SET, record.bytes[9] === 1];
@@ -94,8 +96,9 @@ export function script(calls, text) {
  * @returns {Answer}
  */
 export function apply(calls, { image, base, carry, script: text }) {
+    const given = { image, base, carry, script: text };
     const patches = script(calls, text);
-    if (patches instanceof Uint8Array) return { status: 2, text: patches, out: null };
+    if (patches instanceof Uint8Array) return sameByRuns(calls, given, { status: 2, text: patches, out: null });
     const out = image.slice();
     const end = image.length - image.length % SECTOR;
     const [fresh, old] = [new Uint8Array(PATCH_SIZE), new Uint8Array(PATCH_SIZE)];
@@ -117,7 +120,7 @@ export function apply(calls, { image, base, carry, script: text }) {
         if (there) out.set(hand.bytes, first);
     }
     log.push(lineBy(calls, 'cdpatch_last_line', applied, patches.length - applied));
-    return { status: Number(applied < patches.length), text: Buffer.concat(log), out };
+    return sameByRuns(calls, given, { status: Number(applied < patches.length), text: Buffer.concat(log), out });
 }
 
 /**

@@ -124,7 +124,8 @@ class Chromium:
         self.find(css).send_keys('\n'.join(map(str, files)))
 
     def drop(self, css: str, files: Sequence[Path]) -> None:
-        """Drops files on an element, as from a file manager."""
+        """Drops files on an element as soon as it is shown, as from a file manager."""
+        self.wait(css)
         script = '''const box = document.querySelector(arguments[0]).getBoundingClientRect();
             return [box.left + box.width / 2, box.top + Math.min(box.height, innerHeight - box.top) / 2]'''
         x, y = self.run(script, css)

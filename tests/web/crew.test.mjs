@@ -16,6 +16,7 @@ class TestWorker {
 
     postMessage(message) {
         if (message.module) return;
+        if (message.job === this.given.stuck || (this.given.slow && this === this.given.workers[0])) return;
         const heard = this.onmessage;
         if (this.given.stops) setImmediate(() => this.onerror && this.onerror({ message: 'out of memory' }));
         else setImmediate(() => heard({ data: { number: message.number, answer: message.first } }));
@@ -37,4 +38,43 @@ test('a worker that stops ends the job, which says so, and the next job has new 
     given.stops = false;
     await job();
     assert.deepEqual(taken, [0, 1, 2, 3, 4, 5, 6, 7, 8, 9]);
+});
+
+test('Cancel ends a worker that does not come to its end, and what it has of another job goes to a new one', async () => {
+    const given = { workers: [], stops: false, stuck: 'find' };
+    const crew = crewOf({ module: true, newWorker: () => new TestWorker(given) });
+    const reader = { size: 40 * 2352, read: async (at, length) => new Uint8Array(length), lent: (from, size) => ({ from, size }) };
+    const cancelling = new AbortController();
+    const began = performance.now();
+    const searching = crew.share('find', [reader], {}, { step: 1, signal: cancelling.signal }, () => {});
+    setTimeout(() => cancelling.abort(), 50);
+    await assert.rejects(searching, { name: 'JobAborted' });
+    assert.ok(performance.now() - began < 3000);
+    const before = given.workers.length;
+    assert.ok(given.workers.every(it => it.ended));
+    const taken = [];
+    await crew.share('survey', [reader], {}, { step: 1 }, first => { taken.push(first); });
+    assert.equal(taken.length, 40);
+    assert.ok(given.workers.length > before);
+});
+
+test('Cancel of one job leaves another one, which a stuck worker also has', async () => {
+    const given = { workers: [], stops: false, stuck: 'find' };
+    const hands = { hardwareConcurrency: 1 };
+    const known = Object.getOwnPropertyDescriptor(globalThis, 'navigator');
+    Object.defineProperty(globalThis, 'navigator', { value: hands, configurable: true });
+    const crew = crewOf({ module: true, newWorker: () => new TestWorker(given) });
+    Object.defineProperty(globalThis, 'navigator', known);
+    const reader = { size: 4 * 2352, read: async (at, length) => new Uint8Array(length), lent: (from, size) => ({ from, size }) };
+    const cancelling = new AbortController();
+    const searching = crew.share('find', [reader], {}, { step: 1, signal: cancelling.signal }, () => {});
+    given.slow = true;
+    const taken = [];
+    const surveying = crew.share('survey', [reader], {}, { step: 1 }, first => { taken.push(first); });
+    cancelling.abort();
+    await assert.rejects(searching, { name: 'JobAborted' });
+    given.slow = false;
+    await surveying;
+    assert.deepEqual(taken, [0, 1, 2, 3]);
+    assert.equal(given.workers.length, 2);
 });

@@ -38,6 +38,11 @@ def script() -> str:
     return '\n'.join([*lines, f'fill {block + 1} 1000 16 20', f'rebuild {block + 2}', ''])
 
 
+def named() -> str:
+    """The patches of that script that name their old bytes."""
+    return ''.join(line for line in script().splitlines(keepends=True) if not line.startswith(('fill', 'rebuild')))
+
+
 def refused() -> str:
     """A script of which two patches are refused: old bytes differ, and a block that the image has not."""
     return script() + f'# two that do not fit\nset {first_block()} 600 4142 was 4344\nset 99999 0 41\n'

@@ -10,9 +10,33 @@ const web = process.env.WEB ?? join(top, 'web');
 /** @param {string} name a module of the page */
 export const page = name => import(pathToFileURL(join(web, 'page', name)).href);
 
-const { Calls } = await import(pathToFileURL(join(web, 'core', 'codes.js')).href);
+/** @param {string} name a module of the core */
+export const core = name => import(pathToFileURL(join(web, 'core', name)).href);
+
+const { Calls } = await core('codes.js');
 
 export const calls = new Calls(new WebAssembly.Module(readFileSync(join(top, 'library/cdpatch.wasm'))));
+
+const { Sha1 } = await page('sha1.js');
+
+/** A worker that hashes. */
+class HashWorker {
+    constructor() {
+        this.sha1 = new Sha1(calls);
+    }
+
+    postMessage({ module, hash }) {
+        if (module) return;
+        if (hash) this.sha1.add(hash);
+        const digest = hash ? null : this.sha1.digest();
+        setImmediate(() => this.onmessage({ data: { digest, crc: 0 } }));
+    }
+
+    terminate() {}
+}
+
+/** The parts of a page whose workers hash. */
+export const parts = { module: true, newWorker: () => new HashWorker() };
 
 /** An image of sound sectors with this user data, which are filled up with zeros. */
 export function imageOf(users) {

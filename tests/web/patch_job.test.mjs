@@ -3,10 +3,9 @@
 import assert from 'node:assert/strict';
 import { createHash } from 'node:crypto';
 import { beforeEach, test } from 'node:test';
-import { calls, imageOf, page, writtenBy } from './page.mjs';
+import { calls, imageOf, page, parts, writtenBy } from './page.mjs';
 
 const { checkWork, saveWork } = await page('patch_job.js');
-const { Sha1 } = await page('sha1.js');
 const { savePieces } = await page('save_pieces.js');
 
 const game = imageOf([new Uint8Array(4), Uint8Array.of(1, 2, 3)]);
@@ -16,23 +15,7 @@ const script = 'cdpatch 1\nset 0 0 41 was 00\nset 1 0 42 was 01\n';
 const watch = { signal: { aborted: false }, progress() {} };
 const shaOf = bytes => createHash('sha1').update(bytes).digest('hex');
 
-/** A worker that hashes. */
-class HashWorker {
-    constructor() {
-        this.sha1 = new Sha1(calls);
-    }
-
-    postMessage({ module, hash }) {
-        if (module) return;
-        if (hash) this.sha1.add(hash);
-        const digest = hash ? null : this.sha1.digest();
-        setImmediate(() => this.onmessage({ data: { digest, crc: 0 } }));
-    }
-
-    terminate() {}
-}
-
-const app = { calls, parts: { module: true, newWorker: () => new HashWorker() } };
+const app = { calls, parts };
 const given = { downloads: [], chosen: null };
 
 const anchor = () => ({ setAttribute() {}, append() {}, click() { given.downloads.push(this); }, remove() {} });
@@ -71,6 +54,12 @@ test('a check counts blocks from the base of the image', async () => {
     assert.deepEqual(outcomes.map(it => it.result), [4, 0]);
 });
 
+test('a script that says another base is refused', async () => {
+    const said = work({ base: 1, script: 'cdpatch 1\n# base 150\nset 1 0 41 was 00\n' });
+    await assert.rejects(checkWork(app, said, watch), { name: 'Error', message: 'Line 2 of the script says base 150, and the image begins with block 1 here.' });
+    assert.equal((await checkWork(app, { ...said, script: said.script.replace('150', '1') }, watch)).status, 0);
+});
+
 test('what is downloaded is the patched image, with carry as it was chosen', async () => {
     const damaged = game.bytes.slice();
     damaged[500] ^= 1;
@@ -100,8 +89,25 @@ test('an image that is not the one that is wanted is neither downloaded nor kept
 test('the open image is never written over', async () => {
     const chosen = choosing(chosenFile({ name: 'game.bin', size: file.size, lastModified: 7 }));
     await assert.rejects(saveWork(app, work(), 'out.bin', '', watch), { message: /is the open image itself/ });
-    await assert.rejects(savePieces([reader], [], 'out.bin', watch), { message: /is the open image itself/ });
+    await assert.rejects(savePieces([reader], [], 'out.bin', [], watch), { message: /is the open image itself/ });
     assert.deepEqual([chosen.state, chosen.written, chosen.removed], ['none', [], false]);
+});
+
+test('a chosen file that has the name of another open one is refused, and a new one of that name is taken away', async () => {
+    const opened = [{ name: 'game.bin', size: 7 }, { name: 'OUT.bin', size: 7 }];
+    const refused = { message: 'Another open file has this name: out.bin' };
+    const fresh = choosing(chosenFile());
+    await assert.rejects(saveWork(app, work({ opened }), 'out.bin', '', watch), refused);
+    await assert.rejects(savePieces([reader], [], 'out.bin', opened, watch), refused);
+    assert.deepEqual([fresh.state, fresh.written, fresh.removed], ['none', [], true]);
+    const old = choosing(chosenFile({ size: 7 }));
+    await assert.rejects(saveWork(app, work({ opened }), 'out.bin', '', watch), refused);
+    assert.deepEqual([old.state, old.removed], ['none', false]);
+    const empty = choosing(chosenFile());
+    await assert.rejects(saveWork(app, work({ opened: [{ name: 'out.bin', size: 0 }] }), 'out.bin', '', watch), refused);
+    assert.equal(empty.removed, false);
+    choosing(chosenFile({ name: 'game.bin', size: 1 })).name = 'game.bin';
+    assert.equal((await saveWork(app, work({ opened }), 'game.bin', '', watch)).streamed, true);
 });
 
 test('the file is asked for before the script is read, and is not kept if the script has a fault', async () => {
@@ -133,11 +139,11 @@ test('a repaired image is saved whole', async () => {
     const blobs = [];
     const { createObjectURL } = URL;
     URL.createObjectURL = blob => { blobs.push(blob); return 'blob:x'; };
-    await savePieces([reader], pieces, 'out.bin', watch);
+    await savePieces([reader], pieces, 'out.bin', [], watch);
     URL.createObjectURL = createObjectURL;
     const wanted = [...game.bytes.slice(0, 2352), ...pieces[1].bytes];
     assert.deepEqual([...new Uint8Array(await blobs[0].arrayBuffer())], wanted);
     const chosen = choosing(chosenFile());
-    await savePieces([reader], pieces, 'out.bin', watch);
+    await savePieces([reader], pieces, 'out.bin', [], watch);
     assert.deepEqual([...await writtenBy(chosen.written)], wanted);
 });

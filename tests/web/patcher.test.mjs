@@ -6,7 +6,8 @@ import { test } from 'node:test';
 import { deflateSync, inflateSync } from 'node:zlib';
 import { calls, page } from './page.mjs';
 
-const { base64Of, comparedWithPage, headFault, patcherText, readPatcherText } = await page('patcher.js');
+const { base64Of, comparedWithPage, patcherText, readPatcherText } = await page('patcher.js');
+const { headFault } = await page('patcher_head.js');
 const { bytesOfBase64 } = await page('parts.js');
 
 const data = {
@@ -79,6 +80,25 @@ test('data that are too long are refused while they are inflated', async () => {
     await assert.rejects(readPatcherText(calls, packed(bomb)), { message: 'the data are too long' });
 });
 
+test('what a browser inflates at once is little', async () => {
+    const { DecompressionStream } = globalThis;
+    const sizes = [];
+    globalThis.DecompressionStream = class {
+        constructor(kind) {
+            const counting = new TransformStream({ transform(piece, to) { sizes.push(piece.length); to.enqueue(piece); } });
+            return { writable: counting.writable, readable: counting.readable.pipeThrough(new DecompressionStream(kind)) };
+        }
+    };
+    try {
+        const noise = Array.from({ length: 4000 }, (_, i) => createHash('sha1').update(`${i}`).digest('base64')).join('\n');
+        const long = Buffer.from(`${JSON.stringify(head)}\n${noise}`);
+        assert.equal((await readPatcherText(calls, packed(long))).script, noise);
+    } finally {
+        globalThis.DecompressionStream = DecompressionStream;
+    }
+    assert.ok(sizes.length > 20 && Math.max(...sizes) <= 4096, String(sizes));
+});
+
 test('data without a right head are refused', async () => {
     const wrong = [
         Buffer.from('no json\n'), Buffer.from('{}\n'), Buffer.from(JSON.stringify(head)), Buffer.from(`[]\n${script}`), Buffer.from('null\n'),
@@ -94,7 +114,7 @@ test('data without a right head are refused', async () => {
 test('each member of a head has its form', () => {
     assert.equal(headFault(head), '');
     const wrong = {
-        title: ['', ' ', 'x'.repeat(201), 5], author: ['x'.repeat(201), null], note: ['x'.repeat(20001)], cue: [1],
+        title: ['', ' ', 'x'.repeat(201), 5, '\u200b', '\u2060\u200d \u00ad', '\u3164', '\u2800', '\u0301'], author: ['x'.repeat(201), null], note: ['x'.repeat(20001)], cue: [1],
         name: ['', '.', '..', 'a/b.bin', 'a\\b.bin', 'c:d', 'a\nb', 'a?b', '<x>'], carry: [0, 'true', null], base: [-1, 0.5, '0', 449850],
         image: [null, {}, { size: -1, sha1: head.image.sha1 }, { size: 2352, sha1: 'F'.repeat(40) }, { ...head.image, more: 1 }],
         result: ['', 'f'.repeat(39), 'g'.repeat(40), null],
@@ -106,6 +126,7 @@ test('each member of a head has its form', () => {
 
 test('data with a wrong head are not written', async () => {
     await assert.rejects(patcherText(calls, { ...data, title: '' }), { message: /title/ });
+    await assert.rejects(patcherText(calls, { ...data, name: 'Play the game.html' }), { message: /name of the image/ });
 });
 
 test('base64 is that of others, of any length', () => {
@@ -124,9 +145,28 @@ test('a patcher of this page is the page and data, and any other page is not the
     const compared = comparedWithPage(bytes(source + text), source);
     assert.equal(compared.same, true);
     assert.deepEqual(await readPatcherText(calls, compared.text), data);
-    assert.deepEqual(comparedWithPage(bytes(source), source), { same: true, text: '\n' });
-    const other = source.replace('doctype', 'DOCTYPE') + text;
-    assert.equal(comparedWithPage(bytes(other), source).same, false);
-    assert.deepEqual(await readPatcherText(calls, comparedWithPage(bytes(other), source).text), data);
+    assert.deepEqual(comparedWithPage(bytes(source), source), { same: true, program: bytes(source), text: '\n' });
+    const other = source.replace('doctype', 'DOCTYPE');
+    assert.equal(comparedWithPage(bytes(other + text), source).same, false);
+    assert.deepEqual(comparedWithPage(bytes(other + text), source).program, bytes(other));
+    assert.deepEqual(await readPatcherText(calls, comparedWithPage(bytes(other + text), source).text), data);
     assert.equal(comparedWithPage(bytes('<html>'), source), null);
+});
+
+test('data with the line ends of other systems are read, as a browser reads them', async () => {
+    const source = '<!doctype html>\n<plaintext hidden id="data">\n';
+    const bytes = string => new TextEncoder().encode(string);
+    for (const end of ['\r\n', '\r']) {
+        const ends = string => string.replaceAll('\n', end);
+        for (const [file, same] of [[source + ends(text), true], [ends(source + text), false]]) {
+            const compared = comparedWithPage(bytes(file), source);
+            assert.equal(compared.same, same);
+            assert.deepEqual(await readPatcherText(calls, compared.text), data);
+        }
+    }
+});
+
+test('white space after the page is no part of it', () => {
+    const source = '<!doctype html>\n<plaintext hidden id="data">\n';
+    for (const more of [' ', '\n', '\r']) assert.notEqual(comparedWithPage(new TextEncoder().encode(source + more), source).text, '\n');
 });

@@ -8,7 +8,7 @@ const { patchesNear, sectorBytes } = await page('sector_bytes.js');
 const image = imageOf(Array.from({ length: 6 }, () => new Uint8Array(4)));
 
 async function userAfter(script, block) {
-    const { fresh } = await sectorBytes({ calls, script: { text: script } }, image, block);
+    const { fresh } = await sectorBytes({ calls, script: { shown: script } }, image, block);
     return [...fresh.subarray(16, 20)];
 }
 

@@ -4,7 +4,7 @@ import { startPage } from '/web/page/main.js';
 
 async function servedParts() {
     const module = await WebAssembly.compile(await (await fetch('/library/cdpatch.wasm')).arrayBuffer());
-    return { module, newWorker: () => new Worker('/web/page/worker.js', { type: 'module' }) };
+    return { module, newWorker: () => new Worker('/web/page/worker.js', { type: 'module' }), made: [] };
 }
 
 startPage(servedParts()).then(app => { Object.assign(globalThis, { app }); });

@@ -1,9 +1,10 @@
-"""Firefox and WebKit, once each: the page from file://, audit, apply, and a patcher."""
+"""Firefox and WebKit, once each: the page from file://, audit, apply, and a patcher; and what they read in pairs of bytes."""
 
 import unittest
 from pathlib import Path
 
 import common
+import decoders
 import discs
 import marionette
 import webkit
@@ -38,6 +39,7 @@ class Browsers(unittest.TestCase):
         browser.wait('#panel-script header', 'english.txt')
         self.press(browser, 'Apply and save')
         self.assertEqual(browser.downloaded('game (patched).bin').read_bytes(), out)
+        self.assertEqual(decoders.differing(browser.run), [])
         self.play(browser)
 
     def play(self, browser: Browser) -> None:

@@ -154,16 +154,16 @@ class Disc(unittest.TestCase):
         sheet.write_text('FILE "game.bin" BINARY\n  TRACK 01 MODE1/2352\n    INDEX 01 00:00:00\n')
         browser = self.opened(sheet, file_of(discs.game()), file_of(scratched(), 'other.bin'))
         browser.wait('#messages', 'Not opened: other.bin.')
-        self.assertIn('game.cue does not name it.', browser.text('#messages'))
+        self.assertIn('The cue sheet does not name it: game.cue.', browser.text('#messages'))
         self.assertEqual(browser.text('#disc-line .name'), 'game.bin')
 
-    def test_a_packed_image_beside_a_script_is_named_as_a_shell_takes_it(self) -> None:
+    def test_a_packed_image_beside_a_script_has_a_command_that_any_shell_takes(self) -> None:
         browser = self.browser
         browser.give('#files', [file_of(b'cdpatch 1\n', 'a.txt'), file_of(b'MComprHD' + bytes(5000), "it's $HOME.chd")])
-        browser.wait('.say.bad', "it's $HOME.chd is a CHD")
+        browser.wait('.say.bad', "A compressed image (CHD), which cdpatch cannot read: it's $HOME.chd")
         command = browser.text('.say.bad .line-out')
         words = subprocess.run(['sh', '-c', f'printf "%s\\n" {command}'], stdout=subprocess.PIPE, check=True).stdout.decode().splitlines()
-        self.assertEqual(words, ['chdman', 'extractcd', '-i', "it's $HOME.chd", '-o', 'disc.cue', '-ob', 'disc.bin'])
+        self.assertEqual(words, ['chdman', 'extractcd', '-i', 'disc.chd', '-o', 'disc.cue', '-ob', 'disc.bin'])
 
     def test_an_image_of_audio_is_shown(self) -> None:
         audio = random.Random(4).randbytes(500 * SECTOR_SIZE)
@@ -180,7 +180,7 @@ class Disc(unittest.TestCase):
     def test_more_images_than_one_beside_the_open_one_are_refused(self) -> None:
         browser = self.opened(file_of(discs.game()))
         browser.give('#files', [file_of(scratched(), 'a.bin'), file_of(discs.game(), 'b.bin')])
-        browser.wait('.say.bad', 'game.bin is open already.')
+        browser.wait('.say.bad', 'An image is open already: game.bin.')
         self.assertIn('Open one more, a.bin or b.bin, to compare it.', browser.text('.say.bad'))
         self.assertEqual(browser.text('#disc-line .name'), 'game.bin')
 
@@ -209,7 +209,7 @@ class Disc(unittest.TestCase):
         self.assertEqual(browser.run('return globalThis.copied'), '\n'.join(lines))
 
     def test_the_style_is_that_of_the_sources(self) -> None:
-        """What the join squeezes has the same rules."""
+        """What esbuild squeezes has the same rules."""
         rules = '''const source = new CSSStyleSheet(); source.replaceSync(arguments[0]);
             const text = rule => rule.cssText.replace(/,\\s+/g, ',');
             return [source, document.styleSheets[0]].map(sheet => [...sheet.cssRules].map(text))'''

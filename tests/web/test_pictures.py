@@ -72,7 +72,7 @@ class Pictures(PageTest):
         path = common.folder('chd') / 'Hoshizora Tantei.chd'
         path.write_bytes(b'MComprHD' + bytes(5000))
         self.open_files(path)
-        self.browser.wait('#start-message', 'is a CHD')
+        self.browser.wait('#start-message', 'A compressed image (CHD)')
         self.take('start-refused')
 
     def test_a_disc_that_is_read_and_what_is_found(self) -> None:
@@ -129,7 +129,7 @@ class Pictures(PageTest):
         self.browser.wait('#panel-script .progress')
         self.take('script-saving')
         self.browser.run('chosen.release()')
-        self.browser.wait('#panel-script .say.warn', 'is saved')
+        self.browser.wait('#panel-script .say.warn', 'Saved: ')
         self.browser.wait('#saved-sha1', common.sha1(self.chosen_bytes()))
         self.take('script-saved')
 
@@ -174,12 +174,21 @@ class Pictures(PageTest):
         self.browser.wait('#player h1')
         self.take('player')
         answers = {'other': (discs.written(old=common.image_of(iso_of_nothing()))['old'], 'does not fit'),
-                   'fits': (discs.written(fits=common.damaged(discs.game(), 150))['fits'], 'but the patch fits'),
+                   'unknown': (discs.written(fits=common.damaged(discs.game(), 150))['fits'], 'not the author’s disc'),
                    'patched': (discs.written(patched=made)['patched'], 'already')}
         for name, (file, words) in answers.items():
             self.browser.give('#player-files', [file])
             self.browser.wait('#verdict', words)
             self.take(f'player-{name}')
+        named = path.with_name('named.html')
+        named.write_bytes(patcher(discs.game(), made, discs.named()))
+        self.browser.open(named)
+        self.browser.wait('#player h1')
+        self.browser.give('#player-files', [answers['unknown'][0]])
+        self.browser.wait('#verdict', 'but the patch fits')
+        self.take('player-fits')
+        self.browser.open(path)
+        self.browser.wait('#player h1')
         self.browser.give('#player-files', [cue, files['game']])
         self.browser.wait('#verdict', 'right disc')
         self.take('player-right')

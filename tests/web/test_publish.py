@@ -12,6 +12,11 @@ from pages import GATE, PICKER, PageTest, applied, patcher
 CUE = 'FILE "game.bin" BINARY\n  TRACK 01 MODE1/2352\n    INDEX 01 00:00:00\n'
 HOSTILE = '<img src=x onerror=alert(1)>'
 
+# What an extension does that gives pages a style of its own: before all others, or after them.
+FOREIGN = '''const it = document.createElement('style');
+    it.textContent = 'body { filter: invert(1) }';
+    document.head[arguments[0]](it)'''
+
 
 def result() -> bytes:
     """What the author's script makes of the game."""
@@ -48,7 +53,7 @@ class Publish(PageTest):
         self.assertEqual(saved[:len(page)], page)
         self.assertEqual(saved[len(page):len(page) + 15], b'cdpatch-data 1 ')
         self.assertEqual(set(saved[len(page):]) & set(b'<>&"\''), set())
-        self.browser.wait('#panel-publish .say.good', 'is saved.')
+        self.browser.wait('#panel-publish .say.good', 'Saved: img src=x onerror=alert(1).html')
         self.assertEqual(self.browser.attempts(), [])
 
     def test_the_published_copy_is_a_player_with_a_cue_sheet(self) -> None:
@@ -83,6 +88,36 @@ class Publish(PageTest):
         saved = self.browser.downloaded('img src=x onerror=alert(1).html').read_bytes()
         self.assertEqual(data_of(saved)['script'], discs.script())
         self.assertEqual([it.name for it in self.browser.downloads.iterdir()], ['img src=x onerror=alert(1).html'])
+
+    def test_a_style_that_is_put_before_the_pages_own_lets_nothing_be_published_and_the_page_says_why(self) -> None:
+        self.publish()
+        self.browser.run(FOREIGN, 'prepend')
+        self.press('Save as a patcher')
+        self.browser.wait('#panel-publish .say.bad', 'Something in this browser has changed this page')
+        self.browser.wait('#panel-publish .say.bad', 'No patcher was saved.')
+        self.assertEqual(list(self.browser.downloads.iterdir()), [])
+
+    def test_a_policy_that_is_put_before_the_pages_own_lets_nothing_be_published(self) -> None:
+        self.publish()
+        self.browser.run('const it = document.createElement("meta"); it.httpEquiv = "Content-Security-Policy"; document.head.prepend(it)')
+        self.press('Save as a patcher')
+        self.browser.wait('#panel-publish .say.bad', 'Something in this browser has changed this page')
+        self.assertEqual(list(self.browser.downloads.iterdir()), [])
+
+    def test_a_style_that_was_changed_is_not_published(self) -> None:
+        self.publish()
+        self.browser.run('document.querySelector("style").append(" ")')
+        self.press('Save as a patcher')
+        self.browser.wait('#panel-publish .say.bad', 'Something in this browser has changed this page')
+        self.assertEqual(list(self.browser.downloads.iterdir()), [])
+
+    def test_a_style_that_is_put_after_the_pages_own_is_in_no_patcher(self) -> None:
+        self.publish()
+        self.browser.run(FOREIGN, 'append')
+        self.press('Save as a patcher')
+        saved = self.browser.downloaded('img src=x onerror=alert(1).html').read_bytes()
+        page = common.PAGE.read_bytes()
+        self.assertEqual(saved[:len(page)], page)
 
     def test_it_is_refused_while_a_patch_is_refused(self) -> None:
         files = discs.written(game=discs.game(), english=discs.refused())
@@ -132,10 +167,11 @@ class Player(PageTest):
 
     def test_another_dump_that_the_patch_fits(self) -> None:
         other = common.damaged(discs.game(), 150)
-        self.play(other)
+        self.play(other, discs.named())
         self.browser.wait('#verdict', 'This is another dump, but the patch fits it.')
+        self.assertIn('All 4 places hold the bytes that the author saw.', self.browser.text('#player'))
         self.press('Patch and save')
-        files = discs.written(other=other, english=discs.script())
+        files = discs.written(other=other, english=discs.named())
         self.assertEqual(self.browser.downloaded('Starlit (English).bin').read_bytes(), applied(files['other'], files['english'])[2])
         self.assertNotIn('the SHA-1 is the same', self.browser.text('#player'))
 
@@ -178,7 +214,7 @@ class Player(PageTest):
 
     def test_music_is_not_taken_for_the_disc(self) -> None:
         self.play(bytes(range(1, 255)) * 2352)
-        self.browser.wait('#player .say.bad', 'mine.bin is music; choose the data track.')
+        self.browser.wait('#player .say.bad', 'This is music; choose the data track: mine.bin')
 
     def test_patched_already_is_known_by_the_hash_too(self) -> None:
         script = f'cdpatch 1\nset {discs.first_block()} 0 5374617274202020\n'
@@ -248,7 +284,8 @@ class Player(PageTest):
 
     def test_a_patcher_that_is_dropped_on_ones_own_page_is_compared_with_it(self) -> None:
         good = patcher(discs.game(), result(), discs.script())
-        for data, said in ((good, 'is this cdpatch, byte for byte.'), (good.replace(b'<title>', b'<title >', 1), 'is not this cdpatch.')):
+        for data, said in ((good, 'This cdpatch, byte for byte: starlit.html'),
+                           (good.replace(b'<title>', b'<title >', 1), 'Not this cdpatch: starlit.html')):
             self.browser.open(common.PAGE)
             path = common.folder('patcher') / 'starlit.html'
             path.write_bytes(data)
@@ -259,12 +296,20 @@ class Player(PageTest):
         self.browser.drop('#player', [discs.written(mine=discs.game())['mine']])
         self.browser.wait('#verdict', 'This is the right disc.')
 
+    def test_a_patcher_is_compared_with_the_page_also_if_a_style_is_put_before_its_own(self) -> None:
+        path = common.folder('patcher') / 'starlit.html'
+        path.write_bytes(patcher(discs.game(), result(), discs.script()))
+        self.browser.run(FOREIGN, 'prepend')
+        self.browser.drop('#drop', [path])
+        self.browser.wait('#compared', 'This cdpatch, byte for byte: starlit.html')
+
     def test_the_full_page_opens_from_a_patcher(self) -> None:
         self.play(discs.game())
         self.browser.wait('#verdict', 'This is the right disc.')
         self.press('Open this in the full cdpatch')
-        self.browser.wait('#panel-script header .tag', '6 patches, version 1')
         self.browser.wait('#disc-line .name', 'mine.bin')
+        self.browser.click('#tab-script')
+        self.browser.wait('#panel-script header .tag', '6 patches, version 1')
         self.browser.click('#tab-publish')
         fields = 'return ["title", "author", "note", "name"].map(it => document.querySelector(`#patcher-${it}`).value)'
         self.assertEqual(self.browser.run(fields), ['Starlit Detective in English', 'Team Comet', 'All menus.\nChapter 1.', 'Starlit (English).bin'])

@@ -58,7 +58,7 @@ class Script(PageTest):
         self.browser.wait('#disc-line .name', 'last.bin')
         self.press('Apply and save')
         self.browser.downloaded('last (patched).bin')
-        self.browser.wait('#panel-script .side', 'The cue sheet names first (patched).bin too')
+        self.browser.wait('#panel-script .side', 'The cue sheet names files too that you saved before: first (patched).bin')
         self.press('Save a cue sheet')
         saved = self.browser.downloaded('game (patched).cue')
         wanted = sheet.read_text().replace('first.bin', 'first (patched).bin').replace('last.bin', 'last (patched).bin')
@@ -84,7 +84,7 @@ class Script(PageTest):
         saved = self.browser.downloaded('game (patched).bin')
         self.browser.wait('#saved-sha1', common.sha1(saved.read_bytes()))
         self.browser.drop('#panel-script', [saved])
-        self.browser.wait('#panel-script .say', 'game (patched).bin is right.')
+        self.browser.wait('#panel-script .say', 'Right: game (patched).bin')
         self.assertNotIn('Keep this page open', self.browser.text('#panel-script .side'))
         saved.write_bytes(saved.read_bytes()[:-1])
         self.browser.drop('#panel-script', [saved])
@@ -118,7 +118,7 @@ class Script(PageTest):
         self.browser.drop('#panel-script', [self.browser.downloaded('game (patched).bin')])
         common.waited(lambda: self.browser.run('return globalThis.reads') == 2, 'the dropped file is not read')
         self.browser.run('openGate()')
-        self.browser.wait('#panel-script [role=status] .say', 'game (patched).bin is right.')
+        self.browser.wait('#panel-script [role=status] .say', 'Right: game (patched).bin')
 
     def test_a_fault_is_said_in_the_words_of_the_program_with_help(self) -> None:
         script = 'cdpatch 1\nset 26 0 537 was 8358\nset 26 2105 41 was 42\nreplace 26 0 41\n'
@@ -314,7 +314,7 @@ class Streaming(PageTest):
     def test_what_is_streamed_is_what_the_program_writes(self) -> None:
         files = self.begin()
         self.press('Apply and save')
-        self.browser.wait('#panel-script .say.good', 'game (patched).bin is saved.')
+        self.browser.wait('#panel-script .say.good', 'Saved: game (patched).bin')
         self.assertEqual(self.browser.run('return chosen.state'), 'closed')
         self.assertEqual(self.chosen_bytes(), applied(files['game'], files['english'])[2])
 
@@ -327,7 +327,7 @@ class Streaming(PageTest):
         self.begin()
         self.browser.run('chosen.gone = true')
         self.press('Apply and save')
-        self.browser.wait('#panel-script .say.good', 'game (patched).bin is saved.')
+        self.browser.wait('#panel-script .say.good', 'Saved: game (patched).bin')
         self.browser.wait('#saved-sha1', 'not known')
 
     def test_a_failure_at_each_write_keeps_no_image(self) -> None:

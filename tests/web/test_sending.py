@@ -3,6 +3,8 @@
 import base64
 import hashlib
 import re
+import subprocess
+import zlib
 
 import chromium
 import common
@@ -84,9 +86,9 @@ class Sending(PageTest):
         self.assertEqual(server.requests, [f'GET /{common.PAGE.name} HTTP/1.1'])
 
     def test_the_text_of_the_page_has_no_word_that_sends(self) -> None:
-        script = re.sub(r"module: '[^']*'", '', part('script'))
+        script = part('script')
         found = [match.group() for form in SENDING for match in re.finditer(form, script)]
-        markup = page().replace(part('script'), '').replace(part('style'), '')
+        markup = page().replace(script, '').replace(part('style'), '')
         found += [match.group() for form in MARKUP for match in re.finditer(form, markup.split('</head>')[1])]
         found += re.findall(r'https?://[^\'"` )]*', script + markup)
         self.assertEqual([it for it in found if it != 'http://www.w3.org/2000/svg'], [])
@@ -95,8 +97,14 @@ class Sending(PageTest):
         found = re.findall(r'<meta http-equiv="Content-Security-Policy" content="([^"]*)">', page())
         self.assertEqual(found, [POLICY.format(script=hash_of(part('script')), style=hash_of(part('style')))])
 
+    def test_about_names_what_made_the_page(self) -> None:
+        esbuild = subprocess.run(['esbuild', '--version'], stdout=subprocess.PIPE, check=True).stdout.decode().strip()
+        wasm_opt = (common.TOP / 'library/cdpatch.wasm.txt').read_text().strip()
+        self.assertIn(f'Made with esbuild {esbuild}, zlib {zlib.ZLIB_RUNTIME_VERSION}, {wasm_opt}.',
+                      self.browser.run('return document.querySelector("#about").textContent'))
+
     def test_the_page_has_at_most_400_kilobytes_and_ends_where_data_begin(self) -> None:
-        self.assertLessEqual(common.PAGE.stat().st_size, 400000)
+        self.assertLessEqual(common.PAGE.stat().st_size, 440000)
         self.assertTrue(page().endswith('</script>\n<plaintext hidden id="data">\n'))
 
 

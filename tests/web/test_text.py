@@ -3,6 +3,7 @@
 import re
 
 import common
+import decoders
 import discs
 from pages import PageTest, applied
 from selenium.webdriver.common.keys import Keys
@@ -145,6 +146,76 @@ class Text(PageTest):
         self.browser.wait('#panel-text .say.bad', '3 bytes cannot be filled with that')
         self.assertTrue(self.is_off('Add to the script'))
 
+    def texts(self, texts: dict[str, str]) -> None:
+        """Opens an image with a block for each text, in the encoding by which it stands here."""
+        self.open_image(discs.written(texts=common.image_of([text.encode(name) for name, text in texts.items()]))['texts'])
+        self.browser.click('#tab-text')
+
+    def replaced(self, block: int, encoding: str, old: str, new: str) -> str:
+        """The line that replaces a text at the beginning of a block, with what fills it up by default."""
+        self.choose(encoding)
+        self.browser.type('#find-text', old)
+        self.browser.press(Keys.ENTER)
+        self.browser.wait('#panel-text .side h2', f'Replace: block {block} offset 0')
+        self.browser.type('#new-text', new)
+        self.browser.wait('.line-out', f'was {old.encode(encoding).hex().upper()}')
+        return self.browser.text('.line-out')
+
+    def fills(self) -> list[str]:
+        return list(self.browser.run('return [...document.querySelector("#panel-text select.short").options].map(it => it.text)'))
+
+    def test_a_shorter_text_is_filled_up_with_the_space_of_its_encoding(self) -> None:
+        self.texts({'UTF-16LE': 'スタート', 'CP932': 'おわり'})
+        self.assertIn(f"set 0 0 {'go  '.encode('utf-16-le').hex().upper()} was", self.replaced(0, 'UTF-16LE', 'スタート', 'go'))
+        self.assertEqual(self.fills(), ['20 00 space', '00 30 wide space', '00', 'another byte…'])
+
+    def test_a_wide_space_is_that_of_the_encoding(self) -> None:
+        self.texts({'CP932': 'スタート', 'EUC-JP': 'スタート'})
+        self.replaced(0, 'CP932', 'スタート', 'ゴー')
+        self.assertEqual(self.fills()[1], '81 40 wide space')
+        self.replaced(1, 'EUC-JP', 'スタート', 'ゴー')
+        self.assertEqual(self.fills(), ['20 space', 'A1 A1 wide space', '00', 'another byte…'])
+        self.browser.run('document.querySelector("#panel-text select.short").selectedIndex = 1; '
+                         'document.querySelector("#panel-text select.short").dispatchEvent(new Event("change"))')
+        self.browser.wait('.line-out', f"set 1 0 {'ゴー　　'.encode('euc-jp').hex().upper()} was")
+
+    def test_a_text_in_another_encoding_of_two_bytes_is_found_and_replaced(self) -> None:
+        texts = {'Big5': ('遊戲開始', '開始'), 'GBK': ('游戏开始', '开始'), 'EUC-KR': ('게임 시작', '시작')}
+        self.texts({encoding: old for encoding, (old, _) in texts.items()})
+        for block, (encoding, (old, new)) in enumerate(texts.items()):
+            fresh = new.encode(encoding).ljust(len(old.encode(encoding))).hex().upper()
+            self.assertIn(f'set {block} 0 {fresh} was', self.replaced(block, encoding, old, new))
+
+    def test_chromium_reads_pairs_of_bytes_as_the_tables_have_them(self) -> None:
+        self.assertGreater(sum(len(codes) for codes in decoders.left_to_engines().values()), 40000)
+        self.assertEqual(decoders.differing(self.browser.run), [])
+
+    def test_hits_that_may_begin_inside_a_character_are_not_added_for_all(self) -> None:
+        # In CP932 殻 is 8A6B, so that only the second and the third 'kz' begin a character.
+        self.open_image(discs.written(inside=common.image_of([b'\0' + '殻z'.encode('cp932') + b'\0kz\0kz', b'', b'']))['inside'])
+        self.browser.click('#tab-text')
+        self.browser.click('#find-text')
+        self.search('kz')
+        self.browser.wait('.hits tbody tr:nth-child(1)', 'perhaps in the middle of a character (byte before: 8A)')
+        self.browser.press('xx')
+        self.press('Add for all 3 left')
+        self.browser.wait('#panel-text .say.warn', '1 hit left: block 0 offset 2: perhaps in the middle of a character (byte before: 8A)')
+        self.browser.click('#tab-script')
+        self.assertEqual(self.script_text(), 'cdpatch 1\nset 0 5 7878 was 6B7A\nset 0 8 7878 was 6B7A\n')
+
+    def test_a_long_run_of_characters_says_which_hits_begin_inside_one(self) -> None:
+        # Each byte of a run of 亜 (889F) may begin a character, but the last one of 殻 (8A6B).
+        run = ('殻' + '亜' * 60).encode('cp932').replace(b'\x88\x9f', b'\x89\x89') + 'あ'.encode('cp932')
+        self.open_image(discs.written(run=common.image_of([b'.' + run]))['run'])
+        self.browser.click('#tab-text')
+        self.choose('hex')
+        self.browser.click('#find-text')
+        self.search('8989')
+        self.choose('CP932')
+        self.browser.wait('.hits tbody tr:nth-child(119)', 'あ')
+        marked = self.browser.run('return [...document.querySelectorAll(".hits tbody tr")].map(it => it.innerText.includes("in the middle"))')
+        self.assertEqual(marked, [i % 2 == 1 for i in range(119)])
+
     def test_a_hit_may_begin_inside_a_character(self) -> None:
         user = [bytes([0x2E] * 20) + '海Xスタ'.encode('cp932'), b'\0' + bytes([0x83, 0x83]) + b'X']
         self.open_image(discs.written(inside=common.image_of(user))['inside'])
@@ -156,7 +227,7 @@ class Text(PageTest):
         self.browser.wait('#panel-text .hits tbody mark')
         self.browser.run('document.querySelector("#find-encoding").value = "CP932"; '
                          'document.querySelector("#find-encoding").dispatchEvent(new Event("change"))')
-        self.browser.wait('.hits tbody tr', 'may begin inside a character')
+        self.browser.wait('.hits tbody tr', 'perhaps in the middle of a character (byte before: 8A)')
 
     def test_a_table_of_the_game_is_an_encoding(self) -> None:
         image = common.image_of([b'\x10\x11\x12\x10\xFF', b'', b''])
@@ -165,7 +236,7 @@ class Text(PageTest):
         self.open_image(discs.written(table=image)['table'])
         self.browser.click('#tab-text')
         self.browser.give('#panel-text input[type=file]', [place / 'game.tbl'])
-        self.browser.wait('#panel-text .say.good', 'game.tbl is loaded.')
+        self.browser.wait('#panel-text .say.good', 'Loaded: game.tbl')
         self.browser.click('#find-text')
         self.search('いう')
         self.browser.press('AB', Keys.ENTER)
@@ -183,7 +254,7 @@ class Text(PageTest):
         self.search('スタート')
         self.browser.press('Start')
         self.press('Add for all 5 left')
-        self.browser.wait('#panel-text .say.warn', f'Block {discs.first_block() + 1} is damaged: repair it first')
+        self.browser.wait('#panel-text .say.warn', f'block {discs.first_block() + 1} is damaged: repair it first')
         self.assertEqual(self.browser.text('#count-script').split()[0], '3')
 
     def test_no_hit_says_what_was_searched(self) -> None:

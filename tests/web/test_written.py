@@ -58,7 +58,7 @@ class Written(PageTest):
 
     def test_a_file_of_the_browser_has_what_the_program_writes(self) -> None:
         self.press('Apply and save')
-        self.browser.wait('#panel-script .say.good', 'out.bin is saved.')
+        self.browser.wait('#panel-script .say.good', 'Saved: out.bin')
         self.browser.wait('#saved-sha1', common.sha1(applied(self.files['long'], self.files['script'])[2]))
         self.assertEqual(self.kept(), ['out.bin'])
 
@@ -69,6 +69,6 @@ class Written(PageTest):
         with self.files['long'].open('r+b') as file:
             file.truncate(20_000_000)
         self.browser.run('chosen.release()')
-        self.browser.wait('#panel-script .say.bad', 'long.bin cannot be read any more. Was it moved or changed')
+        self.browser.wait('#panel-script .say.bad', 'This file cannot be read any more: long.bin. Was it moved or changed')
         self.assertIn('No image was kept', self.browser.text('#panel-script .side'))
         self.assertEqual(self.kept(), [])

@@ -1,22 +1,34 @@
 // The arguments of the command line.
 
 import { Fault } from '../core/faults.js';
-import { bytesOfHex, encodingOf } from '../core/text.js';
+import { ENCODINGS, encodingOf } from '../core/text.js';
+import { bytesOfHex } from '../core/texts/hex.js';
 import { FORMS, OPTION_FORMS } from './forms.js';
 import { LAST_BASE, MOST_BLOCKS, numberOf } from './numbers.js';
+import { didYouMean } from './suggesting.js';
 
 /**
  * The options that were given, by their names in OPTION_FORMS.
  * @typedef {{ base?: number, track?: number, limit?: number, first?: number, fill?: Uint8Array, encoding?: string, table?: string,
- *     output?: string, carry?: boolean, long?: boolean, skipDamaged?: boolean, all?: boolean, fields?: boolean, help?: boolean,
- *     version?: boolean, notices?: boolean }} Options
+ *     output?: string, carry?: boolean, long?: boolean, skipDamaged?: boolean, partial?: boolean, all?: boolean, inside?: boolean,
+ *     list?: string, csv?: boolean, in?: string, min?: number, fields?: boolean, help?: boolean, version?: boolean, notices?: boolean,
+ *     dat?: string[], resume?: string }} Options
  */
 /** @typedef {{ job: string, names: string[], options: Options }} Given */
 
 /** Options of which only one is given. */
-const EXCLUDING = [['encoding', 'table'], ['fields', 'skipDamaged']];
+const EXCLUDING = [
+    ['encoding', 'table'], ['fields', 'skipDamaged'], ['fields', 'partial'], ['skipDamaged', 'partial'],
+    ['list', 'all'], ['list', 'inside'],
+];
+
+/** Options that may be given several times. */
+const REPEATED = ['dat'];
 
 const LAST_TRACK = 99;
+
+/** @type {Record<string, string>} */
+const SHORT_WORDS = { '-h': '--help', '-V': '--version' };
 
 /** @param {string} text */
 function fillOf(text) {
@@ -26,15 +38,17 @@ function fillOf(text) {
 
 /** @param {string} name */
 function knownEncoding(name) {
-    if (encodingOf(name) === null) throw new Fault(`there is no encoding '${name}' here`);
+    const known = ENCODINGS.map(it => it.name).join(', ');
+    if (encodingOf(name) === null) throw new Fault(`there is no encoding '${name}' here; there are ${known}`);
     return name;
 }
 
 /** @type {Record<string, (text: string) => string | number | Uint8Array>} how the values of options are read; the others are texts */
 const VALUES = {
-    base: text => numberOf(text, '--base', 0, LAST_BASE),
+    base: text => numberOf(text.replace(/^\+(?=\d)/, ''), '--base', 0, LAST_BASE),
     track: text => numberOf(text, '--track', 1, LAST_TRACK),
     limit: text => numberOf(text, '--limit', 0, MOST_BLOCKS),
+    min: text => numberOf(text, '--min', 1, MOST_BLOCKS),
     first: text => numberOf(text, '--first', 0, LAST_BASE),
     fill: fillOf,
     encoding: knownEncoding,
@@ -64,38 +78,54 @@ function sorted(words) {
  * @param {Iterator<string>} left the words after it
  */
 function takeOption(options, word, left) {
-    const [, spelled, given] = /^([^=]*)(?:=(.*))?$/s.exec(word) || ['', word, undefined];
-    const meant = spelled === '-h' ? '--help' : spelled;
+    const [, spelled = word, given] = /^([^=]*)(?:=(.*))?$/s.exec(word) || [];
+    const meant = SHORT_WORDS[spelled] || spelled;
     const name = Object.keys(OPTION_FORMS).find(key => OPTION_FORMS[key].word === meant);
-    if (!name) throw new Fault(`there is no option ${spelled}; a name that begins with - stands after --`);
+    if (!name) {
+        const known = Object.values(OPTION_FORMS).map(({ word: it }) => it);
+        throw new Fault(`there is no option ${spelled}${didYouMean(spelled, known) || '; a name that begins with - stands after --'}`);
+    }
     const form = OPTION_FORMS[name];
     const isFlag = form.value === '';
     if (isFlag && given !== undefined) throw new Fault(`${spelled} takes no value`);
-    if (name in options) throw new Fault(`${form.word} stands there twice`);
+    if (name in options && !REPEATED.includes(name)) throw new Fault(`${form.word} stands there twice`);
     const text = isFlag || given !== undefined ? given : left.next().value;
     if (!isFlag && text === undefined) throw new Fault(`${form.word} wants ${form.value}`);
-    options[name] = isFlag || (name in VALUES ? VALUES[name](text) : text);
+    const value = isFlag || (name in VALUES ? VALUES[name](text) : text);
+    options[name] = REPEATED.includes(name) ? [...options[name] || [], value] : value;
+}
+
+/**
+ * What a job takes, as FORMS has it.
+ * @param {string} job
+ * @param {Options} options
+ */
+function takenBy(job, options) {
+    const { takes, instead = {} } = FORMS[job];
+    const [option] = Object.keys(instead).filter(name => name in options);
+    return option === undefined ? takes : instead[option];
 }
 
 /**
  * @param {string} job
  * @param {string[]} names
+ * @param {Options} options
  */
-function checkNames(job, names) {
-    const { takes } = FORMS[job];
+function checkNames(job, names, options) {
+    const takes = takenBy(job, options);
     const together = takes.filter(name => name.startsWith('[')).flatMap(name => name.split(' ').slice(1)).length;
     const least = takes.filter(name => !/^\[|\?$/.test(name)).length;
     const most = takes.some(name => name.endsWith('..')) ? Infinity : takes.length + together;
     if (names.length >= least && names.length <= most && (names.length - least) % (together + 1) === 0) return;
-    throw new Fault(`${job} wants ${usageOf(job)}; see cdscript ${job} --help`);
+    throw new Fault(`${job} wants ${usageOf(takes)}; see cdscript ${job} --help`);
 }
 
 /**
  * What a job takes, as help shows it.
- * @param {string} job
+ * @param {string[]} takes
  */
-export function usageOf(job) {
-    return FORMS[job].takes.map(name => name.endsWith('?') ? `[${name.slice(0, -1)}]` : name).join(' ');
+export function usageOf(takes) {
+    return takes.map(name => name.endsWith('?') ? `[${name.slice(0, -1)}]` : name).join(' ');
 }
 
 /**
@@ -104,16 +134,22 @@ export function usageOf(job) {
  * @returns {Given}
  */
 export function argumentsOf(words) {
-    const { options, names: [job = '', ...names] } = sorted(words);
+    const { options, names: given } = sorted(words);
+    if (given[0] === 'version' && given.length === 1) options.version = true;
+    if (given[0] === 'help' && given.length <= 2) options.help = true;
+    const [job = '', ...names] = given[0] === 'help' ? given.slice(1) : given;
     if (options.version || options.notices || (options.help && job === '')) return { job: '', names: [], options };
     if (job === '') throw new Fault('a job is missing; see cdscript --help');
-    if (!Object.keys(FORMS).includes(job)) throw new Fault(`there is no job '${job}'; see cdscript --help`);
+    if (!Object.keys(FORMS).includes(job)) {
+        throw new Fault(`there is no job '${job}'${didYouMean(job, Object.keys(FORMS))}; see cdscript --help`);
+    }
     const foreign = Object.keys(options).find(name => name !== 'help' && !FORMS[job].options.includes(name));
     if (foreign) throw new Fault(`${job} has no option ${OPTION_FORMS[foreign].word}; see cdscript ${job} --help`);
+    if (job === 'replace' && options.partial && options.list === undefined) throw new Fault('--partial wants --list');
     for (const [one, other] of EXCLUDING) {
         if (!(one in options && other in options)) continue;
         throw new Fault(`${OPTION_FORMS[one].word} and ${OPTION_FORMS[other].word} exclude each other`);
     }
-    if (!options.help) checkNames(job, names);
+    if (!options.help) checkNames(job, names, options);
     return { job, names, options };
 }

@@ -2,26 +2,30 @@
 
 import { ImageEnded } from '../core/bytes.js';
 import { Fault } from '../core/faults.js';
-import { baseOfAllAddresses } from '../core/image.js';
+import { sampledBase } from '../core/image.js';
 import { passPatched } from '../core/patch.js';
 import { STATUS } from '../core/records.js';
-import { Refusal, patchesOf } from '../core/script.js';
+import { Refusal, readScript } from '../core/script.js';
 import { SECTOR_SIZE, imageTooLong } from '../core/sector.js';
 import { auditText, listText } from '../core/survey.js';
 import { FileFault } from './failures.js';
 import { MESSAGES } from './messages.js';
-import { openTrack } from './opening.js';
+import { assertBase, openTrack } from './opening.js';
 
 /** @typedef {import('../core/bytes.js').Piece} Piece */
 /** @typedef {import('../core/bytes.js').Reader} Reader */
-/** @typedef {import('../core/script.js').Patch} Patch */
+/** @typedef {import('../core/script.js').ReadScript} ReadScript */
 /** @typedef {import('./run.js').Run} Run */
 
 /** What the program says, on standard output as it does. */
 class ProgramFault extends Fault {
-    /** @param {string | Uint8Array} text one of MESSAGES, or a line of the module */
-    constructor(text) {
+    /**
+     * @param {string | Uint8Array} text one of MESSAGES, or a line of the module
+     * @param {string} [why] what it does not say
+     */
+    constructor(text, why = '') {
         super(typeof text === 'string' ? `cdpatch: ${text}\n` : new TextDecoder().decode(text));
+        this.why = why;
     }
 }
 
@@ -38,6 +42,7 @@ function asProgram(job) {
             if (!(error instanceof ProgramFault)) throw error;
             run.files.removeUnfinished();
             await run.output.write(new TextEncoder().encode(error.message));
+            if (error.why !== '') run.say(error.why);
             return STATUS.FAILED;
         }
     };
@@ -61,8 +66,27 @@ async function orSay(messages, tried) {
         return await tried();
     } catch (error) {
         if (error instanceof ImageEnded) throw new ProgramFault(messages.read);
-        throw error instanceof FileFault ? new ProgramFault(messages[error.attempt]) : error;
+        if (!(error instanceof FileFault)) throw error;
+        throw new ProgramFault(messages[error.attempt], error.attempt === 'make' ? error.message : '');
     }
+}
+
+/** If at least so many addresses are looked at, what most of them say is not passed over. */
+const FEWEST_ADDRESSES = 16;
+
+/**
+ * Blocks count from 0 without `--base`, as the program counts them. Throws a Fault if most addresses say another base; if only a few are
+ * there, and all do, it is said.
+ * @param {Run} run
+ * @param {string} name
+ * @param {Reader} reader
+ */
+async function checkBase(run, name, reader) {
+    const { base, agreeing, mode1 } = await orSay(OF_IMAGES, () => sampledBase(run.calls, reader));
+    if (base <= 0 || 2 * agreeing <= mode1) return;
+    const found = `most addresses in ${name} say that it begins with block ${base}`;
+    if (mode1 >= FEWEST_ADDRESSES) throw new Fault(`${found}: give --base ${base}, or --base 0 to count from 0 all the same`);
+    if (agreeing === mode1) run.say(`this image begins with block ${base}: --base ${base}`);
 }
 
 /**
@@ -76,68 +100,79 @@ async function openImage(run) {
     if (isSheet) return (await openTrack(run, name, true)).image;
     const { reader } = await orSay(OF_IMAGES, () => run.files.image(name));
     const { base } = run.options;
-    if (base === undefined && !imageTooLong(reader.size)) {
-        const own = await orSay(OF_IMAGES, () => baseOfAllAddresses(run.calls, reader));
-        if (own !== null && own > 0) run.say(`this image begins with block ${own}: --base ${own}`);
-    }
+    if (base === undefined && !imageTooLong(reader.size)) await checkBase(run, name, reader);
     return { reader, base: base || 0 };
 }
 
 /**
  * @param {Run} run
  * @param {typeof listText} textOf
+ * @param {'survey' | 'kinds'} job what it needs to know of the sectors
  */
-async function report(run, textOf) {
+async function report(run, textOf, job) {
     const { reader, base } = await openImage(run);
     if (imageTooLong(reader.size)) throw new ProgramFault(MESSAGES.long_image);
-    const survey = await orSay(OF_IMAGES, () => run.survey(reader, base));
+    const survey = await orSay(OF_IMAGES, () => run.survey(reader, base, job));
     const { status, text } = textOf(run.calls, survey, reader.size % SECTOR_SIZE);
     await run.output.write(text);
     return status;
 }
 
-export const listJob = asProgram(run => report(run, listText));
+export const listJob = asProgram(run => report(run, listText, 'kinds'));
 
-export const auditJob = asProgram(run => report(run, auditText));
+export const auditJob = asProgram(run => report(run, auditText, 'survey'));
 
 /**
- * The patches of the script that a job names.
+ * The script that a job names.
  * @param {Run} run
- * @returns {Promise<Patch[]>}
+ * @returns {Promise<ReadScript>}
  */
-async function patchesOfScript(run) {
+async function scriptNamed(run) {
     const pieces = run.files.piecesOf(run.names[1]);
-    const patches = await orSay(OF_SCRIPTS, () => patchesOf(run.calls, pieces, run.options.long));
-    if (!(patches instanceof Refusal)) return patches;
-    throw new ProgramFault(patches.reason === 'too-long' ? MESSAGES.long_script : patches.text);
+    const script = await orSay(OF_SCRIPTS, () => readScript(run.calls, pieces, run.options.long));
+    if (!(script instanceof Refusal)) return script;
+    throw new ProgramFault(script.reason === 'too-long' ? MESSAGES.long_script : script.text);
+}
+
+/**
+ * The image that a job names and its base. Throws a Fault if the script is for another base.
+ * @param {Run} run
+ * @param {ReadScript} script
+ */
+async function imageForScript(run, { bases }) {
+    const image = await openImage(run);
+    assertBase(bases, image.base);
+    return image;
 }
 
 /**
  * Applies the patches of the script, and prints what became of them.
  * @param {Run} run
  * @param {{ reader: Reader, base: number }} image
- * @param {Patch[]} patches
+ * @param {ReadScript} script
  * @param {(piece: Piece) => void | Promise<void>} [take]
  */
-async function patch(run, { reader, base }, patches, take) {
+async function patch(run, { reader, base }, { patches }, take) {
     const { carry = false } = run.options;
     if (imageTooLong(reader.size)) throw new ProgramFault(MESSAGES.long_image);
-    const made = await orSay(OF_IMAGES, () => passPatched(run.calls, reader, patches, base, carry, take));
+    const made = await orSay(OF_IMAGES, () => passPatched(run.calls, run.watched(reader), patches, base, carry, take));
     await run.output.write(made.text);
     run.output.flush();
     return made.status;
 }
 
 export const checkJob = asProgram(async run => {
-    const patches = await patchesOfScript(run);
-    return patch(run, await openImage(run), patches);
+    const script = await scriptNamed(run);
+    return patch(run, await imageForScript(run, script), script);
 });
 
 export const applyJob = asProgram(async run => {
-    const patches = await patchesOfScript(run);
-    const image = await openImage(run);
+    const script = await scriptNamed(run);
+    // The program makes OUT before it reads the image, which may be a pipe.
+    await orSay(OF_IMAGES, () => run.files.begin(run.names[0]));
     const out = await orSay(OF_IMAGES, () => run.files.make(run.names[2]));
-    const status = await patch(run, image, patches, piece => out.writePiece(image.reader, piece));
+    const image = await imageForScript(run, script);
+    const status = await patch(run, image, script, piece => out.writePiece(run.watched(image.reader), piece));
     await orSay(OF_IMAGES, () => out.finish());
     return status;
 });

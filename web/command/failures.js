@@ -18,7 +18,6 @@ const REASONS = {
     ENOTDIR: 'a part of the path is no directory',
     EDQUOT: 'the quota is used up',
     EPERM: 'no permission',
-    EPIPE: 'its reader has ended',
     EROFS: 'the disk is read-only',
 };
 

@@ -1,42 +1,18 @@
 // Files: images as readers, scripts in pieces, and files that are made new.
 
-import { closeSync, fstatSync, fsync, open, openSync, read, readFileSync, readSync, readdirSync, unlinkSync, writeSync } from 'node:fs';
-import { READ_SIZE, bytesOfPieces } from '../core/bytes.js';
+import { closeSync, constants, fstatSync, open, read, readFileSync, readSync, readdirSync } from 'node:fs';
+import { Fault } from '../core/faults.js';
 import { MOST_SECTORS, SECTOR_SIZE } from '../core/sector.js';
-import { FileFault, hasCode, tryFile } from './failures.js';
-import { pause } from './pausing.js';
+import { hasCode, tryFile } from './failures.js';
+import { NewFile } from './new_file.js';
+import { later, letSignalsIn, pause } from './pausing.js';
 import { STREAM_STEP, readerOfPieces } from './pieces.js';
 
-/** @typedef {import('../core/bytes.js').Piece} Piece */
 /** @typedef {import('../core/bytes.js').Reader} Reader */
 /** @typedef {import('../core/disc.js').DiscFile} DiscFile */
 
 /** A stream is read to its end, but not much further than the longest image. */
 const LONGEST_STREAM = MOST_SECTORS * SECTOR_SIZE + 1;
-
-/** When so many bytes are written the disk is told to begin with them. */
-const SYNCED = 1 << 26;
-
-/** After so many milliseconds the signals that have come are looked at. */
-const TURN = 50;
-
-let lastTurn = 0;
-
-/** Lets signals in, if none was let in for a while. What node does at once would keep them out until its end. */
-async function letSignalsIn() {
-    if (Date.now() - lastTurn < TURN) return;
-    lastTurn = Date.now();
-    await new Promise(resolve => setImmediate(resolve));
-}
-
-/**
- * What a call of node gives later. Signals come in while it waits, as for a pipe that nobody writes.
- * @param {(done: (error: unknown, value: number) => void) => void} begin
- * @returns {Promise<number>}
- */
-function later(begin) {
-    return new Promise((resolve, reject) => begin((error, value) => error ? reject(error) : resolve(value)));
-}
 
 /**
  * Reads once from where the last read ended, and returns how many bytes came. A pipe that has none for the moment is tried again. That a
@@ -106,72 +82,6 @@ function startOf(descriptor) {
     }
 }
 
-/** A file that did not exist before. Until it is finished it is removed if anything fails. */
-class NewFile {
-    /**
-     * @param {string} name
-     * @param {number} descriptor
-     * @param {(file: NewFile) => void} finished
-     */
-    constructor(name, descriptor, finished) {
-        this.name = name;
-        this.descriptor = descriptor;
-        this.finished = finished;
-        this.unsynced = 0;
-        this.room = new Uint8Array(READ_SIZE);
-        /** @type {Promise<unknown> | null} how it went, null if it went well */
-        this.syncing = null;
-    }
-
-    /** @param {Uint8Array} bytes all of which are written, by more writes if the first are short */
-    async write(bytes) {
-        await letSignalsIn();
-        await tryFile('write', this.name, () => {
-            for (let done = 0; done < bytes.length;) done += writeSync(this.descriptor, bytes, done);
-        });
-        this.unsynced += bytes.length;
-        if (this.unsynced < SYNCED) return;
-        await this.synced();
-        this.sync();
-    }
-
-    /**
-     * @param {Reader} reader of the image that the piece is of
-     * @param {Piece} piece
-     */
-    async writePiece(reader, piece) {
-        for await (const bytes of bytesOfPieces(reader, [piece], this.room)) await this.write(bytes);
-    }
-
-    /** Lets the disk take what is written, while more comes. */
-    sync() {
-        this.unsynced = 0;
-        this.syncing = later(done => fsync(this.descriptor, done)).then(() => null, error => error);
-    }
-
-    /** Waits until it has. A failure is said once by the system. A file system that knows nothing of it (EINVAL) has none. */
-    async synced() {
-        const error = await this.syncing;
-        if (error && !hasCode(error, 'EINVAL')) throw new FileFault('write', this.name, error);
-    }
-
-    /** The file is complete, and on the disk. */
-    async finish() {
-        await this.synced();
-        this.sync();
-        await this.synced();
-        this.finished(this);
-    }
-
-    remove() {
-        try {
-            unlinkSync(this.name);
-        } catch {
-            // It is gone already, or its directory can't be written any more.
-        }
-    }
-}
-
 /** The files of one run. */
 export class Files {
     /**
@@ -185,6 +95,8 @@ export class Files {
         this.open = [];
         /** @type {Map<string, DiscFile>} */
         this.images = new Map();
+        /** @type {Map<string, number>} the descriptors of images of which nothing was read yet */
+        this.begun = new Map();
         /** @type {Set<NewFile>} */
         this.unfinished = new Set();
     }
@@ -192,9 +104,10 @@ export class Files {
     /**
      * Opens a file to read.
      * @param {string} name
+     * @param {number} [flags] with which it is opened
      */
-    async opened(name) {
-        const descriptor = await tryFile('open', name, () => later(callback => open(name, 'r', callback)));
+    async opened(name, flags = constants.O_RDONLY) {
+        const descriptor = await tryFile('open', name, () => later(callback => open(name, flags, callback)));
         this.open.push(descriptor);
         return descriptor;
     }
@@ -207,12 +120,38 @@ export class Files {
     async image(name) {
         const known = this.images.get(name);
         if (known) return known;
-        const file = { name, reader: await this.readerOf(name, name === '-' ? this.input : await this.opened(name)) };
+        await this.begin(name);
+        const file = { name, reader: await this.readerOf(name, this.begun.get(name) || 0) };
         this.images.set(name, file);
         return file;
     }
 
     /**
+     * Opens an image, and reads nothing of it.
+     * @param {string} name
+     */
+    async begin(name) {
+        if (!this.begun.has(name)) this.begun.set(name, name === '-' ? this.input : await this.opened(name));
+    }
+
+    /**
+     * An image that only a cue sheet names. What is no regular file may have no end, or wait for who writes it: it is refused.
+     * @param {string} name
+     * @returns {Promise<DiscFile>}
+     */
+    async imageOfSheet(name) {
+        const known = this.images.get(name);
+        if (known) return known;
+        const descriptor = await this.opened(name, constants.O_RDONLY | (constants.O_NONBLOCK || 0));
+        const stat = await tryFile('read', name, () => fstatSync(descriptor));
+        if (!stat.isFile()) throw new Fault(`${name} is no regular file, and only the cue sheet names it: give it as the image`);
+        const file = { name, reader: diskReader(name, descriptor, stat.size, 0) };
+        this.images.set(name, file);
+        return file;
+    }
+
+    /**
+     * The reader of an open file. A regular file that seems to be empty may have bytes all the same, as those of procfs.
      * @param {string} name
      * @param {number} descriptor
      * @returns {Promise<Reader>}
@@ -220,7 +159,7 @@ export class Files {
     async readerOf(name, descriptor) {
         const stat = await tryFile('read', name, () => fstatSync(descriptor));
         const start = descriptor === this.input ? startOf(descriptor) : 0;
-        if (stat.isFile() && start !== null) return diskReader(name, descriptor, Math.max(stat.size - start, 0), start);
+        if (stat.isFile() && stat.size > 0 && start !== null) return diskReader(name, descriptor, Math.max(stat.size - start, 0), start);
         const pieces = [];
         let taken = 0;
         for await (const piece of this.piecesOf(name, descriptor)) {
@@ -256,9 +195,8 @@ export class Files {
     /** @param {string} name of a file that must not exist */
     async make(name) {
         this.onmake();
-        const descriptor = await tryFile('make', name, () => openSync(name, 'wx'));
-        this.open.push(descriptor);
-        const file = new NewFile(name, descriptor, it => this.unfinished.delete(it));
+        const file = await tryFile('make', name, () => new NewFile(name, it => this.unfinished.delete(it)));
+        this.open.push(file.descriptor);
         this.unfinished.add(file);
         return file;
     }

@@ -1,17 +1,22 @@
 // The jobs and the options of the command line, and what help says of each.
 
+import { ENCODINGS } from '../core/text.js';
 import { applyJob, auditJob, checkJob, listJob } from './as_program.js';
 import { extractJob, mergeJob, rawJob, userJob } from './images.js';
 import { infoJob } from './informing.js';
 import { filesJob, findJob, showJob } from './looking.js';
 import { replaceFileJob, replaceJob } from './replacing.js';
+import { scanJob } from './scanning.js';
 import { diffJob, rebuildsJob, undoJob } from './scripts.js';
+import { textsJob } from './texting.js';
 
 /** @typedef {import('./run.js').Run} Run */
 /**
  * What does a job, and returns the status; and how it is asked for. Of what it takes, a name that ends in `?` may be missing, one that
- * ends in `..` may be more than one, and those in brackets may be missing together.
- * @typedef {{ job: (run: Run) => Promise<number>, takes: string[], options: string[], says: string, does: string }} Form
+ * ends in `..` may be more than one, and those in brackets may be missing together. `instead` is what it takes with an option, and `own`
+ * says what options do, if that differs here.
+ * @typedef {{ job: (run: Run) => Promise<number>, takes: string[], instead?: Record<string, string[]>, options: string[], says: string,
+ *     does: string, example: string, own?: Record<string, string> }} Form
  */
 /** @typedef {{ word: string, value: string, does: string }} OptionForm an option; `value` is '' if it takes none */
 
@@ -19,108 +24,158 @@ import { diffJob, rebuildsJob, undoJob } from './scripts.js';
 export const OPTION_FORMS = {
     base: { word: '--base', value: 'N', does: 'the block number of the first sector, 0 to 449849' },
     track: { word: '--track', value: 'N', does: 'the data track of that number, not the first one' },
-    encoding: { word: '--encoding', value: 'NAME', does: 'hex, CP932, EUC-JP, UTF-8, UTF-16LE or UTF-16BE' },
+    encoding: { word: '--encoding', value: 'NAME', does: `how texts are written: ${ENCODINGS.map(({ name }) => name).join(', ')}` },
     table: { word: '--table', value: 'FILE', does: "a game's own table of characters (.tbl)" },
     fill: { word: '--fill', value: 'HEX', does: 'fill up with these bytes, as 20 or 8140' },
     all: { word: '--all', value: '', does: 'replace the text at all places, 1000000 at most' },
+    inside: { word: '--inside', value: '', does: 'also where it may begin in the middle of a character' },
+    list: { word: '--list', value: 'FILE', does: 'replace what this table says, in TSV or CSV' },
+    csv: { word: '--csv', value: '', does: 'print CSV, as spreadsheets open it, and not TSV' },
+    in: { word: '--in', value: 'PATH', does: 'look only into this file or directory of the disc' },
+    min: { word: '--min', value: 'N', does: 'print texts of N characters or more; the default is 2' },
     limit: { word: '--limit', value: 'N', does: 'print the first N hits; the default is 1000' },
     first: { word: '--first', value: 'BLOCK', does: 'the block of the first sector; the default is 0' },
     carry: { word: '--carry', value: '', does: 'patch damaged sectors too, and keep their damage' },
     long: { word: '--long', value: '', does: 'take a script of any length' },
     skipDamaged: { word: '--skip-damaged', value: '', does: 'leave blocks out that are damaged in NEW' },
+    partial: { word: '--partial', value: '', does: 'leave out all that no script can make' },
     fields: { word: '--fields', value: '', does: 'print the fields that differ, and no script' },
-    output: { word: '-o', value: 'FILE', does: 'write to this new file, not to standard output' },
+    output: { word: '-o', value: 'FILE', does: 'write to this new file; - is standard output' },
+    dat: { word: '--dat', value: 'FILE', does: 'a list of known dumps (Logiqx XML); may be given again' },
+    resume: { word: '--resume', value: 'FILE', does: 'add to this list what it does not have yet' },
     help: { word: '--help', value: '', does: 'print help' },
     version: { word: '--version', value: '', does: 'print the version' },
     notices: { word: '--notices', value: '', does: 'print the notices of what cdscript contains' },
 };
 
+const FROM_0 = 'The first sector is block 0, if --base or a cue sheet does not say another one. ';
+
 /** @type {Record<string, Form>} */
 export const FORMS = {
     'info': {
-        job: infoJob, takes: ['IMAGE'], options: ['base', 'track'], says: 'Say what a file is, and what is in it',
+        job: infoJob, takes: ['IMAGE'], options: ['dat', 'base', 'track'], says: 'Say what a file is, and what is in it',
         does: 'Prints tracks, kinds of sectors, base, findings and SHA-1, or what to do with a file that is no raw image. Status: 0 ' +
             'no findings, 1 findings, 2 failed',
+        example: 'cdscript info game.cue',
+    },
+    'scan': {
+        job: scanJob, takes: ['PATH..'], options: ['dat', 'resume', 'output'],
+        says: 'Say what is in each image of a collection',
+        does: 'Prints a line for each image as it is done: name, kinds of sectors, damaged sectors, all findings, sectors with another ' +
+            'address, SHA-1 and, with --dat, what is known of it, with tabs between. PATH is an image, a cue sheet or a directory. ' +
+            'Status: 0 no findings, 1 findings, 2 something could not be read',
+        example: 'cdscript scan /games --dat redump.dat --resume games.tsv',
     },
     'list': {
         job: listJob, takes: ['IMAGE'], options: ['track', 'base'], says: "List the kinds of an image's sectors",
-        does: 'As cdpatch list.',
+        does: 'Prints each run of sectors of one kind: nosync, mode0, mode1, mode2 or other, as cdpatch list does. ' + FROM_0 +
+            'Status: 0 done, 2 failed',
+        example: 'cdscript list game.bin',
     },
     'audit': {
         job: auditJob, takes: ['IMAGE'], options: ['track', 'base'], says: "Report what is wrong with an image's sectors",
-        does: 'As cdpatch audit. Status: 0 no findings, 1 findings, 2 failed',
+        does: 'Prints a line for each Mode 1 sector with a wrong address, EDC or parity, as cdpatch audit does. ' + FROM_0 +
+            'Status: 0 no findings, 1 findings, 2 failed',
+        example: 'cdscript audit --base 150 track02.bin',
     },
     'check': {
         job: checkJob, takes: ['IMAGE', 'SCRIPT'], options: ['track', 'base', 'carry', 'long'],
         says: "Report what a script's patches would do to an image",
-        does: 'As cdpatch check. Status: 0 all accepted, 1 some refused, 2 failed',
+        does: 'Prints what would become of each patch, as cdpatch check does. No file is written. ' + FROM_0 +
+            'Status: 0 all accepted, 1 some refused, 2 failed',
+        example: 'cdscript check game.cue english.txt',
     },
     'apply': {
         job: applyJob, takes: ['IMAGE', 'SCRIPT', 'OUT'], options: ['track', 'base', 'carry', 'long'],
         says: 'Apply a script to an image, into a new file',
-        does: 'As cdpatch apply. Status: 0 all applied, 1 some refused, 2 failed',
+        does: 'Prints what became of each patch, as cdpatch apply does. OUT is new, and has the patches that were not refused. ' + FROM_0 +
+            'Status: 0 all applied, 1 some refused, 2 failed',
+        example: 'cdscript apply game.cue english.txt english.bin',
     },
     'files': {
         job: filesJob, takes: ['IMAGE'], options: ['track', 'base', 'output'], says: 'List the files of a disc',
         does: 'Prints first block, bytes and path of each, with tabs between. Status: 0 done, 1 something could not be read as it has ' +
             'to be, 2 failed',
+        example: 'cdscript files game.cue -o files.tsv',
     },
     'find': {
         job: findJob, takes: ['IMAGE', 'TEXT'], options: ['encoding', 'table', 'limit', 'track', 'base', 'output'],
         says: 'Find a text in the user data of a disc',
         does: 'Prints block, offset, bytes, file with the place in it, and the text around, with tabs between. Without an encoding ' +
             'those are searched that Japanese discs have. Status: 0 found, 1 not found, 2 failed',
+        example: "cdscript find game.cue 'press start' --encoding CP932",
+    },
+    'texts': {
+        job: textsJob, takes: ['IMAGE'], options: ['encoding', 'in', 'min', 'csv', 'track', 'base', 'output'],
+        says: 'Print a table of all Japanese texts of a disc',
+        does: 'Its columns are block, offset, bytes, room, encoding, file, text, and an empty one for what replace --list takes. What is ' +
+            'no text is kept out by how likely it is. Status: 0 done, 1 none found, 2 failed',
+        example: 'cdscript texts game.cue -o texts.tsv',
     },
     'show': {
         job: showJob, takes: ['IMAGE', 'BLOCK', 'OFFSET?'], options: ['encoding', 'table', 'track', 'base', 'output'],
         says: 'Show the user data of a block, as digits and text',
         does: 'With OFFSET it shows 128 bytes, from the row of that byte on.',
+        example: 'cdscript show game.cue 1234 512',
     },
     'extract': {
         job: extractJob, takes: ['IMAGE', 'PATH', 'OUT'], options: ['track', 'base'], says: 'Write a file of a disc to a new file',
         does: 'PATH is as `cdscript files` prints it. Status: 0 done, 1 not all its sectors are Mode 1, 2 failed',
+        example: 'cdscript extract game.cue /DATA/TEXT.BIN text.bin',
     },
     'replace': {
         job: replaceJob, takes: ['IMAGE', '[BLOCK OFFSET]', 'OLD', 'NEW'],
-        options: ['encoding', 'table', 'fill', 'all', 'track', 'base', 'output'],
+        instead: { list: ['IMAGE'] }, options: ['encoding', 'table', 'fill', 'all', 'inside', 'list', 'partial', 'track', 'base', 'output'],
         says: 'Write the script that replaces a text',
         does: 'Without BLOCK and OFFSET it finds the text OLD, which has to stand at one place, unless --all is given. A shorter NEW is ' +
-            'filled up, with spaces, or 00 for hex, if --fill is not given; a longer one is refused.',
+            'filled up, with spaces, or 00 for hex, if --fill is not given; a longer one is refused. With --list the ' +
+            'table has the columns block, offset, text and new, and perhaps room and encoding. Status: 0 done, 1 some places are left ' +
+            'out, which are named, 2 failed',
+        example: "cdscript replace game.cue 'press start' 'Start' -o english.txt",
+        own: { partial: 'leave out the rows of the list that do not fit' },
     },
     'replace-file': {
         job: replaceFileJob, takes: ['IMAGE', 'PATH', 'FILE'], options: ['fill', 'track', 'base', 'output'],
+        own: { fill: 'fill up with this byte, as 20' },
         says: 'Write the script that replaces a file of a disc',
         does: 'A shorter FILE is filled up with one byte over and over, 00 or that of --fill; a longer one is refused. The length of the ' +
             'file on the disc stays.',
+        example: 'cdscript replace-file game.cue /DATA/TEXT.BIN text.bin -o new.txt',
     },
     'diff': {
-        job: diffJob, takes: ['OLD', 'NEW'], options: ['skipDamaged', 'fields', 'track', 'base', 'output'],
+        job: diffJob, takes: ['OLD', 'NEW'], options: ['skipDamaged', 'partial', 'fields', 'track', 'base', 'output'],
         says: 'Write the script that leads from one image to another',
-        does: 'If no script can make a difference, its blocks are named, and nothing is written. Status: 0 done, 1 some blocks are left ' +
-            'out or, with --fields, differ, 2 failed',
+        does: 'If no script can make a difference, its blocks are named, and nothing is written but with --partial. Status: 0 done, 1 ' +
+            'some blocks are left out or, with --fields, differ, 2 failed',
+        example: 'cdscript diff game.bin english.bin -o english.txt',
     },
     'merge': {
-        job: mergeJob, takes: ['OLD', 'OTHER..', 'OUT'], options: ['track', 'base'],
+        job: mergeJob, takes: ['OLD', 'OTHER..', 'OUT'], options: ['dat', 'track', 'base'],
         says: 'Repair an image by other dumps of the same disc',
         does: 'OUT is OLD with sound sectors of the OTHERs for those that are damaged in OLD. Status: 0 all is sound, 1 some sectors ' +
             'are damaged in all, or taken though their EDC is another in OLD, 2 failed',
+        example: 'cdscript merge first.bin second.bin third.bin repaired.bin',
     },
     'rebuilds': {
         job: rebuildsJob, takes: ['IMAGE'], options: ['track', 'base', 'output'],
         says: 'Write the script that rebuilds each damaged sector',
         does: 'It makes the sectors valid with the bytes as they are. If these are wrong, it hides the damage for good.',
+        example: 'cdscript rebuilds edited.bin -o rebuild.txt',
     },
     'undo': {
         job: undoJob, takes: ['IMAGE', 'SCRIPT'], options: ['base', 'track', 'carry', 'long', 'output'],
         says: 'Write the script that takes another one back',
         does: 'IMAGE is the image before SCRIPT. Status: 0 done, 1 something does not come back, which is named, 2 failed',
+        example: 'cdscript undo game.cue english.txt -o back.txt',
     },
     'raw': {
         job: rawJob, takes: ['ISO', 'OUT'], options: ['first'], says: 'Make a raw image of an ISO image',
         does: 'OUT is new and has 2352 bytes a sector.',
+        example: 'cdscript raw game.iso game.bin',
     },
     'user': {
         job: userJob, takes: ['IMAGE', 'OUT'], options: ['track', 'base'], says: 'Make an ISO image of the user data of an image',
         does: 'OUT is new and has 2048 bytes a sector. Status: 0 done, 1 not all sectors are Mode 1, or there is a tail, 2 failed',
+        example: 'cdscript user game.cue game.iso',
     },
 };

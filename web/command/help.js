@@ -3,34 +3,46 @@
 import { usageOf } from './arguments.js';
 import { FORMS, OPTION_FORMS } from './forms.js';
 
-/** As much of a text as a line takes. */
+/** As much of a text as a line takes, and as one beside an option. */
 const LINE = /\S.{0,78}(?= |$)/g;
+const BESIDE = /\S.{0,53}(?= |$)/g;
+const COLUMN = 25;
 
-/** @param {string} name of an option */
-function optionRow(name) {
+/** @type {Record<string, string>} */
+const BOTH_WORDS = { help: '-h, --help', version: '-V, --version' };
+
+/**
+ * @param {string} name of an option
+ * @param {string} [own] what it does here
+ */
+function optionRow(name, own) {
     const { word, value, does } = OPTION_FORMS[name];
     const spelled = word.startsWith('--') ? `    ${word}` : word;
-    return `  ${(name === 'help' ? '-h, --help' : `${spelled} ${value}`).padEnd(23)}${does}`;
+    const option = BOTH_WORDS[name] || `${spelled} ${value}`;
+    return `  ${option}`.padEnd(COLUMN) + ((own || does).match(BESIDE) || []).join(`\n${' '.repeat(COLUMN)}`);
 }
 
 /** @param {string} job */
 function jobHelp(job) {
-    const { options, says, does } = FORMS[job];
-    const rows = [...options, 'help'].map(optionRow);
+    const { takes, instead = {}, options, says, does, example, own = {} } = FORMS[job];
+    const spelled = (/** @type {string} */ name) => `${OPTION_FORMS[name].word} ${OPTION_FORMS[name].value}`;
+    const others = Object.entries(instead).map(([name, taken]) => `${usageOf(taken)} ${spelled(name)}`);
+    const usage = [usageOf(takes), ...others].map((taken, i) => `${i === 0 ? 'Usage:' : '      '} cdscript ${job} [OPTIONS] ${taken}`);
+    const rows = [...options, 'help'].map(name => optionRow(name, own[name]));
     const lines = does.split(/ (?=Status: )/).flatMap(part => part.match(LINE) || []);
-    return [says, '', ...lines, '', `Usage: cdscript ${job} [OPTIONS] ${usageOf(job)}`, '', 'Options:', ...rows];
+    return [says, '', ...lines, '', ...usage, '', 'Example:', `  ${example}`, '', 'Options:', ...rows];
 }
 
 /** @param {string} version */
 function wholeHelp(version) {
     const jobs = Object.keys(FORMS).map(job => `  ${job.padEnd(14)}${FORMS[job].says}`);
-    const rows = ['help', 'version', 'notices'].map(optionRow);
+    const rows = ['help', 'version', 'notices'].map(name => optionRow(name));
     return ['Look into raw images of CDs, and write and apply scripts that patch them', '',
         'Usage: cdscript JOB [OPTIONS] ARGUMENTS', '', 'Jobs:', ...jobs, '', 'Options:', ...rows, '',
         'The first argument of a job is a raw image, 2352 bytes a sector, or its cue',
         'sheet; - is standard input. Scripts and lists go to standard output, messages',
         'to standard error. A file that is written must not exist. Options may stand',
-        'anywhere; after -- all are names. `cdscript JOB --help` says more of a job.', '',
+        'anywhere; after -- all are names. `cdscript help JOB` says more of a job.', '',
         'Status: 0 done, 1 a patch is refused or something is found, 2 failed', '', version];
 }
 

@@ -1,7 +1,9 @@
 // The jobs that write images: `merge`, `raw`, `user` and `extract`.
 
+import { createHash } from 'node:crypto';
 import { bytesOfLines } from '../core/bytes.js';
 import { Fault } from '../core/faults.js';
+import { holesOf, mode1Tracks } from '../core/holes.js';
 import { natureOf, sliceOf } from '../core/image.js';
 import { mergeImages } from '../core/merge.js';
 import { kindName } from '../core/records.js';
@@ -9,12 +11,13 @@ import { addToRuns, blocksIn, blocksText } from '../core/runs.js';
 import { SECTOR_SIZE, USER_SIZE } from '../core/sector.js';
 import { fileNamed } from './looking.js';
 import { openTrack } from './opening.js';
-import { linesOfRuns, sayOfRuns } from './words.js';
+import { linesOfRuns, sayLong, sayOfRuns, visible } from './words.js';
 
 /** @typedef {import('../core/merge.js').Repair} Repair */
 /** @typedef {import('../core/disc.js').DiscImage} DiscImage */
 /** @typedef {import('../core/convert.js').KindRun} KindRun */
 /** @typedef {import('../core/bytes.js').Reader} Reader */
+/** @typedef {import('../core/runs.js').Run} BlockRun */
 /** @typedef {import('./run.js').Run} Run */
 /** @typedef {import('./run.js').Target} Target */
 
@@ -26,14 +29,16 @@ const TAILS = 'the bytes after the last sector are others';
  * What was taken, and what could not be repaired, in lines.
  * @param {Repair} repair
  * @param {DiscImage[]} others
+ * @param {BlockRun[]} holes
  */
-function repairLines({ taken, damaged, disputed, differing, different }, others) {
+function repairLines({ taken, damaged, disputed, differing, different }, others, holes) {
     const numbers = [taken, damaged, disputed].map(blocksIn).concat(different.reduce((sum, count) => sum + count, 0));
     const inBoth = differing.flatMap((runs, other) => runs.map(run => ({ ...run, other })));
     const notTaken = { true: 'sound only with the address of another block', false: 'damaged in all' };
     return [
         ...linesOfRuns(taken, ({ first, last, other }) => `${first}-${last} from ${others[other].name}`),
         ...linesOfRuns(damaged, ({ first, last, elsewhere }) => `${first}-${last} ${notTaken[`${elsewhere}`]}`),
+        ...linesOfRuns(holes, ({ first, last }) => `${first}-${last} not mode1 in any`),
         ...linesOfRuns(disputed, ({ first, last }) => `${first}-${last} sound in several, but different there`),
         ...linesOfRuns(inBoth, ({ first, last, other }) => `${first}-${last} sound in ${others[other].name} too, but different there`),
         `taken ${numbers[0]} damaged ${numbers[1]} disputed ${numbers[2]} different ${numbers[3]}`,
@@ -43,21 +48,31 @@ function repairLines({ taken, damaged, disputed, differing, different }, others)
 /** @param {Run} run */
 export async function mergeJob(run) {
     const [name, ...more] = run.names;
+    const known = await run.knownDumps();
     const out = await run.files.make(more.pop() || '');
-    const { image } = await openTrack(run, name, true);
+    const hash = known && createHash('sha1');
+    const { image, disc, track } = await openTrack(run, name, true);
     /** @type {DiscImage[]} */
     const others = [];
     for (const other of more) others.push((await openTrack(run, other, true)).image);
-    const repair = await mergeImages(run.crew, image, others, {}, piece => out.writePiece(image.reader, piece));
+    const seen = (/** @type {Uint8Array} */ bytes) => void (hash && hash.update(bytes));
+    const repair = await mergeImages(run.crew, image, others, {}, piece => out.writePiece(image.reader, piece, seen));
     if (repair.refused) {
         const i = repair.different.indexOf(Math.max(...repair.different));
         const sound = `${repair.different[i]} of ${repair.sectors} sectors are sound in ${name} and in ${others[i].name}`;
         throw new Fault(`${sound}, and differ: one of them is patched, shifted or of another disc`);
     }
     others.filter((_, i) => repair.tails[i]).forEach(other => run.say(`${TAILS} in ${other.name}; those of ${name} are kept`));
-    await run.output.write(bytesOfLines(repairLines(repair, others)));
+    const blocks = { first: image.base, last: image.base + image.sectors - 1 };
+    const { holes, long } = holesOf(repair.others, blocks, mode1Tracks(disc, track.file, image.base));
+    await run.output.write(bytesOfLines(repairLines(repair, others, holes).map(visible)));
+    sayLong(run, long);
+    if (known && hash) {
+        const sha1 = hash.digest('hex');
+        run.say(`${out.name}: ${known.said(image.reader.size, sha1) || `no dump of this size and SHA-1 is in the DAT: ${sha1}`}`);
+    }
     sayOfRuns(run, repair.doubtful, it => `${blocksText([it])}: taken from ${others[it.other].name}, but ${DOUBT}`);
-    return Number(repair.damaged.length > 0 || repair.doubtful.length > 0);
+    return Number(repair.damaged.length > 0 || repair.doubtful.length > 0 || holes.length > 0);
 }
 
 /** @param {Run} run */

@@ -1,56 +1,26 @@
 // The job `info`: what a file is, with all that is found in it.
 
-import { createHash } from 'node:crypto';
-import { bytesOfLines, readBytes } from '../core/bytes.js';
+import { bytesOfLines } from '../core/bytes.js';
 import { natureOf } from '../core/image.js';
 import { SECTOR_KIND } from '../core/records.js';
 import { blocksIn } from '../core/runs.js';
-import { SECTOR_SIZE } from '../core/sector.js';
-import { kindRuns, listText, surveyCounts } from '../core/survey.js';
-import { openDiscOf, openTrack, sayUnknownBase } from './opening.js';
-import { visible } from './words.js';
+import { kindRuns, listText } from '../core/survey.js';
+import { openDiscOf } from './opening.js';
+import { foundInFiles } from './surveying.js';
+import { linesOfRuns, sayLong, visible } from './words.js';
 
-/** @typedef {import('../core/bytes.js').Reader} Reader */
 /** @typedef {import('../core/disc.js').Disc} Disc */
-/** @typedef {import('../core/disc.js').DiscFile} DiscFile */
-/** @typedef {import('../core/disc.js').DiscImage} DiscImage */
 /** @typedef {import('../core/disc.js').DiscTrack} DiscTrack */
 /** @typedef {import('./run.js').Run} Run */
-/** @typedef {{ number: number, file: number, image: DiscImage, isWhole: boolean }} Surveyed a track; whether `image` is all of its file */
 /** @typedef {{ found: boolean, lines: string[] }} Found whether something is wrong, and what is printed */
+/** @typedef {import('./surveying.js').FileFound} FileFound */
+
+const NOT_KNOWN = 'no dump of this size and SHA-1 is in the DAT';
 
 const WITH_CDSCRIPT = '`cdscript raw` makes the raw image, and `cdscript user` the ISO image.';
 
 /** What is said of an empty standard input; node puts an empty file there if it is closed. */
 const NOTHING_PIPED = 'Standard input is empty or closed: give the name of a file, or the image on standard input.';
-
-/** So many bytes are hashed at a time. */
-const HASHED = 1 << 22;
-
-/**
- * A reader that hashes what it is read, which has to be all bytes, one after the other; and its SHA-1, after what was not read yet.
- * @param {Reader} reader
- * @returns {Reader & { digest(): Promise<string> }}
- */
-function hashing(reader) {
-    const { size } = reader;
-    const hash = createHash('sha1');
-    let hashed = 0;
-    return {
-        size,
-        async read(at, length) {
-            const bytes = await reader.read(at, length);
-            if (at !== hashed) throw new RangeError(`byte ${at} after ${hashed} bytes`);
-            hash.update(bytes);
-            hashed += bytes.length;
-            return bytes;
-        },
-        async digest() {
-            while (hashed < size) await readBytes(this, hashed, Math.min(HASHED, size - hashed));
-            return hash.digest('hex');
-        },
-    };
-}
 
 /**
  * @param {Disc} disc
@@ -63,20 +33,17 @@ function trackText(disc, { number, type, file, block, sectors, part }) {
 }
 
 /**
- * What is found in an image.
+ * The lines of what is found in an image.
  * @param {Run} run
- * @param {DiscImage} image
- * @param {Reader} reader of the image
- * @returns {Promise<Found>}
+ * @param {FileFound['surveys'][0]} found
+ * @returns {string[]}
  */
-async function surveyLines(run, image, reader) {
-    const survey = await run.survey(reader, image.base);
-    const { mode1, damaged, elsewhere } = surveyCounts(survey);
-    const list = new TextDecoder().decode(listText(run.calls, survey, reader.size % SECTOR_SIZE).text).trimEnd();
+function surveyLines(run, { image, survey, mode1, damaged, elsewhere, holes }) {
+    const list = new TextDecoder().decode(listText(run.calls, survey, image.tail).text).trimEnd();
     const lines = [`base ${image.base}`, ...list.split('\n'), `mode1 ${mode1} damaged ${damaged} address ${elsewhere}`];
     const mode2 = blocksIn([...kindRuns(survey)].filter(({ kind }) => kind === SECTOR_KIND.MODE2));
     if (mode2 > 0) lines.push(`mode2 ${mode2}: such sectors can not be audited or patched here; discs of the PlayStation have them`);
-    return { found: damaged + elsewhere > 0, lines };
+    return [...lines, ...linesOfRuns(holes, ({ first, last }) => `${first}-${last} not mode1 in a track of mode1`)];
 }
 
 /**
@@ -92,51 +59,26 @@ function unsurveyedLines({ tracks }) {
 }
 
 /**
- * The tracks of a disc that are surveyed, and what of each: the whole image that it lies in. But if the addresses of several tracks in
- * one file count from different blocks, each track is surveyed by itself.
- * @param {Run} run
- * @param {Disc} disc
- * @returns {Promise<Surveyed[]>}
- */
-async function surveyedTracks(run, disc) {
-    const tracks = disc.tracks.filter(({ image }) => image !== null);
-    const { track: number, base } = run.options;
-    if (tracks.length < 2 || number !== undefined || base !== undefined) {
-        if (tracks.length === 0) return [];
-        const { track, image } = await openTrack(run, run.names[0], true);
-        return [{ number: track.number, file: track.file, image, isWhole: true }];
-    }
-    const surveyed = tracks.flatMap(({ number: own, file, image, part }, i) => {
-        const others = tracks.filter(it => it.file === file);
-        const isWhole = others.every(it => it.image?.base === image?.base);
-        const isLater = isWhole && tracks.findIndex(it => it.file === file) < i;
-        return isLater ? [] : [{ number: own, file, image: /** @type {DiscImage} */ (isWhole ? image : part), isWhole }];
-    });
-    surveyed.forEach(({ image }) => sayUnknownBase(run, image));
-    return surveyed;
-}
-
-/**
  * The lines of a disc, and whether something is wrong with it.
  * @param {Run} run
  * @returns {Promise<Found>}
  */
 async function discLines(run) {
+    const known = await run.knownDumps();
     const disc = await openDiscOf(run, run.names[0]);
     const tracks = disc.tracks.map(track => trackText(disc, track));
-    const surveyed = await surveyedTracks(run, disc);
-    const [files, lines] = [/** @type {string[]} */ ([]), /** @type {string[]} */ ([])];
-    let anyFound = false;
-    for (const [i, file] of disc.files.entries()) {
-        const hashed = hashing(file.reader);
-        for (const { number, image, isWhole } of surveyed.filter(it => it.file === i)) {
-            const { found, lines: own } = await surveyLines(run, image, isWhole ? hashed : image.reader);
-            lines.push(...surveyed.length > 1 ? [`track ${number} ${own[0]}`, ...own.slice(1)] : own);
-            anyFound = anyFound || found;
-        }
-        files.push(`file ${file.name} bytes ${file.reader.size} sha1 ${await hashed.digest()}`);
-    }
-    return { found: anyFound || surveyed.length === 0, lines: [...files, ...tracks, ...lines, ...unsurveyedLines(disc)] };
+    const found = await foundInFiles(run, disc);
+    const files = found.flatMap(({ file: { name, reader }, sha1 }) =>
+        [`file ${name} bytes ${reader.size} sha1 ${sha1}`, ...known ? [known.said(reader.size, sha1) || NOT_KNOWN] : []]);
+    const surveys = found.flatMap(it => it.surveys);
+    const lines = surveys.flatMap(it => {
+        const [first, ...more] = surveyLines(run, it);
+        return [surveys.length > 1 ? `track ${it.number} ${first}` : first, ...more];
+    });
+    surveys.forEach(({ long }) => sayLong(run, long));
+    const isWrong = surveys.some(it => it.damaged + it.elsewhere + it.holes.length > 0);
+    const isMissing = disc.tracks.some(({ file }) => file < 0);
+    return { found: isWrong || isMissing || surveys.length === 0, lines: [...files, ...tracks, ...lines, ...unsurveyedLines(disc)] };
 }
 
 /**

@@ -1,30 +1,28 @@
 // The jobs that look into a data track: `files`, `find` and `show`.
 
-import { LOOKED_BACK, bytesInside, charactersFrom } from '../core/boundaries.js';
 import { bytesOfLines } from '../core/bytes.js';
 import { sectorsOfRange } from '../core/edit.js';
 import { Fault } from '../core/faults.js';
-import { VolumeFault, filesAt, filesOf } from '../core/iso.js';
+import { VolumeFault, filesOf } from '../core/iso.js';
 import { kindName } from '../core/records.js';
 import { FIELDS, USER_SIZE, addressIn, addressText } from '../core/sector.js';
-import { hexText } from '../core/text.js';
-import { INSIDE, LONGEST_CHARACTER, bytesAround, isInside } from './around.js';
+import { LONGEST_CHARACTER, LOOKED_BACK, bytesInside, charactersFrom } from '../core/texts/boundaries.js';
+import { bytesAround, contextOf, filesWith } from '../core/texts/context.js';
+import { hexText } from '../core/texts/hex.js';
 import { placeOf } from './numbers.js';
 import { openTrack } from './opening.js';
 import { encodingsOf, hitsOf } from './searching.js';
+import { nearest } from './suggesting.js';
 import { visible } from './words.js';
 
 /** @typedef {import('../core/disc.js').DiscImage} DiscImage */
 /** @typedef {import('../core/edit.js').Place} Place */
-/** @typedef {import('../core/find.js').Hit} Hit */
 /** @typedef {import('../core/iso.js').FileEntry} FileEntry */
-/** @typedef {import('../core/text.js').Encoding} Encoding */
+/** @typedef {import('../core/texts/encoding.js').Encoding} Encoding */
+/** @typedef {import('../core/texts/find.js').Hit} Hit */
 /** @typedef {import('./run.js').Run} Run */
 
 const DEFAULT_LIMIT = 1000;
-
-/** So many bytes around a hit are shown, before it and after it. */
-const AROUND = 24;
 
 /** The bytes of a row of `show`, and how many are shown from an offset on. */
 const ROW = 16;
@@ -40,7 +38,9 @@ export async function fileNamed(part, path) {
     const rooted = (/** @type {string} */ name) => `/${name}`.replace(/^\/+/, '/');
     const named = files.filter(file => [file.path, visible(file.path)].map(rooted).includes(rooted(path)));
     if (named.length === 1) return named[0];
-    throw new Fault(named.length === 0 ? `there is no file ${path}; cdscript files lists them` : `${path} has ${named.length} parts`);
+    if (named.length > 1) throw new Fault(`${path} has ${named.length} parts`);
+    const meant = nearest(rooted(path), files.map(file => rooted(file.path)));
+    throw new Fault(`there is no file ${path}; ${meant === null ? 'cdscript files lists them' : `there is ${meant}`}`);
 }
 
 /** @param {Run} run */
@@ -59,7 +59,7 @@ export async function filesJob(run) {
  * @param {DiscImage} part
  * @returns {Promise<{ files: FileEntry[], why: string[] }>}
  */
-async function filesIfAny(part) {
+export async function filesIfAny(part) {
     try {
         const { files } = await filesOf(part.reader, part.base);
         return { files, why: [] };
@@ -70,26 +70,12 @@ async function filesIfAny(part) {
 }
 
 /**
- * The text around a hit.
- * @param {DiscImage} part
- * @param {Encoding} encoding
- * @param {Hit} hit
- */
-async function around(part, encoding, hit) {
-    const { at, bytes } = await bytesAround(part, hit, AROUND, hit.size + AROUND);
-    const end = at + hit.size;
-    const parts = [bytes.subarray(0, at), bytes.subarray(at, end), bytes.subarray(end)];
-    return parts.map(it => visible(encoding.text(it))).join('');
-}
-
-/**
  * The files in which a place lies, with how many of their bytes are before it.
  * @param {FileEntry[]} files
  * @param {Place} place
  */
-function filesText(files, { block, offset }) {
-    const found = filesAt(files, block, offset).map(file => `${visible(file.path)}+${(block - file.block) * USER_SIZE + offset}`);
-    return found.join(' ') || '-';
+function filesText(files, place) {
+    return filesWith(files, place).map(({ path, at }) => `${visible(path)}+${at}`).join(' ') || '-';
 }
 
 /**
@@ -100,8 +86,9 @@ function filesText(files, { block, offset }) {
  * @param {Hit} hit
  */
 async function hitLine(part, files, encoding, hit) {
-    const note = await isInside(part, encoding, hit) ? [INSIDE] : [];
-    return [hit.block, hit.offset, hit.size, filesText(files, hit), await around(part, encoding, hit), ...note].join('\t');
+    const { before, hit: text, after, doubt } = await contextOf(part, encoding, hit);
+    const around = visible([...before, text, ...after].join(''));
+    return [hit.block, hit.offset, hit.size, filesText(files, hit), around, ...doubt === '' ? [] : [doubt]].join('\t');
 }
 
 /** @param {Run} run */
@@ -164,7 +151,7 @@ async function sectorLines(run, part, sector, place) {
 export async function showJob(run) {
     const [name, blockText, offsetText = '0'] = run.names;
     const place = placeOf(blockText, offsetText);
-    const encoding = (await encodingsOf(run).next()).value;
+    const [encoding] = await encodingsOf(run);
     const first = Math.floor(place.offset / ROW) * ROW;
     const size = run.names.length < 3 ? USER_SIZE : SHOWN;
     const target = await run.target();

@@ -1,6 +1,6 @@
 // cdscript: reads the command line, does the job, and says what failed.
 
-import { isMainThread } from 'node:worker_threads';
+import { isMainThread, workerData } from 'node:worker_threads';
 import { gunzipSync } from 'node:zlib';
 import { Fault } from '../core/faults.js';
 import { STATUS } from '../core/records.js';
@@ -9,9 +9,10 @@ import { Files } from './files.js';
 import { FORMS } from './forms.js';
 import { helpText } from './help.js';
 import { MESSAGES } from './messages.js';
-import { Messages } from './output.js';
+import { Messages, ReaderEnded } from './output.js';
 import { Run } from './run.js';
-import { serveThread } from './threads.js';
+import { SCANNING, serveScan } from './scan_thread.js';
+import { serveHash, serveThread } from './threads.js';
 import { visible } from './words.js';
 
 /** @typedef {import('./arguments.js').Given} Given */
@@ -44,7 +45,7 @@ function messageOf(error) {
     if (error instanceof Fault) return visible(error.message);
     // As node and the engine say it, in a thread too.
     if (/allocation failed|out of memory|memory\.grow/i.test(error.message)) return MESSAGES.no_memory;
-    return `a fault in cdscript itself: ${error.stack}`;
+    return `a fault in cdscript itself: ${(error.stack || '').split('\n').map(visible).join('\n')}`;
 }
 
 /**
@@ -66,7 +67,7 @@ export async function main(words, streams = STANDARD, files = new Files(streams.
         await files.finish();
         return status;
     } catch (error) {
-        messages.say(messageOf(error));
+        if (!(error instanceof ReaderEnded)) messages.say(messageOf(error));
         return STATUS.FAILED;
     } finally {
         if (run !== null) run.crew.close();
@@ -90,7 +91,9 @@ function endOnSignals(files) {
 /** Runs the command, or serves it in a thread. */
 export function start() {
     if (!isMainThread) {
-        serveThread();
+        if (workerData === SCANNING) serveScan();
+        else if (!(workerData instanceof WebAssembly.Module)) serveHash();
+        else serveThread();
         return;
     }
     // Before a file is made, a signal ends the process by itself, even while that waits for who reads its output.

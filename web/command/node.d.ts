@@ -18,21 +18,33 @@ declare function setImmediate(callback: (value: unknown) => void): void;
 
 declare module 'node:crypto' {
     export function createHash(name: 'sha1'): { update(bytes: Uint8Array): void, digest(form: 'hex'): string };
+    export function randomBytes(size: number): { toString(form: 'hex'): string };
 }
 
 declare module 'node:fs' {
+    export const constants: { O_RDONLY: number, O_NONBLOCK?: number };
     export function closeSync(descriptor: number): void;
     export function fstatSync(descriptor: number): { size: number, isFile(): boolean };
+    export function fstatSync(descriptor: number, how: { bigint: true }): { dev: bigint, ino: bigint };
+    export function ftruncateSync(descriptor: number, size: number): void;
     export function fsync(descriptor: number, done: (error: unknown, value: number) => void): void;
-    export function open(name: string, flags: string, done: (error: unknown, descriptor: number) => void): void;
-    export function openSync(name: string, flags: string): number;
+    export function linkSync(name: string, other: string): void;
+    export function lstatSync(name: string): unknown;
+    export function lstatSync(name: string, how: { bigint: true }): { dev: bigint, ino: bigint };
+    export function open(name: string, flags: number, done: (error: unknown, descriptor: number) => void): void;
     export function read(descriptor: number, bytes: Uint8Array, at: number, length: number, place: null,
         done: (error: unknown, count: number) => void): void;
+    export function openSync(name: string, flags: string): number;
+    export function readFileSync(name: string): Uint8Array;
     export function readFileSync(name: string, encoding: 'latin1'): string;
+    export function realpathSync(name: string): string;
+    export function statSync(name: string): { isFile(): boolean, isDirectory(): boolean };
     export function readSync(descriptor: number, bytes: Uint8Array, at: number, length: number, place: number): number;
     export function readdirSync(name: string): string[];
+    export function readdirSync(name: string, how: { withFileTypes: true }): { name: string, isFile(): boolean, isDirectory(): boolean,
+        isSymbolicLink(): boolean }[];
     export function unlinkSync(name: string): void;
-    export function writeSync(descriptor: number, bytes: Uint8Array, at: number): number;
+    export function writeSync(descriptor: number, bytes: Uint8Array, at: number, length?: number, place?: number): number;
 }
 
 declare module 'node:os' {
@@ -52,7 +64,7 @@ declare module 'node:tty' {
 declare module 'node:worker_threads' {
     export class Worker {
         constructor(file: string, options: { workerData: unknown });
-        on(event: 'message' | 'error', listener: (value: any) => void): void;
+        on(event: 'message' | 'error' | 'online', listener: (value: any) => void): void;
         postMessage(message: unknown, transfer: ArrayBufferLike[]): void;
         terminate(): Promise<number>;
     }

@@ -6,14 +6,14 @@ export const LAST_BASE = 449849;
 export const MOST_BLOCKS = 999999999;
 
 /**
- * A number of one to nine decimal digits within its limits.
+ * A number of decimal digits within its limits.
  * @param {string} text
  * @param {string} name of what it is
  * @param {number} least
  * @param {number} most
  */
 export function numberOf(text, name, least, most) {
-    const number = /^[0-9]{1,9}$/.test(text) ? Number(text) : NaN;
+    const number = /^[0-9]+$/.test(text) ? Number(text) : NaN;
     if (number >= least && number <= most) return number;
     throw new Fault(`${name} is a number from ${least} to ${most}, not '${text}'`);
 }

@@ -6,6 +6,7 @@ import { sheetOf } from '../core/cue.js';
 import { MissingFiles, dataTrack, openDisc } from '../core/disc.js';
 import { Fault } from '../core/faults.js';
 import { natureOf } from '../core/image.js';
+import { baseFault } from '../core/script.js';
 import { imageTooLong } from '../core/sector.js';
 import { textOfFile } from '../core/text.js';
 import { MESSAGES } from './messages.js';
@@ -54,7 +55,7 @@ async function filesOfSheet(run, { name, reader }) {
     const named = new Set(files.map(file => basename(file.name.replace(/\\/g, '/')).toLowerCase()));
     const there = (await run.files.namesIn(dirname(name))).filter(it => named.has(it.toLowerCase()));
     const opened = [];
-    for (const it of there) opened.push(await run.files.image(join(dirname(name), it)));
+    for (const it of there) opened.push(await run.files.imageOfSheet(join(dirname(name), it)));
     return opened;
 }
 
@@ -92,6 +93,17 @@ export function sayUnknownBase(run, { name, base, addressed }) {
     if (addressed === base) return;
     const why = addressed === null ? 'do not say its first block' : 'begin before block 0';
     run.say(`the addresses in ${name} ${why}; its first block counts as ${base} here, see --base`);
+}
+
+/**
+ * Throws a Fault if a script is for another base.
+ * @param {import('../core/script.js').BaseSaid[]} bases
+ * @param {number} base of the image
+ */
+export function assertBase(bases, base) {
+    const fault = baseFault(bases, base);
+    const other = bases.find(said => said.base !== base);
+    if (other) throw new Fault(`${fault}: give --base ${other.base}, or take that line out`);
 }
 
 /**

@@ -13,6 +13,9 @@ const COLLECTED = 1 << 16;
 /** So many milliseconds pass before progress is shown again. */
 const SHOWN_EACH = 100;
 
+/** Who read standard output has ended, as `head` does: there is nobody left to say it to. */
+export class ReaderEnded extends Fault {}
+
 /**
  * Writes all bytes. A pipe that is full for the moment is tried again: once there are threads, node does not wait for it.
  * @param {number} descriptor
@@ -23,6 +26,7 @@ function writeToStream(descriptor, bytes) {
         try {
             done += writeSync(descriptor, bytes, done);
         } catch (error) {
+            if (hasCode(error, 'EPIPE')) throw new ReaderEnded('');
             if (!hasCode(error, 'EAGAIN')) throw new Fault(`cannot write to standard output: ${reasonOf(error)}`);
             pause();
         }

@@ -1,4 +1,25 @@
-// A pause before a pipe that is full or empty is tried again.
+// Waiting: for signals, for calls of node, and before a pipe that is full or empty is tried again.
+
+/** After so many milliseconds the signals that have come are looked at. */
+const TURN = 50;
+
+let lastTurn = 0;
+
+/** Lets signals in, if none was let in for a while. What node does at once would keep them out until its end. */
+export async function letSignalsIn() {
+    if (Date.now() - lastTurn < TURN) return;
+    lastTurn = Date.now();
+    await new Promise(resolve => setImmediate(resolve));
+}
+
+/**
+ * What a call of node gives later. Signals come in while it waits, as for a pipe that nobody writes.
+ * @param {(done: (error: unknown, value: number) => void) => void} begin
+ * @returns {Promise<number>}
+ */
+export function later(begin) {
+    return new Promise((resolve, reject) => begin((error, value) => error ? reject(error) : resolve(value)));
+}
 
 /** So many milliseconds it takes. */
 const PAUSE = 2;

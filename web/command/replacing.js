@@ -1,42 +1,41 @@
 // The jobs that write scripts for a text or a file: `replace` and `replace-file`. The core has applied each before it is written.
 
 import { readBytes } from '../core/bytes.js';
-import { TextFault } from '../core/characters.js';
 import { filledUp, replaceBytes } from '../core/edit.js';
 import { Fault } from '../core/faults.js';
-import { findIn, sectorsBeyond } from '../core/find.js';
 import { leftText } from '../core/lines.js';
 import { ScriptParts } from '../core/output.js';
-import { passPatched } from '../core/patch.js';
 import { replaceFile } from '../core/replace_file.js';
-import { Refusal, patchesOf } from '../core/script.js';
 import { SECTOR_SIZE, USER_SIZE } from '../core/sector.js';
-import { encodeText, hexText } from '../core/text.js';
-import { INSIDE, isInside, userBytes } from './around.js';
+import { contextOf } from '../core/texts/context.js';
+import { encodeText, spaceIn } from '../core/texts/encoding.js';
+import { findIn, sectorsBeyond } from '../core/texts/find.js';
+import { hexText } from '../core/texts/hex.js';
+import { leftHitText, replacedHits } from '../core/texts/replace.js';
+import { encodingsWith } from '../core/texts/search.js';
+import { replaceListJob } from './listing.js';
 import { fileNamed } from './looking.js';
 import { placeOf } from './numbers.js';
 import { openTrack } from './opening.js';
-import { writeScript } from './scripts.js';
-import { encodingsWith, hitsOf } from './searching.js';
+import { assertFits, writeScript } from './scripts.js';
+import { encodingsOf, hitsOf } from './searching.js';
 import { sayOfRuns } from './words.js';
 
 /** @typedef {import('../core/disc.js').DiscImage} DiscImage */
 /** @typedef {import('../core/edit.js').Place} Place */
 /** @typedef {import('../core/output.js').Script} Script */
-/** @typedef {import('../core/text.js').Encoding} Encoding */
+/** @typedef {import('../core/texts/encoding.js').Encoding} Encoding */
+/** @typedef {import('../core/texts/find.js').Hit} Hit */
 /** @typedef {import('./run.js').Run} Run */
 /** @typedef {import('./searching.js').Opened} Opened */
-/**
- * Where a text stands, in any of its spellings. A place at which it does not stand has no size.
- * @typedef {{ encoding: Encoding, places: (Place & { size?: number })[] }} Places
- */
+/** @typedef {{ image: DiscImage, encoding: Encoding, hits: Hit[], inside: boolean }} Places `inside`: in the middle of characters too */
 
 /** So many places are listed if there are more than the one that was wanted. */
 const LISTED = 20;
 const MOST_PLACES = 1000000;
 
 /**
- * A place with the size of a text there, and its encoding; if it stands there in none, the first one that has it.
+ * A place at which a text stands, in the first encoding that has it there. Throws a Fault if there is none.
  * @param {Run} run
  * @param {DiscImage} image
  * @param {Place} place
@@ -44,7 +43,7 @@ const MOST_PLACES = 1000000;
  * @returns {Promise<Places>}
  */
 async function placeOfText(run, image, place, text) {
-    const { encodings } = await encodingsWith(run, text);
+    const { encodings } = encodingsWith(await encodingsOf(run), text);
     const after = image.base + image.sectors - place.block;
     for (const encoding of place.block < image.base || after <= 0 ? [] : encodings) {
         const wanted = encoding.units(text);
@@ -52,9 +51,11 @@ async function placeOfText(run, image, place, text) {
         const bytes = await readBytes(image.reader, (place.block - image.base) * SECTOR_SIZE, count * SECTOR_SIZE);
         const [{ hits }] = findIn(bytes, place.block, { texts: [wanted], count: 1, limit: USER_SIZE });
         const hit = hits.find(({ offset }) => offset === place.offset);
-        if (hit) return { encoding, places: [hit] };
+        if (hit) return { image, encoding, hits: [hit], inside: true };
     }
-    return { encoding: encodings[0], places: [place] };
+    const usual = encodeText(encodings[0], text);
+    await replaceBytes(run.calls, image, place, usual, usual);
+    throw new Fault('the text is not found');
 }
 
 /**
@@ -65,105 +66,80 @@ async function placeOfText(run, image, place, text) {
  * @returns {Promise<Places>}
  */
 async function placesOf(run, opened, text) {
-    const { part } = opened;
-    const found = await hitsOf(run, opened, text, run.options.all ? MOST_PLACES : LISTED);
+    const { part: image } = opened;
+    const { all, inside = false } = run.options;
+    const found = await hitsOf(run, opened, text, all ? MOST_PLACES : LISTED);
     if (found === null) throw new Fault('the text is not found');
     const { count, hits, encoding } = found;
-    if (count === 1 || (run.options.all && count === hits.length)) {
-        for (const hit of hits) await assertBegins(part, encoding, hit);
-        return { encoding, places: hits };
-    }
-    if (run.options.all) throw new Fault(`the text stands at ${count} places, and no more than ${MOST_PLACES} are replaced`);
+    if (count === 1 && !all && !inside) await assertBegins(image, encoding, hits[0]);
+    if (count === 1 || (all && count === hits.length)) return { image, encoding, hits, inside };
+    if (all) throw new Fault(`the text stands at ${count} places, and no more than ${MOST_PLACES} are replaced`);
     for (const hit of hits) {
-        const note = await isInside(part, encoding, hit) ? `, ${INSIDE}` : '';
-        run.say(`it stands at block ${hit.block} offset ${hit.offset}${note}`);
+        const { doubt } = await contextOf(image, encoding, hit, 0);
+        run.say(`it stands at block ${hit.block} offset ${hit.offset}${doubt === '' ? '' : `, ${doubt}`}`);
     }
     throw new Fault(`the text stands at ${count} places: give BLOCK and OFFSET of one, or --all`);
 }
 
 /**
- * Throws a Fault if a place is in the middle of a character.
- * @param {DiscImage} part
+ * Throws a Fault if a hit may begin in the middle of a character.
+ * @param {DiscImage} image
  * @param {Encoding} encoding
- * @param {Place} place
+ * @param {Hit} hit
  */
-async function assertBegins(part, encoding, place) {
-    if (!await isInside(part, encoding, place)) return;
-    const { block, offset } = place;
-    throw new Fault(`block ${block} offset ${offset} is ${INSIDE}: to replace the bytes there all the same, give BLOCK and OFFSET`);
+async function assertBegins(image, encoding, hit) {
+    const { doubt } = await contextOf(image, encoding, hit, 0);
+    if (doubt !== '') throw new Fault(`${leftHitText({ hit, why: doubt })}: --inside replaces it all the same`);
 }
 
 /**
- * What fills up if it is not given. Throws a Fault if the encoding has no space.
- * @param {Encoding} encoding
- */
-function spaceIn(encoding) {
-    if (encoding.name === 'hex') return Uint8Array.of(0);
-    try {
-        return encodeText(encoding, ' ');
-    } catch (error) {
-        if (error instanceof TextFault) throw new Fault(`${encoding.name} has no space to fill up with: give --fill`);
-        throw error;
-    }
-}
-
-/**
- * The new bytes, filled up to as many as the old ones.
+ * The new bytes for so many old ones, by their number.
  * @param {Run} run
- * @param {Encoding} encoding
+ * @param {Places} places
  * @param {string} text
- * @param {number} size
  */
-function freshBytes(run, encoding, text, size) {
+function freshBytes(run, { encoding, hits }, text) {
     const bytes = encodeText(encoding, text);
-    const fill = bytes.length < size ? run.options.fill || spaceIn(encoding) : null;
-    const filled = filledUp(bytes, size, fill);
-    if (fill !== null) run.say(`bytes filled up with ${hexText(fill)}: ${size - bytes.length}`);
-    return filled;
+    const fill = run.options.fill || spaceIn(encoding);
+    /** @type {Map<number, Uint8Array>} */
+    const known = new Map();
+    for (const size of new Set(hits.map(hit => hit.size))) {
+        const missing = size - bytes.length;
+        if (missing > 0 && fill === null) throw new Fault(`${encoding.name} has no space to fill up with: give --fill`);
+        known.set(size, filledUp(bytes, size, fill));
+        if (missing > 0 && fill !== null) run.say(`bytes filled up with ${hexText(fill)}: ${missing}`);
+    }
+    return known;
 }
 
 /**
- * The script that replaces a text at places, in their order, which has been applied. Throws a Fault if one overlaps another.
+ * The script that replaces a text at places, which has been applied, and how many are left out. They are named; the only one is a Fault.
  * @param {Run} run
  * @param {DiscImage} image
- * @param {Places} where
- * @param {string} before
- * @param {string} after
+ * @param {Places} places
+ * @param {string} text
  */
-async function replacedEverywhere(run, image, { encoding, places }, before, after) {
+async function replacedScript(run, image, places, text) {
+    const { encoding, hits, inside } = places;
+    const known = freshBytes(run, places, text);
     const parts = new ScriptParts();
-    const usual = encodeText(encoding, before);
-    /** @type {Map<number, Uint8Array>} the new bytes by their number */
-    const known = new Map();
-    let end = 0;
-    for (const place of places) {
-        const at = place.block * USER_SIZE + place.offset;
-        if (at < end) throw new Fault(`the text at block ${place.block} offset ${place.offset} overlaps the one before it`);
-        const old = place.size === undefined ? usual : await userBytes(image, place, place.size);
-        const fresh = known.get(old.length) || freshBytes(run, encoding, after, old.length);
-        known.set(old.length, fresh);
-        end = at + old.length;
-        parts.push(await replaceBytes(run.calls, image, place, old, fresh));
+    const left = [];
+    const freshFor = (/** @type {number} */ size) => /** @type {Uint8Array} */ (known.get(size));
+    for await (const made of replacedHits(run.calls, places.image, encoding, hits, freshFor, { inside })) {
+        if (made.lines === null) left.push(made);
+        else parts.push(made.lines);
     }
+    if (left.length === 1 && hits.length === 1) throw new Fault(left[0].why);
+    sayOfRuns(run, left, leftHitText);
+    if (parts.patches === 0) throw new Fault('no place is left, so no script is written');
     const script = parts.script(run.calls);
     await assertFits(run, image, script);
-    return script;
-}
-
-/**
- * Throws a Fault if a patch of a script is refused.
- * @param {Run} run
- * @param {DiscImage} image
- * @param {Script} script
- */
-async function assertFits(run, image, script) {
-    const patches = await patchesOf(run.calls, script.pieces, true);
-    const fit = !(patches instanceof Refusal) && (await passPatched(run.calls, image.reader, patches, image.base, false)).status === 0;
-    if (!fit) throw new Fault('the patches do not fit together, so no script is written');
+    return { script, left: left.length };
 }
 
 /** @param {Run} run */
 export async function replaceJob(run) {
+    if (run.options.list !== undefined) return replaceListJob(run, run.options.list);
     const [name, ...more] = run.names;
     const [after, before, offset, block] = more.reverse();
     const given = block === undefined ? null : placeOf(block, offset);
@@ -171,12 +147,15 @@ export async function replaceJob(run) {
     const target = await run.target();
     const opened = await openTrack(run, name, given !== null);
     const { image } = opened;
-    const where = given === null ? await placesOf(run, opened, before) : await placeOfText(run, image, given, before);
-    if (given !== null && where.places[0].size !== undefined && await isInside(image, where.encoding, given)) {
-        run.say(`block ${given.block} offset ${given.offset} is ${INSIDE}`);
+    const places = given === null ? await placesOf(run, opened, before) : await placeOfText(run, image, given, before);
+    if (given !== null) {
+        const [hit] = places.hits;
+        const { doubt } = await contextOf(image, places.encoding, hit, 0);
+        if (doubt !== '') run.say(leftHitText({ hit, why: doubt }));
     }
-    await writeScript(run, target, await replacedEverywhere(run, image, where, before, after));
-    return 0;
+    const { script, left } = await replacedScript(run, image, places, after);
+    await writeScript(run, target, script, image.base);
+    return Number(left > 0);
 }
 
 /** @param {Run} run */
@@ -184,13 +163,13 @@ export async function replaceFileJob(run) {
     const { fill = Uint8Array.of(0) } = run.options;
     if (fill.length !== 1) throw new Fault('--fill is one byte here');
     const target = await run.target();
-    const { part } = await openTrack(run, run.names[0]);
+    const { image, part } = await openTrack(run, run.names[0]);
     const file = await fileNamed(part, run.names[1]);
     const { reader } = await run.files.image(run.names[2]);
     const made = await replaceFile(run.calls, run.crew, part, file, reader, { fill: fill[0] });
     sayOfRuns(run, made.left, left => leftText([left], part.name));
     if (made.script === null) throw new Fault('these blocks of the file can not be patched, so no script is written');
     if (reader.size < file.size) run.say(`bytes filled up with ${hexText(fill)}: ${file.size - reader.size}`);
-    await writeScript(run, target, made.script);
+    await writeScript(run, target, made.script, image.base);
     return 0;
 }

@@ -3,6 +3,10 @@
 import { gunzipSync } from 'node:zlib';
 import { joinedBytes } from '../core/bytes.js';
 import { Calls } from '../core/codes.js';
+import { KnownDumps } from '../core/dat.js';
+import { Fault } from '../core/faults.js';
+import { SECTOR_SIZE, sectorCount } from '../core/sector.js';
+import { FileFault } from './failures.js';
 import { Output } from './output.js';
 import { Threads } from './threads.js';
 import { visible } from './words.js';
@@ -18,7 +22,7 @@ import { visible } from './words.js';
 let compiled = null;
 
 /** The module of libcdpatch, which is compiled once. */
-function compiledModule() {
+export function compiledModule() {
     if (compiled === null) compiled = new WebAssembly.Module(gunzipSync(Buffer.from(JOINED.module, 'base64')));
     return compiled;
 }
@@ -62,22 +66,55 @@ export class Run {
     }
 
     /**
-     * Where a script or a list goes: to the file of `-o`, or to standard output.
+     * Where a script or a list goes: to the file of `-o`, or to standard output, which `-` is too.
      * @returns {Promise<Target>}
      */
     async target() {
-        return this.options.output === undefined ? this.output : this.files.make(this.options.output);
+        const { output = '-' } = this.options;
+        return output === '-' ? this.output : this.files.make(output);
+    }
+
+    /**
+     * The dumps that the DATs of the options list, null if there is none. Throws a Fault.
+     * @returns {Promise<KnownDumps | null>}
+     */
+    async knownDumps() {
+        const { dat = [] } = this.options;
+        const known = new KnownDumps();
+        for (const name of dat) {
+            await known.add(this.files.piecesOf(name)).catch(error => {
+                throw error instanceof FileFault || !(error instanceof Fault) ? error : new Fault(`${name}: ${error.message}`);
+            });
+        }
+        return dat.length > 0 ? known : null;
+    }
+
+    /**
+     * A reader that shows how far it has come.
+     * @param {Reader} reader
+     * @returns {Reader}
+     */
+    watched(reader) {
+        const all = sectorCount(reader.size);
+        return {
+            ...reader,
+            read: (at, length, room) => {
+                this.messages.progress(Math.floor(at / SECTOR_SIZE), all);
+                return reader.read(at, length, room);
+            },
+        };
     }
 
     /**
      * What is found in all sectors of an image.
      * @param {Reader} reader
      * @param {number} base
+     * @param {'survey' | 'kinds'} [job] which of it
      */
-    async survey(reader, base) {
+    async survey(reader, base, job = 'survey') {
         /** @type {Uint8Array[]} */
         const parts = [];
-        await this.crew.share('survey', [reader], {}, { base }, ({ records }) => void parts.push(records));
+        await this.crew.share(job, [reader], {}, { base }, ({ records }) => void parts.push(records));
         return { block: base, records: joinedBytes(parts) };
     }
 }

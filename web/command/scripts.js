@@ -5,17 +5,20 @@ import { dataTrack } from '../core/disc.js';
 import { Fault } from '../core/faults.js';
 import { LineList, leftText } from '../core/lines.js';
 import { ScriptParts } from '../core/output.js';
+import { passPatched } from '../core/patch.js';
 import { RECORD_SIZE } from '../core/records.js';
 import { blocksIn, blocksText } from '../core/runs.js';
-import { Refusal } from '../core/script.js';
+import { MOST_SCRIPT_BYTES, Refusal, baseComment, patchesOf } from '../core/script.js';
 import { isDamaged } from '../core/survey.js';
 import { undoScript } from '../core/undo.js';
 import { differingFields } from './fields.js';
 import { MESSAGES } from './messages.js';
+import { NewFile } from './new_file.js';
 import { openDiscOf, openTrack } from './opening.js';
 import { sayOfRuns } from './words.js';
 
 /** @typedef {import('../core/compare.js').Comparison} Comparison */
+/** @typedef {import('../core/disc.js').DiscImage} DiscImage */
 /** @typedef {import('../core/output.js').Script} Script */
 /** @typedef {import('./run.js').Run} Run */
 /** @typedef {import('./run.js').Target} Target */
@@ -26,43 +29,100 @@ const LEFT = 1;
 const HEALED = 'damage does not come back; address and user data do';
 
 /**
+ * Writes a script, with a comment that says its base if that is not 0.
  * @param {Run} run
  * @param {Target} target
  * @param {Script} script
+ * @param {number} base of the image that it is for
  */
-export async function writeScript(run, target, { pieces, patches, long, carry }) {
-    for (const piece of pieces) await target.write(piece);
+export async function writeScript(run, target, { pieces: [head, ...pieces], size, patches, long, carry }, base) {
+    const comment = new TextEncoder().encode(commentOf(base));
+    for (const piece of [head, comment, ...pieces]) await target.write(piece);
+    sayOfScript(run, { patches, carry, long: long || size + comment.length > MOST_SCRIPT_BYTES });
+}
+
+/**
+ * The comment that says a base, '' for 0.
+ * @param {number} base
+ */
+function commentOf(base) {
+    return base === 0 ? '' : baseComment(base);
+}
+
+/**
+ * Says what a script asks of who applies it.
+ * @param {Run} run
+ * @param {{ patches: number, long: boolean, carry: boolean }} script
+ */
+function sayOfScript(run, { patches, long, carry }) {
     if (patches === 0) run.say('the script has no patch');
     if (carry) run.say('the script patches damaged sectors: it needs --carry');
     if (long) run.say('the script is longer than cdpatch takes: cdscript apply --long applies it');
 }
 
 /**
- * What to do if there is no script because sectors are damaged in NEW.
+ * Throws a Fault if a patch of a script is refused.
+ * @param {Run} run
+ * @param {DiscImage} image
+ * @param {Script} script
+ */
+export async function assertFits(run, image, script) {
+    const patches = await patchesOf(run.calls, script.pieces, true);
+    const fit = !(patches instanceof Refusal) && (await passPatched(run.calls, image.reader, patches, image.base, false)).status === 0;
+    if (!fit) throw new Fault('the patches do not fit together, so no script is written');
+}
+
+/**
+ * What to do if there is no script: sectors that are damaged in NEW can be repaired, and all that is left can be left out.
  * @param {Comparison} made
  * @param {string} newName
  */
 function remedyOf({ left, tail }, newName) {
-    if (tail || left.some(({ why }) => why !== 'damaged')) return '';
+    if (tail || left.some(({ why }) => why !== 'damaged')) return `: --partial leaves ${left.length > 0 ? 'them' : 'that'} out`;
     return `: repair ${newName} first, as with merge, or give --skip-damaged`;
+}
+
+/**
+ * How a file gets lines as they come, which it may since it has its name only when it is whole. Its head line is known after them.
+ * @param {Target} target
+ * @param {number} base
+ */
+async function takingLines(target, base) {
+    if (!(target instanceof NewFile)) return {};
+    await target.write(new TextEncoder().encode(`cdpatch 1\n${commentOf(base)}`));
+    return { take: (/** @type {Uint8Array} */ text) => target.write(text) };
+}
+
+/**
+ * Ends a file that has got the lines of a script.
+ * @param {Run} run
+ * @param {NewFile} file
+ * @param {Script} script
+ * @param {number} base
+ */
+async function endLines(run, file, { pieces: [head], size, patches, carry, long }, base) {
+    await file.writeFirst(head);
+    sayOfScript(run, { patches, carry, long: long || size + commentOf(base).length > MOST_SCRIPT_BYTES });
 }
 
 /** @param {Run} run */
 export async function diffJob(run) {
-    const { skipDamaged = false, track = null } = run.options;
+    const { skipDamaged = false, partial = false, track = null } = run.options;
     const [oldName, newName] = run.names;
     const target = await run.target();
     const { image } = await openTrack(run, oldName, true);
     const fresh = dataTrack(await openDiscOf(run, newName), track).image;
     if (run.options.fields) return differingFields(run, target, image, fresh);
-    const made = await compareImages(run.calls, run.crew, image.reader, fresh.reader, { base: image.base, skipDamaged });
+    const how = { base: image.base, skipDamaged, partial, ...await takingLines(target, image.base) };
+    const made = await compareImages(run.calls, run.crew, image.reader, fresh.reader, how);
     sayOfRuns(run, made.left, left => leftText([left], newName));
     if (made.tail) run.say('the bytes after the last sector differ, and no script changes them');
     if (made.script === null) throw new Fault(`no script leads to that image, so none is written${remedyOf(made, newName)}`);
-    await writeScript(run, target, made.script);
+    if (target instanceof NewFile) await endLines(run, target, made.script, image.base);
+    else await writeScript(run, target, made.script, image.base);
     const left = blocksIn(made.left);
-    if (left > 0) run.say(`damaged blocks that are left out: ${left}`);
-    return left > 0 ? LEFT : 0;
+    if (left > 0) run.say(`${partial ? '' : 'damaged '}blocks that are left out: ${left}`);
+    return left > 0 || made.tail ? LEFT : 0;
 }
 
 /** @param {Run} run */
@@ -75,7 +135,7 @@ export async function rebuildsJob(run) {
         if (isDamaged(records, at)) lines.rebuild(block + at / RECORD_SIZE);
     }
     script.push(lines.lines());
-    await writeScript(run, target, script.script(run.calls));
+    await writeScript(run, target, script.script(run.calls), image.base);
     return 0;
 }
 
@@ -89,13 +149,15 @@ export async function undoJob(run) {
     const { carry = false, long = false } = run.options;
     const target = await run.target();
     const { image } = await openTrack(run, run.names[0], true);
-    const made = await undoScript(run.calls, image.reader, run.files.piecesOf(run.names[1]), { base: image.base, carry, long });
+    const script = run.files.piecesOf(run.names[1]);
+    const crew = run.crew.crew(image.sectors);
+    const made = await undoScript(run.calls, run.watched(image.reader), script, { base: image.base, carry, long, crew });
     if (made instanceof Refusal) throw new Fault(refusalText(made));
     const refused = made.patched.outcomes.filter(({ result }) => result !== 0).length;
     const why = `${refused === 1 ? '1 patch is' : `${refused} patches are`} refused on ${image.name}: is it the image before the script?`;
-    if (refused > 0 && made.script.patches === 0) throw new Fault(why);
+    if (refused > 0 && made.script.patches === 0 && made.left.length === 0) throw new Fault(why);
     if (refused > 0) run.say(why);
     sayOfRuns(run, made.left, left => left.why === 'damaged' ? `${blocksText([left])}: ${HEALED}` : leftText([left], image.name));
-    await writeScript(run, target, made.script);
+    await writeScript(run, target, made.script, image.base);
     return refused > 0 || made.left.length > 0 ? LEFT : 0;
 }

@@ -1,5 +1,6 @@
 // Threads of node as the hands of a crew.
 
+import { createHash } from 'node:crypto';
 import { readSync } from 'node:fs';
 import { cpus } from 'node:os';
 import { Worker, parentPort, workerData } from 'node:worker_threads';
@@ -17,19 +18,6 @@ const MOST_THREADS = 8;
 
 /** @type {Uint8Array[]} where a thread reads to. Nothing of a range is kept when the next one comes. */
 const rooms = [];
-
-/**
- * A thread that does what it is given.
- * @param {WebAssembly.Module} module
- */
-function threadHand(module) {
-    const worker = new Worker(JOINED.file, { workerData: module });
-    /** @type {Hand & { worker: Worker }} */
-    const hand = { worker, post: (message, transfer) => worker.postMessage(message, transfer), onreply() {}, onfault() {} };
-    worker.on('message', reply => hand.onreply(reply));
-    worker.on('error', error => hand.onfault(error));
-    return hand;
-}
 
 /**
  * The bytes of a piece, which are read if they are lent. Throws if the file has become shorter, and what reading throws.
@@ -56,15 +44,77 @@ function replyTo(serve, message) {
     }
 }
 
+/**
+ * A thread, and whether it has begun; null if the system makes none.
+ * @param {unknown} data what it begins with
+ */
+export function begunThread(data) {
+    try {
+        const worker = new Worker(JOINED.file, { workerData: data });
+        const begun = new Promise(resolve => {
+            worker.on('online', () => resolve(true));
+            worker.on('error', () => resolve(false));
+        });
+        return { worker, begun };
+    } catch {
+        return null;
+    }
+}
+
+/**
+ * A thread that does what it is given. What it would do if it had begun, this thread does.
+ * @param {WebAssembly.Module} module
+ * @param {Calls} calls
+ */
+function threadHand(module, calls) {
+    const serve = serving(calls);
+    const thread = begunThread(module);
+    /** @type {Hand & { close(): void }} */
+    const hand = {
+        post(message, transfer) {
+            const here = () => hand.onreply(replyTo(serve, message));
+            if (thread === null) setImmediate(here);
+            else void thread.begun.then(isBegun => isBegun ? thread.worker.postMessage(message, transfer) : here());
+        },
+        onreply() {},
+        onfault() {},
+        close: () => void (thread && thread.worker.terminate()),
+    };
+    if (thread === null) return hand;
+    thread.worker.on('message', reply => hand.onreply(reply));
+    thread.worker.on('error', error => void thread.begun.then(isBegun => isBegun && hand.onfault(error)));
+    return hand;
+}
+
 /** What a thread does: it serves the main thread, and reads for itself what is lent. */
 export function serveThread() {
-    const serve = serving(new Calls(workerData));
     if (parentPort === null) return;
+    const serve = serving(new Calls(workerData));
     const port = parentPort;
     port.on('message', message => {
         const reply = replyTo(serve, message);
         port.postMessage(reply, transfersOf(reply));
     });
+}
+
+/** So many bytes are hashed at a time. */
+const HASHED = 1 << 22;
+
+/** What a thread does that hashes a file: its SHA-1 goes to the main thread, or null if not all of it could be read. */
+export function serveHash() {
+    const { descriptor, at, length } = workerData.hashing;
+    const hash = createHash('sha1');
+    const room = new Uint8Array(HASHED);
+    let done = 0;
+    try {
+        for (let count = 1; done < length && count > 0; done += count) {
+            count = readSync(descriptor, room, 0, Math.min(HASHED, length - done), at + done);
+            hash.update(room.subarray(0, count));
+        }
+    } catch {
+        done = -1;
+    }
+    if (parentPort !== null) parentPort.postMessage(done === length ? hash.digest('hex') : null, []);
 }
 
 /** What shares out a job: among threads if it has many sectors, and else it is done by this one. */
@@ -78,6 +128,8 @@ export class Threads {
         this.module = module;
         this.calls = calls;
         this.progress = progress;
+        /** Whether this thread does all by itself. */
+        this.isAlone = false;
         /** @type {ReturnType<typeof threadHand>[]} */
         this.threads = [];
     }
@@ -89,14 +141,19 @@ export class Threads {
     }
 
     /** @param {number} sectors how many there are to do */
+    hasThreads(sectors) {
+        return !this.isAlone && sectors >= SECTORS_FOR_THREADS;
+    }
+
+    /** @param {number} sectors how many there are to do */
     crew(sectors) {
-        if (sectors < SECTORS_FOR_THREADS) return new Crew([localHand(this.calls)]);
+        if (!this.hasThreads(sectors)) return new Crew([localHand(this.calls)]);
         const count = Math.min(cpus().length || 1, MOST_THREADS); // where the system does not say it, there are none
-        while (this.threads.length < count) this.threads.push(threadHand(this.module));
+        while (this.threads.length < count) this.threads.push(threadHand(this.module, this.calls));
         return new Crew(this.threads, true);
     }
 
     close() {
-        this.threads.splice(0).forEach(({ worker }) => void worker.terminate());
+        this.threads.splice(0).forEach(thread => thread.close());
     }
 }

@@ -16,7 +16,7 @@ export function visible(text) {
 
 /**
  * A line for each of the first runs, and one for how many there are.
- * @template {BlockRun} R
+ * @template R
  * @param {R[]} runs
  * @param {(run: R) => string} textOf
  */
@@ -27,11 +27,21 @@ export function linesOfRuns(runs, textOf) {
 
 /**
  * Says what is true of blocks.
- * @template {BlockRun} R
+ * @template R
  * @param {Run} run
  * @param {R[]} runs
  * @param {(run: R) => string} textOf
  */
 export function sayOfRuns(run, runs, textOf) {
     linesOfRuns(runs, textOf).forEach(line => run.say(line));
+}
+
+/**
+ * Says which blocks between Mode 1 sectors are so many that they may be a track of audio.
+ * @param {Run} run
+ * @param {BlockRun[]} runs
+ */
+export function sayLong(run, runs) {
+    const why = 'as in a track of audio: the cue sheet would say it';
+    sayOfRuns(run, runs, ({ first, last }) => `blocks ${first} to ${last} are not mode1, ${why}`);
 }

@@ -1,7 +1,7 @@
 // The calls of the module of libcdpatch, over bytes and numbers of JavaScript. cdpatch.h says what each does.
 
 import { Arena } from './arena.js';
-import { PATCH_RECORD_SIZE, RECORD_SIZE, freshSize } from './records.js';
+import { PATCH_RECORD_SIZE, RECORD, RECORD_SIZE, freshSize } from './records.js';
 import { SECTOR_SIZE, USER_SIZE, sectorCount } from './sector.js';
 
 /**
@@ -70,6 +70,19 @@ export class Calls extends Arena {
         const known = block === block >>> 0 && this.exports.cdpatch_survey(from, BigInt(count), block, records, BigInt(count));
         if (!known) throw new RangeError(`${count} sectors from block ${block} on`);
         return this.copied(records, RECORD_SIZE * count);
+    }
+
+    /**
+     * Records of whole sectors with nothing but their kinds.
+     * @param {Uint8Array} sectors
+     */
+    kinds(sectors) {
+        const records = new Uint8Array(RECORD_SIZE * sectorCount(sectors.length));
+        const [from] = this.put(sectors);
+        for (let i = 0; i < records.length / RECORD_SIZE; i++) {
+            records[RECORD_SIZE * i + RECORD.KIND] = Number(this.exports.cdpatch_kind(from + BigInt(SECTOR_SIZE * i)));
+        }
+        return records;
     }
 
     /**

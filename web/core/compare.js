@@ -26,6 +26,9 @@ import { isSound } from './survey.js';
  * @typedef {{ blocks: Uint32Array, fields: Uint16Array, states: Uint8Array }} Differing
  */
 
+/** So many sectors are a range: what is written of them may be four times as much. */
+const COMPARED_STEP = 256;
+
 /**
  * The lines that lead from one range of sectors to another. A job for a worker.
  * @param {Calls} calls
@@ -43,24 +46,29 @@ export function diffRange(calls, old, fresh, first, how) {
 
 /**
  * The script that leads from OLD to NEW. There is none if a block is left that no script can say, but damaged ones of NEW may be left
- * out. Throws a Fault.
+ * out, or with `partial` all that are left. Throws a Fault.
  * @param {Calls} calls
  * @param {Sharer} crew
  * @param {Reader} old
  * @param {Reader} fresh
- * @param {Sharing & { skipDamaged?: boolean }} how
+ * @param {Sharing & { skipDamaged?: boolean, partial?: boolean, take?: (text: Uint8Array) => Promise<void> }} how with `take` the lines
+ *     are given to it as they come, before it is known whether there is a script, and the script has only its head line
  * @returns {Promise<Comparison>}
  */
-export async function compareImages(calls, crew, old, fresh, { skipDamaged = false, ...how }) {
+export async function compareImages(calls, crew, old, fresh, { skipDamaged = false, partial = false, take, ...how }) {
     if (old.size !== fresh.size) {
         throw new Fault(`the images have ${old.size} and ${fresh.size} bytes, and no script changes a length`);
     }
     const parts = new ScriptParts();
-    await crew.share('diff', [old, fresh], {}, how, lines => parts.push(lines));
+    await crew.share('diff', [old, fresh], {}, { step: COMPARED_STEP, ...how }, async lines => {
+        if (take === undefined) return parts.push(lines);
+        parts.count(lines);
+        return take(lines.text);
+    });
     const { left } = parts;
     const tail = await tailsDiffer(old, fresh);
-    const whole = !tail && left.every(({ why }) => skipDamaged && why === 'damaged');
-    return { script: whole ? parts.script(calls) : null, left, tail };
+    const isWanted = partial || (!tail && left.every(({ why }) => skipDamaged && why === 'damaged'));
+    return { script: isWanted ? parts.script(calls) : null, left, tail };
 }
 
 /**

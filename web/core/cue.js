@@ -37,7 +37,7 @@ export function sheetOf(text) {
     /** @type {Sheet} */
     const sheet = { files: [], tracks: [], points: [] };
     text.split(/\r\n|\r|\n/).forEach((line, i) => {
-        const [, command, rest] = /^\s*(\S*)\s*(.*?)\s*$/.exec(line) || ['', '', ''];
+        const [, command, rest] = /^(\S*)\s*(.*)$/s.exec(line.trim()) || ['', '', ''];
         const read = SHEET_COMMANDS[command.toUpperCase()];
         if (read) read(sheet, rest, i + 1);
     });
@@ -61,9 +61,11 @@ const SHEET_COMMANDS = {
 
 /** @type {(sheet: Sheet, rest: string, line: number) => void} */
 function readFileLine(sheet, rest, line) {
-    const found = /^"([^"]*)"\s+(\S+)$/.exec(rest) || /^([^"].*?)\s+(\S+)$/.exec(rest);
-    if (!found) throw sheetFault('FILE wants a name and a format', line);
-    sheet.files.push({ name: found[1], raw: RAW_FORMATS.includes(found[2].toUpperCase()) });
+    const format = rest.split(/\s+/).slice(-1)[0];
+    const before = rest.slice(0, rest.length - format.length).trimEnd();
+    const [, name] = /^"([^"]*)"$/.exec(before) || /^([^"].*)$/s.exec(before) || [];
+    if (name === undefined) throw sheetFault('FILE wants a name and a format', line);
+    sheet.files.push({ name, raw: RAW_FORMATS.includes(format.toUpperCase()) });
 }
 
 /** @type {(sheet: Sheet, rest: string, line: number) => void} */

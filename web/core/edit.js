@@ -13,6 +13,7 @@ import { isSound } from './survey.js';
 /** @typedef {import('./lines.js').Left} Left */
 /** @typedef {import('./lines.js').Lines} Lines */
 /** @typedef {{ block: number, offset: number }} Place a user byte */
+/** @typedef {{ place: Place, old: Uint8Array, fresh: Uint8Array }} Change bytes that others take the place of, as many */
 
 /** The most bytes of a patch. The module refuses more. */
 const MOST_REPLACED = 4096;
@@ -44,15 +45,33 @@ export function filledUp(bytes, size, fill) {
  * @param {Uint8Array} fresh as many
  * @returns {Promise<Lines>}
  */
-export async function replaceBytes(calls, image, place, old, fresh) {
-    const sectors = await sectorsOfRange(image, place, old.length);
-    const blocks = Array.from({ length: sectorCount(sectors.length) }, (_, i) => place.block + i);
+export function replaceBytes(calls, image, place, old, fresh) {
+    return replaceEach(calls, image, [{ place, old, fresh }]);
+}
+
+/**
+ * The same for several changes, in the order of their places, of which none meets another.
+ * @param {Calls} calls
+ * @param {DiscImage} image
+ * @param {Change[]} changes
+ * @returns {Promise<Lines>}
+ */
+export async function replaceEach(calls, image, changes) {
+    const { place: first } = changes[0];
+    const { place: last, old: lastOld } = changes[changes.length - 1];
+    const distance = (/** @type {Place} */ { block, offset }) => (block - first.block) * USER_SIZE + offset - first.offset;
+    const sectors = await sectorsOfRange(image, first, distance(last) + lastOld.length);
+    const blocks = Array.from({ length: sectorCount(sectors.length) }, (_, i) => first.block + i);
     const user = joinedUser(sectors);
     assertSound(calls.survey(sectors, 0), blocks);
-    const other = old.findIndex((byte, i) => byte !== user[place.offset + i]);
-    if (other >= 0) throw new Fault(differsText(calls, placeAfter(place, other)));
-    user.set(filledUp(fresh, old.length, null), place.offset);
-    const lines = setLines(place, old, fresh);
+    const lines = new LineList();
+    for (const { place, old, fresh } of changes) {
+        const at = first.offset + distance(place);
+        const other = old.findIndex((byte, i) => byte !== user[at + i]);
+        if (other >= 0) throw new Fault(differsText(calls, placeAfter(place, other)));
+        user.set(filledUp(fresh, old.length, null), at);
+        setLines(lines, place, old, fresh);
+    }
     assertLeads(calls, lines, { blocks, old: sectors, fresh: encodedUser(calls, sectors, user) }, false);
     return lines.lines();
 }
@@ -118,18 +137,17 @@ function assertSound(records, blocks) {
 }
 
 /**
+ * @param {LineList} lines
  * @param {Place} place
  * @param {Uint8Array} old
  * @param {Uint8Array} fresh
  */
-function setLines(place, old, fresh) {
-    const lines = new LineList();
+function setLines(lines, place, old, fresh) {
     for (let done = 0; done < old.length; done += MOST_REPLACED) {
         const { block, offset } = placeAfter(place, done);
         const [from, to] = [old, fresh].map(bytes => bytes.subarray(done, done + MOST_REPLACED));
         lines.set(block, offset, to, from);
     }
-    return lines;
 }
 
 /**

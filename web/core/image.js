@@ -132,8 +132,8 @@ async function countSynced(calls, reader, size) {
 /** @param {Reader} reader */
 async function isSheet(reader) {
     if (reader.size > LARGEST_SHEET) return false;
-    const text = textOfFile(await wholeOf(reader));
-    return /^\s*FILE\s.*\S/im.test(text) && /^\s*TRACK\s+\d/im.test(text);
+    const lines = textOfFile(await wholeOf(reader)).split(/\r\n|\r|\n/).map(line => line.trim());
+    return lines.some(line => /^FILE\s/i.test(line)) && lines.some(line => /^TRACK\s+\d/i.test(line));
 }
 
 /**
@@ -155,26 +155,26 @@ async function sampledBases(calls, reader) {
 }
 
 /**
+ * The block of an image's first sector that more of some Mode 1 sectors say than any other, below 0 if the image begins before block 0;
+ * how many these are; and of how many.
+ * @param {Calls} calls
+ * @param {Reader} reader
+ */
+export async function sampledBase(calls, reader) {
+    const { bases, mode1 } = await sampledBases(calls, reader);
+    const [[base, agreeing]] = [...[...bases].sort(([, a], [, b]) => b - a), [0, 0]];
+    return { base, agreeing, mode1 };
+}
+
+/**
  * The block of an image's first sector: what the addresses of more than half of some Mode 1 sectors agree in, or null if there is none. It
  * is below 0 if the image begins before block 0.
  * @param {Calls} calls
  * @param {Reader} reader
  */
 export async function baseByAddresses(calls, reader) {
-    const { bases, mode1 } = await sampledBases(calls, reader);
-    const [base] = [...bases.keys()].filter(it => 2 * (bases.get(it) || 0) > mode1);
-    return base === undefined ? null : base;
-}
-
-/**
- * The block of an image's first sector if the addresses of all those sectors agree in it, or null.
- * @param {Calls} calls
- * @param {Reader} reader
- */
-export async function baseOfAllAddresses(calls, reader) {
-    const { bases, mode1 } = await sampledBases(calls, reader);
-    const [base] = bases.keys();
-    return mode1 > 0 && bases.get(base) === mode1 ? base : null;
+    const { base, agreeing, mode1 } = await sampledBase(calls, reader);
+    return 2 * agreeing > mode1 ? base : null;
 }
 
 /**

@@ -2,11 +2,11 @@
 
 import { readBytes } from './bytes.js';
 import { Fault } from './faults.js';
-import { entriesOfDirectory, isSelf, recordAt, sharingSkip } from './iso_records.js';
+import { isSelf, recordAt, sharingSkip } from './iso_records.js';
+import { walked } from './iso_walk.js';
 import { SECTOR_SIZE, USER_SIZE, joinedUser, sectorCount } from './sector.js';
 
 /** @typedef {import('./bytes.js').Reader} Reader */
-/** @typedef {import('./iso_records.js').Entry} Entry */
 /**
  * A file, or one extent of a file that has several. `fault` says why its bytes are not just those from its block on, '' if they are.
  * @typedef {{ path: string, block: number, size: number, fault: string }} FileEntry
@@ -23,13 +23,13 @@ const SUPPLEMENTARY = 2;
 const LAST_DESCRIPTOR = 255;
 const ROOT_RECORD = 156;
 const ESCAPES = 88;
-const LARGEST_DIRECTORY = 1 << 24;
+const NUMBER_IN_SET = 124;
 
 /** Why a track has no volume whose files can be listed. */
 export class VolumeFault extends Fault {}
 
 /** The user data of a track, by the block numbers of its volume. */
-class VolumeReader {
+export class VolumeReader {
     /**
      * @param {Reader} reader
      * @param {number} base
@@ -40,6 +40,8 @@ class VolumeReader {
         this.sectors = sectorCount(reader.size);
         /** The number that the volume gives the first sector. */
         this.first = 0;
+        /** How many places were read in which records are continued. */
+        this.areas = 0;
     }
 
     /** @param {number} extent */
@@ -90,10 +92,32 @@ export async function filesOf(reader, base) {
     const { first, own } = await foundRoot(volume, rootOf(primary).extent);
     volume.first = first;
     const skip = await sharingSkip(volume, own);
-    const found = skip === null && joliet !== null ? await walked(volume, rootOf(joliet), true, null)
-        : await walked(volume, rootOf(primary), false, skip);
-    found.files.sort((a, b) => a.block - b.block || Number(a.path > b.path) - Number(a.path < b.path));
-    return found;
+    const number = numberIn(primary);
+    const trees = [{ root: rootOf(primary), tree: { joliet: false, skip, number } }];
+    const other = joliet && recordAt(joliet, ROOT_RECORD);
+    if (other) trees.push({ root: other, tree: { joliet: true, skip: null, number } });
+    if (skip === null) trees.reverse();
+    const found = [];
+    for (const { root, tree } of trees) found.push(await walked(volume, root, tree));
+    const files = joinedFiles(found.map(it => it.files));
+    files.sort((a, b) => a.block - b.block || Number(a.path > b.path) - Number(a.path < b.path));
+    const faults = new Set(found.flatMap(it => it.faults));
+    if (joliet && !other) faults.add("Joliet's volume descriptor has no root directory");
+    return { files, faults: [...faults] };
+}
+
+/** @param {Uint8Array} descriptor */
+function numberIn(descriptor) {
+    return descriptor[NUMBER_IN_SET] + 256 * descriptor[NUMBER_IN_SET + 1];
+}
+
+/**
+ * The files of the first tree, and those of another one whose bytes it does not name.
+ * @param {FileEntry[][]} trees
+ */
+function joinedFiles([files, others = []]) {
+    const known = new Set(files.map(({ block }) => block));
+    return files.concat(others.filter(({ block, size }) => size > 0 && !known.has(block)));
 }
 
 /**
@@ -159,59 +183,4 @@ async function foundRoot(volume, root) {
     if (fitting.length === 0) throw new VolumeFault(`the root directory is not in block ${blocks}`);
     if (fitting.length > 1) throw new VolumeFault(`blocks ${blocks} could both be the root directory`);
     return fitting[0];
-}
-
-/**
- * What all directories of a volume have, the upper ones first.
- * @param {VolumeReader} volume
- * @param {{ extent: number, size: number }} root
- * @param {boolean} joliet
- * @param {number | null} skip as sharingSkip gives it
- */
-async function walked(volume, root, joliet, skip) {
-    /** @type {VolumeFiles} */
-    const found = { files: [], faults: [] };
-    const directories = [{ path: '', ...root }];
-    const met = new Set();
-    for (const directory of directories) {
-        const { path } = directory;
-        const fault = (/** @type {string} */ text) => void found.faults.push(`${path || '/'}: ${text}`);
-        const user = await userOfDirectory(volume, directory, met, fault);
-        for (const entry of await entriesOfDirectory(volume, user, { path, joliet, skip, fault })) {
-            if (entry.kind === 'directory') directories.push(entry);
-            else found.files.push(fileOfEntry(volume, entry));
-        }
-    }
-    return found;
-}
-
-/**
- * The user data of a directory, as far as it can be read. What can't be is said.
- * @param {VolumeReader} volume
- * @param {{ extent: number, size: number }} directory
- * @param {Set<number>} met the extents of those that were met
- * @param {(text: string) => void} fault
- */
-async function userOfDirectory(volume, { extent, size }, met, fault) {
-    const block = volume.blockOf(extent);
-    const wanted = Math.ceil(size / USER_SIZE);
-    const count = size > LARGEST_DIRECTORY ? 0 : volume.available(extent, wanted);
-    if (met.has(extent)) fault(`the directory in block ${block} is also another one`);
-    else if (size > LARGEST_DIRECTORY) fault(`the directory in block ${block} would have ${size} bytes`);
-    else if (count < wanted && count === 0) fault(`the directory is in block ${block}, which the image has not`);
-    else if (count < wanted) fault(`the directory in blocks ${block} to ${block + wanted - 1} goes on after the image's end`);
-    if (met.has(extent) || count === 0) return new Uint8Array(0);
-    met.add(extent);
-    return volume.user(extent, count);
-}
-
-/**
- * @param {VolumeReader} volume
- * @param {Entry} entry
- * @returns {FileEntry}
- */
-function fileOfEntry(volume, { path, extent, size, fault }) {
-    const count = Math.ceil(size / USER_SIZE);
-    const whole = volume.available(extent, count) === count;
-    return { path, block: volume.blockOf(extent), size, fault: fault || (whole ? '' : 'the image has not all of it') };
 }

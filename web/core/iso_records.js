@@ -5,14 +5,19 @@ import { USER_SIZE } from './sector.js';
 import { textOfFile } from './text.js';
 
 /**
- * A directory record: where its extent begins, its bytes, its flags, its name as it stands there, and its System Use field.
- * @typedef {{ extent: number, size: number, flags: number, interleaved: boolean, name: Uint8Array, system: Uint8Array, length: number }}
- *     DirectoryRecord
+ * A directory record: where its extent begins, its bytes, whether both are the same with the most significant byte first, the volume of
+ * the set that it lies on, its flags, its name as it stands there, and its System Use field.
+ * @typedef {{ extent: number, size: number, agrees: boolean, volume: number, flags: number, interleaved: boolean, name: Uint8Array,
+ *     system: Uint8Array, length: number }} DirectoryRecord
  */
 /** @typedef {{ kind: 'file' | 'directory', path: string, extent: number, size: number, fault: string }} Entry */
-/** @typedef {{ user(extent: number, count: number): Promise<Uint8Array>, available(extent: number, count: number): number }} Blocks */
+/**
+ * The sectors of a volume, and how many of those were read in which records are continued.
+ * @typedef {{ user(extent: number, count: number): Promise<Uint8Array>, available(extent: number, count: number): number, areas: number }}
+ *     Blocks
+ */
 /** @typedef {{ ownRecord(extent: number): Promise<DirectoryRecord | null> } & Blocks} Selves */
-/** @typedef {{ path: string, joliet: boolean, skip: number | null, fault: (text: string) => void }} Reading */
+/** @typedef {{ path: string, joliet: boolean, skip: number | null, number: number, fault: (text: string) => void }} Reading */
 
 const SMALLEST_RECORD = 34;
 const NAME = 33;
@@ -30,6 +35,16 @@ function numberAt(bytes, at) {
 }
 
 /**
+ * Whether a number that stands there twice is the same with the most significant byte first. Some writers leave that 0.
+ * @param {Uint8Array} bytes
+ * @param {number} at
+ */
+function agreesAt(bytes, at) {
+    const other = new DataView(bytes.buffer, bytes.byteOffset, bytes.length).getUint32(at + 4, false);
+    return other === 0 || other === numberAt(bytes, at);
+}
+
+/**
  * The record at a place, or null if none can stand there.
  * @param {Uint8Array} bytes
  * @param {number} at
@@ -44,6 +59,8 @@ export function recordAt(bytes, at) {
     return {
         extent: numberAt(record, 2) + record[1],
         size: numberAt(record, 10),
+        agrees: agreesAt(record, 2) && agreesAt(record, 10),
+        volume: record[28] + 256 * record[29],
         flags: record[25],
         interleaved: record[26] > 0 || record[27] > 0,
         name: record.subarray(NAME, end),
@@ -123,6 +140,7 @@ async function systemEntries(blocks, area) {
 async function continuation(blocks, data) {
     const [extent, offset, length] = [numberAt(data, 0), numberAt(data, 8), numberAt(data, 16)];
     if (blocks.available(extent, 1) === 0) return null;
+    blocks.areas += 1;
     return (await blocks.user(extent, 1)).subarray(offset, offset + length);
 }
 
@@ -150,18 +168,15 @@ async function rockRidge(blocks, area) {
  * @param {Uint8Array} user of the whole directory
  * @param {Reading} reading
  */
-export async function entriesOfDirectory(blocks, user, reading) {
-    /** @type {Entry[]} */
-    const entries = [];
+export async function* entriesOfDirectory(blocks, user, reading) {
     let more = false;
     for (const record of recordsOf(user, reading.fault)) {
         if (isSelf(record) || isParent(record)) continue;
         const entry = await entryOf(blocks, record, reading);
         if (entry && more) entry.fault = 'it has several extents';
-        if (entry) entries.push(entry);
+        if (entry) yield entry;
         more = (record.flags & MORE_EXTENTS) !== 0;
     }
-    return entries;
 }
 
 /**
@@ -189,7 +204,7 @@ async function entryOf(blocks, record, reading) {
     if (more && (more.link || more.moved)) return null;
     const path = `${reading.path}/${more && more.name || plainName(record.name, reading.joliet)}`;
     if (more && more.child !== null) return childOf(blocks, more.child, path, reading.fault);
-    const fault = faultOf(record);
+    const fault = faultOf(record, reading.number);
     const { extent, size, flags } = record;
     if ((flags & DIRECTORY) === 0) return { kind: 'file', path, extent, size, fault };
     if (fault) reading.fault(`the directory ${path} is not read: ${fault}`);
@@ -210,8 +225,13 @@ async function childOf(blocks, extent, path, fault) {
     return own && { kind: 'directory', path, extent, size: own.size, fault: '' };
 }
 
-/** @param {DirectoryRecord} record */
-function faultOf({ flags, interleaved }) {
+/**
+ * @param {DirectoryRecord} record
+ * @param {number} number of the volume in its set
+ */
+function faultOf({ flags, interleaved, agrees, volume }, number) {
+    if (!agrees) return 'its numbers in the two byte orders differ';
+    if (volume !== number) return `it lies on volume ${volume} of the set, and this is volume ${number}`;
     if (flags & MORE_EXTENTS) return 'it has several extents';
     if (interleaved) return 'it is interleaved';
     return flags & ASSOCIATED ? 'it belongs to another file of this name' : '';

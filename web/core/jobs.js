@@ -5,9 +5,10 @@ import { diffRange, differRange } from './compare.js';
 import { userRange } from './convert.js';
 import { replaceRange } from './edit.js';
 import { Fault } from './faults.js';
-import { findIn } from './find.js';
+import { linesBetween } from './lines.js';
 import { mergeRange } from './merge.js';
 import { SECTOR_SIZE } from './sector.js';
+import { findIn } from './texts/find.js';
 
 /** @typedef {import('./codes.js').Calls} Calls */
 /** @typedef {import('./bytes.js').Reader} Reader */
@@ -37,8 +38,10 @@ import { SECTOR_SIZE } from './sector.js';
 /** @type {Record<string, Job>} */
 export const JOBS = {
     survey: (calls, [bytes], block) => ({ block, records: calls.survey(bytes, block) }),
+    kinds: (calls, [bytes], block) => ({ block, records: calls.kinds(bytes) }),
     find: (_, [bytes], first, args) => findIn(bytes, first, args),
     diff: (calls, [old, fresh], first) => diffRange(calls, old, fresh, first),
+    lines: (calls, [old, fresh], _, { blocks, how }) => linesBetween(calls, { blocks, old, fresh }, how),
     differ: (calls, [old, fresh], first) => differRange(calls, old, fresh, first),
     merge: (calls, pieces, first, args) => mergeRange(calls, pieces, first, args),
     replace: (calls, [sectors, wanted], first, args) => replaceRange(calls, sectors, wanted, first, args),
@@ -207,6 +210,16 @@ export class Crew {
         } catch (error) {
             return { number: reply.number, fault: /** @type {Error} */ (error) };
         }
+    }
+
+    /**
+     * Does a job on bytes that are at hand, which are given away. Throws an error by the name of what the job throws.
+     * @param {string} job
+     * @param {Uint8Array[]} pieces
+     * @param {Record<string, any>} args
+     */
+    async given(job, pieces, args) {
+        return answerOf(await this.reply({ job, pieces, first: 0, args }));
     }
 
     /**

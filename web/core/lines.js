@@ -5,7 +5,7 @@ import { Fault } from './faults.js';
 import { SECTORS_IN_HAND } from './patch.js';
 import { CONTENT, RECORD, RECORD_SIZE, RESULT, SECTOR_KIND, kindName } from './records.js';
 import { addToRuns, blocksText, runOf } from './runs.js';
-import { SECTOR_SIZE, USER_SIZE, addressIn, addressText, differingSectors, sectorOf, userOf } from './sector.js';
+import { SECTOR_SIZE, addressIn, addressText, asWords, differingSectors, sectorOf, userOf } from './sector.js';
 import { isDamaged } from './survey.js';
 
 /** @typedef {import('./codes.js').Calls} Calls */
@@ -32,8 +32,10 @@ import { isDamaged } from './survey.js';
 /** Bytes that differ are in one patch if at most so many equal ones stand between them: a patch of their own costs more. */
 const JOINED_BYTES = 8;
 
-/** The two digits of each byte. */
-const DIGITS = Uint8Array.from({ length: 512 }, (_, i) => '0123456789ABCDEF'.charCodeAt(i % 2 ? (i >> 1) % 16 : i >> 5));
+const HEX_DIGITS = '0123456789ABCDEF';
+
+/** The two digits of each byte, the first one in the low half. */
+const DIGITS = Uint16Array.from({ length: 256 }, (_, i) => HEX_DIGITS.charCodeAt(i >> 4) | HEX_DIGITS.charCodeAt(i % 16) << 8);
 
 /**
  * Why sectors are left, all for one reason, as a clause.
@@ -74,11 +76,8 @@ export class LineList extends ByteList {
     /** @param {Uint8Array} bytes as digits */
     hex(bytes) {
         const at = this.grow(2 * bytes.length);
-        const { room } = this;
-        for (let i = 0; i < bytes.length; i++) {
-            room[at + 2 * i] = DIGITS[2 * bytes[i]];
-            room[at + 2 * i + 1] = DIGITS[2 * bytes[i] + 1];
-        }
+        const view = new DataView(this.room.buffer, at);
+        for (let i = 0; i < bytes.length; i++) view.setUint16(2 * i, DIGITS[bytes[i]], true);
     }
 
     /**
@@ -144,12 +143,16 @@ export class LineList extends ByteList {
  * @param {Uint8Array} fresh
  */
 function* differingRuns(old, fresh) {
+    const [before, after] = [asWords(old), asWords(fresh)];
     let [from, end] = [0, 0];
-    for (let at = 0; at < USER_SIZE; at++) {
-        if (old[at] === fresh[at]) continue;
-        if (end > 0 && at - end > JOINED_BYTES) yield { from, end };
-        if (end === 0 || at - end > JOINED_BYTES) from = at;
-        end = at + 1;
+    for (let word = 0; word < before.length; word++) {
+        if (before[word] === after[word]) continue;
+        for (let at = 4 * word; at < 4 * word + 4; at++) {
+            if (old[at] === fresh[at]) continue;
+            if (end > 0 && at - end > JOINED_BYTES) yield { from, end };
+            if (end === 0 || at - end > JOINED_BYTES) from = at;
+            end = at + 1;
+        }
     }
     if (end > 0) yield { from, end };
 }

@@ -19,9 +19,9 @@ import { isSound } from './survey.js';
  * What is found in blocks: those whose sectors are taken, by runs that come of one other image each; of these the `doubtful` ones, whose
  * EDC and data are others in the damaged sector; those that are repaired by no image, `elsewhere` if one has a sound sector there with
  * the address of another block; the taken ones in which other images are sound too and differ; and of each other image
- * those in which it is sound and differs from a sound sector, and how many these are.
+ * those in which it is sound and differs from a sound sector, and how many these are; and the `others`, which are Mode 1 in no image.
  * @typedef {{ taken: RunOf[], doubtful: RunOf[], damaged: (Run & { elsewhere: boolean })[], disputed: Run[], differing: Run[][],
- *     different: number[] }} Found
+ *     different: number[], others: Run[] }} Found
  */
 /** @typedef {Found & { sectors: Uint8Array, end: number }} Merged with the sectors that are taken, and the block after the range */
 /**
@@ -67,6 +67,8 @@ export function mergeRange(calls, [old, ...others], first, { shift }) {
             if (candidates.some(it => differingSectors(sector, it.sector).length > 0)) addToRuns(found.disputed, runOf(block));
         } else if ([records, ...otherRecords].some(it => it[at + RECORD.KIND] === SECTOR_KIND.MODE1)) {
             addToRuns(found.damaged, { ...runOf(block), elsewhere: sound.length > 0 });
+        } else {
+            addToRuns(found.others, runOf(block));
         }
     }
     return { ...found, sectors: joinedBytes(sectors), end: first + count };
@@ -127,7 +129,7 @@ function isHome(calls, address, block) {
  */
 function nothingFound(others) {
     const differing = Array.from({ length: others }, () => []);
-    return { taken: [], doubtful: [], damaged: [], disputed: [], differing, different: new Array(others).fill(0) };
+    return { taken: [], doubtful: [], damaged: [], disputed: [], differing, different: new Array(others).fill(0), others: [] };
 }
 
 /**
@@ -191,11 +193,12 @@ function assertSamePart(old, other) {
  * @param {Found} found
  * @param {Merged} answer
  */
-function addAnswer(found, { taken, doubtful, damaged, disputed, differing, different }) {
+function addAnswer(found, { taken, doubtful, damaged, disputed, differing, different, others }) {
     for (const run of taken) addToRuns(found.taken, run);
     for (const run of doubtful) addToRuns(found.doubtful, run);
     for (const run of damaged) addToRuns(found.damaged, run);
     for (const run of disputed) addToRuns(found.disputed, run);
+    for (const run of others) addToRuns(found.others, run);
     differing.forEach((runs, other) => runs.forEach(run => addToRuns(found.differing[other], run)));
     different.forEach((count, other) => { found.different[other] += count; });
 }

@@ -35,6 +35,8 @@ export class ScriptParts {
         /** @type {Uint8Array[]} */
         this.pieces = [];
         this.size = 0;
+        /** How many of these bytes are held. */
+        this.held = 0;
         this.patches = 0;
         this.version = 1;
         this.carry = false;
@@ -46,11 +48,21 @@ export class ScriptParts {
     push({ text, patches, version, carry, left }) {
         if (text.length > 0) this.pieces.push(text);
         this.size += text.length;
+        this.held += text.length;
         this.patches += patches;
         this.version = Math.max(this.version, version);
         this.carry = this.carry || carry;
         for (const run of left) addToRuns(this.left, run);
-        if (this.size > MOST_WRITTEN) throw new Fault(`the script would have more than ${MOST_WRITTEN} bytes: too much differs`);
+        if (this.held > MOST_WRITTEN) throw new Fault(`the script would have more than ${MOST_WRITTEN} bytes: too much differs`);
+    }
+
+    /**
+     * Lines whose text goes elsewhere at once, and is not held.
+     * @param {Lines} lines
+     */
+    count(lines) {
+        this.push({ ...lines, text: new Uint8Array(0) });
+        this.size += lines.text.length;
     }
 
     /**

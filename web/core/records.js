@@ -4,8 +4,8 @@ export const RESULT = Object.freeze({ OK: 0, NOT_MODE1: 1, DAMAGED: 2, OUT_OF_RA
 export const STATUS = Object.freeze({ DONE: 0, FOUND: 1, FAILED: 2 });
 export const SECTOR_KIND = Object.freeze({ NOSYNC: 0, MODE0: 1, MODE1: 2, MODE2: 3, OTHER: 4 });
 export const VERB = Object.freeze({ SET: 0, FILL: 1, REBUILD: 2, ADDRESS: 3 });
-/** What a line of a script has. Greater ones are its errors. */
-export const CONTENT = Object.freeze({ NOTHING: 0, VERSION_1: 1, VERSION_2: 2, PATCH: 3, NO_HEAD: 4 });
+/** What a line of a script has. Its errors are NO_HEAD to NO_VERSION, and greater ones are later versions of the language. */
+export const CONTENT = Object.freeze({ NOTHING: 0, VERSION_1: 1, VERSION_2: 2, PATCH: 3, NO_HEAD: 4, NO_VERSION: 14 });
 
 /** The bytes of a sector's record, and where each member stands. */
 export const RECORD_SIZE = 6;

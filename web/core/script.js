@@ -11,8 +11,15 @@ import { CONTENT } from './records.js';
  * @typedef {{ number: number, block: number, bytes: Uint8Array }} Patch
  */
 
+/** @typedef {{ line: number, base: number }} BaseSaid a comment that says for which base a script is, and its line */
+/** @typedef {{ patches: Patch[], bases: BaseSaid[] }} ReadScript the patches in the order in which they are applied */
+
 /** The most bytes of a script. No call asks for it: who reads a script does. */
 export const MOST_SCRIPT_BYTES = 67108864;
+
+/** A comment that says for which base a script was written. */
+const BASE_COMMENT = /^# base (\d{1,6})\s*$/;
+const LONGEST_BASE_COMMENT = 20;
 
 /** The text is cut into lines when there are so many bytes of it. */
 const TEXT_WINDOW = 1 << 20;
@@ -44,6 +51,8 @@ class ScriptReading {
         this.number = 0;
         /** @type {Patch[]} */
         this.patches = [];
+        /** @type {BaseSaid[]} */
+        this.bases = [];
         this.fault = 0;
     }
 
@@ -81,11 +90,21 @@ class ScriptReading {
         const earlier = this.long ? 0 : this.patches.length;
         const content = this.calls.readLine(this.version, this.number, earlier, from, size);
         if (content === CONTENT.PATCH) this.patches.push({ number: this.number, ...this.calls.patchRead() });
-        else if (content > CONTENT.PATCH) this.fault = content;
+        else if (content >= CONTENT.NO_HEAD && content <= CONTENT.NO_VERSION) this.fault = content;
         else if (content !== CONTENT.NOTHING) this.version = content;
+        else if (size <= LONGEST_BASE_COMMENT) this.readComment(new TextDecoder('latin1').decode(this.calls.held(from, from + size)));
     }
 
-    /** The patches in the order in which they are applied, after the last piece. */
+    /** @param {string} line */
+    readComment(line) {
+        const [, base] = BASE_COMMENT.exec(line) || [];
+        if (base !== undefined) this.bases.push({ line: this.number, base: Number(base) });
+    }
+
+    /**
+     * The script after the last piece.
+     * @returns {ReadScript | Refusal}
+     */
     answer() {
         this.readLines(true);
         if (this.fault === 0 && this.version === 0) {
@@ -93,18 +112,18 @@ class ScriptReading {
             this.fault = CONTENT.NO_HEAD;
         }
         if (this.fault !== 0) return new Refusal('fault', this.calls.faultLine(this.number, this.fault));
-        return this.patches.sort((a, b) => a.block - b.block);
+        return { patches: this.patches.sort((a, b) => a.block - b.block), bases: this.bases };
     }
 }
 
 /**
- * The patches of a script, in the order in which they are applied: by their first block, those of equal blocks by their lines.
+ * A script, with its patches in the order in which they are applied: by their first block, those of equal blocks by their lines.
  * @param {Calls} calls
  * @param {Pieces} pieces
  * @param {boolean} long whether the script may have more bytes and patches than the program takes
- * @returns {Promise<Patch[] | Refusal>}
+ * @returns {Promise<ReadScript | Refusal>}
  */
-export async function patchesOf(calls, pieces, long = false) {
+export async function readScript(calls, pieces, long = false) {
     const reading = new ScriptReading(calls, long);
     let size = 0;
     for await (const piece of pieces) {
@@ -113,4 +132,31 @@ export async function patchesOf(calls, pieces, long = false) {
         reading.push(piece);
     }
     return reading.answer();
+}
+
+/**
+ * The patches of a script.
+ * @param {Calls} calls
+ * @param {Pieces} pieces
+ * @param {boolean} [long]
+ * @returns {Promise<Patch[] | Refusal>}
+ */
+export async function patchesOf(calls, pieces, long) {
+    const script = await readScript(calls, pieces, long);
+    return script instanceof Refusal ? script : script.patches;
+}
+
+/** @param {number} base for which a script is written */
+export function baseComment(base) {
+    return `# base ${base}\n`;
+}
+
+/**
+ * Why a script is not for an image that begins with a block, '' if it does not say another base.
+ * @param {BaseSaid[]} bases
+ * @param {number} base
+ */
+export function baseFault(bases, base) {
+    const other = bases.find(said => said.base !== base);
+    return other ? `line ${other.line} of the script says base ${other.base}, and the image begins with block ${base} here` : '';
 }

@@ -1,17 +1,34 @@
 // The bytes round a hit, in hex and as text.
 
 import { USER_SIZE } from '../core/sector.js';
+import { bytesInside, charactersFrom } from '../core/texts/boundaries.js';
+import { bytesAround } from '../core/texts/context.js';
 import { button, element, fill, hexOf } from './dom.js';
-import { charactersOf, chosenEncoding, columnLabel, encodingLabel } from './encodings.js';
+import { chosenEncoding, columnLabel, encodingLabel } from './encodings.js';
 
 /** @typedef {import('./state.js').App} App */
-/** @typedef {import('../core/find.js').Hit} Hit */
-/** The user data of neighbouring blocks, of which `first` is the first; the hit begins at a place of it. */
-/** @typedef {{ user: Uint8Array, at: number, first: number }} Around */
+/** @typedef {import('./state.js').Image} Image */
+/** @typedef {import('../core/texts/find.js').Hit} Hit */
+/** User data from the first byte of a block on; the hit begins at a place of it. */
+/** @typedef {{ bytes: Uint8Array, at: number }} Around */
 
 const NARROW_CARD = 560;
 const ROWS_BEFORE = 4;
 const ROWS = 9;
+
+/** The bytes before a hit and after it that the rows may show. */
+const BEFORE = 64;
+const AFTER = 160;
+
+/**
+ * What the card shows of a hit.
+ * @param {Image} image
+ * @param {Hit} hit
+ * @returns {Promise<Around>}
+ */
+export function readAround(image, hit) {
+    return bytesAround(image, hit, hit.offset + (hit.offset < BEFORE ? USER_SIZE : 0), hit.size + AFTER);
+}
 
 /** The card. It is drawn anew if its width fits rows of another length. */
 export class AroundCard {
@@ -64,7 +81,7 @@ export class AroundCard {
  * @param {Around} around
  * @param {number} columns
  */
-function rowsOf(app, hit, { user, at }, columns) {
+function rowsOf(app, hit, { bytes: user, at }, columns) {
     const from = Math.max(Math.floor(at / columns) - ROWS_BEFORE, 0) * columns;
     const to = Math.min(from + ROWS * columns, user.length);
     const texts = textsOf(app, user, from, to);
@@ -99,8 +116,9 @@ function byteBox(byte, hit) {
  */
 function textsOf(app, user, from, to) {
     const texts = Array.from({ length: to - from }, () => '');
-    for (const { at, text } of charactersOf(chosenEncoding(app), user.subarray(from, to), app.tables.has(app.encoding))) {
-        texts[at] = text === '' || /[\p{Cc}\uFFFD]/u.test(text) ? '·' : text;
+    const encoding = chosenEncoding(app);
+    for (const { at, text } of charactersFrom(encoding, user.subarray(0, to), from + bytesInside(encoding, user, from))) {
+        texts[at - from] = /[\p{Cc}\uFFFD]/u.test(text) ? '·' : text;
     }
     return texts;
 }

@@ -2,8 +2,10 @@
 
 import { RESULT } from '../core/records.js';
 import { announce, button, countOf, counted, element, fill, keepFocus, setDisabled, term } from './dom.js';
-import { WorkRefused, checkWork } from './patch_job.js';
+import { nameOf } from './names.js';
+import { checkWork } from './patch_job.js';
 import { jobBar } from './progress.js';
+import { WorkRefused } from './refused.js';
 import { isCancelled, messageOf, notice } from './say.js';
 import { SaveCard } from './save_card.js';
 
@@ -96,7 +98,8 @@ export class CheckCard {
     outcomes() {
         const { lines } = this.owner;
         if (this.patched === null) {
-            return [element('p', {}, lines.patches === 0 ? 'The script has no patch yet.' : lines.patches === 1
+            return [element('p', {}, lines.long ? 'Check says which patches fit this image. Nothing is changed.'
+                : lines.patches === 0 ? 'The script has no patch yet.' : lines.patches === 1
                 ? 'Check says whether the patch fits this image. Nothing is changed.'
                 : `Check says which of the ${counted(lines.patches)} patches fit this image. Nothing is changed.`)];
         }
@@ -121,7 +124,7 @@ export class CheckCard {
         const applied = this.patched ? this.patched.outcomes.filter(it => it.result === RESULT.OK).length : -1;
         const name = this.app.image ? this.app.image.name : '';
         const fitting = applied < 0 ? '' : ` with the ${countOf(applied, 'patch that fits', 'patches that fit')}`;
-        return [`Saves a new image${fitting}. `, element('b', {}, name),
+        return [`Saves a new image${fitting}. `, element('b', {}, nameOf(name)),
             ' stays as it is.'];
     }
 

@@ -11,6 +11,8 @@ import { hexOf } from './dom.js';
 
 const MOST_WORKERS = 8;
 const HASH_STEP = 1 << 22;
+/** So many milliseconds after Cancel a worker that still works on a range is ended. */
+const MOMENT = 1000;
 
 /** A worker, as the core's crew wants it. */
 class WorkerHand {
@@ -19,6 +21,8 @@ class WorkerHand {
         this.parts = parts;
         /** @type {Worker | null} */
         this.worker = null;
+        /** @type {Map<number, Message>} the ranges that the worker has, by their numbers */
+        this.held = new Map();
         /** @type {(reply: Reply) => void} */
         this.onreply = () => {};
         /** @type {(error: Error) => void} */
@@ -30,18 +34,26 @@ class WorkerHand {
      * @param {ArrayBuffer[]} transfer
      */
     post(message, transfer) {
-        if (this.worker === null) {
-            this.worker = startedWorker(this.parts, event => this.onreply(event.data), error => this.onfault(error));
-        }
+        if (this.worker === null) this.worker = startedWorker(this.parts, event => this.heard(event.data), error => this.onfault(error));
         this.worker.postMessage(message, transfer);
+        this.held.set(message.number, message);
     }
 
-    /** Ends the worker. What is posted next goes to a new one. */
+    /** @param {Reply} reply */
+    heard(reply) {
+        this.held.delete(reply.number);
+        this.onreply(reply);
+    }
+
+    /** Ends the worker, and returns what it had. What is posted next goes to a new one. */
     end() {
-        if (this.worker === null) return;
+        const had = [...this.held.values()];
+        this.held.clear();
+        if (this.worker === null) return had;
         this.worker.onmessage = this.worker.onerror = null;
         this.worker.terminate();
         this.worker = null;
+        return had;
     }
 }
 
@@ -68,6 +80,45 @@ class ReadingCrew extends Crew {
     constructor(hands) {
         super(hands, true);
         this.hands = hands;
+        this.shared = 0;
+    }
+
+    /** @type {Crew['share']} what Cancel ends does not wait for a worker that a stranger's table or text keeps busy */
+    async share(job, readers, args, how, take) {
+        const [own, signal] = [++this.shared, /** @type {AbortSignal | undefined} */ (how.signal)];
+        const stop = () => { setTimeout(() => this.endShared(own), MOMENT); };
+        if (signal && signal.addEventListener) signal.addEventListener('abort', stop, { once: true });
+        try {
+            return await super.share(job, readers, { ...args, own }, how, take);
+        } finally {
+            if (signal && signal.removeEventListener && !signal.aborted) signal.removeEventListener('abort', stop);
+        }
+    }
+
+    /**
+     * Ends the workers that have ranges of a job. What they have of other jobs goes to new ones.
+     * @param {number} own the job's number
+     */
+    endShared(own) {
+        for (const hand of this.hands) {
+            if (![...hand.held.values()].some(({ args }) => args.own === own)) continue;
+            for (const message of hand.end()) {
+                if (message.args.own === own) this.settle(hand, { number: message.number, fault: new JobAborted() });
+                else this.postAgain(hand, message);
+            }
+        }
+    }
+
+    /**
+     * @param {WorkerHand} hand
+     * @param {Message} message whose bytes may be given away
+     */
+    postAgain(hand, message) {
+        try {
+            hand.post(message, []);
+        } catch (error) {
+            this.settle(hand, { number: message.number, fault: /** @type {Error} */ (error) });
+        }
     }
 
     /** @type {Crew['fail']} the jobs that are under way end, and the next ones get new workers */

@@ -3,6 +3,7 @@
 import { SECTOR_SIZE } from '../core/sector.js';
 import { button, byId, countOf, counted, element, fill, keepFocus, redraw, renew, term } from './dom.js';
 import { MARK } from './marks.js';
+import { nameOf, seen, shownName } from './names.js';
 import { imageOfTrack } from './open.js';
 import { otherBase, placesOf } from './places.js';
 import { copyText } from './say.js';
@@ -40,7 +41,7 @@ export function mountDiscLine(app) {
     const soon = () => { drawn.waiting = drawn.waiting || requestAnimationFrame(draw); };
     for (const name of /** @type {const} */ (['survey', 'surveyed', 'panel'])) app.on(name, soon);
     app.on('image', () => {
-        document.title = app.image === null ? 'cdpatch' : `${app.image.name}: cdpatch`;
+        document.title = app.image === null ? 'cdpatch' : `cdpatch: ${shownName(app.image.name)}`;
         Object.assign(drawn, { hashed: 0, changing: false, fresh: true });
         soon();
     });
@@ -85,7 +86,7 @@ function facts(app, image, drawn) {
         hash.className = 'hash';
         own.push(hash);
     }
-    return [element('div', {}, element('p', { class: 'name' }, image.name), ...lineParts(app, image),
+    return [element('div', {}, element('p', { class: 'name' }, nameOf(image.name)), ...lineParts(app, image),
         panel === 'disc' && element('p', { class: 'small quiet' }, 'SHA-1 ', ...shaOf(image, drawn, 40))), element('dl', {}, ...own)];
 }
 
@@ -97,7 +98,7 @@ function facts(app, image, drawn) {
 function lineParts(app, image) {
     const tail = image.tail === 0 ? 'no tail' : `a tail of ${countOf(image.tail, 'byte')}`;
     const parts = `${counted(image.reader.size)} bytes · ${countOf(image.sectors, 'sector')} · ${tail}`;
-    const from = image.from === '' ? [] : [' · from ', element('span', { class: 'mono' }, image.from)];
+    const from = image.from === '' ? [] : [' · from ', element('span', { class: 'mono' }, nameOf(image.from))];
     const tracks = image.disc.tracks.filter(track => track.image !== null);
     return [element('p', { class: 'small quiet num' }, parts, ...from), tracks.length > 1 && trackChoice(app, image)];
 }
@@ -137,7 +138,7 @@ function shaOf(image, drawn, length) {
     const { sha1, crc32 } = image;
     const [looks, shown, copies] = sha1 === '' ? ['quiet sha-wait', shaWaits(image, drawn, length), ' unseen']
         : ['sha1', length < sha1.length ? `${sha1.slice(0, length)}…` : sha1, ''];
-    const all = `${image.name}\nsize ${image.reader.size}\nCRC-32 ${crc32}\nSHA-1 ${sha1}\n`;
+    const all = `${seen(image.name)}\nsize ${image.reader.size}\nCRC-32 ${crc32}\nSHA-1 ${sha1}\n`;
     return [element('span', { class: `mono ${looks}` }, shown), ' ',
         button(`slim bare tiny${copies}`, () => copyText(all), 'Copy all hashes')];
 }

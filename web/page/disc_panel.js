@@ -5,6 +5,7 @@ import { button, element, fill } from './dom.js';
 import { Findings } from './findings.js';
 import { Legend } from './legend.js';
 import { DiscMap } from './map.js';
+import { shownName } from './names.js';
 import { SecondCard } from './second_card.js';
 import { SectorCard } from './sector_card.js';
 import { addressOf, sectorWords } from './words.js';
@@ -128,7 +129,7 @@ function spokenOf(app, sector) {
  */
 function fileWords({ files }, block) {
     const [file] = files === null ? [] : filesAt(files.files, block, 0);
-    return file ? `file ${file.path}` : '';
+    return file ? `file ${shownName(file.path)}` : '';
 }
 
 /**

@@ -1,17 +1,12 @@
-// The encodings that can be chosen, and bytes as the characters that they begin.
+// The encodings that can be chosen.
 
-import { ENCODINGS, encodingOf, tableOf } from '../core/text.js';
+import { ENCODINGS, USUAL_ENCODING, encodingOf, tableOf } from '../core/text.js';
 import { element, fill } from './dom.js';
+import { nameOf, shownName } from './names.js';
 import { messageOf, notice } from './say.js';
 
 /** @typedef {import('./state.js').App} App */
-/** @typedef {import('../core/text.js').Encoding} Encoding */
-/** @typedef {{ at: number, size: number, text: string }} Character `text` is '' if the byte begins none */
-
-/** @type {Record<string, string>} */
-const ENCODING_LABELS = { 'CP932': 'Shift-JIS (CP932)', 'hex': 'Bytes in hex' };
-
-const LONGEST = 8;
+/** @typedef {import('../core/texts/encoding.js').Encoding} Encoding */
 
 /**
  * The chosen encoding.
@@ -25,11 +20,12 @@ export function chosenEncoding({ encoding, tables }) {
 }
 
 /**
- * The name of an encoding for people.
+ * The name of an encoding, or of a table, for people.
  * @param {string} name
  */
 export function encodingLabel(name) {
-    return ENCODING_LABELS[name] || name;
+    const known = encodingOf(name);
+    return known === null ? shownName(name) : known.label;
 }
 
 /**
@@ -49,8 +45,8 @@ export function columnLabel(label, columns) {
  */
 export function bindEncodings(app, choice, without) {
     const draw = () => {
-        const names = [...ENCODINGS.filter(name => !without.includes(name)), ...app.tables.keys()];
-        names.sort((a, b) => Number(b === 'CP932') - Number(a === 'CP932'));
+        const names = [...ENCODINGS.map(({ name }) => name).filter(name => !without.includes(name)), ...app.tables.keys()];
+        names.sort((a, b) => Number(b === USUAL_ENCODING.name) - Number(a === USUAL_ENCODING.name));
         fill(choice, ...names.map(name => element('option', { value: name, selected: name === app.encoding }, encodingLabel(name))));
     };
     draw();
@@ -71,57 +67,8 @@ export async function takeTable(app, file) {
         app.tables.set(file.name, tableOf(new Uint8Array(await file.arrayBuffer())));
         app.encoding = file.name;
         app.emit('encoding');
-        return notice('good', `${file.name} is loaded.`, 'It is the encoding now, here and where bytes are shown as text.');
+        return notice('good', ['Loaded: ', nameOf(file.name)], 'It is the encoding now, here and where bytes are shown as text.');
     } catch (error) {
-        return notice('bad', `${file.name} is no table that can be read.`, messageOf(error));
+        return notice('bad', ['Not a table that can be read: ', nameOf(file.name)], messageOf(error));
     }
-}
-
-/**
- * The characters of bytes, one after the other.
- * @param {Encoding} encoding
- * @param {Uint8Array} bytes
- * @param {boolean} table whether it is a game's own table
- * @returns {Character[]}
- */
-export function charactersOf(encoding, bytes, table) {
-    const characters = [];
-    for (let at = 0; at < bytes.length;) {
-        const size = table ? tableSize(encoding, bytes, at) : characterSize(encoding, bytes, at);
-        const text = size === 0 ? '' : encoding.text(bytes.subarray(at, at + size));
-        characters.push({ at, size: Math.max(size, 1), text });
-        at += Math.max(size, 1);
-    }
-    return characters;
-}
-
-/**
- * How many bytes the character at a place has, 0 if none begins there.
- * @param {Encoding} encoding
- * @param {Uint8Array} bytes
- * @param {number} at
- */
-function characterSize(encoding, bytes, at) {
-    for (let size = 1; size <= 4 && at + size <= bytes.length; size++) {
-        const text = encoding.text(bytes.subarray(at, at + size));
-        if (text !== '' && !text.includes('\uFFFD')) return size;
-    }
-    return 0;
-}
-
-/**
- * The same for a table, whose keys may begin other keys: the shortest part after which the rest is read as if it stood alone.
- * @param {Encoding} encoding
- * @param {Uint8Array} bytes
- * @param {number} at
- */
-function tableSize(encoding, bytes, at) {
-    const most = Math.min(LONGEST, bytes.length - at);
-    const whole = encoding.text(bytes.subarray(at, at + most));
-    for (let size = 1; size <= most; size++) {
-        const text = encoding.text(bytes.subarray(at, at + size));
-        if (text.includes('\uFFFD')) continue;
-        if (text + encoding.text(bytes.subarray(at + size, at + most)) === whole) return size;
-    }
-    return 0;
 }

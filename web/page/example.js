@@ -1,7 +1,8 @@
 // An example disc, for who has none at hand: 300 sectors with a small volume, a Japanese text, a scratch and some audio.
 
 import { SECTOR_SIZE, USER_SIZE } from '../core/sector.js';
-import { encodeText, encodingOf } from '../core/text.js';
+import { CP932 } from '../core/texts/cp932.js';
+import { encodeText } from '../core/texts/encoding.js';
 
 /** @typedef {import('../core/codes.js').Calls} Calls */
 
@@ -81,10 +82,8 @@ function userOfExample(block) {
  * @param {number} block
  */
 function fillText(user, block) {
-    const encoding = encodingOf('CP932');
-    if (encoding === null) return;
     for (let at = 24, i = block; at < 1700; i++) {
-        const bytes = encodeText(encoding, TEXT[i % TEXT.length]);
+        const bytes = encodeText(CP932, TEXT[i % TEXT.length]);
         user.set([i % 9 + 1, bytes.length], at - 2);
         user.set(bytes, at);
         at += bytes.length + 3;

@@ -2,8 +2,9 @@
 
 import { CONTENT } from '../core/records.js';
 import { filesAt } from '../core/iso.js';
-import { encodingOf } from '../core/text.js';
 import { element, fill, term } from './dom.js';
+import { chosenEncoding } from './encodings.js';
+import { shownPaths } from './names.js';
 import { HEAD_IN_WORDS, helpOfFault, patchInWords } from './script_words.js';
 
 /** @typedef {import('./state.js').App} App */
@@ -38,8 +39,8 @@ function meaningOf(app, lines, i) {
         return [`${HEAD_IN_WORDS} `, element('span', { class: 'mono' }, 'set 4711 26 5374617274 was 8358835E81'), element('br'),
             ...withTerms('which writes 5 bytes at [offset] 26 of [block] 4711, if the old ones are there.')];
     }
-    const paths = app.files ? filesAt(app.files.files, patch.block, patch.offset).map(file => file.path) : [];
-    return [...withTerms(patchInWords(patch, paths.join(' and '))), pairOf(app, patch)];
+    const files = app.files ? filesAt(app.files.files, patch.block, patch.offset) : [];
+    return [...withTerms(patchInWords(patch, shownPaths(files, ' and '))), pairOf(app, patch)];
 }
 
 /**
@@ -57,8 +58,8 @@ function withTerms(text) {
  * @param {{ fresh: Uint8Array, old: Uint8Array | null }} patch
  */
 function pairOf(app, { fresh, old }) {
-    const encoding = app.tables.get(app.encoding) || encodingOf(app.encoding);
-    if (fresh.length === 0 || encoding === null) return null;
+    if (fresh.length === 0) return null;
+    const encoding = chosenEncoding(app);
     const row = (/** @type {string} */ name, /** @type {Uint8Array} */ bytes) => [element('span', { class: 'quiet' }, name),
         element('span', { class: 'mono' }, visible(encoding.text(bytes.subarray(0, MOST_SHOWN))))];
     return element('div', { class: 'pair' }, ...row('new', fresh), ...old ? row('old', old) : []);

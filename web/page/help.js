@@ -1,7 +1,10 @@
 // The notes that the bar and the foot open: About, what is proved, the keys, and the words.
 
-import { byId, element, fill } from './dom.js';
+import { byId, element, fill, hashParts } from './dom.js';
+import { pageSource } from './own_text.js';
 import { inflatedText } from './parts.js';
+import { sha256Of } from './releases.js';
+import { messageOf } from './say.js';
 
 /** @typedef {import('./state.js').App} App */
 /** @typedef {import('./dom.js').Child} Child */
@@ -37,7 +40,13 @@ export function mountHelp(app) {
     fill(byId('about'), element('b', {}, `cdpatch ${number}`), ...paragraphs(
         'This page is one file. It has no connection, sends nothing, and works offline: save it where you like.',
         'Tried in Chromium 156, Firefox ESR 153 and WebKitGTK 2.50, the engine of Safari. Chrome and Edge write a patched image straight ' +
-        'to the file that you choose; the others give it to their downloads.'), notices());
+        'to the file that you choose; the others give it to their downloads.',
+        ...madeWith(app.parts.made)), ownHash(app), notices());
+}
+
+/** @param {string[]} tools and their versions */
+function madeWith(tools) {
+    return tools.length === 0 ? [] : [`Made with ${tools.join(', ')}. Of the same sources these make the same bytes.`];
 }
 
 /** @param {...string} texts */
@@ -62,6 +71,34 @@ function wordRows() {
         const [name, text] = note.children;
         return [element('dt', {}, element('b', {}, name.textContent)), element('dd', {}, text.textContent)];
     });
+}
+
+/**
+ * The SHA-256 of this page, which is calculated when About is opened.
+ * @param {App} app
+ */
+function ownHash(app) {
+    const digits = element('span', { class: 'mono small', id: 'page-sha256' });
+    byId('about').addEventListener('toggle', async () => {
+        if (digits.textContent !== '') return;
+        digits.textContent = '…';
+        fill(digits, ...await ownDigits(app));
+    });
+    return element('p', {}, 'SHA-256 of this page, without the patch of a patcher: ', digits, element('br'),
+        'The page says it of itself, and a changed page can say anything. To be sure, have another program calculate that of the file.');
+}
+
+/**
+ * @param {App} app
+ * @returns {Promise<Child[]>}
+ */
+async function ownDigits({ calls }) {
+    try {
+        const sha256 = await sha256Of(new TextEncoder().encode(pageSource(calls)));
+        return sha256 === '' ? ['not known, for browsers calculate it only for a page from a disk or over https.'] : hashParts(sha256);
+    } catch (error) {
+        return [messageOf(error)];
+    }
 }
 
 /** The notices of the crates that the module is made of. */

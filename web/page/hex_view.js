@@ -1,16 +1,17 @@
 // The bytes of a sector, in hex and as text, with the strip of the whole sector beside them.
 
 import { SECTOR_SIZE, USER_OFFSET, USER_SIZE } from '../core/sector.js';
+import { charactersFrom } from '../core/texts/boundaries.js';
 import { element, fill, styleValue } from './dom.js';
-import { charactersOf, columnLabel } from './encodings.js';
+import { columnLabel } from './encodings.js';
 
-/** @typedef {import('../core/text.js').Encoding} Encoding */
+/** @typedef {import('../core/texts/encoding.js').Encoding} Encoding */
 /** @typedef {{ name: string, label: string, from: number, to: number }} Field */
 /**
  * What is shown: the bytes, the fields that they lie in, those that are outlined, those that the script has changed, and those of a
  * second image, or null.
  * @typedef {{ block: number, bytes: Uint8Array, old: Uint8Array, other: Uint8Array | null, mode1: boolean, fields: Field[],
- *     crossings: Set<number>, encoding: Encoding, label: string, table: boolean }} Shown
+ *     crossings: Set<number>, encoding: Encoding, label: string }} Shown
  */
 
 /** The byte after the user data. */
@@ -238,14 +239,14 @@ export function digitsOf(byte) {
  * @param {Shown} shown
  * @returns {(Node | string)[]}
  */
-function textCells({ bytes, mode1, crossings, encoding, table }) {
+function textCells({ bytes, mode1, crossings, encoding }) {
     /** @type {(Node | string)[]} */
     const cells = new Array(SECTOR_SIZE).fill('');
     const stops = mode1 ? [0, USER_OFFSET, USER_END, SECTOR_SIZE] : [0, SECTOR_SIZE];
     for (let part = 0; part + 1 < stops.length; part++) {
-        for (const { at, size, text } of charactersOf(encoding, bytes.subarray(stops[part], stops[part + 1]), table)) {
+        for (const { at, size, text } of charactersFrom(encoding, bytes.subarray(stops[part], stops[part + 1]))) {
             const place = stops[part] + at;
-            const shown = text === '' || /^[\p{C}\p{Z}]*$/u.test(text) && text !== ' ' && text !== '\u3000' ? null : text;
+            const shown = /^[\p{C}\p{Z}\uFFFD]*$/u.test(text) && text !== ' ' && text !== '\u3000' ? null : text;
             const plain = shown === null ? element('em', {}, '·') : shown;
             cells[place] = crossings.has(place) ? element('u', {}, plain) : plain;
             for (let i = 1; i < size && shown === null; i++) cells[place + i] = element('em', {}, '·');

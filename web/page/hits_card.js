@@ -1,21 +1,32 @@
 // The table of hits, with the file and what stands round each.
 
-import { filesAt } from '../core/iso.js';
+import { contextOf, filesWith } from '../core/texts/context.js';
 import { button, counted, element, fill, redraw, term } from './dom.js';
 import { chosenEncoding } from './encodings.js';
-import { Places, contextOf, userAround } from './hits.js';
+import { Places } from './hits.js';
+import { shownPaths } from './names.js';
 import { copyText } from './say.js';
 
 /** @typedef {import('./state.js').App} App */
 /** @typedef {import('./state.js').Image} Image */
-/** @typedef {import('../core/find.js').Hit} Hit */
-/** @typedef {import('./hits.js').Context} Context */
-/** @typedef {import('../core/text.js').Encoding} Encoding */
+/** @typedef {import('../core/texts/context.js').Context} Context */
+/** @typedef {import('../core/texts/encoding.js').Encoding} Encoding */
+/** @typedef {import('../core/texts/find.js').Hit} Hit */
 /** @typedef {import('./dom.js').Child} Child */
 /** What a search has found: all hits are counted, `hits` are those that are kept. */
 /** @typedef {{ text: string, encoding: Encoding, count: number, hits: Hit[], seconds: number }} Search */
 
 const SHOWN = 200;
+
+/** The characters that are shown before a hit and after it, and the bytes that are read for these. */
+const BEFORE = 14;
+const AFTER = 24;
+const BYTES_AFTER = 48;
+
+/** @param {string[]} characters */
+function shownText(characters) {
+    return characters.map(text => /[\p{Cc}\uFFFD]/u.test(text) ? '·' : text).join('');
+}
 
 /** The card with the hits. */
 export class HitsCard {
@@ -85,15 +96,15 @@ export class HitsCard {
      */
     row(hit, i, line) {
         const { app } = this;
-        const paths = app.files ? filesAt(app.files.files, hit.block, hit.offset).map(file => file.path) : [];
+        const files = app.files ? filesWith(app.files.files, hit) : [];
         const tags = [line > 0 && element('span', { class: 'tag good' }, `in the script, line ${line}`),
             hit.offset + hit.size > 2048 && element('span', { class: 'tag' }, 'over a border of blocks'),
-            app.files !== null && paths.length === 0 && element('span', { class: 'tag' }, 'in no file')];
+            app.files !== null && files.length === 0 && element('span', { class: 'tag' }, 'in no file')];
         const place = element('td', { class: 'wide' }, ...this.context(i), ...tags);
         const choose = button('plain', () => this.choose(i), hit.block, element('span', { class: 'hide' }, `, hit ${i + 1}`));
         const made = element('tr', { class: i === this.chosen ? 'on' : '', click: () => this.choose(i) },
             element('td', { class: 'n', 'data-l': 'block' }, choose), element('td', { class: 'n', 'data-l': 'offset' }, hit.offset),
-            element('td', { class: 'mono small' }, paths.join(' ') || '–'), place);
+            element('td', { class: 'mono small' }, element('bdi', {}, shownPaths(files, ' ') || '–')), place);
         if (i === this.chosen) made.setAttribute('aria-current', 'true');
         return made;
     }
@@ -105,9 +116,9 @@ export class HitsCard {
     context(i) {
         const context = this.contexts.get(i);
         if (context === undefined) return [element('span', { class: 'ctx' }, '…')];
-        const { before, hit, after, inside } = context;
-        return [element('span', { class: 'ctx' }, element('em', {}, before.slice(-14)), element('mark', {}, hit), element('em', {}, after)),
-            inside && element('span', { class: 'tag warn' }, 'may begin inside a character')];
+        const { before, hit, after, doubt } = context;
+        return [element('span', { class: 'ctx' }, element('em', {}, shownText(before.slice(-BEFORE))), element('mark', {}, hit),
+            element('em', {}, shownText(after.slice(0, AFTER)))), doubt !== '' && element('span', { class: 'tag warn' }, doubt)];
     }
 
     /**
@@ -119,10 +130,10 @@ export class HitsCard {
         const { image } = app;
         for (let i = 0; i < Math.min(this.shown, search.hits.length) && image !== null; i++) {
             if (this.contexts.has(i)) continue;
-            const hit = search.hits[i];
-            const { user, at } = await userAround(image, hit, 96, 48);
-            if (this.search !== search) return;
-            this.contexts.set(i, contextOf(chosenEncoding(app), app.tables.has(app.encoding), user, at, hit.size));
+            const encoding = chosenEncoding(app);
+            const context = await contextOf(image, encoding, search.hits[i], BYTES_AFTER);
+            if (this.search !== search || encoding !== chosenEncoding(app)) return;
+            this.contexts.set(i, context);
             const row = this.body.rows[i];
             const cell = row && row.cells[3];
             const waiting = cell && cell.querySelector('.ctx');

@@ -4,7 +4,7 @@ import { Calls } from '../core/codes.js';
 import { crewOf } from './crew.js';
 import { mountDiscLine } from './disc_line.js';
 import { mountDisc } from './disc_panel.js';
-import { byId } from './dom.js';
+import { byId, element, fill } from './dom.js';
 import { mountFrame } from './frame.js';
 import { mountHelp } from './help.js';
 import { mountOpening } from './open.js';
@@ -23,6 +23,7 @@ import { mountText } from './text_panel.js';
  * @param {Promise<Parts>} awaited
  */
 export async function startPage(awaited) {
+    if (window.top !== window) return refuseFrame();
     const parts = await awaited;
     const app = new App(new Calls(parts.module), crewOf(parts), parts);
     mountFrame(app);
@@ -40,6 +41,12 @@ export async function startPage(awaited) {
     byId('open-files').focus();
     await mountPatchers(app);
     return app;
+}
+
+/** Another page could lie over this one, and have its buttons pressed by a user who does not see them. */
+function refuseFrame() {
+    fill(byId('not-started'), element('b', {}, 'cdpatch does not start inside another page.'), 'Open the file cdpatch.html itself.');
+    return null;
 }
 
 if (typeof JOINED !== 'undefined') startPage(joinedParts());

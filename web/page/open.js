@@ -1,16 +1,17 @@
 // Opening files: by the button, or dropped on the page. What each file is decides what becomes of it.
 
 import { readBytes } from '../core/bytes.js';
-import { DiscFault, dataTrack, openDisc } from '../core/disc.js';
+import { DiscFault, MissingFiles, dataTrack, openDisc } from '../core/disc.js';
 import { natureOf } from '../core/image.js';
 import { CONTENT } from '../core/records.js';
 import { MOST_SCRIPT_BYTES } from '../core/script.js';
 import { MOST_SECTORS, SECTOR_SIZE, imageTooLong, sectorCount } from '../core/sector.js';
 import { textOfFile } from '../core/text.js';
-import { byId, counted } from './dom.js';
+import { byId, counted, element } from './dom.js';
 import { exampleFile } from './example.js';
+import { nameOf, namesOf } from './names.js';
 import { fileReader } from './reading.js';
-import { clearNotices, copyable, showFailure, showNotice } from './say.js';
+import { clearNotices, copyable, messageParts, showFailure, showNotice } from './say.js';
 import { readImage } from './survey_image.js';
 
 /** @typedef {import('../core/disc.js').Disc} Disc */
@@ -88,7 +89,7 @@ async function isTaken(app, file) {
  * @param {App} app
  * @param {Uint8Array} text
  */
-function isScript({ calls }, text) {
+export function isScript({ calls }, text) {
     calls.hold(text);
     let content = /** @type {number} */ (CONTENT.NOTHING);
     for (let from = 0, number = 1; content === CONTENT.NOTHING; number += 1) {
@@ -111,7 +112,7 @@ async function openImages(app, files) {
     if (different < names.length) throw new DiscFault('Two of these files have one name. Open one of them.');
     const two = files.length === 2 && (await Promise.all(files.map(file => isRaw(app, file)))).every(it => it);
     if (two && app.image !== null) {
-        throw new DiscFault(`${app.image.name} is open already. Open one more, ${names.join(' or ')}, to compare it.`);
+        throw new DiscFault(`An image is open already: ${app.image.name}. Open one more, ${names.join(' or ')}, to compare it.`);
     }
     const images = [];
     for (const group of two ? [[files[0]], [files[1]]] : [files]) images.push(await imageOf(app, group));
@@ -138,7 +139,8 @@ function sayLeftOut(files, image) {
     const taken = [image.from, ...image.disc.files.map(({ name }) => name)];
     const names = files.map(file => file.name).filter(name => !taken.includes(name));
     if (names.length === 0) return;
-    showNotice('warn', `Not opened: ${names.join(', ')}.`, `${image.from} does not name ${names.length === 1 ? 'it' : 'them'}.`);
+    showNotice('warn', ['Not opened: ', ...namesOf(names), '.'], 'The cue sheet does not name ', names.length === 1 ? 'it: ' : 'them: ',
+        nameOf(image.from), '.');
 }
 
 /**
@@ -170,7 +172,7 @@ async function imageOf(app, files) {
 export function imageOfTrack(disc, sheet, number, renamed = new Map()) {
     const { image, part, number: own } = (number === null && audioTrack(disc)) || dataTrack(disc, number);
     if (imageTooLong(image.reader.size)) {
-        throw new DiscFault(`${image.name} is too long. An image has at most ${counted(MOST_SECTORS)} sectors.`);
+        throw new DiscFault(`An image has at most ${counted(MOST_SECTORS)} sectors, and this one has more: ${image.name}.`);
     }
     return { ...image, part, from: disc.sheet || '', sheet, disc, number: own, sha1: '', crc32: '', renamed };
 }
@@ -196,16 +198,21 @@ function audioTrack({ files, tracks }) {
 async function showOpeningFailure(app, files, error) {
     const kinds = files.map(file => natureOf(app.calls, fileReader(file)).then(({ kind }) => kind, () => 'unknown'));
     const packed = files[error instanceof DiscFault ? (await Promise.all(kinds)).indexOf('chd') : -1];
-    if (!packed) return showFailure(error);
-    return showNotice('bad', `${packed.name} is a CHD, a compressed image. cdpatch cannot read it.`,
-        'Make a raw image of it first, in a terminal. Then open the new .cue and .bin here.',
-        ...copyable(`chdman extractcd -i ${quoted(packed.name)} -o disc.cue -ob disc.bin`));
+    if (packed) {
+        return showNotice('bad', ['A compressed image (CHD), which cdpatch cannot read: ', nameOf(packed.name)],
+            'Make a raw image of it first, in a terminal. Then open the new .cue and .bin here.', ...commandFor(packed.name));
+    }
+    if (error instanceof MissingFiles) return showFailure(error);
+    const names = [...files.map(file => file.name), app.image ? app.image.name : ''];
+    return showNotice('bad', 'Not opened.', ...messageParts(error, names));
 }
 
 /**
- * A file's name as a shell takes it whole. Windows has no name with a double quote, and its own shell knows no single ones.
+ * The command that makes a raw image of a CHD. A name stands in it only if no shell of any system reads more in it than a name.
  * @param {string} name
  */
-function quoted(name) {
-    return /["$\x60\\!]/.test(name) ? `'${name.replace(/'/g, "'\\''")}'` : `"${name}"`;
+function commandFor(name) {
+    const plain = /^[\p{L}\p{N}_(][\p{L}\p{N} ._()[\]-]*$/u.test(name);
+    const rename = 'Rename it to disc.chd before that: a terminal may read a part of its name as a command.';
+    return [!plain && element('p', {}, rename), ...copyable(`chdman extractcd -i "${plain ? name : 'disc.chd'}" -o disc.cue -ob disc.bin`)];
 }

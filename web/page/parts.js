@@ -33,8 +33,12 @@ export async function inflatedText(text) {
     return text === '' ? '' : inflated(text).text();
 }
 
-/** @type {string[]} the HTML round the policy, the style and the script of the joined page */
-const OWN_HTML = [];
+/**
+ * What the joined page knows of itself: the HTML before its policy, between that and its style, between that and its script, and after
+ * it; its policy before the hash of its script and after it; its style; and the names and versions of what made it.
+ * @type {{ html: string[], policy: string[], style: { size: number, sha1: string }, made: string[] }}
+ */
+export const OWN = { html: [], policy: [], style: { size: 0, sha1: '' }, made: [] };
 
 /**
  * The module and the workers of the joined page.
@@ -42,9 +46,9 @@ const OWN_HTML = [];
  */
 export async function joinedParts() {
     const bytes = await inflated(JOINED.module).arrayBuffer();
-    const url = workerUrl(new Blob([JOINED.worker()], { type: 'text/javascript' }));
-    OWN_HTML.push(...JSON.parse(await inflatedText(JOINED.html)));
-    return { module: await WebAssembly.compile(bytes), newWorker: () => new Worker(url) };
+    const url = workerUrl(new Blob([JOINED.worker], { type: 'text/javascript' }));
+    Object.assign(OWN, JSON.parse(await inflatedText(JOINED.own)));
+    return { module: await WebAssembly.compile(bytes), newWorker: () => new Worker(url), made: OWN.made };
 }
 
 /**
@@ -56,9 +60,4 @@ function workerUrl(program) {
     const url = URL.createObjectURL(program);
     if (!('trustedTypes' in globalThis)) return url;
     return trustedTypes.createPolicy('cdpatch', { createScriptURL: given => given }).createScriptURL(url);
-}
-
-/** The page's own text, to its last tag. */
-export function pageSource() {
-    return JOINED.source(OWN_HTML);
 }

@@ -2,18 +2,21 @@
 
 import { JobAborted } from '../core/jobs.js';
 import { applyPatches, passPatched } from '../core/patch.js';
-import { Refusal, patchesOf } from '../core/script.js';
+import { Refusal, baseFault, readScript } from '../core/script.js';
 import { imageTooLong } from '../core/sector.js';
 import { RunningHash, sha1Of } from './crew.js';
-import { canStream, chosenFile, download } from './files_out.js';
+import { chosenOther } from './chosen.js';
+import { canStream, download } from './files_out.js';
 import { fileOf, fileReader } from './reading.js';
+import { WorkRefused } from './refused.js';
 import { blobOfPieces, saveToSink } from './save.js';
 
 /** @typedef {import('./state.js').App} App */
 /** @typedef {import('../core/bytes.js').Reader} Reader */
 /** @typedef {import('../core/patch.js').Patched} Patched */
-/** An image, the block of its first sector, and what is to be made of it. */
-/** @typedef {{ reader: Reader, base: number, script: string, carry: boolean }} PatchWork */
+/** An image, the block of its first sector, and what is to be made of it; and the other files that are open, if it is saved. */
+/** @typedef {{ reader: Reader, base: number, script: string, carry: boolean, opened?: OpenFile[] }} PatchWork */
+/** @typedef {import('./chosen.js').OpenFile} OpenFile */
 /** @typedef {{ signal: { aborted: boolean }, progress: (done: number, all: number) => void }} PatchWatch */
 /**
  * What became of a saving: what the program prints, the file's name, and its size; `streamed` if it was written to its end, else the
@@ -21,33 +24,26 @@ import { blobOfPieces, saveToSink } from './save.js';
  * @typedef {{ made: Patched, name: string, size: number, streamed: boolean, blob: Blob | null, file: File | null, sha1: string }} Saved
  */
 
-/** Why a script or an image can't be worked on: the program's words, and what to do. */
-export class WorkRefused extends Error {
-    /**
-     * @param {string} text
-     * @param {string} advice
-     */
-    constructor(text, advice) {
-        super(text);
-        this.advice = advice;
-    }
-}
-
 /**
- * The patches of a script. Throws WorkRefused.
+ * The patches of a script for an image that begins with a block. Throws WorkRefused.
  * @param {App} app
  * @param {string} script
+ * @param {number} base
  */
-export async function readPatches({ calls }, script) {
-    const patches = await patchesOf(calls, [new TextEncoder().encode(script)]);
-    if (!(patches instanceof Refusal)) return patches;
-    if (patches.reason === 'fault') throw new WorkRefused(new TextDecoder().decode(patches.text).trimEnd(),
+export async function readPatches({ calls }, script, base) {
+    const read = await readScript(calls, [new TextEncoder().encode(script)]);
+    if (!(read instanceof Refusal)) {
+        const fault = baseFault(read.bases, base);
+        if (fault === '') return read.patches;
+        throw new WorkRefused(`${fault[0].toUpperCase()}${fault.slice(1)}.`, 'Set the base that the script says, or take that line out.');
+    }
+    if (read.reason === 'fault') throw new WorkRefused(new TextDecoder().decode(read.text).trimEnd(),
         'Nothing was done. Mend the line first.');
     throw new WorkRefused('The script is too long.', 'A script has at most 67,108,864 bytes. Cut it into two.');
 }
 
 /** @param {Reader} reader of an image */
-function assertNotTooLong({ size }) {
+export function assertNotTooLong({ size }) {
     if (imageTooLong(size)) throw new WorkRefused('The image is too long.', 'An image has at most 1,000,000 sectors.');
 }
 
@@ -76,7 +72,7 @@ export function watched(reader, { signal, progress }) {
  * @returns {Promise<Patched>}
  */
 export async function checkWork(app, { reader, base, script, carry }, watch) {
-    const patches = await readPatches(app, script);
+    const patches = await readPatches(app, script, base);
     assertNotTooLong(reader);
     return passPatched(app.calls, watched(reader, watch), patches, base, carry);
 }
@@ -97,18 +93,6 @@ export async function saveWork(app, work, name, wanted, watch) {
 }
 
 /**
- * Refuses a chosen file if it is an open image.
- * @param {File} chosen
- * @param {Reader} reader of the image
- */
-export function assertOther(chosen, reader) {
-    const own = fileOf(reader);
-    if (own && chosen.name === own.name && chosen.size === own.size && chosen.lastModified === own.lastModified) {
-        throw new WorkRefused(`${own.name} is the open image itself.`, 'cdpatch never writes over it. Choose another name.');
-    }
-}
-
-/**
  * The file is asked for first of all: a browser lets a page ask only shortly after a click.
  * @param {App} app
  * @param {PatchWork} work
@@ -117,16 +101,15 @@ export function assertOther(chosen, reader) {
  * @param {PatchWatch} watch
  * @returns {Promise<Saved | null>}
  */
-async function streamWork(app, { reader, base, carry, script }, name, wanted, { signal, progress }) {
-    const chosen = await chosenFile(name);
+async function streamWork(app, { reader, base, carry, script, opened = [] }, name, wanted, { signal, progress }) {
+    const chosen = await chosenOther(name, [reader], opened);
     if (chosen === null) return null;
     const before = await chosen.getFile();
-    assertOther(before, reader);
     const hash = wanted === '' ? null : new RunningHash(app.parts);
     /** @type {Patched | null} */
     let made = null;
     try {
-        const patches = await readPatches(app, script);
+        const patches = await readPatches(app, script, base);
         await saveToSink(await chosen.createWritable(), reader, async take => {
             made = await passPatched(app.calls, reader, patches, base, carry, take);
         }, { signal, progress: done => progress(done, reader.size), ...hash && comparing(hash, wanted) });
@@ -174,7 +157,7 @@ export class WrongResult extends Error {
 async function downloadWork(app, { reader, base, carry, script }, name, wanted, watch) {
     const file = fileOf(reader);
     if (file === null) throw new Error('this image is no file');
-    const patches = await readPatches(app, script);
+    const patches = await readPatches(app, script, base);
     const { pieces, ...made } = await applyPatches(app.calls, watched(reader, watch), patches, base, carry);
     const blob = blobOfPieces(file, pieces);
     const progress = (/** @type {number} */ done) => watch.progress(done, blob.size);

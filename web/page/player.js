@@ -7,12 +7,14 @@ import { textOfFile } from '../core/text.js';
 import { askBeforeLeaving, button, countOf, counted, element, fill, hashParts, icon, keepFocus } from './dom.js';
 import { downloadText } from './files_out.js';
 import { saveWork } from './patch_job.js';
-import { moreOf } from './player_more.js';
-import { imageOfSize, judgeImage, reasonsOf } from './player_verdict.js';
+import { nameOf, namesOf } from './names.js';
+import { authorsWords, moreOf } from './player_more.js';
+import { CARRIES, VERDICTS, reasonOf, reasonsOf } from './player_reason.js';
+import { imageOfSize, judgeImage } from './player_verdict.js';
 import { jobBar } from './progress.js';
 import { fileReader } from './reading.js';
 import { failureOfSaving } from './save_card.js';
-import { clearNotices, isCancelled, notice, sentence, showNotice } from './say.js';
+import { clearNotices, isCancelled, messageParts, notice, showNotice } from './say.js';
 import { sheetNaming } from './sheet.js';
 
 /** @typedef {import('./state.js').App} App */
@@ -24,15 +26,6 @@ import { sheetNaming } from './sheet.js';
 /** What is said of the file that the patcher came in, and how one goes back to the page that showed it, if one can. */
 /** @typedef {{ note: Child, back: (() => void) | null }} PlayerHow */
 /** @typedef {'now' | 'done' | 'later'} StepState */
-
-/** @type {Record<string, ['good' | 'warn' | 'bad', string]>} */
-const VERDICTS = {
-    right: ['good', 'This is the right disc.'],
-    fits: ['warn', 'This is another dump, but the patch fits it.'],
-    other: ['bad', 'This is another dump, and the patch does not fit it.'],
-    damaged: ['bad', 'This dump is damaged in places that the patch changes.'],
-    patched: ['good', 'This image is patched already.'],
-};
 
 /** The page of a patcher. */
 export class Player {
@@ -62,10 +55,7 @@ export class Player {
             'aria-label': 'Your disc image',
             change: () => this.open([...this.input.files || []]) });
         this.steps = element('ol', { class: 'steps' });
-        const by = data.author === '' ? '' : `by ${data.author}`;
-        fill(place, how.note, element('div', {}, element('h1', {}, data.title), element('p', { class: 'by' }, by)),
-            element('p', { class: 'author' }, data.note),
-            this.steps, element('p', { class: 'safe left' }, icon('lock'),
+        fill(place, how.note, authorsWords(data), this.steps, element('p', { class: 'safe left' }, icon('lock'),
                 element('span', {}, element('b', {}, 'Nothing leaves your computer.'),
                 ' Your image is not changed; a new file is saved.')), moreOf(data), this.input);
         this.start();
@@ -74,12 +64,12 @@ export class Player {
     /**
      * @param {string} number
      * @param {StepState} state
-     * @param {string} title
+     * @param {Child | Child[]} title
      * @param {...Child} body
      */
     step(number, state, title, ...body) {
         const made = element('li', { class: `step ${state}`, 'aria-current': state === 'now' ? 'step' : null },
-            element('span', { class: 'no', 'aria-hidden': 'true' }, state === 'done' ? '✓' : number), element('h2', {}, title));
+            element('span', { class: 'no', 'aria-hidden': 'true' }, state === 'done' ? '✓' : number), element('h2', {}, ...[title].flat()));
         if (body.length > 0) made.append(element('div', { class: 'stack' }, ...body.filter(it => it !== null && it !== false).map(it =>
             it instanceof Node ? it : String(it))));
         return made;
@@ -118,21 +108,22 @@ export class Player {
             if (this.image) await this.judge(this.image);
         } catch (error) {
             if (number !== this.number) return;
-            this.start(isCancelled(error) ? null : notice('bad', sentence(error, files.map(file => file.name))));
+            this.start(isCancelled(error) ? null : notice('bad', 'Not opened.', ...messageParts(error, files.map(file => file.name))));
         }
     }
 
     /** @param {File[]} files */
     sayBusy(files) {
-        const names = files.map(file => file.name).join(', ');
-        showNotice('warn', `Not opened: ${names}.`, 'An image is being saved. Drop it again when that has ended, or press Cancel first.');
+        const names = namesOf(files.map(file => file.name));
+        showNotice('warn', ['Not opened: ', ...names, '.'],
+            'An image is being saved. Drop it again when that has ended, or press Cancel first.');
     }
 
     /** @param {DiscImage} image */
     async judge(image) {
         await this.app.run(async (signal, cancel) => {
             const bar = jobBar('Checking your image', cancel);
-            this.show(this.step('1', 'now', 'Checking your image', element('p', { class: 'mono' }, image.name), ...bar.parts));
+            this.show(this.step('1', 'now', 'Checking your image', element('p', { class: 'mono' }, nameOf(image.name)), ...bar.parts));
             this.stop = cancel;
             const judged = await judgeImage(this.app, this.data, image, { signal, progress: bar.at });
             if (signal.aborted) return;
@@ -150,16 +141,20 @@ export class Player {
         const [tone, head] = VERDICTS[verdict];
         const said = element('p', { class: `verdict ${tone}-ink`, role: 'status', id: 'verdict' },
             icon(tone === 'good' ? 'tick' : 'warn'), element('span', {}, head));
-        const name = element('p', {}, element('span', { class: 'mono' }, image.name), ' ',
-            tone !== 'bad' && button('slim bare tiny', () => this.input.click(), 'Choose another'));
+        const isChosen = tone === 'good' || verdict === 'fits';
+        const name = element('p', {}, element('span', { class: 'mono' }, nameOf(image.name)), ' ',
+            isChosen && button('slim bare tiny', () => this.input.click(), 'Choose another'));
         if (tone === 'bad') return this.showOther(name, said, image, judged);
-        const first = this.step('1', 'done', 'Your disc', name, said, this.reason(judged), this.details(image, judged));
+        if (!isChosen) return this.showUnknown(name, said, image, judged);
+        const first = this.step('1', 'done', 'Your disc', name, said, reasonOf(judged, image.reader.size, this.data.image.size),
+            this.details(image, judged));
         if (verdict === 'patched') return this.show(first, this.step('2', 'done', 'Patched', 'There is nothing to do.'),
             this.playStep(image.name, this.sheetFor(image.name)));
         const patch = button('main big', () => this.patch(image, judged, first), 'Patch and save…');
         const space = counted(Math.ceil(image.reader.size / 1e6));
         this.show(first, this.step('2', 'now', 'Patch it',
-            element('p', {}, `${countOf(judged.patches, 'change')}. The new file needs ${space} MB of space.`), patch));
+            element('p', {}, `${countOf(judged.patches, 'change')}. The new file needs ${space} MB of space.`),
+            this.data.carry && element('p', {}, CARRIES), patch));
         return patch.focus();
     }
 
@@ -171,7 +166,8 @@ export class Player {
      */
     showOther(name, said, image, judged) {
         const { patches, refused } = judged;
-        const why = [...reasonsOf(patches, refused), 'Nothing was saved.'].map(text => element('p', {}, text));
+        const carries = this.data.carry ? [CARRIES] : [];
+        const why = [...reasonsOf(patches, refused), ...carries, 'Nothing was saved.'].map(text => element('p', {}, text));
         const box = element('div', { class: 'say bad' }, said, ...why, element('div', { class: 'row' },
             button('main', () => this.input.click(), 'Choose another image…')));
         const fitting = patches - refused.length;
@@ -182,12 +178,24 @@ export class Player {
         this.show(this.step('1', 'now', 'Your disc', name, box, details));
     }
 
-    /** @param {Judged} judged */
-    reason({ verdict, patches }) {
-        if (verdict !== 'fits') return null;
-        const all = patches === 1 ? 'The place holds' : `All ${counted(patches)} places hold`;
-        return element('p', {}, `${all} the bytes that the author saw. The rest of the disc differs ` +
-            'from the author’s: perhaps its music is shifted, or a sector is damaged.');
+    /**
+     * An image of which nothing shows that the patch belongs into it, or that it is what the author made: no button is the one to press.
+     * @param {Element} name
+     * @param {Element} said
+     * @param {DiscImage} image
+     * @param {Judged} judged
+     */
+    showUnknown(name, said, image, judged) {
+        const patch = () => {
+            const done = element('p', { class: 'verdict warn-ink' }, icon('warn'), element('span', {}, VERDICTS.unknown[1]));
+            return this.patch(image, judged, this.step('1', 'done', 'Your disc', name, done));
+        };
+        const isOpen = judged.verdict === 'unknown';
+        const box = element('div', { class: 'say warn' }, said, reasonOf(judged, image.reader.size, this.data.image.size),
+            isOpen && this.data.carry && element('p', {}, CARRIES),
+            element('div', { class: 'row' }, button('', () => this.input.click(), 'Choose another image…'),
+                isOpen && button('', patch, 'Patch it all the same…')));
+        this.show(this.step('1', 'now', 'Your disc', name, box, this.details(image, judged)));
     }
 
     /**
@@ -215,15 +223,16 @@ export class Player {
         try {
             const saved = await app.run((signal, cancel) => {
                 const bar = jobBar('Saving', cancel);
-                this.show(first, this.step('2', 'now', `Saving ${data.name}`, ...bar.parts));
+                this.show(first, this.step('2', 'now', ['Saving ', nameOf(data.name)], ...bar.parts));
                 this.leaving = this.saving = true;
                 this.stop = cancel;
-                return saveWork(app, work, data.name, verdict === 'right' ? data.result : '', { signal, progress: bar.at });
+                const wanted = verdict === 'right' ? data.result : '';
+                return saveWork(app, { ...work, opened: this.files }, data.name, wanted, { signal, progress: bar.at });
             });
             clearNotices();
             this.saving = false;
             this.leaving = saved !== null && !saved.streamed;
-            if (saved !== null) return this.saved(saved, first);
+            if (saved !== null) return this.saved(saved, verdict, first);
             return this.show(first, this.again(image, { work, verdict }, first,
                 notice('plain', 'No file was chosen.', 'Nothing was saved.')));
         } catch (error) {
@@ -240,24 +249,27 @@ export class Player {
      * @param {Child} said
      */
     again(image, judged, first, said) {
-        const again = button('main big', () => this.patch(image, /** @type {Judged} */ (judged), first), 'Patch and save…');
+        const isFit = judged.verdict === 'right' || judged.verdict === 'fits';
+        const again = button(isFit ? 'main big' : '', () => this.patch(image, /** @type {Judged} */ (judged), first), 'Patch and save…');
         return this.step('2', 'now', 'Patch it', said, again);
     }
 
     /**
      * @param {Saved} saved
+     * @param {Judged['verdict']} verdict
      * @param {HTMLElement} first
      */
-    saved({ made, name, size, streamed, sha1 }, first) {
+    saved({ made, name, size, streamed, sha1 }, verdict, first) {
         const refused = made.outcomes.filter(it => it.result !== RESULT.OK).length;
-        const head = streamed ? `Saved: ${name}` : `Your browser is saving ${name}`;
+        const head = [streamed ? 'Saved: ' : 'Your browser is saving ', nameOf(name)];
         const same = sha1 !== '' && 'It is exactly the image that the author made: the SHA-1 is the same.';
         const wait = !streamed && `It must have ${counted(size)} bytes. Keep this page open until it has.`;
         const left = refused > 0 && `${countOf(refused, 'change')} left out.`;
-        const tone = refused > 0 ? 'warn' : 'good';
+        const unknown = verdict === 'unknown' && 'Nothing has shown whether the patch fits this disc.';
+        const tone = refused > 0 || unknown ? 'warn' : 'good';
         const said = element('p', { class: `verdict ${tone}-ink`, role: 'status', id: 'saved' },
-            icon(tone === 'good' ? 'tick' : 'warn'), element('span', {}, head));
-        const rest = [same, wait, left].map(text => text && element('p', {}, text));
+            icon(tone === 'good' ? 'tick' : 'warn'), element('span', {}, ...head));
+        const rest = [same, wait, left, unknown].map(text => text && element('p', {}, text));
         this.show(first, this.step('2', 'done', 'Patched', said, ...rest), this.playStep(name, this.sheetFor(name)));
     }
 
@@ -275,7 +287,8 @@ export class Player {
      * @param {string} sheet
      */
     playStep(name, sheet) {
-        if (sheet === '') return this.step('3', 'now', 'Play', element('p', {}, 'Open ', element('b', {}, name), ' in your emulator.'));
+        const shown = element('b', {}, nameOf(name));
+        if (sheet === '') return this.step('3', 'now', 'Play', element('p', {}, 'Open ', shown, ' in your emulator.'));
         const save = button('main big', () => downloadText(sheet, name.replace(/(\.[^.]*)?$/, '.cue')), 'Save the cue sheet…');
         return this.step('3', 'now', 'Play',
             element('p', {}, 'Your emulator opens a cue sheet. This one names the new image. Save it in the same folder.'), save);

@@ -1,11 +1,24 @@
-// What stands under the steps of a patcher: its script, and what one can do to be sure.
+// What stands over the steps of a patcher, and under them: what its author writes, its script, and what one can do to be sure.
 
 import { button, element } from './dom.js';
 import { downloadText } from './files_out.js';
+import { seenTitle } from './names.js';
 
 /** @typedef {import('./patcher.js').PatcherData} PatcherData */
 
 const MOST_SCRIPT_SHOWN = 200000;
+
+/**
+ * The author's own words, in a frame: nothing of this page stands in it.
+ * @param {PatcherData} data
+ */
+export function authorsWords({ title, author, note }) {
+    return element('section', { class: 'authors stack tight', 'aria-label': 'What the author writes' },
+        element('p', { class: 'small quiet' }, 'The author writes:'),
+        element('div', {}, element('h1', { dir: 'auto' }, seenTitle(title)),
+            element('p', { class: 'by', dir: 'auto' }, author === '' ? '' : `by ${seenTitle(author)}`)),
+        note.trim() === '' ? null : element('p', { class: 'author', dir: 'auto' }, note));
+}
 
 /** @param {PatcherData} data */
 export function moreOf({ script }) {

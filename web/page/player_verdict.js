@@ -1,12 +1,12 @@
-// What a player's image is to a patcher: the right disc, another dump that the patch fits or does not fit, or patched already.
+// What a player's image is to a patcher: the right disc, another dump that the patch fits or does not fit, or patched already; or one of
+// which the patch cannot say it.
 
 import { readBytes } from '../core/bytes.js';
 import { DiscFault, dataTrack } from '../core/disc.js';
 import { passPatched } from '../core/patch.js';
-import { PATCH_RECORD_SIZE, RESULT, STATUS, freshSize } from '../core/records.js';
+import { PATCH_RECORD_SIZE, RESULT, STATUS, freshSize, patchFields } from '../core/records.js';
 import { sha1Of } from './crew.js';
-import { counted, countOf } from './dom.js';
-import { checkWork, readPatches } from './patch_job.js';
+import { assertNotTooLong, readPatches, watched } from './patch_job.js';
 import { wordsOfLine } from './script_lines.js';
 
 /** @typedef {import('./state.js').App} App */
@@ -16,34 +16,17 @@ import { wordsOfLine } from './script_lines.js';
 /** @typedef {import('./patcher.js').PatcherData} PatcherData */
 /** @typedef {import('./patch_job.js').PatchWork} PatchWork */
 /** @typedef {import('../core/script.js').Patch} Patch */
-/** @typedef {'right' | 'fits' | 'other' | 'damaged' | 'patched'} Verdict */
 /**
- * A verdict, the SHA-1 of the image, '' if it was not needed; how many patches there are; the results of those that are refused, and the
- * program's words for the first of them; and what is to be done.
- * @typedef {{ verdict: Verdict, sha1: string, patches: number, refused: number[], words: string, work: PatchWork }} Judged
+ * `right` and `patched` are said by the SHA-1 only. Any other image fits if it is as long as the author's and all that is written names its
+ * old bytes; if some names none, it is `unknown`. In one that is `changed` all places have their new bytes already.
+ * @typedef {'right' | 'fits' | 'unknown' | 'other' | 'damaged' | 'patched' | 'changed'} Verdict
+ */
+/**
+ * A verdict, the SHA-1 of the image, '' if it was not needed; how many patches there are, and how many of them name no old bytes; the
+ * results of those that are refused, and the program's words for the first of them; and what is to be done.
+ * @typedef {{ verdict: Verdict, sha1: string, patches: number, without: number, refused: number[], words: string, work: PatchWork }} Judged
  */
 /** @typedef {{ signal: { aborted: boolean }, progress: (done: number, all: number) => void }} JudgeWatch */
-
-/** @type {[number, string, string][]} why places refuse their patch, and what to think of it */
-const REASONS = [
-    [RESULT.DIFFERS, 'hold other bytes', 'It is probably another release of the game.'],
-    [RESULT.DAMAGED, 'are damaged', 'Try another dump of this disc, or repair this one with the full cdpatch.'],
-    [RESULT.NOT_MODE1, 'hold no data here', 'It is probably another track or another disc.'],
-    [RESULT.NO_BLOCK, 'are not in this image', 'It is probably another track, or it was cut.'],
-];
-
-/**
- * Why a patch does not fit.
- * @param {number} patches
- * @param {number[]} refused their results
- */
-export function reasonsOf(patches, refused) {
-    return REASONS.flatMap(([result, what, advice]) => {
-        const count = refused.filter(it => it === result).length;
-        const says = count === 1 ? what.replace('hold', 'holds').replace('are', 'is') : what;
-        return count === 0 ? [] : [`${counted(count)} of ${countOf(patches, 'place')} ${says}. ${advice}`];
-    });
-}
 
 /**
  * The image of the data track that has a size, or of the first one.
@@ -51,7 +34,8 @@ export function reasonsOf(patches, refused) {
  * @param {number} size
  */
 export function imageOfSize(disc, size) {
-    if (disc.sheet === null && disc.tracks[0].image === null) throw new DiscFault(`${disc.files[0].name} is music; choose the data track.`);
+    const [file] = disc.files;
+    if (disc.sheet === null && disc.tracks[0].image === null) throw new DiscFault(`This is music; choose the data track: ${file.name}`);
     const track = disc.tracks.find(it => it.image !== null && it.image.reader.size === size);
     return (track || dataTrack(disc)).image;
 }
@@ -70,15 +54,29 @@ export async function judgeImage(app, data, image, watch) {
     const early = addressedBase(image, data.base) === data.base ? '' : await hash();
     const base = [data.image.sha1, data.result].includes(early) ? data.base : addressedBase(image, data.base);
     const work = { reader, base, script: data.script, carry: data.carry };
-    const { outcomes } = await checkWork(app, work, { signal: watch.signal, progress: () => {} });
+    const patches = await readPatches(app, data.script, base);
+    assertNotTooLong(reader);
+    const seen = watched(reader, { signal: watch.signal, progress: () => {} });
+    const { outcomes } = await passPatched(app.calls, seen, patches, base, data.carry);
     const refused = outcomes.filter(it => it.result !== RESULT.OK);
     const words = refused.length === 0 ? '' : wordsOfLine(app.calls.outcomeLine(1, refused[0].result, refused[0].block, refused[0].offset));
-    const judged = { sha1: '', patches: outcomes.length, refused: refused.map(it => it.result), words, work };
+    const without = countWithoutOld(patches);
+    const judged = { sha1: '', patches: outcomes.length, without, refused: refused.map(it => it.result), words, work };
     const damaged = judged.refused.every(it => it === RESULT.DAMAGED);
-    if (refused.length > 0) return { ...judged, verdict: await isPatched(app, work) ? 'patched' : damaged ? 'damaged' : 'other' };
+    if (refused.length > 0 && !await isPatched(app, work)) return { ...judged, verdict: damaged ? 'damaged' : 'other' };
     const sha1 = early || await hash();
-    const verdict = sha1 === data.image.sha1 ? 'right' : sha1 === data.result ? 'patched' : 'fits';
-    return { ...judged, sha1, verdict };
+    if (sha1 === data.image.sha1) return { ...judged, sha1, verdict: 'right' };
+    if (sha1 === data.result) return { ...judged, sha1, verdict: 'patched' };
+    const changed = refused.length > 0 || await isPatched(app, work);
+    return { ...judged, sha1, verdict: changed ? 'changed' : without === 0 && reader.size === data.image.size ? 'fits' : 'unknown' };
+}
+
+/**
+ * How many patches name no old bytes: nothing shows whether they belong where they write.
+ * @param {Patch[]} patches
+ */
+export function countWithoutOld(patches) {
+    return patches.filter(({ bytes }) => patchFields(bytes).old === null).length;
 }
 
 /**
@@ -97,7 +95,7 @@ function addressedBase({ addressed, base }, other) {
  */
 export async function isPatched(app, { reader, base, script }) {
     let same = true;
-    const made = await passPatched(app.calls, reader, (await readPatches(app, script)).map(withoutOld), base, true, async piece => {
+    const made = await passPatched(app.calls, reader, (await readPatches(app, script, base)).map(withoutOld), base, true, async piece => {
         if (!('bytes' in piece) || !same) return;
         const there = await readBytes(reader, piece.at, piece.bytes.length);
         same = there.every((byte, i) => byte === piece.bytes[i]);

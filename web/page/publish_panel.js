@@ -1,16 +1,15 @@
 // The panel Publish: a copy of this page with the script, for players.
 
-import { RESULT, VERB, patchFields } from '../core/records.js';
-import { applyPatches } from '../core/patch.js';
 import { sha1Of } from './crew.js';
 import { askBeforeLeaving, button, countOf, element, fill, hashParts, isDisabled, keepFocus, setDisabled, term } from './dom.js';
 import { download } from './files_out.js';
-import { readPatches } from './patch_job.js';
-import { pageSource } from './parts.js';
-import { headFault, patcherText } from './patcher.js';
+import { nameOf, seenTitle, stemOf } from './names.js';
+import { publishedSource } from './own_text.js';
+import { patcherText } from './patcher.js';
+import { isImageName, isPlainSheet, isSeen } from './patcher_head.js';
 import { jobBar } from './progress.js';
-import { fileOf, fileReader } from './reading.js';
-import { blobOfPieces, patchedName } from './save.js';
+import { proposedName, triedOn } from './publish_try.js';
+import { fileReader } from './reading.js';
 import { isCancelled, notice, sentence } from './say.js';
 import { sheetNaming } from './sheet.js';
 import { showPlayer } from './show_player.js';
@@ -19,12 +18,12 @@ import { showPlayer } from './show_player.js';
 /** @typedef {import('./state.js').Image} Image */
 /** @typedef {import('./patcher.js').PatcherData} PatcherData */
 /** @typedef {import('./dom.js').Child} Child */
-/**
- * What is known of a script on the image: how many patches are refused, the line of the first of them or 0, and how many of them for
- * damage; how many are without old bytes, and how many old bytes there are.
- * @typedef {{ script: string, patches: number, refused: number, first: number, damaged: number, without: number, old: number,
- *     result: Blob }} Tried
- */
+/** @typedef {import('./publish_try.js').Tried} Tried */
+
+const NAME_RULE = 'the name of the patched image has to end in .bin, .img or .iso, without hidden characters and without ' +
+    '\\ / : * ? " < > |';
+/** A browser may send what is typed to a service that checks its spelling. */
+const PRIVATE = { autocomplete: 'off', spellcheck: 'false' };
 
 /** The panel. */
 class PublishPanel {
@@ -41,11 +40,11 @@ class PublishPanel {
         this.busy = false;
         /** Whether something was typed that is in no patcher yet. */
         this.edited = false;
-        const text = (/** @type {string} */ id) => element('input', { type: 'text', id, maxlength: 200, autocomplete: 'off',
+        const text = (/** @type {string} */ id) => element('input', { type: 'text', id, maxlength: 200, ...PRIVATE,
             input: () => this.typed() });
         this.title = text('patcher-title');
         this.author = text('patcher-author');
-        this.note = element('textarea', { id: 'patcher-note', rows: 5, maxlength: 20000, input: () => this.typed() });
+        this.note = element('textarea', { id: 'patcher-note', rows: 5, maxlength: 20000, ...PRIVATE, input: () => this.typed() });
         this.name = text('patcher-name');
         this.sheet = element('input', { type: 'checkbox', id: 'patcher-cue', checked: true });
         this.carry = element('input', { type: 'checkbox', id: 'patcher-carry', change: () => this.forget() });
@@ -119,7 +118,7 @@ class PublishPanel {
     shown() {
         if (this.app.panel !== 'publish') return;
         const { image } = this.app;
-        if (this.name.value === '' && image) this.name.value = patchedName(image.name);
+        if (this.name.value === '' && image) this.name.value = proposedName(image.name);
         this.draw();
         if (this.tried === null && this.fault === '' && !this.trying && image !== null) this.tryScript(image);
     }
@@ -144,7 +143,7 @@ class PublishPanel {
             element('b', { class: `${tone}-ink` }, SIGNS[tone]), ' ', ...words)));
         const ready = rows.every(([tone]) => tone === 'good' || tone === 'warn');
         for (const it of [this.save, this.see]) setDisabled(it, !ready);
-        if (this.cueRow) this.cueRow.hidden = this.app.image === null || this.app.image.sheet === '';
+        if (this.cueRow) this.cueRow.hidden = this.app.image === null || this.cueOf(this.app.image) === '';
     }
 
     /** @returns {[('good' | 'bad' | 'warn' | 'quiet'), ...Child[]][]} what is ready, and what is not */
@@ -167,18 +166,35 @@ class PublishPanel {
                     app.goToLine(tried.first - 1);
                 }, `Go to line ${tried.first}`),
                 tried.damaged > 0 && `, ${tried.damaged} for damage: a patcher does not carry it. Repair the image first.`],
-            tried.without === 0 ? ['good', 'each ', mono('set'), ' has its old bytes (', mono('was'), ')']
-                : ['warn', `${countOf(tried.without, 'line')} without `, mono('was'),
-                    ': another release would be patched there too, and break.'],
+            tried.without === 0 ? ['good', 'each line has its old bytes (', mono('was'), ')']
+                : ['warn', `${countOf(tried.without, 'line')} without old bytes (`, mono('was'),
+                    '): on a dump that is not yours nothing shows whether they fit, and players are told so.'],
             !read && survey !== null && survey.over ? ['bad', 'The image was not read to its end. Read it again under Disc.']
                 : !read ? ['quiet', 'reading the image…'] : findings === 0 ? ['good', 'the image is sound: 0 findings']
                 : ['warn', `the image has ${countOf(findings, 'finding')}: players with a sound disc have another hash.`],
             image.sha1 === '' ? ['quiet', 'calculating the SHA-1 of the image…']
                 : ['good', 'made for SHA-1 ', element('span', { class: 'mono small' }, ...hashParts(image.sha1))],
-            this.title.value.trim() === '' ? ['bad', 'a title is missing'] : ['good', `title: ${this.title.value}`],
-            ...nameRow(this.name.value),
-            ...oldRow(tried.old),
+            isSeen(this.title.value) ? ['good', 'title: ', element('bdi', {}, seenTitle(this.title.value))]
+                : ['bad', 'a title is missing'],
+            ...this.warnings(image, tried),
         ];
+    }
+
+    /**
+     * @param {Image} image
+     * @param {Tried} tried
+     * @returns {['bad' | 'warn', string][]}
+     */
+    warnings(image, tried) {
+        /** @type {[boolean, 'bad' | 'warn', string][]} */
+        const all = [
+            [!isImageName(this.name.value.trim()), 'bad', NAME_RULE],
+            [image.sheet !== '' && this.cueOf(image) === '', 'warn', 'the cue sheet is not offered: it names other than files beside it'],
+            [this.carry.checked, 'warn', 'damaged sectors are patched too: players are told so'],
+            [tried.old > 0, 'warn',
+                `The old bytes come from the game (${countOf(tried.old, 'byte')}). Check whether you may publish them.`],
+        ];
+        return all.flatMap(([is, tone, words]) => is ? [[tone, words]] : []);
     }
 
     /** @param {boolean} saving whether the patcher is saved, or shown as a player sees it */
@@ -217,67 +233,30 @@ class PublishPanel {
         const name = this.name.value.trim();
         return { title: this.title.value.trim(), author: this.author.value.trim(), note: this.note.value, name,
             carry: this.carry.checked, base: image.base,
-            cue: this.sheet.checked ? sheetNaming(image.sheet, [[image.name, name]]) : '',
+            cue: this.sheet.checked ? this.cueOf(image) : '',
             image: { size: image.reader.size, sha1: image.sha1 }, result, script };
+    }
+
+    /**
+     * The cue sheet that players are offered, or ''.
+     * @param {Image} image
+     */
+    cueOf(image) {
+        const sheet = sheetNaming(image.sheet, [[image.name, this.name.value.trim()]]);
+        return sheet !== '' && isPlainSheet(sheet) ? sheet : '';
     }
 
     /** @param {PatcherData} data */
     async saveAs(data) {
-        const name = `${data.title.replace(/[\p{Cc}/\\:*?"<>|]+/gu, ' ').trim() || 'patcher'}.html`;
-        download(new Blob([pageSource(), await patcherText(this.app.calls, data)], { type: 'text/html' }), name);
+        const name = `${stemOf(data.title) || 'patcher'}.html`;
+        download(new Blob([publishedSource(this.app.calls), await patcherText(this.app.calls, data)], { type: 'text/html' }), name);
         this.edited = false;
-        this.say(notice('good', `${name} is saved.`, 'Players open it with a double click, and drop their image there.'));
+        this.say(notice('good', ['Saved: ', nameOf(name)], 'Players open it with a double click, and drop their image there.'));
     }
 }
 
 /** @type {Record<string, string>} */
 const SIGNS = { good: '✓', bad: '✕', warn: '!', quiet: '…' };
-
-/**
- * @param {number} count of old bytes
- * @returns {['warn', string][]}
- */
-function oldRow(count) {
-    return count === 0 ? []
-        : [['warn', `The old bytes come from the game (${countOf(count, 'byte')}). Check whether you may publish them.`]];
-}
-
-/**
- * @param {string} name
- * @returns {['bad', string][]}
- */
-function nameRow(name) {
-    const right = { title: 'x', author: '', note: '', cue: '', carry: false, base: 0, image: { size: 0, sha1: '0'.repeat(40) },
-        result: '0'.repeat(40) };
-    return headFault({ ...right, name: name.trim() }) === '' ? [] : [['bad', 'the name of the patched image is no name of a file']];
-}
-
-/**
- * Tries the script on the image.
- * @param {App} app
- * @param {Image} image
- * @param {boolean} carry
- * @returns {Promise<Tried>}
- */
-async function triedOn(app, image, carry) {
-    const script = app.script.text || 'cdpatch 1\n';
-    const patches = await readPatches(app, script);
-    const made = await applyPatches(app.calls, image.reader, patches, image.base, carry);
-    const file = fileOf(image.reader);
-    if (file === null) throw new Error('this image is no file');
-    const fields = patches.map(({ bytes }) => patchFields(bytes));
-    const refused = made.outcomes.filter(it => it.result !== RESULT.OK);
-    return {
-        script,
-        patches: patches.length,
-        refused: refused.length,
-        first: refused.reduce((first, { number }) => first === 0 ? number : Math.min(first, number), 0),
-        damaged: made.outcomes.filter(it => it.result === RESULT.DAMAGED).length,
-        without: fields.filter(({ verb, old }) => (verb === VERB.SET && old === null) || verb === VERB.FILL).length,
-        old: fields.reduce((sum, { old }) => sum + (old === null ? 0 : old.length), 0),
-        result: blobOfPieces(file, made.pieces),
-    };
-}
 
 /**
  * @param {App} app

@@ -1,12 +1,14 @@
 // Reading the files that were opened.
 
+import { shownName } from './names.js';
+
 /** @typedef {import('../core/bytes.js').Reader} Reader */
 
 /** A file that was opened, and cannot be read any more. */
 export class FileGone extends Error {
     /** @param {string} name of the file */
     constructor(name) {
-        super(`${name} cannot be read any more. Was it moved or changed, or its drive removed?`);
+        super(`This file cannot be read any more: ${shownName(name)}. Was it moved or changed, or its drive removed?`);
         this.name = 'FileGone';
     }
 }

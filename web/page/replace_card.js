@@ -1,24 +1,30 @@
 // The card that replaces a hit: the new text, its length beside that of the old one, and the line that goes into the script.
 
-import { encodeText } from '../core/text.js';
+import { filledUp } from '../core/edit.js';
+import { encodeText, fillsOf, spaceIn } from '../core/texts/encoding.js';
+import { bytesOfHex, hexText } from '../core/texts/hex.js';
 import { announce, button, counted, countOf, element, fill, hexOf, isDisabled, setDisabled } from './dom.js';
 import { chosenEncoding } from './encodings.js';
 import { visible } from './explain.js';
-import { filledTo, replacingLine, rewrittenLine } from './hits.js';
+import { replacingLine, rewrittenLine } from './hits.js';
 import { messageOf } from './say.js';
 
 /** @typedef {import('./state.js').App} App */
-/** @typedef {import('../core/find.js').Hit} Hit */
+/** @typedef {import('../core/texts/find.js').Hit} Hit */
 /** @typedef {import('./dom.js').Child} Child */
+/** @typedef {import('../core/texts/encoding.js').Encoding} Encoding */
 /** A hit to replace: its number from 1, of how many; its old bytes; and how many hits are in no line of the script yet. */
 /** @typedef {{ hit: Hit, number: number, of: number, old: Uint8Array, left: number, line: number }} Target */
 /**
- * @typedef {{ add: (hit: Hit, fresh: Uint8Array, old: Uint8Array) => void, addAll: (fresh: Uint8Array, fill: Uint8Array) => void,
+ * @typedef {{ add: (hit: Hit, fresh: Uint8Array, old: Uint8Array) => void, addAll: (fresh: Uint8Array, fill: Uint8Array | null) => void,
  *     skip: () => void }} ReplaceOwner
  */
 
 const MOST_BOXES = 40;
-const FILLS = [['20', '20 space'], ['8140', '81 40 wide space'], ['00', '00'], ['', 'another byte…']];
+
+/** What is filled with if there is no space, until somebody has chosen. */
+const NO_FILL = 'none';
+const OTHER_FILL = '';
 
 /** The card. */
 export class ReplaceCard {
@@ -32,8 +38,8 @@ export class ReplaceCard {
         this.target = /** @type {Target | null} */ (null);
         this.input = element('input', { type: 'text', class: 'mono', id: 'new-text', autocomplete: 'off', spellcheck: 'false',
             'aria-describedby': 'new-length', input: () => this.draw(), keydown: event => this.pressed(event) });
-        this.fill = element('select', { class: 'short', 'aria-label': 'Fill with', change: () => this.draw() },
-            ...FILLS.map(([value, label]) => element('option', { value }, label)));
+        this.fill = element('select', { class: 'short', 'aria-label': 'Fill with', change: () => this.draw() });
+        this.filled = /** @type {Encoding | null} the one to which the choices belong */ (null);
         this.other = element('input', { type: 'text', class: 'short mono', 'aria-label': 'The byte to fill with, two digits',
             maxlength: 2, value: 'FF',
             hidden: true, input: () => this.draw() });
@@ -68,24 +74,35 @@ export class ReplaceCard {
         }
     }
 
+    /** Offers what the encoding has to fill with, its space first. */
+    drawFills() {
+        const encoding = chosenEncoding(this.app);
+        if (this.filled === encoding) return;
+        this.filled = encoding;
+        const choices = fillsOf(encoding).map(({ bytes, name }) => [hexText(bytes), `${hexText(bytes, ' ')} ${name}`.trim()]);
+        if (spaceIn(encoding) === null) choices.unshift([NO_FILL, 'choose…']);
+        fill(this.fill, ...[...choices, [OTHER_FILL, 'another byte…']].map(([value, label]) => element('option', { value }, label)));
+    }
+
     /** The bytes to fill with, or null if they are no byte. */
     filling() {
         const digits = this.fill.value || this.other.value;
-        return /^([0-9A-Fa-f]{2}){1,2}$/.test(digits) ? Uint8Array.from(digits.match(/../g) || [], pair => parseInt(pair, 16)) : null;
+        return /^([0-9A-Fa-f]{2})+$/.test(digits) ? bytesOfHex(digits) : null;
     }
 
     draw() {
         const { target } = this;
         if (target === null) return;
         const { hit, number, of, old, left, line } = target;
-        this.other.hidden = this.fill.value !== '';
+        this.drawFills();
+        this.other.hidden = this.fill.value !== OTHER_FILL;
         fill(this.head, element('h2', {}, `Replace: block ${hit.block} offset ${hit.offset}`),
             element('span', { class: 'small quiet' }, `hit ${counted(number)} of ${counted(of)}`));
         fill(this.old, element('span', { class: 'label' }, `Old text: ${countOf(old.length, 'byte')}`),
             element('p', { class: 'mono old-text' }, visible(chosenEncoding(this.app).text(old))));
         const { bytes, fault } = this.fresh();
         const filling = this.filling();
-        const filled = filling && filledTo(bytes, old.length, filling);
+        const filled = filledTo(bytes, old.length, filling);
         const ready = filled !== null && fault === '' && this.input.value !== '';
         const replaces = this.outOf(target, old) !== null;
         fill(this.add, replaces ? `Replace line ${line}` : 'Add to the script');
@@ -148,7 +165,7 @@ export class ReplaceCard {
      * @param {Uint8Array} fresh
      */
     outOf({ hit, line }, fresh) {
-        const written = line > 0 ? this.app.script.text.split('\n')[line - 1] : '';
+        const written = line > 0 ? this.app.script.shown.split('\n')[line - 1] : '';
         const made = rewrittenLine(written, hit, fresh);
         return made === '' ? null : { written, made };
     }
@@ -162,9 +179,8 @@ export class ReplaceCard {
 
     addLine() {
         const { target } = this;
-        const filling = this.filling();
-        if (target === null || filling === null || isDisabled(this.add)) return;
-        const filled = filledTo(this.fresh().bytes, target.old.length, filling);
+        if (target === null || isDisabled(this.add)) return;
+        const filled = filledTo(this.fresh().bytes, target.old.length, this.filling());
         if (filled === null) return;
         const out = this.outOf(target, filled);
         if (out === null) return this.owner.add(target.hit, filled, target.old);
@@ -174,8 +190,21 @@ export class ReplaceCard {
     }
 
     addAll() {
-        const filling = this.filling();
-        if (filling !== null && !isDisabled(this.all)) this.owner.addAll(this.fresh().bytes, filling);
+        if (!isDisabled(this.all)) this.owner.addAll(this.fresh().bytes, this.filling());
+    }
+}
+
+/**
+ * New bytes filled up to the size of the old ones, or null if they do not fit.
+ * @param {Uint8Array} fresh
+ * @param {number} size
+ * @param {Uint8Array | null} filling
+ */
+function filledTo(fresh, size, filling) {
+    try {
+        return filledUp(fresh, size, filling);
+    } catch {
+        return null;
     }
 }
 

@@ -4,9 +4,11 @@ import { RESULT } from '../core/records.js';
 import { sha1Of, sumsOf } from './crew.js';
 import { askBeforeLeaving, button, countOf, counted, element, fill, hashParts } from './dom.js';
 import { downloadText } from './files_out.js';
-import { WorkRefused, saveWork } from './patch_job.js';
+import { nameOf, namesOf } from './names.js';
+import { saveWork } from './patch_job.js';
 import { jobBar } from './progress.js';
 import { fileReader } from './reading.js';
+import { WorkRefused } from './refused.js';
 import { SaveFault, patchedName } from './save.js';
 import { isCancelled, messageOf, notice } from './say.js';
 import { sheetNaming } from './sheet.js';
@@ -28,7 +30,7 @@ export class SaveCard {
     constructor(app, redraw) {
         this.app = app;
         this.redraw = redraw;
-        this.title = '';
+        this.title = /** @type {Child[]} */ ([]);
         this.body = /** @type {Child[]} */ ([]);
         askBeforeLeaving(() => this.leaving);
         this.leaving = false;
@@ -44,11 +46,11 @@ export class SaveCard {
     }
 
     shown() {
-        return this.title !== '';
+        return this.title.length > 0;
     }
 
     parts() {
-        return [element('header', {}, element('h2', {}, this.title)), element('div', { class: 'pad stack' }, ...this.body)];
+        return [element('header', {}, element('h2', {}, ...this.title)), element('div', { class: 'pad stack' }, ...this.body)];
     }
 
     /** Makes way for Check, unless an image is being saved. */
@@ -57,17 +59,17 @@ export class SaveCard {
     }
 
     close() {
-        this.title = '';
+        this.title = [];
         this.leaving = false;
         this.redraw();
     }
 
     /**
-     * @param {string} title
+     * @param {Child | Child[]} title
      * @param {...Child} body
      */
     show(title, ...body) {
-        this.title = title;
+        this.title = [title].flat();
         this.body = body;
         this.redraw();
     }
@@ -84,10 +86,10 @@ export class SaveCard {
         try {
             const saved = await this.app.run((signal, cancel) => {
                 const bar = jobBar('Saving', cancel);
-                this.show(`Saving ${name}`, ...bar.parts, element('p', { class: 'small quiet' },
+                this.show(['Saving ', nameOf(name)], ...bar.parts, element('p', { class: 'small quiet' },
                     'After Cancel no image is kept: the browser throws the unfinished file away.'));
                 this.leaving = true;
-                return saveWork(this.app, work, name, '', { signal, progress: bar.at });
+                return saveWork(this.app, { ...work, opened: this.app.openFiles() }, name, '', { signal, progress: bar.at });
             });
             if (saved === null) this.close();
             else this.showSaved(image, saved);
@@ -113,9 +115,9 @@ export class SaveCard {
         const refused = made.outcomes.filter(it => it.result !== RESULT.OK).length;
         const without = refused === 0 ? '' : `, without ${refused} of ${countOf(made.outcomes.length, 'patch', 'patches')}`;
         const tone = refused === 0 ? 'good' : 'warn';
-        this.sayWhole = () => fill(this.said, notice(tone, `${name} is saved${without}.`, 'All other bytes are as before.'));
+        this.sayWhole = () => fill(this.said, notice(tone, ['Saved: ', nameOf(name), without], 'All other bytes are as before.'));
         if (streamed) this.sayWhole();
-        else fill(this.said, notice(tone, `Your browser is saving ${name}${without}.`,
+        else fill(this.said, notice(tone, ['Your browser is saving ', nameOf(name), without],
             `It must have ${counted(size)} bytes. Keep this page open until it has.`));
         image.renamed.set(image.name, name);
         const sheet = sheetNaming(image.sheet, image.renamed);
@@ -125,7 +127,7 @@ export class SaveCard {
         this.show(streamed ? 'Saved' : 'Saving by your browser', this.said,
             element('dl', { class: 'hashes' }, element('dt', {}, 'size'), element('dd', {}, counted(size)), ...this.sumsOf(saved)),
             this.checked, sheet !== '' && others.length > 0 && element('p', { class: 'small quiet' },
-                `The cue sheet names ${others.join(', ')} too, which you saved before.`),
+                'The cue sheet names files too that you saved before: ', ...namesOf(others)),
             element('div', { class: 'row' }, sheet !== '' && button('', () => downloadText(sheet, sheetName), 'Save a cue sheet…'),
                 (saved.blob || saved.file) && button('', () => this.openNew(saved), 'Open the new image'),
                 button('back', () => this.close(), 'Back to Check')));
@@ -182,13 +184,13 @@ export class SaveCard {
             this.close();
             this.app.open([file]);
         }, 'Open it');
-        fill(this.checked, right ? notice('good', `${file.name} is right.`, 'Its size and SHA-1 are those of the patched image.',
+        fill(this.checked, right ? notice('good', ['Right: ', nameOf(file.name)], 'Its size and SHA-1 are those of the patched image.',
             element('div', { class: 'row' }, open))
-            : notice('bad', `${file.name} is not what it should be.`, wrong || 'Its SHA-1 is another one. Save it again.'));
+            : notice('bad', ['Not what it should be: ', nameOf(file.name)], wrong || 'Its SHA-1 is another one. Save it again.'));
         this.leaving = this.leaving && !right;
         if (right) {
             this.sayWhole();
-            this.title = 'Saved';
+            this.title = ['Saved'];
             this.redraw();
         }
         return true;

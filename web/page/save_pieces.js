@@ -1,13 +1,14 @@
 // Saving an image that is known in pieces: a repaired one.
 
-import { canStream, chosenFile, download } from './files_out.js';
-import { assertOther } from './patch_job.js';
+import { chosenOther } from './chosen.js';
+import { canStream, download } from './files_out.js';
 import { fileOf } from './reading.js';
 import { blobOfPieces, saveToSink } from './save.js';
 
 /** @typedef {import('../core/bytes.js').Reader} Reader */
 /** @typedef {import('../core/bytes.js').Piece} Piece */
 /** @typedef {import('./save.js').Watch} Watch */
+/** @typedef {import('./chosen.js').OpenFile} OpenFile */
 
 /**
  * Saves the pieces of an image. Returns the file's name, whether it was written to its end, and what it has, if the browser reads it
@@ -15,9 +16,10 @@ import { blobOfPieces, saveToSink } from './save.js';
  * @param {Reader[]} readers of the image that slices are of, and of the others that must not be written over
  * @param {Piece[]} pieces
  * @param {string} name that is proposed
+ * @param {OpenFile[]} opened all files that are open
  * @param {Watch} watch
  */
-export async function savePieces(readers, pieces, name, watch) {
+export async function savePieces(readers, pieces, name, opened, watch) {
     const [reader] = readers;
     if (!canStream()) {
         const file = fileOf(reader);
@@ -25,10 +27,9 @@ export async function savePieces(readers, pieces, name, watch) {
         download(blobOfPieces(file, pieces), name);
         return { name, streamed: false, file: new File([blobOfPieces(file, pieces)], name) };
     }
-    const chosen = await chosenFile(name);
+    const chosen = await chosenOther(name, readers, opened);
     if (chosen === null) return null;
     const before = await chosen.getFile();
-    for (const other of readers) assertOther(before, other);
     const give = async (/** @type {(piece: Piece) => Promise<void>} */ take) => {
         for (const piece of pieces) await take(piece);
     };

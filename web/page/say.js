@@ -2,6 +2,7 @@
 
 import { MissingFiles } from '../core/disc.js';
 import { button, byId, element, fill } from './dom.js';
+import { namesOf, seen, withNames } from './names.js';
 
 /** @typedef {import('./dom.js').Child} Child */
 /** @typedef {'good' | 'bad' | 'warn' | 'plain'} Tone */
@@ -9,17 +10,17 @@ import { button, byId, element, fill } from './dom.js';
 /**
  * A notice.
  * @param {Tone} tone
- * @param {string} head
+ * @param {Child | Child[]} head
  * @param {...Child} rest
  */
 export function notice(tone, head, ...rest) {
-    return element('div', { class: `say ${tone}`, role: tone === 'bad' ? 'alert' : 'status' }, element('b', {}, head), ...rest);
+    return element('div', { class: `say ${tone}`, role: tone === 'bad' ? 'alert' : 'status' }, element('b', {}, ...[head].flat()), ...rest);
 }
 
 /**
  * Shows a notice over the panel or the player, or at the drop area of the start, until it is closed or another one comes.
  * @param {Tone} tone
- * @param {string} head
+ * @param {Child | Child[]} head
  * @param {...Child} rest
  */
 export function showNotice(tone, head, ...rest) {
@@ -48,7 +49,7 @@ export function clearNotices() {
  * @param {string} [rest]
  */
 export function showFailure(error, rest = '') {
-    if (error instanceof MissingFiles) return showNotice('bad', TOGETHER, error.names.join(', '));
+    if (error instanceof MissingFiles) return showNotice('bad', TOGETHER, ...namesOf(error.names));
     const text = messageOf(error);
     const [, first, after] = /^(.*?[.!?])\s+(.*)$/s.exec(text) || ['', text, ''];
     return showNotice('bad', first, [after, rest].filter(it => it !== '').join(' '));
@@ -60,25 +61,44 @@ const TOGETHER = 'Select or drop the cue sheet and these together:';
 /** What browsers say if there is no memory, in this page or in a worker. */
 const NO_MEMORY = /out of memory|allocation failed|grow.*memory|memory.*grow/i;
 
+/** So much of a message is shown: the lines of a stranger's cue sheet stand in some of them. */
+const MOST_MESSAGE = 1000;
+
+/** @param {unknown} error */
+function wordsOf(error) {
+    const { message, name } = error instanceof Error ? error : new Error(String(error));
+    if (error instanceof MissingFiles) return `${TOGETHER} ${error.names.join(', ')}`;
+    if (name === 'ImageEnded') return 'The file is shorter than it was when it was opened.';
+    if (NO_MEMORY.test(message)) return 'This browser has not enough memory left. Close other tabs, then try again.';
+    return message.length > MOST_MESSAGE ? `${message.slice(0, MOST_MESSAGE)}…` : message;
+}
+
 /**
  * What an error says.
  * @param {unknown} error
  */
 export function messageOf(error) {
-    const { message, name } = error instanceof Error ? error : new Error(String(error));
-    if (error instanceof MissingFiles) return `${TOGETHER} ${error.names.join(', ')}`;
-    if (name === 'ImageEnded') return 'The file is shorter than it was when it was opened.';
-    return NO_MEMORY.test(message) ? 'This browser has not enough memory left. Close other tabs, then try again.' : message;
+    return seen(wordsOf(error));
 }
 
 /**
- * What an error says, as a sentence begins, unless that is a name.
+ * What an error says of files with these names, as parts of the page, with a capital letter unless it begins with a name.
  * @param {unknown} error
- * @param {string[]} [names] of files
+ * @param {string[]} names
  */
-export function sentence(error, names = []) {
+export function messageParts(error, names) {
+    const text = wordsOf(error);
+    const begins = names.some(name => name !== '' && text.startsWith(name));
+    return withNames(begins ? text : text.charAt(0).toUpperCase() + text.slice(1), names);
+}
+
+/**
+ * What an error says, as a sentence begins.
+ * @param {unknown} error
+ */
+export function sentence(error) {
     const text = messageOf(error);
-    return names.some(name => text.startsWith(name)) ? text : text.charAt(0).toUpperCase() + text.slice(1);
+    return text.charAt(0).toUpperCase() + text.slice(1);
 }
 
 /** @param {unknown} error */

@@ -14,6 +14,8 @@ import { placesInScript } from './hits.js';
  * @typedef {'line' | 'bytes' | ''} Typed
  */
 
+/** @typedef {{ text: string, saved: boolean, before: object }} LongScript whether it is in a file, and what stood there before it */
+
 /** More patches than this are a fault of the script. */
 export const MOST_PATCHES = 65535;
 
@@ -48,10 +50,12 @@ export class ScriptLines {
         /** The name of its file, or ''. */
         this.name = '';
         this.cached = /** @type {string | null} */ ('');
+        this.long = /** @type {LongScript | null} */ (null);
     }
 
     /** The whole text. It is made again only after a change. */
     text() {
+        if (this.long) return this.long.text;
         if (this.cached === null) this.cached = this.lines.join('\n');
         return this.cached;
     }
@@ -69,12 +73,32 @@ export class ScriptLines {
     }
 
     /**
+     * Takes a text of which no line is shown, in place of all lines. They come back by `leaveLong`, or when another text is taken.
+     * @param {string} text
+     * @param {string} name of its file
+     */
+    setLong(text, name) {
+        const { long, lines, contents, head, version, patches, faults, done, undone, cached, name: own } = this;
+        const before = long ? long.before : { lines, contents, head, version, patches, faults, done, undone, cached, name: own };
+        this.long = { text, saved: false, before };
+        Object.assign(this, { lines: [''], contents: [0], head: 0, version: 0, patches: 0, faults: 0, done: [], undone: [], name });
+        this.outcomes = new Map();
+    }
+
+    leaveLong() {
+        if (this.long) Object.assign(this, this.long.before);
+        this.outcomes = new Map();
+        this.long = null;
+    }
+
+    /**
      * Puts another text in place of this one, as one edit of the lines in which they differ.
      * @param {string} text
      * @param {string} name of its file
      * @param {Typed} typed as of an edit
      */
     replace(text, name, typed) {
+        this.leaveLong();
         const [{ lines }, come] = [this, text.split(/\r?\n/)];
         const most = Math.min(lines.length, come.length);
         let [same, end] = [0, 0];
@@ -86,12 +110,14 @@ export class ScriptLines {
 
     /** Whether this text is in a file, or nothing was written yet. */
     isSaved() {
+        if (this.long) return this.long.saved;
         const last = this.done[this.done.length - 1];
         return last === undefined || last.saved;
     }
 
     /** Takes note that this text is in a file. What is typed later is an edit of its own. */
     noteSaved() {
+        if (this.long) this.long.saved = true;
         const last = this.done[this.done.length - 1];
         if (last) Object.assign(last, { saved: true, typed: '' });
     }

@@ -1,19 +1,17 @@
 // The panel Script: the editor with what its line with the caret means, Check and Apply, and the log.
 
-import { blocksText } from '../core/runs.js';
-import { Refusal } from '../core/script.js';
-import { undoScript } from '../core/undo.js';
 import { CheckCard } from './check_card.js';
-import { askBeforeLeaving, button, byId, countOf, counted, element, fill, isDisabled, keepFocus, setDisabled } from './dom.js';
+import { askBeforeLeaving, button, byId, countOf, counted, element, fill, keepFocus, setDisabled } from './dom.js';
 import { ScriptEditor } from './editor.js';
 import { listenToEditor, takeBackBytes, turnBack } from './editor_input.js';
 import { explainLine } from './explain.js';
-import { downloadBytes, downloadText } from './files_out.js';
-import { watched } from './patch_job.js';
-import { jobBar } from './progress.js';
-import { clearNotices, copyText, isCancelled, showFailure, showNotice } from './say.js';
+import { downloadText } from './files_out.js';
+import { nameOf } from './names.js';
+import { clearNotices, copyText, notice, showNotice } from './say.js';
 import { ScriptLines } from './script_lines.js';
+import { LONG, isLong } from './script_long.js';
 import { helpOfFault, helpOfRefusal } from './script_words.js';
+import { makeUndo } from './undo_file.js';
 
 /** @typedef {import('./state.js').App} App */
 /** @typedef {import('./editor.js').LineHelp} LineHelp */
@@ -48,6 +46,7 @@ class ScriptPanel {
             log: text => this.showLog(text),
         });
         this.strip = element('div', { class: 'explain', 'aria-live': 'off' });
+        this.unshown = element('div');
         this.head = element('header', {});
         this.log = element('section', { class: 'card', 'aria-label': 'Log', hidden: true });
         this.side = element('div', { class: 'side' });
@@ -55,7 +54,7 @@ class ScriptPanel {
             change: () => this.open() });
         listenToEditor(this.editor);
         panel.append(element('div', { class: 'two' }, element('section', { class: 'card', 'aria-label': 'Script' }, this.head,
-            this.editor.box, this.strip),
+            this.unshown, this.editor.box, this.strip),
             this.side), this.opening);
         panel.addEventListener('keydown', event => this.pressed(event));
         this.lines.setText(NEW_SCRIPT);
@@ -97,24 +96,31 @@ class ScriptPanel {
     load(from) {
         const { lines, app } = this;
         const { name, text } = app.script;
-        const old = lines.text();
+        const [old, long] = [lines.text(), lines.long && { text: lines.text(), name: lines.name }];
         const isMore = from === 'lines' || from === 'bytes';
         const lost = !isMore && !lines.isSaved() && old !== NEW_SCRIPT && old !== text;
-        if (text !== old || name !== lines.name) lines.replace(text || NEW_SCRIPT, name, from === 'bytes' ? 'bytes' : '');
+        if (isLong(text)) lines.setLong(text, name);
+        else if (text !== old || name !== lines.name) lines.replace(text || NEW_SCRIPT, name, from === 'bytes' ? 'bytes' : '');
         if (from === 'file') lines.noteSaved();
         this.editor.current = Math.min(this.editor.current, lines.lines.length - 1);
         this.share();
         this.drawAll();
-        if (lost) queueMicrotask(() => this.offerBack(lines.done[lines.done.length - 1]));
+        if (lost) queueMicrotask(() => this.offerBack(lines.done[lines.done.length - 1], long));
     }
 
-    /** @param {Edit} edit with which a script in no file went */
-    offerBack(edit) {
+    /**
+     * @param {Edit | undefined} edit with which a script in no file went, if it went by one
+     * @param {{ text: string, name: string } | null} long what went, if it was too long to be shown
+     */
+    offerBack(edit, long) {
         const { editor, lines } = this;
         const back = () => {
-            let line = -1;
-            while (lines.done.includes(edit)) line = lines.undo();
+            let line = lines.long ? 0 : -1;
+            if (long) lines.setLong(long.text, long.name);
+            else lines.leaveLong();
+            while (edit && lines.done.includes(edit)) line = lines.undo();
             clearNotices();
+            this.drawAll();
             turnBack(editor, line);
         };
         showNotice('warn', 'Your script was in no file, and has made way for this one.', element('div', { class: 'row' },
@@ -127,6 +133,7 @@ class ScriptPanel {
         this.app.script = {
             get name() { return lines.name; },
             get text() { return lines.text() === NEW_SCRIPT ? '' : lines.text(); },
+            get shown() { return lines.long ? '' : this.text; },
         };
     }
 
@@ -141,6 +148,9 @@ class ScriptPanel {
     drawAll() {
         this.check.outdate();
         this.showLog(null);
+        const { long } = this.lines;
+        this.editor.box.hidden = this.strip.hidden = long !== null;
+        fill(this.unshown, long && notice('plain', 'This script is too long: its lines are not shown.', LONG));
         this.editor.draw();
         this.drawHead();
         this.drawSide();
@@ -151,11 +161,11 @@ class ScriptPanel {
         const { lines, app } = this;
         const { name } = app.script;
         const fault = lines.faults > 0;
-        const tag = fault ? countOf(lines.faults, 'fault')
+        const tag = fault ? countOf(lines.faults, 'fault') : lines.long ? countOf(lines.long.text.length, 'character')
             : `${countOf(lines.patches, 'patch', 'patches')}${lines.version ? `, version ${lines.version}` : ''}`;
-        const undo = button('slim bare', () => this.makeUndo(undo), 'Make the undo script…');
-        setDisabled(undo, fault || app.image === null || lines.patches === 0);
-        fill(this.head, element('h2', { class: name ? 'mono' : '' }, name || 'New script'),
+        const undo = button('slim bare', () => void makeUndo(app, undo, lines, this.check.carry.checked), 'Make the undo script…');
+        setDisabled(undo, fault || app.image === null || (lines.patches === 0 && !lines.long));
+        fill(this.head, element('h2', { class: name ? 'mono' : '' }, name ? nameOf(name) : 'New script'),
             element('span', { class: `tag${fault ? ' bad' : ''}` }, tag),
             this.isLost() && element('span', { class: 'tag warn' }, 'in no file yet'),
             button('slim bare', () => this.opening.click(), 'Open…'), button('slim bare', () => this.save(), 'Save script…'), undo);
@@ -168,7 +178,7 @@ class ScriptPanel {
     }
 
     drawSide() {
-        const none = this.lines.patches === 0 && this.lines.faults === 0 && !this.check.saving.shown();
+        const none = this.lines.patches === 0 && this.lines.faults === 0 && !this.lines.long && !this.check.saving.shown();
         if (none) return fill(this.side, this.emptyCard());
         this.check.draw();
         return fill(this.side, this.check.card, this.log);
@@ -240,37 +250,6 @@ class ScriptPanel {
         const files = [...this.opening.files || []];
         this.opening.value = '';
         this.app.open(files);
-    }
-
-    /**
-     * Saves the script that takes this one back.
-     * @param {Element} from
-     */
-    async makeUndo(from) {
-        const { app, lines, check } = this;
-        const { image } = app;
-        if (isDisabled(from) || image === null) return;
-        const carry = check.carry.checked;
-        try {
-            const made = await app.run((signal, cancel) => {
-                const bar = jobBar('Making the undo script', cancel);
-                showNotice('plain', 'Making the undo script', ...bar.parts);
-                const script = [new TextEncoder().encode(lines.text())];
-                return undoScript(app.calls, watched(image.reader, { signal, progress: bar.at }), script, { base: image.base, carry });
-            });
-            if (made instanceof Refusal) throw new Error('The script has a fault.');
-            const stem = (app.script.name || 'script').replace(/\.[^.]*$/, '');
-            downloadBytes(made.script.pieces, `${stem} (undo).txt`);
-            const left = made.left.length > 0
-                && `, but for the damage of ${blocksText(made.left, 8)}: their address and user data come back`;
-            const how = carry && ' Apply it with carry, as this script.';
-            const long = made.script.long && ' It is longer than cdpatch and this page take: cdscript applies it with --long.';
-            showNotice(left || long ? 'warn' : 'good', 'The undo script is saved.', 'On the patched image it makes the old one again',
-                left, '.', how, long);
-        } catch (error) {
-            if (isCancelled(error)) showNotice('plain', 'Cancelled.', 'No undo script was made.');
-            else showFailure(error, 'No undo script was made.');
-        }
     }
 
     /** @param {Uint8Array | null} bytes */

@@ -2,6 +2,7 @@
 
 import { button, countOf, element, fill, redraw } from './dom.js';
 import { oneStop } from './groups.js';
+import { nameOf } from './names.js';
 import { isCancelled, showFailure } from './say.js';
 import { SecondCompare } from './second_compare.js';
 import { SecondRepair } from './second_repair.js';
@@ -58,7 +59,7 @@ export class SecondCard {
         this.part.hidden = image === null || second === null;
         if (image !== null && second !== null) {
             const same = image.reader.size === second.reader.size;
-            fill(this.title, 'Second image: ', element('span', { class: 'plain' }, second.name));
+            fill(this.title, 'Second image: ', element('span', { class: 'plain' }, nameOf(second.name)));
             fill(this.tag, same ? `same length: ${countOf(second.sectors, 'sector')}` : 'another length');
             this.tag.className = same ? 'tag good' : 'tag bad';
             const damaged = survey !== null && survey.marks.damaged() > 0;
@@ -105,7 +106,7 @@ export class SecondCard {
      */
     opening(image, second) {
         const other = image.reader.size === second.reader.size ? [] : [otherLength(image, second)];
-        return [...other, element('p', {}, `${second.name} takes the place of ${image.name}. The script stays.`),
+        return [...other, element('p', {}, 'It takes the place of ', nameOf(image.name), ': ', nameOf(second.name), '. The script stays.'),
             element('div', { class: 'row' }, button('main', () => void readImage(this.app, second), 'Open it instead'))];
     }
 }

@@ -7,6 +7,7 @@ import { SECTOR_SIZE } from '../core/sector.js';
 import { readBytes } from '../core/bytes.js';
 import { sha1Of } from './crew.js';
 import { askBeforeLeaving, button, counted, countOf, element, fill, hashParts, keepFocus, term } from './dom.js';
+import { nameOf, shownName } from './names.js';
 import { pieceReader } from './piece_reader.js';
 import { jobBar } from './progress.js';
 import { fileReader } from './reading.js';
@@ -130,7 +131,7 @@ export class SecondRepair {
                 this.saving = true;
                 const progress = (/** @type {number} */ done) => bar.at(done, image.reader.size);
                 const name = patchedName(image.name, 'repaired');
-                return savePieces([image.reader, second.reader], pieces, name, { signal, progress });
+                return savePieces([image.reader, second.reader], pieces, name, app.openFiles(), { signal, progress });
             });
             this.saving = saved !== null && !saved.streamed;
             show(...saved ? this.savedWords(saved, image.reader.size) : []);
@@ -147,8 +148,9 @@ export class SecondRepair {
      */
     savedWords({ name, streamed, file }, size) {
         const { app } = this;
-        const said = streamed ? notice('good', `${name} is saved.`, 'All sectors that were not repaired are as before.')
-            : notice('good', `Your browser is saving ${name}.`, `It must have ${counted(size)} bytes. Keep this page open until it has.`);
+        const said = streamed ? notice('good', ['Saved: ', nameOf(name)], 'All sectors that were not repaired are as before.')
+            : notice('good', ['Your browser is saving ', nameOf(name)],
+                `It must have ${counted(size)} bytes. Keep this page open until it has.`);
         if (file === null) return [said];
         const sum = element('dd', { id: 'repaired-sha1' }, '…');
         const told = (/** @type {number} */ done) => { sum.textContent = `(${Math.floor(100 * done / size)} %)`; };
@@ -206,7 +208,7 @@ export class SecondRepair {
             });
             const [file] = files === null ? [] : filesAt(files.files, block, 0);
             const same = old.every((it, i) => it === other[i]);
-            rows.push({ block, here: said[0], there: said[1], file: file ? file.path : 'in no file', same });
+            rows.push({ block, here: said[0], there: said[1], file: file ? shownName(file.path) : 'in no file', same });
         }
         return rows;
     }

@@ -47,7 +47,7 @@ export function patchesNear(calls, text, block) {
 export async function sectorBytes(app, { reader, base }, block) {
     const at = (block - base) * SECTOR_SIZE;
     const old = await readBytes(reader, at, SECTOR_SIZE);
-    const patches = patchesNear(app.calls, app.script.text, block);
+    const patches = patchesNear(app.calls, app.script.shown, block);
     if (patches.length === 0) return { old, fresh: old };
     const { pieces } = await applyPatches(app.calls, reader, patches, base, true);
     for (const piece of pieces) {

@@ -9,6 +9,7 @@ import { bindEncodings, chosenEncoding, encodingLabel } from './encodings.js';
 import { crossingsOf } from './crossings.js';
 import { oneStop } from './groups.js';
 import { HexView, USER_END, digitsOf, placeName } from './hex_view.js';
+import { nameOf } from './names.js';
 import { faultOf } from './sector_fault.js';
 import { secondBytes, sectorBytes } from './sector_bytes.js';
 import { showFailure } from './say.js';
@@ -140,7 +141,7 @@ export class SectorCard {
         if (moved) this.drawFields(fields);
         this.view.show({
             block, old, bytes: fresh, other, mode1, fields, crossings: new Set(found ? found.crossings : []), encoding: chosenEncoding(app),
-            label: encodingLabel(app.encoding), table: app.tables.has(app.encoding),
+            label: encodingLabel(app.encoding),
         });
         if (moved) {
             const differs = other ? old.findIndex((byte, i) => byte !== other[i]) : -1;
@@ -196,7 +197,7 @@ export class SectorCard {
         const [file] = filesAt(files.files, place.block, offset);
         if (file === undefined) return element('span', {}, 'in no file');
         const position = (place.block - file.block) * USER_SIZE + offset;
-        return element('span', {}, 'file ', element('span', { class: 'mono' }, file.path), ` at ${counted(position)}`);
+        return element('span', {}, 'file ', element('span', { class: 'mono' }, nameOf(file.path)), ` at ${counted(position)}`);
     }
 
     /** @param {Event} event */

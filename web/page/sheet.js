@@ -6,15 +6,46 @@
  * @param {Iterable<[string, string]>} names each file's own name, and the other one
  */
 export function sheetNaming(sheet, names) {
-    const last = (/** @type {string} */ path) => path.replace(/^"|"$/g, '').replace(/^.*[/\\]/, '').toLowerCase();
     const others = new Map([...names].map(([own, other]) => [own.toLowerCase(), other]));
     let found = false;
     const lines = sheet.split('\n').map(line => {
-        const parts = /^(\s*FILE\s+)("[^"]*"|\S.*?)(\s+\S+\s*)$/i.exec(line);
-        const other = parts && others.get(last(parts[2]));
+        const parts = fileParts(line);
+        const other = parts && others.get(lastName(parts.name));
         if (!other) return line;
         found = true;
-        return `${parts[1]}"${other}"${parts[3]}`;
+        return `${parts.before}"${other}"${parts.after}`;
     });
     return found ? lines.join('\n') : '';
+}
+
+/** @param {string} path perhaps in quotes, as a sheet has it */
+function lastName(path) {
+    const name = path.replace(/^"|"$/g, '');
+    return name.slice(Math.max(name.lastIndexOf('/'), name.lastIndexOf('\\')) + 1).toLowerCase();
+}
+
+/**
+ * What a line of a sheet has before and after the name of a file, or null. No expression with two gaps goes over the line: on a long one
+ * that would take minutes.
+ * @param {string} line
+ */
+function fileParts(line) {
+    const text = line.trim();
+    const command = /^FILE\s+/i.exec(text);
+    if (!command) return null;
+    const rest = text.slice(command[0].length);
+    const size = rest.startsWith('"') ? rest.indexOf('"', 1) + 1 : nameSize(rest);
+    const at = line.length - line.trimStart().length + command[0].length;
+    const after = line.slice(at + size);
+    return size > 0 && /^\s+\S+$/.test(after.trimEnd()) ? { before: line.slice(0, at), name: rest.slice(0, size), after } : null;
+}
+
+/**
+ * How long a name without quotes is, after which a last word stands.
+ * @param {string} rest
+ */
+function nameSize(rest) {
+    let end = rest.length;
+    while (end > 0 && rest.charAt(end - 1).trim() !== '') end--;
+    return rest.slice(0, end).trimEnd().length;
 }

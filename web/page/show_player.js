@@ -1,6 +1,7 @@
 // A patcher is shown as players see it, in place of the panels, until they open it in the full page.
 
 import { button, byId, element, fill } from './dom.js';
+import { seenTitle, stemOf } from './names.js';
 import { Player } from './player.js';
 import { changeBase } from './survey_image.js';
 
@@ -31,13 +32,13 @@ export function showPlayer(app, data, how) {
         fill(place);
         if (!full && how.back) return how.back();
         app.emit('patcher', data);
-        app.setScript(data.script, `${data.title}.txt`, 'file');
+        app.setScript(data.script, `${stemOf(data.title) || 'script'}.txt`, 'file');
         app.showPanel('script');
         if (player.files.length === 0) return undefined;
         await app.open(player.files);
         return player.base !== null && app.image && app.image.base !== player.base ? changeBase(app, player.base) : undefined;
     };
-    document.title = data.title;
+    document.title = seenTitle(data.title);
     place.append(element('p', { class: 'row center' }, how.back && button('slim', () => void leave(false), 'Back to Publish'),
         button('slim bare', () => void leave(true), 'Open this in the full cdpatch')));
     window.scrollTo(0, 0);

@@ -1,13 +1,15 @@
 // What the page knows, for all panels: the disc, what was found in it, the script, the second image, and who wants to hear of changes.
 
+import { USUAL_ENCODING } from '../core/text.js';
+
 /** @typedef {import('../core/codes.js').Calls} Calls */
 /** @typedef {import('../core/bytes.js').Reader} Reader */
 /** @typedef {import('../core/iso.js').VolumeFiles} VolumeFiles */
-/** @typedef {import('../core/text.js').Encoding} Encoding */
+/** @typedef {import('../core/texts/encoding.js').Encoding} Encoding */
 /** @typedef {import('../core/jobs.js').Crew} Crew */
 
 /** What the page is made of, which the joined page and a served one get in different ways. */
-/** @typedef {{ module: WebAssembly.Module, newWorker: () => Worker }} Parts */
+/** @typedef {{ module: WebAssembly.Module, newWorker: () => Worker, made: string[] }} Parts */
 
 /** @typedef {import('../core/disc.js').Disc} Disc */
 /** @typedef {import('../core/disc.js').DiscImage} DiscImage */
@@ -58,8 +60,9 @@ export class App {
         this.files = /** @type {VolumeFiles | null} */ (null);
         /** The block and the user byte, or -1, that the sector view shows. */
         this.place = { block: -1, offset: -1 };
-        this.script = { name: '', text: '' };
-        this.encoding = 'CP932';
+        /** `shown` is the text whose lines are looked at: '' if it is too long for that. */
+        this.script = { name: '', text: '', shown: '' };
+        this.encoding = USUAL_ENCODING.name;
         /** @type {Map<string, Encoding>} the tables that were loaded, by their files' names */
         this.tables = new Map();
         this.panel = /** @type {PanelName} */ ('disc');
@@ -125,6 +128,13 @@ export class App {
         });
     }
 
+    /** The files that are open: those of the disc with its cue sheet, and the second image. */
+    openFiles() {
+        const images = [this.image, this.second].flatMap(image => image || []);
+        return images.flatMap(({ disc, from, sheet }) => [...disc.files.map(({ name, reader }) => ({ name, size: reader.size })),
+            ...from === '' ? [] : [{ name: from, size: sheet.length }]]);
+    }
+
     /** Ends the jobs with the second image. */
     endPairing() {
         this.pairing.abort();
@@ -146,7 +156,7 @@ export class App {
      * @param {string} [from] who changed it, so that a listener knows its own change
      */
     setScript(text, name = this.script.name, from = '') {
-        this.script = { name, text };
+        this.script = { name, text, shown: text };
         this.emit('script', from);
     }
 
@@ -168,7 +178,7 @@ export class App {
      * @param {'lines' | 'bytes'} from as of addLines
      */
     replaceLine(old, line, from) {
-        const lines = this.script.text.split('\n');
+        const lines = this.script.shown.split('\n');
         const at = lines.lastIndexOf(old);
         if (at < 0) return this.addLines([line], from);
         lines[at] = line;

@@ -1,20 +1,22 @@
 // The panel Text: find, the hits, and replacing them in the script.
 
-import { AroundCard } from './around_card.js';
+import { filledUp } from '../core/edit.js';
+import { searchText } from '../core/texts/search.js';
+import { AroundCard, readAround } from './around_card.js';
 import { announce, button, countOf, element, fill, hexOf, term } from './dom.js';
 import { bindEncodings, chosenEncoding, encodingLabel, takeTable } from './encodings.js';
 import { HitsCard } from './hits_card.js';
-import { filledTo, findHits, linesForAll, linesReplacing, placesInScript, userAround } from './hits.js';
+import { MOST_HITS, linesForAll, linesReplacing, placesInScript } from './hits.js';
 import { jobBar } from './progress.js';
 import { ReplaceCard } from './replace_card.js';
 import { isCancelled, messageOf, notice, sentence } from './say.js';
 
 /** @typedef {import('./state.js').App} App */
 /** @typedef {import('./state.js').Image} Image */
-/** @typedef {import('../core/find.js').Hit} Hit */
+/** @typedef {import('../core/texts/find.js').Hit} Hit */
 /** @typedef {import('./hits_card.js').Search} Search */
 /** @typedef {import('./hits.js').Places} Places */
-/** @typedef {import('../core/text.js').Encoding} Encoding */
+/** @typedef {import('../core/texts/encoding.js').Encoding} Encoding */
 
 /** The panel. */
 class TextPanel {
@@ -126,9 +128,10 @@ class TextPanel {
                 const bar = jobBar('Searching', cancel);
                 fill(this.state, element('section', { class: 'card pad stack', 'aria-label': 'Searching' }, ...bar.parts));
                 const began = performance.now();
-                const found = await findHits(app, image, asked, { signal, progress: bar.sectors });
-                if (app.image === image && number === this.number) await this.take({ ...asked, count: found.count, hits: found.hits,
-                    seconds: (performance.now() - began) / 1000 }, image);
+                const [{ count, hits } = { count: 0, hits: [] }] = await searchText(app.crew, image, { text: asked.text,
+                    encodings: [asked.encoding], limit: MOST_HITS }, { signal, progress: bar.sectors });
+                const seconds = (performance.now() - began) / 1000;
+                if (app.image === image && number === this.number) await this.take({ ...asked, count, hits, seconds }, image);
             });
         } catch (error) {
             if (number !== this.number) return undefined;
@@ -167,7 +170,7 @@ class TextPanel {
     /** Draws the hits again, for the script or the files have changed. */
     drawHits() {
         if (this.found === null || this.app.panel !== 'text') return;
-        const places = placesInScript(this.app.script.text);
+        const places = placesInScript(this.app.script.shown);
         this.hits.draw(places);
         const { target } = this.replace;
         if (target !== null) this.replace.show({ ...target, ...this.writtenOf(target.hit, this.found, places) });
@@ -194,11 +197,11 @@ class TextPanel {
         this.chosen = index;
         this.hits.chosen = index;
         const hit = found.hits[index];
-        const around = await userAround(image, hit, 64, 160);
+        const around = await readAround(image, hit);
         if (this.found !== found || this.chosen !== index) return;
-        const places = placesInScript(app.script.text);
+        const places = placesInScript(app.script.shown);
         this.hits.draw(places);
-        const old = around.user.slice(around.at, around.at + hit.size);
+        const old = around.bytes.slice(around.at, around.at + hit.size);
         this.replace.show({ hit, number: index + 1, of: found.count, old, ...this.writtenOf(hit, found, places) });
         this.around.show(hit, around);
     }
@@ -207,7 +210,7 @@ class TextPanel {
     async next() {
         const { found } = this;
         if (found === null) return;
-        const places = placesInScript(this.app.script.text);
+        const places = placesInScript(this.app.script.shown);
         const count = found.hits.length;
         for (let k = 1; k <= count; k++) {
             const index = (this.chosen + k) % count;
@@ -247,7 +250,7 @@ class TextPanel {
     /**
      * Adds lines for each hit that is in no line of the script. Those that can't be replaced so are said.
      * @param {Uint8Array} fresh
-     * @param {Uint8Array} filling
+     * @param {Uint8Array | null} filling
      */
     async addAll(fresh, filling) {
         const [{ app, found }, { image }] = [this, this.app];
@@ -256,9 +259,9 @@ class TextPanel {
             const { lines, left } = await app.run((signal, cancel) => {
                 const bar = jobBar('Making the lines', cancel);
                 fill(this.state, element('section', { class: 'card pad stack', 'aria-label': 'Making the lines' }, ...bar.parts));
-                const places = placesInScript(app.script.text);
-                return linesForAll(app.calls, image, found.hits.filter(hit => places.lineAt(hit) === 0),
-                    hit => filledTo(fresh, hit.size, filling), { signal, progress: bar.sectors });
+                const places = placesInScript(app.script.shown);
+                return linesForAll(app.calls, image, chosenEncoding(app), found.hits.filter(hit => places.lineAt(hit) === 0),
+                    size => filledUp(fresh, size, filling), { signal, progress: bar.sectors });
             });
             if (app.image !== image || this.found !== found) return;
             if (lines.length > 0) app.addLines(lines);

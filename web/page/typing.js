@@ -24,7 +24,7 @@ export class Typing {
 
     /** Whether the last line is still in the script as it was written. */
     stands() {
-        return this.block >= 0 && this.app.script.text.split('\n').includes(this.line());
+        return this.block >= 0 && this.app.script.shown.split('\n').includes(this.line());
     }
 
     /**

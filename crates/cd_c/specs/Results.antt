@@ -1,9 +1,24 @@
--- The numbers that calls of C return.
+-- The numbers that calls of C return, those of `enum cdpatch_result`.
 use Rattle.std.specs.Prelude.{ℕ, ◌+◌, nat_lt, Bool, not, if◌then◌else◌, List}
 use Rattle.cd_sector.specs.Consistent.{consistent, is_mode1}
 use Rattle.cd_sector.specs.Kind.{kind_of}
 use Rattle.cd_sector.specs.declared.sector.TheConstants.{USER_SIZE}
-use Rattle.cd_c.specs.declared.results.TheConstants.{OK, NOT_MODE1, DAMAGED, OUT_OF_RANGE}
+
+-- the sector is changed
+abbrev pub done : ℕ
+done = 0
+
+-- the sector is not of Mode 1
+abbrev pub not_mode1 : ℕ
+not_mode1 = 1
+
+-- the sector is damaged, and the change carries no damage
+abbrev pub damaged : ℕ
+damaged = 2
+
+-- the bytes do not lie in the user data
+abbrev pub out_of_range : ℕ
+out_of_range = 3
 
 -- a truth as a byte
 abbrev pub as_byte : Bool → ℕ
@@ -16,12 +31,12 @@ is_inside offset count = nat_lt (offset + count) (USER_SIZE + 1)
 -- what a change that carries damage returns, by the sector and whether what it writes lies inside
 abbrev pub carry_result : List ℕ → Bool → ℕ
 carry_result sector inside =
-    if not (is_mode1 (kind_of sector)) then NOT_MODE1 else if inside then OK else OUT_OF_RANGE
+    if not (is_mode1 (kind_of sector)) then not_mode1 else if inside then done else out_of_range
 
 -- what a change that refuses a damaged sector returns: by the kind, then damage, then the range
 abbrev pub change_result : List ℕ → Bool → ℕ
 change_result sector inside =
-    if not (is_mode1 (kind_of sector)) then NOT_MODE1
-    else if not (consistent sector) then DAMAGED
-    else if inside then OK
-    else OUT_OF_RANGE
+    if not (is_mode1 (kind_of sector)) then not_mode1
+    else if not (consistent sector) then damaged
+    else if inside then done
+    else out_of_range

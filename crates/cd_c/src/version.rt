@@ -8,7 +8,7 @@ pub const VERSION: u32 = 10200;
 /// The version of the library, [`VERSION`].
 #[unsafe(no_mangle)]
 pub extern "C" fn cdpatch_version() -> u32
-    ensures { result ≡ VERSION }
+    ensures { result ≡ 10200 }
 {
     VERSION
 }

@@ -2,12 +2,12 @@
 use Rattle.std.proofs.Common.{◌≡◌, ℕ, ◌≤◌, Bool, List, length, Result, Ok, Err, IfOk, IfErr, OnOk}
 use Rattle.std.proofs.Common.{OnErr, ap, refl, ◌∙◌}
 use Rattle.cd_args.specs.Fault.{failed_status}
-use Rattle.cd_program.specs.Messages.{script_fault_line}
+use Rattle.cd_run.specs.Messages.{script_fault_line}
 use Rattle.cd_program.specs.Commands.{PrintsLine, script_status}
 use Rattle.cd_program.specs.Running.{RunsApply, RunsCheck}
 use Rattle.cd_program.specs.ScriptLines.{IsFaultOf}
 use Rattle.cd_memory.specs.Memory.{fresh_incoming}
-use Rattle.cd_read.specs.Image.{base_limit}
+use Rattle.cd_sector.specs.Image.{base_limit}
 use Rattle.cd_read.specs.declared.fault.Fault.TheVariants.{Log}
 use Rattle.cd_rooms.proofs.RoomLemmas.{Ends-lent, same-room}
 use Rattle.cd_script.specs.Limits.{text_limit}

@@ -3,7 +3,7 @@ use Rattle.std.proofs.Common.{◌≡◌, ◌≢◌, ℕ, ◌+◌, ◌<◌, ◌�
 use Rattle.std.proofs.Common.{inl, inr, refl, ap, ◌∙◌, arith}
 use Rattle.cd_args.specs.Fault.{failed_status}
 use Rattle.cd_image.specs.Applying.{null_outgoing}
-use Rattle.cd_read.specs.Image.{image_limit}
+use Rattle.cd_sector.specs.Image.{image_limit}
 use Rattle.cd_rooms.proofs.RoomLemmas.{holds-text, same-text}
 use Rattle.cd_rooms.specs.Rooms.{FillsCounted, FillsRoom, Holds, fresh_over}
 use Rattle.cd_stream.specs.Stream.{Outgoing}

@@ -6,7 +6,7 @@ use Rattle.std.specs.Borrow.{MutBor}
 use Rattle.std.proofs.lemmas.Bool.{cases_lt}
 use Rattle.cd_args.specs.Fault.{failed_status}
 use Rattle.cd_image.specs.Applying.{Applies, streams}
-use Rattle.cd_image.specs.Patched.{EachPatching}
+use Rattle.cd_run.specs.Patched.{EachPatching}
 use Rattle.cd_image.specs.declared.patch_log.Tally.{Tally}
 use Rattle.cd_program.specs.Commands.{Ends, script_status}
 use Rattle.cd_program.proofs.CommandLemmas.{not-failed}
@@ -15,7 +15,7 @@ use Rattle.cd_memory.proofs.KnownLemmas.{Appends-Some, Fits-beyond, MayBeImageAt
 use Rattle.cd_memory.proofs.KnownLemmas.{Some-injective}
 use Rattle.cd_memory.specs.Memory.{fresh_incoming}
 use Rattle.cd_read.specs.Ends.{MayBeImage, MayBeImageAtEnd}
-use Rattle.cd_read.specs.Image.{image_limit}
+use Rattle.cd_sector.specs.Image.{image_limit}
 use Rattle.cd_read.specs.declared.fault.Fault.{Fault}
 use Rattle.cd_read.specs.declared.fault.Fault.TheVariants.{Log, Read, TooLong, Write}
 use Rattle.cd_script.specs.PatchForm.{Patch}

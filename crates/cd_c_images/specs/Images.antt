@@ -2,13 +2,14 @@
 use Rattle.std.specs.Prelude.{◌≡◌, ℕ, ◌<◌, ◌≤◌, Bool, List, length, Result, Ok}
 use Rattle.std.specs.Prelude.{Err}
 use Rattle.cd_args.specs.Fault.{failed_status}
-use Rattle.cd_program.specs.Messages.{load_fault_line, script_fault_line}
+use Rattle.cd_program.specs.Messages.{load_fault_line}
+use Rattle.cd_run.specs.Messages.{script_fault_line}
 use Rattle.cd_program.specs.Program.{PrintsAndFails}
 use Rattle.cd_program.specs.Running.{RunsApply, RunsCheck}
 use Rattle.cd_program.specs.ScriptLines.{IsFaultOf}
 use Rattle.cd_program.specs.declared.script.LoadFault.TheVariants as load_fault
 use Rattle.cd_memory.specs.Memory.{fresh_incoming}
-use Rattle.cd_read.specs.Image.{base_limit}
+use Rattle.cd_sector.specs.Image.{base_limit}
 use Rattle.cd_script.specs.Limits.{text_limit}
 use Rattle.cd_script.specs.Order.{order}
 use Rattle.cd_script.specs.Script.{script}

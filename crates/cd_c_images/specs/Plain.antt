@@ -1,10 +1,11 @@
 -- What the calls that take a script to an image in memory do, in plain words.
 use Rattle.std.specs.Prelude.{◌≡◌, ℕ, ◌<◌, ◌⊎◌, Bool, List, length, take}
-use Rattle.cd_image.specs.PatchLog.{log_text, patch_tally}
-use Rattle.cd_image.specs.Patched.{EachPatching}
+use Rattle.cd_image.specs.Applying.{patch_tally}
+use Rattle.cd_run.specs.PatchLog.{log_text}
+use Rattle.cd_run.specs.Patched.{EachPatching}
 use Rattle.cd_program.specs.Commands.{script_status}
 use Rattle.cd_patch.specs.declared.outcome.Outcome.{Outcome}
-use Rattle.cd_read.specs.Image.{base_limit, image_limit}
+use Rattle.cd_sector.specs.Image.{base_limit, image_limit}
 use Rattle.cd_rooms.specs.Rooms.{Holds}
 use Rattle.cd_script.specs.PatchForm.{Patch}
 use Rattle.cd_stream.specs.Stream.{IsBeginning}

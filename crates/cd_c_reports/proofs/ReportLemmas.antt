@@ -8,7 +8,7 @@ use Rattle.cd_memory.proofs.KnownLemmas.{Appends-Some, Some-injective}
 use Rattle.cd_memory.specs.Memory.{fresh_incoming}
 use Rattle.cd_program.specs.Commands.{Ends}
 use Rattle.cd_program.specs.Running.{IsTooLong}
-use Rattle.cd_read.specs.Image.{image_limit}
+use Rattle.cd_sector.specs.Image.{image_limit}
 use Rattle.cd_read.specs.declared.fault.Fault.{Fault}
 use Rattle.cd_read.specs.declared.fault.Fault.TheVariants.{Log, Read, TooLong, Write}
 use Rattle.cd_report.specs.Report.{Reports, ReportSpec}

@@ -1,14 +1,15 @@
 //! The lines of a log, and the line of a script's fault.
 
 ghost use Rattle.std.specs.Prelude.{◌≡◌, ◌<◌, ◌≤◌, ◌↔◌, IfSome, None, drop, length, take};
-ghost use Rattle.cd_image.specs.PatchLog.{counts_line, outcome_line};
-ghost use Rattle.cd_program.specs.Messages.{script_fault_line};
-ghost use Rattle.cd_c_reports.specs.LogLines.{fault_of, outcome_of};
+ghost use Rattle.cd_run.specs.Messages.{script_fault_line};
+ghost use Rattle.cd_run.specs.PatchLog.{counts_line, outcome_line};
+ghost use Rattle.cd_patch.specs.OutcomeNumbers.{outcome_of};
+ghost use Rattle.cd_script.specs.FaultNumbers.{fault_of};
 
-use cd_image::{Outcome, counts_line, outcome_line};
-use cd_program::script_fault_line;
+use cd_line::{LINE_SIZE, Line};
+use cd_patch::Outcome;
+use cd_run::{counts_line, outcome_line, script_fault_line};
 use cd_script::ScriptFault;
-use cd_stream::{LINE_SIZE, Line};
 
 /// The patch is applied.
 pub const OK: u32 = 0;

@@ -23,3 +23,19 @@ place_after (NotMode1 block) place = record { block = block; offset = 0 }
 place_after (Damaged block) place = record { block = block; offset = 0 }
 place_after (NoBlock block) place = record { block = block; offset = 0 }
 place_after (Differs block offset) place = record { block = block; offset = offset }
+
+-- the block that refuses a patch, else 0
+abbrev pub outcome_block : Outcome → ℕ
+outcome_block Applied = 0
+outcome_block (NotMode1 block) = block
+outcome_block (Damaged block) = block
+outcome_block (NoBlock block) = block
+outcome_block (Differs block offset) = block
+
+-- the user byte there that differs, else 0
+abbrev pub outcome_offset : Outcome → ℕ
+outcome_offset Applied = 0
+outcome_offset (NotMode1 block) = 0
+outcome_offset (Damaged block) = 0
+outcome_offset (NoBlock block) = 0
+outcome_offset (Differs block offset) = offset

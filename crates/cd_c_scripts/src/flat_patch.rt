@@ -71,7 +71,7 @@ fn set_of<'a>(
 }
 
 /// The edit of a record.
-fn edit_of<'a>(
+pub(crate) fn edit_of<'a>(
     flat: &FlatPatch,
     new: &'a [u8; MAX_BYTES],
     old: &'a [u8; MAX_BYTES],

@@ -6,8 +6,17 @@
 //! has to see to that.
 #![tactic(auto)]
 
+mod asking;
 mod cutting;
+mod deciding;
+mod entries;
 mod flat_patch;
+mod laws;
 mod lending;
 mod lines;
+mod moving;
 mod patches;
+mod run_begin;
+mod run_next;
+mod run_state;
+mod telling;

@@ -1,8 +1,8 @@
 //! The call of C that reads a line of a script.
 
-ghost use Rattle.std.specs.Prelude.{◌≡◌, ◌≢◌, IfSome, Some};
+ghost use Rattle.std.specs.Prelude.{◌≡◌, ◌≢◌, ◌<◌, IfSome, Some};
 ghost use Rattle.cd_c_scripts.specs.FlatPatch.{IsSomePatch, flat_patch, new_of, old_of, record_of, with_front};
-ghost use Rattle.cd_c_scripts.specs.Lines.{answer_number, content_number, fault_number, line_read, patch_read, version_of};
+ghost use Rattle.cd_c_scripts.specs.Lines.{answer_number, content_number, fault_number, line_of, line_read, patch_read, version_of};
 
 use crate::flat_patch::FlatPatch;
 use crate::lending::lend_patch;
@@ -14,10 +14,14 @@ const PATCH: u32 = 3;
 /// The version is not 0, 1 or 2.
 const NO_VERSION: u32 = 14;
 
+/// A fault that no line has.
+const NO_LINE: u32 = 0;
+
 /// The number of a fault.
-fn fault_number(fault: ScriptFault) -> u32
+pub(crate) fn fault_number(fault: ScriptFault) -> u32
     ensures number { result ≡ fault_number fault }
     ensures fault { result ≢ PATCH }
+    ensures few { result < 15 }
 {
     match fault {
         ScriptFault::Head(_) => 4,
@@ -33,8 +37,26 @@ fn fault_number(fault: ScriptFault) -> u32
     }
 }
 
+/// The line of a fault.
+pub(crate) fn line_of(fault: ScriptFault) -> u32
+    ensures { result ≡ line_of fault }
+{
+    match fault {
+        ScriptFault::Head(line) => line,
+        ScriptFault::Verb(line) => line,
+        ScriptFault::Words(line) => line,
+        ScriptFault::Number(line) => line,
+        ScriptFault::Hex(line) => line,
+        ScriptFault::Length(line) => line,
+        ScriptFault::Offset(line) => line,
+        ScriptFault::Address(line) => line,
+        ScriptFault::TooMany(line) => line,
+        ScriptFault::NoMemory => NO_LINE,
+    }
+}
+
 /// The version that a number means, 0 that there was no head line.
-fn version_of(version: u32) -> Option<Option<Version>>
+pub(crate) fn version_of(version: u32) -> Option<Option<Version>>
     ensures { result ≡ version_of version }
 {
     match version {

@@ -26,7 +26,7 @@ pub struct Place {
 }
 
 /// The number of an outcome.
-fn outcome_number(outcome: Outcome) -> u32
+pub(crate) fn outcome_number(outcome: Outcome) -> u32
     ensures number { result ≡ outcome_number outcome }
     ensures patch { result ≢ no_patch }
 {

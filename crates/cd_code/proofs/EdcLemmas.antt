@@ -260,7 +260,7 @@ IsEdc-from v w h = record {
       ∙ after-word (after 0 v) w h.fits ∙ h.ends;
 }
 
-Ends-xor : (r s w u : ℕ) → Ends r w → Ends s u → Ends (bit_xor r s) (bit_xor w u)
+pub Ends-xor : (r s w u : ℕ) → Ends r w → Ends s u → Ends (bit_xor r s) (bit_xor w u)
 Ends-xor r s w u h k = record {
   left = xor_lt 32 r s h.left k.left;
   fits = xor_lt 32 w u h.fits k.fits;

@@ -34,7 +34,7 @@ zeros-lt : (k r : ℕ) → r < 2 ^ 32 → zeros k r < 2 ^ 32
 unfolding zeros
 zeros-lt k r h = after_bits-lt (8 * k) r 0 h
 
-zeros-xor : (k r s : ℕ) → r < 2 ^ 32 → s < 2 ^ 32
+pub zeros-xor : (k r s : ℕ) → r < 2 ^ 32 → s < 2 ^ 32
     → zeros k (bit_xor r s) ≡ bit_xor (zeros k r) (zeros k s)
 unfolding zeros
 zeros-xor k r s hr hs = after_bits-xor (8 * k) r s 0 0 hr hs
@@ -49,11 +49,11 @@ zeros-step : (k r : ℕ) → zeros k (divide_step r 0) ≡ divide_step (zeros k 
 unfolding zeros
 zeros-step k r = zero_bits-step (8 * k) r
 
-zeros-zero : (k : ℕ) → zeros k 0 ≡ 0
+pub zeros-zero : (k : ℕ) → zeros k 0 ≡ 0
 unfolding zeros
 zeros-zero k = after_bits-zero (8 * k)
 
-after-zeros : (k r : ℕ) → after r (replicate k 0) ≡ zeros k r
+pub after-zeros : (k r : ℕ) → after r (replicate k 0) ≡ zeros k r
 unfolding zeros
 after-zeros zero r = refl
 after-zeros (suc k) r =

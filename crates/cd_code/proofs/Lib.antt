@@ -6,5 +6,7 @@ pub mod FieldLemmas
 pub mod FieldTableLemmas
 pub mod FoldingLemmas
 pub mod LaneLemmas
+pub mod MovingLemmas
+pub mod MovingTableLemmas
 pub mod SyndromeLemmas
 pub mod general

@@ -1,6 +1,6 @@
 -- The field GF(2^8) of ECMA-130, Annex A: bytes as polynomials over GF(2), modulo x^8 + x^4 + x^3 +
 -- x^2 + 1. The sum of two elements is std's `bit_xor`.
-use Rattle.std.specs.Prelude.{◌≡◌, ℕ, zero, suc, ◌==◌, ◌-◌, ◌*◌, ◌/◌, ◌%◌, ◌<◌, nat_lt, if◌then◌else◌, bit_xor, List, slice_index}
+use Rattle.std.specs.Prelude.{◌≡◌, ℕ, zero, suc, ◌==◌, ◌-◌, ◌*◌, ◌/◌, ◌%◌, ◌<◌, ◌≤◌, nat_lt, if◌then◌else◌, bit_xor, List, slice_index}
 
 -- an element times alpha, which is 2: a shift, and 1D added if x^8 has come up
 unfoldable pub double : ℕ → ℕ
@@ -28,3 +28,14 @@ AreBytes v = (i : ℕ) → slice_index v i < 256
 -- u is the sum, element by element, of v and w
 pub record IsSum (u v w : List ℕ) : Type 0 where
   pub byte : (i : ℕ) → slice_index u i ≡ bit_xor (slice_index v i) (slice_index w i)
+
+-- plumbing of `times`: n is the logarithm of `a`, and 510 if that is 0, which has none
+pub record IsLogarithm (a n : ℕ) : Type 0 where
+  pub none : a ≡ 0 → n ≡ 510
+  pub below : 0 < a → n < 255
+  pub power : 0 < a → power n ≡ a
+
+-- and `b` is alpha to the n, and 0 if one of the logarithms whose sum is n was none
+pub record IsExponent (n b : ℕ) : Type 0 where
+  pub power : n < 510 → b ≡ power n
+  pub none : 510 ≤ n → b ≡ 0

@@ -3,4 +3,5 @@ pub mod Field
 pub mod Folding
 pub mod LaneWords
 pub mod Laws
+pub mod Moving
 pub mod Syndrome

@@ -1,9 +1,9 @@
 //! GF(2^8) by x^8 + x^4 + x^3 + x^2 + 1, and alpha = 2 (ECMA-130, Annex A).
 
-ghost use Rattle.std.specs.Prelude.{◌≡◌, ◌<◌};
-ghost use Rattle.cd_code.specs.Field.{double, power, product};
+ghost use Rattle.std.specs.Prelude.{◌≡◌, ◌<◌, ◌≤◌, bit_xor};
+ghost use Rattle.cd_code.specs.Field.{IsExponent, IsLogarithm, double, power, product};
 
-use crate::field_tables::{EXPONENTS, LOGARITHMS};
+use crate::field_tables::{EXPONENTS, LOGARITHMS, PAIRS};
 
 /// The inverse of 3, which is 1 + alpha.
 pub(crate) const INVERSE_OF_THREE: u8 = 0xF4;
@@ -26,10 +26,7 @@ pub(crate) fn doubled(b: u8) -> u8
 pub fn times(a: u8, b: u8) -> u8
     ensures { result ≡ product a b }
 {
-    if a == 0 || b == 0 {
-        return 0;
-    }
-    exponent(logarithm(a) as usize + logarithm(b) as usize)
+    exponent(logarithm(a) + logarithm(b))
 }
 
 /// The `n`-th power of alpha, which is `02` (ECMA-130, Annex A).
@@ -46,20 +43,29 @@ pub fn alpha_power(n: u32) -> u8
     exponent((n % 255) as usize)
 }
 
-/// Proof step: an entry of the table, whose rule is this clause: alpha to the `n`.
-fn exponent(n: usize) -> u8
-    requires { n < 510 }
-    ensures { result ≡ power n }
+/// Proof step: an entry of the table, whose rule is this clause: alpha to the `n`, or 0.
+pub(crate) fn exponent(n: usize) -> u8
+    requires { n ≤ 1020 }
+    ensures { IsExponent n result }
 {
     EXPONENTS[n]
 }
 
 /// Proof step: an entry of the table, whose rule is this clause: the power of alpha that an element
-/// other than 0 is.
-fn logarithm(a: u8) -> u8
-    requires { 0 < a }
-    ensures below { result < 255 }
-    ensures power { power result ≡ a }
+/// is.
+pub(crate) fn logarithm(a: u8) -> usize
+    ensures { IsLogarithm a result }
 {
-    LOGARITHMS[a as usize]
+    LOGARITHMS[a as usize] as usize
+}
+
+/// Proof step: an entry of the table, whose rule is this clause: the power of alpha that a byte of a
+/// code word is multiplied by for its parity, if `weight` bytes follow it.
+pub(crate) fn pair_logarithm(weight: usize) -> usize
+    requires some { 0 < weight }
+    requires below { weight < 255 }
+    ensures below { result < 255 }
+    ensures power { power result ≡ product 244 (bit_xor (power weight) 1) }
+{
+    PAIRS[weight] as usize
 }

@@ -36,6 +36,8 @@ mod folding;
 mod lane_sums;
 mod lanes;
 mod laws;
+mod moving;
+mod moving_tables;
 mod syndrome;
 
 pub use columns::{
@@ -47,4 +49,5 @@ pub use field::{alpha_power, times};
 pub use lane_sums::LaneSums;
 pub use lanes::{lanes_at, put_lanes};
 pub use laws::{edc_is_unique, edc_of_sum, pair_is_unique, product_goes_by_bits, sum_goes_by_bits};
+pub use moving::edc_moved;
 pub use syndrome::{pair_change, pair_from, parity_pair, syndromes};

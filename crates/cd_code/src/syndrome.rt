@@ -3,7 +3,7 @@
 ghost use Rattle.std.specs.Prelude.{◌≡◌, ◌≢◌, ◌+◌, ◌<◌, ◌≤◌, [], ◌∷◌, ◌++◌};
 ghost use Rattle.cd_code.specs.Syndrome.{Balances, IsCodeWord, IsPair, first_syndrome, second_syndrome};
 
-use crate::field::{INVERSE_OF_THREE, alpha_power, doubled, times};
+use crate::field::{INVERSE_OF_THREE, doubled, exponent, logarithm, pair_logarithm, times};
 
 /// The two syndromes of a list of bytes: the sum of all, and the sum of each times a power of alpha,
 /// which falls to 1 at the last byte (ECMA-130, Annex A).
@@ -72,7 +72,6 @@ pub fn pair_change(len: usize, place: usize, d: u8) -> (u8, u8)
     ensures balances { Balances len place d result.0 result.1 }
     ensures nonzero { d ≢ 0 → (result.0 ≢ 0) × (result.1 ≢ 0) }
 {
-    let moved = times(alpha_power((len - 1 - place) as u32), d);
-    let first = times(INVERSE_OF_THREE, moved ^ d);
+    let first = exponent(pair_logarithm(len - 1 - place) + logarithm(d));
     (first, first ^ d)
 }

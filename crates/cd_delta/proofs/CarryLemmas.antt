@@ -1,5 +1,5 @@
 -- A sector whose bytes were changed with the error that its EDC had: its damage is carried.
-use Rattle.std.proofs.Common.{◌≡◌, ℕ, zero, suc, ◌+◌, ◌-◌, ◌^◌, ◌<◌, ◌≤◌, ◌⊎◌, inl, inr, List, ◌++◌, length, get_or, take, replicate, bit_xor, refl, sym, ap, ap₂, ◌∙◌, arith}
+use Rattle.std.proofs.Common.{◌≡◌, ℕ, zero, suc, ◌+◌, ◌-◌, ◌*◌, ◌/◌, ◌%◌, ◌^◌, ◌<◌, ◌≤◌, ◌⊎◌, inl, inr, List, ◌++◌, length, get_or, take, replicate, bit_xor, refl, sym, ap, ap₂, ◌∙◌, arith}
 use Rattle.std.specs.Prelude.{slice_range}
 use Rattle.std.specs.Int.{from_le_bytes, to_le_bytes, w32}
 use Rattle.std.specs.Int.Bits.{xor_zero_r}
@@ -19,7 +19,7 @@ use Rattle.cd_sector.specs.Kind.{kind_of}
 use Rattle.cd_sector.proofs.CarriedLemmas.{defect-same}
 use Rattle.cd_sector.proofs.EdcPlaceLemmas.{StoresEdc-remainder}
 use Rattle.cd_sector.proofs.ExistenceLemmas.{edc_of_front}
-use Rattle.cd_delta.specs.Writing.{IsChanged, IsWritten, KeepsError}
+use Rattle.cd_delta.specs.Writing.{AddsEdc, AreDifferences, IsChanged, IsWritten, KeepsError}
 use Rattle.cd_delta.proofs.UserLemmas.{IsChanged-carried, IsConsistent-of, WithEdc-written}
 
 -- ---- the word that is stored
@@ -97,20 +97,57 @@ carried-consistent h stored kind sound =
 
 -- ---- few bytes of the user data
 
--- what is added to the user data when the first `count` bytes are written from `offset` on
-pub record AreDifferences (s : List ℕ) (offset count : ℕ) (bytes sums : List ℕ) : Type 0 where
-  pub size : length sums ≡ 2048
-  pub inside : (i : ℕ) → i < count
-      → get_or sums (offset + i) 0 ≡ bit_xor (get_or s (16 + offset + i) 0) (get_or bytes i 0)
-  pub outside : (k : ℕ) → (k < offset) ⊎ (offset + count ≤ k) → get_or sums k 0 ≡ 0
-
-pub AreDifferences-none : (s : List ℕ) (offset : ℕ) (bytes : List ℕ)
-    → AreDifferences s offset 0 bytes (replicate 2048 0)
-AreDifferences-none s offset bytes = record {
-  size = length-replicate {A = ℕ} 2048 0;
+pub AreDifferences-none : (s : List ℕ) (offset at n : ℕ) (bytes : List ℕ)
+    → AreDifferences s offset at 0 bytes (replicate n 0)
+AreDifferences-none s offset at n bytes = record {
   inside = λ i h. absurd (omega arith);
-  outside = λ k _. replicate-byte 2048 k;
+  outside = λ k _. replicate-byte n k;
 }
+
+-- the differences in the eights that are met, with zeros before and after them
+AreDifferences-whole : (s : List ℕ) (offset count before met left : ℕ) (bytes sums : List ℕ)
+    → before ≡ offset / 8 → offset % 8 + count ≤ 8 * met → 8 * met ≤ length sums
+    → AreDifferences s offset (offset % 8) count bytes sums
+    → AreDifferences s offset offset count bytes
+    (replicate (8 * before) 0 ++ (take (8 * met) sums ++ replicate left 0))
+AreDifferences-whole s offset count before met left bytes sums first fits room h =
+    let none : length (replicate {A = ℕ} (8 * before) 0) ≡ 8 * before =
+    length-replicate {A = ℕ} (8 * before) 0 in
+    let long : length (take (8 * met) sums) ≡ 8 * met = length-take-le (8 * met) sums room in
+    let rest = take (8 * met) sums ++ replicate left 0 in
+    let whole = replicate (8 * before) 0 ++ rest in
+    let at : (k : ℕ) → 8 * before ≤ k → get_or whole k 0 ≡ get_or rest (k - 8 * before) 0 = λ k from.
+    get_or-append_right (replicate (8 * before) 0) rest (8 * before) k 0 none from in
+    let here : (k : ℕ) → 8 * before ≤ k → k < 8 * before + 8 * met
+    → get_or whole k 0 ≡ get_or sums (k - 8 * before) 0 = λ k from below.
+    at k from
+    ∙ get_or_append_left (take (8 * met) sums) (replicate left 0) 0 (k - 8 * before) (omega arith)
+    ∙ get_or-take (8 * met) sums (k - 8 * before) 0 (omega arith) in
+    let past : (k : ℕ) → 8 * before + 8 * met ≤ k → get_or whole k 0 ≡ 0 = λ k over.
+    at k (omega arith)
+    ∙ get_or-append_right (take (8 * met) sums) (replicate left 0) (8 * met) (k - 8 * before) 0 long
+    (omega arith)
+    ∙ replicate-byte left (k - 8 * before - 8 * met) in
+    record {
+      inside = λ i small.
+          let index : offset + i - 8 * before ≡ offset % 8 + i = omega arith in
+          here (offset + i) (omega arith) (omega arith) ∙ ap (λ n. get_or sums n 0) index
+          ∙ h.inside i small;
+      outside = λ k out. elim (cases_lt k (8 * before)) [
+        | inl low ↦
+            get_or_append_left (replicate (8 * before) 0) rest 0 k (omega (arith, none))
+            ∙ replicate-byte (8 * before) k
+        | inr from ↦ elim (cases_lt k (8 * before + 8 * met)) [
+          | inl below ↦ here k from below ∙ h.outside (k - 8 * before) (moved_out k from out)
+          | inr over ↦ past k over
+        ]
+      ];
+    }
+  where
+    moved_out : (k : ℕ) → 8 * before ≤ k → (k < offset) ⊎ (offset + count ≤ k)
+        → (k - 8 * before < offset % 8) ⊎ (offset % 8 + count ≤ k - 8 * before)
+    moved_out k from (inl below) = inl (omega arith)
+    moved_out k from (inr over) = inr (omega arith)
 
 -- zeros before a list change nothing
 after-none : (k : ℕ) → after 0 (replicate k 0) ≡ 0
@@ -122,9 +159,35 @@ IsEdc-after_zeros k v w h =
     IsEdc-same v (replicate k 0 ++ v) w
     (sym (after-append 0 (replicate k 0) v ∙ ap (λ r. after r v) (after-none k))) h
 
+-- the word of the eights that are met, moved on over what is left
+pub AddsEdc-of : (s : List ℕ) (offset : ℕ) (bytes sums : List ℕ) (before met left word moved : ℕ)
+    → length sums ≡ 48 → before ≡ offset / 8 → met ≡ (offset % 8 + length bytes + 7) / 8
+    → before + (met + left) ≡ 256 → length bytes < 40 → offset + length bytes ≤ 2048
+    → AreDifferences s offset (offset % 8) (length bytes) bytes sums
+    → IsEdc (take (8 * met) sums) word
+    → ((v : List ℕ) → IsEdc v word → IsEdc (v ++ replicate (8 * left) 0) moved)
+    → AddsEdc s offset bytes moved
+AddsEdc-of s offset bytes sums before met left word moved room first here all few fits h edc moves =
+    let front = replicate {A = ℕ} (8 * before) 0 in
+    let back = replicate {A = ℕ} (8 * left) 0 in
+    let middle = take (8 * met) sums in
+    let one : length front ≡ 8 * before = length-replicate {A = ℕ} (8 * before) 0 in
+    let two : length middle ≡ 8 * met = length-take-le (8 * met) sums (omega arith) in
+    let three : length back ≡ 8 * left = length-replicate {A = ℕ} (8 * left) 0 in
+    let four = length-append front (middle ++ back) in
+    let five = length-append middle back in
+    record {
+      sums = front ++ (middle ++ back);
+      size = omega arith;
+      added =
+          AreDifferences-whole s offset (length bytes) before met (8 * left) bytes sums first
+          (omega arith) (omega arith) h;
+      edc = IsEdc-after_zeros (8 * before) (middle ++ back) moved (moves middle edc);
+    }
+
 -- the front is the sum of the old one and the differences
 front-byte : (old new sums : List ℕ) (offset : ℕ) (bytes : List ℕ) → offset + length bytes ≤ 2048
-    → AreDifferences old offset (length bytes) bytes sums
+    → AreDifferences old offset offset (length bytes) bytes sums
     → IsWritten old new (16 + offset) (length bytes) bytes
     → (i : ℕ) → i < 2064
     → get_or new i 0 ≡ bit_xor (get_or old i 0) (get_or (replicate 16 0 ++ sums) i 0)
@@ -162,17 +225,17 @@ front-byte old new sums offset bytes fits sum written i h =
           ]
     ]
 
-front-edc : (old new sums : List ℕ) (offset : ℕ) (bytes : List ℕ) (w change : ℕ) → length old ≡ 2352
-    → offset + length bytes ≤ 2048 → AreDifferences old offset (length bytes) bytes sums
+front-edc : (old new : List ℕ) (offset : ℕ) (bytes : List ℕ) (w change : ℕ) → length old ≡ 2352
+    → offset + length bytes ≤ 2048 → AddsEdc old offset bytes change
     → IsWritten old new (16 + offset) (length bytes) bytes → IsEdc (take 2064 old) w
-    → IsEdc sums change
     → IsEdc (take 2064 new) (bit_xor w change)
-front-edc old new sums offset bytes w change size fits sum written one two =
+front-edc old new offset bytes w change size fits adds written one =
+    let sums = adds.sums in
     let same_size = written.size in
     let new_long : length (take 2064 new) ≡ 2064 =
     length-take-le 2064 new (omega (arith, size, same_size)) in
     let old_long : length (take 2064 old) ≡ 2064 = length-take-le 2064 old (omega (arith, size)) in
-    let sums_size = sum.size in
+    let sums_size = adds.size in
     let added = replicate 16 0 ++ sums in
     let sum_long : length added ≡ 2064 =
     omega (arith, length-append (replicate 16 0) sums, length-replicate {A = ℕ} 16 0) in
@@ -182,25 +245,24 @@ front-edc old new sums offset bytes w change size fits sum written one two =
     (omega arith)
     (λ i low.
     get_or-take 2064 new i 0 low
-    ∙ front-byte old new sums offset bytes fits sum written i low
+    ∙ front-byte old new sums offset bytes fits adds.added written i low
     ∙ ap (λ n. bit_xor n (get_or added i 0)) (sym (get_or-take 2064 old i 0 low))))
-    w change one (IsEdc-after_zeros 16 sums change two)
+    w change one (IsEdc-after_zeros 16 sums change adds.edc)
 
 -- with the word of the differences added to the stored one
-pub few-carried : (old t new sums four : List ℕ) (offset : ℕ) (bytes : List ℕ) (stored change : ℕ)
+pub few-carried : (old t new four : List ℕ) (offset : ℕ) (bytes : List ℕ) (stored change : ℕ)
     → length old ≡ 2352 → AreBytes old
-    → offset + length bytes ≤ 2048 → AreDifferences old offset (length bytes) bytes sums
-    → IsEdc sums change
+    → offset + length bytes ≤ 2048 → AddsEdc old offset bytes change
     → stored < 2 ^ 32 → stored ≡ from_le_bytes w32 (slice_range old 2064 2068)
     → IsWritten old t (16 + offset) (length bytes) bytes
     → four ≡ to_le_bytes w32 (bit_xor stored change)
     → IsWritten t new 2064 (length four) four → KeepsError old new (16 + offset) bytes
-few-carried old t new sums four offset bytes stored change size each fits sum edc stored_fits same
-    first four_is second =
+few-carried old t new four offset bytes stored change size each fits adds stored_fits same first
+    four_is second =
     let before = edc_of_front old each 2064 (omega (arith, size)) in
     let w = before.0 in
     let held = StoresEdc-read old w stored size each before.1 stored_fits same in
-    let word = front-edc old t sums offset bytes w change size fits sum first before.1 edc in
+    let word = front-edc old t offset bytes w change size fits adds first before.1 in
     let added = sym (xor_common w change stored) in
     record {
       error = bit_xor w stored;

@@ -1,7 +1,7 @@
 //! Writing into a Mode 1 sector that may be damaged, so that its damage stays and nothing else
 //! becomes wrong (ECMA-130, 14 and Annex A).
 
-ghost use Rattle.std.specs.Prelude.{◌≡◌, ℕ, ◌+◌, ◌++◌, ◌<◌, ◌≤◌, ◌⊎◌, List, bit_xor, drop, length, slice_index, slice_range, take};
+ghost use Rattle.std.specs.Prelude.{◌≡◌, ℕ, ◌+◌, ◌%◌, ◌++◌, ◌<◌, ◌≤◌, ◌⊎◌, List, bit_xor, drop, length, slice_index, slice_range, take};
 ghost use Rattle.std.specs.Int.{from_le_bytes, w32};
 ghost use Rattle.cd_code.specs.Edc.{IsEdc};
 ghost use Rattle.cd_sector.specs.Carried.{IsCarried};
@@ -9,12 +9,15 @@ ghost use Rattle.cd_sector.specs.Consistent.{IsConsistent, header_of, user_of};
 ghost use Rattle.cd_sector.specs.EdcField.{StoresEdc};
 ghost use Rattle.cd_sector.specs.Kind.{kind_of};
 ghost use Rattle.cd_sector.specs.declared.kinds.SectorKind.TheVariants.{Mode1};
-ghost use Rattle.cd_delta.specs.Writing.{KeepsError, with_range};
+ghost use Rattle.cd_delta.specs.Writing.{AddsEdc, AreDifferences, KeepsError, with_range};
 
 use crate::byte_by_byte::write_few;
 use crate::user_data::{MANY, change_bytes};
-use cd_code::edc_of;
+use cd_code::{edc_by_tables, edc_moved, edc_of};
 use cd_sector::{EDC, HEADER, Sector, USER_DATA, USER_SIZE, edc_bytes, stored_edc};
+
+/// How many bytes few bytes meet at most, by eights.
+const MET: usize = 48;
 
 /// Writes `bytes` into the 2048 bytes of user data of a Mode 1 sector, from `offset` on, and
 /// carries the sector's damage over: the EDC changes by the sum of the EDC words of bytes 0 to 2063
@@ -91,26 +94,38 @@ fn carry_in_user(s: &mut Sector, offset: usize, bytes: &[u8])
 /// Writes few bytes into the user data, one after another. The EDC word of the differences is added
 /// to the stored word, so its error stays, and no right word is computed.
 fn carry_few(s: &mut Sector, offset: usize, bytes: &[u8])
-    requires { offset + length bytes.now ≤ 2048 }
+    requires range { offset + length bytes.now ≤ 2048 }
+    requires few { length bytes.now < 40 }
     ensures { KeepsError s.old s.new (16 + offset) bytes.now }
 {
-    let word = stored_edc(s.bytes()) ^ edc_of(&differences(s, offset, bytes));
+    let word = stored_edc(s.bytes()) ^ difference_edc(s, offset, bytes);
     write_few(s, USER_DATA + offset, bytes);
     write_few(s, EDC, &edc_bytes(word));
 }
 
-/// What is added to each byte of the user data if `bytes` are written from `offset` on.
-fn differences(s: &Sector, offset: usize, bytes: &[u8]) -> [u8; USER_SIZE]
-    requires { offset + length bytes.now ≤ 2048 }
-    ensures inside { (i : ℕ) → i < length bytes.now
-        → slice_index result (offset + i)
-        ≡ bit_xor (slice_index s.now (16 + offset + i)) (slice_index bytes.now i) }
-    ensures outside { (k : ℕ) → (k < offset) ⊎ (offset + length bytes.now ≤ k)
-        → slice_index result k ≡ 0 }
+/// The EDC word of what is added to the user data if `bytes` are written from `offset` on. Only the
+/// eights of user data that they meet are divided; then the word is moved on to the end.
+fn difference_edc(s: &Sector, offset: usize, bytes: &[u8]) -> u32
+    requires range { offset + length bytes.now ≤ 2048 }
+    requires few { length bytes.now < 40 }
+    ensures { AddsEdc s.now offset bytes.now result }
 {
-    let mut sums = [0; USER_SIZE];
+    let before = offset / 8;
+    let met = (offset % 8 + bytes.len() + 7) / 8;
+    let sums = differences(s, offset, bytes);
+    let word = edc_by_tables(&sums[..8 * met]);
+    edc_moved(word, USER_SIZE / 8 - before - met)
+}
+
+/// What is added to the eights of user data that `bytes` meet if they are written from `offset` on.
+fn differences(s: &Sector, offset: usize, bytes: &[u8]) -> [u8; MET]
+    requires range { offset + length bytes.now ≤ 2048 }
+    requires few { length bytes.now < 40 }
+    ensures { AreDifferences s.now offset (offset % 8) (length bytes.now) bytes.now result }
+{
+    let mut sums = [0; MET];
     for (i, byte) in bytes.iter().enumerate() {
-        sums[offset + i] = s.byte(USER_DATA + offset + i) ^ *byte;
+        sums[offset % 8 + i] = s.byte(USER_DATA + offset + i) ^ *byte;
     }
     sums
 }

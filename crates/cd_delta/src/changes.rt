@@ -22,6 +22,14 @@ pub struct Change {
     pub d: u8,
 }
 
+/// What is left of each number by 26: a look costs less than a division.
+#[rattlefmt::skip]
+static AROUND: [u8; 78] = [
+    0, 1, 2, 3, 4, 5, 6, 7, 8, 9, 10, 11, 12, 13, 14, 15, 16, 17, 18, 19, 20, 21, 22, 23, 24, 25,
+    0, 1, 2, 3, 4, 5, 6, 7, 8, 9, 10, 11, 12, 13, 14, 15, 16, 17, 18, 19, 20, 21, 22, 23, 24, 25,
+    0, 1, 2, 3, 4, 5, 6, 7, 8, 9, 10, 11, 12, 13, 14, 15, 16, 17, 18, 19, 20, 21, 22, 23, 24, 25,
+];
+
 /// Where a byte stands in the product code: its plane, its row of 26 and its column of 43.
 #[derive(Clone, Copy)]
 struct Cell {
@@ -87,11 +95,13 @@ fn cell_of(place: usize) -> Cell
     ensures row { result.row ≡ (place - 12) / 2 / 43 }
     ensures column { result.column ≡ (place - 12) / 2 % 43 }
 {
-    let number = (place - HEADER) / 2;
+    // By numbers of 32 bits, whose division takes half the instructions.
+    let number = (place - HEADER) as u32 / 2;
+    let columns = PLANE_COLUMNS as u32;
     Cell {
         plane: place % 2,
-        row: number / PLANE_COLUMNS,
-        column: number % PLANE_COLUMNS,
+        row: (number / columns) as usize,
+        column: (number % columns) as usize,
     }
 }
 
@@ -132,12 +142,20 @@ fn diagonal_changes(cell: Cell, d: u8) -> (Change, Change)
     ensures balances { Balances 45 cell.column d result.0.d result.1.d }
     ensures nonzero { d ≢ 0 → (result.0.d ≢ 0) × (result.1.d ≢ 0) }
 {
-    let diagonal = (cell.row + 2 * ROWS - cell.column) % ROWS;
+    let diagonal = around(cell.row + 2 * ROWS - cell.column);
     let (first, second) = pair_change(DIAGONAL_SIZE, cell.column, d);
     (
         change_at(cell.plane, FIRST_Q + diagonal, first),
         change_at(cell.plane, SECOND_Q + diagonal, second),
     )
+}
+
+/// The diagonal of a number of steps, of which 26 lead around.
+fn around(steps: usize) -> usize
+    requires { steps < 78 }
+    ensures { result ≡ steps % 26 }
+{
+    AROUND[steps] as usize
 }
 
 /// A change of byte `number` of a plane.

@@ -2,4 +2,5 @@
 
 mod commands;
 mod images;
+mod runs;
 mod streams;

@@ -1,6 +1,6 @@
--- How a pass ends by a fault before the image has ended: whatever the image may still be, what went
+-- How a run ends by a fault before the image has ended: whatever the image may still be, what went
 -- out and what was logged begins what belongs there.
-use Rattle.std.proofs.Common.{◌≡◌, ℕ, ◌+◌, ◌*◌, ◌<◌, ◌≤◌, ◌⊎◌, inl, inr, Bool, List, [], ◌∷◌, ◌++◌, length, take, drop, Option, None, Err, refl, sym, ap, ◌∙◌, arith, append_assoc, append-nil, length-append, take_at}
+use Rattle.std.proofs.Common.{◌≡◌, ℕ, ◌+◌, ◌*◌, ◌<◌, ◌≤◌, Bool, false, List, [], ◌∷◌, ◌++◌, length, take, drop, Option, None, Err, refl, sym, ap, ◌∙◌, subst, arith, append_assoc, append-nil, length-append, take_at}
 use Rattle.std.specs.Prelude.{All, IsSome}
 use Rattle.std.proofs.lemmas.List.{length-drop, length-take-le}
 use Rattle.cd_stream.specs.Stream.{Incoming, Outgoing}
@@ -8,38 +8,40 @@ use Rattle.cd_stream.specs.Transfer.{Gives, Sends}
 use Rattle.cd_stream.proofs.TransferLemmas.{Gives-trans, Takes-trans}
 use Rattle.cd_script.specs.PatchForm.{Patch}
 use Rattle.cd_sector.specs.declared.sector.TheConstants.{SECTOR_SIZE}
-use Rattle.cd_patch.specs.Blocks.{block_limit, blocks_met}
-use Rattle.cd_patch.specs.Deciding.{outcome}
-use Rattle.cd_patch.specs.Sequence.{PatchSequence}
+use Rattle.cd_patch.specs.Blocks.{block_limit}
 use Rattle.cd_patch.specs.declared.outcome.Outcome.{Outcome}
-use Rattle.cd_patch.proofs.FrameLemmas.{outcome-frame}
+use Rattle.cd_patch.proofs.SequenceLemmas.{PatchSequence-determined, PatchSequence-split}
 use Rattle.cd_image.specs.Applying.{Applies, Streams}
-use Rattle.cd_read.specs.Image.{image_limit, bytes_of, sector_limit}
-use Rattle.cd_image.specs.Window.{tail_bytes}
-use Rattle.cd_image.specs.Passing.{PassInvariant, WantsMore}
-use Rattle.cd_image.specs.Patched.{EachPatching, IsPatched}
-use Rattle.cd_image.specs.PatchLog.{lines_below, lines_within, log_line, log_lines, log_text}
+use Rattle.cd_sector.specs.Image.{image_limit, bytes_of, sector_limit, sectors}
+use Rattle.std.proofs.lemmas.Bool.{true≢false}
+use Rattle.cd_run.specs.Running.{Reached, tail_bytes}
+use Rattle.cd_run.specs.Steps.{WantsMore}
+use Rattle.cd_image.specs.Passing.{PassInvariant}
+use Rattle.cd_run.specs.Patched.{EachPatching, IsPatched}
+use Rattle.cd_run.specs.PatchLog.{bytes_before, lines_below, lines_within, log_line, log_lines, log_text}
 use Rattle.cd_read.specs.Ends.{MayBeImage, MayBeImageAtEnd}
 use Rattle.cd_read.specs.Reading.{ReadsSector}
 use Rattle.cd_read.specs.declared.fault.Fault.{Fault}
 use Rattle.cd_read.specs.declared.fault.Fault.TheVariants.{Log, Read, TooLong, Write}
-use Rattle.cd_image.proofs.KnownLemmas.{Extends, Extends-begun, Known, LogCut, StopsAtLog-within, applies, begins_now, bytes_of-begins, cut_after, cut_at, extends, known, known_now, length_sent, log_text-append, outcomes_length, rest_of, size_read}
+use Rattle.cd_image.proofs.KnownLemmas.{Extends, Extends-begun, Known, LogCut, StopsAtLog-within, applies, begins_now, bytes_of-begins, cut_after, cut_at, extends, known, known_now, length_sent, log_text-append, outcomes_length, size_read}
 use Rattle.cd_read.proofs.EndLemmas.{Fits-begins}
-use Rattle.cd_image.proofs.PassingLemmas.{bytes_of-more, length-bytes_of}
-use Rattle.cd_image.proofs.PatchLogLemmas.{bytes_before-within, front_within-cut, front_within-front, lines_below-cut, lines_within-cut, lines_within-none, log_when_out_fails-sector, sent_when_log_fails-later, sent_when_log_fails-line}
+use Rattle.cd_run.proofs.BytesLemmas.{bytes_of-more, length-bytes_of}
+use Rattle.cd_run.proofs.RunningLemmas.{Decidable}
+use Rattle.cd_run.proofs.PatchLogLemmas.{bytes_before-below, bytes_before-within, front_within-cut, front_within-front, lines_below-cut, lines_within-cut, lines_within-none, log_when_out_fails-sector, sent_when_log_fails-later, sent_when_log_fails-line}
 
 -- ---- the source fails, or gives too much
 
 module _ {carry : Bool} {taken left : List Patch} {base : ℕ} {start now : Streams}
     {window : List (List ℕ)} {block sectors_read applied : ℕ}
-    (g : PassInvariant carry taken left base start now window block sectors_read applied None) where
+    (g : PassInvariant carry taken left base start now window block sectors_read applied None
+    false) where
   length_read : (came : List ℕ)
       → length (bytes_of g.seen ++ came) ≡ 2352 * sectors_read + length came
   length_read came =
       omega (
         arith,
         length-append (bytes_of g.seen) came,
-        length-bytes_of g.seen g.seen_sizes,
+        length-bytes_of g.seen g.state.seen_sizes,
       )
 
   gives_all : {image : Incoming} (came : List ℕ) → Gives now.image image came
@@ -61,7 +63,7 @@ module _ {carry : Bool} {taken left : List Patch} {base : ℕ} {start now : Stre
         within = omega (arith, length_read r.came);
         begins = λ whole fits.
             let begins = Fits-begins _ whole (omega (arith, length_read r.came)) fits in
-            begins_now g (Extends-begun _ g.seen_sizes (rw append_assoc at begins.1));
+            begins_now g (Extends-begun _ g.state.seen_sizes (rw append_assoc at begins.1));
       })
   Applies-unread wants room bytes TooLong r =
       applies (gives_all r.came (record { consumes = r.consumes; counted = r.counted })) g.sends
@@ -76,14 +78,14 @@ module _ {carry : Bool} {taken left : List Patch} {base : ℕ} {start now : Stre
             let k = known_now g (begun whole fits) patched in
             sym (ap (lines_within (base + sector_limit) (taken ++ left)) k.all
             ∙ lines_within-cut (base + sector_limit) taken left g.outcomes k.back
-            (outcomes_length g) (g.reached refl)
+            (outcomes_length g) (g.state.reached refl)
             (lines_within-none (base + sector_limit) left k.back block (length window) at_end
             wants));
         sent_before =
             omega (
               arith,
               length_sent g,
-              front_within-cut (base + sector_limit) taken left (g.reached refl),
+              front_within-cut (base + sector_limit) taken left (g.state.reached refl),
               front_within-front (base + sector_limit) left block (length window) at_end wants,
             );
       })
@@ -95,8 +97,8 @@ module _ {carry : Bool} {taken left : List Patch} {base : ℕ} {start now : Stre
           → Extends g.seen None whole
       begun whole fits =
           let size : length (bytes_of g.seen) ≡ image_limit =
-          omega (arith, length-bytes_of g.seen g.seen_sizes) in
-          Extends-begun _ g.seen_sizes (rw (take_at (bytes_of g.seen) r.came _ size) at
+          omega (arith, length-bytes_of g.seen g.state.seen_sizes) in
+          Extends-begun _ g.state.seen_sizes (rw (take_at (bytes_of g.seen) r.came _ size) at
           fits.begins.1)
   Applies-unread wants room bytes Write r = elim r [ ]
   Applies-unread wants room bytes Log r = elim r [ ]
@@ -107,7 +109,7 @@ module _ {carry : Bool} {taken left : List Patch} {base : ℕ} {start now : Stre
     {sector : List ℕ} {window : List (List ℕ)} {block sectors_read applied : ℕ}
     {end : Option (List ℕ)}
     (g : PassInvariant carry taken left base start now
-    (sector ∷ window) block sectors_read applied end) where
+    (sector ∷ window) block sectors_read applied end false) where
   pub Applies-write : {X E : Type 0} {e : E} {out : Outgoing}
       → Sends {X = X} {E = E} now.out out sector (Err e) → length sector ≡ SECTOR_SIZE
       → All (λ p. block < p.block) left
@@ -139,7 +141,7 @@ module _ {carry : Bool} {taken left : List Patch} {base : ℕ} {start now : Stre
             ∙ ap (lines_below (base + length g.done + 1) (taken ++ left)) k.all
             ∙ lines_below-cut (base + length g.done + 1) taken left g.outcomes k.back
             (outcomes_length g)
-            (λ i d here. omega (arith, g.due i d here))
+            (λ i d here. omega (arith, g.state.due refl i d here))
             (λ i d here. omega (arith, ahead i d here)));
       })
     where
@@ -163,41 +165,50 @@ module _ {carry : Bool} {taken left : List Patch} {base : ℕ} {start now : Stre
           (λ more. sym (append_assoc g.done (sector ∷ []) (window ++ more)))
           (λ i d here. omega (arith, ahead i d here, length-append g.done (sector ∷ []))) patched
 
--- ---- the log fails in the line of a patch at the front
+-- ---- the log fails in the line of a patch, before the tail has gone out
+
+-- how many bytes belong before the line of a patch
+before_line : {p : Patch} {window : List (List ℕ)} {block sectors_read : ℕ} (base : ℕ)
+    {tail : Option (List ℕ)} {closed : Bool} (done : List (List ℕ)) (whole : List ℕ)
+    → closed ≡ false → Decidable p window block sectors_read tail closed → block ≡ base + length done
+    → length done + length window ≡ sectors_read → sectors_read ≤ length (sectors whole)
+    → bytes_before whole base p.block ≡ 2352 * length done
+before_line base done whole unclosed_yet (Decidable.at_front first some unclosed reach) front held
+    all =
+    bytes_before-within whole base _ (length done) (first ∙ front) (omega arith)
+before_line base done whole unclosed_yet (Decidable.under_base under none unended unclosed) front held all =
+    bytes_before-below whole base _ (omega arith) ∙ omega arith
+before_line base done whole unclosed_yet (Decidable.past_tail gone from) front held all =
+    absurd (true≢false (sym gone ∙ unclosed_yet))
 
 module _ {carry : Bool} {taken : List Patch} {p : Patch} {left : List Patch} {base : ℕ}
-    {start now : Streams} {window : List (List ℕ)} {block sectors_read applied : ℕ}
-    {end : Option (List ℕ)} {o : Outcome}
-    (g : PassInvariant carry taken (p ∷ left) base start now window block sectors_read applied end)
-    (decided : o ≡ outcome carry window block p) (first : p.block ≡ block)
-    (some : 0 < length window)
-    (reach : (blocks_met p ≤ length window) ⊎ IsSome end) where
+    {start now : Streams} {window window' : List (List ℕ)}
+    {block sectors_read applied block' sectors' applied' : ℕ}
+    {end end' : Option (List ℕ)} {closed closed' : Bool} (o : Outcome)
+    (g : PassInvariant carry taken (p ∷ left) base start now window block sectors_read applied end
+    closed)
+    (unclosed : closed ≡ false) (same : end' ≡ end)
+    (may : Decidable p window block sectors_read end closed)
+    (after : Reached carry (taken ++ p ∷ []) left base g.seen g.done window' (g.outcomes ++ o ∷ [])
+    block' sectors' applied' end' closed') where
   -- a run takes this patch next
-  next_of : (middle last : List (List ℕ)) (back : List Outcome) → o ≡ outcome carry middle base p
-      → PatchSequence carry (p ∷ left) back base middle last
-      → (others : List Outcome) × (back ≡ o ∷ others)
-  next_of middle last [] is run = elim run [ ]
-  next_of middle last (u ∷ others) is run = (others, ap (λ v. v ∷ others) (run.decided ∙ sym is))
-
   next : {whole : List ℕ} → Extends g.seen end whole → {os : List Outcome} {last : List ℕ}
       → IsPatched carry (taken ++ p ∷ left) os base whole last
       → (back : List Outcome) × (os ≡ g.outcomes ++ o ∷ back)
   next extended patched =
-      let rest = rest_of g extended patched in
-      let reaches : (p.block + blocks_met p ≤ block + length window) ⊎ (extended.more ≡ []) =
-      elim reach [ inl within ↦ inl (omega arith) | inr ended ↦ inr (extended.unended ended) ] in
-      let found =
-      next_of _ _ rest.0
-      (decided
-      ∙ sym (outcome-frame carry g.done window extended.more base block p g.counts.front
-      (omega arith) reaches)) rest.2 in
-      (found.0, rw found.1 at rest.1)
+      let run = rw (extended.cut, ← append_assoc taken (p ∷ []) left) at patched.run in
+      let split = PatchSequence-split carry (taken ++ p ∷ []) left _ base _ _ run in
+      let same =
+      PatchSequence-determined carry (taken ++ p ∷ []) split.0 (g.outcomes ++ o ∷ []) base _ _ _
+      split.4
+      (after.run extended.more (λ some. extended.unended (subst IsSome same some))) in
+      (split.1, split.3 ∙ ap (λ f. f ++ split.1) same.0 ∙ append_assoc g.outcomes (o ∷ []) split.1)
 
   pub Applies-log : {X E : Type 0} {e : E} {log : Outgoing}
       → Sends {X = X} {E = E} now.log log (log_line p o) (Err e)
       → Applies carry (taken ++ p ∷ left) base start (record now { log = log }) (Err Log)
   Applies-log fails =
-      applies g.gives g.sends (Takes-trans _ _ _ _ _ g.logs fails.taken.2)
+      applies g.gives (rw unclosed at g.sends) (Takes-trans _ _ _ _ _ g.logs fails.taken.2)
       (omega (arith, size_read g, length_sent g))
       (StopsAtLog-within cut (omega arith) (omega arith) (omega (arith, size_read g)))
     where
@@ -211,7 +222,7 @@ module _ {carry : Bool} {taken : List Patch} {p : Patch} {left : List Patch} {ba
           let line = log_line p o in
           let extended = extends g fits in
           let r = next extended patched in
-          let cut = ap length extended.cut in
+          let all = ap length extended.cut in
           record {
             begins = (begins_now g extended os last patched).0;
             missing = drop n line ++ _;
@@ -226,6 +237,7 @@ module _ {carry : Bool} {taken : List Patch} {p : Patch} {left : List Patch} {ba
                 (sent_when_log_fails-later whole base taken (p ∷ left) g.outcomes (o ∷ r.0) n
                 (outcomes_length g)
                 ∙ sent_when_log_fails-line whole base p left o r.0 n fails.taken.1
-                ∙ bytes_before-within whole base p.block (length g.done) (first ∙ g.counts.front)
-                (omega (arith, cut, length-append g.seen extended.more))));
+                ∙ before_line base g.done whole unclosed may g.state.counts.front
+                (omega (arith, g.state.counts.held, g.state.counts.count))
+                (omega (arith, all, length-append g.seen extended.more, g.state.counts.count))));
           }

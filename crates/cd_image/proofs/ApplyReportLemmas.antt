@@ -4,13 +4,14 @@ use Rattle.std.specs.Prelude.{All}
 use Rattle.cd_script.specs.Patch.{IsPatch}
 use Rattle.cd_script.specs.PatchForm.{Patch}
 use Rattle.cd_image.specs.Applying.{Applies, Begins, BeginsLog, HoldsFew, HoldsFewCounted, MayBeImageAfter, Streams, WritesCarried, WritesLog, WritesPatched}
-use Rattle.cd_image.specs.Patched.{EachPatching, IsPatched}
-use Rattle.cd_image.specs.PatchLog.{log_text, patch_tally}
+use Rattle.cd_run.specs.Patched.{EachPatching, IsPatched}
+use Rattle.cd_image.specs.Applying.{patch_tally}
+use Rattle.cd_run.specs.PatchLog.{log_text}
 use Rattle.cd_read.specs.Ends.{EndsWell}
 use Rattle.cd_read.specs.declared.fault.Fault.{Fault}
 use Rattle.cd_read.specs.declared.fault.Fault.TheVariants.{Log, Read, TooLong, Write}
 use Rattle.cd_image.specs.declared.patch_log.Tally.{Tally}
-use Rattle.cd_image.proofs.PatchedLemmas.{IsPatched-carries, IsPatched-determined}
+use Rattle.cd_run.proofs.PatchedLemmas.{IsPatched-carries, IsPatched-determined}
 use Rattle.cd_read.proofs.general.KnownBytes.{appended, consumed_all, consumed_length}
 use Rattle.cd_read.proofs.EndLemmas.{Ending, EndsBy}
 

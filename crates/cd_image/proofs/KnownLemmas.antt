@@ -1,25 +1,27 @@
 -- What a pass knows of each run on an image that may be the one that is being read.
-use Rattle.std.proofs.Common.{◌≡◌, ℕ, ◌+◌, ◌*◌, ◌<◌, ◌≤◌, Bool, List, [], ◌++◌, length, take, drop, Option, None, Some, Result, Ok, Err, IsErrAnd, refl, sym, ap, ◌∙◌, subst, arith, append_assoc, append-nil, length-append, take-append-drop}
+use Rattle.std.proofs.Common.{◌≡◌, ℕ, ◌+◌, ◌*◌, ◌<◌, ◌≤◌, Bool, List, [], ◌++◌, length, take, drop, Option, None, Some, Result, Ok, Err, IsErrAnd, inl, inr, refl, sym, ap, ◌∙◌, subst, arith, append_assoc, append-nil, length-append, take-append-drop}
 use Rattle.std.specs.Prelude.{All, IsSome}
 use Rattle.cd_script.specs.PatchForm.{Patch}
 use Rattle.cd_patch.specs.Sequence.{PatchSequence}
 use Rattle.cd_patch.specs.declared.outcome.Outcome.{Outcome}
 use Rattle.cd_patch.proofs.SequenceLemmas.{PatchSequence-determined, PatchSequence-front, PatchSequence-lengths, PatchSequence-split}
-use Rattle.cd_image.specs.Applying.{Applies, AppliesBy, Begins, Failed, Flushed, StopsAtLog, Streams, bytes_in_hand}
-use Rattle.cd_read.specs.Image.{image_limit, bytes_of, sectors, tail}
-use Rattle.cd_image.specs.Window.{tail_bytes}
+use Rattle.cd_image.specs.Applying.{Applies, AppliesBy, Begins, Failed, Flushed, StopsAtLog, Streams}
+use Rattle.cd_sector.specs.Image.{image_limit, bytes_of, sectors, tail}
+use Rattle.cd_run.specs.InHand.{bytes_in_hand}
+use Rattle.cd_run.specs.Running.{tail_bytes}
 use Rattle.cd_image.specs.Passing.{PassInvariant}
-use Rattle.cd_image.specs.Patched.{EachPatching, IsPatched}
-use Rattle.cd_image.specs.PatchLog.{applied_count, counts_line, log_lines, log_text, refused_count, sent_when_log_fails}
+use Rattle.cd_run.specs.Patched.{EachPatching, IsPatched}
+use Rattle.cd_run.specs.PatchLog.{applied_count, counts_line, log_lines, log_text, refused_count, sent_when_log_fails}
 use Rattle.cd_stream.specs.Stream.{IsBeginning}
 use Rattle.cd_stream.specs.Transfer.{Gives, Takes}
 use Rattle.cd_read.specs.declared.fault.Fault.{Fault}
 use Rattle.cd_image.specs.declared.patch_log.Tally.{Tally}
 use Rattle.cd_read.specs.Ends.{MayBeImageAtEnd}
-use Rattle.cd_read.proofs.ImageLemmas.{IsCut-sectors, sectors-bytes_of, sectors-short}
+use Rattle.cd_sector.proofs.ImageLemmas.{IsCut-sectors, sectors-bytes_of, sectors-short}
 use Rattle.cd_read.proofs.EndLemmas.{MayBeImageAtEnd-begins, MayBeImageAtEnd-end}
-use Rattle.cd_image.proofs.PassingLemmas.{AreSized, bytes_of-append, length-bytes_of}
-use Rattle.cd_image.proofs.PatchLogLemmas.{log_lines-append}
+use Rattle.cd_run.proofs.BytesLemmas.{AreSized, bytes_of-append, length-bytes_of}
+use Rattle.cd_run.proofs.RunningLemmas.{none_of}
+use Rattle.cd_run.proofs.PatchLogLemmas.{log_lines-append}
 
 -- a list cut in two, with more after it
 pub cut_at : (n : ℕ) (l more : List ℕ) → take n l ++ (drop n l ++ more) ≡ l ++ more
@@ -147,12 +149,14 @@ pub record Known (settled : List (List ℕ)) (outcomes os : List Outcome)
 
 module _ {carry : Bool} {taken left : List Patch} {base : ℕ} {start now : Streams}
     {window : List (List ℕ)} {block sectors_read applied : ℕ} {end : Option (List ℕ)}
-    (g : PassInvariant carry taken left base start now window block sectors_read applied end) where
+    {closed : Bool}
+    (g : PassInvariant carry taken left base start now window block sectors_read applied end
+    closed) where
   pub outcomes_length : length g.outcomes ≡ length taken
-  outcomes_length = PatchSequence-lengths _ _ _ _ _ _ (g.run [] (λ some. refl))
+  outcomes_length = PatchSequence-lengths _ _ _ _ _ _ (g.state.run [] (λ some. refl))
 
   pub length_sent : length (bytes_of g.done) ≡ 2352 * length g.done
-  length_sent = length-bytes_of g.done g.done_sizes
+  length_sent = length-bytes_of g.done g.state.done_sizes
 
   -- what was read
   pub size_read : length (bytes_of g.seen ++ tail_bytes end)
@@ -161,7 +165,7 @@ module _ {carry : Bool} {taken left : List Patch} {base : ℕ} {start now : Stre
       omega (
         arith,
         length-append (bytes_of g.seen) (tail_bytes end),
-        length-bytes_of g.seen g.seen_sizes,
+        length-bytes_of g.seen g.state.seen_sizes,
       )
 
   -- what is left of a run, after the patches taken
@@ -173,7 +177,7 @@ module _ {carry : Bool} {taken left : List Patch} {base : ℕ} {start now : Stre
       let split = PatchSequence-split carry taken left _ base _ _ (rw extends.cut at patched.run) in
       let same =
       PatchSequence-determined carry taken split.0 g.outcomes base _ _ _ split.4
-      (g.run extends.more extends.unended) in
+      (g.state.run extends.more extends.unended) in
       (split.1, split.3 ∙ ap (λ f. f ++ split.1) same.0, rw same.1 at split.5)
 
   -- sectors at the front that no patch left begins in are settled
@@ -190,13 +194,24 @@ module _ {carry : Bool} {taken left : List Patch} {base : ℕ} {start now : Stre
       (rw grouped at rest.2) in
       record { back = rest.0; others = front.0; all = rest.1; cut = front.1 }
 
-  pub ahead_of_done : All (λ p. base + length g.done ≤ p.block) left
-  ahead_of_done = λ k d inside. omega (arith, g.ahead k d inside)
-
+  -- nothing has gone out, or no patch left begins in what has
   pub known_now : {whole : List ℕ} → Extends g.seen end whole → {os : List Outcome} {last : List ℕ}
       → IsPatched carry (taken ++ left) os base whole last → Known g.done g.outcomes os last
-  known_now extends =
-      known extends g.done (λ more. window ++ more) (λ more. refl) ahead_of_done
+  known_now extends {last = last} patched = elim g.state.ahead [
+    | inl begun ↦
+        let rest = rest_of extends patched in
+        record {
+          back = rest.0;
+          others = sectors last;
+          all = rest.1;
+          cut =
+              ap (λ ss. ss ++ sectors last)
+              (sym (none_of g.done (omega (arith, begun.0, g.state.counts.held))));
+        }
+    | inr ahead ↦
+        known extends g.done (λ more. window ++ more) (λ more. refl)
+        (λ k d inside. omega (arith, ahead k d inside)) patched
+  ]
 
   -- what went out and what was logged begin the patched image and its log
   pub begins_now : {whole : List ℕ} → Extends g.seen end whole → (os : List Outcome) (last : List ℕ)
@@ -211,21 +226,22 @@ module _ {carry : Bool} {taken left : List Patch} {base : ℕ} {start now : Stre
 -- an image that fits: if nothing is left, its end is known
 pub extends : {carry : Bool} {taken left : List Patch} {base : ℕ} {start now : Streams}
     {window : List (List ℕ)} {block sectors_read applied : ℕ} {end : Option (List ℕ)}
-    (g : PassInvariant carry taken left base start now window block sectors_read applied end)
+    {closed : Bool}
+    (g : PassInvariant carry taken left base start now window block sectors_read applied end closed)
     {whole : List ℕ} → MayBeImageAtEnd now.image.rest (bytes_of g.seen ++ tail_bytes end) whole
     → Extends g.seen end whole
 extends {now = now} {end = None} g {whole} fits =
     let begins =
     MayBeImageAtEnd-begins now.image.rest (bytes_of g.seen ++ []) whole (omega (arith, size_read g))
     fits in
-    Extends-begun _ g.seen_sizes
+    Extends-begun _ g.state.seen_sizes
     (begins.1 ∙ ap (λ l. l ++ begins.0) (append-nil (bytes_of g.seen)))
 extends {now = now} {end = Some t} g {whole} fits = record {
   more = [];
   cut =
       ap sectors (MayBeImageAtEnd-end now.image.rest (bytes_of g.seen ++ t) whole (g.ended refl).0
       fits)
-      ∙ sectors-bytes_of g.seen t g.seen_sizes
-      ∙ ap (λ ss. g.seen ++ ss) (sectors-short t g.counts.short);
+      ∙ sectors-bytes_of g.seen t g.state.seen_sizes
+      ∙ ap (λ ss. g.seen ++ ss) (sectors-short t g.state.counts.short);
   unended = λ some. refl;
 }

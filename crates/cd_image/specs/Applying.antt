@@ -1,17 +1,16 @@
 -- What `apply` and `check` have done, whatever they return. Their plain clauses, at the end of this
 -- file, follow from `Applies`.
-use Rattle.std.specs.Prelude.{◌≡◌, ◌↔◌, ℕ, ◌+◌, ◌*◌, ◌<◌, ◌≤◌, Bool, true, false, List, [], ◌++◌}
+use Rattle.std.specs.Prelude.{◌≡◌, ◌↔◌, ℕ, ◌+◌, ◌<◌, ◌≤◌, Bool, true, false, List, [], ◌++◌}
 use Rattle.std.specs.Prelude.{length, Option, None, Some, Result, Ok, Err}
 use Rattle.std.specs.Io.KnownBytes.{Appends, Consumes, IsAtEnd}
 use Rattle.cd_code.specs.Field.{AreBytes}
 use Rattle.cd_script.specs.PatchForm.{Patch}
-use Rattle.cd_sector.specs.declared.sector.TheConstants.{SECTOR_SIZE}
-use Rattle.cd_patch.specs.Blocks.{block_limit}
 use Rattle.cd_patch.specs.declared.outcome.Outcome.{Outcome}
-use Rattle.cd_read.specs.Image.{image_limit}
-use Rattle.cd_image.specs.PatchLog.{log_text, log_when_out_fails, log_when_too_long, patch_tally}
-use Rattle.cd_image.specs.PatchLog.{sent_when_log_fails, sent_when_too_long}
-use Rattle.cd_image.specs.Patched.{CarriesDamage, EachPatching, IsPatched}
+use Rattle.cd_sector.specs.Image.{image_limit, sectors, tail}
+use Rattle.cd_run.specs.PatchLog.{applied_count, log_text, log_when_out_fails, log_when_too_long, refused_count}
+use Rattle.cd_run.specs.PatchLog.{sent_when_log_fails, sent_when_too_long}
+use Rattle.cd_run.specs.InHand.{bytes_in_hand}
+use Rattle.cd_run.specs.Patched.{CarriesDamage, EachPatching, IsPatched}
 use Rattle.cd_stream.specs.Stream.{Incoming, IsBeginning, Outgoing}
 use Rattle.cd_read.specs.Ends.{MayBeImage, MayBeImageAtEnd}
 use Rattle.cd_read.specs.declared.fault.Fault.{Fault}
@@ -38,6 +37,15 @@ pub record Failed (old new : Streams) (of_image of_out of_log : ℕ) : Type 0 wh
 pub record Flushed (old new : Streams) (of_out of_log : ℕ) : Type 0 where
   pub outs : new.out.flushes ≡ old.out.flushes + of_out
   pub logs : new.log.flushes ≡ old.log.flushes + of_log
+
+-- the counts of the outcomes, of the image's sectors, and of the bytes of its tail
+abbrev pub patch_tally : List ℕ → List Outcome → Tally
+patch_tally image os = record {
+  applied = applied_count os;
+  refused = refused_count os;
+  sectors = length (sectors image);
+  tail = length (tail image);
+}
 
 -- the whole image was read; its patched image went out, and the log of the patches. Each sink was
 -- flushed just once
@@ -152,10 +160,6 @@ AppliesBy carry patches base read sent log_bytes old new (Err Log) =
     StopsAtLog carry patches base read sent log_bytes old new
 AppliesBy carry patches base read sent log_bytes old new (Err TooLong) =
     StopsBeyond carry patches base read sent log_bytes old new
-
--- how many bytes may be read and not sent: those of as many sectors as a patch may meet
-abbrev pub bytes_in_hand : ℕ
-bytes_in_hand = SECTOR_SIZE * block_limit
 
 -- the whole contract of `apply`: it read some bytes, sent some and logged some, and returned what fits
 -- these. Each of the three has counted its own, and each sink has kept the slice that was lent to it.

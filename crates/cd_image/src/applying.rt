@@ -1,20 +1,23 @@
 //! Patching an image, and what a script of patches would do to it.
 
-ghost use Rattle.std.specs.Prelude.{◌≡◌, ◌≢◌, ◌+◌, ◌<◌, ◌≤◌, ◌↔◌, All, IfErr, IfOk, OnOk};
-ghost use Rattle.std.specs.Prelude.{drop, length, take, true};
-ghost use Rattle.std.specs.List.Sorted.{IsNonDecreasingBy};
+ghost use Rattle.std.specs.Prelude.{◌≡◌, ◌≢◌, ◌+◌, ◌≤◌, ◌↔◌, IfErr, IfOk, OnOk};
+ghost use Rattle.std.specs.Prelude.{true};
 ghost use Rattle.cd_script.specs.Patch.{IsPatchList};
 ghost use Rattle.cd_read.specs.Ends.{AnswersByEnd, AnswersByLength, AnswersTooLong, EndsWell};
 ghost use Rattle.cd_image.specs.Applying.{Applies, BeginsLog, Checks, HoldsFew, HoldsFewCounted};
 ghost use Rattle.cd_image.specs.Applying.{WritesCarried, WritesLog, WritesPatched, streams};
 ghost use Rattle.cd_stream.specs.Stream.{CanCountFailure};
-ghost use Rattle.cd_read.specs.Image.{base_limit};
+ghost use Rattle.cd_sector.specs.Image.{base_limit};
 
 use crate::discard::NullSink;
-use crate::pass::Pass;
-use crate::patch_log::{Tally, send_missing};
+use crate::pass::{advance, close};
+use crate::patch_log::Tally;
+use arrayvec::ArrayVec;
+use cd_patch::MAX_BLOCKS_MET;
 use cd_read::Fault;
+use cd_run::PatchRun;
 use cd_script::{Patch, Script};
+use cd_sector::Sector;
 use cd_stream::{Sink, Source};
 
 /// Applies the patches of a script to an image, in their order, and sends the patched image to
@@ -175,24 +178,12 @@ fn apply_patches<I: Source, O: Sink, L: Sink>(
         (streams (I.seen image.old) (O.seen out.old) (L.seen log.old))
         (streams (I.seen image.new) (O.seen out.new) (L.seen log.new)) result }
 {
-    // A patch below the base is logged before anything is read: its line comes before the tail also
-    // of an image without a whole sector.
-    let below = count_below(patches, base);
-    send_missing(&patches[..below], log)?;
-    let mut pass = Pass::new(base, below);
+    let mut run = PatchRun::new(base);
+    let mut places = ArrayVec::from([Sector::default(); MAX_BLOCKS_MET]);
+    let hand = places.as_mut_slice();
     let mut more = true;
     while more {
-        more = pass.advance(image, patches, carry, out, log)?;
+        more = advance(&mut run, hand, image, patches, carry, out, log)?;
     }
-    pass.close(patches, out, log)
-}
-
-/// How many patches begin below a block; the others come after them.
-fn count_below(patches: &[Patch], block: u32) -> usize
-    requires { IsNonDecreasingBy (λ p. p.block) patches.now }
-    ensures within { result ≤ length patches.now }
-    ensures below { All (λ p. p.block < block) (take result patches.now) }
-    ensures others { All (λ p. block ≤ p.block) (drop result patches.now) }
-{
-    patches.partition_point(|patch| patch.block < block)
+    close(&run, hand, patches, out, log)
 }

@@ -26,10 +26,8 @@
 
 mod applying;
 mod discard;
-mod laws;
 mod pass;
 mod patch_log;
-mod window;
 
 pub use applying::{apply, check};
 pub use cd_patch::Outcome;
@@ -39,5 +37,4 @@ pub use cd_stream::{
     Buffered, FailAfter, FromRead, Short, Sink, SinkFailed, SliceSink, SliceSource, Source,
     SourceFailed, ToWrite, ZeroSource,
 };
-pub use laws::{patched_carries, patched_exists, patched_is_determined};
-pub use patch_log::{Tally, counts_line, outcome_line};
+pub use patch_log::Tally;

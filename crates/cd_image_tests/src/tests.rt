@@ -5,6 +5,7 @@ use std::process::Abort;
 mod calls;
 mod cases;
 mod failing;
+mod faults;
 mod large;
 mod laws;
 mod noise;
@@ -13,7 +14,7 @@ mod reports;
 mod resumed;
 mod streams;
 
-/// What a row of a table says is so. If it is not, the number of the row is printed, or that of its bytes.
+/// What a row of a table says is so. If it is not, a number is printed: that of the row, from 0 on, or of its bytes.
 fn holds(rt: &impl Abort, is_so: bool, row: usize) {
     assert!(rt; is_so, "row {row}");
 }

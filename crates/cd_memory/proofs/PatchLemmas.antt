@@ -1,12 +1,12 @@
 -- `check` and `apply` on a script and an image that are there.
 use Rattle.std.proofs.Common.{◌≡◌, ◌≢◌, ℕ, ◌+◌, ◌≤◌, false, List, [], ◌++◌, length, take, Some, Result, Ok, Err, refl, sym, ap, ◌∙◌, subst, arith, length-append}
 use Rattle.cd_image.specs.Applying.{Applies, Begins, Streams}
-use Rattle.cd_image.specs.PatchLog.{patch_tally}
-use Rattle.cd_image.specs.Patched.{EachPatching, IsPatched}
+use Rattle.cd_image.specs.Applying.{patch_tally}
+use Rattle.cd_run.specs.Patched.{EachPatching, IsPatched}
 use Rattle.cd_image.specs.declared.patch_log.Tally.{Tally}
 use Rattle.cd_args.specs.Fault.{failed_status}
 use Rattle.cd_read.specs.Ends.{MayBeImage, MayBeImageAtEnd}
-use Rattle.cd_read.specs.Image.{image_limit}
+use Rattle.cd_sector.specs.Image.{image_limit}
 use Rattle.cd_read.specs.declared.fault.Fault.{Fault}
 use Rattle.cd_read.specs.declared.fault.Fault.TheVariants.{Log, Read, TooLong, Write}
 use Rattle.cd_stream.specs.Stream.{Outgoing}

@@ -10,7 +10,8 @@ use Rattle.cd_stream.specs.Adapters.{slice_incoming}
 use Rattle.cd_stream.specs.Stream.{Outgoing}
 use Rattle.cd_stream.specs.Transfer.{Gives}
 use Rattle.cd_stream.specs.declared.adapters.slice_source.SliceSource.{SliceSource}
-use Rattle.cd_program.specs.Messages.{load_fault_line, no_script, open_fault_line, script_fault_line}
+use Rattle.cd_program.specs.Messages.{load_fault_line, no_script, open_fault_line}
+use Rattle.cd_run.specs.Messages.{script_fault_line}
 use Rattle.cd_program.specs.Program.{ComesOfFile, PrintsAndFails, ReadsScript}
 use Rattle.cd_program.specs.Commands.{PrintsLine}
 use Rattle.cd_program.specs.ScriptLines.{IsFaultOf, StopsLoading}

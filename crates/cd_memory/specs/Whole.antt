@@ -15,18 +15,20 @@ use Rattle.cd_script.specs.declared.fault.ScriptFault.{ScriptFault}
 use Rattle.cd_script.specs.declared.fault.ScriptFault.TheVariants as script_fault
 use Rattle.cd_script.specs.PatchForm.{Patch}
 use Rattle.cd_patch.specs.declared.outcome.Outcome.{Outcome}
-use Rattle.cd_read.specs.Image.{image_limit}
+use Rattle.cd_sector.specs.Image.{image_limit}
 use Rattle.cd_read.specs.declared.fault.Fault.TheVariants.{TooLong, Write}
 use Rattle.cd_stream.specs.Stream.{IsBeginning}
 use Rattle.cd_report.specs.AuditText.{audit_report}
 use Rattle.cd_report.specs.Lines.{text_of}
 use Rattle.cd_report.specs.ListText.{list_report}
 use Rattle.cd_report.specs.Report.{ReportSpec}
-use Rattle.cd_image.specs.Applying.{Begins, bytes_in_hand}
-use Rattle.cd_image.specs.PatchLog.{log_text, log_when_out_fails, log_when_too_long, patch_tally}
-use Rattle.cd_image.specs.PatchLog.{sent_when_log_fails, sent_when_too_long}
-use Rattle.cd_image.specs.Patched.{EachPatching, IsPatched}
-use Rattle.cd_program.specs.Messages.{fault_line, load_fault_line, no_image, no_output, no_script, script_fault_line}
+use Rattle.cd_image.specs.Applying.{Begins, patch_tally}
+use Rattle.cd_run.specs.InHand.{bytes_in_hand}
+use Rattle.cd_run.specs.PatchLog.{log_text, log_when_out_fails, log_when_too_long}
+use Rattle.cd_run.specs.PatchLog.{sent_when_log_fails, sent_when_too_long}
+use Rattle.cd_run.specs.Patched.{EachPatching, IsPatched}
+use Rattle.cd_program.specs.Messages.{fault_line, load_fault_line, no_image, no_output, no_script}
+use Rattle.cd_run.specs.Messages.{script_fault_line}
 use Rattle.cd_program.specs.Commands.{audit_status, script_status}
 use Rattle.cd_program.specs.declared.script.LoadFault.TheVariants as load_fault
 use Rattle.cd_program.specs.declared.jobs.Settings.{Settings}

@@ -5,6 +5,7 @@ pub mod Effect
 pub mod Sequence
 pub mod Hand
 pub mod Outcome
+pub mod OutcomeNumbers
 pub mod BySector
 pub mod Laws
 pub mod Parts

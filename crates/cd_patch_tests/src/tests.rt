@@ -9,7 +9,7 @@ mod laws;
 mod scripts;
 mod sectors;
 
-/// What a row of a table says is so. If it is not, the row's number is printed, from 0 on.
+/// What a row of a table says is so. If it is not, a number is printed: that of the row, from 0 on, or of the bytes in question.
 fn holds(rt: &impl Abort, is_so: bool, row: usize) {
     assert!(rt; is_so, "row {row}");
 }

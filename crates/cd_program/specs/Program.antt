@@ -18,7 +18,8 @@ use Rattle.cd_stream.specs.Stream.{Incoming, Outgoing}
 use Rattle.cd_stream.specs.Transfer.{Flushes, Gives}
 use Rattle.cd_stream.specs.declared.sink.SinkFailed.{SinkFailed}
 use Rattle.cd_program.specs.Hosting.{Hosting}
-use Rattle.cd_program.specs.Messages.{load_fault_line, no_image, no_output, no_script, open_fault_line, script_fault_line}
+use Rattle.cd_program.specs.Messages.{load_fault_line, no_image, no_output, no_script, open_fault_line}
+use Rattle.cd_run.specs.Messages.{script_fault_line}
 use Rattle.cd_program.specs.Commands.{PrintsLine, audit_status}
 use Rattle.cd_program.specs.Running.{RunsApply, RunsCheck, RunsReport}
 use Rattle.cd_program.specs.ScriptLines.{IsFaultOf, ReadsWhole, StopsLoading}

@@ -3,11 +3,12 @@
 use Rattle.std.specs.Prelude.{◌≡◌, ◌≢◌, ℕ, ◌+◌, ◌<◌, ◌⊎◌, Bool, true, false, List, [], ◌++◌, length, Some}
 use Rattle.cd_args.specs.Fault.{failed_status}
 use Rattle.cd_image.specs.Applying.{Applies, Checks, HoldsFew, WritesCarried, WritesPatched, streams}
-use Rattle.cd_image.specs.PatchLog.{log_text, patch_tally}
-use Rattle.cd_image.specs.Patched.{EachPatching}
+use Rattle.cd_image.specs.Applying.{patch_tally}
+use Rattle.cd_run.specs.PatchLog.{log_text}
+use Rattle.cd_run.specs.Patched.{EachPatching}
 use Rattle.cd_program.specs.Commands.{CallThenLine, script_status}
 use Rattle.cd_read.specs.Ends.{EndsWell}
-use Rattle.cd_read.specs.Image.{image_limit}
+use Rattle.cd_sector.specs.Image.{image_limit}
 use Rattle.cd_read.specs.declared.fault.Fault.TheVariants.{Log, Write}
 use Rattle.cd_report.specs.Report.{Reports, ReportSpec}
 use Rattle.cd_script.specs.PatchForm.{Patch}

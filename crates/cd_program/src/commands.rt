@@ -8,7 +8,7 @@ ghost use Rattle.cd_stream.specs.Transfer.{Counts};
 ghost use Rattle.cd_program.specs.Commands.{PrintsFaultLine, PrintsLine, audit_status, script_status};
 ghost use Rattle.cd_program.specs.Running.{RunsApply, RunsCheck, RunsReport};
 ghost use Rattle.cd_stream.specs.Stream.{CanCountFailure};
-ghost use Rattle.cd_read.specs.Image.{base_limit};
+ghost use Rattle.cd_sector.specs.Image.{base_limit};
 
 use crate::messages::fault_line;
 use cd_args::{DONE, FAILED};

@@ -11,7 +11,7 @@ ghost use Rattle.cd_program.specs.Program.{DoesApply, DoesCheck, DoesReport, Pri
 ghost use Rattle.cd_program.specs.Program.{FlushesRest, PrintsFault, ReadsScript, TakesImage, TakesScript};
 ghost use Rattle.cd_program.specs.Commands.{audit_status};
 ghost use Rattle.cd_stream.specs.Stream.{CanCountFailure};
-ghost use Rattle.cd_read.specs.Image.{base_limit};
+ghost use Rattle.cd_sector.specs.Image.{base_limit};
 
 use crate::commands::{print_and_fail, print_line, run_apply, run_audit, run_check, run_list};
 use crate::host::{Host, OpenFault};

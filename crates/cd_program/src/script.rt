@@ -7,15 +7,16 @@ ghost use Rattle.cd_script.specs.Script.{script};
 ghost use Rattle.cd_script.specs.Limits.{text_limit};
 ghost use Rattle.cd_script.specs.declared.fault.ScriptFault.{ScriptFault};
 ghost use Rattle.cd_script.specs.PatchForm.{Patch as ThePatch};
-ghost use Rattle.cd_program.specs.Messages.{script_fault_line};
+ghost use Rattle.cd_run.specs.Messages.{script_fault_line};
 ghost use Rattle.cd_program.specs.Commands.{PrintsLine};
 ghost use Rattle.cd_program.specs.ScriptLines.{Gathers, IsFaultOf, Loads, PrintsFailedReads};
 ghost use Rattle.cd_stream.specs.Stream.{CanCountFailure};
 ghost use Rattle.cd_stream.specs.Transfer.{Gives};
 
 use crate::commands::print_and_fail;
-use crate::messages::{load_fault_line, script_fault_line};
+use crate::messages::load_fault_line;
 use cd_image::{Sink, Source, SourceFailed};
+use cd_run::script_fault_line;
 use cd_script::{MAX_TEXT, Script, ScriptFault, parse};
 use std::alloc::{AllocError, Global};
 

@@ -1,4 +1,2 @@
 -- Lemmas that name nothing of this crate.
-pub mod Chunks
-pub mod Counts
 pub mod KnownBytes

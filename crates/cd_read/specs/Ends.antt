@@ -2,7 +2,7 @@
 -- the call's result says of it.
 use Rattle.std.specs.Prelude.{◌≡◌, ◌↔◌, ℕ, ◌+◌, ◌<◌, ◌≤◌, IsOk, false, true, List, [], ◌∷◌, length}
 use Rattle.std.specs.Prelude.{take, Option, None, Some, Result, Err}
-use Rattle.cd_read.specs.Image.{image_limit}
+use Rattle.cd_sector.specs.Image.{image_limit}
 use Rattle.cd_read.specs.declared.fault.Fault.{Fault}
 use Rattle.cd_read.specs.declared.fault.Fault.TheVariants.{TooLong}
 use Rattle.cd_stream.specs.Stream.{Incoming, IsBeginning, Outgoing}

@@ -8,7 +8,7 @@
 //! assert_eq!(rt; read_sector(&mut image, 1, &mut sector), Ok(Some(3))); // the tail
 //! ```
 //!
-//! An image has at most [`MAX_SECTORS`] whole sectors and no byte after the last of these:
+//! An image has at most `cd_sector::MAX_SECTORS` whole sectors and no byte after the last of these:
 //! 2,352,000,000 bytes. A call on an image ends at its first [`Fault`]. It reads each sector into
 //! the place of a `Sector`'s bytes and takes no memory.
 //!
@@ -16,12 +16,7 @@
 #![tactic(auto)]
 
 mod fault;
-mod laws;
 mod reading;
 
 pub use fault::Fault;
-pub use laws::images_are_cut;
 pub use reading::read_sector;
-
-/// The largest number of whole sectors in an image.
-pub const MAX_SECTORS: u32 = 1_000_000;

@@ -3,11 +3,10 @@
 ghost use Rattle.std.specs.Prelude.{◌≡◌, ◌<◌, ◌≤◌};
 ghost use Rattle.cd_read.specs.Reading.{ReadsSector};
 ghost use Rattle.cd_stream.specs.Stream.{CanCountFailure};
-ghost use Rattle.cd_read.specs.Image.{sector_limit};
+ghost use Rattle.cd_sector.specs.Image.{sector_limit};
 
-use crate::MAX_SECTORS;
 use crate::fault::Fault;
-use cd_sector::{SECTOR_SIZE, Sector};
+use cd_sector::{MAX_SECTORS, SECTOR_SIZE, Sector};
 use cd_stream::{Source, fill_buffer};
 
 /// Reads the next sector of an image, after `count` others, to `sector`, in the place of its bytes.

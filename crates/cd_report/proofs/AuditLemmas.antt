@@ -13,7 +13,7 @@ use Rattle.cd_report.specs.Lines.{text_of}
 use Rattle.cd_report.specs.Scanning.{HasFailed, HasVisited, IsTallyOf, audit_remaining, tally_with, tally_with_all, spec_of}
 use Rattle.cd_report.specs.declared.auditing.AuditTally.{AuditTally}
 use Rattle.cd_report.specs.declared.findings.Findings.{Findings}
-use Rattle.cd_read.proofs.general.Counts.{count_by-cons}
+use Rattle.cd_sector.proofs.general.Counts.{count_by-cons}
 
 -- ---- a sector is damaged if its report says that it has a defect
 

@@ -9,13 +9,13 @@ use Rattle.cd_sector.specs.Consistent.{is_mode1}
 use Rattle.cd_sector.specs.Defect.{all_syndromes, defect_of, is_broken, is_nonzero}
 use Rattle.cd_sector.specs.Kind.{kind_of}
 use Rattle.cd_report.specs.AuditText.{audit_end, audit_lines, audit_tally, audit_text, count_if, finding_count, finding_line, found_of, findings_of, is_any, is_damaged, line_of, name_if, report_of}
-use Rattle.cd_read.specs.Image.{base_limit, image_limit, sectors}
+use Rattle.cd_sector.specs.Image.{base_limit, image_limit, sectors}
 use Rattle.cd_report.specs.Lines.{line_count, text_of}
 use Rattle.cd_report.specs.declared.auditing.AuditTally.{AuditTally}
 use Rattle.cd_report.specs.declared.findings.Findings.{Findings}
 use Rattle.cd_report.proofs.AuditLemmas.{findings_of-none, findings_of-some}
-use Rattle.cd_read.proofs.general.Counts.{count_by-cons}
-use Rattle.cd_read.proofs.ImageLemmas.{length-sectors-le, length-tail-le}
+use Rattle.cd_sector.proofs.general.Counts.{count_by-cons}
+use Rattle.cd_sector.proofs.ImageLemmas.{length-sectors-le, length-tail-le}
 use Rattle.cd_report.proofs.ScanLemmas.{text_of-append}
 
 line_count-append : (front after : List ℕ)

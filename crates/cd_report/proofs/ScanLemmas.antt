@@ -3,7 +3,7 @@ use Rattle.std.proofs.Common.{◌≡◌, ℕ, ◌+◌, ◌*◌, ◌<◌, ◌≤�
 use Rattle.std.proofs.KnownBytes.{Consumes-nil}
 use Rattle.std.proofs.lemmas.Grind.{flat_map-append}
 use Rattle.std.proofs.lemmas.List.{length-take-le}
-use Rattle.cd_read.specs.Image.{image_limit, sectors, tail}
+use Rattle.cd_sector.specs.Image.{image_limit, sectors, tail}
 use Rattle.cd_report.specs.Lines.{all_but_last, text_of}
 use Rattle.cd_read.specs.Ends.{MayBeImageAtEnd}
 use Rattle.cd_read.specs.Reading.{EndComes, ReadsSector, SectorComes}
@@ -14,7 +14,7 @@ use Rattle.cd_read.specs.declared.fault.Fault.TheVariants.{Log, Read, TooLong, W
 use Rattle.cd_stream.specs.Stream.{Incoming, IsBeginning, Outgoing}
 use Rattle.cd_stream.specs.Transfer.{Gives, Takes}
 use Rattle.cd_stream.proofs.TransferLemmas.{Gives-trans, Takes-nil, Takes-trans}
-use Rattle.cd_read.proofs.ImageLemmas.{length-tail, sectors-sector, sectors-short}
+use Rattle.cd_sector.proofs.ImageLemmas.{length-tail, sectors-sector, sectors-short}
 use Rattle.cd_read.proofs.EndLemmas.{Fits-begins, MayBeImageAtEnd-begins, MayBeImageAtEnd-end}
 use Rattle.cd_report.proofs.PassLemmas.{IsBeginning-after, IsBeginning-take}
 

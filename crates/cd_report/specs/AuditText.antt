@@ -8,7 +8,7 @@ use Rattle.cd_sector.specs.Consistent.{header_of, is_mode1}
 use Rattle.cd_sector.specs.Defect.{defect_of, is_broken, is_nonzero, is_sound}
 use Rattle.cd_sector.specs.Kind.{kind_of}
 use Rattle.cd_sector.specs.declared.defects.DefectReport.{DefectReport}
-use Rattle.cd_read.specs.Image.{base_limit, image_limit, sectors, tail}
+use Rattle.cd_sector.specs.Image.{base_limit, image_limit, sectors, tail}
 use Rattle.cd_report.specs.Lines.{line_count, text_of}
 use Rattle.cd_report.specs.Report.{ReportSpec}
 use Rattle.cd_report.specs.declared.auditing.AuditTally.{AuditTally}

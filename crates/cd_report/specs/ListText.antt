@@ -4,7 +4,7 @@ use Rattle.cd_sector.specs.Kind.{kind_of}
 use Rattle.cd_sector.specs.declared.kinds.SectorKind.{SectorKind}
 use Rattle.cd_sector.specs.declared.kinds.SectorKind.TheVariants.{NoSync, Mode0, Mode1, Mode2}
 use Rattle.cd_sector.specs.declared.kinds.SectorKind.TheVariants.{Other}
-use Rattle.cd_read.specs.Image.{sectors, tail}
+use Rattle.cd_sector.specs.Image.{sectors, tail}
 use Rattle.cd_report.specs.Lines.{all_but_last, text_of}
 use Rattle.cd_report.specs.Report.{ReportSpec}
 use Rattle.cd_report.specs.Runs.{Run, runs}

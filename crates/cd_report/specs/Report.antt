@@ -4,7 +4,7 @@ use Rattle.std.specs.Prelude.{◌≡◌, ℕ, ◌+◌, ◌<◌, ◌≤◌, false
 use Rattle.std.specs.Prelude.{length, Some, Result, Ok, Err}
 use Rattle.std.specs.Io.KnownBytes.{IsAtEnd}
 use Rattle.cd_read.specs.Ends.{MayBeImage, MayBeImageAtEnd}
-use Rattle.cd_read.specs.Image.{image_limit}
+use Rattle.cd_sector.specs.Image.{image_limit}
 use Rattle.cd_report.specs.Lines.{all_but_last, text_of}
 use Rattle.cd_read.specs.declared.fault.Fault.{Fault}
 use Rattle.cd_read.specs.declared.fault.Fault.TheVariants.{Log, Read, TooLong, Write}

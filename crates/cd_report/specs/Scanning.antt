@@ -8,7 +8,7 @@ use Rattle.cd_stream.specs.Stream.{IsBeginning, Outgoing}
 use Rattle.cd_stream.specs.Transfer.{Takes}
 use Rattle.cd_report.specs.AuditText.{audit_end, audit_lines, finding_count, is_any, is_damage}
 use Rattle.cd_report.specs.AuditText.{is_damaged}
-use Rattle.cd_read.specs.Image.{sectors, tail}
+use Rattle.cd_sector.specs.Image.{sectors, tail}
 use Rattle.cd_report.specs.Lines.{all_but_last, text_of}
 use Rattle.cd_report.specs.ListText.{list_end, run_line, run_lines}
 use Rattle.cd_report.specs.OpenRun.{EndsBefore, open_first, open_kinds}

@@ -7,14 +7,15 @@ ghost use Rattle.cd_report.specs.Report.{Reports, WritesText};
 ghost use Rattle.cd_report.specs.Scanning.{tally_with};
 ghost use Rattle.cd_stream.specs.Transfer.{CountsFlush, Sends};
 ghost use Rattle.cd_stream.specs.Stream.{CanCountFailure};
-ghost use Rattle.cd_read.specs.Image.{base_limit, sector_limit};
+ghost use Rattle.cd_sector.specs.Image.{base_limit, sector_limit};
 
 use crate::MAX_BASE;
 use crate::findings::{Findings, findings_of, is_any, is_damage, send_findings};
 use crate::scan::{Visitor, scan};
+use cd_line::Line;
 use cd_read::Fault;
 use cd_sector::Sector;
-use cd_stream::{Line, Sink, SinkFailed, Source, write_all};
+use cd_stream::{Sink, SinkFailed, Source, write_all};
 
 /// What an audit has counted.
 #[derive(Clone, Copy, Debug, PartialEq, Eq)]

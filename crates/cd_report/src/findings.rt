@@ -9,8 +9,9 @@ ghost use Rattle.cd_report.specs.Lines.{text_of};
 ghost use Rattle.cd_stream.specs.Transfer.{Counts, Sends};
 ghost use Rattle.cd_stream.specs.Stream.{CanCountFailure};
 
+use cd_line::{LINE_SIZE, Line};
 use cd_sector::{DefectReport, Sector, SectorKind, address_of, defect, kind};
-use cd_stream::{LINE_SIZE, Line, Sink, SinkFailed, write_all};
+use cd_stream::{Sink, SinkFailed, write_all};
 
 /// What is found of a Mode 1 sector (ECMA-130, 14 and Annex A).
 #[derive(Clone, Copy, Debug, PartialEq, Eq)]

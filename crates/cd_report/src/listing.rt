@@ -10,13 +10,14 @@ ghost use Rattle.cd_report.specs.Runs.{runs};
 ghost use Rattle.cd_report.specs.Scanning.{ExtendsRun, last_line};
 ghost use Rattle.cd_stream.specs.Transfer.{Counts, CountsFlush, Sends};
 ghost use Rattle.cd_stream.specs.Stream.{CanCountFailure};
-ghost use Rattle.cd_read.specs.Image.{base_limit};
+ghost use Rattle.cd_sector.specs.Image.{base_limit};
 
 use crate::MAX_BASE;
 use crate::scan::{Visitor, scan};
+use cd_line::Line;
 use cd_read::Fault;
 use cd_sector::{Sector, SectorKind, kind};
-use cd_stream::{Line, Sink, SinkFailed, Source, write_all};
+use cd_stream::{Sink, SinkFailed, Source, write_all};
 
 /// What a listing has counted: whole sectors, and the bytes after them.
 #[derive(Clone, Copy, Debug, PartialEq, Eq)]

@@ -5,7 +5,7 @@ ghost use Rattle.cd_report.specs.Report.{Reports};
 ghost use Rattle.cd_report.specs.Scanning.{Finishes, Visits, spec_of};
 ghost use Rattle.cd_stream.specs.Transfer.{Counts, CountsFlush};
 ghost use Rattle.cd_stream.specs.Stream.{CanCountFailure};
-ghost use Rattle.cd_read.specs.Image.{sector_limit};
+ghost use Rattle.cd_sector.specs.Image.{sector_limit};
 
 use cd_read::{Fault, read_sector};
 use cd_sector::Sector;

@@ -6,7 +6,7 @@ use Rattle.cd_memory.proofs.KnownLemmas.{MayBeImageAtEnd-within}
 use Rattle.cd_memory.specs.Memory.{fresh_incoming}
 use Rattle.cd_program.specs.Running.{IsTooLong, RunsReport}
 use Rattle.cd_read.specs.Ends.{MayBeImageAtEnd}
-use Rattle.cd_read.specs.Image.{base_limit, image_limit}
+use Rattle.cd_sector.specs.Image.{base_limit, image_limit}
 use Rattle.cd_read.specs.declared.fault.Fault.TheVariants.{Write}
 use Rattle.cd_report.specs.Report.{ReportSpec}
 use Rattle.cd_stream.specs.Adapters.{lent_to, slice_incoming, slice_outgoing}

@@ -3,7 +3,7 @@ use Rattle.std.specs.Prelude.{◌≡◌, ℕ, ◌<◌, ◌≤◌, ◌⊎◌, Lis
 use Rattle.cd_args.specs.Fault.{failed_status}
 use Rattle.cd_memory.specs.Memory.{fresh_incoming}
 use Rattle.cd_program.specs.Running.{RunsReport}
-use Rattle.cd_read.specs.Image.{base_limit, image_limit}
+use Rattle.cd_sector.specs.Image.{base_limit, image_limit}
 use Rattle.cd_report.specs.Report.{ReportSpec}
 use Rattle.cd_stream.specs.Adapters.{slice_incoming}
 use Rattle.cd_stream.specs.Stream.{Outgoing}

@@ -1,10 +1,11 @@
 -- A text, cut after its first line.
-use Rattle.std.proofs.Common.{◌≡◌, ◌+◌, ◌<◌, ◌≤◌, ℕ, suc, false, List, ◌∷◌, ◌++◌, length, length-take, take, drop, slice_index, refl, subst, sym, ap, ◌∙◌, arith, add-one}
+use Rattle.std.proofs.Common.{◌≡◌, ◌+◌, ◌-◌, ◌<◌, ◌≤◌, ◌⊎◌, inl, inr, ℕ, suc, false, List, [], ◌∷◌, ◌++◌, length, length-take, take, drop, slice_index, refl, subst, sym, ap, ◌∙◌, arith, add-one}
 use Rattle.std.specs.Str.Lines.{lines, strip_carriage_return}
 use Rattle.std.proofs.lemmas.Bool.{eqb-true, false_from_ne_true}
-use Rattle.std.proofs.lemmas.List.{get_or-take, get_or_default, take-append-drop, take_all, drop_all, take-take}
+use Rattle.std.proofs.lemmas.List.{get_or-take, get_or_default, take-append-drop, take_all, drop_all, take-take, take_more, drop-append-le, drop-take}
 use Rattle.std.proofs.Math.Seq.{drop-cons}
 use Rattle.memchr.specs.Find.{Nowhere, NoneBefore, Passes}
+use Rattle.cd_script.specs.LineEnd.{IsLineEnd}
 use Rattle.cd_script.proofs.general.Lines.{NoFeed, is_feed, lines-cut, lines-last}
 
 -- the first line feed, and what stands before and after it
@@ -41,3 +42,23 @@ first-last text never some =
     let front = take_all (length text) text (omega arith) in
     let back = drop_all (length text) text (omega arith) in
     lines-last text none some ∙ sym (rw (front, back) refl)
+
+-- what ends a line before the first line feed
+pub feed-end : (text : List ℕ) (k size : ℕ)
+    → NoneBefore (Passes is_feed text) 0 (length text) k × Passes is_feed text k
+    → size ≤ length (take k text)
+    → (drop size (take k text) ≡ []) ⊎ (drop size (take k text) ≡ 13 ∷ [])
+    → IsLineEnd text size (k + 1)
+feed-end text k size found most back =
+    let lt : k < length text = found.0.high in
+    let feed : slice_index text k ≡ 10 = eqb-true _ _ found.1 in
+    let whole : size + (k + 1 - size) ≡ k + 1 = omega (arith, length-take k text) in
+    let cut : take (k + 1 - size) (drop size text) ≡ drop size (take k text) ++ 10 ∷ [] =
+    sym (drop-take size (k + 1 - size) text) ∙ ap (λ (n : ℕ). drop size (take n text)) whole
+    ∙ ap (drop size) (take_more text k 0 lt)
+    ∙ ap (λ (b : ℕ). drop size (take k text ++ b ∷ [])) feed
+    ∙ drop-append-le size (take k text) (10 ∷ []) most in
+    elim back [
+      | inl none ↦ inl (cut ∙ ap (λ (l : List ℕ). l ++ 10 ∷ []) none)
+      | inr return ↦ inr (inl (cut ∙ ap (λ (l : List ℕ). l ++ 10 ∷ []) return))
+    ]

@@ -1,8 +1,9 @@
 -- What is read keeps to what a patch keeps to.
-use Rattle.std.proofs.Common.{◌≡◌, ℕ, ◌+◌, ◌<◌, ◌≤◌, List, [], ◌∷◌, length, Option, Some, None, Ok, refl, arith}
+use Rattle.std.proofs.Common.{◌≡◌, ℕ, zero, suc, ◌+◌, ◌<◌, ◌≤◌, List, [], ◌∷◌, length, Option, Some, None, Result, Ok, Err, refl, arith}
 use Rattle.std.specs.Prelude.{All, IfOk, IfSome}
 use Rattle.std.specs.List.{cons_option}
 use Rattle.std.specs.Option.{option_to_list}
+use Rattle.std.specs.Str.Lines.{lines}
 use Rattle.std.proofs.lemmas.Bool.Decides.{nat_tests}
 use Rattle.std.proofs.lemmas.List.Elements.{All-nil, All-cons}
 use Rattle.std.proofs.lemmas.Result.{IfOk-at_ok}
@@ -12,7 +13,9 @@ use Rattle.cd_script.specs.Limits.{patch_limit}
 use Rattle.cd_script.specs.Line.{set_patch, set_if_patch, fill_patch, rebuild_patch, address_patch, patch_at, patch_by}
 use Rattle.cd_script.specs.Patch.{IsPatch}
 use Rattle.cd_script.specs.Script.{is_passed_over, head_version, line_at, patches_after, patches_from, script_from}
+use Rattle.cd_script.specs.Size.{ScriptIsShort}
 use Rattle.cd_script.specs.Words.{words}
+use Rattle.cd_script.specs.declared.fault.ScriptFault.{ScriptFault}
 use Rattle.cd_script.proofs.KindLemmas.{address-kind, byte-kind, cond_keeps, count-kind, new-kind, number-kind, offset-kind, old-kind, then_keeps, word_keeps}
 
 -- ---- the forms, word by word
@@ -123,3 +126,48 @@ script_from-patches line (text ∷ rest) =
 pub script-behind : (line : ℕ) (ls : List (List ℕ)) (ps : List Patch) → script_from line ls ≡ Ok ps
     → AreBehind 0 ps
 script-behind line ls ps e = IfOk-at_ok (AreBehind 0) e (script_from-patches line ls)
+
+-- ---- how many they are
+
+cons_few : (found : Option Patch) (ps : List Patch) (n : ℕ) → suc (length ps) ≤ n
+    → length (cons_option found ps) ≤ n
+cons_few None ps n h = omega arith
+cons_few (Some p) ps n h = h
+
+patches_from-few : (version : Version) (line earlier : ℕ) (ls : List (List ℕ)) (n : ℕ)
+    → length ls ≤ n → IfOk (patches_from version line earlier ls) (λ ps. length ps ≤ n)
+unfolding patches_from
+patches_from-few version line earlier [] n h = omega arith
+patches_from-few version line earlier (text ∷ rest) zero h = absurd (omega arith)
+patches_from-few version line earlier (text ∷ rest) (suc n) h =
+    then_keeps _ _ (line_at version line earlier text) _ (line_at-patch version line earlier text)
+    (λ found one.
+    let later = earlier + length (option_to_list found) in
+    then_keeps _ _ (patches_from version (line + 1) later rest) _
+    (patches_from-few version (line + 1) later rest n (omega arith))
+    (λ others few. cons_few found others (suc n) (omega arith)))
+
+patches_after-few : (line : ℕ) (named : Option Version) (rest : List (List ℕ)) (n : ℕ)
+    → length rest ≤ n → IfOk (patches_after line named rest) (λ ps. length ps ≤ n)
+patches_after-few line None rest n h = tt
+patches_after-few line (Some version) rest n h = patches_from-few version (line + 1) 0 rest n h
+
+script_from-few : (line : ℕ) (ls : List (List ℕ)) (n : ℕ) → length ls ≤ n
+    → IfOk (script_from line ls) (λ ps. length ps ≤ n)
+unfolding script_from
+script_from-few line [] n h = tt
+script_from-few line (text ∷ rest) n h =
+    cond_keeps _ (is_passed_over (words text)) _ _
+    (λ _. script_from-few (line + 1) rest n (omega arith))
+    (λ _. patches_after-few line (head_version (words text)) rest n (omega arith))
+
+both : (r : Result (List Patch) ScriptFault) (n : ℕ) → IfOk r (λ ps. length ps ≤ n)
+    → IfOk r (AreBehind 0) → IfOk r (λ ps. (length ps ≤ n) × (length ps ≤ patch_limit))
+both (Ok ps) n few h = (few, omega (arith, h.count))
+both (Err e) n few h = tt
+
+pub script-short : ScriptIsShort
+script-short text =
+    both (script_from 1 (lines text)) (length (lines text))
+    (script_from-few 1 (lines text) (length (lines text)) (omega arith))
+    (script_from-patches 1 (lines text))

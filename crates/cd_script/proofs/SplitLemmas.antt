@@ -1,10 +1,10 @@
 -- A line, cut at its spaces and tabs.
-use Rattle.std.proofs.Common.{◌≡◌, ◌+◌, ◌-◌, ◌<◌, ◌≤◌, ℕ, suc, Bool, true, false, cond, List, [], ◌∷◌, ◌++◌, length, length-append, length-take, take, drop, slice_index, subst, sym, ap, ◌∙◌, arith, append_assoc}
+use Rattle.std.proofs.Common.{◌≡◌, ◌+◌, ◌-◌, ◌<◌, ◌≤◌, ℕ, suc, Bool, true, false, cond, List, [], ◌∷◌, ◌++◌, length, length-append, length-take, take, drop, slice_index, refl, subst, sym, ap, ◌∙◌, arith, append_assoc}
 use Rattle.std.specs.Prelude.{All, filter, not}
 use Rattle.std.specs.Borrow.{Bor}
 use Rattle.std.specs.List.{slice_split}
 use Rattle.std.proofs.lemmas.Bool.{cond-true, cond-false, false_from_ne_true, ne_eqb, eq-eqb}
-use Rattle.std.proofs.lemmas.List.{append-nil, get_or-take, get_or_default, map-append, take-append-drop, take_all, take_at}
+use Rattle.std.proofs.lemmas.List.{append-nil, get_or-take, get_or_default, length-take-le, map-append, take-append-drop, take_all, take_at}
 use Rattle.std.proofs.lemmas.List.Elements.{filter-append}
 use Rattle.std.proofs.lemmas.List.Splits.{slice_split_none, slice_split_at}
 use Rattle.std.proofs.Math.Seq.{drop-cons}
@@ -63,6 +63,24 @@ unfolding words
 cut_at part x rest none space =
     ap (filter is_word) (slice_split_at is_space part x rest none space)
     ∙ filter-append is_word (part ∷ []) (slice_split is_space rest)
+
+-- spaces before a line
+words_spaces : (v rest : List ℕ) → ((k : ℕ) → k < length v → is_space (slice_index v k) ≡ true)
+    → words (v ++ rest) ≡ words rest
+words_spaces [] rest h = refl
+words_spaces (x ∷ v) rest h =
+    cut_at [] x (v ++ rest) (λ k d lt. absurd (omega arith)) (h 0 (omega arith))
+    ∙ words_spaces v rest (λ k lt. h (suc k) (omega arith))
+
+pub words-skip : (line front after : List ℕ) (n : ℕ) → front ≡ take n line → after ≡ drop n line
+    → n ≤ length line → ((k : ℕ) → k < n → is_space (slice_index front k) ≡ true)
+    → words after ≡ words line
+words-skip line front after n is_front is_after within h =
+    let size : length front ≡ n = ap (λ (l : List ℕ). length l) is_front ∙ length-take-le n line within in
+    sym (ap words (sym (take-append-drop n line))
+    ∙ ap (λ (l : List ℕ). words (l ++ drop n line)) (sym is_front)
+    ∙ ap (λ (l : List ℕ). words (front ++ l)) (sym is_after)
+    ∙ words_spaces front after (λ k lt. h k (omega arith)))
 
 -- the first space, and what stands before and after it
 pub words-cut : (line part after rest : List ℕ) (end : ℕ)

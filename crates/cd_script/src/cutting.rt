@@ -1,7 +1,8 @@
 //! Cutting a script's text into its lines.
 
-ghost use Rattle.std.specs.Prelude.{◌≡◌, ◌==◌, ◌∷◌, ◌<◌, ◌≤◌, [], IfNone, IfSome, drop, length, take};
+ghost use Rattle.std.specs.Prelude.{◌≡◌, ◌==◌, ◌∷◌, ◌<◌, ◌≤◌, ◌⊎◌, [], IfNone, IfSome, drop, length, take};
 ghost use Rattle.std.specs.Str.Lines.{lines, strip_carriage_return};
+ghost use Rattle.cd_script.specs.LineEnd.{IsLineEnd};
 ghost use Rattle.memchr.specs.Find.{IsFirstByte};
 
 use memchr::memchr;
@@ -27,6 +28,7 @@ fn find_feed(text: &[u8]) -> Option<usize>
 /// How many bytes a line has of those before its line feed: not a carriage return that is the last.
 fn size_before_feed(line: &[u8]) -> usize
     ensures line { take result line.now ≡ strip_carriage_return line.now }
+    ensures end { (drop result line.now ≡ []) ⊎ (drop result line.now ≡ 13 ∷ []) }
     ensures most { result ≤ length line.now }
 {
     match line {
@@ -49,6 +51,7 @@ pub fn first_line(text: &[u8]) -> Option<TextLine>
     ensures none { IfNone result (lines text.now ≡ []) }
     ensures some { IfSome result (λ at. lines text.now
         ≡ take at.size text.now ∷ lines (drop at.taken text.now)) }
+    ensures end { IfSome result (λ at. IsLineEnd text.now at.size at.taken) }
     ensures order { IfSome result (λ at. at.size ≤ at.taken) }
     ensures within { IfSome result (λ at. at.taken ≤ length text.now) }
     ensures goes { IfSome result (λ at. 0 < at.taken) }

@@ -4,6 +4,7 @@ ghost use Rattle.std.specs.Prelude.{◌≡◌};
 ghost use Rattle.cd_script.specs.ByLine.{ReadsByLine};
 ghost use Rattle.cd_script.specs.Limits.{bytes_limit, digit_limit, number_limit, offset_limit, patch_limit, text_limit};
 ghost use Rattle.cd_script.specs.Order.{OrderRises, OrderKeepsTies, OrderPermutes};
+ghost use Rattle.cd_script.specs.Size.{ScriptIsShort};
 ghost use Rattle.cd_script.specs.Spelling.{SpellingReads};
 ghost use Rattle.cd_script.specs.Versions.{FirstStays, SecondExtends};
 
@@ -52,4 +53,9 @@ pub fn second_extends()
 /// A text whose lines are read one after the other, each by itself, gives its script or first fault.
 pub fn reads_by_line()
     ensures { ReadsByLine }
+{}
+
+/// A script has no more patches than lines, and than the language allows.
+pub fn script_is_short()
+    ensures { ScriptIsShort }
 {}

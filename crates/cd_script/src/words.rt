@@ -1,6 +1,6 @@
 //! The words of a line of a script.
 
-ghost use Rattle.std.specs.Prelude.{◌≡◌, ◌<◌, ◌≤◌, ◌↔◌, ◌∷◌, ◌++◌, [], IsTrue, filter, length, map, take};
+ghost use Rattle.std.specs.Prelude.{◌≡◌, ℕ, ◌<◌, ◌≤◌, ◌↔◌, ◌∷◌, ◌++◌, [], IsTrue, filter, length, map, slice_index, take, true};
 ghost use Rattle.memchr.specs.Find.{IsFirstByte};
 ghost use Rattle.cd_script.specs.Words.{is_space, is_word, words};
 
@@ -67,6 +67,34 @@ fn find_space(line: &[u8]) -> Option<usize>
     memchr2(b' ', b'\t', line)
 }
 
+/// Whether all of these are spaces and tabs. They are looked at all together, not until the first
+/// that is none, so that it takes a few instructions.
+fn are_spaces(bytes: &[u8; 16]) -> bool
+    ensures { result ≡ true → (k : ℕ) → k < 16 → is_space (slice_index bytes.now k) ≡ true }
+{
+    let mut spaces = true;
+    for byte in bytes {
+        spaces = spaces & ((*byte == b' ') | (*byte == b'\t'));
+    }
+    spaces
+}
+
+/// A line without the spaces and tabs at its front, as far as there are sixteen of them.
+fn without_spaces(line: &[u8]) -> &[u8]
+    ensures words { words result.now ≡ words line.now }
+    ensures most { length result.now ≤ length line.now }
+{
+    let mut rest = line;
+    while let Some((front, after)) = rest.split_first_chunk::<16>() {
+        if are_spaces(front) {
+            rest = after;
+        } else {
+            return rest;
+        }
+    }
+    rest
+}
+
 /// The first words of a line, at most seven: no form has as many. `memchr` finds where they end, a
 /// register of bytes at a time; std's `split` looks at each byte, and a script of long lines takes
 /// nearly twice as long with it.
@@ -74,14 +102,14 @@ pub(crate) fn words<'a>(line: &'a [u8]) -> FirstWords<'a>
     ensures { result ≡ take MOST_WORDS (words line.now) }
 {
     let mut words = FirstWords::new();
-    let mut rest = line;
+    let mut rest = without_spaces(line);
     while let Some(end) = find_space(rest) {
         let (part, after) = rest.split_at(end);
         words.push(part);
         if words.is_full() {
             return words;
         }
-        rest = &after[1..];
+        rest = without_spaces(&after[1..]);
     }
     words.push(rest);
     words

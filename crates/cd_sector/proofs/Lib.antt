@@ -5,7 +5,9 @@ pub mod DefectLemmas
 pub mod DiagonalLemmas
 pub mod EdcPlaceLemmas
 pub mod ExistenceLemmas
+pub mod ImageLemmas
 pub mod ParityLemmas
 pub mod PlaceLemmas
 pub mod SectorLemmas
 pub mod SumLemmas
+pub mod general

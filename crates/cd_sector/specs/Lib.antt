@@ -5,6 +5,7 @@ pub mod Consistent
 pub mod Defect
 pub mod DiagonalSteps
 pub mod EdcField
+pub mod Image
 pub mod Kind
 pub mod Laws
 pub mod WithBytes

@@ -20,7 +20,8 @@
 //! ```
 //!
 //! A sector of any other kind is only named ([`kind`]): the two forms of Mode 2 are not in
-//! ECMA-130. Blocks have an address up to [`MAX_BLOCK`]. No call takes memory.
+//! ECMA-130. Blocks have an address up to [`MAX_BLOCK`], and an image has at most [`MAX_SECTORS`] whole
+//! sectors, then a tail that is shorter. No call takes memory.
 //!
 //! Tests: `crates/cd_patch_tests/src/tests/sectors`.
 #![tactic(auto)]
@@ -30,6 +31,7 @@ mod defects;
 mod diagonals;
 mod edc_field;
 mod encoding;
+mod image;
 mod kinds;
 mod laws;
 mod parity;
@@ -44,6 +46,7 @@ pub use defects::{
 };
 pub use edc_field::{edc_bytes, fill_edc, put_edc, stored_edc};
 pub use encoding::{encode, encode_into, rebuild};
+pub use image::{MAX_SECTORS, images_are_cut};
 pub use kinds::{SectorKind, kind};
 pub use laws::{
     carried_exists, carried_is_unique, carried_of_consistent, consistent_by_parts,

@@ -1,5 +1,4 @@
-//! Where bytes come from and where they go: sources and sinks that count their failures, and a line
-//! of a text.
+//! Where bytes come from and where they go: sources and sinks that count their failures.
 //!
 //! ```
 //! let mut source = SliceSource::new(b"abc");
@@ -16,15 +15,13 @@
 //! [`FromRead`] and [`ToWrite`] stand over std's readers and writers, [`SliceSource`] and
 //! [`SliceSink`] over memory, [`Buffered`] over a sink that is costly to call. [`ZeroSource`],
 //! [`Short`] and [`FailAfter`] are for tests. No call takes memory of its own: a [`Buffered`] is
-//! given its space. At most 4,294,967,295 failures are counted, and a [`Line`] has at most
-//! [`LINE_SIZE`] bytes.
+//! given its space. At most 4,294,967,295 failures are counted.
 //!
 //! Tests: `crates/cd_image_tests/src/tests/streams`.
 #![tactic(auto)]
 
 mod adapters;
 mod count;
-mod line;
 mod sink;
 mod source;
 mod transfer;
@@ -38,7 +35,6 @@ pub use adapters::slice_source::SliceSource;
 pub use adapters::to_write::ToWrite;
 pub use adapters::zero_source::ZeroSource;
 pub use count::Count;
-pub use line::{LINE_SIZE, Line};
 pub use sink::{Sink, SinkFailed};
 pub use source::{Source, SourceFailed};
 pub use transfer::{fill_buffer, write_all};

@@ -5,10 +5,10 @@ use cd_image::{FailAfter, Sink, SliceSink, SliceSource, ToWrite, ZeroSource};
 use cd_memory::{File, Memory, run_on_files};
 use cd_program::{
     Host, LoadFault, System, load_fault_line, load_script, print_and_fail, read_script, run_apply,
-    run_args, run_audit, run_check, run_list, script_fault_line,
+    run_args, run_audit, run_check, run_list,
 };
 use cd_rooms::{audit_image, list_image};
-use cd_script::{ScriptFault, parse};
+use cd_script::parse;
 use std::alloc::AllocError;
 use std::io;
 use std::test::Fail;
@@ -51,12 +51,6 @@ fn a_script_that_is_refused(rt: HostRuntime) {
     let status = read_script(rt.alloc(), b"cdpatch 1\nset 0 0 4\n", &mut log).err();
     assert_eq!(rt; status, Some(2));
     assert_eq!(rt; log.written(), b"script line 2: bad hex\n".as_slice());
-}
-
-#[test]
-fn the_line_of_a_scripts_fault(rt: HostRuntime) {
-    let line = script_fault_line(ScriptFault::Hex(3));
-    assert_eq!(rt; line.as_slice(), b"script line 3: bad hex\n".as_slice());
 }
 
 #[test]

@@ -1,6 +1,6 @@
 //! The examples of cd_read, cd_report and cd_image.
 
-use cd_image::{Outcome, apply, audit, check, counts_line, list, outcome_line};
+use cd_image::{Outcome, apply, audit, check, list};
 use cd_read::read_sector;
 use cd_report::has_other_address;
 use cd_script::parse;
@@ -63,12 +63,4 @@ fn a_check(rt: HostRuntime) -> Result<(), Fail> {
     check(&mut ZeroSource::new(0), &script, 0, false, &mut log)?; // no sector
     assert!(rt; log.written().starts_with(b"line 2: refused: no block 0\n"));
     Ok(())
-}
-
-#[test]
-fn lines_of_a_log(rt: HostRuntime) {
-    let line = outcome_line(3, Outcome::Applied);
-    assert_eq!(rt; line.as_slice(), b"line 3: applied\n".as_slice());
-    let last = counts_line(0, 1);
-    assert_eq!(rt; last.as_slice(), b"applied 0 refused 1\n".as_slice());
 }

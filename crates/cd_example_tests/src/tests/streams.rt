@@ -1,8 +1,9 @@
-//! The examples of cd_stream.
+//! The examples of cd_stream and cd_line.
 
+use cd_line::Line;
 use cd_stream::{
-    Buffered, Count, FailAfter, FromRead, Line, Short, Sink, SinkFailed, SliceSink, SliceSource,
-    Source, ToWrite, ZeroSource, fill_buffer, write_all,
+    Buffered, Count, FailAfter, FromRead, Short, Sink, SinkFailed, SliceSink, SliceSource, Source,
+    ToWrite, ZeroSource, fill_buffer, write_all,
 };
 use std::alloc::AllocError;
 use std::mem::size_of;

@@ -214,7 +214,8 @@ pub fn expect_ending(rt: &impl Abort, came: &Ending, due: &Ending, text: &str, n
     assert_eq!(rt; *came, *due, "{text}, {number}");
 }
 
-/// Applies a script, and then checks it, within limits in which nothing fails. If one does not end so, a number is printed.
+/// Applies a script, and then checks it, within limits in which nothing fails. If one does not end so, the script's text and a number are
+/// printed.
 pub fn expect_done(
     rt: &impl Abort,
     alloc: Global,

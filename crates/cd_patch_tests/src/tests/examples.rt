@@ -2,8 +2,8 @@
 
 use cd_code::{
     COLUMNS, ColumnSums, LaneSums, ROWS_SIZE, alpha_power, column_lanes, column_sums,
-    edc_by_tables, edc_of, lanes_at, pair_change, pair_from, parity_pair, put_lanes, row_sums,
-    syndromes, times,
+    edc_by_tables, edc_moved, edc_of, lanes_at, pair_change, pair_from, parity_pair, put_lanes,
+    row_sums, syndromes, times,
 };
 use cd_delta::{carry_header, carry_user, change_byte, change_header, change_user, parity_changes};
 use cd_patch::{Outcome, apply_lent, apply_patch, blocks_met};
@@ -36,6 +36,14 @@ fn powers(rt: HostRuntime) {
 fn edc_words(rt: HostRuntime) {
     assert_eq!(rt; edc_of(&[0x00; 2064]), 0);
     assert_eq!(rt; edc_of(&[0x01]), 0x9091_0101);
+}
+
+#[test]
+fn edc_words_moved(rt: HostRuntime) {
+    let word = edc_of(&[0x01]);
+    let mut longer = [0x00; 2041];
+    longer[0] = 0x01;
+    assert_eq!(rt; edc_moved(word, 255), edc_of(&longer)); // 2040 bytes of 00 follow
 }
 
 #[test]

@@ -1,10 +1,10 @@
 //! The commands on images: a row for each status, and for each line of a fault after what went out.
 
+use super::holds;
 use super::messages::{
     APPLIED, APPLIED_READ_FAILED, APPLIED_WRITE_FAILED, COUNTED_WRITE_FAILED, LONG_IMAGE,
     READ_FAILED, WRITE_FAILED,
 };
-use super::{holds, holds_at};
 use cd_args::MAX_BASE;
 use cd_image::{FailAfter, SliceSink, SliceSource, ZeroSource};
 use cd_program::{run_apply, run_audit, run_check, run_list};
@@ -168,7 +168,7 @@ fn expect_applied(rt: &impl Abort, parts: &Parts, row: &Patching) {
     expect_ended(rt, (came, log.get_ref().written()), (status, lines), logged);
     let out = out.get_ref().written();
     let is_all = sent == ALL || out.len() as u64 == sent.min(7056);
-    holds_at(rt, is_all && parts.patched.starts_with(out), sent);
+    holds(rt, is_all && parts.patched.starts_with(out), lines);
 }
 
 /// Checks the script.

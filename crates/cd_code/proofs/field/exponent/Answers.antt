@@ -1,5 +1,5 @@
-use Rattle.cd_code.proofs.FieldTableLemmas.{exponents-power}
+use Rattle.cd_code.proofs.FieldTableLemmas.{IsExponent-entry}
 use Rattle.cd_code.proofs.field.exponent.Goals as goal
 
 pub returns : goal.returns
-returns c = exponents-power c.args.n c.requires
+returns c = IsExponent-entry c.args.n c.requires

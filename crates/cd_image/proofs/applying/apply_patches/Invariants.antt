@@ -1,6 +1,8 @@
 use Rattle.std.proofs.Common.{◌≡◌, ◌+◌, ◌≤◌, false, take, drop, length, if◌then◌else◌}
+use Rattle.cd_patch.specs.Blocks.{block_limit}
 use Rattle.cd_image.specs.Applying.{streams}
-use Rattle.cd_image.specs.Passing.{HoldsInvariant, IsEnded, left_to_do}
+use Rattle.cd_image.specs.Passing.{HoldsInvariant, IsDone, left_to_do}
+use Rattle.cd_run.specs.Running.{IsRun}
 use Rattle.cd_image.proofs.applying.apply_patches.Given as goal
 
 abbrev pub invariant-loop-more : goal.invariant-loop-more
@@ -9,11 +11,14 @@ invariant-loop-more g l =
     streams (g.I.Source.seen l.fn.image) (g.O.Sink.seen l.fn.out) (g.L.Sink.seen l.fn.log) in
     let now = streams (g.I.Source.seen l.image) (g.O.Sink.seen l.out) (g.L.Sink.seen l.log) in
     record {
-      goes : HoldsInvariant l.carry (take l.pass.decided l.patches)
-          (drop l.pass.decided l.patches) l.fn.base start now l.pass;
-      known : l.pass.decided ≤ length l.patches;
-      ended : l.more ≡ false → IsEnded l.pass;
+      goes : HoldsInvariant l.carry (take l.run.decided l.patches)
+          (drop l.run.decided l.patches) l.fn.base start now l.run l.hand;
+      sound : IsRun l.run;
+      places : length l.hand ≡ block_limit;
+      known : l.run.decided ≤ length l.patches;
+      applied : l.run.applied ≤ l.run.decided;
+      done : l.more ≡ false → IsDone (length l.patches) l.run;
     }
 
 abbrev pub decreases-loop-more : goal.decreases-loop-more
-decreases-loop-more g l = left_to_do (length l.patches) l.pass + (if l.more then 1 else 0)
+decreases-loop-more g l = left_to_do (length l.patches) l.run + (if l.more then 1 else 0)

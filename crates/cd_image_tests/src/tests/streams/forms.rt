@@ -27,7 +27,7 @@ fn a_source_that_ends(rt: HostRuntime) {
     assert!(rt; fill_buffer(&mut source, &mut into) == Ok(0) && source.failures() == 0);
 }
 
-/// Calls of a sink that passes two bytes a call and five in all, and of one over three bytes of memory.
+/// Calls of a sink that passes two bytes a call and five in all.
 const SHORT: &[Step] = &[
     Put(b"abcd", Some(2)),
     Put(b"cd", Some(2)),
@@ -37,6 +37,7 @@ const SHORT: &[Step] = &[
     Flush(None),
 ];
 
+/// Calls of a sink over three bytes of memory that passes one byte a call.
 const FULL: &[Step] = &[
     Put(b"abcd", Some(1)),
     Put(b"bcd", Some(1)),

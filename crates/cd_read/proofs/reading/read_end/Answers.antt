@@ -3,7 +3,7 @@ use Rattle.std.specs.Io.KnownBytes.{Consumes}
 use Rattle.std.proofs.lemmas.List.{length-take-le}
 use Rattle.cd_read.specs.Reading.{TooMuchComes}
 use Rattle.cd_read.proofs.reading.read_end.Goals as goal
-use Rattle.cd_read.specs.Image.{sector_limit}
+use Rattle.cd_sector.specs.Image.{sector_limit}
 
 pub returns-then-branch-gt0 : goal.returns-then-branch-gt0
 returns-then-branch-gt0 g c =

@@ -1,7 +1,7 @@
 use Rattle.std.proofs.Common.{◌-◌, ◌≤◌}
 use Rattle.cd_report.proofs.ScanLemmas.{ScanInvariant}
 use Rattle.cd_report.proofs.scan.scan.Given as goal
-use Rattle.cd_read.specs.Image.{sector_limit}
+use Rattle.cd_sector.specs.Image.{sector_limit}
 
 abbrev pub invariant-loop-visitor : goal.invariant-loop-visitor
 invariant-loop-visitor g l = record {

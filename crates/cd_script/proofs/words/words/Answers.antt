@@ -35,7 +35,9 @@ loop-end-preserved c =
           let no : true ≡ false = sym (c.is_full.ensures.1 full) ∙ c.if-is_full.false in
           absurd cc
     ] in
-    (so_far, room)
+    let moved =
+    ap (λ (l : List (List ℕ)). c.push.new.self ++ l) c.without_spaces-rest-in-Some.ensures.words in
+    (moved ∙ so_far, room)
 
 pub returns : goal.returns
 returns c =

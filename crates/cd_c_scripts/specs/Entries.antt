@@ -1,0 +1,71 @@
+-- The patches of a script in entries, one for each, in the order of application.
+use Rattle.std.specs.Prelude.{◌≡◌, ℕ, ◌+◌, ◌*◌, ◌<◌, ◌≤◌, List, [], ◌∷◌, All, Option, Some, Ok, drop, take, length}
+use Rattle.std.specs.List.{slice_get, slice_index_or}
+use Rattle.cd_script.specs.ByLine.{meaning_at}
+use Rattle.cd_script.specs.Order.{order}
+use Rattle.cd_script.specs.PatchForm.{Patch}
+use Rattle.cd_script.specs.Script.{script}
+use Rattle.cd_script.specs.declared.by_line.LineContent.TheVariants as content
+use Rattle.cd_script.specs.declared.version.Version.{Version}
+use Rattle.cd_patch.specs.Blocks.{blocks_met}
+use Rattle.cd_c_scripts.specs.Flags.{as_asked}
+use Rattle.cd_c_scripts.specs.Lines.{version_of}
+use Rattle.cd_c_scripts.specs.declared.entries.Entry.{Entry}
+
+-- the line of an entry in a text, read again in this version, has a patch
+abbrev pub HasLine : List ℕ → Version → Entry → Patch → Type 0
+HasLine text version e p =
+    meaning_at (Some version) e.number 0 (take e.size (drop e.start text)) ≡ Ok (content.Patch p)
+
+-- the entry of a patch as the flags want it
+pub record IsEntry (text : List ℕ) (version : Version) (flags : ℕ) (e : Entry) (p : Patch)
+    : Type 0 where
+  pub found : Patch
+  pub reads : HasLine text version e found
+  pub asked : p ≡ as_asked flags found
+  pub within : e.start + e.size ≤ length text
+  pub block : e.block ≡ found.block
+  pub number : e.number ≡ found.line
+  pub met : e.blocks_met ≡ blocks_met found
+
+-- the entries of patches, one for each
+pub record AreEntries (text : List ℕ) (version : Version) (flags : ℕ) (es : List Entry)
+    (ps : List Patch) : Type 0 where
+  pub count : length es ≡ length ps
+  pub each : (k : ℕ) (e : Entry) (p : Patch) → k < length es
+      → IsEntry text version flags (slice_index_or es k e) (slice_index_or ps k p)
+
+-- a script that was read to its end: how many patches it has, and if there was room, their entries in
+-- the order of application
+pub record IsIndexed (text : List ℕ) (version : Version) (count : ℕ) (es : List Entry)
+    : Type 0 where
+  pub patches : List Patch
+  pub is_script : script text ≡ Ok patches
+  pub counted : count ≡ length patches
+  pub entries : count ≤ length es → AreEntries text version 0 (take count es) (order patches)
+
+-- the entry at a place has this line number; its line, read again, has a patch of its block, which
+-- meets as many
+pub record Rereads (text : List ℕ) (version : ℕ) (es : List Entry) (place number : ℕ) : Type 0 where
+  pub e : Entry
+  pub p : Patch
+  pub named : Version
+  pub at : slice_get es place ≡ Some e
+  pub is_version : version_of version ≡ Some (Some named)
+  pub reads : HasLine text named e p
+  pub block : p.block ≡ e.block
+  pub met : blocks_met p ≡ e.blocks_met
+  pub number_is : number ≡ e.number
+
+-- the lines of patches rise along a script
+abbrev pub LinesRise : List Patch → Type 0
+LinesRise [] = Unit {0}
+LinesRise (p ∷ ps) = All (λ q. p.line < q.line) ps × LinesRise ps
+
+-- their numbers have 32 bits
+abbrev pub AllBelow : List Patch → Type 0
+AllBelow = All (λ p. p.line < 4294967296)
+
+-- what entries are sorted by
+abbrev pub entry_key : Entry → ℕ
+entry_key e = e.block * 4294967296 + e.number

@@ -1,0 +1,37 @@
+-- What the flags of a run mean: 1 that damage is carried, 2 that COPY is not asked for, 4 that old
+-- bytes are not compared.
+use Rattle.std.specs.Prelude.{ℕ, ◌/◌, ◌%◌, ◌==◌, Bool, List, None, map, if◌then◌else◌}
+use Rattle.cd_script.specs.PatchForm.{Edit, Patch}
+use Rattle.cd_script.specs.declared.patch.Edit.TheVariants.{Put, Fill, Rebuild, Address}
+use Rattle.cd_c_scripts.specs.declared.run_state.TheConstants.{CARRY, NO_COPY, WITHOUT_OLD}
+
+-- whether damage is carried
+abbrev pub carries : ℕ → Bool
+carries flags = flags / CARRY % 2 == 1
+
+-- whether COPY may be asked for
+abbrev pub copies : ℕ → Bool
+copies flags = flags / NO_COPY % 2 == 0
+
+-- whether old bytes are compared
+abbrev pub compares : ℕ → Bool
+compares flags = flags / WITHOUT_OLD % 2 == 0
+
+-- an edit that names no old bytes
+abbrev pub edit_without_old : Edit → Edit
+edit_without_old (Put bytes was) = Put bytes None
+edit_without_old (Fill count value) = Fill count value
+edit_without_old Rebuild = Rebuild
+edit_without_old (Address bcd) = Address bcd
+
+-- a patch that names no old bytes
+abbrev pub without_old : Patch → Patch
+without_old p = record p { edit = edit_without_old p.edit }
+
+-- a patch as the flags want it
+abbrev pub as_asked : ℕ → Patch → Patch
+as_asked flags p = if compares flags then p else without_old p
+
+-- the patches of a run
+abbrev pub all_as_asked : ℕ → List Patch → List Patch
+all_as_asked flags ps = map (as_asked flags) ps

@@ -1,0 +1,318 @@
+-- A run that C leads by two calls: how far it has come, what it asks for, and what its client may have
+-- moved.
+use Rattle.std.specs.Prelude.{◌≡◌, ℕ, ◌+◌, ◌-◌, ◌*◌, ◌==◌, ◌<◌, ◌≤◌, ◌⊎◌, ◌++◌, nat_lt, Bool, true, false, List, [], ◌∷◌, Option, None, Some, length, take, drop, if◌then◌else◌}
+use Rattle.std.specs.List.{slice_get, slice_index_or}
+use Rattle.cd_script.specs.Patch.{IsPatchList}
+use Rattle.cd_script.specs.PatchForm.{Patch}
+use Rattle.cd_script.specs.declared.fault.ScriptFault.{ScriptFault}
+use Rattle.cd_script.specs.declared.version.Version.{Version}
+use Rattle.cd_sector.specs.Image.{base_limit, bytes_of, image_limit, sector_limit}
+use Rattle.cd_sector.specs.declared.sector.TheConstants.{SECTOR_SIZE}
+use Rattle.cd_patch.specs.Blocks.{blocks_met}
+use Rattle.cd_patch.specs.declared.outcome.Outcome.{Outcome}
+use Rattle.cd_line.specs.declared.line.TheConstants.{LINE_SIZE}
+use Rattle.cd_run.specs.Messages.{long_image, long_script, script_fault_line}
+use Rattle.cd_run.specs.PatchLog.{log_line, log_lines, log_text, log_when_too_long, refused_count, sent_when_too_long}
+use Rattle.cd_run.specs.Patched.{EachPatching, IsPatched}
+use Rattle.cd_run.specs.Running.{IsRun, Reached, closed_at, sent_bytes, tail_at, tail_bytes, window_of}
+use Rattle.cd_run.specs.Steps.{IsNext, IsReady}
+use Rattle.cd_run.specs.declared.run.PatchRun.{PatchRun}
+use Rattle.cd_run.specs.declared.run.Step.{Step}
+use Rattle.cd_run.specs.declared.run.Step.TheVariants.{Copy, Read, Decide, Send, SendTail, End}
+use Rattle.cd_c_scripts.specs.Entries.{AreEntries}
+use Rattle.cd_c_scripts.specs.Flags.{carries, copies}
+use Rattle.cd_c_scripts.specs.Lines.{fault_of, version_of}
+use Rattle.cd_c_scripts.specs.Outcomes.{outcome_block, outcome_number, outcome_offset}
+use Rattle.cd_c_scripts.specs.declared.entries.Entry.{Entry}
+use Rattle.cd_c_scripts.specs.declared.run_state.RunStep.{RunStep}
+use Rattle.cd_c_scripts.specs.declared.run_state.ScriptRun.{ScriptRun}
+use Rattle.cd_c_scripts.specs.declared.run_state.TheConstants.{COPY, COPYING, END, FAULTY, LOG, NOTHING, OVER, READ, READING, STOPPED, TOO_LONG, WRITE, WRITING, WRITING_TAIL}
+
+-- ---- how far a run has come
+
+-- `read` of the image has come, `sent` has gone out, and the lines `log_bytes` were told. The tail
+-- stands in the hand until it has gone out; one that was copied only the client has seen
+pub record Going (carry : Bool) (patches : List Patch) (base : ℕ) (read sent log_bytes : List ℕ)
+    (machine : PatchRun) (hand : List (List ℕ)) : Type 0 where
+  pub seen : List (List ℕ)
+  pub done : List (List ℕ)
+  pub outcomes : List Outcome
+  pub tail : List ℕ
+  pub sound : IsRun machine
+  pub known : machine.decided ≤ length patches
+  pub state : Reached carry (take machine.decided patches) (drop machine.decided patches) base seen
+      done (window_of machine hand) outcomes machine.block machine.sectors machine.applied
+      (tail_at machine.stage tail) (closed_at machine.stage)
+  pub whole_tail : 0 < machine.stage → length tail ≡ machine.tail
+  pub in_hand : machine.stage ≡ 1
+      → tail ≡ take machine.tail (slice_index_or hand machine.held [])
+  pub came : read ≡ bytes_of seen ++ tail_bytes (tail_at machine.stage tail)
+  pub went : sent ≡ sent_bytes done (tail_at machine.stage tail) (closed_at machine.stage)
+  pub logged : log_bytes ≡ log_lines (take machine.decided patches) outcomes
+
+-- two hands are the same to a run: the sectors in hand, and the tail until it has gone out. What else
+-- stands there is the client's
+pub record SameInHand (machine : PatchRun) (hand hand' : List (List ℕ)) : Type 0 where
+  pub window : take machine.held hand' ≡ take machine.held hand
+  pub tail : machine.stage ≡ 1
+      → take machine.tail (slice_index_or hand' machine.held [])
+      ≡ take machine.tail (slice_index_or hand machine.held [])
+
+-- this step is next in a run over patches
+abbrev pub Steps : List Patch → PatchRun → Step → Type 0
+Steps patches machine step =
+    IsReady machine step × IsNext (drop machine.decided patches) machine step
+
+-- what a run is about: these entries are those of its patches, which stand in the text
+pub record About (text : List ℕ) (es : List Entry) (patches : List Patch) (base : ℕ)
+    (run : ScriptRun) : Type 0 where
+  pub small : base ≤ base_limit
+  pub named : Version
+  pub is_version : version_of run.version ≡ Some (Some named)
+  pub enough : run.count ≤ length es
+  pub entries : AreEntries text named run.flags (take run.count es) patches
+  pub list : IsPatchList patches
+
+-- what a state asks for: the step that is next
+pub data Asks (patches : List Patch) (run : ScriptRun) : Type 0 where
+  nothing : run.asked ≡ NOTHING → Asks patches run
+  copying : run.asked ≡ COPYING → Steps patches run.machine (Copy run.most)
+      → run.size ≤ SECTOR_SIZE * run.most → Asks patches run
+  reading : run.asked ≡ READING → Steps patches run.machine Read → run.size ≤ SECTOR_SIZE
+      → (run.machine.sectors < sector_limit) ⊎ (run.size ≡ 1) → Asks patches run
+  writing : run.asked ≡ WRITING → Steps patches run.machine Send → run.size ≡ SECTOR_SIZE
+      → Asks patches run
+  writing_tail : run.asked ≡ WRITING_TAIL → Steps patches run.machine SendTail
+      → run.size ≡ run.machine.tail → Asks patches run
+
+-- the status of a run, by how many patches were refused
+abbrev pub status_of : ℕ → ℕ
+status_of refused = if refused == 0 then 0 else 1
+
+-- at the end: what was sent is the patched image, and what was logged its log
+pub record IsDone (carry : Bool) (patches : List Patch) (base : ℕ) (read sent log_bytes : List ℕ)
+    (status : ℕ) : Type 0 where
+  pub outcomes : List Outcome
+  pub patched : IsPatched carry patches outcomes base read sent
+  pub log_right : log_bytes ≡ log_text patches outcomes
+  pub status_right : status ≡ status_of (refused_count outcomes)
+
+-- one list begins another
+abbrev pub Begins : List ℕ → List ℕ → Type 0
+Begins front whole = (rest : List ℕ) × (whole ≡ front ++ rest)
+
+-- one byte has come after the millionth sector: what was sent begins the patched image of what came
+-- before it, and the log has the lines that `apply` prints then
+pub record IsBeyond (carry : Bool) (patches : List Patch) (base : ℕ) (read sent log_bytes : List ℕ)
+    : Type 0 where
+  pub beyond : length read ≡ image_limit + 1
+  pub sent_before : length sent ≡ sent_when_too_long patches base
+  pub as_applied : EachPatching carry patches base (take image_limit read)
+      (λ outcomes last. Begins sent last × (log_bytes ≡ log_when_too_long patches outcomes base))
+
+-- and then it says so
+pub record IsTooLong (carry : Bool) (patches : List Patch) (base : ℕ) (read sent log_bytes : List ℕ)
+    : Type 0 where
+  pub before : List ℕ
+  pub ends : log_bytes ≡ before ++ long_image
+  pub goes_beyond : IsBeyond carry patches base read sent before
+
+-- the relation: of the image `read` has come, `sent` has gone out, `log_bytes` was told, and the
+-- state asks for the step that is next
+pub data IsRunning (text : List ℕ) (es : List Entry) (patches : List Patch) (base : ℕ)
+    (read sent log_bytes : List ℕ) (run : ScriptRun) (hand : List (List ℕ)) : Type 0 where
+  going : About text es patches base run
+      → Going (carries run.flags) patches base read sent log_bytes run.machine hand
+      → Asks patches run → IsRunning text es patches base read sent log_bytes run hand
+  over : run.asked ≡ OVER → IsDone (carries run.flags) patches base read sent log_bytes run.most
+      → IsRunning text es patches base read sent log_bytes run hand
+  long : run.asked ≡ STOPPED → IsTooLong (carries run.flags) patches base read sent log_bytes
+      → IsRunning text es patches base read sent log_bytes run hand
+
+-- what a client did with the step of a state: `done` bytes were moved, and it passes this hand.
+-- `read` and `sent` have become `read'` and `sent'`
+pub data Moved (run : ScriptRun) (hand : List (List ℕ)) (done : ℕ)
+    (read sent read' sent' : List ℕ) : Type 0 where
+  told : (run.asked ≡ NOTHING) ⊎ (OVER ≤ run.asked) → done ≡ run.size → read' ≡ read → sent' ≡ sent
+      → Moved run hand done read sent read' sent'
+  copied : run.asked ≡ COPYING → (bytes : List ℕ) → length bytes ≡ done → done ≤ run.size
+      → read' ≡ read ++ bytes → sent' ≡ sent ++ bytes
+      → Moved run hand done read sent read' sent'
+  given : run.asked ≡ READING → done ≤ run.size
+      → read' ≡ read ++ take done (slice_index_or hand run.machine.held []) → sent' ≡ sent
+      → Moved run hand done read sent read' sent'
+  written : (run.asked ≡ WRITING) ⊎ (run.asked ≡ WRITING_TAIL) → done ≡ run.size → read' ≡ read
+      → sent' ≡ sent ++ take done (slice_index_or hand 0 [])
+      → Moved run hand done read sent read' sent'
+
+-- ---- what is told
+
+-- the line of a step, if it has one
+abbrev pub logged_by : RunStep → List ℕ
+logged_by step = if step.kind == LOG then take step.size step.text else []
+
+-- a sector is read only if a patch looks at it, or a byte to see whether the image goes on after its
+-- largest size; without COPY each sector is read
+pub data IsLookedAt (patches : List Patch) (run : ScriptRun) : Type 0 where
+  by_patch : (p : Patch) (others : List Patch) → drop run.machine.decided patches ≡ p ∷ others
+      → p.block ≡ run.machine.block → run.machine.held < blocks_met p → IsLookedAt patches run
+  beyond : run.machine.sectors ≡ sector_limit → run.size ≡ 1 → IsLookedAt patches run
+  no_copy : copies run.flags ≡ false → IsLookedAt patches run
+
+-- a line is told
+pub record IsLog (run : ScriptRun) (step : RunStep) : Type 0 where
+  pub kind : step.kind ≡ LOG
+  pub size : step.size ≡ run.size
+  pub some : 0 < step.size
+  pub few : step.size ≤ LINE_SIZE
+
+-- the patch at a place has this line in the script
+abbrev pub IsLineOf : List Patch → ℕ → ℕ → Type 0
+IsLineOf patches place number =
+    (p : Patch) × (slice_get patches place ≡ Some p) × (number ≡ p.line)
+
+-- it is the line of the patch that was decided, with what became of it
+pub record TellsPatch (patches : List Patch) (run : ScriptRun) (step : RunStep) : Type 0 where
+  pub p : Patch
+  pub o : Outcome
+  pub at : slice_get patches (run.machine.decided - 1) ≡ Some p
+  pub line : take step.size step.text ≡ log_line p o
+  pub number : step.number ≡ p.line
+  pub result : step.result ≡ outcome_number o
+  pub block : step.block ≡ outcome_block o
+  pub offset : step.offset ≡ outcome_offset o
+
+-- the step tells what the state asks for
+pub data Tells (patches : List Patch) (read sent : List ℕ) (run : ScriptRun) (step : RunStep)
+    : Type 0 where
+  to_end : step.kind ≡ END → run.asked ≡ OVER → step.status ≡ run.most
+      → Tells patches read sent run step
+  to_stop : step.kind ≡ END → image_limit < length read → step.status ≡ 2
+      → Tells patches read sent run step
+  to_read : step.kind ≡ READ → run.asked ≡ READING → step.at ≡ length read
+      → step.place ≡ SECTOR_SIZE * run.machine.held → step.size ≡ run.size → 0 < step.size
+      → IsLookedAt patches run → Tells patches read sent run step
+  to_copy : step.kind ≡ COPY → run.asked ≡ COPYING → step.at ≡ length read
+      → step.size ≡ run.size → 0 < step.size → copies run.flags ≡ true
+      → Tells patches read sent run step
+  to_write : step.kind ≡ WRITE → (run.asked ≡ WRITING) ⊎ (run.asked ≡ WRITING_TAIL)
+      → step.at ≡ length sent → step.place ≡ 0 → step.size ≡ run.size → 0 < step.size
+      → Tells patches read sent run step
+  to_log : IsLog run step → run.asked ≡ NOTHING → TellsPatch patches run step
+      → Tells patches read sent run step
+  to_log_last : IsLog run step → (run.asked ≡ OVER) ⊎ (run.asked ≡ STOPPED) → step.number ≡ 0
+      → Tells patches read sent run step
+
+-- what a call leaves: the run goes on, with the step that it tells
+pub record Goes (text : List ℕ) (es : List Entry) (patches : List Patch) (base : ℕ)
+    (read sent log_bytes : List ℕ) (run : ScriptRun) (hand : List (List ℕ)) (step : RunStep)
+    : Type 0 where
+  pub running : IsRunning text es patches base read sent (log_bytes ++ logged_by step) run hand
+  pub tells : Tells patches read sent run step
+
+-- ---- a run that is not begun
+
+-- the line of an error, by its number and the script's line
+abbrev pub some_line : Option ScriptFault → List ℕ
+some_line None = []
+some_line (Some fault) = script_fault_line fault
+
+-- the same of a script that is too long
+abbrev pub error_line : ℕ → ℕ → List ℕ
+error_line number line =
+    if number == TOO_LONG then long_script else some_line (fault_of number line)
+
+-- nothing was begun, since there is an error of this line
+abbrev pub IsFaulty : List ℕ → ScriptRun → Type 0
+IsFaulty line run = (run.asked ≡ FAULTY) × (error_line run.most run.line ≡ line) × (run.size ≡ 0)
+
+-- ---- how many steps are left
+
+-- those that the patches may still ask for: each sector comes and goes out, each patch is decided,
+-- and the image ends
+abbrev pub machine_steps : ℕ → PatchRun → ℕ
+machine_steps count machine =
+    2 * (sector_limit - machine.sectors) + machine.held + (count - machine.decided)
+    + (2 - machine.stage)
+
+-- what the step that was told adds
+abbrev pub told_steps : ℕ → ℕ
+told_steps asked =
+    if asked == NOTHING then 2
+    else if nat_lt asked OVER then 1
+    else if asked == FAULTY then 1
+    else 0
+
+-- at most so many steps are left before the end
+abbrev pub steps_left : ScriptRun → ℕ
+steps_left run = machine_steps run.count run.machine + told_steps run.asked
+
+-- ---- plumbing of the calls
+
+-- whether a step moves bytes of the image that have not come
+abbrev pub is_coming : Step → Bool
+is_coming (Copy count) = true
+is_coming Read = true
+is_coming Decide = false
+is_coming Send = false
+is_coming SendTail = false
+is_coming End = false
+
+-- whether a step sends the tail
+abbrev pub is_tail : Step → Bool
+is_tail (Copy count) = false
+is_tail Read = false
+is_tail Decide = false
+is_tail Send = false
+is_tail SendTail = true
+is_tail End = false
+
+-- the first patch left begins at the front block, and meets more than is in hand
+abbrev pub MeetsMore : List Patch → PatchRun → Type 0
+MeetsMore left machine =
+    (p : Patch) × (others : List Patch) × (left ≡ p ∷ others) × (p.block ≡ machine.block)
+    × (machine.held < blocks_met p)
+
+-- a step looks at what it reads, or the image has its largest size
+abbrev pub Looks : List Patch → PatchRun → Step → Type 0
+Looks left machine Read = (machine.sectors ≡ sector_limit) ⊎ MeetsMore left machine
+Looks left machine (Copy count) = Unit {0}
+Looks left machine Decide = Unit {0}
+Looks left machine Send = Unit {0}
+Looks left machine SendTail = Unit {0}
+Looks left machine End = Unit {0}
+
+-- the step that is next, and why
+abbrev pub Comes : List Patch → PatchRun → Step → Type 0
+Comes patches machine step =
+    Steps patches machine step × Looks (drop machine.decided patches) machine step
+
+-- a state in which nothing but this differs
+abbrev pub with_asked : ScriptRun → ℕ → ℕ → ℕ → ScriptRun
+with_asked run asked most size = record run { asked = asked; most = most; size = size }
+
+-- the run has come to this stage, or is no run
+abbrev pub EndsOr : ScriptRun → ℕ → Type 0
+EndsOr run stage = (run.asked ≡ STOPPED) ⊎ (stage ≤ run.machine.stage)
+
+-- why the image may have ended: less came than was asked for, or all of its size
+pub data MayEnd (before now : ScriptRun) (done : ℕ) : Type 0 where
+  given : before.asked ≡ READING → done < SECTOR_SIZE → MayEnd before now done
+  copied : before.asked ≡ COPYING → done < SECTOR_SIZE * before.most → MayEnd before now done
+  known : before.image_size ≤ SECTOR_SIZE * now.machine.sectors → MayEnd before now done
+
+-- the run ends with 2
+pub record Stops (run : ScriptRun) (step : RunStep) : Type 0 where
+  pub kind : step.kind ≡ END
+  pub status : step.status ≡ 2
+  pub asked : run.asked ≡ STOPPED
+
+-- no more is asked for than the image has
+abbrev pub KeepsToSize : ScriptRun → RunStep → Type 0
+KeepsToSize run step =
+    (step.kind ≡ READ) ⊎ (step.kind ≡ COPY) → step.at + step.size ≤ run.image_size
+
+-- a run over patches has begun: nothing has come, gone out or been logged, whatever hand it is lent
+abbrev pub IsBegun : List ℕ → List Entry → List Patch → ℕ → ScriptRun → Type 0
+IsBegun text es patches base run =
+    (run.size ≡ 0) × ((hand : List (List ℕ)) → IsRunning text es patches base [] [] [] run hand)

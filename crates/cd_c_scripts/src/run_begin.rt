@@ -1,0 +1,93 @@
+//! The call of C that begins a run: it reads the script.
+
+ghost use Rattle.std.specs.Prelude.{◌≡◌, ℕ, ◌<◌, ◌≤◌, ◌⊎◌, [], Err, IfOk, List, length};
+ghost use Rattle.cd_script.specs.Limits.{text_limit};
+ghost use Rattle.cd_script.specs.Order.{order};
+ghost use Rattle.cd_script.specs.Script.{script as patches_in};
+ghost use Rattle.cd_script.specs.declared.fault.ScriptFault.{ScriptFault as TheFault};
+ghost use Rattle.cd_sector.specs.Image.{base_limit};
+ghost use Rattle.cd_run.specs.Messages.{long_script, script_fault_line};
+ghost use Rattle.cd_c_scripts.specs.Flags.{all_as_asked};
+ghost use Rattle.cd_c_scripts.specs.Runs.{IsBegun, IsFaulty};
+
+use crate::entries::{Entry, index_script, version_number};
+use crate::lines::{fault_number, line_of};
+use crate::run_state::{FAULTY, FLAGS, NOTHING, STOPPED, ScriptRun, TOO_LONG};
+use cd_run::PatchRun;
+use cd_script::MAX_TEXT;
+
+/// The largest number of an image's first block.
+const MAX_BASE: u32 = 449_849;
+
+/// No run begins from such a block, or with such flags.
+const REFUSED: usize = 18_446_744_073_709_551_615;
+
+/// Begins a run of a script over an image of which `image_size` bytes come at most, and whose first
+/// sector is block `base`. Puts an entry for each patch into `entries`, and returns how many these
+/// are; if there is not room for all, nothing was begun.
+#[unsafe(no_mangle)]
+pub extern "C" fn cdpatch_run_begin(
+    run: &mut ScriptRun,
+    script: &[u8],
+    base: u32,
+    image_size: u64,
+    flags: u32,
+    entries: &mut [Entry],
+) -> usize
+    ensures refused { (base_limit < base) ⊎ (FLAGS ≤ flags)
+        → (result ≡ REFUSED) × (run.new.asked ≡ STOPPED) × (entries.new ≡ entries.old) }
+    ensures too_long { base ≤ base_limit → flags < FLAGS → text_limit < length script.now
+        → (result ≡ 0) × IsFaulty long_script run.new }
+    ensures fault { base ≤ base_limit → flags < FLAGS → length script.now ≤ text_limit
+        → (e : TheFault) → patches_in script.now ≡ Err e
+        → (result ≡ 0) × IsFaulty (script_fault_line e) run.new }
+    ensures count { base ≤ base_limit → flags < FLAGS → length script.now ≤ text_limit
+        → IfOk (patches_in script.now) (λ ps. result ≡ length ps) }
+    ensures room { base ≤ base_limit → flags < FLAGS → length script.now ≤ text_limit
+        → length entries.old < result → run.new.asked ≡ STOPPED }
+    ensures begins { base ≤ base_limit → flags < FLAGS → length script.now ≤ text_limit
+        → result ≤ length entries.old → IfOk (patches_in script.now)
+        (λ ps. IsBegun script.now entries.new (all_as_asked flags (order ps)) base run.new) }
+    ensures flags { run.new.flags ≡ flags }
+    ensures image_size { run.new.image_size ≡ image_size }
+{
+    *run = ScriptRun {
+        machine: PatchRun::new(base),
+        asked: STOPPED,
+        most: 0,
+        line: 0,
+        version: 0,
+        count: 0,
+        flags,
+        size: 0,
+        image_size,
+    };
+    if base > MAX_BASE {
+        return REFUSED;
+    }
+    if flags >= FLAGS {
+        return REFUSED;
+    }
+    if script.len() > MAX_TEXT {
+        run.asked = FAULTY;
+        run.most = TOO_LONG;
+        return 0;
+    }
+    match index_script(script, entries) {
+        Err(fault) => {
+            run.asked = FAULTY;
+            run.most = fault_number(fault);
+            run.line = line_of(fault);
+            0
+        }
+        Ok(index) => {
+            if index.count > entries.len() {
+                return index.count;
+            }
+            run.asked = NOTHING;
+            run.version = version_number(index.version);
+            run.count = index.count as u32;
+            index.count
+        }
+    }
+}

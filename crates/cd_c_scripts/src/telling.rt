@@ -1,0 +1,257 @@
+//! The steps that a run tells, one by one.
+
+ghost use Rattle.std.specs.Prelude.{◌≡◌, ◌+◌, ◌-◌, ◌*◌, ◌<◌, ◌≤◌, ◌⊎◌, length, take};
+ghost use Rattle.cd_sector.specs.Image.{sector_limit};
+ghost use Rattle.cd_run.specs.PatchLog.{outcome_line};
+ghost use Rattle.cd_run.specs.Running.{IsRun};
+ghost use Rattle.cd_run.specs.Steps.{IsReady};
+ghost use Rattle.cd_run.specs.declared.run.Step.TheVariants.{Copy};
+ghost use Rattle.cd_c_scripts.specs.Lines.{fault_of};
+ghost use Rattle.cd_c_scripts.specs.Outcomes.{outcome_block, outcome_number, outcome_offset};
+ghost use Rattle.cd_c_scripts.specs.Runs.{error_line, status_of};
+
+use crate::patches::outcome_number;
+use crate::run_state::{
+    COPY, COPYING, END, LOG, READ, READING, RunStep, STOPPED, ScriptRun, TOO_LONG, WRITE,
+};
+use cd_line::{LINE_SIZE, Line};
+use cd_patch::Outcome;
+use cd_run::{LONG_SCRIPT, outcome_line, script_fault_line};
+use cd_script::ScriptFault;
+use cd_sector::{MAX_SECTORS, SECTOR_SIZE};
+
+/// Writes a line to the front of `text`, and returns its size.
+fn write_line(line: &Line, text: &mut [u8; LINE_SIZE]) -> usize
+    requires { length line.now ≤ LINE_SIZE }
+    ensures size { result ≡ length line.now }
+    ensures few { result ≤ LINE_SIZE }
+    ensures line { take result text.new ≡ line.now }
+{
+    let bytes = line.as_slice();
+    text[..bytes.len()].copy_from_slice(bytes);
+    bytes.len()
+}
+
+/// Tells a step that moves bytes.
+fn tell(step: &mut RunStep, kind: u32, at: u64, place: usize, size: usize)
+    ensures kind { step.new.kind ≡ kind }
+    ensures at { step.new.at ≡ at }
+    ensures place { step.new.place ≡ place }
+    ensures size { step.new.size ≡ size }
+    ensures status { step.new.status ≡ 0 }
+    ensures number { step.new.number ≡ 0 }
+    ensures text { step.new.text ≡ step.old.text }
+{
+    step.kind = kind;
+    step.status = 0;
+    step.number = 0;
+    step.result = 0;
+    step.block = 0;
+    step.offset = 0;
+    step.at = at;
+    step.place = place;
+    step.size = size;
+}
+
+/// Tells a line that is no patch's.
+pub(crate) fn tell_line(step: &mut RunStep, line: &Line)
+    requires { length line.now ≤ LINE_SIZE }
+    ensures kind { step.new.kind ≡ LOG }
+    ensures number { step.new.number ≡ 0 }
+    ensures status { step.new.status ≡ 0 }
+    ensures size { step.new.size ≡ length line.now }
+    ensures line { take step.new.size step.new.text ≡ line.now }
+{
+    tell(step, LOG, 0, 0, line.as_slice().len());
+    write_line(line, &mut step.text);
+}
+
+/// Tells the end.
+pub(crate) fn tell_end(step: &mut RunStep, status: u32)
+    ensures kind { step.new.kind ≡ END }
+    ensures status { step.new.status ≡ status }
+    ensures number { step.new.number ≡ 0 }
+    ensures size { step.new.size ≡ 0 }
+{
+    tell(step, END, 0, 0, 0);
+    step.status = status;
+}
+
+/// Ends with 2: no run has this state, or moves such bytes.
+pub(crate) fn stop(run: &mut ScriptRun, step: &mut RunStep)
+    ensures others { run.new ≡ record run.old { asked = STOPPED; size = 0 } }
+    ensures kind { step.new.kind ≡ END }
+    ensures status { step.new.status ≡ 2 }
+    ensures number { step.new.number ≡ 0 }
+{
+    run.asked = STOPPED;
+    run.size = 0;
+    tell_end(step, 2);
+}
+
+/// Asks for a step that moves bytes.
+pub(crate) fn ask(run: &mut ScriptRun, asked: u32, most: u32, size: usize)
+    ensures { run.new ≡ record run.old { asked = asked; most = most; size = size } }
+{
+    run.asked = asked;
+    run.most = most;
+    run.size = size as u64;
+}
+
+/// How many bytes of the image have not come, as far as its size is known.
+pub(crate) fn bytes_left(run: &ScriptRun) -> u64
+    requires { IsRun run.now.machine }
+    ensures { result ≡ run.now.image_size - SECTOR_SIZE * run.now.machine.sectors }
+{
+    run.image_size
+        .saturating_sub(SECTOR_SIZE as u64 * u64::from(run.machine.sectors))
+}
+
+/// Asks that bytes are passed on as they are: at most `most` sectors.
+pub(crate) fn ask_copy(run: &mut ScriptRun, most: u32, left: u64, step: &mut RunStep)
+    requires sound { IsRun run.old.machine }
+    requires ready { IsReady run.old.machine (Copy most) }
+    requires some { 0 < left }
+    ensures kind { step.new.kind ≡ COPY }
+    ensures status { step.new.status ≡ 0 }
+    ensures at { step.new.at ≡ SECTOR_SIZE * run.old.machine.sectors }
+    ensures size { step.new.size ≡ run.new.size }
+    ensures some { 0 < step.new.size }
+    ensures most { run.new.size ≤ SECTOR_SIZE * most }
+    ensures left { run.new.size ≤ left }
+    ensures cut { (run.new.size ≡ SECTOR_SIZE * most) ⊎ (run.new.size ≡ left) }
+    ensures others { run.new ≡ record run.old { asked = COPYING; most = most; size = run.new.size } }
+{
+    let at = SECTOR_SIZE as u64 * u64::from(run.machine.sectors);
+    let size = (SECTOR_SIZE as u64 * u64::from(most)).min(left) as usize;
+    ask(run, COPYING, most, size);
+    tell(step, COPY, at, 0, size);
+}
+
+/// Asks that a sector is read, or what is left of the image; after its largest size a byte.
+pub(crate) fn ask_read(run: &mut ScriptRun, left: u64, step: &mut RunStep)
+    requires sound { IsRun run.old.machine }
+    requires some { 0 < left }
+    ensures kind { step.new.kind ≡ READ }
+    ensures status { step.new.status ≡ 0 }
+    ensures at { step.new.at ≡ SECTOR_SIZE * run.old.machine.sectors }
+    ensures place { step.new.place ≡ SECTOR_SIZE * run.old.machine.held }
+    ensures size { step.new.size ≡ run.new.size }
+    ensures some { 0 < step.new.size }
+    ensures most { run.new.size ≤ SECTOR_SIZE }
+    ensures left { run.new.size ≤ left }
+    ensures cut { (run.new.size ≡ SECTOR_SIZE) ⊎ (run.new.size ≡ left)
+        ⊎ (run.old.machine.sectors ≡ sector_limit) }
+    ensures beyond { (run.old.machine.sectors < sector_limit) ⊎ (run.new.size ≡ 1) }
+    ensures others { run.new ≡ record run.old { asked = READING; most = 0; size = run.new.size } }
+{
+    let at = SECTOR_SIZE as u64 * u64::from(run.machine.sectors);
+    let place = SECTOR_SIZE * run.machine.held as usize;
+    if run.machine.sectors == MAX_SECTORS {
+        ask(run, READING, 0, 1);
+        tell(step, READ, at, place, 1);
+        return;
+    }
+    let size = (SECTOR_SIZE as u64).min(left) as usize;
+    ask(run, READING, 0, size);
+    tell(step, READ, at, place, size);
+}
+
+/// Asks that the first bytes of the hand go out: a sector, or the tail.
+pub(crate) fn ask_write(run: &mut ScriptRun, asked: u32, size: usize, step: &mut RunStep)
+    requires sound { IsRun run.old.machine }
+    ensures kind { step.new.kind ≡ WRITE }
+    ensures status { step.new.status ≡ 0 }
+    ensures at { step.new.at ≡ SECTOR_SIZE * (run.old.machine.sectors - run.old.machine.held) }
+    ensures place { step.new.place ≡ 0 }
+    ensures size { step.new.size ≡ size }
+    ensures others { run.new ≡ record run.old { asked = asked; most = 0; size = size } }
+{
+    let sent = run.machine.sectors.saturating_sub(run.machine.held);
+    ask(run, asked, 0, size);
+    tell(step, WRITE, SECTOR_SIZE as u64 * u64::from(sent), 0, size);
+}
+
+/// The block and the user byte of an outcome that refuses a patch, else 0.
+fn place_of(outcome: Outcome) -> (u32, u32)
+    ensures block { result.0 ≡ outcome_block outcome }
+    ensures offset { result.1 ≡ outcome_offset outcome }
+{
+    match outcome {
+        Outcome::Applied => (0, 0),
+        Outcome::NotMode1(block) => (block, 0),
+        Outcome::Damaged(block) => (block, 0),
+        Outcome::NoBlock(block) => (block, 0),
+        Outcome::Differs(block, offset) => (block, u32::from(offset)),
+    }
+}
+
+/// Tells the line of a patch, and what became of it.
+pub(crate) fn tell_outcome(step: &mut RunStep, number: u32, outcome: Outcome)
+    ensures kind { step.new.kind ≡ LOG }
+    ensures status { step.new.status ≡ 0 }
+    ensures some { 0 < step.new.size }
+    ensures few { step.new.size ≤ LINE_SIZE }
+    ensures line { take step.new.size step.new.text ≡ outcome_line number outcome }
+    ensures number { step.new.number ≡ number }
+    ensures result { step.new.result ≡ outcome_number outcome }
+    ensures block { step.new.block ≡ outcome_block outcome }
+    ensures offset { step.new.offset ≡ outcome_offset outcome }
+{
+    tell_line(step, &outcome_line(number, outcome));
+    let (block, offset) = place_of(outcome);
+    step.number = number;
+    step.result = outcome_number(outcome);
+    step.block = block;
+    step.offset = offset;
+}
+
+/// The status of a run, by how many patches were refused.
+pub(crate) fn status(refused: u32) -> u32
+    ensures { result ≡ status_of refused }
+{
+    if refused == 0 { 0 } else { 1 }
+}
+
+/// The fault of a number.
+fn fault_of(number: u32, line: u32) -> Option<ScriptFault>
+    ensures { result ≡ fault_of number line }
+{
+    match number {
+        4 => Some(ScriptFault::Head(line)),
+        5 => Some(ScriptFault::Verb(line)),
+        6 => Some(ScriptFault::Words(line)),
+        7 => Some(ScriptFault::Number(line)),
+        8 => Some(ScriptFault::Hex(line)),
+        9 => Some(ScriptFault::Length(line)),
+        10 => Some(ScriptFault::Offset(line)),
+        11 => Some(ScriptFault::Address(line)),
+        12 => Some(ScriptFault::TooMany(line)),
+        13 => Some(ScriptFault::NoMemory),
+        _ => None,
+    }
+}
+
+/// The line of an error, by its number and the script's line; empty if no error has the number.
+pub(crate) fn error_line(number: u32, line: u32) -> Line
+    ensures line { result ≡ error_line number line }
+    ensures room { length result ≤ LINE_SIZE }
+{
+    if number == TOO_LONG {
+        return text_line(LONG_SCRIPT.as_bytes());
+    }
+    match fault_of(number, line) {
+        None => Line::new(),
+        Some(fault) => script_fault_line(fault),
+    }
+}
+
+/// A line of a text.
+pub(crate) fn text_line(text: &[u8]) -> Line
+    requires { length text.now ≤ LINE_SIZE }
+    ensures line { result ≡ text.now }
+{
+    let mut line = Line::new();
+    line.push_text(text);
+    line
+}

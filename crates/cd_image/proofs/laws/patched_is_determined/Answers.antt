@@ -1,5 +1,0 @@
-use Rattle.cd_image.proofs.PatchedLemmas.{IsPatched-determined}
-use Rattle.cd_image.proofs.laws.patched_is_determined.Goals as goal
-
-pub returns : goal.returns
-returns c = IsPatched-determined

@@ -1,0 +1,17 @@
+//! One line of a report, a log or a message, made in place.
+//!
+//! ```
+//! let mut line = Line::new();
+//! line.push_text(b"sectors ");
+//! line.push_number(8);
+//! assert_eq!(rt; line.as_slice(), b"sectors 8".as_slice());
+//! ```
+//!
+//! A [`Line`] has at most [`LINE_SIZE`] bytes, and takes no memory.
+//!
+//! Tests: `crates/cd_example_tests`.
+#![tactic(auto)]
+
+mod line;
+
+pub use line::{LINE_SIZE, Line};

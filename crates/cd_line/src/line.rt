@@ -1,0 +1,79 @@
+//! One line of a report, a log or a message, made in place.
+
+ghost use Rattle.std.specs.Prelude.{◌≡◌, ◌+◌, ◌≤◌, [], ◌++◌, decimal, length};
+
+use arrayvec::ArrayVec;
+use itoa::Buffer;
+use std::marker::Model;
+
+/// The largest number of bytes in a line. The longest line that is written names the place where
+/// old bytes differ: 51 bytes of text and three numbers of up to ten digits. Each `push` requires
+/// the room, so a line needs no memory.
+pub const LINE_SIZE: usize = 96;
+
+/// The bytes of a line that is being made. A contract sees their list.
+#[derive(Debug, Drop)]
+pub struct Line {
+    bytes: ArrayVec<u8, LINE_SIZE>,
+}
+
+impl Model for Line {
+    ghost use Rattle.std.specs.Prelude.{ℕ, List, ◌≤◌, length};
+    ghost use Rattle.cd_line.specs.declared.line.TheConstants.{LINE_SIZE};
+
+    ghost Value = { List ℕ };
+
+    ghost view = { λ line. line.bytes.items };
+
+    ghost invariant = { λ line. length line.bytes.items ≤ LINE_SIZE };
+}
+
+impl Line {
+    /// A line without a byte.
+    ///
+    /// # Examples
+    ///
+    /// ```
+    /// let mut line = Line::new();
+    /// line.push_text(b"sectors ");
+    /// line.push_number(8);
+    /// assert_eq!(rt; line.as_slice(), b"sectors 8".as_slice());
+    /// ```
+    pub fn new() -> Self
+        ensures { result ≡ [] }
+    {
+        Line {
+            bytes: ArrayVec::new(),
+        }
+    }
+
+    /// Appends a text, for which there is room: both together have at most [`LINE_SIZE`] bytes.
+    ///
+    /// See the example of [`Line::new`].
+    pub fn push_text(&mut self, text: &[u8])
+        requires { length self.old + length text.now ≤ LINE_SIZE }
+        ensures { self.new ≡ self.old ++ text.now }
+    {
+        let _ = self.bytes.try_extend_from_slice(text);
+    }
+
+    /// Appends a number in decimal; there is room for ten digits.
+    ///
+    /// See the example of [`Line::new`].
+    pub fn push_number(&mut self, number: u32)
+        requires { length self.old + 10 ≤ LINE_SIZE }
+        ensures line { self.new ≡ self.old ++ decimal number }
+        ensures size { length self.new ≤ length self.old + 10 }
+    {
+        self.push_text(Buffer::new().format(number).as_bytes());
+    }
+
+    /// The bytes so far.
+    ///
+    /// See the example of [`Line::new`].
+    pub fn as_slice(&self) -> &[u8]
+        ensures { result.now ≡ self.now }
+    {
+        self.bytes.as_slice()
+    }
+}

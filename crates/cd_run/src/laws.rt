@@ -1,0 +1,25 @@
+//! Laws of patched images, each the contract of a function that does nothing.
+
+ghost use Rattle.cd_run.specs.LogSize.{LogIsShort};
+ghost use Rattle.cd_run.specs.Patched.{PatchedCarries, PatchedExists, PatchedIsDetermined};
+
+/// What patches make of an image, and what becomes of them, follows from the patches and the image.
+pub fn patched_is_determined()
+    ensures { PatchedIsDetermined }
+{}
+
+/// Each list of patches can be taken on each image of bytes.
+pub fn patched_exists()
+    ensures { PatchedExists }
+{}
+
+/// With damage carried no patch is refused for damage, and each sector that no patch has rebuilt
+/// keeps its own.
+pub fn patched_carries()
+    ensures { PatchedCarries }
+{}
+
+/// A log has at most 76 bytes for each patch, and 38 for its last line.
+pub fn log_is_short()
+    ensures { LogIsShort }
+{}

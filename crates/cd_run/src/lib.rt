@@ -1,0 +1,31 @@
+//! A run of the patches of a script over an image of raw CD sectors (ECMA-130, 14), without reading or
+//! writing: what is next, what a patch makes of the sectors in hand, and the lines of the log.
+//!
+//! ```
+//! let mut run = PatchRun::new(0);
+//! let patch = Ahead {
+//!     block: 0,
+//!     blocks_met: 1,
+//! };
+//! assert_eq!(rt; run.next(Some(patch)), Step::Read); // the sector that it meets
+//! run.took_sector();
+//! assert_eq!(rt; run.next(Some(patch)), Step::Decide);
+//! assert_eq!(rt; run.next(None), Step::Send); // once it is decided
+//! ```
+//!
+//! [`PatchRun::next`] says which [`Step`] is due, and each step has a call that notes it. The caller
+//! moves the bytes and lends the sectors in hand, at most three; a run keeps nothing but numbers. So
+//! one machine serves `cd_image::apply` and the calls of C.
+//!
+//! Tests: `crates/cd_patch_tests` and, over whole images, `crates/cd_image_tests`.
+#![tactic(auto)]
+
+mod laws;
+mod lines;
+mod messages;
+mod run;
+
+pub use laws::{patched_carries, patched_exists, patched_is_determined};
+pub use lines::{counts_line, outcome_line};
+pub use messages::{LONG_IMAGE, LONG_SCRIPT, script_fault_line};
+pub use run::{Ahead, PatchRun, Step};

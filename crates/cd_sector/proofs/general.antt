@@ -1,0 +1,3 @@
+-- Lemmas that name nothing of this crate.
+pub mod Chunks
+pub mod Counts

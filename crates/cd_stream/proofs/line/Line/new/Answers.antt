@@ -1,5 +1,0 @@
-use Rattle.std.proofs.Common.{rules}
-use Rattle.cd_stream.proofs.line.Line.new.Goals as goal
-
-pub returns : goal.returns
-returns c = search rules

@@ -1,0 +1,76 @@
+// The block of an image's first sector: what a script that cdscript wrote says of it, and what the addresses say.
+
+import assert from 'node:assert/strict';
+import { test } from 'node:test';
+import { damaged, imageOf, inDirectory, read, run, sameFile, tool, write } from './common.mjs';
+
+const program = process.env.PROGRAM;
+
+/** A later track of 40 sectors from block 150 on, whole and with two damaged sectors. */
+function writeLater(room) {
+    const later = imageOf(room, 40, 150);
+    const hurt = damaged(later, 150, [158, 100], [170, 2000]);
+    write(room, { 'later.bin': later, 'hurt.bin': hurt, 'few.bin': hurt.subarray(0, 15 * 2352) });
+    return { later, hurt };
+}
+
+const WAYS = 'most addresses in hurt.bin say that it begins with block 150: give --base 150, or --base 0 to count from 0 all the same';
+
+test('each script says for which base it is written, and is applied at no other one', () => inDirectory(async room => {
+    const { later } = writeLater(room);
+    const text = later.toString('hex', 16 + 2352 * 3, 26 + 2352 * 3).toUpperCase();
+    const JOBS = [['rebuilds', 'hurt.bin'], ['diff', 'hurt.bin', 'later.bin'], ['replace', 'later.bin', '153', '0', text, 'FF'.repeat(10), '--encoding', 'hex'],
+        ['undo', 'later.bin', 'edit']];
+    write(room, { edit: 'cdpatch 1\nset 153 0 00\n' });
+    for (const words of JOBS) {
+        const { status, out } = await run(words, { cwd: room });
+        assert.match(`${status} ${out}`, /^0 cdpatch [12]\n# base 150\n(rebuild|set) 15/, words.join(' '));
+    }
+    assert.match((await run(['rebuilds', 'hurt.bin', '--base', '7'], { cwd: room })).out, /^cdpatch 1\n# base 7\nrebuild 15\n/);
+    write(room, { 'sound.bin': imageOf(room, 20), 'odd.bin': damaged(imageOf(room, 20), 0, [3, 100]) });
+    assert.equal((await run(['rebuilds', 'odd.bin'], { cwd: room })).out, 'cdpatch 1\nrebuild 3\n');
+    await run(['diff', 'hurt.bin', 'later.bin', '-o', 'repair'], { cwd: room });
+    const said = base => `cdscript: line 2 of the script says base 150, and the image begins with block ${base} here: give --base 150, or take that line out\n`;
+    for (const [words, base] of [[['apply', 'hurt.bin', 'repair', 'out', '--base', '0'], 0], [['check', 'hurt.bin', 'repair', '--base', '151'], 151],
+        [['check', 'odd.bin', 'repair'], 0]]) {
+        const { status, out, errors } = await run(words, { cwd: room });
+        assert.deepEqual([status, out, errors, read(room, 'out')], [2, '', said(base), null], words.join(' '));
+    }
+    assert.equal((await run(['apply', 'hurt.bin', 'repair', 'out', '--base', '150'], { cwd: room })).status, 0);
+    sameFile(read(room, 'out'), later, 'the repaired track');
+    tool(program, ['apply', '--base', '150', 'hurt.bin', 'repair', 'due'], { cwd: room });
+    sameFile(read(room, 'due'), later, 'what the program makes of the script');
+}));
+
+test('an undo of a script for another base is refused', () => inDirectory(async room => {
+    writeLater(room);
+    write(room, { edit: 'cdpatch 1\n# a comment\n# base 140\nset 153 0 00\n' });
+    const { status, out, errors } = await run(['undo', 'later.bin', 'edit'], { cwd: room });
+    assert.deepEqual([status, out, errors], [2, '', 'cdscript: line 3 of the script says base 140, and the image begins with block 150 here\n']);
+    write(room, { edit: 'cdpatch 1\n# base 150 or so\n#base 1\n# base 150\r\nset 153 0 00\n' });
+    assert.equal((await run(['undo', 'later.bin', 'edit'], { cwd: room })).status, 0);
+}));
+
+test('what most addresses say is not passed over without --base', () => inDirectory(async room => {
+    writeLater(room);
+    write(room, { script: 'cdpatch 1\nrebuild 8\n' });
+    const JOBS = [['list', 'hurt.bin'], ['audit', 'hurt.bin'], ['check', 'hurt.bin', 'script'], ['apply', 'hurt.bin', 'script', 'out']];
+    for (const words of JOBS) {
+        const { status, out, errors } = await run(words, { cwd: room });
+        assert.deepEqual([status, out, errors, read(room, 'out')], [2, '', `cdscript: ${WAYS}\n`, null], words.join(' '));
+    }
+    // With --base all is as the program does it.
+    for (const base of ['0', '150']) {
+        const due = tool('sh', ['-c', `"${program}" audit --base ${base} hurt.bin; echo $?`], { cwd: room }).toString();
+        const { status, out, errors } = await run(['audit', 'hurt.bin', '--base', base], { cwd: room });
+        assert.deepEqual([`${out}${status}\n`, errors], [due, '']);
+    }
+    // Most addresses agree, though some do not.
+    const some = Buffer.concat([read(room, 'later.bin'), imageOf(room, 30, 900)]);
+    write(room, { some, half: Buffer.concat([some, imageOf(room, 20, 500)]) });
+    assert.match((await run(['list', 'some'], { cwd: room })).errors, /^cdscript: most addresses in some say that it begins with block 150: /);
+    assert.equal((await run(['list', 'half'], { cwd: room })).status, 0);
+    // A few addresses decide nothing.
+    const few = await run(['audit', 'few.bin'], { cwd: room });
+    assert.deepEqual([few.status, few.errors], [1, 'cdscript: this image begins with block 150: --base 150\n']);
+}));

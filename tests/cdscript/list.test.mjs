@@ -1,0 +1,107 @@
+// Whole translations: `replace --list`.
+
+import assert from 'node:assert/strict';
+import { test } from 'node:test';
+import { imageOf, inDirectory, read, run, tool, write } from './common.mjs';
+
+const program = process.env.PROGRAM;
+
+/** Writes `image`, whose blocks 2 to 5 are zeros but for bytes at places. */
+function writeImage(room, ...places) {
+    write(room, { plain: imageOf(room, 8), edit: ['cdpatch 1', ...[2, 3, 4, 5].map(block => `fill ${block} 0 2048 00`),
+        ...places.map(([block, offset, bytes]) => `set ${block} ${offset} ${bytes}`), ''].join('\n') });
+    tool(program, ['apply', 'plain', 'edit', 'image'], { cwd: room });
+}
+
+/** What `replace --list` makes of rows below the head. */
+const listed = (room, head, rows, ...more) => {
+    write(room, { list: [head, ...rows, ''].join('\n') });
+    return run(['replace', 'image', '--list', 'list', ...more], { cwd: room });
+};
+
+// アイ is 8341 8343 in CP932 and A5A2 A5A4 in EUC-JP, 王様 is 8B73 D869 in UTF-16LE.
+const PLACES = [[2, 100, '83418343'], [2, 200, '8341000083418343'], [3, 2046, '8341'], [4, 0, '8343'], [4, 50, 'A5A2A5A4'], [5, 0, '8B73D869'], [5, 300, '4142434420202020']];
+const HEAD = 'block\toffset\tbytes\troom\tencoding\tfile\ttext\tnew';
+
+test('each row of a list with a new text is replaced, in the order of places', () => inDirectory(async room => {
+    writeImage(room, ...PLACES);
+    const done = await listed(room, HEAD, ['5\t0\t4\t4\tUTF-16LE\t-\t王様\tgo', '3\t2046\t4\t4\t\t-\tアイ\tok', '2\t100\t4\t4\tCP932\t-\tアイ\t',
+        '4\t50\t4\t4\t\t-\tアイ\tウ', '2\t200\t8\t8\t\t-\tア{0000}アイ\t{41}{00}BC{0A}']);
+    assert.deepEqual([done.status, done.errors], [0, '']);
+    assert.equal(done.out, ['cdpatch 1', 'set 2 200 410042430A202020 was 8341000083418343', 'set 3 2046 6F6B2020 was 83418343',
+        'set 4 50 A5A62020 was A5A2A5A4', 'set 5 0 67006F00 was 8B73D869', ''].join('\n'));
+    const other = await listed(room, HEAD, ['4\t50\t4\t4\tCP932\t-\tアイ\tウ']);
+    assert.deepEqual([other.status, other.errors.split('\n')[0]], [2, 'cdscript: row 2: the old text does not stand there']);
+    write(room, { english: done.out });
+    tool(program, ['apply', 'image', 'english', 'out'], { cwd: room });
+    assert.equal(read(room, 'out').length, read(room, 'image').length);
+}));
+
+test('a new text may take the room of the filling after the old one, and no byte more', () => inDirectory(async room => {
+    writeImage(room, ...PLACES);
+    const row = (place, size, text, fresh) => `${place}\t4\t${size}\t\t-\t${text}\t${fresh}`;
+    const done = await listed(room, HEAD, [row('5\t300', 8, 'ABCD', 'ABCDEFGH'), row('2\t100', 6, 'アイ', 'abcdef')]);
+    assert.equal(done.out, 'cdpatch 1\nset 2 100 616263646566 was 834183430000\nset 5 300 4142434445464748 was 4142434420202020\n');
+    const long = await listed(room, HEAD, [row('5\t300', 99, 'ABCD', 'ABCDEFGHI'), row('2\t100', 5, 'アイ', 'abcdef'), row('4\t50', 4, 'アイ', 'ウエ')]);
+    assert.deepEqual([long.status, long.out, long.errors.split('\n')], [2, '', [
+        'cdscript: row 2: the new text has 9 bytes in CP932, 1 more than the 8 that are there',
+        'cdscript: row 3: the new text has 6 bytes in CP932, 1 more than the 5 that are there',
+        'cdscript: rows that do not fit: 2, so no script is written; --partial leaves them out', '']]);
+    const without = await listed(room, 'block\toffset\ttext\tnew', ['5\t300\tABCD\tABCDE']);
+    assert.equal(without.errors.split('\n')[0], 'cdscript: row 2: the new text has 5 bytes in CP932, 1 more than the 4 that are there');
+}));
+
+test('a 00 after a text stays, since it ends it', () => inDirectory(async room => {
+    writeImage(room, [2, 100, '414243'], [2, 106, '44'], [3, 100, '8B73D869'], [3, 110, '0030']);
+    const row = (place, encoding, text, fresh) => `${place}\t99\t${encoding}\t${text}\t${fresh}`;
+    const head = 'block\toffset\troom\tencoding\ttext\tnew';
+    const done = await listed(room, head, [row('2\t100', 'CP932', 'ABC', 'ABCde'), row('3\t100', 'UTF-16LE', '王様', 'abcd')]);
+    assert.equal(done.out, 'cdpatch 1\nset 2 100 4142436465 was 4142430000\nset 3 100 6100620063006400 was 8B73D86900000000\n');
+    const long = await listed(room, head, [row('2\t100', 'CP932', 'ABC', 'ABCdef'), row('3\t100', 'UTF-16LE', '王様', 'abcde')]);
+    assert.deepEqual([long.status, long.errors.match(/more than the \d/g)], [2, ['more than the 5', 'more than the 8']]);
+}));
+
+test('all rows that do not fit are named, and left out only if that is asked for', () => inDirectory(async room => {
+    writeImage(room, ...PLACES);
+    write(room, { damaged: 'cdpatch 1\n' });
+    const rows = ['2\t100\tアイ\té', '2\t101\tアイ\ta', '9999\t0\tアイ\ta', 'x\t0\tアイ\ta', '3\t2046\tアイ\tok', '4\t0\tイ\tno', '4\t50\tアイ\tok', '5\t0\té\ta'];
+    const head = 'block\toffset\ttext\tnew';
+    const refused = await listed(room, head, rows, '--encoding', 'CP932');
+    const why = ['row 2: CP932 has no \'é\' (U+00E9), character 1 of the text', 'row 3: the old text does not stand there',
+        'row 4: the image has the blocks 0 to 7', 'row 5: block and offset are no numbers', 'row 7: it overlaps the text of row 6',
+        'row 8: the old text does not stand there', 'row 9: CP932 has no \'é\' (U+00E9), character 1 of the text'];
+    assert.deepEqual([refused.status, refused.out, refused.errors.split('\n').slice(0, -2)], [2, '', why.map(line => `cdscript: ${line}`)]);
+    const partial = await listed(room, head, rows, '--encoding', 'CP932', '--partial');
+    assert.deepEqual([partial.status, partial.out], [1, 'cdpatch 1\nset 3 2046 6F6B2020 was 83418343\n']);
+    assert.deepEqual(partial.errors.split('\n').slice(0, -1), why.map(line => `cdscript: ${line}`));
+}));
+
+test('a list is TSV or CSV, in UTF-8 or UTF-16, and has to name its columns', () => inDirectory(async room => {
+    writeImage(room, ...PLACES);
+    const wanted = 'cdpatch 1\nset 2 100 6F6B2020 was 83418343\n';
+    for (const text of ['block,offset,text,new\r\n2,100,"アイ",ok\r\n', '\uFEFFnew;text;offset;block\r\nok;アイ;100;2', 'BLOCK\tOffset\ttext\tnew\n2\t100\tアイ\tok']) {
+        write(room, { list: text, wide: Buffer.from(`\uFEFF${text.replace('\uFEFF', '')}`, 'utf16le') });
+        for (const name of ['list', 'wide']) assert.equal((await run(['replace', 'image', '--list', name], { cwd: room })).out, wanted);
+    }
+    const said = async words => (await run(words, { cwd: room })).errors;
+    write(room, { none: 'block\toffset\ttext\tnew\n2\t100\tアイ\t\n', headless: '2\t100\tアイ\tok\n' });
+    assert.equal(await said(['replace', 'image', '--list', 'none']), 'cdscript: no row of the list has a new text\n');
+    assert.equal(await said(['replace', 'image', '--list', 'headless']), 'cdscript: the first row of the list names no column block, offset, text, new\n');
+    assert.match(await said(['replace', 'image', '--list', 'none', 'アイ', 'ok']), /^cdscript: replace wants IMAGE; /);
+    assert.match(await said(['replace', 'image', '--list', 'none', '--all']), /exclude each other/);
+    assert.match(await said(['replace', 'image', 'a', 'b', '--partial']), /--partial wants --list/);
+    const fill = await run(['replace', 'image', '--list', 'list', '--fill', '00'], { cwd: room });
+    assert.equal(fill.out, wanted.replace('2020', '0000'));
+}));
+
+test('as many rows as a script has lines are replaced', () => inDirectory(async room => {
+    const blocks = 640;
+    const lines = Array.from({ length: blocks }, (_, block) => `fill ${block} 0 2048 41`);
+    write(room, { plain: imageOf(room, blocks), edit: ['cdpatch 1', ...lines, ''].join('\n') });
+    tool(program, ['apply', 'plain', 'edit', 'image'], { cwd: room });
+    const rows = Array.from({ length: 65534 }, (_, i) => `${Math.floor(i / 103)}\t${i % 103 * 19}\tAAAA\tBB`);
+    const done = await listed(room, 'block\toffset\ttext\tnew', rows, '--encoding', 'CP932');
+    assert.deepEqual([done.status, done.out.split('\n').length], [0, 65536]);
+    write(room, { english: done.out });
+    tool(program, ['apply', 'image', 'english', 'out'], { cwd: room });
+}));

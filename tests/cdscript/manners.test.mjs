@@ -1,0 +1,95 @@
+// How cdscript speaks: what a mistyped word may have been meant to be, help, versions, what goes to standard output, and progress.
+
+import assert from 'node:assert/strict';
+import { spawnSync } from 'node:child_process';
+import { test } from 'node:test';
+import { command, damaged, imageOf, inDirectory, read, run, runProcess, tool, write } from './common.mjs';
+import { makeDisc } from './discs.mjs';
+
+const hasDisc = tool('genisoimage', ['--version']) !== null;
+const hasTerminal = tool('script', ['--version']) !== null;
+
+test('a mistyped job, option or encoding is answered by what was meant', async () => {
+    const SAID = {
+        'fnd x': "there is no job 'fnd'; did you mean find?; see cdscript --help",
+        'Info x': "there is no job 'Info'; did you mean info?; see cdscript --help",
+        'aplpy x': "there is no job 'aplpy'; did you mean apply?; see cdscript --help",
+        'frobnicate x': "there is no job 'frobnicate'; see cdscript --help",
+        'list --bsae 0 x': 'there is no option --bsae; did you mean --base?',
+        'list --frobnicate x': 'there is no option --frobnicate; a name that begins with - stands after --',
+        'find x y --encoding latin1': "there is no encoding 'latin1' here; there are hex, CP932, EUC-JP, UTF-8, UTF-16LE, UTF-16BE, " +
+        'Big5, GBK, EUC-KR',
+        'help fnd': "there is no job 'fnd'; did you mean find?; see cdscript --help",
+    };
+    for (const [words, said] of Object.entries(SAID)) {
+        const { status, out, errors } = await run(words.split(' '));
+        assert.deepEqual([status, out, errors], [2, '', `cdscript: ${said}\n`]);
+    }
+});
+
+test('a mistyped path is answered by the one that was meant', { skip: !hasDisc && 'no genisoimage' }, () => inDirectory(async room => {
+    await makeDisc(room);
+    const SAID = { 'data/border.dat': 'there is /DATA/BORDER.DAT', '/DATA/BODER.DAT': 'there is /DATA/BORDER.DAT', '/nothing/like/it': 'cdscript files lists them' };
+    for (const [path, said] of Object.entries(SAID)) {
+        const { status, errors } = await run(['extract', 'disc.bin', path, 'out'], { cwd: room });
+        assert.deepEqual([status, errors], [2, `cdscript: there is no file ${path}; ${said}\n`]);
+    }
+}));
+
+test('help, version and -V are taken as words', async () => {
+    for (const [words, same] of [[['help'], ['--help']], [['help', 'find'], ['find', '--help']], [['version'], ['--version']], [['-V'], ['--version']]]) {
+        const [came, due] = [await run(words), await run(same)];
+        assert.deepEqual([came.status, came.out, came.errors], [0, due.out, ''], words.join(' '));
+    }
+});
+
+test('help of each job has an example that is right, and says all of the program\'s jobs', async () => {
+    const { out } = await run(['help']);
+    const jobs = [...out.split('Options:')[0].matchAll(/^ {2}([a-z-]+) {2,}/gm)].map(([, job]) => job);
+    assert.ok(jobs.length >= 17);
+    await inDirectory(room => {
+        for (const job of jobs) {
+            const help = runProcess(['help', job], { cwd: room }).out;
+            const [, example] = /\nExample:\n {2}cdscript (.*)\n/.exec(help) ?? [];
+            assert.ok(example?.startsWith(`${job} `), help);
+            const { stdout, stderr } = spawnSync('sh', ['-c', `"${process.execPath}" "${command}" ${example}`], { cwd: room, encoding: 'utf8' });
+            assert.match(stdout + stderr, /^(cdscript: cannot (open|read) |cdpatch: cannot (open the image|read the script)\n)/, example);
+        }
+    });
+    for (const job of ['list', 'audit', 'check', 'apply']) {
+        assert.match((await run(['help', job])).out, /as\s+cdpatch\s.*The\s+first\s+sector\s+is\s+block\s+0,/s, job);
+    }
+    assert.match((await run(['help', 'replace-file'])).out, /--fill HEX +fill up with this byte, as 20\n/);
+});
+
+test('a dash after -o is standard output', () => inDirectory(async room => {
+    write(room, { image: damaged(imageOf(room, 20), 0, [3, 100]) });
+    const due = await run(['rebuilds', 'image'], { cwd: room });
+    const came = await run(['rebuilds', 'image', '-o', '-'], { cwd: room });
+    assert.deepEqual([came.status, came.out, read(room, '-')], [due.status, due.out, null]);
+}));
+
+test('nothing is said to a reader that has ended', () => inDirectory(room => {
+    const sector = imageOf(room, 1);
+    write(room, { many: Buffer.concat(Array.from({ length: 20000 }, () => sector)) });
+    const { stdout, stderr } = spawnSync('sh', ['-c', `{ "${process.execPath}" "${command}" audit many; echo $? > status; } | head -n 1`],
+        { cwd: room, encoding: 'utf8' });
+    assert.deepEqual([stdout, stderr, read(room, 'status').toString()], ['1 address\n', '', '2\n']);
+}));
+
+test('why apply cannot make its output is said beside the program\'s line', () => inDirectory(async room => {
+    write(room, { image: imageOf(room, 3), script: 'cdpatch 1\n', there: 'x' });
+    for (const [out, why] of [['there', 'it exists'], ['nowhere/out', 'there is no such file or directory'], ['image/out', 'a part of the path is no directory']]) {
+        const came = await run(['apply', 'image', 'script', out], { cwd: room });
+        assert.deepEqual([came.status, came.out, came.errors], [2, 'cdpatch: cannot make the output file\n', `cdscript: cannot make ${out}: ${why}\n`]);
+    }
+}));
+
+test('apply, check and undo show how far they are', { skip: !hasTerminal && 'no terminal' }, () => inDirectory(room => {
+    const lines = Array.from({ length: 3000 }, (_, i) => `set ${i} 7 41`);
+    write(room, { image: imageOf(room, 3000), script: `cdpatch 1\n${lines.join('\n')}\n` });
+    for (const words of ['apply image script out', 'check image script', 'undo image script -o back']) {
+        const shown = tool('script', ['-qec', `"${process.execPath}" "${command}" ${words}`, '/dev/null'], { cwd: room }).toString();
+        assert.match(shown, /\r\d+ % of 3000 sectors[^\n]*\r\x1b\[K/, words);
+    }
+}));

@@ -1,0 +1,162 @@
+// Collections and known dumps: what `scan`, `info` and `merge` say with a list of dumps, and what is left of a scan that was interrupted.
+
+import assert from 'node:assert/strict';
+import { spawn, spawnSync } from 'node:child_process';
+import { createHash } from 'node:crypto';
+import { existsSync, mkdirSync, symlinkSync, unlinkSync } from 'node:fs';
+import { createRequire } from 'node:module';
+import { join } from 'node:path';
+import { test } from 'node:test';
+import { fileURLToPath } from 'node:url';
+
+// Before cdscript is loaded, which takes the calls as they are then.
+const faults = createRequire(import.meta.url)('./faulty.cjs');
+const { call, command, damaged, imageOf, inDirectory, read, run, sameFile, tool, write } = await import('./common.mjs');
+
+const preload = fileURLToPath(new URL('./faulty.cjs', import.meta.url));
+const shaOf = bytes => createHash('sha1').update(bytes).digest('hex');
+const sheet = name => `FILE "${name}" BINARY\n TRACK 01 MODE1/2352\n INDEX 01 00:00:00\n`;
+
+/** A DAT of files, by their names. */
+const datOf = files => `<?xml version="1.0"?>\n<datafile>${Object.entries(files).map(([name, bytes]) =>
+    `<game name="G"><rom name="${name}" size="${bytes.length}" sha1="${shaOf(bytes)}"/></game>`).join('\n')}</datafile>\n`;
+
+/** Forty images, some of them damaged, in two directories, half of them with cue sheets; a DAT of them whole; and the rows that are due. */
+function writeCollection(room) {
+    const image = imageOf(room, 60);
+    const [whole, rows] = [{}, []];
+    ['one', 'two'].forEach(name => mkdirSync(join(room, name)));
+    for (let i = 0; i < 40; i++) {
+        const name = `game ${String(i).padStart(2, '0')}.bin`;
+        const sound = image.subarray(0, 2352 * (20 + i));
+        const places = i % 4 === 1 ? [[3, 100], [9, 2000]] : i % 4 === 2 ? [[5, 13]] : [];
+        const dumped = damaged(sound, 0, ...places);
+        const directory = i < 20 ? 'one' : 'two';
+        whole[name] = sound;
+        write(join(room, directory), { [name]: dumped });
+        if (i % 2 === 0) write(join(room, directory), { [name.replace('.bin', '.cue')]: sheet(name) });
+        const [damage, elsewhere] = i % 4 === 1 ? [2, 0] : i % 4 === 2 ? [1, 1] : [0, 0];
+        rows.push([`${directory}/${name}`, `mode1 ${20 + i}`, damage, damage + elsewhere, elsewhere, shaOf(dumped), places.length > 0 ? '-' : `verified ${name}`].join('\t'));
+    }
+    write(room, { 'all.dat': datOf(whole), 'one/notes.txt': 'no image' });
+    return rows;
+}
+
+test('a scan tells each image of a collection once, with what a list of dumps knows of it', () => inDirectory(async room => {
+    const rows = writeCollection(room);
+    symlinkSync('..', join(room, 'two', 'up'));
+    write(join(room, 'one'), { 'again.cue': sheet('game 04.bin') });
+    const { status, out, errors } = await run(['scan', 'one', 'two', 'one/game 00.bin', '--dat', 'all.dat'], { cwd: room });
+    assert.deepEqual([status, out.split('\n').filter(Boolean).sort(), errors], [1, rows, 'cdscript: files that are no raw images: 1\n']);
+    const some = await run(['scan', 'one/game 00.cue', 'two/game 23.bin', '-o', 'list'], { cwd: room });
+    assert.deepEqual([some.status, some.out], [0, '']);
+    assert.deepEqual(read(room, 'list').toString(), [rows[0], rows[23]].map(row => `${row.replace(/\tverified.*/, '\t-')}\n`).join(''));
+}));
+
+test('what could not be read is named, and the status is 2', () => inDirectory(async room => {
+    const set = join(room, 'set');
+    mkdirSync(set);
+    write(set, { 'good.bin': imageOf(room, 20), 'gone.cue': sheet('nothing.bin'), 'text.txt': 'no image' });
+    symlinkSync('nowhere', join(set, 'broken.bin'));
+    const { status, out, errors } = await run(['scan', 'good.bin', 'gone.cue', 'text.txt', 'missing.bin', '.'], { cwd: set });
+    assert.deepEqual([status, out.split('\t')[0], out.split('\n').length], [2, 'good.bin', 2]);
+    for (const text of ['gone.cue names nothing.bin. It is not in the directory of the cue sheet.', 'text.txt is no image that is known here',
+        'cannot read missing.bin: there is no such file or directory', 'cannot read broken.bin: there is no such file or directory']) {
+        assert.equal(errors.split(`cdscript: ${text}\n`).length, 2, text);
+    }
+}));
+
+test('a list goes on where it was interrupted, and tells nothing twice', () => inDirectory(async room => {
+    const rows = writeCollection(room).map(row => row.replace(/\tverified.*/, '\t-'));
+    // A run that was killed has left whole lines and the beginning of one.
+    write(room, { list: `${rows[30]}\n${rows[3]}\n${rows[7].slice(0, 20)}` });
+    const { status, out } = await run(['scan', 'one', 'two', '--resume', 'list'], { cwd: room });
+    assert.deepEqual([status, out], [1, '']);
+    const lines = read(room, 'list').toString().split('\n').filter(Boolean);
+    assert.deepEqual([lines.slice(0, 2), [...lines].sort()], [[rows[30], rows[3]], rows]);
+    const again = await run(['scan', 'one', 'two', '--resume', 'list'], { cwd: room });
+    assert.deepEqual([again.status, read(room, 'list').toString().split('\n').filter(Boolean).sort()], [1, rows]);
+}));
+
+test('of a sheet of which the list has some files the others are told', () => inDirectory(async room => {
+    const two = 'FILE "b.bin" BINARY\n TRACK 02 MODE1/2352\n INDEX 01 00:00:00\n';
+    write(room, { 'a.bin': imageOf(room, 20), 'b.bin': imageOf(room, 20, 20), 'both.cue': sheet('a.bin') + two });
+    const { out } = await run(['scan', 'both.cue'], { cwd: room });
+    const rows = out.split('\n').filter(Boolean);
+    write(room, { list: `${rows[0]}\n` });
+    assert.equal((await run(['scan', 'both.cue', '--resume', 'list'], { cwd: room })).status, 0);
+    assert.deepEqual([rows.length, read(room, 'list').toString()], [2, out]);
+}));
+
+test('a killed scan goes on', () => inDirectory(async room => {
+    const rows = writeCollection(room).map(row => row.replace(/\tverified.*/, '\t-'));
+    for (let i = 0; i < 50 && (read(room, 'list') || '').toString().split('\n').length <= 40; i++) {
+        const child = spawn(process.execPath, ['-r', preload, command, 'scan', 'one', 'two', '--resume', 'list'],
+            { cwd: room, env: { ...process.env, SLOW: '40' }, stdio: 'ignore' });
+        const ended = new Promise(resolve => child.on('exit', resolve));
+        const late = setTimeout(() => child.kill('SIGKILL'), i < 3 ? 600 + 200 * i : 20000);
+        await ended;
+        clearTimeout(late);
+    }
+    assert.deepEqual(read(room, 'list').toString().split('\n').filter(Boolean).sort(), rows);
+}));
+
+test('an image that vanishes is named, and a full disk leaves whole lines', () => inDirectory(room => inDirectory(async streams => {
+    const rows = writeCollection(room);
+    const calling = (hit, words) => call(streams, words, () => { faults.hit = hit; }, () => { faults.hit = () => null; });
+    let writes = 0;
+    const full = await calling((name, [, bytes]) => {
+        if (name !== 'writeSync' || !bytes.includes(0x09)) return null;
+        writes += 1;
+        return writes === 6 ? 'short' : writes > 6 ? faults.errorOf('ENOSPC') : null;
+    }, ['scan', join(room, 'one'), join(room, 'two'), '--resume', join(room, 'list')]);
+    assert.deepEqual([full.status, full.errors], [2, `cdscript: cannot write ${join(room, 'list')}: the disk is full\n`]);
+    const kept = read(room, 'list').toString();
+    assert.deepEqual([kept.split('\n').length, kept.endsWith('\n')], [6, true]);
+    let isGone = false;
+    const vanished = await calling(name => {
+        if (name === 'writeSync' && !isGone) {
+            isGone = true;
+            unlinkSync(join(room, 'two', 'game 39.bin'));
+        }
+        return null;
+    }, ['scan', join(room, 'one'), join(room, 'two'), '--resume', join(room, 'list')]);
+    assert.equal(vanished.status, 2);
+    assert.match(vanished.errors, /^cdscript: cannot open .*two\/game 39\.bin: there is no such file or directory\n/);
+    const lines = read(room, 'list').toString().split('\n').filter(Boolean).map(line => line.split('\t')[0]);
+    assert.deepEqual([...lines].sort(), rows.slice(0, 39).map(row => join(room, row.split('\t')[0])));
+})));
+
+test('without threads a scan is the same', () => inDirectory(async room => {
+    const rows = writeCollection(room);
+    write(room, { 'none.cjs': "require('node:worker_threads').Worker = class { constructor() { throw new Error('EAGAIN'); } };" });
+    const { status, stdout } = spawnSync(process.execPath, ['-r', './none.cjs', command, 'scan', 'one', 'two', '--dat', 'all.dat'], { cwd: room, encoding: 'utf8' });
+    assert.deepEqual([status, stdout.split('\n').filter(Boolean).sort()], [1, rows]);
+}));
+
+test('names of a collection are one line each, and no two are alike', () => inDirectory(async room => {
+    const image = imageOf(room, 20);
+    const names = ['a\tb.bin', 'a\nb.bin', 'a\\u{9}b.bin', 'a\x1b[2Jb.bin'];
+    mkdirSync(join(room, 'odd'));
+    for (const name of names) write(join(room, 'odd'), { [name]: image });
+    const { out } = await run(['scan', 'odd'], { cwd: room });
+    const told = out.split('\n').filter(Boolean).map(line => line.split('\t')[0]).sort();
+    assert.deepEqual(told, ['odd/a\\\\u{9}b.bin', 'odd/a\\u{1b}[2Jb.bin', 'odd/a\\u{9}b.bin', 'odd/a\\u{a}b.bin'].sort());
+}));
+
+test('info and merge say whether a dump is known', () => inDirectory(async room => {
+    const image = imageOf(room, 30);
+    write(room, { 'a.bin': damaged(image, 0, [3, 100]), 'b.bin': damaged(image, 0, [9, 100]), 'good.bin': image, 'one.dat': datOf({ 'Other.bin': Buffer.from('x') }),
+        'two.dat': datOf({ 'The Game (Japan).bin': image }) });
+    const dats = ['--dat', 'one.dat', '--dat=two.dat'];
+    assert.match((await run(['info', 'good.bin', ...dats], { cwd: room })).out, /\nfile good\.bin .*\nverified The Game \(Japan\)\.bin\ntrack /);
+    assert.match((await run(['info', 'a.bin', ...dats], { cwd: room })).out, /\nno dump of this size and SHA-1 is in the DAT\n/);
+    const merged = await run(['merge', 'a.bin', 'b.bin', 'out', ...dats], { cwd: room });
+    assert.deepEqual([merged.status, merged.errors], [0, 'cdscript: out: verified The Game (Japan).bin\n']);
+    sameFile(read(room, 'out'), image, 'the repaired image');
+    const other = await run(['merge', 'a.bin', 'b.bin', 'new', '--dat', 'one.dat'], { cwd: room });
+    assert.deepEqual([other.status, other.errors], [0, `cdscript: new: no dump of this size and SHA-1 is in the DAT: ${shaOf(image)}\n`]);
+    write(room, { 'bad.dat': '<datafile><x>&y;</x><rom name="&y;"/></datafile>' });
+    const bad = await run(['merge', 'a.bin', 'b.bin', 'third', '--dat', 'bad.dat'], { cwd: room });
+    assert.deepEqual([bad.status, bad.errors, existsSync(join(room, 'third'))], [2, 'cdscript: bad.dat: it has the entity &y;, which a DAT does not have\n', false]);
+}));

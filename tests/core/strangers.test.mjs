@@ -1,0 +1,102 @@
+// Cue sheets, tables and volumes that mean harm: each takes not much longer than a harmless one, and what is left out of a list is said.
+import assert from 'node:assert';
+import { test } from 'node:test';
+import { core, readerOf } from './common.mjs';
+import { rawOf } from './discs.mjs';
+import { SHEETS, TABLES, continuing, crowded, harmlessVolume, nested, overlapping, recordOf, volumeOf } from './strangers.mjs';
+
+const { sheetOf } = await core('cue.js');
+const { natureOf } = await core('image.js');
+const { findIn } = await core('texts/find.js');
+const { filesOf } = await core('iso.js');
+const { tableOf } = await core('text.js');
+const { calls } = await import('./common.mjs');
+
+/** What a call answers, or how it fails, and the seconds of a processor that it takes. @param {() => any} called */
+async function timed(called) {
+    const before = process.cpuUsage();
+    let [answer, fault] = [null, ''];
+    try {
+        answer = await called();
+    } catch (error) {
+        fault = `${error.constructor.name}: ${error.message}`;
+    }
+    const { user, system } = process.cpuUsage(before);
+    return { answer, fault, seconds: (user + system) / 1e6 };
+}
+
+/** The files of a volume, its faults, and the seconds. @param {Uint8Array} user */
+async function listed(user) {
+    const { answer, fault, seconds } = await timed(() => filesOf(readerOf(rawOf(user)), 0));
+    assert.strictEqual(fault, '');
+    return { ...answer, seconds };
+}
+
+for (const [what, sheet] of Object.entries(SHEETS)) {
+    test(`a cue sheet takes no longer: ${what}`, async () => {
+        const { seconds } = await timed(async () => {
+            const { kind } = await natureOf(calls, readerOf(sheet));
+            if (kind === 'cue') sheetOf(new TextDecoder().decode(sheet));
+        });
+        assert.ok(seconds < 2, `${seconds} s`);
+    });
+}
+
+for (const [what, { table, text, fault: due = '' }] of Object.entries(TABLES)) {
+    test(`a table takes no longer: ${what}`, async () => {
+        const { answer, fault, seconds } = await timed(() => {
+            const own = tableOf(table);
+            own.lengthAt(new Uint8Array(USER), 0);
+            return findIn(rawOf(new Uint8Array(64 * USER)), 0, { texts: [own.units(text)], count: 64, limit: 5 })[0].count;
+        });
+        assert.ok(seconds < 4, `${seconds} s`);
+        assert.deepStrictEqual([answer, fault], due === '' ? [0, ''] : [null, `TextFault: ${due}`]);
+    });
+}
+
+const USER = 2048;
+
+test('a harmless volume is listed', async () => {
+    const { files, faults } = await listed(harmlessVolume(30));
+    assert.deepStrictEqual([files, faults], [[{ path: '/FILE', block: 20, size: 5000, fault: '' }], []]);
+});
+
+test('a sector belongs to one directory only', async () => {
+    const { files, faults, seconds } = await listed(overlapping(400));
+    assert.ok(seconds < 2, `${seconds} s`);
+    assert.ok(files.length === 0 && faults.length === 1001, `${faults.length} faults`);
+    assert.match(faults[0], /^\/D\d+_\d+: the directory in block \d+ is also another one$/);
+    assert.ok(faults.some(text => /^(\/D\d+_\d+)+: the directory in blocks \d+ to 399 has sectors of another one$/.test(text)));
+    assert.match(faults[1000], /^and so on: \d+ places in all$/);
+});
+
+test('directories are read down to a depth', async () => {
+    const { files, faults, seconds } = await listed(nested(2000, 20));
+    assert.ok(seconds < 2, `${seconds} s`);
+    assert.strictEqual(files.length, 256);
+    assert.match(faults.join('\n'), /^(\/N{20}){255}: its directories are not read: they are more than 255 deep$/);
+});
+
+test('a list has no more entries than its image can have', async () => {
+    const { files, faults, seconds } = await listed(crowded(1300));
+    assert.ok(seconds < 2, `${seconds} s`);
+    assert.strictEqual(files.length, 65536);
+    assert.deepStrictEqual(faults, ['/: from here on nothing is listed: the volume has more than 65536 files and directories']);
+});
+
+test('a list has no more characters than its image can have', async () => {
+    const names = Array.from({ length: 9 }, (_, i) => `F${i}`);
+    const { faults, seconds } = await listed(volumeOf(9000, sector => {
+        if (sector < 118) return [recordOf('N'.repeat(200), sector + 1, sector === 117 ? 8000 * USER : USER)];
+        return names.map(name => recordOf(name, 18, 0, { flags: 0 }));
+    }));
+    assert.ok(seconds < 2, `${seconds} s`);
+    assert.match(faults.join('\n'), /^(\/N{200}){100}: from here on nothing is listed: its paths have more than 8388608 characters$/);
+});
+
+test('records that go on and on end', async () => {
+    const { files, faults, seconds } = await listed(continuing(200));
+    assert.ok(seconds < 2, `${seconds} s`);
+    assert.ok(files.length > 500);
+    assert.deepStrictEqual(faults, ['/: from here on nothing is listed: its records are continued in more than 32768 places']);
+});

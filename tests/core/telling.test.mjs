@@ -1,0 +1,60 @@
+// Which bytes are told to be texts.
+
+import assert from 'node:assert/strict';
+import { test } from 'node:test';
+import { core, diceOf } from './common.mjs';
+
+const { TextTeller, keptOf } = await core('texts/telling.js');
+const { encodingOf } = await core('text.js');
+const { encodeText } = await core('texts/encoding.js');
+
+const ALL = 31;
+const teller = new TextTeller();
+const noise = (size, seed) => {
+    const dice = diceOf(seed);
+    return Buffer.from(Uint8Array.from({ length: size }, () => dice(256)));
+};
+const bytesOf = (name, text) => Buffer.from(encodeText(encodingOf(name), text));
+const found = (bytes, bits = ALL) => teller.tell(bytes, bits).map(({ start, end, scores }) => [start, end, scores.encoding.name]);
+
+test('a sentence in noise is found in each encoding, at its place', () => {
+    for (const name of ['CP932', 'EUC-JP', 'UTF-8', 'UTF-16LE', 'UTF-16BE']) {
+        const text = bytesOf(name, '城の地下に宝があるらしい。');
+        const bytes = Buffer.concat([noise(3000, 1), Buffer.alloc(2), text, Buffer.alloc(2), noise(3000, 2)]);
+        assert.deepEqual(found(bytes), [[3002, 3002 + text.length, name]], name);
+    }
+});
+
+test('random bytes, sound, and one character over and over are no texts', () => {
+    assert.deepEqual(found(noise(1 << 22, 3)), []);
+    for (const text of ['ああああ', 'あいうえ'.repeat(8)]) assert.deepEqual(found(Buffer.concat([Buffer.alloc(4), bytesOf('CP932', text), Buffer.alloc(4)])), []);
+    assert.deepEqual(found(Buffer.from(Int16Array.from({ length: 1 << 18 }, (_, i) => 12000 * Math.sin(i / 30)).buffer)), []);
+});
+
+test('short texts are taken beside others, over the 00 between them', () => {
+    const texts = ['はじめから', 'と', 'はい', 'HP 20 かいふく', '冒険をつづけますか？'].map(text => bytesOf('CP932', text));
+    const bytes = Buffer.concat([Buffer.alloc(8), ...texts.flatMap(text => [text, Buffer.alloc(2)])]);
+    const places = texts.map((text, i) => 8 + texts.slice(0, i).reduce((sum, it) => sum + it.length + 2, 0)).map((at, i) => [at, at + texts[i].length, 'CP932']);
+    assert.deepEqual(found(bytes), places);
+});
+
+test('texts in UTF-16 with one 00 00 after each are not read with the other byte first', () => {
+    const texts = ['や他のエラー', 'いことを保証', 'にのコメント', 'デタッチされ', 'このコマンド'].map(text => bytesOf('UTF-16LE', text));
+    const bytes = Buffer.concat([Buffer.alloc(4), ...texts.flatMap(text => [text, Buffer.alloc(2)])]);
+    assert.deepEqual(found(bytes), texts.map((_, i) => [4 + 14 * i, 16 + 14 * i, 'UTF-16LE']));
+});
+
+test('a chain of texts after their lengths is cut into them', () => {
+    const texts = ['旅の商人から剣を買った', '港町へようこそ。', '宿屋で待っている'].map(text => bytesOf('CP932', text));
+    const bytes = Buffer.concat([Buffer.alloc(4), ...texts.flatMap(text => [Buffer.of(text.length), text]), Buffer.alloc(4)]);
+    assert.deepEqual(found(bytes).map(([start, end]) => end - start), texts.map(text => text.length));
+});
+
+test('of a file in one encoding others are kept only if they are surer', () => {
+    const [cp932, euc] = [teller.finder.all[0], teller.finder.all[1]];
+    const made = (scores, score) => ({ start: 0, end: 2, score, scores, before: true, after: true, near: false });
+    const many = Array.from({ length: 10 }, () => made(cp932, 60));
+    assert.equal(keptOf([...many, made(euc, 30)]).length, 10);
+    assert.equal(keptOf([...many, made(euc, 36)]).length, 11);
+    assert.equal(keptOf([made(cp932, 40), made(euc, 40)]).length, 2);
+});

@@ -1,0 +1,85 @@
+# The calls of the builds and of the WebAssembly modules against each other, null pointers in the modules, and their page. tests/library.sh
+# has what these functions use.
+
+random_calls=20000
+page_of_modules=$top/docs/MODULES.md
+
+# recorded LIBRARY: random calls by a build.
+recorded() { LD_LIBRARY_PATH=${1%/*} ./random_calls 1 $random_calls; }
+
+# replays MODULE RECORDS: whether a module makes each recorded call in the same way, and at least 27 calls 100 times.
+replays() {
+    node "$tests/library/replay.mjs" "$1" < "$2" > replayed || { cat replayed; false; } &&
+        [ "$(grep ', ' replayed | head -n 1 | tr ',' '\n' | awk '$2 >= 100' | wc -l)" = 27 ]
+}
+
+test_random_calls() {
+    local build module
+    compiler gcc 'gcc and libc6-dev' || return
+    judge 'random_calls.c compiles without a warning' gcc -std=c99 -O2 "${strict[@]}" "$tests/library/random_calls.c" "${builds[0]}" \
+        -o random_calls
+    recorded "${builds[0]}" > records
+    for build in "${builds[@]:1}"; do
+        judge "$random_calls random calls by $build" cmp -s records <(recorded "$build")
+    done
+    for module in "${modules[@]}"; do
+        judge "$random_calls random calls by ${module##*/}" holds replays "$module" records
+        judge "null pointers for no bytes in ${module##*/}" holds node "$tests/library/nulls.mjs" "$module"
+    done
+    [ ${#modules[@]} = 0 ] || ! wrong_versions 'wrong random calls' || missing objcopy binutils 'wrong random calls' ||
+        test_wrong_calls FIND_BROKEN_TAKES_ONE_PLANE_AFTER_THE_OTHER CARRY_USER_OF_NO_BYTES_AT_A_NULL_POINTER
+}
+
+# test_wrong_calls NAME..: libraries that wrong.c makes by these names.
+test_wrong_calls() {
+    local name call
+    for name in "$@"; do
+        call=$(wrong_call "$name")
+        objcopy --redefine-sym "cdpatch_$call=right_$call" library/libcdpatch.a "random_$name.a"
+        gcc -O2 -I "$top/include" "-D$name" "$tests/library/random_calls.c" "$tests/library/wrong.c" "random_$name.a" -o "random_$name" 2> errors
+        "./random_$name" 1 $random_calls > wrong_records
+        judge "a library is refused by a module in which $name" refuses replays "${modules[0]}" wrong_records
+    done
+}
+
+# runs_the_example PAGE: whether the page's example says of a sound sector what tests/model does.
+runs_the_example() {
+    mkdir -p example
+    sed -n '/^```js$/,/^```$/{/^```/d;p}' "$1" > example/client.mjs
+    cp "$vectors" example/disc.bin
+    cp "$top/library/cdpatch.wasm" example
+    (cd example && node client.mjs) > said && [ "$(cat said)" = "$(printf 'sound\n%s' "$(edc_of_first_sector)")" ]
+}
+edc_of_first_sector() { od -An -tx4 -j 2064 -N 4 "$vectors" | tr -d ' ' | sed 's/^0*//'; }
+
+# has_the_structs PAGE: whether a compiler gives each struct of the header the size and the places of the page.
+has_the_structs() {
+    {
+        echo '#include <cdpatch.h>'
+        sed -nE 's/^\| `(cdpatch_[a-z0-9_]+)` \| ([0-9]+) \| (.*) \|$/\1 \2 \3/p' "$1" | tr -d '`,' |
+            awk '{ print "_Static_assert(sizeof(struct " $1 ") == " $2 ", \"size\");"
+                for (i = 3; i < NF; i += 2) print "_Static_assert(offsetof(struct " $1 ", " $i ") == " $(i + 1) ", \"" $i "\");" }'
+    } > structs.c
+    [ "$(grep -c sizeof structs.c)" = "$(grep -c '^struct .*{' "$header")" ] && gcc -std=c11 -I "$top/include" -c structs.c -o structs.o
+}
+
+test_page_of_modules() {
+    judge 'docs/MODULES.md has the structs as the compiler lays them out' holds has_the_structs "$page_of_modules"
+    [ ${#modules[@]} = 0 ] || judge 'its example runs' runs_the_example "$page_of_modules"
+    wrong_versions 'a wrong page on the modules' || return
+    sed 's/`value` 10/`value` 11/' "$page_of_modules" > wrong.md
+    judge 'a page with another place is refused' refuses has_the_structs wrong.md
+    sed '/^| `cdpatch_place`/d' "$page_of_modules" > wrong.md
+    judge 'a page without a struct is refused' refuses has_the_structs wrong.md
+}
+
+test_modules() {
+    modules=()
+    if [ ! -f "$top/library/cdpatch.wasm" ]; then
+        skip "the calls of the WebAssembly modules, which tools/wasm.sh makes with wasm-opt (Debian's package binaryen)"
+    elif ! missing node nodejs 'the calls of the WebAssembly modules'; then
+        modules=("$top"/library/cdpatch{,-wasm64}.wasm)
+    fi
+    test_random_calls
+    test_page_of_modules
+}

@@ -1,0 +1,329 @@
+/* Random calls of libcdpatch: `random_calls SEED COUNT` writes each as a record: what it was given, what it returned and what it left. The
+ * same seed makes the same calls, so two builds give the same bytes, and replay.mjs makes the calls again by a module. A null pointer
+ * stands for no bytes in half of the cases.
+ *
+ * A record is the name of the call and a zero; the number of its arguments in a byte; each of them, one letter first: `n` and a number, `s`
+ * and a size, of 8 bytes; `z` for a null pointer; `i` and a size of 4 bytes and bytes that are only read; `r`, a size, the bytes before
+ * the call and those after it; and in the end 8 bytes of what the call returned. */
+#include <cdpatch.h>
+#include <stdio.h>
+#include <stdlib.h>
+#include <string.h>
+
+enum { SECTOR = CDPATCH_SECTOR_SIZE, MOST_SECTORS = 6, MOST_BYTES = MOST_SECTORS * SECTOR + 5000, MOST_ARGUMENTS = 16, CALLS = 29 };
+
+static uint64_t state;
+static uint8_t sectors[MOST_BYTES], bytes[MOST_BYTES], old_bytes[MOST_BYTES], out[MOST_BYTES], address[3], address_room[3];
+static uint8_t text[MOST_BYTES], columns[86], diagonals[52], digest[20];
+static struct cdpatch_line line;
+static struct cdpatch_patch patch;
+static struct cdpatch_place place;
+static struct cdpatch_defect defect;
+static struct cdpatch_record records[MOST_SECTORS];
+static struct cdpatch_sha1 sha1;
+static size_t length;
+
+/* ---- the record of a call */
+
+static struct argument { char letter; uint64_t number; const uint8_t *bytes; uint8_t *before; } arguments[MOST_ARGUMENTS];
+static size_t taken;
+static const char *name;
+
+static void put(const void *from, size_t count) {
+    if (fwrite(from, 1, count, stdout) != count)
+        exit(2);
+}
+
+static void begin(const char *call) {
+    name = call;
+    taken = 0;
+}
+static void add(char letter, uint64_t number, const void *from, uint8_t *before) {
+    arguments[taken++] = (struct argument){letter, number, (const uint8_t *)from, before};
+}
+static void number(uint64_t value) { add('n', value, NULL, NULL); }
+static void size(uint64_t value) { add('s', value, NULL, NULL); }
+static void input(const void *from, size_t count) { add(from ? 'i' : 'z', count, from, NULL); }
+static void room(const void *from, size_t count) {
+    uint8_t *before = from && count ? (uint8_t *)malloc(count) : NULL;
+    if (before)
+        memcpy(before, from, count);
+    add(from ? 'r' : 'z', count, from, before);
+}
+
+static void end(uint64_t result) {
+    uint8_t count = (uint8_t)taken;
+    put(name, strlen(name) + 1);
+    put(&count, 1);
+    for (struct argument *it = arguments; it < arguments + taken; it++) {
+        put(&it->letter, 1);
+        if (it->letter == 'n' || it->letter == 's')
+            put(&it->number, 8);
+        if (it->letter != 'i' && it->letter != 'r')
+            continue;
+        put(&it->number, 4);
+        if (it->letter == 'r')
+            put(it->before, it->number);
+        put(it->bytes, it->number);
+        free(it->before);
+    }
+    put(&result, 8);
+}
+
+/* ---- what calls are given */
+
+static uint64_t some(uint64_t below) {
+    state ^= state << 13;
+    state ^= state >> 7;
+    state ^= state << 17;
+    return (state * 0x2545F4914F6CDD1D >> 11) % below;
+}
+static bool once_in(uint64_t count) { return some(count) == 0; }
+static void fill(uint8_t *to, size_t count) {
+    for (size_t i = 0; i < count; i++)
+        to[i] = (uint8_t)some(256);
+}
+static uint64_t some_number(void) {
+    static const uint64_t limits[] = {0, 1, 2, 3, 65535, 65536, 449849, 449850, 999999999, 1000000000, UINT32_MAX - 1, UINT32_MAX};
+    return once_in(3) ? some((uint64_t)1 << 32) : once_in(2) ? some(30) : limits[some(sizeof limits / sizeof *limits)];
+}
+static uint64_t some_size(void) { return once_in(8) ? UINT64_MAX - some(70) : once_in(3) ? some_number() : some(2100); }
+
+/* A null pointer for no bytes, in half of the cases. */
+static void *lent(void *from, size_t count) { return count == 0 && once_in(2) ? NULL : from; }
+
+/* A sound sector, or one with some bytes changed, of Mode 1 mostly; or any bytes. */
+static void make_sector(uint8_t *sector) {
+    uint8_t user[CDPATCH_USER_SIZE];
+    if (once_in(20)) {
+        fill(sector, SECTOR);
+        return;
+    }
+    memset(user, (int)some(256), sizeof user);
+    if (once_in(2))
+        fill(user, sizeof user);
+    if (!cdpatch_address((uint32_t)some(449860), address))
+        fill(address, 3);
+    cdpatch_encode(address, user, sector);
+    for (uint64_t left = once_in(2) ? 0 : some(once_in(8) ? 40 : 4); left > 0; left--)
+        sector[once_in(3) ? some(SECTOR) : 2064 + some(288)] = (uint8_t)some(256);
+    if (once_in(8))
+        sector[once_in(2) ? 15 : some(16)] = (uint8_t)some(4);
+}
+static size_t make_sectors(size_t most) {
+    size_t count = some(most + 1);
+    for (size_t i = 0; i < count; i++)
+        make_sector(sectors + i * SECTOR);
+    return count;
+}
+
+static size_t put_hex(char *to, size_t count) {
+    for (size_t i = 0; i < 2 * count; i++)
+        to[i] = "0123456789abcdefABCDEF"[some(22)];
+    return 2 * count;
+}
+
+/* A line of a script, right mostly, without its end: its size. The blocks are small ones. */
+static size_t make_line(char *to) {
+    size_t at, count = once_in(9) ? some(4100) : some(20), block = some(9);
+    if (once_in(12))
+        block = some_number();
+    switch (some(9)) {
+    case 0: return (size_t)sprintf(to, "%s", (const char *const[]){"", "# any", "cdpatch 1", "cdpatch 2", " \t"}[some(5)]);
+    case 1: return (size_t)sprintf(to, "rebuild %zu", block);
+    case 2: return (size_t)sprintf(to, "address %zu %02d:%02d:%02d", block, (int)some(101), (int)some(61), (int)some(76));
+    case 3: return (size_t)sprintf(to, "fill %zu %d %zu %02X", block, (int)some(2060), count, (int)some(256));
+    case 4: at = (size_t)sprintf(to, "\t set  %zu %d ", block, (int)some(2060)); break;
+    default: at = (size_t)sprintf(to, "set %zu %d ", block, (int)some(2060));
+    }
+    at += put_hex(to + at, count);
+    if (once_in(3))
+        at += (size_t)sprintf(to + at, " was "), at += put_hex(to + at, once_in(9) ? some(20) : count);
+    for (uint64_t left = once_in(6) ? some(3) : 0; left > 0; left--)
+        to[some(at)] = (char)some(256);
+    return at;
+}
+static size_t make_script(void) {
+    size_t at = once_in(12) ? 0 : (size_t)sprintf((char *)bytes, "cdpatch %d\n", once_in(20) ? 3 : 1 + (int)some(2));
+    for (uint64_t left = some(6); left > 0 && at < MOST_BYTES - 17000; left--) {
+        size_t begun = at;
+        at += make_line((char *)bytes + at);
+        if (once_in(2) && !memcmp(bytes + begun, "cdpatch", 7))
+            at = begun;
+        at += (size_t)sprintf((char *)bytes + at, once_in(4) ? "\r\n" : "\n");
+    }
+    return once_in(4) && at > 0 ? at - 1 : at;
+}
+static void make_patch(void) {
+    size_t count = make_line((char *)text);
+    fill(bytes, CDPATCH_PATCH_SIZE);
+    fill(old_bytes, CDPATCH_PATCH_SIZE);
+    if (cdpatch_read_line(1 + (uint32_t)some(2), 1, 0, text, count, &patch, bytes, old_bytes) != CDPATCH_PATCH)
+        patch = (struct cdpatch_patch){(uint32_t)some_number(), (uint16_t)some(2060), (uint16_t)some(4100), (uint8_t)some(5), (uint8_t)some(3),
+                                       (uint8_t)some(256), {0, 2, (uint8_t)some(256)}};
+    if (once_in(9))
+        ((uint8_t *)&patch)[some(14)] = (uint8_t)some(256);
+    if (patch.verb == CDPATCH_SET && patch.has_old == 1 && once_in(2))
+        for (size_t i = 0; i < patch.count && i < CDPATCH_PATCH_SIZE; i++) {
+            size_t user = patch.offset + i;
+            old_bytes[i] = sectors[user / CDPATCH_USER_SIZE % MOST_SECTORS * SECTOR + 16 + user % CDPATCH_USER_SIZE];
+        }
+}
+
+/* ---- each call */
+
+static void on_sector(const char *call, enum cdpatch_result (*change)(uint8_t *)) {
+    begin(call);
+    room(sectors, SECTOR);
+    end(change(sectors));
+}
+static void change_bytes(const char *call, enum cdpatch_result (*change)(uint8_t *, size_t, const uint8_t *, size_t)) {
+    size_t offset = once_in(6) ? some_size() : some(2049), count = once_in(8) ? some(2060) : offset < 2049 ? some(2049 - offset) : some(9);
+    count = once_in(12) ? 0 : count;
+    uint8_t *from = (uint8_t *)lent(bytes, count);
+    fill(bytes, count);
+    begin(call);
+    room(sectors, SECTOR), size(offset), input(from, count), size(count);
+    end(change(sectors, offset, from, count));
+}
+static void change_header(const char *call, enum cdpatch_result (*change)(uint8_t *, const uint8_t *)) {
+    fill(address, 3);
+    begin(call);
+    room(sectors, SECTOR), input(address, 3);
+    end(change(sectors, address));
+}
+static void report(const char *call, enum cdpatch_status (*command)(const uint8_t *, size_t, uint32_t, uint8_t *, size_t, size_t *)) {
+    size_t count = once_in(6) ? 0 : make_sectors(MOST_SECTORS) * SECTOR + some(once_in(2) ? 1 : SECTOR), rooms = some(once_in(3) ? 60 : 400);
+    uint32_t base = (uint32_t)(once_in(4) ? some_number() : some(20));
+    uint8_t *image = (uint8_t *)lent(sectors, count), *to = (uint8_t *)lent(out, rooms);
+    begin(call);
+    input(image, count), size(count), number(base), room(to, rooms), size(rooms), room(&length, 8);
+    end(command(image, count, base, to, rooms, &length));
+}
+static void patch_image(bool applies) {
+    size_t count = once_in(6) ? 0 : make_sectors(MOST_SECTORS) * SECTOR + some(once_in(2) ? 1 : SECTOR), rooms = some(once_in(3) ? 60 : 600);
+    size_t script_size = make_script(), out_size = once_in(6) ? some(count + 1) : count + some(9);
+    uint32_t base = (uint32_t)(once_in(9) ? some_number() : some(4));
+    bool carry = once_in(2);
+    uint8_t *image = (uint8_t *)lent(sectors, count), *script = (uint8_t *)lent(bytes, script_size), *to = (uint8_t *)lent(text, rooms);
+    uint8_t *made = (uint8_t *)lent(out, out_size);
+    begin(applies ? "apply" : "check");
+    input(image, count), size(count), input(script, script_size), size(script_size), number(base), number(carry);
+    if (applies)
+        room(made, out_size), size(out_size);
+    room(to, rooms), size(rooms), room(&length, 8);
+    if (applies)
+        end(cdpatch_apply(image, count, script, script_size, base, carry, made, out_size, to, rooms, &length));
+    else
+        end(cdpatch_check(image, count, script, script_size, base, carry, to, rooms, &length));
+}
+
+static void on_line(void) {
+    uint32_t version = (uint32_t)(once_in(20) ? some_number() : some(3)), line_number = (uint32_t)some_number();
+    size_t count = once_in(12) ? 0 : make_line((char *)text), earlier = once_in(6) ? some_size() : some(70000);
+    uint8_t *from = (uint8_t *)lent(text, count);
+    begin("read_line");
+    number(version), number(line_number), size(earlier), input(from, count), size(count), room(&patch, sizeof patch);
+    room(bytes, CDPATCH_PATCH_SIZE), room(old_bytes, CDPATCH_PATCH_SIZE);
+    end(cdpatch_read_line(version, line_number, earlier, from, count, &patch, bytes, old_bytes));
+}
+static void on_text(void) {
+    size_t count = make_script(), from = some(count + 1);
+    uint8_t *here = (uint8_t *)lent(bytes + from, count - from);
+    begin("first_line");
+    input(here, count - from), size(count - from), room(&line, sizeof line);
+    end(cdpatch_first_line(here, count - from, &line));
+}
+static void on_hand(void) {
+    size_t count = make_sectors(4);
+    bool carry = once_in(2);
+    uint8_t *hand = (uint8_t *)lent(sectors, count);
+    make_patch();
+    begin("apply_patch");
+    input(&patch, sizeof patch), input(bytes, CDPATCH_PATCH_SIZE), input(old_bytes, CDPATCH_PATCH_SIZE), room(hand, count * SECTOR);
+    size(count), number(carry), room(&place, sizeof place);
+    end(cdpatch_apply_patch(&patch, bytes, old_bytes, hand, count, carry, &place));
+}
+static void on_survey(void) {
+    size_t count = make_sectors(MOST_SECTORS), rooms = once_in(6) ? some(MOST_SECTORS + 1) : count;
+    uint32_t block = (uint32_t)(once_in(3) ? some_number() : some(9));
+    uint8_t *from = (uint8_t *)lent(sectors, count);
+    struct cdpatch_record *to = (struct cdpatch_record *)lent(records, rooms);
+    begin("survey");
+    input(from, count * SECTOR), size(count), number(block), room(to, rooms * sizeof *to), size(rooms);
+    end(cdpatch_survey(from, count, block, to, rooms));
+}
+static void on_digest(void) {
+    size_t count = once_in(4) ? 0 : some(700);
+    uint8_t *from = (uint8_t *)lent(bytes, count);
+    fill(bytes, count);
+    begin("sha1_add");
+    room(&sha1, sizeof sha1), input(from, count), size(count);
+    cdpatch_sha1_add(&sha1, from, count);
+    end(0);
+}
+static void on_lines(uint64_t which) {
+    uint32_t first = (uint32_t)some_number(), second = (uint32_t)(once_in(5) ? some_number() : some(16)), block = (uint32_t)some_number();
+    uint16_t offset = (uint16_t)some(65536);
+    begin((const char *const[]){"outcome_line", "last_line", "fault_line", "result_text"}[which]);
+    if (which < 3)
+        number(first);
+    number(second);
+    if (which == 0)
+        number(block), number(offset);
+    room(text, CDPATCH_LINE_SIZE);
+    end(which == 0 ? cdpatch_outcome_line(first, second, block, offset, text) : which == 1 ? cdpatch_last_line(first, second, text) :
+        which == 2 ? cdpatch_fault_line(first, second, text) : cdpatch_result_text(second, text));
+}
+static void on_codes(uint64_t which) {
+    size_t count = once_in(9) ? 0 : some(3000);
+    uint8_t *from = (uint8_t *)lent(sectors, count);
+    uint32_t block = (uint32_t)(once_in(2) ? some(449850) : some_number());
+    begin((const char *const[]){"edc", "kind", "is_consistent", "find_defect", "find_broken", "address", "encode", "fill_parity"}[which]);
+    switch (which) {
+    case 0: input(from, count), size(count), end(cdpatch_edc(from, count)); break;
+    case 1: input(sectors, SECTOR), end(cdpatch_kind(sectors)); break;
+    case 2: input(sectors, SECTOR), end(cdpatch_is_consistent(sectors)); break;
+    case 3: input(sectors, SECTOR), room(&defect, sizeof defect), cdpatch_find_defect(sectors, &defect), end(0); break;
+    case 4: input(sectors, SECTOR), room(columns, 86), room(diagonals, 52), cdpatch_find_broken(sectors, columns, diagonals), end(0); break;
+    case 5: number(block), room(address_room, 3), end(cdpatch_address(block, address_room)); break;
+    case 6: fill(bytes, 2048), input(address, 3), input(bytes, 2048), room(out, SECTOR), cdpatch_encode(address, bytes, out), end(0); break;
+    default: room(sectors, SECTOR), cdpatch_fill_parity(sectors), end(0);
+    }
+}
+
+static void make_call(uint64_t which) {
+    make_sector(sectors);
+    switch (which) {
+    case 0: on_sector("rebuild", cdpatch_rebuild); break;
+    case 1: change_bytes("change_user", cdpatch_change_user); break;
+    case 2: change_bytes("carry_user", cdpatch_carry_user); break;
+    case 3: change_header("change_address", cdpatch_change_address); break;
+    case 4: change_header("carry_address", cdpatch_carry_address); break;
+    case 5: report("list", cdpatch_list); break;
+    case 6: report("audit", cdpatch_audit); break;
+    case 7: patch_image(false); break;
+    case 8: patch_image(true); break;
+    case 9: on_line(); break;
+    case 10: on_text(); break;
+    case 11: on_hand(); break;
+    case 12: on_survey(); break;
+    case 13: begin("sha1_begin"), room(&sha1, sizeof sha1), cdpatch_sha1_begin(&sha1), end(0); break;
+    case 14: on_digest(); break;
+    case 15: begin("sha1_end"), input(&sha1, sizeof sha1), room(digest, 20), cdpatch_sha1_end(&sha1, digest), end(0); break;
+    case 16: begin("version"), end(cdpatch_version()); break;
+    case 17: case 18: case 19: case 20: on_lines(which - 17); break;
+    default: on_codes(which - 21);
+    }
+}
+
+int main(int count, char **words) {
+    if (count != 3)
+        return 2;
+    uint64_t seed = strtoull(words[1], NULL, 10), calls = strtoull(words[2], NULL, 10);
+    for (uint64_t i = 0; i < calls; i++) {
+        state = (seed * 1000003 + i + 1) * 0x9E3779B97F4A7C15;
+        make_call(some(CALLS));
+    }
+    return fflush(stdout) != 0;
+}

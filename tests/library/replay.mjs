@@ -1,0 +1,99 @@
+// Makes the calls that random_calls.c has recorded again by a module: `replay.mjs MODULE < RECORDS`. Prints the first that differ, and how
+// many of each call were made; those that the module has not are passed over.
+
+import { readSync } from 'node:fs';
+import { Calls, Room, Size } from '../wasm/calls.mjs';
+
+const CHUNK = 1 << 20;
+const SHOWN = 10;
+
+/** The bytes of the standard input, in their order. */
+class Input {
+    constructor() {
+        this.bytes = new Uint8Array(0);
+        this.at = 0;
+    }
+
+    /** @param {number} size how many bytes are wanted; fewer are left at the end */
+    fill(size) {
+        const parts = [this.bytes.subarray(this.at)];
+        let have = parts[0].length;
+        while (have < size) {
+            const chunk = new Uint8Array(CHUNK);
+            const got = readSync(0, chunk, 0, CHUNK, null);
+            if (got === 0) break;
+            parts.push(chunk.subarray(0, got));
+            have += got;
+        }
+        this.bytes = Buffer.concat(parts);
+        this.at = 0;
+    }
+
+    ended() {
+        if (this.at === this.bytes.length) this.fill(1);
+        return this.bytes.length === 0;
+    }
+
+    /** @param {number} size */
+    take(size) {
+        if (this.bytes.length - this.at < size) this.fill(size);
+        if (this.bytes.length < size) throw new Error('a record is cut off');
+        this.at += size;
+        return this.bytes.subarray(this.at - size, this.at);
+    }
+
+    /** @param {number} size of a number, 1, 4 or 8 bytes */
+    number(size) {
+        return this.take(size).reduceRight((sum, byte) => sum * 256n + BigInt(byte), 0n);
+    }
+
+    name() {
+        let letters = '';
+        for (let code = this.take(1)[0]; code !== 0; code = this.take(1)[0]) letters += String.fromCharCode(code);
+        return letters;
+    }
+}
+
+/** @typedef {{ given: Uint8Array | Room | Size | number, after?: Uint8Array }} Argument */
+
+/**
+ * @param {Input} input
+ * @returns {Argument}
+ */
+function argument(input) {
+    const letter = String.fromCharCode(input.take(1)[0]);
+    if (letter === 'z') return { given: new Size(0) };
+    if (letter === 'n') return { given: Number(input.number(8)) };
+    if (letter === 's') return { given: new Size(input.number(8)) };
+    const size = Number(input.number(4));
+    const bytes = input.take(size).slice();
+    return letter === 'i' ? { given: bytes } : { given: new Room(bytes), after: input.take(size).slice() };
+}
+
+/**
+ * @param {number | bigint | undefined} result of a call
+ * @param {bigint} wanted
+ */
+function same(result, wanted) {
+    return (typeof result === 'bigint' ? BigInt.asUintN(64, result) : BigInt((result ?? 0) >>> 0)) === wanted;
+}
+
+const calls = new Calls(process.argv[2]);
+const input = new Input();
+/** @type {Map<string, number>} */
+const made = new Map();
+let [number, differ] = [0, 0];
+for (; !input.ended(); number++) {
+    const name = input.name();
+    const taken = Array.from({ length: input.take(1)[0] }, () => argument(input));
+    const wanted = input.number(8);
+    if (calls.exports[`cdpatch_${name}`] === undefined) continue;
+    const result = calls.call(`cdpatch_${name}`, ...taken.map(({ given }) => given));
+    const left = taken.every(({ given, after }) => !(given instanceof Room) || !after || Buffer.compare(given.bytes, after) === 0);
+    const right = same(result, wanted) && left;
+    if (!right && differ++ < SHOWN) console.log(`call ${number}, ${name}: ${result}, and not ${wanted}, or other bytes`);
+    made.set(name, (made.get(name) ?? 0) + 1);
+}
+console.log([...made].sort().map(([name, count]) => `${name} ${count}`).join(', '));
+console.log(`${number} calls, ${[...made.values()].reduce((sum, count) => sum + count, 0)} by the module, ${differ} differ`);
+process.exitCode = Number(differ > 0 || number === 0);

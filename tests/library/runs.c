@@ -1,0 +1,142 @@
+/* Runs of patches by the two calls, against cdpatch_apply: `runs COUNT [SEED]`. Random scripts and images, by a client of a pipe and by
+ * one that knows the size; the state is copied between calls, and what the client may write in the hand and the rooms is. */
+#include "runs.h"
+
+/* Other bytes where a run does not look: in the rooms, the step, and in the hand after the bytes in use. */
+static void scribble(struct memory *memory, size_t sectors) {
+    size_t used = memory->held < sectors * SECTOR ? memory->held : sectors * SECTOR;
+    some_bytes(&memory->dice, memory->hand + used, sectors * SECTOR - used < 64 ? sectors * SECTOR - used : 64);
+    some_bytes(&memory->dice, memory->rooms.new_bytes, 16);
+    memory->rooms.old_bytes[0] ^= 0xFF;
+    memory->step.kind = 77;
+}
+
+/* A hand that ends where no byte may be written. */
+static uint8_t *lent_hand(size_t sectors) {
+    static uint8_t *hands[CDPATCH_SECTORS_IN_HAND + 3];
+    if (!hands[sectors])
+        hands[sectors] = fenced(sectors * SECTOR, true);
+    return hands[sectors];
+}
+
+/* What a client sees of its image, and what it has made. */
+static struct made run_case(const struct some_case *it, enum client client, const struct cdpatch_entry *lent, size_t room) {
+    struct made made = {.out = more(NULL, it->size + 1), .log = more(NULL, it->log_room), .status = 99};
+    struct memory *memory = memory_of(it, lent, room);
+    uint64_t size = client == KNOWN || client == KNOWN_SECTORS ? it->size : CDPATCH_UNKNOWN_SIZE;
+    uint32_t flags = it->carry * CDPATCH_CARRY + (client == PIPE_SECTORS || client == KNOWN_SECTORS) * CDPATCH_NO_COPY;
+    size_t done = 0, last = SIZE_MAX;
+    free(memory->hand);
+    memory->hand = lent_hand(it->sectors_in_hand);
+    made.count = cdpatch_run_begin(&memory->run, it->script, it->script_size, it->base, size, flags, memory->entries, room);
+    for (made.steps = 0; made.count <= room; made.steps++) {
+        struct cdpatch_run stored = memory->run;
+        memset(&memory->run, 0x5A, sizeof memory->run);
+        memory->run = stored;
+        scribble(memory, it->sectors_in_hand);
+        cdpatch_run_next(&memory->run, done, it->script, it->script_size, memory->entries, room, memory->hand, it->sectors_in_hand,
+                         &memory->rooms, &memory->step);
+        memory->held -= memory->sent;
+        memory->sent = 0;
+        if (memory->step.kind == CDPATCH_END || memory->step.status > 2)
+            break;
+        done = move(it, client, memory, &made, &last);
+    }
+    made.status = memory->step.status;
+    memory->hand = NULL;
+    free_memory(memory);
+    return made;
+}
+
+static bool same_as_applied(const struct some_case *it, const struct made *made) {
+    size_t length = 0;
+    uint8_t *out = more(NULL, it->size + 1), *log = more(NULL, it->log_room);
+    uint32_t status = cdpatch_apply(it->image, it->size, it->script, it->script_size, it->base, it->carry, out, it->size, log,
+                                    it->log_room, &length);
+    bool same = made->wrong == NULL && made->status == status && made->log_size == length && !memcmp(made->log, log, length) &&
+                (status == CDPATCH_FAILED || (made->out_size == it->size && !memcmp(made->out, out, it->size))) &&
+                made->steps <= 2 * (it->size / CDPATCH_SECTOR_SIZE) + made->count + 8;
+    free(out);
+    free(log);
+    return same;
+}
+
+static void free_made(struct made *made) {
+    free(made->out);
+    free(made->log);
+}
+
+static void test_case(struct some_case *it, unsigned number) {
+    for (int client = PIPE; client <= KNOWN_SECTORS; client++) {
+        struct made made = run_case(it, (enum client)client, NULL, it->room);
+        judge(same_as_applied(it, &made), made.wrong ? made.wrong : "a run is not what cdpatch_apply does", number * 4 + (unsigned)client);
+        free_made(&made);
+    }
+}
+
+/* Room for fewer entries than there are patches: nothing is begun, and END comes with 2. */
+static void test_room(struct some_case *it, unsigned number) {
+    struct made made = run_case(it, PIPE, NULL, it->room);
+    for (size_t room = 0; room < made.count && room < 3; room++) {
+        struct made few = run_case(it, PIPE, NULL, room);
+        judge(few.count == made.count && few.steps == 0, "a run without room", number);
+        free_made(&few);
+    }
+    free_made(&made);
+}
+
+/* The log and the status of a run over an image of zeros, of which nothing is kept, and those of cdpatch_check. */
+static void test_longest(const uint8_t *zeros, size_t size, const char *script, unsigned number) {
+    static struct cdpatch_entry entries[SMALL_ROOM];
+    static uint8_t log[4096], due[4096], hand[CDPATCH_SECTORS_IN_HAND * SECTOR];
+    static struct cdpatch_rooms rooms;
+    struct cdpatch_run run;
+    struct cdpatch_step step;
+    size_t done = 0, logged = 0, came = 0, length = 0, script_size = strlen(script);
+    cdpatch_run_begin(&run, (const uint8_t *)script, script_size, 0, number % 2 ? size : CDPATCH_UNKNOWN_SIZE, 0, entries, SMALL_ROOM);
+    for (;;) {
+        cdpatch_run_next(&run, done, (const uint8_t *)script, script_size, entries, SMALL_ROOM, hand, CDPATCH_SECTORS_IN_HAND, &rooms, &step);
+        if (step.kind == CDPATCH_END)
+            break;
+        done = step.size;
+        if (step.kind == CDPATCH_LOG) {
+            memcpy(log + logged, step.text, done);
+            logged += done;
+        } else if (step.kind != CDPATCH_WRITE) {
+            done = done < size - came ? done : size - came;
+            came += done;
+        }
+        if (step.kind == CDPATCH_READ)
+            memset(hand + step.place, 0, done);
+    }
+    uint32_t status = cdpatch_check(zeros, size, (const uint8_t *)script, script_size, 0, false, due, sizeof due, &length);
+    judge(step.status == status && logged == length && !memcmp(log, due, length), "an image of about 1000000 sectors", number);
+}
+
+static void test_long_images(void) {
+    const char *scripts[] = {"cdpatch 2\n", "cdpatch 2\nset 999998 2047 000000\nset 999997 0 00\nset 999999 2047 0000\nset 1000000 0 00\n",
+                             "cdpatch 2\nrebuild 5\nset 1000003 0 00\n"};
+    size_t limit = 2352000000u, more_bytes[] = {0, 1, SECTOR, 3 * SECTOR + 7};
+    uint8_t *zeros = (uint8_t *)mmap(NULL, limit + 4 * SECTOR, PROT_READ, MAP_PRIVATE | MAP_ANONYMOUS | MAP_NORESERVE, -1, 0);
+    if (zeros == MAP_FAILED)
+        exit(2);
+    for (unsigned number = 0; number < 12; number++)
+        test_longest(zeros, limit + more_bytes[number % 4], scripts[number / 4], number);
+    test_longest(zeros, limit - 1, scripts[1], 12);
+    munmap(zeros, limit + 4 * SECTOR);
+}
+
+int main(int count, char **arguments) {
+    unsigned cases = count > 1 && atol(arguments[1]) > 0 ? (unsigned)atol(arguments[1]) : 300;
+    uint64_t seed = count > 2 ? (uint64_t)atol(arguments[2]) : 1;
+    printf("seed %llu\n", (unsigned long long)seed);
+    for (unsigned number = 0; number < cases; number++) {
+        struct some_case it = case_of(seed, number);
+        test_case(&it, number);
+        test_room(&it, number);
+        free_case(&it);
+    }
+    test_long_images();
+    printf("%u cases, %d differ\n", cases, failures);
+    return failures > 0;
+}

@@ -1,0 +1,81 @@
+# The stack of each call, and of the program, beside what the man pages say. tests/library.sh has what these functions use.
+
+# stated_stacks PAGE: of each call the bytes of stack that libcdpatch(3) states; `each` is every call that it does not name.
+stated_stacks() {
+    sed -n '/^\.Sh STACK/,/^\.El/p' "$1" |
+        awk '$1 == ".It" { bytes = $2 } $1 == ".Fn" { sub(/^cdpatch_/, "", $2); print $2, bytes } $1 == "each" { print $1, bytes }'
+}
+
+# keeps_to_stacks PAGE BENCH LIBRARY: whether each call takes at most the stack that the page states, by the rows of bench.c.
+keeps_to_stacks() {
+    LD_LIBRARY_PATH=${3%/*} "$2" stack > stacks || return
+    awk 'FILENAME == "stated" { stated[$1] = $2; next }
+        { most = $1 in stated ? stated[$1] : stated["each"]; if (!most || $2 > most) { print $1, $2, "of", most; lost = 1 } }
+        END { exit lost || FNR < 29 }' stated stacks > log
+}
+
+# is_close PAGE: whether no row of the page states more than 5/4 of the most stack that one of its calls took in a build.
+is_close() {
+    awk 'FILENAME == "stated" { stated[$1] = $2; next }
+        { row = $1 in stated ? stated[$1] : stated["each"]; if ($2 > most[row]) most[row] = $2 }
+        END { for (call in stated) if (stated[call] * 4 > most[stated[call]] * 5) { print call, most[stated[call]]; lost = 1 }; exit lost }' \
+        stated all_stacks > log
+}
+
+test_stack_of_calls() {
+    local build page=$top/man/libcdpatch.3
+    stated_stacks "$page" > stated
+    : > all_stacks
+    for build in "${builds[@]}"; do
+        gcc -O2 "${strict[@]}" "$tests/library/bench.c" "$build" -o bench 2> errors
+        judge "each call of $build takes the stack of libcdpatch(3) at most" holds keeps_to_stacks "$page" ./bench "$build"
+        cat stacks >> all_stacks
+    done
+    [ ${#builds[@]} = 1 ] || judge 'libcdpatch(3) states not much more' holds is_close "$page"
+    wrong_versions 'wrong tables of stacks' || return
+    sed 's/^\.It 21504/.It 16384/' "$page" > wrong.3
+    stated_stacks wrong.3 > stated
+    judge 'a page with less for cdpatch_check is refused' refuses keeps_to_stacks wrong.3 ./bench "${builds[0]}"
+    sed 's/^\.It 2048/.It 256/' "$page" > wrong.3
+    stated_stacks wrong.3 > stated
+    judge 'a page with less for other calls is refused' refuses keeps_to_stacks wrong.3 ./bench "${builds[0]}"
+    sed 's/^\.It 12800/.It 99999/' "$page" > wrong.3
+    stated_stacks wrong.3 > stated
+    [ ${#builds[@]} = 1 ] || judge 'a page with much more for cdpatch_apply_patch is refused' refuses is_close wrong.3
+}
+
+# in_stack BYTES STATUS WORD..: whether the program with these words ends with this status on a stack of so many bytes.
+in_stack() {
+    local bytes=$1 wanted=$2 status=0
+    shift 2
+    rm -f out
+    { (ulimit -s $((bytes / 1024)) && exec env -i "$program" "$@") > log < /dev/null || status=$?; } 2> errors
+    [ "$status" = "$wanted" ]
+}
+
+test_stack_of_program() {
+    local stated command
+    stated=$(sed -n 's/^The program takes at most \([0-9]*\) bytes of stack.*/\1/p' "$top/man/cdpatch.1")
+    judge 'cdpatch(1) states the stack of the program' test -n "$stated"
+    cp "$vectors" damaged
+    printf '\001' | dd of=damaged bs=1 seek=$((2352 + 2351)) conv=notrunc status=none
+    printf '%s\n' 'cdpatch 2' 'set 7 0 41' 'set 1 2000 4142 was 0000' "fill 4 2047 2050 FF" 'address 4 00:00:01' 'rebuild 1' \
+        'set 99 0 41' > script
+    { echo 'cdpatch 1'; seq -f 'set %.0f 2047 41424344' 0 65534; } > large_script
+    head -c 67108864 /dev/zero > long_script
+    printf 'cdpatch 1\nset 0 0 4\n' > invalid
+    for command in "1 audit damaged" "0 list damaged" "1 check damaged script" "1 apply damaged script out" "2 check damaged invalid" \
+        "1 apply --carry damaged large_script out" "2 check damaged long_script" "2 apply damaged nothing out" "0 --help" "2 --nothing"; do
+        # The words of the command.
+        # shellcheck disable=SC2086
+        judge "cdpatch ${command#* } in that stack" in_stack "$stated" $command
+    done
+    judge 'a third of it is not enough' refuses in_stack $((stated / 3)) 1 apply damaged script out
+}
+
+test_stack() {
+    if compiler gcc 'gcc and libc6-dev'; then
+        test_stack_of_calls
+    fi
+    test_stack_of_program
+}

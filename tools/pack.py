@@ -1,0 +1,164 @@
+"""Packs a door into one file, by esbuild: `pack.py command MODULE OUT` makes cdscript of web/command, and `pack.py page MODULE OUT` makes
+cdpatch.html of web/page. The notices that go along are the file NOTICES beside the module, or that of `--notices`; what made the module
+stands in `MODULE.txt`. `--web DIRECTORY` names another `web`. What the modules see as JOINED stands in joined_command.js and
+joined_page.js. The bytes follow only from these files and from the versions of esbuild and zlib, which `pack.py --versions` prints.
+
+`page.html` has these lines, each once; the policy comes after the first of them, and the last two are its end:
+    <meta charset="utf-8">
+    <link rel="icon" href="icon.svg">
+    <link rel="stylesheet" href="style.css">
+    <script type="module" src="main.js"></script>
+    <plaintext hidden id="data">
+"""
+
+import argparse
+import base64
+import gzip
+import hashlib
+import json
+import subprocess
+import sys
+import tempfile
+import zlib
+from pathlib import Path
+
+TOOLS = Path(__file__).resolve().parent
+LARGEST_PAGE = 440_000
+NEEDS = 'cdscript needs node 18 or later'
+# The paths of modules can get into what is made. So esbuild finds all under the same names. It would follow web/tsconfig.json too.
+EVERY = ['--bundle', '--charset=utf8', '--legal-comments=none', '--log-level=warning', '--log-limit=0', '--loader:.gz=base64',
+         '--tsconfig=none.json', '--preserve-symlinks', '--minify-whitespace']
+COMMAND = ['--platform=node', '--target=node18', '--format=cjs', '--inject:tools/joined_command.js',
+           '--footer:js=if (require.main === module) module.exports.start();']
+# Faults go from a worker to the page by the names of their classes. esbuild does not say by itself that modules are strict.
+# --minify-syntax would write the line ends of texts as they are, and so the mark before a patcher's data would stand in the script.
+PAGE = ['--target=es2022', '--format=iife', '--minify-identifiers', '--keep-names', "--banner:js='use strict';"]
+# A shell runs the lines to `exec`, which are a comment for node. Node would take a closed stream for an empty one.
+SHELL = f"""\
+#!/bin/sh
+':' /*
+(: 3>&1) 2> /dev/null || {{ echo 'cdscript: standard output is closed' >&2; exit 2; }}
+(: 3<&0) 2> /dev/null || exec < /
+command -v node > /dev/null || {{ echo '{NEEDS}' >&2; exit 2; }}
+exec node "$0" "$@"
+*/;
+'use strict';
+if (Number(process.versions.node.split('.')[0]) < 18) {{
+    process.stderr.write('{NEEDS}, and this is ' + process.versions.node + '\\n');
+    process.exit(2);
+}}
+"""
+CHARSET = '<meta charset="utf-8">'
+ICON = '<link rel="icon" href="icon.svg">'
+STYLE = '<link rel="stylesheet" href="style.css">'
+DATA = '<plaintext hidden id="data">\n'
+END = f'<script type="module" src="main.js"></script>\n{DATA}'
+POLICY_TAG = '<meta http-equiv="Content-Security-Policy" content="'
+POLICY = ("default-src 'none'; script-src '{script}' 'wasm-unsafe-eval'; style-src '{style}'; worker-src blob:; img-src data: blob:; "
+          "connect-src 'none'; form-action 'none'; base-uri 'none'; require-trusted-types-for 'script'; trusted-types cdpatch")
+
+
+def esbuild(*words: str, at: Path = TOOLS) -> str:
+    """What esbuild prints. What it only warns of is a failure too."""
+    try:
+        ran = subprocess.run(['esbuild', *words], stdout=subprocess.PIPE, stderr=subprocess.PIPE, check=False, cwd=at)
+    except FileNotFoundError:
+        sys.exit("pack.py: there is no esbuild (Debian's package esbuild)")
+    if ran.returncode or ran.stderr:
+        sys.exit(f'pack.py: {ran.stderr.decode().strip()}')
+    return ran.stdout.decode()
+
+
+def versions() -> list[str]:
+    return [f'esbuild {esbuild("--version").strip()}', f'zlib {zlib.ZLIB_RUNTIME_VERSION}']
+
+
+def read(path: Path) -> bytes:
+    try:
+        return path.read_bytes()
+    except OSError as error:
+        sys.exit(f'pack.py: {path}: {error.strerror}')
+
+
+def packed(content: bytes) -> bytes:
+    return gzip.compress(content, 9, mtime=0)
+
+
+def command(parts: Path) -> str:
+    return SHELL + esbuild('web/command/main.js', *EVERY, *COMMAND, at=parts)
+
+
+def cut(text: str, line: str) -> list[str]:
+    if text.count(line) != 1:
+        sys.exit(f'pack.py: page.html: {line.strip()} stands there {text.count(line)} times, and not once')
+    return text.split(line)
+
+
+def page_pieces(web: Path) -> list[str]:
+    """What stands before the policy, between it and the style, between that and the script, and after it."""
+    icon = base64.b64encode(read(web / 'page' / 'icon.svg')).decode()
+    text = f'<link rel="icon" href="data:image/svg+xml;base64,{icon}">'.join(cut(read(web / 'page' / 'page.html').decode(), ICON))
+    before, rest = cut(text, CHARSET)
+    to_style, rest = cut(rest, STYLE)
+    to_script, after = cut(rest, END)
+    if after or '<script' in to_style + to_script or '\r' in text:
+        sys.exit('pack.py: page.html: it has another end or another script, or a carriage return')
+    return [f'{before}{CHARSET}\n{POLICY_TAG}', f'">{to_style}<style>', f'</style>{to_script}<script>', f'</script>\n{DATA}']
+
+
+def hash_of(text: str) -> str:
+    return 'sha256-' + base64.b64encode(hashlib.sha256(text.encode()).digest()).decode()
+
+
+def page(parts: Path, made: list[str]) -> str:
+    pieces = page_pieces(parts / 'web')
+    style = esbuild('web/page/style.css', *EVERY, at=parts)
+    policy = POLICY.format(script='{script}', style=hash_of(style))
+    # By this the page makes its own text again. The hash of its script can't stand in the script.
+    own = {'html': pieces, 'policy': policy.split('{script}'), 'made': made,
+           'style': {'size': len(style.encode()), 'sha1': hashlib.sha1(style.encode()).hexdigest()}}
+    (parts / 'own.gz').write_bytes(packed(json.dumps(own, ensure_ascii=False).encode()))
+    (parts / 'worker.txt').write_text(esbuild('web/page/worker.js', *EVERY, *PAGE, at=parts), 'utf-8')
+    script = esbuild('web/page/main.js', *EVERY, *PAGE, '--inject:tools/joined_page.js', at=parts)
+    if any(text in script.lower() + style.lower() for text in ('</script', '</style', '<!--', '\n<plaintext', '\r', '\0', '\ufeff')):
+        sys.exit('pack.py: the script or the style has what could end it, or change on its way')
+    policy = policy.format(script=hash_of(script))
+    whole = f'{pieces[0]}{policy}{pieces[1]}{style}{pieces[2]}{script}{pieces[3]}'
+    if len(whole.encode()) > LARGEST_PAGE:
+        sys.exit(f'pack.py: the page has {len(whole.encode())} bytes, more than {LARGEST_PAGE}')
+    return whole
+
+
+def packed_door(door: str, web: Path, module: Path, notices: Path) -> str:
+    """The file of a door, made in a directory where all that goes in has a name that is always the same."""
+    with tempfile.TemporaryDirectory() as name:
+        parts = Path(name)
+        (parts / 'web').symlink_to(web.resolve())
+        (parts / 'tools').symlink_to(TOOLS)
+        (parts / 'none.json').write_text('{}')
+        (parts / 'module.gz').write_bytes(packed(read(module)))
+        (parts / 'notices.gz').write_bytes(packed(read(notices)))
+        if door == 'command':
+            return command(parts)
+        return page(parts, [*versions(), read(Path(f'{module}.txt')).decode().strip()])
+
+
+def main() -> None:
+    if sys.argv[1:] == ['--versions']:
+        print('\n'.join(versions()))
+        return
+    words = argparse.ArgumentParser(description='Packs a door into one file, by esbuild.')
+    words.add_argument('door', choices=['command', 'page'])
+    words.add_argument('module', type=Path, help='the WebAssembly module')
+    words.add_argument('out', type=Path)
+    words.add_argument('--notices', type=Path)
+    words.add_argument('--web', type=Path, default=TOOLS.parent / 'web')
+    given = words.parse_args()
+    text = packed_door(given.door, given.web, given.module, given.notices or given.module.with_name('NOTICES'))
+    given.out.write_text(text, 'utf-8', newline='\n')
+    if given.door == 'command':
+        given.out.chmod(0o755)
+
+
+if __name__ == '__main__':
+    main()

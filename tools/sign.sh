@@ -1,0 +1,18 @@
+#!/usr/bin/env bash
+# `tools/sign.sh KEY FILE..` signs files with a key of ssh, its private one or the public one of an agent, each beside it as FILE.sig, and
+# checks each signature by the key in tools/owner.txt.
+set -euo pipefail
+key=$(realpath "$1")
+shift
+signers=$(mktemp)
+trap 'rm -f "$signers"' EXIT
+printf 'cdpatch %s\n' "$(bash "$(dirname "$0")/owner.sh" key)" > "$signers"
+rm -f "${@/%/.sig}"
+for file; do
+    ssh-keygen -q -Y sign -f "$key" -n file "$file"
+    ssh-keygen -Y verify -f "$signers" -I cdpatch -n file -s "$file.sig" < "$file" || {
+        rm -f "$file.sig"
+        echo "The key of $key is not the one in tools/owner.txt." >&2
+        exit 1
+    }
+done

@@ -1,0 +1,277 @@
+// The job `scan`: what is in each image of a collection, a line for each as it is done.
+
+import { closeSync, ftruncateSync, openSync, readFileSync, readdirSync, realpathSync, statSync } from 'node:fs';
+import { cpus } from 'node:os';
+import { basename, dirname, join } from 'node:path';
+import { bytesOfLines } from '../core/bytes.js';
+import { sheetOf } from '../core/cue.js';
+import { Fault } from '../core/faults.js';
+import { textOfFile } from '../core/text.js';
+import { reasonOf, tryFile } from './failures.js';
+import { writeFully } from './new_file.js';
+import { SCANNING, scanOne } from './scan_thread.js';
+import { begunThread } from './threads.js';
+
+/** @typedef {import('../core/dat.js').KnownDumps} KnownDumps */
+/** @typedef {import('./run.js').Run} Run */
+/** @typedef {import('./run.js').Target} Target */
+/** @typedef {import('./scan_thread.js').Answer} Answer */
+/** @typedef {import('./scan_thread.js').Scanned} Scanned */
+/** @typedef {{ scan(name: string): Promise<Answer>, close(): void }} Scanner */
+
+/**
+ * A name as a list has it: no two names are the same there, and none has a tab or a line end.
+ * @param {string} name
+ */
+function listedName(name) {
+    const digits = (/** @type {string} */ it) => (it.codePointAt(0) || 0).toString(16);
+    return name.replace(/[\p{C}\p{Zl}\p{Zp}\\]/gu, it => it === '\\' ? '\\\\' : `\\u{${digits(it)}}`);
+}
+
+/** A list that goes on where an earlier run was interrupted. It has whole lines only, whatever happens. */
+class ResumedList {
+    /** @param {string} name */
+    constructor(name) {
+        this.name = name;
+        this.descriptor = openSync(name, 'a+');
+        const bytes = readFileSync(name);
+        this.size = bytes.lastIndexOf(0x0A) + 1;
+        ftruncateSync(this.descriptor, this.size);
+        const rows = new TextDecoder().decode(bytes.subarray(0, this.size)).split('\n').map(line => line.split('\t'));
+        /** The names of what was done. */
+        this.done = new Set(rows.map(([done]) => done));
+        this.hasFindings = rows.some(([,,, findings]) => Number(findings) > 0);
+    }
+
+    /** @param {Uint8Array} bytes of whole lines */
+    async write(bytes) {
+        await tryFile('write', this.name, () => {
+            try {
+                writeFully(this.descriptor, bytes);
+                this.size += bytes.length;
+            } catch (error) {
+                ftruncateSync(this.descriptor, this.size);
+                throw error;
+            }
+        });
+    }
+
+    close() {
+        closeSync(this.descriptor);
+    }
+}
+
+/** What is looked at, each once: by the paths that were given, directories and all below them in the order of their names. */
+class Collection {
+    /** @param {(text: string) => void} fault */
+    constructor(fault) {
+        this.fault = fault;
+        /** @type {Map<string, { name: string, isNamed: boolean }>} by the real path */
+        this.found = new Map();
+    }
+
+    /** @param {string} path that was given */
+    add(path) {
+        this.tried(path, () => statSync(path).isDirectory() ? this.addAll(path) : this.addFile(path, true));
+    }
+
+    /** @param {string} directory */
+    addAll(directory) {
+        const entries = readdirSync(directory, { withFileTypes: true }).sort((a, b) => Number(a.name > b.name) - Number(a.name < b.name));
+        for (const entry of entries) {
+            const path = join(directory, entry.name);
+            // A link to a directory could lead round.
+            if (entry.isDirectory()) this.tried(path, () => this.addAll(path));
+            else if (entry.isFile() || entry.isSymbolicLink()) this.tried(path, () => statSync(path).isFile() && this.addFile(path, false));
+        }
+    }
+
+    /**
+     * @param {string} name
+     * @param {boolean} isNamed whether it was given by its name
+     */
+    addFile(name, isNamed) {
+        const real = realpathSync(name);
+        if (!this.found.has(real)) this.found.set(real, { name, isNamed });
+    }
+
+    /**
+     * @param {string} path
+     * @param {() => void} tried
+     */
+    tried(path, tried) {
+        try {
+            tried();
+        } catch (error) {
+            if (error instanceof Fault) throw error;
+            this.fault(`cannot read ${path}: ${reasonOf(error)}`);
+        }
+    }
+
+    /** Cue sheets first, so that what they name is not looked at twice. */
+    names() {
+        return [...this.found.values()].sort((a, b) => Number(isSheet(b.name)) - Number(isSheet(a.name)));
+    }
+}
+
+/** @returns {Scanner} a thread that looks into images; without threads this one does */
+function newScanner() {
+    const thread = begunThread(SCANNING);
+    /** @type {(answer: Answer) => void} */
+    let settle = () => {};
+    const failed = (/** @type {unknown} */ error) =>
+        settle({ files: [], missing: [], fault: `a fault in cdscript itself: ${error}`, isOther: false });
+    if (thread) thread.worker.on('message', answer => settle(answer));
+    if (thread) thread.worker.on('error', failed);
+    return {
+        async scan(name) {
+            if (thread === null || !await thread.begun) return scanOne(name);
+            return new Promise(resolve => {
+                settle = resolve;
+                thread.worker.postMessage(name, []);
+            });
+        },
+        close: () => void (thread && thread.worker.terminate()),
+    };
+}
+
+/** What was found in a collection so far. */
+class Scan {
+    /**
+     * @param {Run} run
+     * @param {Target} target
+     * @param {KnownDumps | null} known
+     * @param {Set<string>} done the names in a list that goes on
+     */
+    constructor(run, target, known, done) {
+        this.run = run;
+        this.target = target;
+        this.known = known;
+        this.done = done;
+        this.others = 0;
+        this.status = 0;
+        /** The real paths of files that were told. */
+        this.told = new Set();
+    }
+
+    /** @param {string} text */
+    fault(text) {
+        this.status = 2;
+        this.run.say(text);
+    }
+
+    /**
+     * @param {{ name: string, isNamed: boolean }} wanted
+     * @param {Answer} answer
+     */
+    async tell({ isNamed }, { files, missing, fault, isOther }) {
+        if (isOther && !isNamed) this.others += 1;
+        else if (fault !== '') this.fault(fault);
+        missing.forEach(text => this.fault(text));
+        const fresh = files.filter(({ name }) => !this.told.has(realName(name)));
+        fresh.forEach(({ name }) => this.told.add(realName(name)));
+        const lines = fresh.filter(({ name }) => !this.done.has(listedName(name))).map(it => this.line(it));
+        if (fresh.some(({ findings }) => findings > 0)) this.status = Math.max(this.status, 1);
+        if (lines.length > 0) await this.target.write(bytesOfLines(lines));
+        this.run.output.flush();
+    }
+
+    /** @param {Scanned} file */
+    line({ name, kinds, damaged, findings, elsewhere, size, sha1 }) {
+        const said = this.known && this.known.said(size, sha1);
+        return [listedName(name), kinds, damaged, findings, elsewhere, sha1, said ? listedName(said) : '-'].join('\t');
+    }
+
+    /**
+     * Whether nothing of a file is left to tell: it is in the list, or a sheet has named it.
+     * @param {string} name
+     */
+    isTold(name) {
+        return this.done.has(listedName(name)) || this.told.has(realName(name));
+    }
+
+    /**
+     * Whether all files that a sheet names are in the list. They are told then, as by a run that was not interrupted.
+     * @param {string} name
+     */
+    isSheetTold(name) {
+        const named = this.done.size > 0 && isSheet(name) ? filesNamedBy(name) : [];
+        if (named.length === 0 || !named.every(it => this.done.has(listedName(it)))) return false;
+        named.forEach(it => this.told.add(realName(it)));
+        return true;
+    }
+}
+
+/** @param {string} name */
+function isSheet(name) {
+    return /\.cue$/i.test(name);
+}
+
+/**
+ * The files that a sheet names, beside it; none if it can't be read, which is said when it is looked at.
+ * @param {string} name
+ */
+function filesNamedBy(name) {
+    try {
+        return sheetOf(textOfFile(readFileSync(name))).files.map(file => join(dirname(name), basename(file.name.replace(/\\/g, '/'))));
+    } catch {
+        return [];
+    }
+}
+
+/** @param {string} name of a file that may be gone */
+function realName(name) {
+    try {
+        return realpathSync(name);
+    } catch {
+        return name;
+    }
+}
+
+/**
+ * @param {Run} run
+ * @returns {Promise<ResumedList | null>}
+ */
+async function resumedList(run) {
+    const { resume, output } = run.options;
+    if (resume === undefined) return null;
+    if (output !== undefined) throw new Fault('--resume and -o exclude each other');
+    return tryFile('open', resume, () => new ResumedList(resume));
+}
+
+/** @param {Run} run */
+export async function scanJob(run) {
+    const known = await run.knownDumps();
+    const list = await resumedList(run);
+    const scan = new Scan(run, list || await run.target(), known, list ? list.done : new Set());
+    if (list && list.hasFindings) scan.status = 1;
+    const collection = new Collection(text => scan.fault(text));
+    run.names.forEach(path => collection.add(path));
+    const names = collection.names();
+    const sheets = names.filter(({ name }) => isSheet(name));
+    try {
+        for (const some of [sheets, names.slice(sheets.length)]) await scanAll(scan, some);
+    } finally {
+        if (list) list.close();
+    }
+    if (scan.others > 0) run.say(`files that are no raw images: ${scan.others}`);
+    return scan.status;
+}
+
+/**
+ * @param {Scan} scan
+ * @param {{ name: string, isNamed: boolean }[]} names
+ */
+async function scanAll(scan, names) {
+    const left = names.values();
+    const scanners = Array.from({ length: Math.min(cpus().length || 1, names.length) }, newScanner);
+    try {
+        await Promise.all(scanners.map(async scanner => {
+            for (const wanted of left) {
+                if (!scan.isTold(wanted.name) && !scan.isSheetTold(wanted.name)) await scan.tell(wanted, await scanner.scan(wanted.name));
+            }
+        }));
+    } finally {
+        scanners.forEach(scanner => scanner.close());
+    }
+}

@@ -1,0 +1,52 @@
+// What a word that is not known may have been meant to be.
+
+/** So many letters may be wrong, missing or too many. */
+const MOST_WRONG = 2;
+
+/** Longer words are not compared: they take too long, and nobody mistypes them so. */
+const LONGEST_COMPARED = 256;
+
+/**
+ * How many letters have to be changed, taken out, put in or exchanged with the next one to make a word another.
+ * @param {string} one
+ * @param {string} other
+ */
+function distance(one, other) {
+    let [before, last] = [/** @type {number[]} */ ([]), Array.from({ length: other.length + 1 }, (_, k) => k)];
+    for (let i = 1; i <= one.length; i++) {
+        const row = [i];
+        for (let k = 1; k <= other.length; k++) {
+            const changed = last[k - 1] + Number(one[i - 1] !== other[k - 1]);
+            const isExchanged = i > 1 && k > 1 && one[i - 1] === other[k - 2] && one[i - 2] === other[k - 1];
+            row[k] = Math.min(changed, last[k] + 1, row[k - 1] + 1, isExchanged ? before[k - 2] + 1 : Infinity);
+        }
+        [before, last] = [last, row];
+    }
+    return last[other.length];
+}
+
+/**
+ * The one of some words that another one was probably meant to be, or null: the same in capitals or not, or with a letter or two wrong.
+ * @param {string} word
+ * @param {Iterable<string>} known
+ */
+export function nearest(word, known) {
+    const plain = word.toLowerCase();
+    let [best, least] = [/** @type {string | null} */ (null), Math.min(MOST_WRONG, Math.floor(word.length / 2)) + 1];
+    for (const it of known) {
+        if (Math.abs(it.length - word.length) > MOST_WRONG || word.length > LONGEST_COMPARED) continue;
+        const wrong = it.toLowerCase() === plain ? 0 : distance(plain, it.toLowerCase());
+        if (wrong < least) [best, least] = [it, wrong];
+    }
+    return best;
+}
+
+/**
+ * A question at the end of a message, '' if nothing is near.
+ * @param {string} word
+ * @param {Iterable<string>} known
+ */
+export function didYouMean(word, known) {
+    const meant = nearest(word, known);
+    return meant === null ? '' : `; did you mean ${meant}?`;
+}

@@ -1,0 +1,138 @@
+// What is found in the files of a disc: in the sectors of its data tracks, and the SHA-1 of each file.
+
+import { createHash } from 'node:crypto';
+import { readBytes } from '../core/bytes.js';
+import { MODE1, holesOf, mode1Tracks, otherRuns } from '../core/holes.js';
+import { sectorCount } from '../core/sector.js';
+import { surveyCounts } from '../core/survey.js';
+import { openTrack, sayUnknownBase } from './opening.js';
+import { begunThread } from './threads.js';
+
+/** @typedef {import('../core/bytes.js').Reader} Reader */
+/** @typedef {import('../core/disc.js').Disc} Disc */
+/** @typedef {import('../core/disc.js').DiscFile} DiscFile */
+/** @typedef {import('../core/disc.js').DiscImage} DiscImage */
+/** @typedef {import('../core/runs.js').Run} BlockRun */
+/** @typedef {import('../core/survey.js').Survey} Survey */
+/** @typedef {import('./run.js').Run} Run */
+/**
+ * A track; whether `image` is all of its file; and the tracks that a sheet says are Mode 1 in it.
+ * @typedef {{ number: number, file: number, image: DiscImage, isWhole: boolean, mode1Tracks: BlockRun[] | null }} Surveyed
+ */
+/** @typedef {ReturnType<typeof surveyCounts> & { survey: Survey, holes: BlockRun[], long: BlockRun[] }} Counted */
+/** @typedef {{ file: DiscFile, sha1: string, surveys: (Surveyed & Counted)[] }} FileFound a file of a disc, and what is found in it */
+
+/** So many bytes are hashed at a time. */
+const HASHED = 1 << 22;
+
+/**
+ * A reader that hashes what it is read, which has to be all bytes, one after the other; and its SHA-1, after what was not read yet.
+ * @param {Reader} reader
+ * @returns {Reader & { digest(): Promise<string> }}
+ */
+function hashing(reader) {
+    const { size } = reader;
+    const hash = createHash('sha1');
+    let hashed = 0;
+    return {
+        size,
+        async read(at, length) {
+            const bytes = await reader.read(at, length);
+            if (at !== hashed) throw new RangeError(`byte ${at} after ${hashed} bytes`);
+            hash.update(bytes);
+            hashed += bytes.length;
+            return bytes;
+        },
+        async digest() {
+            while (hashed < size) await readBytes(this, hashed, Math.min(HASHED, size - hashed));
+            return hash.digest('hex');
+        },
+    };
+}
+
+/**
+ * What is found in an image.
+ * @param {Run} run
+ * @param {Surveyed} surveyed
+ * @param {Reader} reader of the image
+ * @returns {Promise<Counted>}
+ */
+async function counted(run, { image, mode1Tracks: tracks }, reader) {
+    const survey = await run.survey(reader, image.base);
+    const blocks = { first: image.base, last: image.base + image.sectors - 1 };
+    return { survey, ...surveyCounts(survey), ...holesOf(otherRuns(survey), blocks, tracks) };
+}
+
+/**
+ * The tracks of a disc that are surveyed, and what of each: the whole image that it lies in. But if the addresses of several tracks in
+ * one file count from different blocks, each track is surveyed by itself.
+ * @param {Run} run
+ * @param {Disc} disc
+ * @returns {Promise<Surveyed[]>}
+ */
+async function surveyedTracks(run, disc) {
+    const tracks = disc.tracks.filter(({ image }) => image !== null);
+    const { track: number, base } = run.options;
+    if (tracks.length < 2 || number !== undefined || base !== undefined) {
+        if (tracks.length === 0) return [];
+        const { track, image } = await openTrack(run, run.names[0], true);
+        return [{ number: track.number, file: track.file, image, isWhole: true, mode1Tracks: mode1Tracks(disc, track.file, image.base) }];
+    }
+    const surveyed = tracks.flatMap(({ number: own, file, type, image, part }, i) => {
+        if (image === null || part === null) return [];
+        const others = tracks.filter(it => it.file === file);
+        const isWhole = others.every(it => it.image?.base === image.base);
+        const own1 = type === MODE1 ? [{ first: part.base, last: part.base + part.sectors - 1 }] : [];
+        const own2 = isWhole ? mode1Tracks(disc, file, image.base) : own1;
+        const isLater = isWhole && tracks.findIndex(it => it.file === file) < i;
+        return isLater ? [] : [{ number: own, file, image: isWhole ? image : part, isWhole, mode1Tracks: own2 }];
+    });
+    surveyed.forEach(({ image }) => sayUnknownBase(run, image));
+    return surveyed;
+}
+
+/**
+ * Whether a file is hashed while others look at its sectors.
+ * @param {Run} run
+ * @param {Reader} reader
+ */
+function isHashedBeside(run, reader) {
+    return Boolean(reader.lent) && run.crew.hasThreads(sectorCount(reader.size));
+}
+
+/**
+ * The SHA-1 of a file by a thread of its own, which reads for itself; null if there is none, or it could not.
+ * @param {Run} run
+ * @param {Reader} reader
+ * @returns {Promise<string | null>}
+ */
+function hashedBeside(run, reader) {
+    const lent = isHashedBeside(run, reader) && reader.lent ? reader.lent(0, reader.size) : null;
+    const thread = lent === null ? null : begunThread({ hashing: lent });
+    if (thread === null) return Promise.resolve(null);
+    return new Promise(resolve => {
+        thread.worker.on('message', resolve);
+        thread.worker.on('error', () => resolve(null));
+    });
+}
+
+/**
+ * What is found in each file of a disc.
+ * @param {Run} run
+ * @param {Disc} disc
+ * @returns {Promise<FileFound[]>}
+ */
+export async function foundInFiles(run, disc) {
+    const surveyed = await surveyedTracks(run, disc);
+    const found = [];
+    for (const [i, file] of disc.files.entries()) {
+        const own = surveyed.filter(it => it.file === i);
+        const beside = own.length > 0 ? hashedBeside(run, file.reader) : Promise.resolve(null);
+        const isBeside = isHashedBeside(run, file.reader);
+        const hashed = hashing(file.reader);
+        const surveys = [];
+        for (const it of own) surveys.push({ ...it, ...await counted(run, it, it.isWhole && !isBeside ? hashed : it.image.reader) });
+        found.push({ file, sha1: await beside || await hashed.digest(), surveys });
+    }
+    return found;
+}

@@ -1,0 +1,13 @@
+// Big5 with the rows that ETEN has added, as Taiwan writes it. What Hong Kong has before A1 and after F9 is not in it.
+
+import { numbersOf, pairsOf } from './characters.js';
+import { TableEncoding } from './encoding.js';
+import { addStandard } from './standard.js';
+
+/** Of a character with two codes the first is the usual one, but for these numerals, which are kanji too. */
+const NUMERALS = [0xA2CC, 0xA2CE];
+const CODES = pairsOf(numbersOf([0xA1, 0xF9]), numbersOf([0x40, 0x7E], [0xA1, 0xFE]));
+
+export const BIG5 = new TableEncoding({ name: 'Big5', aliases: ['CP950', 'MS950'] }, table => {
+    addStandard(table, 'big5', [...CODES.filter(code => !NUMERALS.includes(code)), ...NUMERALS]);
+});

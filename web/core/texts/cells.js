@@ -1,0 +1,54 @@
+// Tables as spreadsheets save them, with tabs, commas or semicolons between cells.
+
+/**
+ * The end of a cell in quotes, after its last quote, or -1 if it is none: then its quotes are part of it.
+ * @param {string} text
+ * @param {number} at its first quote
+ * @param {string} mark what stands between cells
+ */
+function endOfQuoted(text, at, mark) {
+    let end = text.indexOf('"', at + 1);
+    while (end >= 0 && text[end + 1] === '"') end = text.indexOf('"', end + 2);
+    if (end < 0) return -1;
+    return end + 1 === text.length || [mark, '\r', '\n'].includes(text[end + 1]) ? end + 1 : -1;
+}
+
+/**
+ * The cells of a table, row by row, each with the number of its row from 1. In quotes a cell may have line ends, and two quotes for one.
+ * @param {string} text
+ * @returns {Generator<{ number: number, cells: string[] }>}
+ */
+export function* rowsOf(text) {
+    const [head] = /^.*/.exec(text) || [''];
+    const mark = ['\t', ',', ';'].find(it => head.includes(it)) || '\t';
+    const plain = new RegExp(`[^${mark}\\r\\n]*`, 'y');
+    let number = 1;
+    /** @type {string[]} */
+    let cells = [];
+    for (let at = 0; at < text.length;) {
+        const quoted = text[at] === '"' ? endOfQuoted(text, at, mark) : -1;
+        plain.lastIndex = at;
+        const cell = quoted < 0 ? (plain.exec(text) || [''])[0] : text.slice(at + 1, quoted - 1).replace(/""/g, '"');
+        cells.push(cell);
+        at = quoted < 0 ? at + cell.length : quoted;
+        if (text[at] === mark) {
+            at += 1;
+            if (at < text.length && !/[\r\n]/.test(text[at])) continue;
+            cells.push('');
+        }
+        at += text.startsWith('\r\n', at) ? 2 : 1;
+        yield { number, cells };
+        number += 1;
+        cells = [];
+    }
+}
+
+/**
+ * A row of a table, with a line end.
+ * @param {(string | number)[]} cells
+ * @param {string} mark what stands between them: for a comma they are in quotes if they have to be
+ */
+export function rowText(cells, mark) {
+    const shown = cells.map(cell => mark === ',' && /[",\r\n]/.test(String(cell)) ? `"${String(cell).replace(/"/g, '""')}"` : String(cell));
+    return `${shown.join(mark)}${mark === ',' ? '\r\n' : '\n'}`;
+}

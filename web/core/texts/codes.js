@@ -1,0 +1,31 @@
+// Texts in the cells of a table, in which bytes that are no plain character stand as codes, as {00}.
+
+import { charactersFrom } from './boundaries.js';
+import { bytesOfHex, hexText } from './hex.js';
+
+/** @typedef {import('./encoding.js').Encoding} Encoding */
+
+const CODE = /\{((?:[0-9A-Fa-f]{2})+)\}/;
+
+/**
+ * The parts of a cell, as `Encoding.units` gives them; a code is its bytes. Throws a TextFault that names a character without bytes.
+ * @param {Encoding} encoding
+ * @param {string} cell
+ */
+export function unitsOfCell(encoding, cell) {
+    return cell.split(CODE).flatMap((part, i) => i % 2 === 1 ? [[bytesOfHex(part)]] : encoding.units(part));
+}
+
+/**
+ * The cell of bytes. A brace is a code too, and a quote at the beginning, which a spreadsheet would take away.
+ * @param {Encoding} encoding
+ * @param {Uint8Array} bytes
+ */
+export function cellOf(encoding, bytes) {
+    const parts = [];
+    for (const { at, size, text } of charactersFrom(encoding, bytes)) {
+        const plain = !/[\p{C}\u2028\u2029\uFFFD{}]/u.test(text) && !(at === 0 && text === '"');
+        parts.push(plain ? text : `{${hexText(bytes.subarray(at, at + size))}}`);
+    }
+    return parts.join('');
+}

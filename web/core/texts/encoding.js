@@ -1,0 +1,111 @@
+// What an encoding is, and what can be said of each by what it has.
+
+import { joinedBytes } from '../bytes.js';
+import { CharacterTable, TextFault } from './characters.js';
+
+/**
+ * One way to write texts. Options take `name` and `aliases`, in capitals or not; lists show `label`; and `find` tries it by itself if it
+ * is `searched`. `space` and `wideSpace` are the texts that may fill up a shorter one, '' if it has none. `units` cuts texts into parts and
+ * gives the bytes of each, first as they are usually written, then in other ways that are read as the same; `text` reads bytes, with
+ * U+FFFD for a byte that begins no character. `lengthAt` says how many bytes the character at a place has, and `goesOn` whether a
+ * character may have bytes after one like this.
+ * @typedef {{ name: string, label: string, aliases: string[], searched: boolean, space: string, wideSpace: string,
+ *     units: (text: string) => Uint8Array[][], text: (bytes: Uint8Array) => string,
+ *     lengthAt: (bytes: Uint8Array, at: number) => number, goesOn: (byte: number) => boolean }} Encoding
+ */
+/** @typedef {{ name: string, label?: string, aliases?: string[], searched?: boolean }} Names what an encoding is called */
+
+export const SPACES = { space: ' ', wideSpace: '\u3000' };
+
+/** An encoding by a table of characters, which is made when it is first needed. */
+export class TableEncoding {
+    /**
+     * @param {Names} names
+     * @param {(table: CharacterTable) => void} fill
+     */
+    constructor({ name, label = name, aliases = [], searched = false }, fill) {
+        this.name = name;
+        this.label = label;
+        this.aliases = aliases;
+        this.searched = searched;
+        this.space = SPACES.space;
+        this.wideSpace = SPACES.wideSpace;
+        this.fill = fill;
+        this.made = /** @type {CharacterTable | null} */ (null);
+    }
+
+    get table() {
+        if (this.made === null) {
+            this.made = new CharacterTable(this.name);
+            this.fill(this.made);
+        }
+        return this.made;
+    }
+
+    /** @param {string} text */
+    units(text) {
+        return this.table.units(text);
+    }
+
+    /** @param {Uint8Array} bytes */
+    text(bytes) {
+        return this.table.text(bytes);
+    }
+
+    /**
+     * @param {Uint8Array} bytes
+     * @param {number} at
+     */
+    lengthAt(bytes, at) {
+        return this.table.lengthAt(bytes, at);
+    }
+
+    /** @param {number} byte */
+    goesOn(byte) {
+        return this.table.goesOn(byte);
+    }
+}
+
+/**
+ * The bytes of a text, each part in its usual spelling. Throws a TextFault that names the first character without bytes.
+ * @param {Encoding} encoding
+ * @param {string} text
+ */
+export function encodeText(encoding, text) {
+    return joinedBytes(encoding.units(text).map(([usual]) => usual));
+}
+
+/**
+ * The bytes of a text, or null if a character has none.
+ * @param {Encoding} encoding
+ * @param {string} text
+ */
+function bytesIfAny(encoding, text) {
+    try {
+        return text === '' ? null : encodeText(encoding, text);
+    } catch (error) {
+        if (error instanceof TextFault) return null;
+        throw error;
+    }
+}
+
+/**
+ * What fills up a shorter text if nothing else is asked for, or null if the encoding has no space.
+ * @param {Encoding} encoding
+ */
+export function spaceIn(encoding) {
+    return bytesIfAny(encoding, encoding.space);
+}
+
+/**
+ * What may fill up a shorter text: the spaces that the encoding has, and 00.
+ * @param {Encoding} encoding
+ */
+export function fillsOf(encoding) {
+    const fills = [];
+    for (const [text, name] of [[encoding.space, 'space'], [encoding.wideSpace, 'wide space']]) {
+        const bytes = bytesIfAny(encoding, text);
+        if (bytes !== null) fills.push({ bytes, name: /\S/.test(text) ? '' : name });
+    }
+    return fills.some(({ bytes }) => bytes.every(byte => byte === 0)) ? fills : [...fills, { bytes: Uint8Array.of(0), name: '' }];
+}

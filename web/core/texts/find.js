@@ -1,0 +1,273 @@
+// Search over the user data of sectors, of any kind. A hit may lie over borders of sectors, and of the ranges that workers share.
+
+import { joinedBytes } from '../bytes.js';
+import { USER_SIZE, asWords, joinedUser, sectorCount } from '../sector.js';
+
+/** How many bytes of a range are counted to know which are rare, and how many of the wanted ones are weighed. */
+const SAMPLES = 4000;
+const MOST_OPENINGS = 64;
+
+/** So many tries that failed are kept. */
+const KEPT_TRIES = 1 << 16;
+
+/** A part with more spellings looks the bytes at a place up, and does not compare them with each. */
+const FEW_SPELLINGS = 16;
+
+/** The user data of a range stand here until the next one: fresh memory costs more than the copy. */
+let room = new Uint8Array(0);
+
+/**
+ * What is searched for: a text's parts in order, each in one of its spellings, as Encoding.units gives them.
+ * @typedef {Uint8Array[][]} Wanted
+ */
+/** @typedef {{ block: number, offset: number, size: number }} Hit the user byte at which it begins, and how many bytes it has */
+/** @typedef {{ count: number, hits: Hit[] }} Found how many there are, and the first of them */
+/** @typedef {{ count: number, limit: number }} Limits in how many sectors hits begin, and how many hits are kept */
+
+/**
+ * How many sectors after a range the search has to see, so that no hit that begins in the range is missed.
+ * @param {Wanted} wanted
+ */
+export function sectorsBeyond(wanted) {
+    const longest = wanted.reduce((sum, unit) => sum + Math.max(...unit.map(bytes => bytes.length)), 0);
+    return Math.ceil(Math.max(longest - 1, 0) / USER_SIZE);
+}
+
+/**
+ * The hits of each text that begin in the first `count` sectors of raw bytes: all are counted, and the first `limit` are kept. The bytes
+ * have `sectorsBeyond` sectors more, or as many as the image has. Hits may overlap; a place counts once.
+ * @param {Uint8Array} bytes of whole raw sectors
+ * @param {number} firstBlock
+ * @param {{ texts: Wanted[] } & Limits} args
+ */
+export function findIn(bytes, firstBlock, { texts, ...limits }) {
+    const size = sectorCount(bytes.length) * USER_SIZE;
+    if (room.length < size) room = new Uint8Array(size);
+    const user = joinedUser(bytes, room.subarray(0, size));
+    return texts.map(wanted => findInUser(user, firstBlock, joinedParts(wanted), limits));
+}
+
+/**
+ * @param {Uint8Array} user
+ * @param {number} firstBlock
+ * @param {Wanted} parts
+ * @param {Limits} limits
+ * @returns {Found}
+ */
+function findInUser(user, firstBlock, parts, { count, limit }) {
+    const end = parts.length > 0 ? Math.min(user.length, count * USER_SIZE) : 0;
+    const anchor = anchorOf(parts, user);
+    const matching = new Matching(parts, user);
+    /** @type {Found} */
+    const found = { count: 0, hits: [] };
+    for (let at = nextStart(anchor, user, 0); at < end; at = nextStart(anchor, user, at + 1)) {
+        const stop = matching.end(0, at);
+        if (stop < 0) continue;
+        found.count += 1;
+        if (found.hits.length < limit) found.hits.push(hitAt(firstBlock, at, stop));
+    }
+    return found;
+}
+
+/**
+ * The hits of several ranges as those of one.
+ * @param {Found[]} parts in the order of their blocks
+ * @param {number} limit
+ * @returns {Found}
+ */
+export function joinFound(parts, limit) {
+    return { count: parts.reduce((sum, part) => sum + part.count, 0), hits: parts.flatMap(part => part.hits).slice(0, limit) };
+}
+
+/**
+ * @param {number} firstBlock
+ * @param {number} at
+ * @param {number} stop
+ */
+function hitAt(firstBlock, at, stop) {
+    return { block: firstBlock + Math.floor(at / USER_SIZE), offset: at % USER_SIZE, size: stop - at };
+}
+
+/**
+ * What is wanted, with neighbours of one spelling each as one part.
+ * @param {Wanted} wanted
+ */
+function joinedParts(wanted) {
+    /** @type {Uint8Array[][]} */
+    const parts = [];
+    for (let i = 0; i < wanted.length;) {
+        let next = i + 1;
+        while (wanted[i].length === 1 && next < wanted.length && wanted[next].length === 1) next += 1;
+        parts.push(next > i + 1 ? [joinedBytes(wanted.slice(i, next).map(([only]) => only))] : wanted[i]);
+        i = next;
+    }
+    return parts;
+}
+
+/**
+ * The byte to look for first: which values it may have, and its distance from the beginning of a hit. Of all that have one
+ * distance it is the one that is rarest here. If it is rare and has one value, `only` is that, which is found fastest, in `words`.
+ * @param {Wanted} parts
+ * @param {Uint8Array} user
+ */
+function anchorOf(parts, user) {
+    const counts = new Float64Array(256);
+    const step = Math.floor(user.length / SAMPLES) + 1;
+    for (let at = 0; at < user.length; at += step) counts[user[at]] += 1;
+    const rarity = openings(parts).map(values => values.reduce((sum, value) => sum + counts[value], 0));
+    const distance = rarity.indexOf(Math.min(...rarity));
+    const values = openings(parts)[distance] || [];
+    const rare = rarity[distance] * step < user.length / 32;
+    return {
+        distance,
+        only: rare && values.length === 1 ? values[0] : -1,
+        words: asWords(user),
+        values: Uint8Array.from(counts, (_, value) => Number(values.includes(value))),
+    };
+}
+
+/**
+ * The values that the first bytes of a hit may have, as far as they have one distance from its beginning, and a few at most.
+ * @param {Wanted} parts
+ */
+function openings(parts) {
+    /** @type {number[][]} */
+    const values = [];
+    for (const part of parts) {
+        const lengths = part.map(bytes => bytes.length);
+        const shortest = Math.min(...lengths, MOST_OPENINGS - values.length);
+        for (let k = 0; k < shortest; k++) values.push([...new Set(part.map(bytes => bytes[k]))]);
+        if (lengths.some(length => length !== shortest)) break;
+    }
+    return values;
+}
+
+/**
+ * The next place from `at` on where a hit may begin, or one at which none fits in.
+ * @param {ReturnType<typeof anchorOf>} anchor
+ * @param {Uint8Array} user
+ * @param {number} at
+ */
+function nextStart({ distance, only, values, words }, user, at) {
+    let found = at + distance;
+    if (only >= 0) return placeOf(user, words, only, found) - distance;
+    while (found < user.length && values[user[found]] === 0) found += 1;
+    return found - distance;
+}
+
+/**
+ * The first place of a value from a place on, or one that is not before the end: by 16 bytes at a time, which is faster than `indexOf`.
+ * @param {Uint8Array} user whole sectors of it
+ * @param {Int32Array} words the same bytes
+ * @param {number} value
+ * @param {number} from
+ */
+function placeOf(user, words, value, from) {
+    const four = Math.imul(value, 0x01010101);
+    let at = from;
+    while (at < user.length) {
+        for (const border = (at | 15) + 1; at < border; at++) {
+            if (user[at] === value) return at;
+        }
+        for (; at < user.length; at += 16) {
+            const i = at >> 2;
+            const found = zeroByte(words[i] ^ four) | zeroByte(words[i + 1] ^ four);
+            if ((found | zeroByte(words[i + 2] ^ four) | zeroByte(words[i + 3] ^ four)) !== 0) break;
+        }
+    }
+    return at;
+}
+
+/**
+ * 0 if no byte of a word is 0.
+ * @param {number} word
+ */
+function zeroByte(word) {
+    return (word - 0x01010101) & ~word & 0x80808080;
+}
+
+/**
+ * Where parts end that stand at a place, or -1.
+ * @param {Wanted} parts
+ * @param {Uint8Array} bytes
+ * @param {number} at
+ */
+export function endOfMatch(parts, bytes, at) {
+    return new Matching(parts, bytes).end(0, at);
+}
+
+/** Where parts end that stand at places. A try that failed is not made again, so that spellings of several lengths take no longer. */
+class Matching {
+    /**
+     * @param {Wanted} parts
+     * @param {Uint8Array} user
+     */
+    constructor(parts, user) {
+        this.parts = parts;
+        this.user = user;
+        this.indexes = parts.map(part => part.length > FEW_SPELLINGS ? indexOf(part) : null);
+        const isOneLength = parts.every(part => part.every(bytes => bytes.length === part[0].length));
+        /** Of some tries that failed the part and the place, as one number. The last ones are kept. */
+        this.failed = new Float64Array(isOneLength ? 0 : KEPT_TRIES);
+    }
+
+    /**
+     * Where the parts from part `i` on end if they stand at a place, or -1.
+     * @param {number} i
+     * @param {number} at
+     * @returns {number}
+     */
+    end(i, at) {
+        const { parts, user, failed } = this;
+        if (i === parts.length) return at;
+        const [first] = parts[i];
+        if (parts[i].length === 1) return standsAt(first, user, at) ? this.end(i + 1, at + first.length) : -1;
+        const attempt = at * parts.length + i + 1;
+        if (failed[attempt % KEPT_TRIES] === attempt) return -1;
+        const index = this.indexes[i];
+        for (const bytes of index === null ? parts[i] : lookedUp(index, user, at)) {
+            const stop = standsAt(bytes, user, at) ? this.end(i + 1, at + bytes.length) : -1;
+            if (stop >= 0) return stop;
+        }
+        failed[attempt % KEPT_TRIES] = attempt;
+        return -1;
+    }
+}
+
+/** @param {Uint8Array} bytes */
+function keyOf(bytes) {
+    return String.fromCharCode(...bytes);
+}
+
+/**
+ * The spellings of a part, each with its place among them, by their bytes; and their lengths.
+ * @param {Uint8Array[]} part
+ */
+function indexOf(part) {
+    const entries = new Map(part.map((bytes, place) => [keyOf(bytes), { bytes, place }]));
+    return { entries, lengths: [...new Set(part.map(bytes => bytes.length))] };
+}
+
+/**
+ * The spellings that stand at a place, in their order.
+ * @param {ReturnType<typeof indexOf>} index
+ * @param {Uint8Array} user
+ * @param {number} at
+ */
+function lookedUp({ entries, lengths }, user, at) {
+    const found = lengths.flatMap(length => entries.get(keyOf(user.subarray(at, at + length))) || []);
+    return found.sort((a, b) => a.place - b.place).map(({ bytes }) => bytes);
+}
+
+/**
+ * @param {Uint8Array} bytes
+ * @param {Uint8Array} user
+ * @param {number} at
+ */
+function standsAt(bytes, user, at) {
+    if (at + bytes.length > user.length) return false;
+    for (let k = 0; k < bytes.length; k++) {
+        if (user[at + k] !== bytes[k]) return false;
+    }
+    return true;
+}

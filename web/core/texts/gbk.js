@@ -1,0 +1,9 @@
+// GBK, with the characters that GB 18030 has added in two bytes.
+
+import { numbersOf, pairsOf } from './characters.js';
+import { TableEncoding } from './encoding.js';
+import { addStandard } from './standard.js';
+
+export const GBK = new TableEncoding({ name: 'GBK', aliases: ['CP936', 'MS936', 'GB2312', 'EUC-CN'] }, table => {
+    addStandard(table, 'gb18030', pairsOf(numbersOf([0x81, 0xFE]), numbersOf([0x40, 0x7E], [0x80, 0xFE])));
+});

@@ -1,0 +1,53 @@
+// Bytes as hexadecimal digits.
+
+import { TextFault, lacks } from './characters.js';
+
+/** @typedef {import('./encoding.js').Encoding} Encoding */
+
+/**
+ * Bytes as hexadecimal digits.
+ * @param {Uint8Array} bytes
+ * @param {string} [between] what stands between the digits of two bytes
+ */
+export function hexText(bytes, between = '') {
+    return Array.from(bytes, byte => byte.toString(16).toUpperCase().padStart(2, '0')).join(between);
+}
+
+/**
+ * The bytes of hexadecimal digits, of which there are two for each.
+ * @param {string} digits
+ */
+export function bytesOfHex(digits) {
+    return Uint8Array.from(digits.match(/../g) || [], pair => parseInt(pair, 16));
+}
+
+/**
+ * @param {string} text
+ * @param {number} at
+ */
+function notHex(text, at) {
+    const place = [...text.slice(0, at)].length + 1;
+    if (!/[0-9A-Fa-f]/.test(text[at])) return lacks('hex', text, at);
+    return new TextFault(`hexadecimal digits come in pairs: character ${place} of the text is half a byte`);
+}
+
+/** @type {Encoding} bytes in hexadecimal digits, with or without spaces and line ends between them */
+export const HEX = {
+    name: 'hex',
+    label: 'Bytes in hex',
+    aliases: [],
+    searched: false,
+    space: '00',
+    wideSpace: '',
+    units(text) {
+        const units = [];
+        for (const { 0: found, index } of text.matchAll(/[0-9A-Fa-f]{2}|\S/g)) {
+            if (found.length < 2) throw notHex(text, index || 0);
+            units.push([bytesOfHex(found)]);
+        }
+        return units;
+    },
+    text: bytes => hexText(bytes),
+    lengthAt: () => 1,
+    goesOn: () => false,
+};

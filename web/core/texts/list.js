@@ -1,0 +1,206 @@
+// A list of texts with the new ones, as translators keep it, and the lines that replace them.
+
+import { joinedBytes } from '../bytes.js';
+import { filledUp, replaceEach } from '../edit.js';
+import { Fault } from '../faults.js';
+import { USER_SIZE } from '../sector.js';
+import { rowsOf } from './cells.js';
+import { TextFault } from './characters.js';
+import { unitsOfCell } from './codes.js';
+import { bytesAround } from './context.js';
+import { encodeText, spaceIn } from './encoding.js';
+import { endOfMatch } from './find.js';
+
+/** @typedef {import('../bytes.js').Reader} Reader */
+/** @typedef {import('../codes.js').Calls} Calls */
+/** @typedef {import('../disc.js').DiscImage} DiscImage */
+/** @typedef {import('../edit.js').Change} Change */
+/** @typedef {import('../lines.js').Lines} Lines */
+/** @typedef {import('./encoding.js').Encoding} Encoding */
+/** A row with a new text: its number, where the old one stands, the room there that it names, or -1, and the encoding, or ''. */
+/**
+ * @typedef {{ number: number, block: number, offset: number, room: number, encoding: string, text: string, fresh: string }} ListRow
+ */
+/** @typedef {{ row: ListRow, change: Change }} Fitted */
+/** @typedef {{ number: number, lines: Lines | null, why: string }} RowMade a row, or those of a block, with lines, or why there are none */
+
+const NEEDED = ['block', 'offset', 'text', 'new'];
+
+/** The most bytes of a text that is read at its place. */
+const LONGEST_TEXT = 1 << 16;
+
+/** What may stand after a text to fill up its room. */
+const FILLING = [0x00, 0x20, 0xFF];
+
+/** The bytes of an image that are read at once. */
+const WINDOW = 1 << 20;
+
+/**
+ * The rows of a list that have a new text. Throws a Fault if its first row does not name the columns.
+ * @param {string} list
+ */
+export function* listRows(list) {
+    /** @type {Record<string, number> | null} */
+    let columns = null;
+    for (const { number, cells } of rowsOf(list)) {
+        if (columns === null) {
+            columns = Object.fromEntries(cells.map((name, i) => [name.trim().toLowerCase(), i]));
+            const missing = NEEDED.filter(name => !(name in /** @type {object} */ (columns)));
+            if (missing.length > 0) throw new Fault(`the first row of the list names no column ${missing.join(', ')}`);
+            continue;
+        }
+        const at = /** @type {Record<string, number>} */ (columns);
+        const cell = (/** @type {string} */ name) => cells[at[name]] || '';
+        if (cell('new') !== '') yield rowOf(number, cell);
+    }
+}
+
+/**
+ * @param {number} number
+ * @param {(name: string) => string} cell
+ * @returns {ListRow}
+ */
+function rowOf(number, cell) {
+    const whole = (/** @type {string} */ name) => /^\d{1,9}$/.test(cell(name)) ? Number(cell(name)) : -1;
+    return {
+        number, block: whole('block'), offset: whole('offset'), room: whole('room'), encoding: cell('encoding'), text: cell('text'),
+        fresh: cell('new'),
+    };
+}
+
+/**
+ * How many bytes after a text only fill up its room. The last 00 ends the text.
+ * @param {Encoding} encoding
+ * @param {Uint8Array} bytes
+ * @param {number} from where the text ends in them
+ */
+export function fillingAfter(encoding, bytes, from) {
+    const value = bytes[from];
+    const unit = encodeText(encoding, encoding.space || '\n').length;
+    if (!FILLING.includes(value)) return 0;
+    let end = from;
+    while (end < bytes.length && bytes[end] === value) end += 1;
+    const count = end - from - (value === 0 ? unit : 0);
+    return Math.max(count - count % unit, 0);
+}
+
+/**
+ * A reader for places that come one after the other.
+ * @param {Reader} reader
+ * @returns {Reader}
+ */
+function windowed(reader) {
+    const held = { from: 0, bytes: new Uint8Array(0) };
+    return {
+        size: reader.size,
+        async read(at, length) {
+            if (length > WINDOW) return reader.read(at, length);
+            if (at < held.from || at + length > held.from + held.bytes.length) {
+                Object.assign(held, { from: at, bytes: await reader.read(at, Math.min(WINDOW, reader.size - at)) });
+            }
+            return held.bytes.slice(at - held.from, at - held.from + length);
+        },
+    };
+}
+
+/**
+ * What replaces the texts of a list's rows, in the order of their places. The core has tried the lines on the sectors.
+ * @param {Calls} calls
+ * @param {DiscImage} image
+ * @param {ListRow[]} rows
+ * @param {(name: string) => Encoding[]} encodingsFor the encodings that a row may be in, by the name that it has, or ''
+ * @param {Uint8Array | null} fill what fills up shorter texts, if not the encoding's space
+ * @returns {AsyncGenerator<RowMade>}
+ */
+export async function* replacedRows(calls, image, rows, encodingsFor, fill) {
+    const read = { ...image, reader: windowed(image.reader) };
+    /** @type {Fitted[]} those in one block */
+    const group = [];
+    let [last, end] = [0, 0];
+    for (const row of [...rows].sort((a, b) => a.block - b.block || a.offset - b.offset)) {
+        try {
+            if (row.block < 0 || row.offset < 0) throw new Fault('block and offset are no numbers');
+            if (row.block * USER_SIZE + row.offset < end) throw new Fault(`it overlaps the text of row ${last}`);
+            const fitted = { row, change: await fittedRow(read, row, encodingsFor(row.encoding), fill) };
+            if (group.length > 0 && !isOneBlock([...group.slice(0, 1), fitted])) yield* madeOf(calls, read, group.splice(0));
+            group.push(fitted);
+            [last, end] = [row.number, row.block * USER_SIZE + row.offset + fitted.change.old.length];
+        } catch (error) {
+            if (!(error instanceof Fault)) throw error;
+            yield { number: row.number, lines: null, why: error.message };
+        }
+    }
+    yield* madeOf(calls, read, group);
+}
+
+/** @param {Fitted[]} fitted whether all lie in one block */
+function isOneBlock(fitted) {
+    const { block } = fitted[0].change.place;
+    return fitted.every(({ change: { place, old } }) => place.block === block && place.offset + old.length <= USER_SIZE);
+}
+
+/**
+ * The lines of rows, together if they can be replaced so, else one by one.
+ * @param {Calls} calls
+ * @param {DiscImage} image
+ * @param {Fitted[]} fitted
+ * @returns {AsyncGenerator<RowMade>}
+ */
+async function* madeOf(calls, image, fitted) {
+    if (fitted.length === 0) return;
+    try {
+        const lines = await replaceEach(calls, image, fitted.map(({ change }) => change));
+        yield { number: fitted[0].row.number, lines, why: '' };
+    } catch (error) {
+        if (!(error instanceof Fault)) throw error;
+        if (fitted.length === 1) yield { number: fitted[0].row.number, lines: null, why: error.message };
+        else for (const it of fitted) yield* madeOf(calls, image, [it]);
+    }
+}
+
+/**
+ * The old bytes that a row's new text takes the place of, and the new ones. Throws a Fault if the old text does not stand there, or if the
+ * new one has no room there.
+ * @param {DiscImage} image
+ * @param {ListRow} row
+ * @param {Encoding[]} encodings
+ * @param {Uint8Array | null} fill
+ * @returns {Promise<Change>}
+ */
+async function fittedRow(image, row, encodings, fill) {
+    const first = row.block - image.base;
+    if (first < 0 || first >= image.sectors) throw new Fault(`the image has the blocks ${image.base} to ${image.base + image.sectors - 1}`);
+    const { bytes, at } = await bytesAround(image, row, 0, Math.min(4 * row.text.length + Math.max(row.room, 0) + 4, LONGEST_TEXT));
+    const { encoding, size } = encodingAt(encodings, row.text, bytes, at);
+    const fresh = joinedBytes(unitsOfCell(encoding, row.fresh).map(([usual]) => usual));
+    const room = Math.max(Math.min(size + fillingAfter(encoding, bytes, at + size), row.room), size);
+    if (fresh.length > room) {
+        const more = `${fresh.length - room} more than the ${room} that are there`;
+        throw new Fault(`the new text has ${fresh.length} bytes in ${encoding.name}, ${more}`);
+    }
+    const filling = fill || spaceIn(encoding);
+    if (fresh.length < size && filling === null) throw new Fault(`${encoding.name} has no space to fill up with`);
+    const old = bytes.slice(at, at + Math.max(size, fresh.length));
+    return { place: row, old, fresh: filledUp(fresh, old.length, filling) };
+}
+
+/**
+ * The first encoding in which a text stands at a place of bytes, and how many bytes it has there.
+ * @param {Encoding[]} encodings
+ * @param {string} text
+ * @param {Uint8Array} bytes
+ * @param {number} at
+ */
+function encodingAt(encodings, text, bytes, at) {
+    const lacking = [];
+    for (const encoding of encodings) {
+        try {
+            const end = endOfMatch(unitsOfCell(encoding, text), bytes, at);
+            if (end > at) return { encoding, size: end - at };
+        } catch (error) {
+            if (!(error instanceof TextFault)) throw error;
+            lacking.push(error);
+        }
+    }
+    throw lacking.length === encodings.length && lacking.length > 0 ? lacking[0] : new Fault('the old text does not stand there');
+}

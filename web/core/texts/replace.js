@@ -1,0 +1,53 @@
+// A text replaced by another one at the places at which it stands.
+
+import { replaceBytes } from '../edit.js';
+import { Fault } from '../faults.js';
+import { JobAborted } from '../jobs.js';
+import { USER_SIZE } from '../sector.js';
+import { contextOf } from './context.js';
+
+/** @typedef {import('../codes.js').Calls} Calls */
+/** @typedef {import('../disc.js').DiscImage} DiscImage */
+/** @typedef {import('../lines.js').Lines} Lines */
+/** @typedef {import('./encoding.js').Encoding} Encoding */
+/** @typedef {import('./find.js').Hit} Hit */
+/** @typedef {{ hit: Hit, lines: Lines | null, why: string }} Replaced the lines that replace a hit, or why there are none */
+
+/**
+ * What is said of a hit, as why it is not replaced.
+ * @param {{ hit: Hit, why: string }} left
+ */
+export function leftHitText({ hit: { block, offset }, why }) {
+    return `block ${block} offset ${offset}: ${why}`;
+}
+
+/**
+ * What replaces each of several hits by a text, in their order. The core has tried the lines on the sectors. There are none if the hit may
+ * begin in the middle of a character, meets one before it, has no room for the text, or lies in a sector that is damaged or no Mode 1.
+ * @param {Calls} calls
+ * @param {DiscImage} image
+ * @param {Encoding} encoding
+ * @param {Hit[]} hits
+ * @param {(size: number) => Uint8Array} freshFor the new bytes for so many old ones. Throws a Fault if they do not fit
+ * @param {{ inside?: boolean, signal?: { aborted: boolean }, progress?: (done: number, all: number) => void }} how whether hits are
+ *     taken too that may begin in the middle of a character
+ * @returns {AsyncGenerator<Replaced>}
+ */
+export async function* replacedHits(calls, image, encoding, hits, freshFor, { inside = false, signal, progress }) {
+    let end = 0;
+    for (const [i, hit] of hits.entries()) {
+        if (signal && signal.aborted) throw new JobAborted();
+        if (progress) progress(i, hits.length);
+        const at = hit.block * USER_SIZE + hit.offset;
+        try {
+            const { bytes, doubt } = await contextOf(image, encoding, hit, 0);
+            if (at < end) throw new Fault('it overlaps the one before it');
+            if (doubt !== '' && !inside) throw new Fault(doubt);
+            yield { hit, lines: await replaceBytes(calls, image, hit, bytes, freshFor(hit.size)), why: '' };
+            end = at + hit.size;
+        } catch (error) {
+            if (!(error instanceof Fault)) throw error;
+            yield { hit, lines: null, why: error.message };
+        }
+    }
+}

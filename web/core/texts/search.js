@@ -1,0 +1,76 @@
+// A text searched in the user data of a data track, in one encoding or in several.
+
+import { TextFault } from './characters.js';
+import { anyBegins } from './context.js';
+import { encodeText } from './encoding.js';
+import { joinFound, sectorsBeyond } from './find.js';
+
+/** @typedef {import('../disc.js').DiscImage} DiscImage */
+/** @typedef {import('../jobs.js').Sharer} Sharer */
+/** @typedef {import('../jobs.js').Sharing} Sharing */
+/** @typedef {import('./encoding.js').Encoding} Encoding */
+/** @typedef {import('./find.js').Found} Found */
+/** @typedef {Found & { encoding: Encoding, begins: boolean }} Hits whether one of them is not in the middle of a character */
+
+/**
+ * The encodings that have a text, the first of those in which it is the same bytes; and the names of all that have it. Throws a TextFault
+ * if none has it.
+ * @param {Encoding[]} encodings
+ * @param {string} text
+ */
+export function encodingsWith(encodings, text) {
+    /** @type {Map<string, Encoding>} by the bytes of the text */
+    const spelled = new Map();
+    const names = [];
+    const faults = [];
+    for (const encoding of encodings) {
+        try {
+            const bytes = encodeText(encoding, text).join();
+            names.push(encoding.name);
+            if (!spelled.has(bytes)) spelled.set(bytes, encoding);
+        } catch (error) {
+            if (!(error instanceof TextFault)) throw error;
+            faults.push(error);
+        }
+    }
+    if (names.length === 0) throw faults[0];
+    return { encodings: [...spelled.values()], names };
+}
+
+/**
+ * The hits of a text in each encoding in which it stands there. One in which it stands only in the middle of characters, which may be
+ * bytes of another one, comes last.
+ * @param {Sharer} crew
+ * @param {DiscImage} image
+ * @param {{ text: string, encodings: Encoding[], limit: number }} asked how many hits are kept in each encoding
+ * @param {Sharing} [watch]
+ */
+export async function searchText(crew, image, { text, encodings, limit }, watch) {
+    const texts = encodings.map(encoding => encoding.units(text));
+    /** @type {Found[][]} by the encodings */
+    const parts = texts.map(() => []);
+    const how = { base: image.base, beyond: Math.max(...texts.map(sectorsBeyond)), ...watch };
+    await crew.share('find', [image.reader], { texts, limit }, how, (/** @type {Found[]} */ answer) => {
+        answer.forEach((found, i) => addFound(parts[i], found, limit));
+    });
+    /** @type {Hits[]} */
+    const all = [];
+    for (const [i, encoding] of encodings.entries()) {
+        const found = joinFound(parts[i], limit);
+        if (found.count > 0) all.push({ encoding, ...found, begins: await anyBegins(image, encoding, found.hits) });
+    }
+    return all.sort((a, b) => Number(b.begins) - Number(a.begins));
+}
+
+/**
+ * Adds the hits of a range, of which those after the limit are counted only.
+ * @param {Found[]} parts
+ * @param {Found} found
+ * @param {number} limit
+ */
+function addFound(parts, found, limit) {
+    const last = parts[parts.length - 1];
+    const kept = parts.reduce((sum, { hits }) => sum + hits.length, 0);
+    if (kept < limit) parts.push(found);
+    else last.count += found.count;
+}

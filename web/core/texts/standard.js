@@ -1,0 +1,19 @@
+// Sets of pairs of bytes that engines read differently: of each what all read alike, and then what the Encoding Standard has beside it.
+
+import { addAscii, addCodes, addPairs } from './characters.js';
+import { PAIRS } from './pairs.js';
+
+/** @typedef {import('./characters.js').CharacterTable} CharacterTable */
+
+/**
+ * Adds ASCII and a set.
+ * @param {CharacterTable} table
+ * @param {string} label of the standard
+ * @param {number[]} codes all that the set has room for; of several that mean one character the first is the usual one
+ */
+export function addStandard(table, label, codes) {
+    const { same, own } = PAIRS[label];
+    addAscii(table);
+    addPairs(table, label, codes.filter(code => same.some(([first, last]) => code >= first && code <= last)));
+    for (const [first, characters] of own) addCodes(table, codes.filter(code => code >= first).sort((a, b) => a - b), characters);
+}

@@ -1,0 +1,46 @@
+// What the encodings of all of Unicode share. They lack only the halves of characters.
+
+import { lacks } from './characters.js';
+import { SPACES } from './encoding.js';
+
+/** @typedef {import('./encoding.js').Encoding} Encoding */
+
+/**
+ * @param {string} name
+ * @param {(character: string) => Uint8Array} bytesOf
+ * @param {(byte: number) => boolean} goesOn
+ * @param {(bytes: Uint8Array, at: number) => number} sizeAt how many bytes the character at a place has if it is whole
+ * @returns {Encoding}
+ */
+export function unicodeEncoding(name, bytesOf, goesOn, sizeAt) {
+    const [loose, strict] = [false, true].map(fatal => new TextDecoder(name, { fatal, ignoreBOM: true }));
+    const least = bytesOf('a').length;
+    const isWhole = (/** @type {Uint8Array} */ bytes) => {
+        try {
+            return strict.decode(bytes).length > 0;
+        } catch {
+            return false;
+        }
+    };
+    return {
+        name,
+        label: name,
+        aliases: [],
+        searched: true,
+        ...SPACES,
+        units(text) {
+            let at = 0;
+            return Array.from(text, character => {
+                if (/\p{Cs}/u.test(character)) throw lacks(name, text, at);
+                at += character.length;
+                return [bytesOf(character)];
+            });
+        },
+        text: bytes => loose.decode(bytes),
+        lengthAt(bytes, at) {
+            const size = sizeAt(bytes, at);
+            return size > least && !isWhole(bytes.subarray(at, at + size)) ? least : size;
+        },
+        goesOn,
+    };
+}

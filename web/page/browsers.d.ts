@@ -1,0 +1,17 @@
+// What browsers have and this TypeScript does not know.
+
+declare class DecompressionStream {
+    constructor(format: string);
+    readable: ReadableStream<Uint8Array>;
+    writable: WritableStream<Uint8Array>;
+}
+
+declare class CompressionStream {
+    constructor(format: string);
+    readable: ReadableStream<Uint8Array>;
+    writable: WritableStream<Uint8Array>;
+}
+
+declare const trustedTypes: {
+    createPolicy(name: string, rules: { createScriptURL: (given: string) => string }): { createScriptURL: (given: string) => string };
+};
