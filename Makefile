@@ -74,7 +74,7 @@ bench:
 	bash bench/build '$(CPU)'
 
 # A tarball of what `make` left and the pages, with its checksum, in which `make install` works without the toolchain. Beside it stand
-# cdscript.js and cdpatch.html, which need nothing else.
+# cdscript.js and cdpatch.html, which need nothing else, and packages of the same files.
 .PHONY: dist
 dist:
 	@test -x '$(PROGRAM)' || { echo 'There is no $(PROGRAM) to pack: run make first.' >&2; exit 1; }
@@ -85,7 +85,8 @@ dist:
 # owner can fill in (tools/owner.txt). `make release SIGN=KEY` signs what it makes with a key of ssh.
 .PHONY: release fit
 SIGN =
-RELEASED = $(addprefix $(distdir)/,cdpatch-$(VERSION)-x86_64-linux.tar.gz cdpatch.html cdscript.js)
+RELEASED = $(addprefix $(distdir)/,cdpatch-$(VERSION)-x86_64-linux.tar.gz cdpatch_$(VERSION)-1_amd64.deb \
+    cdpatch-$(VERSION)-py3-none-manylinux_2_34_x86_64.whl cdpatch.html cdscript.js)
 
 release: fit dist
 	@$(if $(SIGN),bash tools/sign.sh '$(SIGN)' $(RELEASED:%='%'),echo 'Nothing was signed: SIGN=KEY signs it.' >&2)
@@ -95,5 +96,5 @@ fit:
 
 clean:
 	rm -rf cdpatch cdscript cdpatch.html library bench/cd_bench crates/*/out
-	rm -f cdpatch-*.tar.gz cdscript.js cdpatch-*.tar.gz.sha256 cdscript.js.sha256 cdpatch.html.sha256
-	rm -f cdpatch-*.tar.gz.sig cdscript.js.sig cdpatch.html.sig
+	rm -f $(foreach made,cdpatch-*.tar.gz cdpatch_*.deb cdpatch-*.whl cdscript.js,$(made) $(made).sha256 $(made).sig)
+	rm -f cdpatch.html.sha256 cdpatch.html.sig

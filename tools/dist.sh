@@ -4,7 +4,8 @@
 # completions, the pages for users, the examples, and a Makefile that only installs them. The README is README.tarball.md, and INSTALL
 # lacks what only works in the sources.
 # The bytes follow from those of these files only. Beside the tarball stand the command as cdscript.js, which node takes on any system,
-# and the page; and the checksum of each. What only the owner can fill in, and has not, is printed on standard error.
+# the page, a Debian package if dpkg-deb is there, and a wheel for pip if python3 is; and the checksum of each. What only the owner can fill
+# in, and has not, is printed on standard error.
 set -euo pipefail
 umask 022
 program=$(realpath "$1")
@@ -46,6 +47,18 @@ fi
 chmod -R u=rwX,go=rX "$scratch/$name"
 tar -C "$scratch" --format=ustar --sort=name --mtime="@${SOURCE_DATE_EPOCH:-0}" --owner=0 --group=0 --numeric-owner -cf - "$name" |
     gzip -9n > "$directory/$name.tar.gz"
+if command -v dpkg-deb > /dev/null; then
+    made+=("$(bash tools/deb.sh "$scratch/$name" "$directory")")
+else
+    echo 'There is no dpkg-deb, so no Debian package is made.' >&2
+fi
+if command -v python3 > /dev/null; then
+    cp -r python "$scratch/python"
+    cp "$library"/{libcdpatch.so.1,NOTICES} "$scratch/python/cdpatch"
+    made+=("$(cd "$scratch/python" && python3 -B -c 'import backend, sys; print(backend.build_wheel(sys.argv[1]))' "$directory")")
+else
+    echo 'There is no python3, so no wheel is made.' >&2
+fi
 cd "$directory"
 for file in "${made[@]}"; do
     sha256sum "$file" | tee "$file.sha256"

@@ -1,4 +1,5 @@
-# `make dist`: the tarball installs without a toolchain, and its bytes are those of its files, wherever and whenever it is made.
+# `make dist`: the tarball and the packages install without a toolchain, and their bytes are those of their files, wherever and whenever
+# they are made.
 
 # pack DIRECTORY: a tarball of the program, of a copy of the sources in this directory, into `made` there.
 pack() {
@@ -20,11 +21,12 @@ released() {
     local name
     name=$(cd one/made && ls ./*.tar.gz)
     judge 'the tarball has the version in its name' test "$name" = "./cdpatch-$(cdpatch --help | sed -n '$s/cdpatch //p')-x86_64-linux.tar.gz"
-    judge 'two directories give the same bytes' cmp "one/made/$name" "another place/made/$name"
+    rm 'another place/made/log' 2> /dev/null
+    judge 'two directories give the same bytes' diff -r one/made 'another place/made'
     (umask 000 && make --no-print-directory -s -C 'another place' dist distdir=made > log)
     judge 'nobody else may write what is packed' test -z "$(find 'another place/made' -type f -perm /022)"
     judge 'the checksum is that of the tarball' eval "(cd one/made && sha256sum --status -c ./*.sha256)"
-    judge 'the checksums are printed' test "$(cat one/printed)" = "$(cat one/made/*.sha256)"
+    judge 'the checksums are printed' test "$(sort one/printed)" = "$(sort one/made/*.sha256)"
     if [ -e "$joined/cdscript" ]; then
         judge 'cdscript.js lies beside the tarball' cmp -s "$joined/cdscript" one/made/cdscript.js
         judge 'cdpatch.html lies beside the tarball' cmp -s "$joined/cdpatch.html" one/made/cdpatch.html
@@ -39,10 +41,52 @@ released() {
     judge 'the program is as it was' cmp -s "$program" root/usr/bin/cdpatch
     judge 'the tarball has no file that is not installed, but the Makefile' test \
         "$(find unpacked -type f | wc -l)" = "$(($(find root -type f | wc -l) + 1))"
+    packaged_for_debian
+    packaged_for_pip
     make --no-print-directory -s -C one dist distdir=made PROGRAM="$PWD/nothing" 2> log
     judge 'nothing that was built, nothing packed' test $? != 0
     make --no-print-directory -s -C one dist distdir=made LIBRARY="$PWD/nothing" 2> log
     judge 'no library that was built, nothing packed' test $? != 0
+}
+
+# listed DIRECTORY: its files and links.
+listed() { (cd "$1" && find . -type f -o -type l) | LC_ALL=C sort; }
+
+# What `make install` installs, by the names that Debian's package has for it.
+debian_names() {
+    { listed root | sed -E "s,lib/(libcdpatch|glibc|pkgconfig|cmake),lib/x86_64-linux-gnu/\1,; s,zsh/site-functions,zsh/vendor-completions,
+        s,share/cdpatch/python/cdpatch,lib/python3/dist-packages/cdpatch,; s,share/man/.*,&.gz,; s,/NOTICES,/copyright,; s,CHANGELOG.md,changelog.gz,
+        \\,cdpatch/python/,d"
+        printf './usr/share/%s\n' doc/cdpatch/changelog.Debian.gz lintian/overrides/cdpatch; } | LC_ALL=C sort
+}
+
+# debian COMMAND..: dpkg in the root `system`, which has nothing else.
+debian() { dpkg --root="$PWD/system" --force-depends --force-not-root --force-bad-path --log="$PWD/log" "$@" > log 2>&1; }
+
+packaged_for_debian() {
+    missing dpkg-deb dpkg "Debian's package" && return
+    mkdir -p system/var/lib/dpkg/{info,updates,triggers}
+    touch system/var/lib/dpkg/status
+    judge 'dpkg installs the package' debian --install one/made/cdpatch_*_amd64.deb
+    (cd system && rm -r var)
+    debian_names > wanted.names
+    listed system > got.names
+    same "Debian's package has what make install installs, in Debian's places" wanted.names got.names
+    judge 'the program in it is as it was' cmp -s "$program" system/usr/bin/cdpatch
+    judge 'the page of a call is a link in it' test "$(readlink system/usr/share/man/man3/cdpatch_apply.3.gz)" = libcdpatch.3.gz
+    judge 'its links lead to what it has' test -z "$(find system -xtype l)"
+    missing lintian lintian "Debian's package, by lintian" ||
+        judge 'lintian finds nothing in it, but that the owner has no address' test -z \
+            "$(lintian --no-cfg --allow-root one/made/*.deb 2>&1 | grep -v ' <>')"
+}
+
+packaged_for_pip() {
+    missing pip3 python3-pip 'the wheel' && return
+    pip3 --disable-pip-version-check install --no-index --quiet --target site one/made/*.whl > log 2>&1
+    judge 'pip installs the wheel' test -f site/cdpatch/libcdpatch.so.1
+    judge 'the library in it is as it was' cmp -s "$library/libcdpatch.so.1" site/cdpatch/libcdpatch.so.1
+    judge 'and a program in Python runs with it' test sectors_8_tail_0 = \
+        "$(cd site && python3 -B -c 'import cdpatch; print(cdpatch.listing(open("../disc.bin", "rb").read()).split("\n")[-2].replace(" ", "_"))')"
 }
 
 # What two builds in different directories could differ in.
