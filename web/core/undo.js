@@ -1,12 +1,13 @@
 // The script that takes another one back.
 
+import { baseFault } from './base_said.js';
 import { joinedBytes, readBytes } from './bytes.js';
 import { Fault } from './faults.js';
 import { Crew, localHand } from './jobs.js';
 import { ScriptParts } from './output.js';
 import { passPatched } from './patch.js';
 import { STATUS } from './records.js';
-import { Refusal, baseFault, readScript } from './script.js';
+import { Refusal, readScript } from './script.js';
 import { SECTOR_SIZE, differingSectors, sectorOf } from './sector.js';
 
 /** @typedef {import('./codes.js').Calls} Calls */
@@ -94,7 +95,7 @@ export async function undoScript(calls, reader, script, { base, carry = false, l
     const fault = baseFault(read.bases, base);
     if (fault !== '') throw new Fault(fault);
     const back = new TakenBack(reader, base, (job, pieces, blocks) => crew.given(job, pieces, { blocks, how: { carry, heal: true } }));
-    const patched = await passPatched(calls, reader, read.patches, base, carry, piece => back.take(piece));
+    const patched = await passPatched(calls, reader, read, { base, carry }, piece => back.take(piece));
     const parts = await back.end();
     const undo = { script: parts.script(calls), patched, left: parts.left };
     if (changesNothing(undo)) throw new Fault(NOTHING_TO_TAKE_BACK);

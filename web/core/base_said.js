@@ -1,0 +1,51 @@
+// The base for which a script was written, as a comment in it says.
+
+/** @typedef {{ line: number, base: number }} BaseSaid the comment's line, and the base that it says */
+
+const BASE_COMMENT = /^# base (\d{1,6})\s*$/;
+const LONGEST_BASE_COMMENT = 20;
+const [HASH, LINE_FEED] = [0x23, 0x0A];
+
+/** @param {number} base for which a script is written */
+export function baseComment(base) {
+    return `# base ${base}\n`;
+}
+
+/**
+ * The base that a line says, null if it says none.
+ * @param {Uint8Array} line without its end
+ */
+export function baseIn(line) {
+    if (line[0] !== HASH || line.length > LONGEST_BASE_COMMENT) return null;
+    const said = BASE_COMMENT.exec(String.fromCharCode(...line));
+    return said && Number(said[1]);
+}
+
+/**
+ * The bases that the lines of a text say.
+ * @param {Uint8Array} text
+ */
+export function basesSaid(text) {
+    /** @type {BaseSaid[]} */
+    const found = [];
+    let [line, counted] = [1, 0];
+    for (let at = text.indexOf(HASH); at >= 0; at = text.indexOf(HASH, at + 1)) {
+        if (at > 0 && text[at - 1] !== LINE_FEED) continue;
+        const end = text.subarray(at, at + LONGEST_BASE_COMMENT + 2).indexOf(LINE_FEED);
+        const base = baseIn(end < 0 ? text.subarray(at) : text.subarray(at, at + end - Number(text[at + end - 1] === 0x0D)));
+        if (base === null) continue;
+        for (; counted < at; counted++) line += Number(text[counted] === LINE_FEED);
+        found.push({ line, base });
+    }
+    return found;
+}
+
+/**
+ * Why a script is not for an image that begins with a block, '' if it does not say another base.
+ * @param {BaseSaid[]} bases
+ * @param {number} base
+ */
+export function baseFault(bases, base) {
+    const other = bases.find(said => said.base !== base);
+    return other ? `line ${other.line} of the script says base ${other.base}, and the image begins with block ${base} here` : '';
+}
