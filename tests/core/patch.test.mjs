@@ -2,7 +2,7 @@
 
 import assert from 'node:assert/strict';
 import { test } from 'node:test';
-import { calls, core, decoded, diceOf, encoded, joinedPieces, readerOf, sameBytes, someImage } from './common.mjs';
+import { calls, core, decoded, diceOf, encoded, joinedPieces, newCalls, readerOf, sameBytes, someImage } from './common.mjs';
 
 const { readScript } = await core('script.js');
 const { Part, readLines } = await core('long_script.js');
@@ -227,7 +227,17 @@ test('several patchings at the same time by the same calls', async () => {
     const texts = [20, 21, 22].map(seed => someScript(diceOf(seed), 300, BASE, 2600));
     const scripts = await Promise.all(texts.map(text => readScript(calls, [text])));
     const due = await Promise.all(texts.map(text => plainly(text, image, BASE, true)));
-    const came = await Promise.all(scripts.map(script => applyPatches(calls, readerOf(image), script, { base: BASE, carry: true })));
+    const own = newCalls();
+    const came = await Promise.all(scripts.map(async script => {
+        const pieces = [];
+        const { text } = await passPatched(own, readerOf(image), script, { base: BASE, carry: true }, async piece => {
+            own.reserve(own.memory.length); // the memory grows, and is another one then
+            own.hold(new Uint8Array(5000).fill(99));
+            await null;
+            pieces.push(piece);
+        });
+        return { text, pieces };
+    }));
     came.forEach(({ text, pieces }, i) => {
         assert.equal(decoded(text), due[i].text);
         sameBytes(joinedPieces(image, pieces), due[i].out, 'the image');

@@ -30,24 +30,27 @@ class JoinedPieces {
 
     /** @param {number} size how many bytes of the image follow as they are */
     async keep(size) {
-        if (this.bytes.size > 0) await this.give();
+        const piece = this.bytes.size > 0 ? this.cut() : null;
         this.kept += size;
+        if (piece !== null) await this.take(piece);
     }
 
-    /** @param {Uint8Array} bytes which follow, copied */
+    /** @param {Uint8Array} bytes which follow. They are copied before anything is awaited. */
     async put(bytes) {
-        if (this.kept > 0 || this.bytes.size >= JOINED_SIZE) await this.give();
+        const piece = this.kept > 0 || this.bytes.size >= JOINED_SIZE ? this.cut() : null;
         this.bytes.push(bytes);
+        if (piece !== null) await this.take(piece);
     }
 
-    /** Gives what is not given yet. */
-    async give() {
+    /** What is not given yet, null if that is nothing. */
+    cut() {
         const { at, kept } = this;
         const bytes = this.bytes.bytes().slice();
         this.at += kept + bytes.length;
         this.kept = 0;
         this.bytes.drop(bytes.length);
-        if (this.at > at) await this.take(bytes.length > 0 ? { at, bytes } : { from: at, to: at + kept });
+        if (this.at === at) return null;
+        return bytes.length > 0 ? { at, bytes } : { from: at, to: at + kept };
     }
 }
 
@@ -75,7 +78,11 @@ export async function runScript(calls, reader, script, { base, carry = false, wi
             } else if (kind === STEP.COPY) await out.keep(size);
             else if (kind === STEP.WRITE) await out.put(calls.runBytes(run, step));
             else if (kind === STEP.LOG) log(step, calls.runBytes(run, step));
-            else return await out.give().then(() => status);
+            else {
+                const piece = out.cut();
+                if (piece !== null) await take(piece);
+                return status;
+            }
         }
     } finally {
         calls.runEnd(run);

@@ -1,7 +1,7 @@
 // The script that takes another one back.
 
 import { baseFault } from './base_said.js';
-import { joinedBytes, readBytes } from './bytes.js';
+import { joinedBytes } from './bytes.js';
 import { Fault } from './faults.js';
 import { Crew, localHand } from './jobs.js';
 import { ScriptParts } from './output.js';
@@ -9,6 +9,7 @@ import { passPatched } from './patch.js';
 import { STATUS } from './records.js';
 import { Refusal, readScript } from './script.js';
 import { SECTOR_SIZE, differingSectors, sectorOf } from './sector.js';
+import { Window } from './window.js';
 
 /** @typedef {import('./codes.js').Calls} Calls */
 /** @typedef {import('./bytes.js').Piece} Piece */
@@ -39,7 +40,7 @@ class TakenBack {
      * @param {Given} given who compares
      */
     constructor(reader, base, given) {
-        this.reader = reader;
+        this.window = new Window(reader);
         this.base = base;
         this.given = given;
         this.parts = new ScriptParts();
@@ -52,7 +53,7 @@ class TakenBack {
     /** @param {Piece} piece of the patched image */
     async take(piece) {
         if (!('bytes' in piece)) return;
-        const before = await readBytes(this.reader, piece.at, piece.bytes.length);
+        const before = (await this.window.bytesAt(piece.at, piece.bytes.length)).slice();
         const { next } = this;
         for (const i of differingSectors(piece.bytes, before)) {
             next.blocks.push(this.base + piece.at / SECTOR_SIZE + i);

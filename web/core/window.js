@@ -29,7 +29,16 @@ export class Window {
     }
 
     /**
-     * The same, read if they are not here.
+     * Bytes of the image, read if they are not here. They stay until others are asked for.
+     * @param {number} at
+     * @param {number} size
+     */
+    async bytesAt(at, size) {
+        return this.here(at, size) || this.read(at, size);
+    }
+
+    /**
+     * Reads bytes, and more after them.
      * @param {number} at
      * @param {number} size
      */

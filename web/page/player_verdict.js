@@ -1,11 +1,11 @@
 // What a player's image is to a patcher: the right disc, another dump that the patch fits or does not fit, or patched already; or one of
 // which the patch cannot say it.
 
-import { readBytes } from '../core/bytes.js';
 import { DiscFault, dataTrack } from '../core/disc.js';
 import { readLines } from '../core/long_script.js';
 import { passPatched } from '../core/patch.js';
 import { RESULT, STATUS } from '../core/records.js';
+import { Window } from '../core/window.js';
 import { sha1Of } from './crew.js';
 import { assertNotTooLong, scriptFor, watched } from './patch_job.js';
 import { wordsOfLine } from './script_lines.js';
@@ -100,10 +100,11 @@ function addressedBase({ addressed, base }, other) {
  */
 export async function isPatched(app, { reader, base, script }) {
     let same = true;
+    const window = new Window(reader);
     const how = { base, carry: true, withoutOld: true };
     const made = await passPatched(app.calls, reader, await scriptFor(app, script, base), how, async piece => {
         if (!('bytes' in piece) || !same) return;
-        const there = await readBytes(reader, piece.at, piece.bytes.length);
+        const there = await window.bytesAt(piece.at, piece.bytes.length);
         same = there.every((byte, i) => byte === piece.bytes[i]);
     });
     return same && made.status === STATUS.DONE && made.outcomes.length > 0;
