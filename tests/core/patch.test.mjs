@@ -29,7 +29,7 @@ function someScript(dice, count, first, blocks) {
 
 /** The patches on the whole image in memory, one after the other, by the calls that take a line. */
 async function plainly(script, whole, base, carry) {
-    const { patches } = await readLines(calls, [script]);
+    const { patches } = readLines(calls, script);
     const out = whole.slice();
     const count = Math.floor(out.length / 2352);
     const log = patches.map(({ number, block: begin, line }) => {
@@ -142,7 +142,7 @@ test('a long script in parts, cut anywhere, makes what it makes as a whole', asy
         const dice = diceOf(600 + seed);
         const whole = someImage(dice, 12, BASE, dice(2) * 99);
         const text = someScript(dice, 30, BASE - 2, 16);
-        const lines = await readLines(calls, [text]);
+        const lines = readLines(calls, text);
         for (const carry of [false, true]) {
             const due = await plainly(text, whole, BASE, carry);
             for (const sizes of [[1], [2], [7], [1, 5, 2], [29], [99]]) {

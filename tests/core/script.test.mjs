@@ -73,8 +73,8 @@ test('a later version of the language is no fault', async () => {
         const head = decoded(later.held(from, from + size)) === 'cdpatch 3';
         return version === 0 && head ? 256 : readLine(version === 256 ? 2 : version, number, earlier, from, size);
     };
-    const lines = await readLines(later, [encoded('cdpatch 3\naddress 3 00:02:05\n')]);
-    assert.deepEqual(lines.patches, (await readLines(calls, [encoded('cdpatch 2\naddress 3 00:02:05\n')])).patches);
+    const lines = readLines(later, encoded('cdpatch 3\naddress 3 00:02:05\n'));
+    assert.deepEqual(lines.patches, readLines(calls, encoded('cdpatch 2\naddress 3 00:02:05\n')).patches);
     assert.equal(decoded(partsOf(lines)[0].text()), 'cdpatch 3\naddress 3 00:02:05\n');
 });
 
@@ -121,7 +121,7 @@ test('no more patches than the program takes, but for a long script', async () =
 
 test('a long script is cut into parts that a run takes', async () => {
     const line = size => ({ number: 1, block: 0, old: null, line: new Uint8Array(size) });
-    const sizes = patches => partsOf({ head: encoded('cdpatch 1'), patches, bases: [] }).map(part => part.patches.length);
+    const sizes = patches => partsOf({ head: encoded('cdpatch 1'), patches }).map(part => part.patches.length);
     assert.deepEqual(sizes([]), [0]);
     assert.deepEqual(sizes(Array.from({ length: 2 * MOST_PATCHES + 1 }, () => line(1))), [MOST_PATCHES, MOST_PATCHES, 1]);
     const third = MOST_SCRIPT_BYTES / 4 - 1;
@@ -135,7 +135,7 @@ test('the bases that comments say are those that stand there, with their lines',
         ['# base 150\n', [{ line: 2, base: 150 }]],
         ['\r\n# base 7\r\n#\n# base 0\n# base 1', [{ line: 3, base: 7 }, { line: 5, base: 0 }, { line: 6, base: 1 }]],
         ['# base 7 \t \n# base 1234567\n# base x\n #base 1\n # base 1\n#base 1\n## base 1\n# base 9 # base 1\n', [{ line: 2, base: 7 }]],
-        [`# base 5${' '.repeat(12)}\n# base 6${' '.repeat(13)}\n# base 7${' '.repeat(12)}\r\n# base 8${' '.repeat(13)}`, [{ line: 2, base: 5 }, { line: 4, base: 7 }]],
+        [`# base 5${' '.repeat(13)}\n# base 6${' '.repeat(14)}\n# base 7${' '.repeat(12)}\r\n# base 8${' '.repeat(14)}`, [{ line: 2, base: 5 }, { line: 4, base: 7 }]],
         ['# base 3\r', [{ line: 2, base: 3 }]],
         ['# base 3\u00E9\n', []],
     ];

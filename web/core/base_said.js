@@ -3,22 +3,12 @@
 /** @typedef {{ line: number, base: number }} BaseSaid the comment's line, and the base that it says */
 
 const BASE_COMMENT = /^# base (\d{1,6})\s*$/;
-const LONGEST_BASE_COMMENT = 20;
+const LONGEST_BASE_COMMENT = 21;
 const [HASH, LINE_FEED] = [0x23, 0x0A];
 
 /** @param {number} base for which a script is written */
 export function baseComment(base) {
     return `# base ${base}\n`;
-}
-
-/**
- * The base that a line says, null if it says none.
- * @param {Uint8Array} line without its end
- */
-export function baseIn(line) {
-    if (line[0] !== HASH || line.length > LONGEST_BASE_COMMENT) return null;
-    const said = BASE_COMMENT.exec(String.fromCharCode(...line));
-    return said && Number(said[1]);
 }
 
 /**
@@ -31,11 +21,12 @@ export function basesSaid(text) {
     let [line, counted] = [1, 0];
     for (let at = text.indexOf(HASH); at >= 0; at = text.indexOf(HASH, at + 1)) {
         if (at > 0 && text[at - 1] !== LINE_FEED) continue;
-        const end = text.subarray(at, at + LONGEST_BASE_COMMENT + 2).indexOf(LINE_FEED);
-        const base = baseIn(end < 0 ? text.subarray(at) : text.subarray(at, at + end - Number(text[at + end - 1] === 0x0D)));
-        if (base === null) continue;
+        const end = text.indexOf(LINE_FEED, at);
+        const comment = text.subarray(at, end < 0 ? text.length : end);
+        const said = comment.length <= LONGEST_BASE_COMMENT && BASE_COMMENT.exec(String.fromCharCode(...comment));
+        if (!said) continue;
         for (; counted < at; counted++) line += Number(text[counted] === LINE_FEED);
-        found.push({ line, base });
+        found.push({ line, base: Number(said[1]) });
     }
     return found;
 }

@@ -25,16 +25,17 @@ export class Refusal {
 }
 
 /**
- * The bytes of a script, of one that is too long no more than show it.
+ * The bytes of a script; of one that has more than `most`, no more than show it.
  * @param {Pieces} pieces
+ * @param {number} most
  */
-async function wholeText(pieces) {
+async function wholeText(pieces, most) {
     const parts = [];
     let size = 0;
     for await (const piece of pieces) {
         parts.push(piece);
         size += piece.length;
-        if (size > MOST_SCRIPT_BYTES) break;
+        if (size > most) break;
     }
     return joinedBytes(parts);
 }
@@ -46,11 +47,8 @@ async function wholeText(pieces) {
  * @returns {Promise<ReadScript | Refusal>}
  */
 export async function readScript(calls, pieces, long = false) {
-    if (long) {
-        const lines = await readLines(calls, pieces);
-        return lines instanceof Uint8Array ? new Refusal(lines, false) : { parts: partsOf(lines), bases: lines.bases };
-    }
-    const text = await wholeText(pieces);
-    const fault = scriptFault(calls, text);
-    return fault ? new Refusal(fault, text.length > MOST_SCRIPT_BYTES) : { text, bases: basesSaid(text) };
+    const text = await wholeText(pieces, long ? Infinity : MOST_SCRIPT_BYTES);
+    const lines = long ? readLines(calls, text) : scriptFault(calls, text);
+    if (lines instanceof Uint8Array) return new Refusal(lines, !long && text.length > MOST_SCRIPT_BYTES);
+    return { bases: basesSaid(text), ...lines ? { parts: partsOf(lines) } : { text } };
 }

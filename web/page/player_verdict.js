@@ -60,7 +60,7 @@ export async function judgeImage(app, data, image, watch) {
     const { outcomes } = await passPatched(app.calls, seen, script, { base, carry: data.carry });
     const refused = outcomes.filter(it => it.result !== RESULT.OK);
     const words = refused.length === 0 ? '' : wordsOfLine(app.calls.outcomeLine(1, refused[0].result, refused[0].block, refused[0].offset));
-    const { without } = await oldBytesOf(app, data.script);
+    const { without } = oldBytesOf(app, data.script);
     const judged = { sha1: '', patches: outcomes.length, without, refused: refused.map(it => it.result), words, work };
     const damaged = judged.refused.every(it => it === RESULT.DAMAGED);
     if (refused.length > 0 && !await isPatched(app, work)) return { ...judged, verdict: damaged ? 'damaged' : 'other' };
@@ -77,8 +77,8 @@ export async function judgeImage(app, data, image, watch) {
  * @param {App} app
  * @param {string} script that has no fault
  */
-export async function oldBytesOf({ calls }, script) {
-    const lines = await readLines(calls, [new TextEncoder().encode(script)]);
+export function oldBytesOf({ calls }, script) {
+    const lines = readLines(calls, new TextEncoder().encode(script));
     const patches = lines instanceof Uint8Array ? [] : lines.patches;
     const named = patches.flatMap(({ old }) => old === null ? [] : [old]);
     return { without: patches.length - named.length, old: named.reduce((sum, size) => sum + size, 0) };

@@ -46,7 +46,7 @@ export async function triedOn(app, image, carry) {
         refused: refused.length,
         first: refused.reduce((first, { number }) => first === 0 ? number : Math.min(first, number), 0),
         damaged: made.outcomes.filter(it => it.result === RESULT.DAMAGED).length,
-        ...await oldBytesOf(app, script),
+        ...oldBytesOf(app, script),
         result: blobOfPieces(file, made.pieces),
     };
 }
