@@ -158,7 +158,7 @@ test('a long script in parts, cut anywhere, makes what it makes as a whole', asy
 test('a long script on an image that is too long ends as one that is not long', async () => {
     const text = encoded('cdpatch 1\nrebuild 1\nrebuild 5\nrebuild 1000000\n');
     const tooLong = { size: MOST_SECTORS * 2352 + 1, read: async (at, length) => new Uint8Array(length) };
-    const due = 'line 2: refused: not mode1 at block 1\nline 3: refused: not mode1 at block 5\ncdpatch: the image has more than 1000000 sectors\n';
+    const due = 'line 2: refused: block 1 is not mode 1\nline 3: refused: block 5 is not mode 1\ncdpatch: the image has more than 1000000 sectors\n';
     for (const long of [false, true]) {
         const { status, text: log } = await passPatched(calls, tooLong, await readScript(calls, [text], long), { base: 0 });
         assert.deepEqual([status, decoded(log)], [2, due]);
@@ -173,10 +173,10 @@ test('a read that fails, at any place, reaches the caller', async () => {
     const text = someScript(diceOf(12), 60, BASE, 2600);
     const script = await readScript(calls, [text]);
     const due = await plainly(text, image, BASE, true);
-    const { reads } = await (async () => { const it = readerOf(image); await applyPatches(calls, it, script, { base: BASE, carry: true }); return it; })();
+    const { reads } = await (async () => { const it = readerOf(image, 300000); await applyPatches(calls, it, script, { base: BASE, carry: true }); return it; })();
     assert.ok(reads.length > 10);
     for (let fault = 0; fault < reads.length; fault++) {
-        const reader = readerOf(image);
+        const reader = readerOf(image, 300000);
         const { read } = reader;
         const failing = { size: reader.size, read: async (at, length) => {
             if (reader.reads.length === fault) throw new Error(`no read ${fault}`);
@@ -231,7 +231,8 @@ test('several patchings at the same time by the same calls', async () => {
     const came = await Promise.all(scripts.map(async script => {
         const pieces = [];
         const { text } = await passPatched(own, readerOf(image), script, { base: BASE, carry: true }, async piece => {
-            own.reserve(own.memory.length); // the memory grows, and is another one then
+            own.exports.memory.grow(1); // then it is another buffer
+            own.reserve(0);
             own.hold(new Uint8Array(5000).fill(99));
             await null;
             pieces.push(piece);

@@ -4,7 +4,8 @@
 
 const BASE_COMMENT = /^# base (\d{1,6})\s*$/;
 const LONGEST_BASE_COMMENT = 21;
-const [HASH, LINE_FEED] = [0x23, 0x0A];
+const HASH = 0x23;
+const LINE_FEED = 0x0A;
 
 /** @param {number} base for which a script is written */
 export function baseComment(base) {

@@ -2,7 +2,7 @@
 
 import { ByteList } from './bytes.js';
 import { RUN_FLAG, STEP } from './records.js';
-import { Window } from './window.js';
+import { ReadAhead } from './read_ahead.js';
 
 /** @typedef {import('./codes.js').Calls} Calls */
 /** @typedef {import('./codes.js').Step} Step */
@@ -65,7 +65,7 @@ class JoinedPieces {
  * @param {Take} take
  */
 export async function runScript(calls, reader, script, { base, carry = false, withoutOld = false }, log, take) {
-    const [window, out] = [new Window(reader), new JoinedPieces(take)];
+    const [ahead, out] = [new ReadAhead(reader), new JoinedPieces(take)];
     const run = calls.runBegin(script, base, reader.size, (carry ? RUN_FLAG.CARRY : 0) + (withoutOld ? RUN_FLAG.WITHOUT_OLD : 0));
     try {
         for (let done = 0; ;) {
@@ -73,7 +73,7 @@ export async function runScript(calls, reader, script, { base, carry = false, wi
             const { kind, at, size, status } = step;
             done = size;
             if (kind === STEP.READ) {
-                const bytes = window.here(at, size) || await window.read(at, size);
+                const bytes = ahead.here(at, size) || await ahead.read(at, size);
                 calls.runBytes(run, step).set(bytes);
             } else if (kind === STEP.COPY) await out.keep(size);
             else if (kind === STEP.WRITE) await out.put(calls.runBytes(run, step));

@@ -9,7 +9,7 @@ import { passPatched } from './patch.js';
 import { STATUS } from './records.js';
 import { Refusal, readScript } from './script.js';
 import { SECTOR_SIZE, differingSectors, sectorOf } from './sector.js';
-import { Window } from './window.js';
+import { ReadAhead } from './read_ahead.js';
 
 /** @typedef {import('./codes.js').Calls} Calls */
 /** @typedef {import('./bytes.js').Piece} Piece */
@@ -40,7 +40,7 @@ class TakenBack {
      * @param {Given} given who compares
      */
     constructor(reader, base, given) {
-        this.window = new Window(reader);
+        this.ahead = new ReadAhead(reader);
         this.base = base;
         this.given = given;
         this.parts = new ScriptParts();
@@ -53,7 +53,7 @@ class TakenBack {
     /** @param {Piece} piece of the patched image */
     async take(piece) {
         if (!('bytes' in piece)) return;
-        const before = (await this.window.bytesAt(piece.at, piece.bytes.length)).slice();
+        const before = (await this.ahead.bytesAt(piece.at, piece.bytes.length)).slice();
         const { next } = this;
         for (const i of differingSectors(piece.bytes, before)) {
             next.blocks.push(this.base + piece.at / SECTOR_SIZE + i);

@@ -5,7 +5,7 @@ import { DiscFault, dataTrack } from '../core/disc.js';
 import { readLines } from '../core/long_script.js';
 import { passPatched } from '../core/patch.js';
 import { RESULT, STATUS } from '../core/records.js';
-import { Window } from '../core/window.js';
+import { ReadAhead } from '../core/read_ahead.js';
 import { sha1Of } from './crew.js';
 import { assertNotTooLong, scriptFor, watched } from './patch_job.js';
 import { wordsOfLine } from './script_lines.js';
@@ -100,11 +100,11 @@ function addressedBase({ addressed, base }, other) {
  */
 export async function isPatched(app, { reader, base, script }) {
     let same = true;
-    const window = new Window(reader);
+    const ahead = new ReadAhead(reader);
     const how = { base, carry: true, withoutOld: true };
     const made = await passPatched(app.calls, reader, await scriptFor(app, script, base), how, async piece => {
         if (!('bytes' in piece) || !same) return;
-        const there = await window.bytesAt(piece.at, piece.bytes.length);
+        const there = await ahead.bytesAt(piece.at, piece.bytes.length);
         same = there.every((byte, i) => byte === piece.bytes[i]);
     });
     return same && made.status === STATUS.DONE && made.outcomes.length > 0;

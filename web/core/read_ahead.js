@@ -8,7 +8,7 @@ import { READ_SIZE, readBytes } from './bytes.js';
 const LEAST = 1 << 15;
 
 /** What of an image was read last. If places near its end are asked for next, more is read at a time. */
-export class Window {
+export class ReadAhead {
     /** @param {Reader} reader of the image, which is read forward */
     constructor(reader) {
         this.reader = reader;
