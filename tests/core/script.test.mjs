@@ -5,7 +5,7 @@ import { test } from 'node:test';
 import { calls, core, cutAt, cutBy, decoded, encoded, newCalls } from './common.mjs';
 
 const { Refusal, readScript } = await core('script.js');
-const { partsOf, readLines } = await core('long_script.js');
+const { readLines, scriptParts } = await core('long_script.js');
 const { MOST_PATCHES, MOST_SCRIPT_BYTES, VERB } = await core('records.js');
 
 const SCRIPTS = [
@@ -75,7 +75,7 @@ test('a later version of the language is no fault', async () => {
     };
     const lines = readLines(later, encoded('cdpatch 3\naddress 3 00:02:05\n'));
     assert.deepEqual(lines.patches, readLines(calls, encoded('cdpatch 2\naddress 3 00:02:05\n')).patches);
-    assert.equal(decoded(partsOf(lines)[0].text()), 'cdpatch 3\naddress 3 00:02:05\n');
+    assert.equal(decoded(scriptParts(lines)[0].text()), 'cdpatch 3\naddress 3 00:02:05\n');
 });
 
 test('what a patch says', async () => {
@@ -121,7 +121,7 @@ test('no more patches than the program takes, but for a long script', async () =
 
 test('a long script is cut into parts that a run takes', async () => {
     const line = size => ({ number: 1, block: 0, old: null, line: new Uint8Array(size) });
-    const sizes = patches => partsOf({ head: encoded('cdpatch 1'), patches }).map(part => part.patches.length);
+    const sizes = patches => scriptParts({ head: encoded('cdpatch 1'), patches }).map(part => part.patches.length);
     assert.deepEqual(sizes([]), [0]);
     assert.deepEqual(sizes(Array.from({ length: 2 * MOST_PATCHES + 1 }, () => line(1))), [MOST_PATCHES, MOST_PATCHES, 1]);
     const third = MOST_SCRIPT_BYTES / 4 - 1;

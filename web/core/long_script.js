@@ -86,7 +86,7 @@ export class Part {
  * Cuts a script into parts, at least one.
  * @param {Lines} lines
  */
-export function partsOf({ head, patches }) {
+export function scriptParts({ head, patches }) {
     const parts = [];
     for (let from = 0, to = 0; from < patches.length || parts.length === 0; from = to) {
         for (let size = head.length + 1; to < patches.length && to - from < MOST_PATCHES; to++) {

@@ -2,7 +2,7 @@
 
 import { basesSaid } from './base_said.js';
 import { joinedBytes } from './bytes.js';
-import { partsOf, readLines } from './long_script.js';
+import { scriptParts, readLines } from './long_script.js';
 import { scriptFault } from './patch_run.js';
 import { MOST_SCRIPT_BYTES } from './records.js';
 
@@ -50,5 +50,5 @@ export async function readScript(calls, pieces, long = false) {
     const text = await wholeText(pieces, long ? Infinity : MOST_SCRIPT_BYTES);
     const lines = long ? readLines(calls, text) : scriptFault(calls, text);
     if (lines instanceof Uint8Array) return new Refusal(lines, !long && text.length > MOST_SCRIPT_BYTES);
-    return { bases: basesSaid(text), ...lines ? { parts: partsOf(lines) } : { text } };
+    return { bases: basesSaid(text), ...lines ? { parts: scriptParts(lines) } : { text } };
 }
