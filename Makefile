@@ -86,7 +86,7 @@ dist:
 .PHONY: release fit
 SIGN =
 RELEASED = $(addprefix $(distdir)/,cdpatch-$(VERSION)-x86_64-linux.tar.gz cdpatch_$(VERSION)-1_amd64.deb \
-    cdpatch-$(VERSION)-py3-none-manylinux_2_34_x86_64.whl cdpatch.html cdscript.js)
+    cdpatch-$(VERSION)-py3-none-manylinux_2_34_x86_64.whl cdpatch-$(VERSION).tgz cdpatch.html cdscript.js)
 
 release: fit dist
 	@$(if $(SIGN),bash tools/sign.sh '$(SIGN)' $(RELEASED:%='%'),echo 'Nothing was signed: SIGN=KEY signs it.' >&2)
@@ -96,5 +96,5 @@ fit:
 
 clean:
 	rm -rf cdpatch cdscript cdpatch.html library bench/cd_bench crates/*/out
-	rm -f $(foreach made,cdpatch-*.tar.gz cdpatch_*.deb cdpatch-*.whl cdscript.js,$(made) $(made).sha256 $(made).sig)
+	rm -f $(foreach made,cdpatch-*.tar.gz cdpatch_*.deb cdpatch-*.whl cdpatch-*.tgz cdscript.js,$(made) $(made).sha256 $(made).sig)
 	rm -f cdpatch.html.sha256 cdpatch.html.sig

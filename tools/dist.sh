@@ -4,8 +4,8 @@
 # completions, the pages for users, the examples, and a Makefile that only installs them. The README is README.tarball.md, and INSTALL
 # lacks what only works in the sources.
 # The bytes follow from those of these files only. Beside the tarball stand the command as cdscript.js, which node takes on any system,
-# the page, a Debian package if dpkg-deb is there, and a wheel for pip if python3 is; and the checksum of each. What only the owner can fill
-# in, and has not, is printed on standard error.
+# the page, a Debian package if dpkg-deb is there, a wheel for pip if python3 is, and a package for npm if tsc is; and the checksum of each.
+# What only the owner can fill in, and has not, is printed on standard error.
 set -euo pipefail
 umask 022
 program=$(realpath "$1")
@@ -58,6 +58,11 @@ if command -v python3 > /dev/null; then
     made+=("$(cd "$scratch/python" && python3 -B -c 'import backend, sys; print(backend.build_wheel(sys.argv[1]))' "$directory")")
 else
     echo 'There is no python3, so no wheel is made.' >&2
+fi
+if [ ! -f "$joined/cdscript" ] || ! command -v tsc > /dev/null; then
+    echo 'There is no cdscript, or no tsc, so no package for npm is made.' >&2
+else
+    made+=("$(bash tools/npm.sh "$library" "$joined/cdscript" "${version#cdpatch }" "$directory")")
 fi
 cd "$directory"
 for file in "${made[@]}"; do

@@ -1,0 +1,40 @@
+#!/usr/bin/env bash
+# `tools/npm.sh LIBRARY CDSCRIPT VERSION DIRECTORY` makes the package for npm in DIRECTORY, of web/npm and web/core, the module of LIBRARY and
+# cdscript, with types for TypeScript, and prints its file's name. The bytes follow from those of these files, and from esbuild and tsc.
+set -euo pipefail
+umask 022
+library=$(realpath "$1")
+cdscript=$(realpath "$2")
+version=$3
+directory=$(realpath "$4")
+cd "$(dirname "$0")/.."
+scratch=$(mktemp -d)
+trap 'rm -rf "$scratch"' EXIT
+mkdir "$scratch/package"
+esbuild web/npm/cdpatch.js --bundle --format=esm --platform=neutral --target=es2022 --external:node:fs/promises --charset=utf8 \
+    --legal-comments=none --log-level=warning --outfile="$scratch/package/cdpatch.js"
+tsc -p web --noEmit false --declaration --emitDeclarationOnly --outDir "$scratch/types"
+cp "$scratch/types/npm/cdpatch.d.ts" web/npm/README.md web/npm/example.html "$library"/{cdpatch.wasm,NOTICES} "$scratch/package"
+# npm starts a command by the first line, on all systems.
+{ echo '#!/usr/bin/env node'; sed "1,/^\*\/;$/d" "$cdscript"; } > "$scratch/package/cdscript.cjs"
+chmod 755 "$scratch/package/cdscript.cjs"
+cat > "$scratch/package/package.json" << END
+{
+    "name": "cdpatch",
+    "version": "$version",
+    "description": "Patches raw CD images and leaves each sector valid: EDC and P/Q parity, proved",
+    "type": "module",
+    "engines": { "node": ">=18" },
+    "exports": {
+        ".": { "types": "./cdpatch.d.ts", "default": "./cdpatch.js" },
+        "./cdpatch.wasm": "./cdpatch.wasm"
+    },
+    "types": "./cdpatch.d.ts",
+    "bin": { "cdscript": "cdscript.cjs" },
+    "license": "$([ -f LICENSE ] && sed -n 's/^licence: *//p' tools/owner.txt || echo UNLICENSED)"
+}
+END
+name=cdpatch-$version.tgz
+tar -C "$scratch" --format=ustar --sort=name --mtime="@${SOURCE_DATE_EPOCH:-0}" --owner=0 --group=0 --numeric-owner -cf - package |
+    gzip -9n > "$directory/$name"
+echo "$name"

@@ -1,0 +1,8 @@
+declare module 'node:fs/promises' {
+    export function readFile(place: URL): Promise<Uint8Array>;
+    export function open(path: string): Promise<{
+        stat(): Promise<{ size: number }>;
+        read(bytes: Uint8Array, place: number, length: number, at: number): Promise<{ bytesRead: number }>;
+        close(): Promise<void>;
+    }>;
+}
