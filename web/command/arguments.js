@@ -4,7 +4,8 @@ import { Fault } from '../core/faults.js';
 import { ENCODINGS, encodingOf } from '../core/text.js';
 import { bytesOfHex } from '../core/texts/hex.js';
 import { FORMS, OPTION_FORMS } from './forms.js';
-import { LAST_BASE, MOST_BLOCKS, numberOf } from './numbers.js';
+import { LAST_BASE } from '../core/sector.js';
+import { MOST_BLOCKS, numberOf } from './numbers.js';
 import { didYouMean } from './suggesting.js';
 
 /**

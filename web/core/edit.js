@@ -72,8 +72,9 @@ export async function replaceEach(calls, image, changes) {
         user.set(filledUp(fresh, old.length, null), at);
         setLines(lines, place, old, fresh);
     }
-    assertLeads(calls, lines, { blocks, old: sectors, fresh: encodedUser(calls, sectors, user) }, false);
-    return lines.lines();
+    const made = lines.lines();
+    assertLeads(calls, made, { blocks, old: sectors, fresh: encodedUser(calls, sectors, user) }, false);
+    return made;
 }
 
 /**

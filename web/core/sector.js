@@ -14,6 +14,8 @@ const WORDS = SECTOR_SIZE / 4;
 
 /** The most sectors of an image. No call asks for it: who opens an image does. */
 export const MOST_SECTORS = 1000000;
+/** The last block that the first sector of an image may be. */
+export const LAST_BASE = 449849;
 
 /**
  * The number of whole sectors of an image. The bytes after them are its tail.

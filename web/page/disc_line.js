@@ -1,6 +1,6 @@
 // The line with the open image, which stands over every panel; and on the Disc panel the verdict, or how far reading has come.
 
-import { SECTOR_SIZE } from '../core/sector.js';
+import { LAST_BASE, SECTOR_SIZE } from '../core/sector.js';
 import { button, byId, countOf, counted, element, fill, keepFocus, redraw, renew, term } from './dom.js';
 import { MARK } from './marks.js';
 import { nameOf, seen, shownName } from './names.js';
@@ -14,8 +14,6 @@ import { modeOneSectors } from './words.js';
 /** @typedef {import('./state.js').Image} Image */
 /** @typedef {import('./state.js').Surveyed} Surveyed */
 /** @typedef {import('./dom.js').Child} Child */
-
-const LAST_BASE = 449849;
 
 /** @param {App} app */
 export function mountDiscLine(app) {

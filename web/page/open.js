@@ -3,8 +3,7 @@
 import { readBytes } from '../core/bytes.js';
 import { DiscFault, MissingFiles, dataTrack, openDisc } from '../core/disc.js';
 import { natureOf } from '../core/image.js';
-import { CONTENT } from '../core/records.js';
-import { MOST_SCRIPT_BYTES } from '../core/script.js';
+import { CONTENT, MOST_SCRIPT_BYTES } from '../core/records.js';
 import { MOST_SECTORS, SECTOR_SIZE, imageTooLong, sectorCount } from '../core/sector.js';
 import { textOfFile } from '../core/text.js';
 import { byId, counted, element } from './dom.js';

@@ -1,6 +1,6 @@
 // The lines of the script: what each of them has, edits that can be undone, and what Check has said of them.
 
-import { CONTENT, RESULT, patchFields } from '../core/records.js';
+import { CONTENT, MOST_PATCHES, RESULT } from '../core/records.js';
 import { placesInScript } from './hits.js';
 
 /** @typedef {import('../core/codes.js').Calls} Calls */
@@ -15,9 +15,6 @@ import { placesInScript } from './hits.js';
  */
 
 /** @typedef {{ text: string, saved: boolean, before: object }} LongScript whether it is in a file, and what stood there before it */
-
-/** More patches than this are a fault of the script. */
-export const MOST_PATCHES = 65535;
 
 /**
  * A line of the program without its number: 'line 4: applied' is 'applied'.
@@ -223,13 +220,13 @@ export class ScriptLines {
     }
 
     /**
-     * The patch of a line, as patchFields has it, or null.
+     * What the patch of a line says, or null.
      * @param {number} i
      */
     patchAt(i) {
         if (this.contents[i] !== CONTENT.PATCH) return null;
         this.contentOf(this.lines[i]);
-        return patchFields(this.calls.patchRead().bytes);
+        return this.calls.patchRead();
     }
 
     /**
