@@ -2,7 +2,8 @@
 
 import { contextOf, filesWith } from '../core/texts/context.js';
 import { button, counted, element, fill, redraw, term } from './dom.js';
-import { chosenEncoding } from './encodings.js';
+import { chosenEncoding, signOf } from './encodings.js';
+import { oneStop } from './groups.js';
 import { Places } from './hits.js';
 import { shownPaths } from './names.js';
 import { copyText } from './say.js';
@@ -25,7 +26,7 @@ const BYTES_AFTER = 48;
 
 /** @param {string[]} characters */
 function shownText(characters) {
-    return characters.map(text => /[\p{Cc}\uFFFD]/u.test(text) ? '·' : text).join('');
+    return characters.map(signOf).join('');
 }
 
 /** The card with the hits. */
@@ -43,7 +44,10 @@ export class HitsCard {
         this.places = new Places();
         /** @type {Map<number, Context>} */
         this.contexts = new Map();
+        /** Of those who read contexts, the number of the last one: the others end. */
+        this.reader = 0;
         this.body = element('tbody', {});
+        oneStop(this.body, 'button');
         this.card = element('section', { class: 'card', 'aria-label': 'Hits' });
     }
 
@@ -117,8 +121,9 @@ export class HitsCard {
         const context = this.contexts.get(i);
         if (context === undefined) return [element('span', { class: 'ctx' }, '…')];
         const { before, hit, after, doubt } = context;
-        return [element('span', { class: 'ctx' }, element('em', {}, shownText(before.slice(-BEFORE))), element('mark', {}, hit),
-            element('em', {}, shownText(after.slice(0, AFTER)))), doubt !== '' && element('span', { class: 'tag warn' }, doubt)];
+        const parts = [element('em', {}, shownText(before.slice(-BEFORE))), element('mark', {}, shownText([...hit])),
+            element('em', {}, shownText(after.slice(0, AFTER)))];
+        return [element('span', { class: 'ctx' }, ...parts), doubt !== '' && element('span', { class: 'tag warn' }, doubt)];
     }
 
     /**
@@ -128,11 +133,12 @@ export class HitsCard {
     async readContexts(search) {
         const { app } = this;
         const { image } = app;
+        const number = ++this.reader;
         for (let i = 0; i < Math.min(this.shown, search.hits.length) && image !== null; i++) {
             if (this.contexts.has(i)) continue;
             const encoding = chosenEncoding(app);
             const context = await contextOf(image, encoding, search.hits[i], BYTES_AFTER);
-            if (this.search !== search || encoding !== chosenEncoding(app)) return;
+            if (number !== this.reader || encoding !== chosenEncoding(app)) return;
             this.contexts.set(i, context);
             const row = this.body.rows[i];
             const cell = row && row.cells[3];

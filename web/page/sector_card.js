@@ -59,6 +59,7 @@ export class SectorCard {
         this.goTo = element('input', { type: 'text', id: 'go-to', class: 'num slim', inputmode: 'numeric', autocomplete: 'off' });
         const form = element('form', { submit: (/** @type {Event} */ event) => this.goToBlock(event) },
             element('label', { class: 'row small' }, 'Go to block', this.goTo));
+        this.noBlock = element('p', { class: 'say bad thin', role: 'alert', hidden: true });
         this.choice = element('select', { class: 'slim' });
         bindEncodings(app, this.choice, ['hex']);
         const text = element('label', { class: 'row small' }, 'Text', this.choice);
@@ -66,7 +67,7 @@ export class SectorCard {
         this.empty = element('p', { class: 'pad quiet' }, 'Click the map, or a block in the findings. With the keyboard: ',
             element('kbd', {}, 'Tab'), ' to the map, then the arrows and ', element('kbd', {}, 'Enter'), '.');
         this.part = element('section', { class: 'card', 'aria-labelledby': 'sector-title' }, element('header', {}, this.title, form, text),
-            this.empty, this.body);
+            this.noBlock, this.empty, this.body);
         oneStop(this.fields, 'button');
         this.view.hex.addEventListener('moved', () => {
             this.digit = '';
@@ -84,6 +85,12 @@ export class SectorCard {
         if (!this.body.hidden && this.number === this.drawn) this.takeFocus();
     }
 
+    /** Takes the focus to the field for a block. */
+    ask() {
+        this.part.hidden = false;
+        this.goTo.focus();
+    }
+
     takeFocus() {
         this.wantsFocus = false;
         this.view.hex.focus();
@@ -91,6 +98,8 @@ export class SectorCard {
     }
 
     close() {
+        this.goTo.value = '';
+        this.sayBlock('');
         fill(this.title, 'No sector is open');
         this.empty.hidden = false;
         this.body.hidden = true;
@@ -136,6 +145,7 @@ export class SectorCard {
         this.body.hidden = false;
         fill(this.title, 'Sector of ', term('block', 'block'), ` ${block}`);
         this.goTo.value = String(block);
+        this.sayBlock('');
         fill(this.said, faultOf(app, block, old, found));
         const fields = fieldsOf(kind);
         if (moved) this.drawFields(fields);
@@ -206,9 +216,15 @@ export class SectorCard {
         const { image } = this.app;
         const block = Number(this.goTo.value.trim().replace(/,/g, ''));
         const isIn = image !== null && Number.isInteger(block) && block >= image.base && block < image.base + image.sectors;
-        this.goTo.setAttribute('aria-invalid', String(!isIn));
+        this.sayBlock(isIn || image === null ? '' : `The blocks of this image are ${image.base} to ${image.base + image.sectors - 1}.`);
         if (isIn) this.app.goTo(block);
-        else if (image !== null) announce(`The blocks of this image are ${image.base} to ${image.base + image.sectors - 1}.`);
+    }
+
+    /** @param {string} fault of the block that was typed, or '' */
+    sayBlock(fault) {
+        this.goTo.setAttribute('aria-invalid', String(fault !== ''));
+        this.noBlock.hidden = fault === '';
+        fill(this.noBlock, fault);
     }
 
     /**

@@ -5,7 +5,7 @@ import { JobAborted } from '../core/jobs.js';
 import { RECORD_SIZE } from '../core/records.js';
 import { sumsOf } from './crew.js';
 import { SurveyMarks } from './marks.js';
-import { isCancelled, showFailure } from './say.js';
+import { isCancelled, refuseWhileSaving, showFailure } from './say.js';
 
 /** @typedef {import('./state.js').App} App */
 /** @typedef {import('./state.js').Image} Image */
@@ -19,8 +19,10 @@ const SHOWN_EVERY = 150;
  * @param {Image | null} image
  */
 export async function readImage(app, image) {
+    if (refuseWhileSaving(app)) return;
     app.reading.abort();
-    app.reading = new AbortController();
+    app.closing.abort();
+    [app.reading, app.closing] = [new AbortController(), new AbortController()];
     const { signal } = app.reading;
     Object.assign(app, { image, second: null, survey: null, files: null, place: { block: -1, offset: -1 } });
     app.emit('image');
