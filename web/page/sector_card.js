@@ -62,12 +62,11 @@ export class SectorCard {
         this.noBlock = element('p', { class: 'say bad thin', role: 'alert', hidden: true });
         this.choice = element('select', { class: 'slim' });
         bindEncodings(app, this.choice, ['hex']);
-        const text = element('label', { class: 'row small' }, 'Text', this.choice);
         this.body = element('div', {}, this.said, this.fields, this.view.part, this.foot);
         this.empty = element('p', { class: 'pad quiet' }, 'Click the map, or a block in the findings. With the keyboard: ',
             element('kbd', {}, 'Tab'), ' to the map, then the arrows and ', element('kbd', {}, 'Enter'), '.');
-        this.part = element('section', { class: 'card', 'aria-labelledby': 'sector-title' }, element('header', {}, this.title, form, text),
-            this.noBlock, this.empty, this.body);
+        this.part = element('section', { class: 'card', 'aria-labelledby': 'sector-title' }, element('header', {}, this.title, form,
+            element('label', { class: 'row small' }, 'Text', this.choice)), this.noBlock, this.empty, this.body);
         oneStop(this.fields, 'button');
         this.view.hex.addEventListener('moved', () => {
             this.digit = '';
@@ -98,7 +97,6 @@ export class SectorCard {
     }
 
     close() {
-        this.goTo.value = '';
         this.sayBlock('');
         fill(this.title, 'No sector is open');
         this.empty.hidden = false;
