@@ -130,7 +130,7 @@ export class SectorCard {
     /**
      * @param {Uint8Array} old
      * @param {Uint8Array} fresh
-     * @param {Uint8Array | null} other that of the second image
+     * @param {Uint8Array | null} other
      * @param {boolean} moved
      */
     show(old, fresh, other, moved) {
@@ -147,10 +147,8 @@ export class SectorCard {
         fill(this.said, faultOf(app, block, old, found));
         const fields = fieldsOf(kind);
         if (moved) this.drawFields(fields);
-        this.view.show({
-            block, old, bytes: fresh, other, mode1, fields, crossings: new Set(found ? found.crossings : []), encoding: chosenEncoding(app),
-            label: encodingLabel(app.encoding),
-        });
+        this.view.show({ block, old, bytes: fresh, other, mode1, fields, crossings: new Set(found ? found.crossings : []),
+            encoding: chosenEncoding(app), label: encodingLabel(app.encoding) });
         if (moved) {
             const differs = other ? old.findIndex((byte, i) => byte !== other[i]) : -1;
             const first = differs >= 0 ? differs : found && found.crossings[0] || (mode1 ? USER_OFFSET : 0);
